@@ -10,7 +10,7 @@ use Rattle.line_config.specs.declared.errors.ReadlineError.{ReadlineError}
 use Rattle.line_editor.specs.Calls.{Call}
 use Rattle.line_editor.specs.Calls.Call.{Help}
 use Rattle.line_editor.specs.LineScripts.{Kept, Keys, LineAnswer, LineAsk, LineScript, answer_at, effect_at, left_at, line_plan, line_script, steps_along}
-use Rattle.line_editor.specs.Lines.{Told}
+use Rattle.line_editor.specs.Courses.{LineReport}
 use Rattle.line_editor.specs.Redraws.{Asked, fresh}
 use Rattle.line_editor.specs.Running.{kept_first, line_played}
 use Rattle.line_editor.specs.Values.{EditStep, Setting}
@@ -155,7 +155,7 @@ tells_line n g x =
     let left = (line_played n a g.custom g.config x.ring x.coming).rest in
     let y = after_line g t x in
     let asked = subst (λ (steps : List EditStep). Comes x.coming (asked_in n g x) (t.outcome, left) (flat_map (bytes_of s) (drawn_by s l steps).calls) [] t.rest)
-    (line_comes n a g.custom g.config x.ring x.coming).comes.steps_are (tells_on s a g.config.indent_size l k (line_script n g.custom)) in
+    (line_comes n a g.custom g.config x.ring x.coming).steps_are (tells_on s a g.config.indent_size l k (line_script n g.custom)) in
     tells_then x.coming (asked_in n g x) (λ line. then (close_script line.0) (λ outcome. Ends (outcome, state_after g.config.auto_add_history line.0 line.1.ring line.1.coming x)))
     (t.outcome, left) (t.outcome, y) (flat_map (bytes_of s) (calls_of s t)) (break_if (breaks t.outcome)) [] (accepted_of t.outcome) t.rest t.rest asked (tells_close t.rest t.outcome y)
 
@@ -168,7 +168,7 @@ abbrev ComesTo : (ℕ → Screen) → Coming → SessionScript ReadlineError →
 ComesTo at c script report = Comes c script report.ending (display_bytes at report.told) report.accepted report.rest
 
 -- a line, and then what comes after it
-tells_on_line : (at : ℕ → Screen) (c : Coming) (t : Told) (y : SessionState) (one : SessionScript (Result (List ℕ) ReadlineError × SessionState)) (next : SessionState → SessionScript ReadlineError) (later : Report)
+tells_on_line : (at : ℕ → Screen) (c : Coming) (t : LineReport) (y : SessionState) (one : SessionScript (Result (List ℕ) ReadlineError × SessionState)) (next : SessionState → SessionScript ReadlineError) (later : Report)
     (o : Result (List ℕ) ReadlineError) → Comes c one (o, y) (line_bytes (at 0) t) (accepted_of o) t.rest → ComesTo (λ line. at (suc line)) t.rest (next y) later
     → ComesTo at c (then one (λ line. answered_by (λ text. next line.1) (λ e. Ends e) line.0)) (line_reported t o later)
 tells_on_line at c t y one next later (Ok text) h k =

@@ -11,9 +11,8 @@ use Rattle.line_config.specs.Played.{Played, asked_first, played_on}
 use Rattle.line_config.specs.Scripts.{Ends, Asks}
 use Rattle.line_keys.specs.Phrases.{Reads}
 use Rattle.line_record.specs.Ring.{Ring}
-use Rattle.line_editor.specs.Courses.{Open, breaks_after, steps_in}
+use Rattle.line_editor.specs.Courses.{Open, breaks_after, steps_in, LineReport}
 use Rattle.line_editor.specs.LineScripts.{Begins as BeginsTurn, Keys, Kept, LineAsk, LineScript, answer_at, effect_at, left_at, line_script, played_from, steps_along, reported_from, turns_along}
-use Rattle.line_editor.specs.Lines.{Told}
 use Rattle.line_editor.specs.Redraws.{fresh}
 use Rattle.line_editor.specs.Running.{kept_first}
 use Rattle.line_editor.specs.Sights.{sight_of, info_after}
@@ -136,20 +135,20 @@ module _ (s : Setting) (indent : ℕ) where
 
 -- ---- a line
 
-record SameLine (t u : Told) : Type 0 where
+record SameLine (t u : LineReport) : Type 0 where
   turns : t.turns ≡ u.turns
   outcome : t.outcome ≡ u.outcome
   ring : t.ring ≡ u.ring
   rest : Opens t.rest u.rest
 
-record StoppedLine (t u : Told) : Type 0 where
+record StoppedLine (t u : LineReport) : Type 0 where
   why : ReadlineError
   outcome : t.outcome ≡ Err why
   unbroken : breaks_after why ≡ false
   later : List EditStep
   begins : flat_map steps_in u.turns ≡ flat_map steps_in t.turns ++ later
 
-abbrev LineGoes : Told → Told → Type 0
+abbrev LineGoes : LineReport → LineReport → Type 0
 LineGoes t u = SameLine t u ⊎ StoppedLine t u
 
 line_goes : (s : Setting) (indent : ℕ) (script : LineScript (List ℕ)) (k : Kept) (h c : Coming) → Opens h c → LineGoes (reported_from s indent script (over k h)) (reported_from s indent script (over k c))
@@ -197,25 +196,25 @@ further : {A : Type 0} (xs ys zs : List A) → IsBeginning xs ys → IsBeginning
 further xs ys zs begins = (begins.0 ++ zs, ap (λ r. r ++ zs) begins.1 ∙ append_assoc xs begins.0 zs)
 
 -- a line that is cut draws no new row
-cut_bytes : (s : Screen) (t : Told) (o : Result (List ℕ) ReadlineError) (why : ReadlineError) → o ≡ Err why → breaks_after why ≡ false
+cut_bytes : (s : Screen) (t : LineReport) (o : Result (List ℕ) ReadlineError) (why : ReadlineError) → o ≡ Err why → breaks_after why ≡ false
     → bytes_for s (flat_map steps_in t.turns) ++ break_if (breaks o) ≡ bytes_for s (flat_map steps_in t.turns)
 cut_bytes s t o why is unbroken =
     let drawn = bytes_for s (flat_map steps_in t.turns) in
     ap (λ x. drawn ++ break_if (breaks x)) is ∙ (ap (λ b. drawn ++ break_if b) unbroken ∙ append-nil drawn)
 
-stopped_bytes : (s : Screen) (t u : Told) → StoppedLine t u → IsBeginning (line_bytes s t) (line_bytes s u)
+stopped_bytes : (s : Screen) (t u : LineReport) → StoppedLine t u → IsBeginning (line_bytes s t) (line_bytes s u)
 stopped_bytes s t u cut =
     let drawn = flat_map steps_in t.turns in
     let begins = subst (λ r. IsBeginning (bytes_for s drawn) (bytes_for s r)) (sym cut.begins) (bytes_both s drawn cut.later) in
     subst (λ x. IsBeginning x (line_bytes s u)) (sym (cut_bytes s t t.outcome cut.why cut.outcome cut.unbroken))
     (further (bytes_for s drawn) (bytes_for s (flat_map steps_in u.turns)) (break_if (breaks u.outcome)) begins)
 
-same_bytes : (s : Screen) (t u : Told) → SameLine t u → line_bytes s t ≡ line_bytes s u
+same_bytes : (s : Screen) (t u : LineReport) → SameLine t u → line_bytes s t ≡ line_bytes s u
 same_bytes s t u same =
     ap (λ turns. bytes_for s (flat_map steps_in turns) ++ break_if (breaks t.outcome)) same.turns
     ∙ ap (λ o. bytes_for s (flat_map steps_in u.turns) ++ break_if (breaks o)) same.outcome
 
-line_begins : (s : Screen) (t u : Told) → LineGoes t u → IsBeginning (line_bytes s t) (line_bytes s u)
+line_begins : (s : Screen) (t u : LineReport) → LineGoes t u → IsBeginning (line_bytes s t) (line_bytes s u)
 line_begins s t u (inl same) = ([], sym (same_bytes s t u same) ∙ sym (append-nil (line_bytes s t)))
 line_begins s t u (inr cut) = stopped_bytes s t u cut
 
@@ -240,11 +239,11 @@ from_next s line = s (suc line)
 then_begins : {A : Type 0} (xs ys zs : List A) → IsBeginning ys zs → IsBeginning (xs ++ ys) (xs ++ zs)
 then_begins xs ys zs begins = (begins.0, ap (λ r. xs ++ r) begins.1 ∙ sym (append_assoc xs ys begins.0))
 
-reported_bytes : (s : ℕ → Screen) (u : Told) (o : Result (List ℕ) ReadlineError) (later : Report) → IsBeginning (line_bytes (s 0) u) (display_bytes s (line_reported u o later).told)
+reported_bytes : (s : ℕ → Screen) (u : LineReport) (o : Result (List ℕ) ReadlineError) (later : Report) → IsBeginning (line_bytes (s 0) u) (display_bytes s (line_reported u o later).told)
 reported_bytes s u (Ok text) later = (display_bytes (from_next s) later.told, refl)
 reported_bytes s u (Err e) later = ([], refl)
 
-stopped_begins : (s : ℕ → Screen) (t u : Told) (o : Result (List ℕ) ReadlineError) (one other : Report) → StoppedLine t u
+stopped_begins : (s : ℕ → Screen) (t u : LineReport) (o : Result (List ℕ) ReadlineError) (one other : Report) → StoppedLine t u
     → Begins s (line_reported t t.outcome one) (line_reported u o other)
 stopped_begins s t u o one other cut =
     let more = reported_bytes s u o other in
@@ -255,7 +254,7 @@ stopped_begins s t u o one other cut =
       accepted = ((line_reported u o other).accepted, refl);
     })
 
-module _ (s : ℕ → Screen) (t u : Told) (same : SameLine t u) where
+module _ (s : ℕ → Screen) (t u : LineReport) (same : SameLine t u) where
   same_begins : (o : Result (List ℕ) ReadlineError) (one other : Report) → OnOk o (Begins (from_next s) one other) → Begins s (line_reported t o one) (line_reported u o other)
   same_begins (Ok text) one other later = record {
     drawn = subst (λ x. IsBeginning (line_bytes (s 0) t ++ display_bytes (from_next s) one.told) (x ++ display_bytes (from_next s) other.told)) (same_bytes (s 0) t u same)

@@ -3,8 +3,7 @@ use Rattle.std.proofs.Common.{◌≡◌, ℕ, zero, suc, List, [], ◌∷◌, �
 use Rattle.std.specs.List.{flat_map}
 use Rattle.line_buffer.specs.declared.layout.Layout.{Layout}
 use Rattle.line_config.specs.declared.errors.ReadlineError.{ReadlineError}
-use Rattle.line_editor.specs.Courses.{Turn, Open, Accept, Last, TurnsLead, EndsLine, steps_in}
-use Rattle.line_editor.specs.Lines.{Told}
+use Rattle.line_editor.specs.Courses.{Turn, Open, Accept, Last, TurnsLead, EndsLine, steps_in, LineReport}
 use Rattle.line_editor.specs.Redraws.{Asked, fresh}
 use Rattle.line_editor.specs.Sights.{Sight, no_sight}
 use Rattle.line_editor.specs.Values.{EditStep}
@@ -74,7 +73,7 @@ record Shown (g : Given) (r : Report) : Type 0 where
   bytes : all_of (parts_of g.screen (fresh g.screen.mode) (turns_of r)) ≡ display_bytes (λ line. g.screen) r.told
 
 -- a line, and what comes after it
-line_shown : (g : Given) (t : Told) (later : Report) (o : Result (List ℕ) ReadlineError) → t.outcome ≡ o → TurnsLead g.prompt no_sight t.turns → EndsLine t.outcome t.turns → Shown g later → Shown g (line_reported t o later)
+line_shown : (g : Given) (t : LineReport) (later : Report) (o : Result (List ℕ) ReadlineError) → t.outcome ≡ o → TurnsLead g.prompt no_sight t.turns → EndsLine t.outcome t.turns → Shown g later → Shown g (line_reported t o later)
 line_shown g t later (Ok text) is course ends rest =
     let s = g.screen in
     let l = fresh s.mode in

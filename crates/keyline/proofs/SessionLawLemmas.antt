@@ -1,6 +1,6 @@
 -- What columns matter to, and what a history holds.
 use Rattle.std.proofs.Common.{◌≡◌, ℕ, zero, suc, ◌≤◌, Bool, true, false, List, [], ◌∷◌, ◌++◌, length, refl, sym, ap, ◌∙◌, append_assoc, append-nil, arith, if◌then◌else◌}
-use Rattle.line_editor.specs.Lines.{Told}
+use Rattle.line_editor.specs.Courses.{LineReport}
 use Rattle.line_editor.specs.Running.{line_meant}
 use Rattle.line_editor.specs.Values.{Setting}
 use Rattle.line_help.specs.History.{Filed, nothing_filed, ignored, filed_with_all, newest, unsaved_after}
@@ -23,7 +23,7 @@ columns_are_free zero g x columns e = refl
 columns_are_free (suc n) g x columns e =
     let other = at_columns columns g in
     let t = line_in (suc n) g x in
-    ap (λ (t : Told). line_reported t t.outcome (session n other (after_line other t x))) (line_same (suc n) g x columns e)
+    ap (λ (t : LineReport). line_reported t t.outcome (session n other (after_line other t x))) (line_same (suc n) g x columns e)
     ∙ ap (line_reported t t.outcome) (columns_are_free n g (after_line g t x) columns e)
 
 -- ---- the history

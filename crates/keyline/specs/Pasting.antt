@@ -6,7 +6,7 @@ use Rattle.line_keys.specs.declared.events.Event.{Event}
 use Rattle.line_keys.specs.Answers.{Custom}
 use Rattle.line_keys.specs.Coming.{Coming}
 use Rattle.line_editor.specs.LineScripts.{Kept, reported_from, turns_script}
-use Rattle.line_editor.specs.Lines.{Told}
+use Rattle.line_editor.specs.Courses.{LineReport}
 use Rattle.line_editor.specs.Values.{Setting, Value}
 use Rattle.line_screen.specs.KeyGrammar.{marker}
 use Rattle.line_screen.specs.Pasting.{start_marker, HaveNoMarker}
@@ -31,7 +31,7 @@ pub record IsEmptyLine (v : Value) : Type 0 where
   pub grows : v.line.growth ≡ true
 
 -- the text is accepted, and this is left to come
-pub record Accepts (t : Told) (text : List ℕ) (rest : Coming) : Type 0 where
+pub record Accepts (t : LineReport) (text : List ℕ) (rest : Coming) : Type 0 where
   pub outcome : t.outcome ≡ Ok text
   pub rest_is : t.rest ≡ rest
 

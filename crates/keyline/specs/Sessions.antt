@@ -11,8 +11,7 @@ use Rattle.line_keys.specs.Answers.{Custom}
 use Rattle.line_keys.specs.Coming.{Coming}
 use Rattle.line_record.specs.Ring.{Ring}
 use Rattle.line_editor.specs.Calls.{Call}
-use Rattle.line_editor.specs.Courses.{Turn, breaks_after}
-use Rattle.line_editor.specs.Lines.{Told}
+use Rattle.line_editor.specs.Courses.{Turn, breaks_after, LineReport}
 use Rattle.line_editor.specs.Running.{Helping, setting_by, line_meant, line_calls}
 use Rattle.line_editor.specs.Values.{Setting}
 use Rattle.line_screen.specs.Calls.{Screen, bytes_of, ruler_of}
@@ -74,7 +73,7 @@ abbrev pub setting_in : Given → List (List ℕ) → Setting
 setting_in g entries = setting_by (ruler_of g.screen) g.prompt g.helping entries
 
 -- the next line. More fuel than the source has keys and pastes is enough
-abbrev pub line_in : ℕ → Given → SessionState → Told
+abbrev pub line_in : ℕ → Given → SessionState → LineReport
 line_in n g x =
     line_meant n (setting_in g x.history.kept.entries) g.custom g.config x.ring x.coming
 
@@ -91,18 +90,18 @@ abbrev pub state_after : Bool → Result (List ℕ) ReadlineError → Ring → C
 state_after adds outcome ring rest x =
     record { ring = ring; history = history_after adds outcome x.history; coming = rest }
 
-abbrev pub after_line : Given → Told → SessionState → SessionState
+abbrev pub after_line : Given → LineReport → SessionState → SessionState
 after_line g t x = state_after g.config.auto_add_history t.outcome t.ring t.rest x
 
 -- all lines, the last one that in which the session ended; the texts of those that were accepted;
 -- the refusal that ended it; and what is left to come
 pub record Report : Type 0 where
-  pub told : List Told
+  pub told : List LineReport
   pub accepted : List (List ℕ)
   pub ending : ReadlineError
   pub rest : Coming
 
-abbrev pub line_reported : Told → Result (List ℕ) ReadlineError → Report → Report
+abbrev pub line_reported : LineReport → Result (List ℕ) ReadlineError → Report → Report
 line_reported t (Ok text) later =
     record later { told = t ∷ later.told; accepted = text ∷ later.accepted }
 line_reported t (Err e) later = record { told = t ∷ []; accepted = []; ending = e; rest = t.rest }
@@ -127,7 +126,7 @@ line_text text = text ++ 0x0A ∷ []
 abbrev pub lines_text : List (List ℕ) → List ℕ
 lines_text lines = flat_map line_text lines
 
-abbrev pub calls_of : Screen → Told → List Call
+abbrev pub calls_of : Screen → LineReport → List Call
 calls_of s t = line_calls (ruler_of s) t.turns
 
 -- after an accepted line, and after the endings that say so, the display gets a new row
@@ -135,11 +134,11 @@ abbrev pub breaks : Result (List ℕ) ReadlineError → Bool
 breaks (Ok text) = true
 breaks (Err e) = breaks_after e
 
-abbrev pub line_bytes : Screen → Told → List ℕ
+abbrev pub line_bytes : Screen → LineReport → List ℕ
 line_bytes s t = flat_map (bytes_of s) (calls_of s t) ++ break_if (breaks t.outcome)
 
 -- of lines, each on the screen of its number
-abbrev pub display_bytes : (ℕ → Screen) → List Told → List ℕ
+abbrev pub display_bytes : (ℕ → Screen) → List LineReport → List ℕ
 display_bytes at [] = []
 display_bytes at (t ∷ told) =
     line_bytes (at 0) t ++ display_bytes (λ line. at (suc line)) told

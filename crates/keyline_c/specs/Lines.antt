@@ -6,7 +6,7 @@ use Rattle.line_config.specs.declared.device.Last.TheVariants.{End, Failed}
 use Rattle.line_config.specs.declared.errors.ReadlineError.{ReadlineError}
 use Rattle.line_config.specs.declared.errors.ReadlineError.TheVariants.{Display, Helper, Memory}
 use Rattle.line_config.specs.declared.memory.VecSink.{VecSink}
-use Rattle.line_editor.specs.Lines.{Told}
+use Rattle.line_editor.specs.Courses.{LineReport}
 use Rattle.line_help.specs.History.{Filed}
 use Rattle.line_keys.specs.Coming.{made_of}
 use Rattle.line_screen.specs.Drawing.{break_if}
@@ -35,7 +35,7 @@ abbrev pub IsWant : ReadlineError → Type 0
 IsWant e = (e ≡ Memory) ⊎ ((e ≡ Display) ⊎ (e ≡ Helper))
 
 -- where memory was not wanting, all is left as the line says
-pub record LeftBy (held : VecSink → List ℕ) (g : Given) (t : Told) (old : Filed) (left : Left)
+pub record LeftBy (held : VecSink → List ℕ) (g : Given) (t : LineReport) (old : Filed) (left : Left)
     : Type 0 where
   pub outcome_is : made_of string_bytes left.outcome ≡ t.outcome
   pub drawn : held left.display ≡ line_bytes g.screen t

@@ -30,9 +30,8 @@ use Rattle.line_keys.specs.declared.key.KeyEvent.{KeyEvent}
 use Rattle.line_record.specs.Ring.{Ring}
 use Rattle.line_editor.specs.Calls.{Call, Ruler}
 use Rattle.line_editor.specs.Calls.Call.{Draw, Move, Write, Beep}
-use Rattle.line_editor.specs.Courses.{Turn, steps_in}
+use Rattle.line_editor.specs.Courses.{Turn, steps_in, LineReport}
 use Rattle.line_editor.specs.LineScripts.{kept, reported_from, turn_script, turns_script, line_script}
-use Rattle.line_editor.specs.Lines.{Told}
 use Rattle.line_editor.specs.Redraws.{fresh}
 use Rattle.line_editor.specs.Steps.{asked}
 use Rattle.line_editor.specs.Values.{Setting, EditStep, first_value}
@@ -67,7 +66,7 @@ abbrev all_steps : List Turn → List EditStep
 all_steps [] = []
 all_steps (turn ∷ turns) = steps_in turn ++ all_steps turns
 
-abbrev calls : Told → List Call
+abbrev calls : LineReport → List Call
 calls t = (asked plain (fresh Unicode) (all_steps t.turns)).calls
 
 -- the input ends after these keys
@@ -99,14 +98,14 @@ draw line old = Draw own line (length line) None (Some old) (own_laid (2 + lengt
 
 -- whatever the ring holds
 module _ (r : Ring) where
-  abbrev line : List (List ℕ) → Custom → List KeyEvent → Told
+  abbrev line : List (List ℕ) → Custom → List KeyEvent → LineReport
   line entries custom ks =
       let s = with_entries entries in
       reported_from s 2 (line_script 12 custom) (kept (first_value s) emacs r (pressed ks))
 
   -- ---- a typed, left, enter
 
-  abbrev a_left_enter : Told
+  abbrev a_left_enter : LineReport
   a_left_enter = line [] nothing_bound (typed 0x61 ∷ key_with Left none ∷ key_with Enter none ∷ [])
 
   a_left_enter_calls : calls a_left_enter ≡ draw [] (fresh Unicode) ∷ Write (codes "a") ∷ Move (at 3) (at 2) ∷ Move (at 2) (at 3) ∷ []
@@ -119,7 +118,7 @@ module _ (r : Ring) where
 
   -- ---- a count of two before x: its prompt, the session's own again, and both characters in one drawing
 
-  abbrev two_x : Told
+  abbrev two_x : LineReport
   two_x = line [] nothing_bound (key_with (Char 0x32) alt ∷ typed 0x78 ∷ [])
 
   two_x_calls : calls two_x ≡ draw [] (fresh Unicode) ∷ Draw (codes "(arg: 2) ") [] 0 None (Some (own_laid 2)) (laid false 9 9 9) None ∷ draw [] (laid false 9 9 9) ∷ draw (codes "xx") (own_laid 2) ∷ []
@@ -132,7 +131,7 @@ module _ (r : Ring) where
 
   -- ---- a lone word transposed from its start: the cursor goes after it, by a whole drawing
 
-  abbrev lone_word : Told
+  abbrev lone_word : LineReport
   lone_word = line [] nothing_bound (typed 0x77 ∷ key_with (Char 0x41) ctrl ∷ key_with (Char 0x74) alt ∷ [])
 
   lone_word_calls : calls lone_word ≡ draw [] (fresh Unicode) ∷ Write (codes "w") ∷ Move (at 3) (at 2) ∷ draw (codes "w") (laid true 2 2 3) ∷ []
@@ -162,7 +161,7 @@ module _ (r : Ring) where
   abbrev down : KeyEvent
   down = key_with Down none
 
-  abbrev up_and_down : Told
+  abbrev up_and_down : LineReport
   up_and_down = line entries nothing_bound (typed 0x63 ∷ typed 0x75 ∷ typed 0x72 ∷ up ∷ up ∷ up ∷ down ∷ down ∷ key_with Enter none ∷ [])
 
   -- the third step up draws nothing

@@ -15,9 +15,8 @@ use Rattle.line_keys.specs.Phrases.{Input, steps, Reads}
 use Rattle.line_record.specs.Ring.{Ring}
 use Rattle.line_editor.specs.Calls.{Canvas, Ruler, MadeIn}
 use Rattle.line_editor.specs.Commands.{outcome}
-use Rattle.line_editor.specs.Courses.{last_turn, steps_in}
+use Rattle.line_editor.specs.Courses.{last_turn, steps_in, LineReport}
 use Rattle.line_editor.specs.LineScripts.{LineAsk, LineAnswer, LineScript, Begins, Keys, line_script, Kept, kept, effect_at, answer_at, left_at, line_plan, steps_along, played_from, turns_along, reported_from, Stage, stage, DrawnBy, Stopped, line_world}
-use Rattle.line_editor.specs.Lines.{Told}
 use Rattle.line_editor.specs.Redraws.{Asked, fresh}
 use Rattle.line_editor.specs.Running.{kept_first, line_calls, line_meant, line_played, stage_first}
 use Rattle.line_editor.specs.Sights.{Sight, sight_of, info_after}
@@ -99,20 +98,17 @@ module _ (a : Setting) (indent : ℕ) where
       let made = (effect_at a indent k ask).steps in
       turns_steps outcome (left_at a indent k ask) (steps ++ made) info asks ∙ append_assoc steps made (steps_along a indent (left_at a indent k ask) asks)
 
-  pub record Comes (k : Kept) (p : PlayedOf (List ℕ)) (told : Told) : Type 0 where
+  pub record Comes (k : Kept) (p : PlayedOf (List ℕ)) (told : LineReport) : Type 0 where
     pub steps_are : steps_along a indent k p.asks ≡ flat_map steps_in told.turns
     pub left_is : left_along k p.asks ≡ p.rest
 
-  pub record LineComes (k : Kept) (p : PlayedOf (List ℕ)) (told : Told) : Type 0 where
-    pub comes : Comes k p told
-
-  pub script_comes : (script : LineScript (List ℕ)) (k : Kept) → LineComes k (played_from a indent script k) (reported_from a indent script k)
+  pub script_comes : (script : LineScript (List ℕ)) (k : Kept) → Comes k (played_from a indent script k) (reported_from a indent script k)
   script_comes script k =
       let p = played_from a indent script k in
-      record { comes = record { steps_are = sym (turns_steps p.answer k [] None p.asks); left_is = rest_along script k } }
+      record { steps_are = sym (turns_steps p.answer k [] None p.asks); left_is = rest_along script k }
 
 pub line_comes : (n : ℕ) (s : Setting) (custom : Custom) (config : Config) (r : Ring) (c : Coming)
-    → LineComes s config.indent_size (kept_first s config r c) (line_played n s custom config r c) (line_meant n s custom config r c)
+    → Comes s config.indent_size (kept_first s config r c) (line_played n s custom config r c) (line_meant n s custom config r c)
 line_comes n s custom config r c = script_comes s config.indent_size (line_script n custom) (kept_first s config r c)
 
 -- ---- what goes is all of it, or a fault stopped a beginning of it
@@ -243,7 +239,7 @@ module _ {R : Type 0} (canvas : Canvas R) (r : Ruler) where
   stopped_cause a indent _ x y e (inr (unread, same)) = absurd unread
 
 module _ {R : Type 0} (canvas : Canvas R) (r : Ruler) (s : Setting) (n : ℕ) (custom : Custom) (config : Config) (out new : R) (ring ring' : Ring) (c c' : Coming) (result : Result (List ℕ) ReadlineError) where
-  abbrev told : Told
+  abbrev told : LineReport
   told = line_meant n s custom config ring c
 
   abbrev first : Stage R
@@ -275,7 +271,7 @@ module _ {R : Type 0} (canvas : Canvas R) (r : Ruler) (s : Setting) (n : ℕ) (c
             outcome_is = sym h.answer_is;
             ring_is = ap (λ (k : Kept). k.ring) (sym h.rest_is);
             rest_is = ap (λ (k : Kept). k.coming) (sym h.rest_is);
-            calls = subst (λ (steps : List EditStep). FoldsTo (MadeIn canvas) out (asked r (fresh r.mode) steps).calls new) (line_comes n s custom config ring c).comes.steps_are h.drawn.0;
+            calls = subst (λ (steps : List EditStep). FoldsTo (MadeIn canvas) out (asked r (fresh r.mode) steps).calls new) (line_comes n s custom config ring c).steps_are h.drawn.0;
           })
       by (inr h) = inr (record {
         value = value;

@@ -2,6 +2,8 @@
 use Rattle.std.specs.Prelude.{◌≡◌, ⊤, ℕ, Bool, true, false, List, [], ◌∷◌, Result, Ok, Err, IsOk, IsErrAnd}
 use Rattle.line_config.specs.declared.errors.ReadlineError.{ReadlineError}
 use Rattle.line_config.specs.declared.errors.ReadlineError.TheVariants.{Eof, Interrupted}
+use Rattle.line_keys.specs.Coming.{Coming}
+use Rattle.line_record.specs.Ring.{Ring}
 use Rattle.line_editor.specs.Sights.{Sight, no_sight, ended_sight, Turns, FitsAll}
 use Rattle.line_editor.specs.Values.{EditStep}
 
@@ -46,3 +48,10 @@ EndsLine outcome (Open steps value ∷ rest) = EndsLine outcome rest
 EndsLine outcome (Accept steps value ∷ rest) = IsOk outcome × (rest ≡ [])
 EndsLine outcome (Last steps breaks ∷ rest) =
     IsErrAnd outcome (λ e. breaks ≡ breaks_after e) × (rest ≡ [])
+
+-- what a line comes to: its turns, its outcome, and what the next line begins with
+pub record LineReport : Type 0 where
+  pub turns : List Turn
+  pub outcome : Result (List ℕ) ReadlineError
+  pub ring : Ring
+  pub rest : Coming

@@ -16,8 +16,8 @@ use Rattle.line_editor.specs.Accepting.{submitted}
 use Rattle.line_editor.specs.Asks.{shown_in, ask_effect}
 use Rattle.line_editor.specs.Calls.{Canvas, Ruler, MadeIn}
 use Rattle.line_editor.specs.Commands.{Means, means_of, effect, ring_after_command, LeavesRing, outcome}
-use Rattle.line_editor.specs.Courses.{Turn, Open, last_turn}
-use Rattle.line_editor.specs.Lines.{Told, line_phrase, line_begun, reset_by}
+use Rattle.line_editor.specs.Courses.{Turn, Open, last_turn, LineReport}
+use Rattle.line_editor.specs.Lines.{line_phrase, line_begun, reset_by}
 use Rattle.line_editor.specs.Sights.{sight_of, info_after}
 use Rattle.line_editor.specs.Steps.{asked, Surface, Stops}
 use Rattle.line_editor.specs.Values.{Value, Setting, EditStep, Effect, Transition, unchanged, taking}
@@ -158,7 +158,7 @@ module _ (s : Setting) (indent : ℕ) where
       turns_along outcome (left_at k ask) (steps ++ (effect_at k ask).steps) info asks
 
   -- and what a line's script comes to
-  abbrev pub reported_from : LineScript (List ℕ) → Kept → Told
+  abbrev pub reported_from : LineScript (List ℕ) → Kept → LineReport
   reported_from script k = let p = played_from script k in record {
     turns = turns_along p.answer k [] None p.asks;
     outcome = p.answer;

@@ -1,9 +1,7 @@
--- A line: its phrases, its first drawing, and what it comes to.
-use Rattle.std.specs.Prelude.{ℕ, Bool, true, false, if◌then◌else◌, List, Result}
-use Rattle.line_config.specs.declared.errors.ReadlineError.{ReadlineError}
+-- A line: its phrases, and its first drawing.
+use Rattle.std.specs.Prelude.{Bool, true, false, if◌then◌else◌}
 use Rattle.line_keys.specs.declared.command.Cmd.{Cmd}
 use Rattle.line_keys.specs.declared.command.Cmd.TheVariants.{Replace}
-use Rattle.line_keys.specs.Coming.{Coming}
 use Rattle.line_keys.specs.Commands.{standing}
 use Rattle.line_keys.specs.Answers.{Custom}
 use Rattle.line_keys.specs.Phrase.{phrase}
@@ -12,7 +10,6 @@ use Rattle.line_keys.specs.Refreshing.{Shown}
 use Rattle.line_keys.specs.Refreshing.Ask.{DoingInsert}
 use Rattle.line_record.specs.Ring.{Ring}
 use Rattle.line_record.specs.declared.kill_ring.Action.TheVariants.{Other}
-use Rattle.line_editor.specs.Courses.{Turn}
 use Rattle.line_editor.specs.Drawing.{refreshed}
 use Rattle.line_editor.specs.Values.{Transition, then_do, taking}
 
@@ -35,10 +32,3 @@ reset_by cmd r = if (standing cmd).resets_ring then record r { last = Other } el
 -- drawn when memory has been taken for a line
 abbrev pub line_begun : Transition
 line_begun = then_do taking refreshed
-
--- its turns, its outcome, and what the next line begins with
-pub record Told : Type 0 where
-  pub turns : List Turn
-  pub outcome : Result (List ℕ) ReadlineError
-  pub ring : Ring
-  pub rest : Coming

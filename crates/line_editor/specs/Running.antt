@@ -19,9 +19,8 @@ use Rattle.line_keys.specs.Phrases.{Input}
 use Rattle.line_keys.specs.declared.command.CmdKind.{CmdKind}
 use Rattle.line_record.specs.Ring.{Ring}
 use Rattle.line_editor.specs.Calls.{Call, Canvas, Ruler}
-use Rattle.line_editor.specs.Courses.{Turn, steps_in}
+use Rattle.line_editor.specs.Courses.{Turn, steps_in, LineReport}
 use Rattle.line_editor.specs.LineScripts.{Kept, LineAsk, Stage, kept, line_script, line_world, played_from, stage, reported_from}
-use Rattle.line_editor.specs.Lines.{Told}
 use Rattle.line_editor.specs.Redraws.{fresh}
 use Rattle.line_editor.specs.Steps.{asked, surface}
 use Rattle.line_editor.specs.Turning.{cause_of}
@@ -60,7 +59,7 @@ line_played n s custom config ring c =
     played_from s config.indent_size (line_script n custom) (kept_first s config ring c)
 
 -- the line that is meant: from an empty one at the history's end, by what comes
-abbrev pub line_meant : ℕ → Setting → Custom → Config → Ring → Coming → Told
+abbrev pub line_meant : ℕ → Setting → Custom → Config → Ring → Coming → LineReport
 line_meant n s custom config ring c =
     reported_from s config.indent_size (line_script n custom) (kept_first s config ring c)
 
