@@ -12,7 +12,7 @@ use Rattle.line_keys.specs.Coming.{Coming, made_of}
 use Rattle.line_keys.specs.Feeds.{KeyFeed}
 use Rattle.line_record.specs.Ring.{Ring}
 use Rattle.line_editor.specs.Courses.{breaks_after}
-use Rattle.line_editor.specs.LineScripts.{Kept, Stage, kept, line_script, stage}
+use Rattle.line_editor.specs.LineScripts.{LineState, LineStage, kept, line_script, line_stage}
 use Rattle.line_editor.specs.Running.{Helping, Runs, outcome_of, setting_by, stage_first}
 use Rattle.line_editor.specs.States.{reason_of}
 use Rattle.line_editor.specs.Steps.{surface}
@@ -92,11 +92,11 @@ module _ {S H D L K T : Type 0} (k : Known S D L) (helps : Option H → Helping)
   abbrev left : Coming
   left = (items_of k.feed reader).coming
 
-  abbrev first : Stage (ScreenRenderer D)
+  abbrev first : LineStage (ScreenRenderer D)
   first = stage_first old.out (ruler_of (screen_of old.out)) setting config old.ring come
 
-  abbrev last : RunsAt → Stage (ScreenRenderer D)
-  last runs = stage (surface ran.out runs.layout) (kept runs.value runs.input ring left)
+  abbrev last : RunsAt → LineStage (ScreenRenderer D)
+  last runs = line_stage (surface ran.out runs.layout) (kept runs.value runs.input ring left)
 
   screen_stays : RunsAt → IsTrue (items_of k.feed reader).told → screen_of ran.out ≡ screen_of old.out
   screen_stays runs t =
@@ -133,7 +133,7 @@ module _ {S H D L K T : Type 0} (k : Known S D L) (helps : Option H → Helping)
     world = session_world k.shown k.written_in config.auto_add_history
 
     -- what comes after what was asked of the line
-    abbrev next : (Result (List ℕ) ReadlineError × Kept) → SessionScript (Result (List ℕ) ReadlineError × SessionState)
+    abbrev next : (Result (List ℕ) ReadlineError × LineState) → SessionScript (Result (List ℕ) ReadlineError × SessionState)
     next line = then (close_script line.0) (λ outcome. Taken (outcome, state_after config.auto_add_history line.0 line.1.ring line.1.coming state))
 
     abbrev Lined : ℕ → Type 0

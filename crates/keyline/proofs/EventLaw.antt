@@ -9,7 +9,7 @@ use Rattle.line_config.specs.Scripts.{Ends, Asks, then}
 use Rattle.line_config.specs.declared.errors.ReadlineError.{ReadlineError}
 use Rattle.line_editor.specs.Calls.{Call}
 use Rattle.line_editor.specs.Calls.Call.{Help}
-use Rattle.line_editor.specs.LineScripts.{Kept, Keys, LineAnswer, LineAsk, LineScript, answer_at, effect_at, left_at, line_plan, line_script, steps_along}
+use Rattle.line_editor.specs.LineScripts.{LineState, Keys, LineAnswer, LineAsk, LineScript, answer_at, effect_at, left_at, line_plan, line_script, steps_along}
 use Rattle.line_editor.specs.Courses.{LineReport}
 use Rattle.line_editor.specs.Redraws.{Asked, fresh}
 use Rattle.line_editor.specs.Running.{kept_first, line_played}
@@ -84,17 +84,17 @@ module _ (s : Screen) {X : Type 0} where
   tells_heard c here later x bytes rest r =
       record { answer_is = r.answer_is; drawn_is = r.drawn_is; left_is = r.left_is; kept_is = r.kept_is; written_is = r.written_is; ordered = r.ordered }
 
-  tells_read : (a : Setting) (indent : ℕ) (k : Kept) (ask : LineAsk) (later : SessionScript X) (x : X) (bytes : List ℕ) (rest : Coming) → let here = (left_at a indent k ask).coming in
+  tells_read : (a : Setting) (indent : ℕ) (k : LineState) (ask : LineAsk) (later : SessionScript X) (x : X) (bytes : List ℕ) (rest : Coming) → let here = (left_at a indent k ask).coming in
       Comes here later x bytes [] rest → Comes k.coming (read_then ask here later) x bytes [] rest
   tells_read a indent k (Keys (Reads item)) later x bytes rest r = tells_heard k.coming (left_at a indent k (Keys (Reads item))).coming later x bytes rest r
   tells_read a indent k _ later x bytes rest r = r
 
 module _ (s : Screen) (a : Setting) (indent : ℕ) {X : Type 0} where
   -- as the script is played
-  abbrev AsPlayed : Layout → Kept → Kept → SessionScript (Result X ReadlineError × Kept) → Played LineAsk Kept ReadlineError X → Type 0
+  abbrev AsPlayed : Layout → LineState → LineState → SessionScript (Result X ReadlineError × LineState) → Played LineAsk LineState ReadlineError X → Type 0
   AsPlayed l first k script q = Comes first.coming script (q.answer, q.rest) (flat_map (bytes_of s) (drawn_by s l (steps_along a indent k q.asks)).calls) [] q.rest.coming
 
-  by_answer : (l : Layout) (k : Kept) (ask : LineAsk) (later : LineAnswer ask → LineScript X) → let x = drawn_by s l (effect_at a indent k ask).steps in let left = left_at a indent k ask in
+  by_answer : (l : Layout) (k : LineState) (ask : LineAsk) (later : LineAnswer ask → LineScript X) → let x = drawn_by s l (effect_at a indent k ask).steps in let left = left_at a indent k ask in
       ((z : LineAnswer ask) → AsPlayed x.layout left left (drawn_on s a indent x.layout left (later z)) (played (line_plan a indent) (later z) left))
       → (o : Result (LineAnswer ask) ReadlineError)
       → AsPlayed l k k (calls_then s x.calls (read_then ask left.coming (answered_by (λ z. drawn_on s a indent x.layout left (later z)) (λ e. Ends (Err e, left)) o)))
@@ -114,13 +114,13 @@ module _ (s : Screen) (a : Setting) (indent : ℕ) {X : Type 0} where
       let steps = (effect_at a indent k ask).steps in
       let x = drawn_by s l steps in
       let left = left_at a indent k ask in
-      let answer : Result X ReadlineError × Kept = (Err e, left) in
+      let answer : Result X ReadlineError × LineState = (Err e, left) in
       let Q : Asked → Type 0 = λ asked. Comes k.coming (calls_then s x.calls (read_then ask left.coming (Ends answer))) answer (flat_map (bytes_of s) asked.calls) [] left.coming in
       subst Q (sym (asked_both (ruler_of s) l steps []))
       (tells_calls s k.coming x.calls [] (read_then ask left.coming (Ends answer)) answer left.coming
       (tells_read s a indent k ask (Ends answer) answer [] left.coming (tells_end left.coming answer)))
 
-  tells_on : (l : Layout) (k : Kept) (p : LineScript X) → AsPlayed l k k (drawn_on s a indent l k p) (played (line_plan a indent) p k)
+  tells_on : (l : Layout) (k : LineState) (p : LineScript X) → AsPlayed l k k (drawn_on s a indent l k p) (played (line_plan a indent) p k)
   tells_on l k (Ends z) = tells_end k.coming (Ok z, k)
   tells_on l k (Asks ask later) =
       let x = drawn_by s l (effect_at a indent k ask).steps in
@@ -140,7 +140,7 @@ tells_close c (Ok text) y =
 tells_close c (Err e) y = record { answer_is = refl; drawn_is = append-nil _; left_is = refl; kept_is = refl; written_is = refl; ordered = λ tail h. h }
 
 -- what is asked of it
-abbrev asked_in : ℕ → Given → SessionState → SessionScript (Result (List ℕ) ReadlineError × Kept)
+abbrev asked_in : ℕ → Given → SessionState → SessionScript (Result (List ℕ) ReadlineError × LineState)
 asked_in n g x =
     let a = setting_in g x.history.kept.entries in
     drawn_on g.screen a g.config.indent_size (fresh g.screen.mode) (kept_first a g.config x.ring x.coming) (line_script n g.custom)

@@ -18,7 +18,7 @@ use Rattle.line_keys.specs.Feeds.{InputItem, IsReadFault, Paste}
 use Rattle.line_keys.specs.Phrases.{Reads}
 use Rattle.line_editor.specs.Calls.{Call, Canvas, MadeIn, RefusedIn, BrokenOff}
 use Rattle.line_editor.specs.Calls.Call.{Help}
-use Rattle.line_editor.specs.LineScripts.{Answered, FaultLeaves, Kept, Keys, LineAnswer, LineAsk, LineScript, Obeys, Stage, Stopped, answer_at, effect_at, left_at, line_world, stage}
+use Rattle.line_editor.specs.LineScripts.{Answered, FaultLeaves, LineState, Keys, LineAnswer, LineAsk, LineScript, Obeys, LineStage, Stopped, answer_at, effect_at, left_at, line_world, line_stage}
 use Rattle.line_editor.specs.Redraws.{asked_by}
 use Rattle.line_editor.specs.States.{reason_of}
 use Rattle.line_editor.specs.Steps.{one, Surface, Refusal, Unhelped, StepCut, Stops as StepsStop}
@@ -250,16 +250,16 @@ module _ {D L : Type 0} (shown : D → List ℕ) (written_in : L → List ℕ) (
 
     -- ---- a line's asks, and what comes after them
 
-    module _ (a : Setting) (indent : ℕ) {X Y : Type 0} (next : (Result X ReadlineError × Kept) → SessionScript Y) where
-      abbrev at : Stage (ScreenRenderer D) → Work D L
+    module _ (a : Setting) (indent : ℕ) {X Y : Type 0} (next : (Result X ReadlineError × LineState) → SessionScript Y) where
+      abbrev at : LineStage (ScreenRenderer D) → Work D L
       at x = on x.drawn.out x.kept.coming
 
       -- the script, and what comes after it
-      abbrev drawn_then : Layout → Kept → LineScript X → SessionScript Y
+      abbrev drawn_then : Layout → LineState → LineScript X → SessionScript Y
       drawn_then l k p = then (drawn_on s a indent l k p) next
 
       -- what an answer leads to
-      abbrev answer_then : (ask : LineAsk) → (LineAnswer ask → LineScript X) → Layout → Kept → Result (LineAnswer ask) ReadlineError → SessionScript Y
+      abbrev answer_then : (ask : LineAsk) → (LineAnswer ask → LineScript X) → Layout → LineState → Result (LineAnswer ask) ReadlineError → SessionScript Y
       answer_then ask later l k o = then (answered_by (λ answer. drawn_on s a indent l k (later answer)) (λ e. Ends (Err e, k)) o) next
 
       read_parts : {Z : Type 0} (ask : LineAsk) (rest : Coming) (q : SessionScript Z) (on : Z → SessionScript Y) → then (read_then ask rest q) on ≡ read_then ask rest (then q on)
@@ -272,20 +272,20 @@ module _ {D L : Type 0} (shown : D → List ℕ) (written_in : L → List ℕ) (
       parts (call ∷ calls) ask rest q on = ap (λ script. Asks (call_event s call) (λ none. script)) (parts calls ask rest q on)
 
       -- an ask by its parts
-      by_parts : (ask : LineAsk) (later : LineAnswer ask → LineScript X) (l : Layout) (k : Kept) → let x = drawn_by s l (effect_at a indent k ask).steps in let left = left_at a indent k ask in
+      by_parts : (ask : LineAsk) (later : LineAnswer ask → LineScript X) (l : Layout) (k : LineState) → let x = drawn_by s l (effect_at a indent k ask).steps in let left = left_at a indent k ask in
           calls_then s x.calls (read_then ask left.coming (answer_then ask later x.layout left (answer_at a indent k ask))) ≡ drawn_then l k (Asks ask later)
       by_parts ask later l k =
           let x = drawn_by s l (effect_at a indent k ask).steps in
           let left = left_at a indent k ask in
           sym (parts x.calls ask left.coming (answered_by (λ answer. drawn_on s a indent x.layout left (later answer)) (λ e. Ends (Err e, left)) (answer_at a indent k ask)) next)
 
-      module _ (wants : (line : Result X ReadlineError × Kept) → MayWant (next line)) where
-        answer_wants : (ask : LineAsk) (later : LineAnswer ask → LineScript X) (l : Layout) (k : Kept) → ((z : LineAnswer ask) → MayWant (drawn_then l k (later z)))
+      module _ (wants : (line : Result X ReadlineError × LineState) → MayWant (next line)) where
+        answer_wants : (ask : LineAsk) (later : LineAnswer ask → LineScript X) (l : Layout) (k : LineState) → ((z : LineAnswer ask) → MayWant (drawn_then l k (later z)))
             → (o : Result (LineAnswer ask) ReadlineError) → MayWant (answer_then ask later l k o)
         answer_wants ask later l k so (Ok z) = so z
         answer_wants ask later l k so (Err e) = wants (Err e, k)
 
-        drawn_wants : (l : Layout) (k : Kept) (p : LineScript X) → MayWant (drawn_then l k p)
+        drawn_wants : (l : Layout) (k : LineState) (p : LineScript X) → MayWant (drawn_then l k p)
         drawn_wants l k (Ends z) = wants (Ok z, k)
         drawn_wants l k (Asks ask later) =
             let x = drawn_by s l (effect_at a indent k ask).steps in
@@ -295,12 +295,12 @@ module _ {D L : Type 0} (shown : D → List ℕ) (written_in : L → List ℕ) (
             (calls_want x.calls (read_then ask left.coming more) (read_wants ask left.coming more
             (answer_wants ask later x.layout left (λ z. drawn_wants x.layout left (later z)) (answer_at a indent k ask))))
 
-        leaves_coming : (ask : LineAsk) (k l : Kept) (why : ReadlineError) → FaultLeaves ask k why l → l.coming ≡ k.coming
-        leaves_coming (Obeys cmd) k l why h = ap (λ (z : Kept). z.coming) h.0
-        leaves_coming _ k l why h = ap (λ (z : Kept). z.coming) h
+        leaves_coming : (ask : LineAsk) (k l : LineState) (why : ReadlineError) → FaultLeaves ask k why l → l.coming ≡ k.coming
+        leaves_coming (Obeys cmd) k l why h = ap (λ (z : LineState). z.coming) h.0
+        leaves_coming _ k l why h = ap (λ (z : LineState). z.coming) h
 
         -- an ask that a fault stopped
-        stopped_ask : (ask : LineAsk) (more : SessionScript Y) → MayWant more → (why : ReadlineError) (x y : Stage (ScreenRenderer D)) → screen_of x.drawn.out ≡ s
+        stopped_ask : (ask : LineAsk) (more : SessionScript Y) → MayWant more → (why : ReadlineError) (x y : LineStage (ScreenRenderer D)) → screen_of x.drawn.out ≡ s
             → Stopped canvas (ruler_of s) a indent x ask why y
             → GoesIn (calls_then s (drawn_by s x.drawn.layout (effect_at a indent x.kept ask).steps).calls (read_then ask (left_at a indent x.kept ask).coming more)) (at x) (Err why) (at y)
         stopped_ask ask more wants why x y is (inl (stops, leaves)) =
@@ -310,24 +310,24 @@ module _ {D L : Type 0} (shown : D → List ℕ) (written_in : L → List ℕ) (
             (stopped_steps (effect_at a indent x.kept ask).steps later (read_wants ask (left_at a indent x.kept ask).coming more wants) x.kept.coming why y.kept.value x.drawn y.drawn is stops)
         stopped_ask (Keys (Reads item)) more wants why x y is (inr (unread, same)) = unread_by item why unread same
           where
-            unread_by : (item : InputItem) (why : ReadlineError) → IsReadFault item why → y ≡ stage x.drawn (record x.kept { coming = left_by why })
+            unread_by : (item : InputItem) (why : ReadlineError) → IsReadFault item why → y ≡ line_stage x.drawn (record x.kept { coming = left_by why })
                 → GoesIn (Asks (Hears (left_at a indent x.kept (Keys (Reads item))).coming) (λ none. more)) (at x) (Err why) (at y)
-            unread_by Paste Memory unread same = inr (Memory, inr (ap (λ (z : Stage (ScreenRenderer D)). on z.drawn.out z.kept.coming) same), refl)
+            unread_by Paste Memory unread same = inr (Memory, inr (ap (λ (z : LineStage (ScreenRenderer D)). on z.drawn.out z.kept.coming) same), refl)
             unread_by _ _ unread same = absurd unread
         stopped_ask _ more wants why x y is (inr (unread, same)) = absurd unread
 
-        read_goes : (ask : LineAsk) (k : Kept) (later : SessionScript Y) (out : ScreenRenderer D) (r : Result Y ReadlineError) (t : Work D L) → let rest = (left_at a indent k ask).coming in
+        read_goes : (ask : LineAsk) (k : LineState) (later : SessionScript Y) (out : ScreenRenderer D) (r : Result Y ReadlineError) (t : Work D L) → let rest = (left_at a indent k ask).coming in
             GoesIn later (on out rest) r t → GoesIn (read_then ask rest later) (on out k.coming) r t
         read_goes (Keys (Reads item)) k later out r t h = inl (tt, on out (left_at a indent k (Keys (Reads item))).coming, refl, h)
         read_goes _ k later out r t h = h
 
         -- one that was answered, or refused by the input
-        onward : (ask : LineAsk) (later : LineAnswer ask → LineScript X) (o : Result (LineAnswer ask) ReadlineError) (x v : Stage (ScreenRenderer D)) (r : Result Y ReadlineError) (t : Work D L) → screen_of x.drawn.out ≡ s
+        onward : (ask : LineAsk) (later : LineAnswer ask → LineScript X) (o : Result (LineAnswer ask) ReadlineError) (x v : LineStage (ScreenRenderer D)) (r : Result Y ReadlineError) (t : Work D L) → screen_of x.drawn.out ≡ s
             → Answered canvas (ruler_of s) a indent x ask o v → GoesIn (answer_then ask later v.drawn.layout v.kept o) (at v) r t → GoesIn (drawn_then x.drawn.layout x.kept (Asks ask later)) (at x) r t
         onward ask later o x v r t is (answer_is, kept_is, drawn) goes =
             let first = drawn_by s x.drawn.layout (effect_at a indent x.kept ask).steps in
             let left = left_at a indent x.kept ask in
-            let G : Layout → Kept → Result (LineAnswer ask) ReadlineError → Type 0 = λ l k o. GoesIn (answer_then ask later l k o) (on v.drawn.out k.coming) r t in
+            let G : Layout → LineState → Result (LineAnswer ask) ReadlineError → Type 0 = λ l k o. GoesIn (answer_then ask later l k o) (on v.drawn.out k.coming) r t in
             let here = subst (λ o. G first.layout left o) (sym answer_is) (subst (λ k. G first.layout k o) kept_is (subst (λ l. G l v.kept o) drawn.1 goes)) in
             let more = answer_then ask later first.layout left (answer_at a indent x.kept ask) in
             subst (λ script. GoesIn script (at x) r t) (by_parts ask later x.drawn.layout x.kept)
@@ -335,15 +335,15 @@ module _ {D L : Type 0} (shown : D → List ℕ) (written_in : L → List ℕ) (
             (read_goes ask x.kept more v.drawn.out r t here))
 
         -- what comes after it goes on from its answer, or a fault stopped it
-        abbrev pub Went : LineScript X → Stage (ScreenRenderer D) → Stage (ScreenRenderer D) → Result X ReadlineError → Type 0
+        abbrev pub Went : LineScript X → LineStage (ScreenRenderer D) → LineStage (ScreenRenderer D) → Result X ReadlineError → Type 0
         Went p x y result =
             ((r : Result Y ReadlineError) (t : Work D L) → GoesIn (next (result, y.kept)) (at y) r t → GoesIn (drawn_then x.drawn.layout x.kept p) (at x) r t)
             ⊎ ((e : ReadlineError) × GoesIn (drawn_then x.drawn.layout x.kept p) (at x) (Err e) (at y) × (result ≡ Err e) × reason_of true ⊤ e)
 
-        pub went : (p : LineScript X) (x y : Stage (ScreenRenderer D)) (result : Result X ReadlineError) → screen_of x.drawn.out ≡ s → Goes (line_world canvas (ruler_of s) a indent) p x result y → Went p x y result
+        pub went : (p : LineScript X) (x y : LineStage (ScreenRenderer D)) (result : Result X ReadlineError) → screen_of x.drawn.out ≡ s → Goes (line_world canvas (ruler_of s) a indent) p x result y → Went p x y result
         went (Ends z) x y result is (same, stays) =
             inl (λ r t h.
-            subst (λ (u : Stage (ScreenRenderer D)). GoesIn (next (Ok z, u.kept)) (at u) r t) stays
+            subst (λ (u : LineStage (ScreenRenderer D)). GoesIn (next (Ok z, u.kept)) (at u) r t) stays
             (subst (λ q. GoesIn (next (q, y.kept)) (at y) r t) same h))
         went (Asks ask later) x y result is (inl (z, v, made, goes)) =
             let first = drawn_by s x.drawn.layout (effect_at a indent x.kept ask).steps in

@@ -12,7 +12,7 @@ use Rattle.line_config.specs.Scripts.{Ends, Asks}
 use Rattle.line_keys.specs.Phrases.{Reads}
 use Rattle.line_record.specs.Ring.{Ring}
 use Rattle.line_editor.specs.Courses.{Open, breaks_after, steps_in, LineReport}
-use Rattle.line_editor.specs.LineScripts.{Begins as BeginsTurn, Keys, Kept, LineAsk, LineScript, answer_at, effect_at, left_at, line_script, played_from, steps_along, reported_from, turns_along}
+use Rattle.line_editor.specs.LineScripts.{Begins as BeginsTurn, Keys, LineState, LineAsk, LineScript, answer_at, effect_at, left_at, line_script, played_from, steps_along, reported_from, turns_along}
 use Rattle.line_editor.specs.Redraws.{fresh}
 use Rattle.line_editor.specs.Running.{kept_first}
 use Rattle.line_editor.specs.Sights.{sight_of, info_after}
@@ -69,7 +69,7 @@ read_alike Paste (Refused why) c on = tt
 -- ---- a script
 
 abbrev Play : Type 0 → Type 0
-Play X = Played LineAsk Kept ReadlineError X
+Play X = Played LineAsk LineState ReadlineError X
 
 -- it goes alike, or a read cuts the first
 record Same {X : Type 0} (p q : Play X) : Type 0 where
@@ -92,17 +92,17 @@ goes_first : {X : Type 0} (ask : LineAsk) (p q : Play X) → Goes p q → Goes (
 goes_first ask p q (inl same) = inl (record { answer = same.answer; asks = ap (λ asks. ask ∷ asks) same.asks; ring = same.ring; rest = same.rest })
 goes_first ask p q (inr cut) = inr (record { why = cut.why; answer = cut.answer; unbroken = cut.unbroken; later = cut.later; begins = ap (λ asks. ask ∷ asks) cut.begins })
 
-abbrev over : Kept → Coming → Kept
+abbrev over : LineState → Coming → LineState
 over k c = record k { coming = c }
 
 -- an ask that reads nothing
-unheard : {B X : Type 0} (ask : LineAsk) (next : B → Coming → Play X) (k : Kept) (h c : Coming) → Opens h c → ((x : B) → Goes (next x h) (next x c))
+unheard : {B X : Type 0} (ask : LineAsk) (next : B → Coming → Play X) (k : LineState) (h c : Coming) → Opens h c → ((x : B) → Goes (next x h) (next x c))
     → (r : Result B ReadlineError) → Goes (played_on (λ x. next x h) ask (over k h) r) (played_on (λ x. next x c) ask (over k c) r)
 unheard ask next k h c on so (Ok x) = goes_first ask (next x h) (next x c) (so x)
 unheard ask next k h c on so (Err e) = inl (record { answer = refl; asks = refl; ring = refl; rest = on })
 
 module _ (s : Setting) (indent : ℕ) where
-  module _ {X : Type 0} (item : InputItem) (t : InputOf item → LineScript X) (k : Kept) (h c : Coming) (on : Opens h c)
+  module _ {X : Type 0} (item : InputItem) (t : InputOf item → LineScript X) (k : LineState) (h c : Coming) (on : Opens h c)
       (later : (x : InputOf item) → Opens (behind h) (behind c) → Goes (played_from s indent (t x) (over k (behind h))) (played_from s indent (t x) (over k (behind c)))) where
     abbrev led : Coming → Result (InputOf item) ReadlineError → Play X
     led c r = let rest = over k (left r (behind c)) in played_on (λ x. played_from s indent (t x) rest) (Keys (Reads item)) rest r
@@ -116,7 +116,7 @@ module _ (s : Setting) (indent : ℕ) where
         let first = played_each (λ (p : Play X). IsBeginning (Keys (Reads item) ∷ []) p.asks) (λ x. played_from s indent (t x) rest) (Keys (Reads item)) rest (λ x. (_, refl)) (λ e. ([], refl)) q in
         inr (record { why = e; answer = refl; unbroken = unbroken; later = first.0; begins = first.1 })
 
-  goes : {X : Type 0} (p : LineScript X) (k : Kept) (h c : Coming) → Opens h c → Goes (played_from s indent p (over k h)) (played_from s indent p (over k c))
+  goes : {X : Type 0} (p : LineScript X) (k : LineState) (h c : Coming) → Opens h c → Goes (played_from s indent p (over k h)) (played_from s indent p (over k c))
   goes (Ends x) k h c on = inl (record { answer = refl; asks = refl; ring = refl; rest = on })
   goes (Asks (Keys (Reads item)) t) k h c on =
       read_goes item t k h c on (λ x next. goes (t x) k (behind h) (behind c) next) (item_at item h) (item_at item c) (read_alike item h c on.0) (refused_unbroken item h on.1)
@@ -125,7 +125,7 @@ module _ (s : Setting) (indent : ℕ) where
       unheard ask (λ x c. played_from s indent (t x) (over rest c)) rest h c on (λ x. goes (t x) rest h c on) (answer_at s indent k ask)
 
   -- the turns of asks are the same, whatever comes
-  turns_unheard : (o : Result (List ℕ) ReadlineError) (k : Kept) (h c : Coming) (drawn : List EditStep) (info : Option (List ℕ)) (asks : List LineAsk)
+  turns_unheard : (o : Result (List ℕ) ReadlineError) (k : LineState) (h c : Coming) (drawn : List EditStep) (info : Option (List ℕ)) (asks : List LineAsk)
       → turns_along s indent o (over k h) drawn info asks ≡ turns_along s indent o (over k c) drawn info asks
   turns_unheard o k h c drawn info [] = refl
   turns_unheard o k h c drawn info (BeginsTurn ∷ asks) =
@@ -151,7 +151,7 @@ record StoppedLine (t u : LineReport) : Type 0 where
 abbrev LineGoes : LineReport → LineReport → Type 0
 LineGoes t u = SameLine t u ⊎ StoppedLine t u
 
-line_goes : (s : Setting) (indent : ℕ) (script : LineScript (List ℕ)) (k : Kept) (h c : Coming) → Opens h c → LineGoes (reported_from s indent script (over k h)) (reported_from s indent script (over k c))
+line_goes : (s : Setting) (indent : ℕ) (script : LineScript (List ℕ)) (k : LineState) (h c : Coming) → Opens h c → LineGoes (reported_from s indent script (over k h)) (reported_from s indent script (over k c))
 line_goes s indent script k h c on = by (goes s indent script k h c on)
   where
     by : Goes (played_from s indent script (over k h)) (played_from s indent script (over k c)) → LineGoes (reported_from s indent script (over k h)) (reported_from s indent script (over k c))

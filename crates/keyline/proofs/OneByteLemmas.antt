@@ -15,7 +15,7 @@ use Rattle.line_editor.specs.Calls.{Marks}
 use Rattle.line_editor.specs.Drawing.{drawn, asked_anew}
 use Rattle.line_keys.specs.Replies.{Reply, fails}
 use Rattle.line_editor.specs.Inserting.{is_bare, may_be_typed, inserted_shown, insert_char}
-use Rattle.line_editor.specs.LineScripts.{Kept, beginning, line_plan, made_from, obeying, phrase_script, played_from, steps_along, turn_script}
+use Rattle.line_editor.specs.LineScripts.{LineState, beginning, line_plan, made_from, obeying, phrase_script, played_from, steps_along, turn_script}
 use Rattle.line_editor.specs.Redraws.{Asked, full, nothing_asked, moved_by_call, typed_short, taken_short, may_type, may_take}
 use Rattle.line_editor.specs.Redraws.Redraw.{Drawn, Moved, Typed, Taken, Bared, ToEnd, Beeped, Cleared}
 use Rattle.line_editor.specs.Sights.{Sight, sight, Fits}
@@ -112,14 +112,14 @@ short_bytes s l v m prompt c text at printable may =
     ap (λ b. flat_map (bytes_of s) ((if b then typed_short l c else full (ruler_of s) m l prompt true text at None).calls ++ [])) may
     ∙ append-nil (encode_utf8 c) ∙ encode_ascii c (small c printable)
 
-turned_steps : (n : ℕ) (a : Setting) (custom : Custom) (indent : ℕ) (k : Kept) (c : ℕ) → (let phrase = phrase_script n custom (beginning k) in ReadAlone a indent k phrase c
+turned_steps : (n : ℕ) (a : Setting) (custom : Custom) (indent : ℕ) (k : LineState) (c : ℕ) → (let phrase = phrase_script n custom (beginning k) in ReadAlone a indent k phrase c
     → (made_from a indent (turn_script n custom) k).steps ≡ (made_from a indent phrase k).steps ++ (insert_char c 1 a k.value).steps)
 unfolding turn_script
 turned_steps n a custom indent k c alone =
     let phrase = phrase_script n custom (beginning k) in
     let p = played_from a indent phrase k in
     let first = steps_along a indent k p.asks in
-    let on : Cmd → Kept → PlayedOf a indent Status = follows (line_plan a indent) obeying in
+    let on : Cmd → LineState → PlayedOf a indent Status = follows (line_plan a indent) obeying in
     let more = (on (SelfInsert 1 c) p.rest).asks in
     let all : PlayedOf a indent Status → List EditStep = λ q. steps_along a indent k q.asks in
     ap all (played_then (line_plan a indent) obeying phrase k)

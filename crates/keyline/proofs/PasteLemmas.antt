@@ -44,12 +44,12 @@ use Rattle.line_editor.specs.Accepting.{accept_or_insert}
 use Rattle.line_editor.specs.Asks.{shown_in}
 use Rattle.line_editor.specs.Commands.{in_vi_command, means_of}
 use Rattle.line_editor.specs.Drawing.{refreshed}
-use Rattle.line_editor.specs.LineScripts.{Begins, Keys, Obeys, Kept, LineAsk, beginning, kept, keyed, left_at, line_plan, line_script, obeying, phrase_script, played_from, reported_from, turn_script, turned_on, turns_script}
+use Rattle.line_editor.specs.LineScripts.{Begins, Keys, Obeys, LineState, LineAsk, beginning, kept, keyed, left_at, line_plan, line_script, obeying, phrase_script, played_from, reported_from, turn_script, turned_on, turns_script}
 use Rattle.line_editor.specs.Courses.{LineReport}
 use Rattle.line_editor.specs.Lines.{line_begun, reset_by, with_group_begun}
 use Rattle.line_editor.specs.Moving.{cursor_moved_if}
 use Rattle.line_editor.specs.Values.{Setting, Value, empty_at, first_value, unchanged, then_do, at_line}
-use Rattle.line_editor.specs.Yanking.{behind_yank, yanked_by, put as put_yanked, yank_text}
+use Rattle.line_editor.specs.Yanking.{behind_yank, yanked_by, put_yanked, yank_text}
 use Rattle.line_editor.specs.declared.commands.Status.{Status}
 use Rattle.line_editor.proofs.ToldLemmas.{follows, joined, played_then}
 use Rattle.line_screen.specs.KeyGrammar.{coming_of}
@@ -76,7 +76,7 @@ by_the_table new s k table n free none =
     ap (λ reply. steps (deciding (bound_or new s (command_or table (terminal_command s.shown k))) reply) n) (unbound_answer s k free)
     ∙ ap (λ command. steps (command_or table command) n) none
 
-abbrev with_rest : Kept → Coming → Kept
+abbrev with_rest : LineState → Coming → LineState
 with_rest k c = record k { coming = c }
 
 abbrev input_with : EditMode → InputMode → Cmd → Option CharSearch → Input
@@ -136,31 +136,31 @@ abbrev kept_asks : EditMode → List ℕ → Input → List LineAsk
 kept_asks Emacs text input = []
 kept_asks Vi text input = Keys Needs ∷ Keys (Becomes (with_last (Insert 1 text) input)) ∷ []
 
-abbrev paste_kept : EditMode → List ℕ → Kept → Coming → Kept
+abbrev paste_kept : EditMode → List ℕ → LineState → Coming → LineState
 paste_kept mode text k rest = kept k.value (kept_after mode text k.input) k.ring rest
 
 -- behind its first key
-abbrev paste_played : EditMode → List ℕ → Kept → Coming → Played LineAsk Kept ReadlineError Cmd
+abbrev paste_played : EditMode → List ℕ → LineState → Coming → Played LineAsk LineState ReadlineError Cmd
 paste_played mode text k rest =
     record { answer = Ok (Insert 1 text); asks = Keys (Reads Paste) ∷ kept_asks mode text k.input; rest = paste_kept mode text k rest }
 
-abbrev enter_played : Kept → Coming → Played LineAsk Kept ReadlineError Cmd
+abbrev enter_played : LineState → Coming → Played LineAsk LineState ReadlineError Cmd
 enter_played k rest = record { answer = Ok (AcceptOrInsertLine true); asks = []; rest = with_rest k rest }
 
 abbrev grouped : ℕ → Cmd → Input → Shown → Steps Cmd
 grouped n cmd input shown = steps (with_group_begun cmd input shown) n
 
 module _ (s : Setting) (indent : ℕ) (custom : Custom) (free : IsUnbound custom) where
-  abbrev behind_key : ℕ → Kept → Coming → Steps Cmd → Played LineAsk Kept ReadlineError Cmd
+  abbrev behind_key : ℕ → LineState → Coming → Steps Cmd → Played LineAsk LineState ReadlineError Cmd
   behind_key n k rest script = asked_first (Keys (Reads Key)) (played_from s indent (keyed (after (grouped n) k.input (shown_in k.value) script)) (with_rest k rest))
 
-  plays_keeping : (n : ℕ) (mode : EditMode) (text : List ℕ) (k : Kept) (rest : Coming)
+  plays_keeping : (n : ℕ) (mode : EditMode) (text : List ℕ) (k : LineState) (rest : Coming)
       → behind_key n k (Pasted text rest) (pasting mode k.input) ≡ asked_first (Keys (Reads Key)) (paste_played mode text k rest)
   unfolding answered
   plays_keeping n Emacs text k rest = refl
   plays_keeping n Vi text k rest = refl
 
-  plays_paste : (n : ℕ) (k : Kept) (text : List ℕ) (rest : Coming)
+  plays_paste : (n : ℕ) (k : LineState) (text : List ℕ) (rest : Coming)
       → (let on = with_rest k (Pressed paste_start (Pasted text rest)) in played_from s indent (phrase_script (suc (suc n)) custom (beginning k)) on ≡ asked_first (Keys (Reads Key)) (paste_played k.input.mode text k rest))
   unfolding and_then with_read
   plays_paste n k text rest =
@@ -168,7 +168,7 @@ module _ (s : Setting) (indent : ℕ) (custom : Custom) (free : IsUnbound custom
       ap (behind_key (suc (suc n)) k (Pasted text rest)) (pastes input.mode input.input_mode custom input.last input.search (shown_in k.value) n free)
       ∙ plays_keeping (suc (suc n)) input.mode text k rest
 
-  plays_enter : (n : ℕ) (k : Kept) (rest : Coming)
+  plays_enter : (n : ℕ) (k : LineState) (rest : Coming)
       → (let on = with_rest k (Pressed enter rest) in played_from s indent (phrase_script (suc n) custom (beginning k)) on ≡ asked_first (Keys (Reads Key)) (enter_played k rest))
   unfolding and_then with_read answered
   plays_enter n k rest =
@@ -228,7 +228,7 @@ moved_text true kind l s v is = is
 moved_text false kind l s v is = refl
 
 -- the text is accepted, and this is left to come
-abbrev Takes : Played LineAsk Kept ReadlineError (List ℕ) → List ℕ → Coming → Type 0
+abbrev Takes : Played LineAsk LineState ReadlineError (List ℕ) → List ℕ → Coming → Type 0
 Takes p text rest = (p.answer ≡ Ok text) × (p.rest.coming ≡ rest)
 
 module _ (s : Setting) (indent : ℕ) (custom : Custom) (free : IsUnbound custom) where
@@ -236,13 +236,13 @@ module _ (s : Setting) (indent : ℕ) (custom : Custom) (free : IsUnbound custom
   bare = without_hooks s
 
   -- a phrase, its command, and the turns after it
-  abbrev turn_on : Played LineAsk Kept ReadlineError Cmd → Played LineAsk Kept ReadlineError Status
+  abbrev turn_on : Played LineAsk LineState ReadlineError Cmd → Played LineAsk LineState ReadlineError Status
   turn_on p = asked_first Begins (joined (follows (line_plan bare indent) obeying) p)
 
-  abbrev line_on : ℕ → Played LineAsk Kept ReadlineError Cmd → Played LineAsk Kept ReadlineError (List ℕ)
+  abbrev line_on : ℕ → Played LineAsk LineState ReadlineError Cmd → Played LineAsk LineState ReadlineError (List ℕ)
   line_on n p = joined (follows (line_plan bare indent) (turned_on (turns_script n custom))) (turn_on p)
 
-  turns_on : (n : ℕ) (k : Kept) → played_from bare indent (turns_script (suc n) custom) k ≡ line_on n (played_from bare indent (phrase_script (suc n) custom (beginning k)) k)
+  turns_on : (n : ℕ) (k : LineState) → played_from bare indent (turns_script (suc n) custom) k ≡ line_on n (played_from bare indent (phrase_script (suc n) custom (beginning k)) k)
   unfolding turns_script turn_script
   turns_on n k =
       let plan = line_plan bare indent in
@@ -250,7 +250,7 @@ module _ (s : Setting) (indent : ℕ) (custom : Custom) (free : IsUnbound custom
       played_then plan next (turn_script (suc n) custom) k
       ∙ ap (λ t. joined (follows plan next) (asked_first Begins t)) (played_then plan obeying (phrase_script (suc n) custom (beginning k)) k)
 
-  enter_accepts : (n : ℕ) (k : Kept) (rest : Coming) → Takes (played_from bare indent (turns_script (suc n) custom) (with_rest k (Pressed enter rest))) k.value.line.text rest
+  enter_accepts : (n : ℕ) (k : LineState) (rest : Coming) → Takes (played_from bare indent (turns_script (suc n) custom) (with_rest k (Pressed enter rest))) k.value.line.text rest
   enter_accepts n k rest =
       let w : Value = (accept_or_insert true bare k.value).value in
       subst (λ p. Takes p k.value.line.text rest) (sym (turns_on n (with_rest k (Pressed enter rest)) ∙ ap (line_on n) (plays_enter bare indent custom free n k rest))) (
@@ -258,7 +258,7 @@ module _ (s : Setting) (indent : ℕ) (custom : Custom) (free : IsUnbound custom
         refl,
       )
 
-  paste_accepts : (n : ℕ) (k : Kept) (text : List ℕ) (rest : Coming) → IsEmptyLine k.value
+  paste_accepts : (n : ℕ) (k : LineState) (text : List ℕ) (rest : Coming) → IsEmptyLine k.value
       → Takes (played_from bare indent (turns_script (suc (suc n)) custom) (with_rest k (Pressed paste_start (Pasted text (Pressed enter rest))))) text rest
   paste_accepts n k text rest empty =
       let on = with_rest k (Pressed paste_start (Pasted text (Pressed enter rest))) in

@@ -7,7 +7,7 @@ use Rattle.line_keys.specs.declared.command.Cmd.{Cmd}
 use Rattle.line_keys.specs.declared.command.Cmd.TheVariants.{SelfInsert}
 use Rattle.line_editor.specs.Inserting.{is_bare, may_be_typed, insert_char}
 use Rattle.line_editor.specs.Redraws.{nothing_asked, may_type}
-use Rattle.line_editor.specs.LineScripts.{Kept, LineScript, beginning, made_from, phrase_script, played_from, turn_script}
+use Rattle.line_editor.specs.LineScripts.{LineState, LineScript, beginning, made_from, phrase_script, played_from, turn_script}
 use Rattle.line_editor.specs.Sights.{Sight, sight_all, FitsAll}
 use Rattle.line_editor.specs.Values.{Value, Setting, EditStep}
 use Rattle.line_screen.specs.Calls.{Screen, ruler_of}
@@ -32,7 +32,7 @@ pub record TypedAtEnd (a : Setting) (v : Value) (c : ℕ) : Type 0 where
   pub after : is_bare (insert_char c 1 a v).value ≡ true
 
 -- the tables read it alone, with no count and nothing asked
-pub record ReadAlone (a : Setting) (indent : ℕ) (k : Kept) (phrase : LineScript Cmd) (c : ℕ)
+pub record ReadAlone (a : Setting) (indent : ℕ) (k : LineState) (phrase : LineScript Cmd) (c : ℕ)
     : Type 0 where
   pub answer : (played_from a indent phrase k).answer ≡ Ok (SelfInsert 1 c)
   pub value_is : (made_from a indent phrase k).value ≡ k.value
@@ -42,7 +42,7 @@ pub record ReadAlone (a : Setting) (indent : ℕ) (k : Kept) (phrase : LineScrip
 -- where the layout lets its byte be written alone, its turn sends that byte
 abbrev pub OneByte : Type 0
 OneByte =
-    (n : ℕ) (s : Screen) (l : Layout) (a : Setting) (custom : Custom) (indent : ℕ) (k : Kept)
+    (n : ℕ) (s : Screen) (l : Layout) (a : Setting) (custom : Custom) (indent : ℕ) (k : LineState)
     (c : ℕ)
     → ReadAlone a indent k (phrase_script n custom (beginning k)) c → TypedAtEnd a k.value c
     → may_type (ruler_of s) l ≡ true

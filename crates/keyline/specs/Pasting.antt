@@ -5,7 +5,7 @@ use Rattle.line_config.specs.declared.device.Last.{Last}
 use Rattle.line_keys.specs.declared.events.Event.{Event}
 use Rattle.line_keys.specs.Answers.{Custom}
 use Rattle.line_keys.specs.Coming.{Coming}
-use Rattle.line_editor.specs.LineScripts.{Kept, reported_from, turns_script}
+use Rattle.line_editor.specs.LineScripts.{LineState, reported_from, turns_script}
 use Rattle.line_editor.specs.Courses.{LineReport}
 use Rattle.line_editor.specs.Values.{Setting, Value}
 use Rattle.line_screen.specs.KeyGrammar.{marker}
@@ -40,7 +40,7 @@ pub record Accepts (t : LineReport) (text : List ℕ) (rest : Coming) : Type 0 w
 -- input mode, the ring, the record and the history.
 abbrev pub PastesAreAccepted : Type 0
 PastesAreAccepted =
-    (n : ℕ) (s : Setting) (custom : Custom) (indent : ℕ) (k : Kept) (text more : List ℕ)
+    (n : ℕ) (s : Setting) (custom : Custom) (indent : ℕ) (k : LineState) (text more : List ℕ)
     (last : Last)
     → s.hooks ≡ None → IsUnbound custom → IsEmptyLine k.value → IsPasteable text
     → k.coming ≡ coming_from k.input.mode (sent_as_paste text ++ 0x0D ∷ more) last

@@ -8,7 +8,7 @@ use Rattle.line_config.specs.declared.errors.ReadlineError.{ReadlineError}
 use Rattle.line_config.specs.declared.errors.ReadlineError.TheVariants.{Memory}
 use Rattle.line_editor.specs.Calls.{Call}
 use Rattle.line_editor.specs.Calls.Call.{Help}
-use Rattle.line_editor.specs.LineScripts.{Kept, Keys, LineAsk, LineScript, answer_at, effect_at, left_at, line_script}
+use Rattle.line_editor.specs.LineScripts.{LineState, Keys, LineAsk, LineScript, answer_at, effect_at, left_at, line_script}
 use Rattle.line_editor.specs.Redraws.{fresh}
 use Rattle.line_editor.specs.Running.{kept_first}
 use Rattle.line_editor.specs.Values.{Setting}
@@ -56,8 +56,8 @@ answered_by next ends (Err e) = ends e
 
 -- a line's asks, by the calls of their edits where this layout is kept: to its answer, or to why
 -- there is none, with what is kept then
-abbrev pub drawn_on : {X : Type 0} → Screen → Setting → ℕ → Layout → Kept → LineScript X
-    → SessionScript (Result X ReadlineError × Kept)
+abbrev pub drawn_on : {X : Type 0} → Screen → Setting → ℕ → Layout → LineState → LineScript X
+    → SessionScript (Result X ReadlineError × LineState)
 drawn_on s a indent l k (Ends answer) = Ends (Ok answer, k)
 drawn_on s a indent l k (Asks ask later) =
     let x = drawn_by s l (effect_at a indent k ask).steps in

@@ -2,7 +2,7 @@
 use Rattle.std.specs.Prelude.{◌≡◌, ℕ, ◌≤◌, List, ◌++◌, Option, Ok}
 use Rattle.line_buffer.specs.declared.layout.Layout.{Layout}
 use Rattle.line_editor.specs.Commands.{Means, effect}
-use Rattle.line_editor.specs.LineScripts.{Kept, made_from, played_from, turn_script}
+use Rattle.line_editor.specs.LineScripts.{LineState, made_from, played_from, turn_script}
 use Rattle.line_editor.specs.Sights.{Sight, sight_of, ended_sight, info_after}
 use Rattle.line_editor.specs.Values.{Value, Setting, EditStep}
 use Rattle.line_editor.specs.declared.commands.Status.{Status}
@@ -40,7 +40,7 @@ CommandsShow =
 abbrev pub TurnsShow : Type 0
 TurnsShow =
     (s : Screen) → 2 ≤ s.columns → s.columns ≤ 1000
-    → (n : ℕ) (a : Setting) (custom : Custom) (indent : ℕ) (k : Kept) (info : Option (List ℕ))
+    → (n : ℕ) (a : Setting) (custom : Custom) (indent : ℕ) (k : LineState) (info : Option (List ℕ))
     (status : Status)
     → let turn = turn_script n custom in let made = made_from a indent turn k in
     (played_from a indent turn k).answer ≡ Ok status

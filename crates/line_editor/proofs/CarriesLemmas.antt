@@ -20,11 +20,11 @@ use Rattle.line_record.specs.Ring.{Ring}
 use Rattle.line_editor.specs.Accepting.{submitted}
 use Rattle.line_editor.specs.Drawing.{refreshed}
 use Rattle.line_editor.specs.Lines.{line_begun}
-use Rattle.line_editor.specs.LineScripts.{LineAsk, LineAnswer, LineScript, Makes, Stage, kept, turned_on, turn_script, turns_script, line_script}
+use Rattle.line_editor.specs.LineScripts.{LineAsk, LineAnswer, LineScript, Makes, LineStage, kept, turned_on, turn_script, turns_script, line_script}
 use Rattle.line_editor.specs.Running.{text_or}
 use Rattle.line_editor.specs.States.{value_of, Reason, Stays, Does}
 use Rattle.line_editor.specs.Turning.{Cause, Takes, stage_of, world_of}
-use Rattle.line_editor.specs.Values.{Value, Transition, taking}
+use Rattle.line_editor.specs.Values.{Value, Transition, taking_memory}
 use Rattle.line_editor.specs.declared.commands.Status.{Status}
 use Rattle.line_editor.specs.declared.commands.Status.TheVariants.{Proceed, Submit}
 use Rattle.line_editor.specs.declared.renderer as renderers
@@ -61,13 +61,13 @@ on_ok (Err e) text h = tt
 
 -- ---- turns one after the other
 
-module _ {R : Type 0} (w : World LineAsk LineAnswer (Stage R) ReadlineError) (n : ℕ) (custom : Custom) where
-  pub turns_on : (status : Status) (result : Result (List ℕ) ReadlineError) (x y z : Stage R) → Goes w (turn_script (suc n) custom) x (Ok status) y
+module _ {R : Type 0} (w : World LineAsk LineAnswer (LineStage R) ReadlineError) (n : ℕ) (custom : Custom) where
+  pub turns_on : (status : Status) (result : Result (List ℕ) ReadlineError) (x y z : LineStage R) → Goes w (turn_script (suc n) custom) x (Ok status) y
       → Goes w (turned_on (turns_script n custom) status) y result z → Goes w (turns_script (suc n) custom) x result z
   unfolding turns_script
   turns_on status result x y z first rest = then_goes w (turn_script (suc n) custom) (turned_on (turns_script n custom)) status result x y z first rest
 
-  pub turns_ended : (e : ReadlineError) (x y : Stage R) → Goes w (turn_script (suc n) custom) x (Err e) y → Goes w (turns_script (suc n) custom) x (Err e) y
+  pub turns_ended : (e : ReadlineError) (x y : LineStage R) → Goes w (turn_script (suc n) custom) x (Err e) y → Goes w (turns_script (suc n) custom) x (Err e) y
   unfolding turns_script
   turns_ended e x y first = then_cut w (turn_script (suc n) custom) (turned_on (turns_script n custom)) e x y first
 
@@ -79,12 +79,12 @@ module _ {Out H Hi K T : Type 0} {renderer : renderers.Renderer.Ghosts Out} {com
   caused custom t feed (Err e) text why = edit_cause custom t feed e why
 
   -- memory was taken
-  taken : (s : State Out H Hi K T renderer completer candidate hinter hint highlighter validator history) → Does {A = Unit {0}} taking s s (Ok (tt {0}))
+  taken : (s : State Out H Hi K T renderer completer candidate hinter hint highlighter validator history) → Does {A = Unit {0}} taking_memory s s (Ok (tt {0}))
   taken s = record { value = refl; calls = refl; layout = refl; stays = stays_same s; reason = tt; stops = tt }
 
   -- an edit alone, whatever follows it
   module _ (indent : ℕ) (s m t : State Out H Hi K T renderer completer candidate hinter hint highlighter validator history) (stays : Stays s m) (edit : Transition) (i : Input) (r : Ring) (c : Coming) {X : Type 0} (later : Value → LineScript X) where
-    pub makes : {A : Type 0} (x : A) (result : Result X ReadlineError) (z : Stage Out) → Does edit m t (Ok x)
+    pub makes : {A : Type 0} (x : A) (result : Result X ReadlineError) (z : LineStage Out) → Does edit m t (Ok x)
         → Goes (world_of indent s) (later (value_of t)) (stage_of t i r c) result z → Goes (world_of indent s) (Asks (Makes edit) later) (stage_of m i r c) result z
     makes x result z h goes =
         let value = edit_value s m t stays edit x h in
@@ -106,7 +106,7 @@ module _ {Out H Hi K T : Type 0} {renderer : renderers.Renderer.Ghosts Out} {com
     pub record Carried (n : ℕ) (m : State Out H Hi K T renderer completer candidate hinter hint highlighter validator history) (i' : Input) (r' : Ring) (feed' : KeyFeed) : Type 0 where
       pub fuel : ℕ
       pub enough : feed'.bound < fuel
-      pub onward : (result : Result (List ℕ) ReadlineError) (y : Stage Out) → Goes (world_of indent s) (turns_script fuel custom) (stage_of m i' r' feed'.coming) result y
+      pub onward : (result : Result (List ℕ) ReadlineError) (y : LineStage Out) → Goes (world_of indent s) (turns_script fuel custom) (stage_of m i' r' feed'.coming) result y
           → Goes (world_of indent s) (turns_script n custom) (stage_of s i r feed.coming) result y
 
     -- at the head of the loop
@@ -139,7 +139,7 @@ module _ {Out H Hi K T : Type 0} {renderer : renderers.Renderer.Ghosts Out} {com
             (subst (λ x. Goes (world_of indent m) (turn_script n x) (stage_of m i1 r1 feed1.coming) result (stage_of t i2 r2 feed2.coming)) same goes)
 
         -- after an answer, and what follows it
-        turned : (n : ℕ) → Carried n m i1 r1 feed1 → (status : Status) (result : Result (List ℕ) ReadlineError) (y : Stage Out)
+        turned : (n : ℕ) → Carried n m i1 r1 feed1 → (status : Status) (result : Result (List ℕ) ReadlineError) (y : LineStage Out)
             → ((k : ℕ) → feed1.bound < k → Goes (world_of indent m) (turn_script k kept) (stage_of m i1 r1 feed1.coming) (Ok status) (stage_of t i2 r2 feed2.coming))
             → ((k : ℕ) → feed1.bound < suc k → Goes (world_of indent s) (turned_on (turns_script k custom) status) (stage_of t i2 r2 feed2.coming) result y)
             → Goes (world_of indent s) (turns_script n custom) (stage_of s i r feed.coming) result y
@@ -214,10 +214,10 @@ module _ {Out H Hi K T : Type 0} {renderer : renderers.Renderer.Ghosts Out} {com
 
   -- memory was taken before it
   begun : {A : Type 0} (s t : State Out H Hi K T renderer completer candidate hinter hint highlighter validator history) (result : Result A ReadlineError) → Does refreshed s t result → Does line_begun s t result
-  begun s t result h = does_both taking refreshed s s t (tt {0}) result (taken s) h
+  begun s t result h = does_both taking_memory refreshed s s t (tt {0}) result (taken s) h
 
   module _ (custom : Custom) (indent : ℕ) (i : Input) (r : Ring) (s : State Out H Hi K T renderer completer candidate hinter hint highlighter validator history) (feed : KeyFeed) where
-    drawn_on : {B : Type 0} (n : ℕ) (x : B) (m : State Out H Hi K T renderer completer candidate hinter hint highlighter validator history) (result : Result (List ℕ) ReadlineError) (y : Stage Out) → Does line_begun s m (Ok x)
+    drawn_on : {B : Type 0} (n : ℕ) (x : B) (m : State Out H Hi K T renderer completer candidate hinter hint highlighter validator history) (result : Result (List ℕ) ReadlineError) (y : LineStage Out) → Does line_begun s m (Ok x)
         → Goes (world_of indent m) (turns_script n custom) (stage_of m i r feed.coming) result y → Goes (world_of indent s) (line_script n custom) (stage_of s i r feed.coming) result y
     unfolding line_script
     drawn_on n x m result y drawn goes = makes indent s s m (stays_same s) line_begun i r feed.coming (λ v. turns_script n custom) x result y drawn

@@ -22,7 +22,7 @@ use Rattle.line_record.specs.Ring.{Ring}
 use Rattle.line_editor.specs.Accepting.{accepts}
 use Rattle.line_editor.specs.Asks.{shown_in}
 use Rattle.line_editor.specs.Commands.{Means, means_of, effect, outcome}
-use Rattle.line_editor.specs.LineScripts.{Obeys, Answered, Stage, kept, keyed, obeying, turn_script}
+use Rattle.line_editor.specs.LineScripts.{Obeys, Answered, LineStage, kept, keyed, obeying, turn_script}
 use Rattle.line_editor.specs.Lines.{line_phrase, reset_by}
 use Rattle.line_editor.specs.States.{value_of, setting_of, display_of, Stays, Reason}
 use Rattle.line_editor.specs.Turning.{Executes, Cause, Takes, stage_of, world_of}
@@ -77,10 +77,10 @@ module _ {Out H Hi K T : Type 0} {renderer : renderers.Renderer.Ghosts Out} {com
   -- ---- a turn, by how often it may read
 
   module _ (n : ℕ) (custom : Custom) (indent : ℕ) (i : Input) (r : Ring) (c : Coming) (s : State Out H Hi K T renderer completer candidate hinter hint highlighter validator history) where
-    abbrev Turns : Result Status ReadlineError → Stage Out → Type 0
+    abbrev Turns : Result Status ReadlineError → LineStage Out → Type 0
     Turns result y = Goes (world_of indent s) (turn_script n custom) (stage_of s i r c) result y
 
-    turn_begun : (result : Result Status ReadlineError) (y : Stage Out)
+    turn_begun : (result : Result Status ReadlineError) (y : LineStage Out)
         → Goes (world_of indent s) ((then) (keyed (steps (line_phrase custom i (shown_in (value_of s))) n)) obeying) (stage_of s i r c) result y → Turns result y
     unfolding turn_script
     turn_begun result y goes = inl (record { input = i; shown = shown_in (value_of s) }, stage_of s i r c, (refl, refl, (refl, refl)), goes)

@@ -41,11 +41,11 @@ use Rattle.line_editor.specs.Leads.{Leads, CommandsLead, SubmittingLeads, AsksLe
 use Rattle.line_editor.specs.Moving.{move_buffer_end}
 use Rattle.line_editor.specs.Redraws.Redraw.{Drawn, Bared, Beeped}
 use Rattle.line_editor.specs.Remembering.{saved_now, at_place, saved_on_leaving, saving_on_leaving, recall, recalled_earlier, history_step, history_end, hit_shown, history_search}
-use Rattle.line_editor.specs.Rewording.{transpose_chars, transpose_words, edit_word, unmarked, undo}
+use Rattle.line_editor.specs.Rewording.{transpose_chars_effect, transpose_words_effect, edit_word_effect, unmarked, undo}
 use Rattle.line_editor.specs.Sights.{sight_as, sight_with, sight_of, ended_sight, Turns, info_after}
 use Rattle.line_editor.specs.Values.{Value, Setting, Effect, hint_reply, verdict_reply, completion_reply, update_reply, shown_hint, unchanged, rewritten, written_of, at_line}
 use Rattle.line_editor.specs.Values.EditStep.{Draws, Takes}
-use Rattle.line_editor.specs.Yanking.{anchored, steps, behind_yank, yanked_by, yank_text, yank_lent, pop_lent}
+use Rattle.line_editor.specs.Yanking.{anchored, steps_over, behind_yank, yanked_by, yank_text, yank_lent, pop_lent}
 use Rattle.line_editor.proofs.LeadLemmas.{turns_both, info_both, both_lead, either, help_turns, asking_leads, edit_leads, back_leads, take_leads, redraw_leads, redrawn_leads, refresh_leads, told_leads, rest_leads, beep_leads, clear_leads, refresh_if_leads, step_leads, motion_leads, none_if, insertion_leads, kill_leads, replace_leads}
 
 or_none : (a b : Bool) → (a || b) ≡ false → (a ≡ false) × (b ≡ false)
@@ -71,7 +71,7 @@ no_yank : (text : List ℕ) (n : ℕ) (l : Line) (b : Bool)
 no_yank text n l true h = refl
 no_yank text n l false h = none_if _ _ l _ h
 
-not_anchored : (anchor : Anchor) (l : Line) → steps anchor l ≡ false → anchored anchor l ≡ l
+not_anchored : (anchor : Anchor) (l : Line) → steps_over anchor l ≡ false → anchored anchor l ≡ l
 not_anchored After l h = found_none (place_forward 1 l) l h
 not_anchored Before l h = refl
 
@@ -83,7 +83,7 @@ yank_rests vi text n v h =
 yank_leads : (vi : Bool) (text : List ℕ) (anchor : Anchor) (n : ℕ) (s : Setting) (v : Value) → Leads s v (yank_text vi text anchor n s v)
 yank_leads vi text anchor n s v =
     let before = at_line (anchored anchor v.line) v in
-    either s v (is_some (yanked_in text n before.line).answer || steps anchor v.line) _ _ (λ e. edit_leads (answering tt (yanking text n before.line)) s v before (refreshed s (yanked_by vi text n before)) (refresh_leads s v (yanked_by vi text n before))) (λ e.
+    either s v (is_some (yanked_in text n before.line).answer || steps_over anchor v.line) _ _ (λ e. edit_leads (answering tt (yanking text n before.line)) s v before (refreshed s (yanked_by vi text n before)) (refresh_leads s v (yanked_by vi text n before))) (λ e.
     let parts = or_none _ _ e in
     rest_leads s v (yanked_by vi text n before) (yank_rests vi text n before parts.0 ∙ not_anchored anchor v.line parts.1))
 
@@ -97,7 +97,7 @@ pop_leads (Some lent) s v = either s v (can_take_before lent.0 v.line) _ _ (λ e
 
 -- ---- words
 
-chars_lead : (s : Setting) (v : Value) → Leads s v (transpose_chars s v)
+chars_lead : (s : Setting) (v : Value) → Leads s v (transpose_chars_effect s v)
 chars_lead s v = refresh_if_leads transposing_chars_in_group s v (transposes_chars v.line) (λ e. if_none (transposes_chars v.line) _ v.line e)
 
 words_rest : (n : ℕ) (l : Line) → transposes_words n l ≡ false → (transpose_words_line n l).place ≡ l.place → transpose_words_line n l ≡ l
@@ -106,7 +106,7 @@ words_rest n l h k =
     let stays : transpose_words_line n l ≡ after_words 1 (first_word n l) = if_none (transposes_words n l) (swap_line (words_around n l) l) (after_words 1 (first_word n l)) h in
     stays ∙ ap (λ place. record l { place = place }) (sym (ap (λ (x : Line). x.place) stays) ∙ k)
 
-words_lead : (n : ℕ) (s : Setting) (v : Value) → Leads s v (transpose_words n s v)
+words_lead : (n : ℕ) (s : Setting) (v : Value) → Leads s v (transpose_words_effect n s v)
 words_lead n s v =
     let w = rewritten (transpose_words_in_group n) v in
     refresh_if_leads (transposing_words_in_group n) s v (transposes_words n v.line || not (w.line.place == v.line.place)) (λ e.
@@ -117,7 +117,7 @@ recase_rests : (action : WordAction) (o : Option (ℕ × ℕ)) (l : Line) → is
 recase_rests action None l h = refl
 recase_rests action (Some word) l h = cc
 
-word_leads : (action : WordAction) (s : Setting) (v : Value) → Leads s v (edit_word action s v)
+word_leads : (action : WordAction) (s : Setting) (v : Value) → Leads s v (edit_word_effect action s v)
 word_leads action s v = refresh_if_leads (editing_word_in_group action) s v (is_some (word_to_edit v.line)) (recase_rests action (word_to_edit v.line) v.line)
 
 over_rests : (c : ℕ) (o : Option ℕ) (w : Written) → is_some o ≡ false → (written_over c o w).line ≡ w.line

@@ -30,7 +30,7 @@ use Rattle.line_keys.specs.declared.command.CmdKind.TheVariants.{MoveCursor}
 use Rattle.line_record.specs.Held.{Held}
 use Rattle.line_editor.specs.Drawing.{drawn, repainted, asked_anew, refreshed, refreshed_if, told, cursor_moved, beeped, cleared_and_drawn}
 use Rattle.line_editor.specs.Inserting.{is_bare, may_be_typed, put_shown, inserted_shown, insert_char, insert_text}
-use Rattle.line_editor.specs.Killing.{may_be_taken, taken_shown, show_taken, kill, insert_text_if, replace}
+use Rattle.line_editor.specs.Killing.{may_be_taken, taken_shown, show_taken, kill_effect, insert_text_if, replace}
 use Rattle.line_editor.specs.Leads.{Leads}
 use Rattle.line_editor.specs.Moving.{cursor_moved_if, to_found, to_place, move_home, move_to_next_word, move_to_first_print, move_by}
 use Rattle.line_editor.specs.Redraws.{Redraw}
@@ -311,7 +311,7 @@ killed_by edit s v held (Some span) h =
     (taken_shown (length v.line.text - length w.line.text) (may_be_taken (drop (length w.line.text) v.line.text) v) s asked)
     (taken_by s v asked span.from span.upto (taken_alone v asked) refl h refl refl))
 
-pub kill_leads : (m : Movement) (s : Setting) (v : Value) → Leads s v (kill m s v)
+pub kill_leads : (m : Movement) (s : Setting) (v : Value) → Leads s v (kill_effect m s v)
 kill_leads m s v = killed_by (answering tt (killing m v.line)) s v (rewritten (range_killed m) v).held (range_of m v.line) (λ plain. range_low v.line plain m)
 
 text_if_leads : (text : Option (List ℕ)) (s : Setting) (v : Value) → Leads s v (insert_text_if text s v)
@@ -319,4 +319,4 @@ text_if_leads None s v = rest_leads s v v refl
 text_if_leads (Some text) s v = text_leads text s v
 
 pub replace_leads : (m : Movement) (text : Option (List ℕ)) (s : Setting) (v : Value) → Leads s v (replace m text s v)
-replace_leads m text s v = both_lead s v (kill m) (insert_text_if text) (kill_leads m s v) (text_if_leads text s (kill m s v).value)
+replace_leads m text s v = both_lead s v (kill_effect m) (insert_text_if text) (kill_leads m s v) (text_if_leads text s (kill_effect m s v).value)

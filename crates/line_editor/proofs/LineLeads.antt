@@ -20,9 +20,9 @@ use Rattle.line_editor.specs.Courses.{TurnsLead, EndsLine}
 use Rattle.line_editor.specs.Drawing.{drawn_behind, asked_anew}
 use Rattle.line_editor.specs.Leads.{Leads, CommandLeads, EachTurnLeads, LinesLead}
 use Rattle.line_editor.specs.Lines.{begins_group, with_group_begun, line_phrase, line_begun}
-use Rattle.line_editor.specs.LineScripts.{LineAsk, LineScript, Keys, Obeys, Makes, Kept, kept, keyed, obeying, turn_script, turned_on, turns_script, line_script, means_at, effect_at, answer_at, left_at, line_plan, steps_along, played_from, turns_along}
+use Rattle.line_editor.specs.LineScripts.{LineAsk, LineScript, Keys, Obeys, Makes, LineState, kept, keyed, obeying, turn_script, turned_on, turns_script, line_script, means_at, effect_at, answer_at, left_at, line_plan, steps_along, played_from, turns_along}
 use Rattle.line_editor.specs.Sights.{Sight, no_sight, sight_with, sight_of, ended_sight, sight_all, FitsAll, Turns, info_after}
-use Rattle.line_editor.specs.Values.{Value, Setting, EditStep, Effect, first_value, taking, hint_reply, helped, shown_hint}
+use Rattle.line_editor.specs.Values.{Value, Setting, EditStep, Effect, first_value, taking_memory, hint_reply, helped, shown_hint}
 use Rattle.line_editor.specs.declared.commands.Status.{Status}
 use Rattle.line_editor.specs.declared.commands.Status.TheVariants.{Proceed, Submit}
 use Rattle.line_editor.proofs.CommandsLead.{asks_lead, commands_lead, submitting_leads}
@@ -100,16 +100,16 @@ lead_behind s info x first answer e fits h = record {
 }
 
 module _ (s : Setting) (indent : ℕ) where
-  abbrev made_of_play : Kept → PlayedOf s indent Status → Effect
+  abbrev made_of_play : LineState → PlayedOf s indent Status → Effect
   made_of_play k p = record { value = p.rest.value; steps = steps_along s indent k p.asks }
 
-  abbrev PlayLeads : Option (List ℕ) → Sight → Kept → PlayedOf s indent Status → Type 0
+  abbrev PlayLeads : Option (List ℕ) → Sight → LineState → PlayedOf s indent Status → Type 0
   PlayLeads info x k p = LeadOn s info x p.answer (made_of_play k p)
 
-  abbrev on_command : Kept → Cmd → Status → PlayedOf s indent Status
+  abbrev on_command : LineState → Cmd → Status → PlayedOf s indent Status
   on_command k cmd status = record { answer = Ok status; asks = []; rest = left_at s indent k (Obeys cmd) }
 
-  command_leads : (cmd : Cmd) (k : Kept) (info : Option (List ℕ)) → PlayLeads info (sight_of s k.value info) k (played_from s indent (obeying cmd) k)
+  command_leads : (cmd : Cmd) (k : LineState) (info : Option (List ℕ)) → PlayLeads info (sight_of s k.value info) k (played_from s indent (obeying cmd) k)
   command_leads cmd k info =
       let m = means_at s indent k cmd in
       let v = k.value in
@@ -129,14 +129,14 @@ module _ (s : Setting) (indent : ℕ) where
   abbrev spoken : Steps Cmd → LineScript Status
   spoken script = (then) (keyed script) obeying
 
-  phrase_leads : (own : Bool) (script : Steps Cmd) (k : Kept) (info : Option (List ℕ)) (x : Sight) → Settles own script → Behind s k.value info own x
+  phrase_leads : (own : Bool) (script : Steps Cmd) (k : LineState) (info : Option (List ℕ)) (x : Sight) → Settles own script → Behind s k.value info own x
       → PlayLeads info x k (played_from s indent (spoken script) k)
   phrase_leads true (Ends cmd) k info x settles h =
       subst (λ y. PlayLeads info y k (played_from s indent (obeying cmd) k)) (sym (settled_sight s k.value info x h)) (command_leads cmd k info)
   phrase_leads false (Ends cmd) k info x settles h = absurd (true≢false (sym settles))
   phrase_leads own (Asks Needs later) k info x settles h =
       let p = played_from s indent (spoken (later tt)) k in
-      lead_behind s info x (taking s k.value).steps p.answer (made_of_play k p) (tt, tt) (phrase_leads own (later tt) k info x (settles tt) h)
+      lead_behind s info x (taking_memory s k.value).steps p.answer (made_of_play k p) (tt, tt) (phrase_leads own (later tt) k info x (settles tt) h)
   phrase_leads own (Asks (Shows ask) later) k info x settles h =
       let e = ask_effect ask s k.value in
       let shown = shown_in e.value in
@@ -153,10 +153,10 @@ module _ (s : Setting) (indent : ℕ) where
       let g = phrase_leads own (later tt) (record k { input = input }) info x (settles tt) h in record { fits = g.fits; leads = g.leads }
   phrase_leads own (Asks (Refuses why) later) k info x settles h = record { fits = tt; leads = λ status is. cc }
 
-  abbrev turn_phrase : ℕ → Custom → Kept → Steps Cmd
+  abbrev turn_phrase : ℕ → Custom → LineState → Steps Cmd
   turn_phrase n custom k = steps (line_phrase custom k.input (shown_in k.value)) n
 
-  said_leads : (n : ℕ) (custom : Custom) (k : Kept) (info : Option (List ℕ)) → PlayLeads info (sight_of s k.value info) k (played_from s indent (spoken (turn_phrase n custom k)) k)
+  said_leads : (n : ℕ) (custom : Custom) (k : LineState) (info : Option (List ℕ)) → PlayLeads info (sight_of s k.value info) k (played_from s indent (spoken (turn_phrase n custom k)) k)
   unfolding and_then
   said_leads n custom k info =
       let shown = shown_in k.value in
@@ -172,11 +172,11 @@ turn_leads n s custom indent k info =
 -- ---- a line
 
 module _ (s : Setting) (indent : ℕ) where
-  abbrev Along : Kept → List EditStep → Option (List ℕ) → Result (List ℕ) ReadlineError → List LineAsk → PlayedOf s indent Status → Type 0
+  abbrev Along : LineState → List EditStep → Option (List ℕ) → Result (List ℕ) ReadlineError → List LineAsk → PlayedOf s indent Status → Type 0
   Along k steps info o more p = turns_along s indent o k steps info (p.asks ++ more) ≡ turns_along s indent o p.rest (steps ++ steps_along s indent k p.asks) info more
 
   -- what is asked for a turn belongs to it
-  phrase_along : (script : Steps Cmd) (k : Kept) (steps : List EditStep) (info : Option (List ℕ)) (o : Result (List ℕ) ReadlineError) (more : List LineAsk)
+  phrase_along : (script : Steps Cmd) (k : LineState) (steps : List EditStep) (info : Option (List ℕ)) (o : Result (List ℕ) ReadlineError) (more : List LineAsk)
       → Along k steps info o more (played_from s indent (spoken s indent script) k)
   phrase_along (Ends cmd) k steps info o more =
       let left = left_at s indent k (Obeys cmd) in
@@ -192,14 +192,14 @@ module _ (s : Setting) (indent : ℕ) where
       (λ e. ap (λ zs. turns_along s indent o left (steps ++ zs) info more) (sym (append-nil made))) (answer_at s indent k (Keys ask))
 
   -- its turns lead on, where these steps of the first have been made
-  abbrev LedFrom : Kept → List EditStep → Option (List ℕ) → Sight → PlayedOf s indent (List ℕ) → Type 0
+  abbrev LedFrom : LineState → List EditStep → Option (List ℕ) → Sight → PlayedOf s indent (List ℕ) → Type 0
   LedFrom k steps info x p = let turns = turns_along s indent p.answer k steps info p.asks in TurnsLead s.prompt x turns × EndsLine p.answer turns
 
-  abbrev LeadsHere : Kept → List EditStep → Option (List ℕ) → Sight → Type 0
+  abbrev LeadsHere : LineState → List EditStep → Option (List ℕ) → Sight → Type 0
   LeadsHere k steps info x = Turns s.prompt x steps (sight_of s k.value (info_after steps info))
 
-  module _ (n : ℕ) (custom : Custom) (so : (k : Kept) (steps : List EditStep) (info : Option (List ℕ)) (x : Sight) → LeadsHere k steps info x → LedFrom k steps info x (played_from s indent (turns_script n custom) k))
-      (k : Kept) (info : Option (List ℕ)) (script : Steps Cmd) where
+  module _ (n : ℕ) (custom : Custom) (so : (k : LineState) (steps : List EditStep) (info : Option (List ℕ)) (x : Sight) → LeadsHere k steps info x → LedFrom k steps info x (played_from s indent (turns_script n custom) k))
+      (k : LineState) (info : Option (List ℕ)) (script : Steps Cmd) where
     abbrev said : PlayedOf s indent Status
     said = played_from s indent (spoken s indent script) k
 
@@ -229,7 +229,7 @@ module _ (s : Setting) (indent : ℕ) where
         subst (λ asks. let turns = turns_along s indent answer k [] info asks in TurnsLead s.prompt seen turns × EndsLine answer turns) (append-nil said.asks)
         (subst (λ turns. TurnsLead s.prompt seen turns × EndsLine answer turns) (sym (phrase_along script k [] info answer [])) (h.fits, (refl, refl)))
 
-  line_leads : (n : ℕ) (custom : Custom) (k : Kept) (steps : List EditStep) (info : Option (List ℕ)) (x : Sight) → LeadsHere k steps info x → LedFrom k steps info x (played_from s indent (turns_script n custom) k)
+  line_leads : (n : ℕ) (custom : Custom) (k : LineState) (steps : List EditStep) (info : Option (List ℕ)) (x : Sight) → LeadsHere k steps info x → LedFrom k steps info x (played_from s indent (turns_script n custom) k)
   unfolding turns_script turn_script
   line_leads zero custom k steps info x h = (fits_both s.prompt x steps [] h.fits tt, (refl, refl))
   line_leads (suc n) custom k steps info x h =

@@ -15,7 +15,7 @@ use Rattle.line_keys.specs.Phrases.{Steps, Needs, Shows, Reads, Becomes, Refuses
 use Rattle.line_record.specs.Ring.{Ring}
 use Rattle.line_editor.specs.Asks.{shown_in, ask_effect}
 use Rattle.line_editor.specs.Calls.{Canvas, Ruler, MadeIn}
-use Rattle.line_editor.specs.LineScripts.{LineAsk, LineAnswer, LineScript, keyed, kept, Stage, DrawnBy, Answered, Stopped, line_world}
+use Rattle.line_editor.specs.LineScripts.{LineAsk, LineAnswer, LineScript, keyed, kept, LineStage, DrawnBy, Answered, Stopped, line_world}
 use Rattle.line_editor.specs.States.{value_of, setting_of, surface_of, display_of, Stays, Does}
 use Rattle.line_editor.specs.Steps.{asked, Stops}
 use Rattle.line_editor.specs.Turning.{stage_of, world_of}
@@ -28,19 +28,19 @@ use Rattle.line_editor.proofs.StopsLemmas.{stops_taking}
 -- ---- one ask alone, and before others
 
 module _ {R : Type 0} (canvas : Canvas R) (r : Ruler) (s : Setting) (indent : ℕ) where
-  abbrev w : World LineAsk LineAnswer (Stage R) ReadlineError
+  abbrev w : World LineAsk LineAnswer (LineStage R) ReadlineError
   w = line_world canvas r s indent
 
   -- answered or refused as its own answer says, before what its answer leads to
-  pub answered_goes : {X : Type 0} (ask : LineAsk) (later : LineAnswer ask → LineScript X) (x : Stage R) (y : Stage R) (z : Stage R) (a : LineAnswer ask) (result : Result X ReadlineError)
+  pub answered_goes : {X : Type 0} (ask : LineAsk) (later : LineAnswer ask → LineScript X) (x : LineStage R) (y : LineStage R) (z : LineStage R) (a : LineAnswer ask) (result : Result X ReadlineError)
       → Answered canvas r s indent x ask (Ok a) y → Goes w (later a) y result z → Goes w (Asks ask later) x result z
   answered_goes ask later x y z a result made goes = inl (a, y, made, goes)
 
-  pub refused_goes : {X : Type 0} (ask : LineAsk) (later : LineAnswer ask → LineScript X) (x y : Stage R) (e : ReadlineError) (result : Result X ReadlineError)
+  pub refused_goes : {X : Type 0} (ask : LineAsk) (later : LineAnswer ask → LineScript X) (x y : LineStage R) (e : ReadlineError) (result : Result X ReadlineError)
       → result ≡ Err e → Answered canvas r s indent x ask (Err e) y → Goes w (Asks ask later) x result y
   refused_goes ask later x y e result is made = inr (e, inl made, is)
 
-  pub stopped_goes : {X : Type 0} (ask : LineAsk) (later : LineAnswer ask → LineScript X) (x y : Stage R) (e : ReadlineError) (result : Result X ReadlineError)
+  pub stopped_goes : {X : Type 0} (ask : LineAsk) (later : LineAnswer ask → LineScript X) (x y : LineStage R) (e : ReadlineError) (result : Result X ReadlineError)
       → result ≡ Err e → Stopped canvas r s indent x ask e y → Goes w (Asks ask later) x result y
   stopped_goes ask later x y e result is stop = inr (e, inr stop, is)
 
@@ -73,11 +73,11 @@ module _ {Out H Hi K T : Type 0} {renderer : renderers.Renderer.Ghosts Out} {com
   -- ---- a phrase
 
   module _ (indent : ℕ) (s : State Out H Hi K T renderer completer candidate hinter hint highlighter validator history) (k : Ring) where
-    abbrev at : KeyStage (State Out H Hi K T renderer completer candidate hinter hint highlighter validator history) → Stage Out
+    abbrev at : KeyStage (State Out H Hi K T renderer completer candidate hinter hint highlighter validator history) → LineStage Out
     at x = stage_of x.wrt x.input k x.coming
 
     -- it goes, and what was handed in stays
-    abbrev GoesOn : {X : Type 0} → LineScript X → Stage Out → Result X ReadlineError → KeyStage (State Out H Hi K T renderer completer candidate hinter hint highlighter validator history) → Type 0
+    abbrev GoesOn : {X : Type 0} → LineScript X → LineStage Out → Result X ReadlineError → KeyStage (State Out H Hi K T renderer completer candidate hinter hint highlighter validator history) → Type 0
     GoesOn script x r y = Goes (world_of indent s) script x r (at y) × Stays s y.wrt
 
     pub phrase_goes_on : {X : Type 0} (script : Steps X) (x y : KeyStage (State Out H Hi K T renderer completer candidate hinter hint highlighter validator history)) (r : Result X ReadlineError) → Stays s x.wrt

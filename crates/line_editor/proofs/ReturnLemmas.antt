@@ -45,15 +45,15 @@ use Rattle.line_editor.specs.Commands.{Means, in_vi_command, effect}
 use Rattle.line_editor.specs.Completing.{elected, completed_with, candidates_given, complete_if}
 use Rattle.line_editor.specs.Hinting.{at_row_end, completed_by, complete_by}
 use Rattle.line_editor.specs.Inserting.{insert_char}
-use Rattle.line_editor.specs.Killing.{kill, insert_text_if}
+use Rattle.line_editor.specs.Killing.{kill_effect, insert_text_if}
 use Rattle.line_editor.specs.Moving.{cursor_moved_if, to_found, to_place, move_home, move_to_next_word, move_to_first_print, move_by}
 use Rattle.line_editor.specs.Remembering.{saved_now, saved_on_leaving, recall, come_back as back_at_end, history_step, history_end}
 use Rattle.line_editor.specs.Returns.{ValueStep, value_after, value_after_all, leaving_by, is_search, searches, StaysAway, ComesBack}
 use Rattle.line_editor.specs.Returns.ValueStep.{Done, Asked}
 use Rattle.line_editor.specs.Drawing.{refreshed_if}
-use Rattle.line_editor.specs.Rewording.{edit_word}
+use Rattle.line_editor.specs.Rewording.{edit_word_effect}
 use Rattle.line_editor.specs.Values.{Value, Setting, Effect, Saved, then_do, verdict_reply, completion_reply, rewritten, written_of, at_line}
-use Rattle.line_editor.specs.Yanking.{anchored, steps, behind_yank, yanked_by, yank_text, yank_lent, pop_lent}
+use Rattle.line_editor.specs.Yanking.{anchored, steps_over, behind_yank, yanked_by, yank_text, yank_lent, pop_lent}
 use Rattle.line_editor.proofs.GrowthLemmas.{insert_grows, yank_grows, pop_grows, deletion_grows, kill_grows, indent_grows, word_grows, chars_grow, words_grow, over_grows, back_grows}
 
 -- ---- what keeps the place and the saved line, and whether the line may grow
@@ -113,7 +113,7 @@ motion_keeps WholeBuffer s v = same v
 motion_keeps BeginningOfBuffer s v = step_keeps MoveCursor (not (v.line.place == 0)) (record v.line { place = 0 }) s v refl
 motion_keeps EndOfBuffer s v = step_keeps MoveCursor (not (v.line.place == length v.line.text)) (record v.line { place = length v.line.text }) s v refl
 
-kill_keeps : (m : Movement) (s : Setting) (v : Value) → Keeps v (kill m s v).value
+kill_keeps : (m : Movement) (s : Setting) (v : Value) → Keeps v (kill_effect m s v).value
 kill_keeps m s v = either v (is_some (range_of m v.line)) _ _ (kept refl refl (kill_grows m v.line)) (kept refl refl (kill_grows m v.line))
 
 text_keeps : (text : Option (List ℕ)) (s : Setting) (v : Value) → Keeps v (insert_text_if text s v).value
@@ -138,7 +138,7 @@ yank_keeps vi text anchor n s v =
     let w = rewritten (text_yanked text n) before in
     let g : w.line.growth ≡ v.line.growth = yank_grows text n before.line ∙ anchored_grows anchor v.line in
     let h : Keeps v (yanked_by vi text n before) = yanked_keeps (is_some (yanked_in text n before.line).answer) v (at_line (behind_yank vi w.line) w) w (kept refl refl (behind_grows vi w.line ∙ g)) (kept refl refl g) in
-    either v (is_some (yanked_in text n before.line).answer || steps anchor v.line) _ _ (kept h.saved h.history h.growth) h
+    either v (is_some (yanked_in text n before.line).answer || steps_over anchor v.line) _ _ (kept h.saved h.history h.growth) h
 
 lent_keeps : (vi : Bool) (anchor : Anchor) (n : ℕ) (o : Option (List ℕ)) (s : Setting) (v : Value) → Keeps v (yank_lent vi anchor n o s v).value
 lent_keeps vi anchor n None s v = same v
@@ -295,7 +295,7 @@ last_held : (s : Setting) (text : List ℕ) (at : ℕ) (v : Value) → at ≤ le
 last_held s text at v inside h away =
     either_held s text at (v.history == length s.entries) _ _ (λ e. h) (λ e. back_held s text at v inside (h.saved away) h.grows)
 
-word_keeps : (action : WordAction) (s : Setting) (v : Value) → Keeps v (edit_word action s v).value
+word_keeps : (action : WordAction) (s : Setting) (v : Value) → Keeps v (edit_word_effect action s v).value
 word_keeps action s v = drawn_keeps (is_some (word_to_edit v.line)) s v (rewritten (edit_word_in_group action) v) (kept refl refl (word_grows action v.line))
 
 -- ---- any step
@@ -322,7 +322,7 @@ command_held m Repaint s text at v quiet inside h away = keeps_held s text at v 
 command_held m (Overwrite c) s text at v quiet inside h away = keeps_held s text at v (effect m (Overwrite c) s v).value h away (drawn_keeps (is_some (place_forward 1 v.line)) s v (rewritten (overwritten c) v) (kept refl refl (over_grows c (place_forward 1 v.line) (written_of v))))
 command_held m QuotedInsert s text at v quiet inside h away = keeps_held s text at v (effect m QuotedInsert s v).value h away (same v)
 command_held m (ReplaceChar n c) s text at v quiet inside h away = keeps_held s text at v (effect m (ReplaceChar n c) s v).value h away (drawn_keeps (is_some (place_forward n v.line)) s v (rewritten (by (replacing_if_any c n)) v) (kept refl refl (any_grows (is_some (place_forward n v.line)) c n v)))
-command_held m (Replace movement new) s text at v quiet inside h away = keeps_held s text at v (effect m (Replace movement new) s v).value h away (then_keeps v (kill movement s v).value _ (kill_keeps movement s v) (text_keeps new s (kill movement s v).value))
+command_held m (Replace movement new) s text at v quiet inside h away = keeps_held s text at v (effect m (Replace movement new) s v).value h away (then_keeps v (kill_effect movement s v).value _ (kill_keeps movement s v) (text_keeps new s (kill_effect movement s v).value))
 command_held m ReverseSearchHistory s text at v quiet inside h away = keeps_held s text at v (effect m ReverseSearchHistory s v).value h away (same v)
 command_held m (SelfInsert n c) s text at v quiet inside h away = keeps_held s text at v (effect m (SelfInsert n c) s v).value h away (insertion_keeps c n s v)
 command_held m Suspend s text at v quiet inside h away = keeps_held s text at v (effect m Suspend s v).value h away (same v)

@@ -19,7 +19,7 @@ use Rattle.line_keys.specs.Phrases.{Input}
 use Rattle.line_keys.specs.declared.command.CmdKind.{CmdKind}
 use Rattle.line_record.specs.Ring.{Ring}
 use Rattle.line_editor.specs.Calls.{Canvas, Ruler}
-use Rattle.line_editor.specs.LineScripts.{Stage, kept, line_script, line_world, stage}
+use Rattle.line_editor.specs.LineScripts.{LineStage, kept, line_script, line_world, line_stage}
 use Rattle.line_editor.specs.Redraws.{fresh}
 use Rattle.line_editor.specs.Running.{Helping, helping_by, setting_by, stage_first, text_or, outcome_of, Runs}
 use Rattle.line_editor.specs.States.{hooks_of, value_of, setting_of, Stays, Starts}
@@ -120,21 +120,21 @@ module _ {Out H Hi K T : Type 0} {renderer : renderers.Renderer.Ghosts Out} {com
     helper_same_as : Stays s t → helps s ran.helper ≡ helps s helper
     helper_same_as stays = ap (helps s) helper_is ∙ helper_same s t stays ∙ ap (helps s) starts.helper_is
 
-    abbrev last : Out → Stage Out
-    last o = stage (surface o t.layout) (kept (value_of t) i' ring' feed'.coming)
+    abbrev last : Out → LineStage Out
+    last o = line_stage (surface o t.layout) (kept (value_of t) i' ring' feed'.coming)
 
     first_same : stage_of s i ring feed.coming ≡ stage_first out (renderer.canvas.ruler out) setting config ring feed.coming
     first_same =
-        ap (λ o. stage (surface o s.layout) (kept (value_of s) i ring feed.coming)) starts.out_is
-        ∙ ap (λ l. stage (surface out l) (kept (value_of s) i ring feed.coming)) starts.layout
-        ∙ ap (λ v. stage (surface out (fresh (renderer.canvas.ruler out).mode)) (kept v i ring feed.coming)) (starts.value ∙ ap empty_at place_is)
-        ∙ ap (λ j. stage (surface out (fresh (renderer.canvas.ruler out).mode)) (kept (first_value setting) j ring feed.coming)) input_is
+        ap (λ o. line_stage (surface o s.layout) (kept (value_of s) i ring feed.coming)) starts.out_is
+        ∙ ap (λ l. line_stage (surface out l) (kept (value_of s) i ring feed.coming)) starts.layout
+        ∙ ap (λ v. line_stage (surface out (fresh (renderer.canvas.ruler out).mode)) (kept v i ring feed.coming)) (starts.value ∙ ap empty_at place_is)
+        ∙ ap (λ j. line_stage (surface out (fresh (renderer.canvas.ruler out).mode)) (kept (first_value setting) j ring feed.coming)) input_is
 
     goes_by : (n : ℕ) → Goes (world_of config.indent_size s) (line_script n custom) (stage_of s i ring feed.coming) (text_or result t.line.text) (stage_of t i' ring' feed'.coming)
         → Goes (line_world renderer.canvas (renderer.canvas.ruler out) setting config.indent_size) (line_script n custom)
         (stage_first out (renderer.canvas.ruler out) setting config ring feed.coming) (outcome_of ran) (last ran.out)
     goes_by n goes =
-        let P : Ruler → Setting → Stage Out → Result (List ℕ) ReadlineError → Out → Type 0 =
+        let P : Ruler → Setting → LineStage Out → Result (List ℕ) ReadlineError → Out → Type 0 =
         λ r a x q o. Goes (line_world renderer.canvas r a config.indent_size) (line_script n custom) x q (last o) in
         let first = stage_first out (renderer.canvas.ruler out) setting config ring feed.coming in
         subst (P (renderer.canvas.ruler out) setting first (outcome_of ran)) (sym out_is)

@@ -16,7 +16,7 @@ use Rattle.line_record.specs.Ring.{Ring}
 use Rattle.line_editor.specs.Calls.{Canvas, Ruler, MadeIn}
 use Rattle.line_editor.specs.Commands.{outcome}
 use Rattle.line_editor.specs.Courses.{last_turn, steps_in, LineReport}
-use Rattle.line_editor.specs.LineScripts.{LineAsk, LineAnswer, LineScript, Begins, Keys, line_script, Kept, kept, effect_at, answer_at, left_at, line_plan, steps_along, played_from, turns_along, reported_from, Stage, stage, DrawnBy, Stopped, line_world}
+use Rattle.line_editor.specs.LineScripts.{LineAsk, LineAnswer, LineScript, Begins, Keys, line_script, LineState, kept, effect_at, answer_at, left_at, line_plan, steps_along, played_from, turns_along, reported_from, LineStage, line_stage, DrawnBy, Stopped, line_world}
 use Rattle.line_editor.specs.Redraws.{Asked, fresh}
 use Rattle.line_editor.specs.Running.{kept_first, line_calls, line_meant, line_played, stage_first}
 use Rattle.line_editor.specs.Sights.{Sight, sight_of, info_after}
@@ -64,22 +64,22 @@ module _ {A : Type 0} {R : A → Type 0} {C E X Y : Type 0} (plan : Plan A R C E
 -- ---- what asks come to
 
 module _ (a : Setting) (indent : ℕ) where
-  abbrev pub left_along : Kept → List LineAsk → Kept
+  abbrev pub left_along : LineState → List LineAsk → LineState
   left_along k [] = k
   left_along k (ask ∷ asks) = left_along (left_at a indent k ask) asks
 
-  pub steps_both : (k : Kept) (xs ys : List LineAsk) → steps_along a indent k (xs ++ ys) ≡ steps_along a indent k xs ++ steps_along a indent (left_along k xs) ys
+  pub steps_both : (k : LineState) (xs ys : List LineAsk) → steps_along a indent k (xs ++ ys) ≡ steps_along a indent k xs ++ steps_along a indent (left_along k xs) ys
   steps_both k [] ys = refl
   steps_both k (x ∷ xs) ys = ap (λ zs. (effect_at a indent k x).steps ++ zs) (steps_both (left_at a indent k x) xs ys) ∙ sym (append_assoc (effect_at a indent k x).steps (steps_along a indent (left_at a indent k x) xs) _)
 
-  left_both : (k : Kept) (xs ys : List LineAsk) → left_along k (xs ++ ys) ≡ left_along (left_along k xs) ys
+  left_both : (k : LineState) (xs ys : List LineAsk) → left_along k (xs ++ ys) ≡ left_along (left_along k xs) ys
   left_both k [] ys = refl
   left_both k (x ∷ xs) ys = left_both (left_at a indent k x) xs ys
 
   abbrev pub PlayedOf : Type 0 → Type 0
-  PlayedOf X = Played LineAsk Kept ReadlineError X
+  PlayedOf X = Played LineAsk LineState ReadlineError X
 
-  pub rest_along : {X : Type 0} (script : LineScript X) (k : Kept) → (let p = played_from a indent script k in left_along k p.asks ≡ p.rest)
+  pub rest_along : {X : Type 0} (script : LineScript X) (k : LineState) → (let p = played_from a indent script k in left_along k p.asks ≡ p.rest)
   rest_along (Ends x) k = refl
   rest_along {X} (Asks ask later) k =
       let left = left_at a indent k ask in
@@ -90,7 +90,7 @@ module _ (a : Setting) (indent : ℕ) where
   last_steps (Err e) steps x = refl
 
   -- the turns have all of the steps
-  pub turns_steps : (outcome : Result (List ℕ) ReadlineError) (k : Kept) (steps : List EditStep) (info : Option (List ℕ)) (asks : List LineAsk)
+  pub turns_steps : (outcome : Result (List ℕ) ReadlineError) (k : LineState) (steps : List EditStep) (info : Option (List ℕ)) (asks : List LineAsk)
       → flat_map steps_in (turns_along a indent outcome k steps info asks) ≡ steps ++ steps_along a indent k asks
   turns_steps outcome k steps info [] = last_steps outcome steps (sight_of a k.value (info_after steps info))
   turns_steps outcome k steps info (Begins ∷ asks) = ap (λ zs. steps ++ zs) (turns_steps outcome k [] (info_after steps info) asks)
@@ -98,11 +98,11 @@ module _ (a : Setting) (indent : ℕ) where
       let made = (effect_at a indent k ask).steps in
       turns_steps outcome (left_at a indent k ask) (steps ++ made) info asks ∙ append_assoc steps made (steps_along a indent (left_at a indent k ask) asks)
 
-  pub record Comes (k : Kept) (p : PlayedOf (List ℕ)) (told : LineReport) : Type 0 where
+  pub record Comes (k : LineState) (p : PlayedOf (List ℕ)) (told : LineReport) : Type 0 where
     pub steps_are : steps_along a indent k p.asks ≡ flat_map steps_in told.turns
     pub left_is : left_along k p.asks ≡ p.rest
 
-  pub script_comes : (script : LineScript (List ℕ)) (k : Kept) → Comes k (played_from a indent script k) (reported_from a indent script k)
+  pub script_comes : (script : LineScript (List ℕ)) (k : LineState) → Comes k (played_from a indent script k) (reported_from a indent script k)
   script_comes script k =
       let p = played_from a indent script k in
       record { steps_are = sym (turns_steps p.answer k [] None p.asks); left_is = rest_along script k }
@@ -125,32 +125,32 @@ module _ {R : Type 0} (canvas : Canvas R) (u : Ruler) where
 
 module _ {R : Type 0} (canvas : Canvas R) (u : Ruler) (a : Setting) (indent : ℕ) where
   -- all that is played was done, and the answer is its own
-  pub record AllDone {X : Type 0} (p : PlayedOf a indent X) (x y : Stage R) (result : Result X ReadlineError) : Type 0 where
+  pub record AllDone {X : Type 0} (p : PlayedOf a indent X) (x y : LineStage R) (result : Result X ReadlineError) : Type 0 where
     pub answer_is : p.answer ≡ result
     pub rest_is : p.rest ≡ y.kept
     pub drawn : DrawnBy canvas u (steps_along a indent x.kept p.asks) x.drawn y.drawn
 
   -- the first asks of it were answered, and a fault stopped the next one
-  pub record StoppedIn {X : Type 0} (p : PlayedOf a indent X) (x y : Stage R) (result : Result X ReadlineError) : Type 0 where
+  pub record StoppedIn {X : Type 0} (p : PlayedOf a indent X) (x y : LineStage R) (result : Result X ReadlineError) : Type 0 where
     pub done : List LineAsk
     pub ask : LineAsk
     pub others : List LineAsk
     pub first : p.asks ≡ done ++ (ask ∷ others)
-    pub at : Stage R
+    pub at : LineStage R
     pub kept_is : at.kept ≡ left_along a indent x.kept done
     pub drawn : DrawnBy canvas u (steps_along a indent x.kept done) x.drawn at.drawn
     pub fault : ReadlineError
     pub result_is : result ≡ Err fault
     pub stopped : Stopped canvas u a indent at ask fault y
 
-  abbrev pub Went : {X : Type 0} → PlayedOf a indent X → Stage R → Stage R → Result X ReadlineError → Type 0
+  abbrev pub Went : {X : Type 0} → PlayedOf a indent X → LineStage R → LineStage R → Result X ReadlineError → Type 0
   Went p x y result = AllDone p x y result ⊎ StoppedIn p x y result
 
-  some_follow : {B X : Type 0} (next : B → PlayedOf a indent X) (ask : LineAsk) (c : Kept) (r : Result B ReadlineError) → (others : List LineAsk) × ((played_on next ask c r).asks ≡ ask ∷ others)
+  some_follow : {B X : Type 0} (next : B → PlayedOf a indent X) (ask : LineAsk) (c : LineState) (r : Result B ReadlineError) → (others : List LineAsk) × ((played_on next ask c r).asks ≡ ask ∷ others)
   some_follow next ask c (Ok x) = ((next x).asks, refl)
   some_follow next ask c (Err e) = ([], refl)
 
-  module _ {X : Type 0} (ask : LineAsk) (x v y : Stage R) (result : Result X ReadlineError) (p : PlayedOf a indent X) where
+  module _ {X : Type 0} (ask : LineAsk) (x v y : LineStage R) (result : Result X ReadlineError) (p : PlayedOf a indent X) where
     -- after an ask that was answered
     went_on : (kept_is : v.kept ≡ left_at a indent x.kept ask) → DrawnBy canvas u (effect_at a indent x.kept ask).steps x.drawn v.drawn → Went p v y result → Went (asked_first ask p) x y result
     went_on kept_is drawn (inl h) = inl (record {
@@ -171,7 +171,7 @@ module _ {R : Type 0} (canvas : Canvas R) (u : Ruler) (a : Setting) (indent : �
       stopped = h.stopped;
     })
 
-  pub went : {X : Type 0} (p : LineScript X) (x y : Stage R) (result : Result X ReadlineError) → Goes (line_world canvas u a indent) p x result y → Went (played (line_plan a indent) p x.kept) x y result
+  pub went : {X : Type 0} (p : LineScript X) (x y : LineStage R) (result : Result X ReadlineError) → Goes (line_world canvas u a indent) p x result y → Went (played (line_plan a indent) p x.kept) x y result
   went (Ends z) x y result (is, same) =
       inl (record { answer_is = sym is; rest_is = ap (λ s. s.kept) (sym same); drawn = (ap (λ s. s.drawn.out) (sym same), ap (λ s. s.drawn.layout) same) })
   went {X} (Asks ask later) x y result (inl (z, v, (is, kept_is, drawn), goes)) =
@@ -233,7 +233,7 @@ module _ {R : Type 0} (canvas : Canvas R) (r : Ruler) where
   unread_cause Paste Memory h = tt
   unread_cause _ _ h = absurd h
 
-  pub stopped_cause : (a : Setting) (indent : ℕ) (ask : LineAsk) (x y : Stage R) (e : ReadlineError) → Stopped canvas r a indent x ask e y → reason_of true ⊤ e
+  pub stopped_cause : (a : Setting) (indent : ℕ) (ask : LineAsk) (x y : LineStage R) (e : ReadlineError) → Stopped canvas r a indent x ask e y → reason_of true ⊤ e
   stopped_cause a indent ask x y e (inl (stops, leaves)) = steps_cause (effect_at a indent x.kept ask).steps e y.kept.value x.drawn y.drawn stops
   stopped_cause a indent (Keys (Reads item)) x y e (inr (unread, same)) = unread_cause item e unread
   stopped_cause a indent _ x y e (inr (unread, same)) = absurd unread
@@ -242,11 +242,11 @@ module _ {R : Type 0} (canvas : Canvas R) (r : Ruler) (s : Setting) (n : ℕ) (c
   abbrev told : LineReport
   told = line_meant n s custom config ring c
 
-  abbrev first : Stage R
+  abbrev first : LineStage R
   first = stage_first out r s config ring c
 
-  abbrev last : Value → Input → Layout → Stage R
-  last value input layout = stage (surface new layout) (kept value input ring' c')
+  abbrev last : Value → Input → Layout → LineStage R
+  last value input layout = line_stage (surface new layout) (kept value input ring' c')
 
   -- it was read and drawn whole, or a fault stopped it
   pub record WholeLine : Type 0 where
@@ -269,8 +269,8 @@ module _ {R : Type 0} (canvas : Canvas R) (r : Ruler) (s : Setting) (n : ℕ) (c
       by (inl h) =
           inl (record {
             outcome_is = sym h.answer_is;
-            ring_is = ap (λ (k : Kept). k.ring) (sym h.rest_is);
-            rest_is = ap (λ (k : Kept). k.coming) (sym h.rest_is);
+            ring_is = ap (λ (k : LineState). k.ring) (sym h.rest_is);
+            rest_is = ap (λ (k : LineState). k.coming) (sym h.rest_is);
             calls = subst (λ (steps : List EditStep). FoldsTo (MadeIn canvas) out (asked r (fresh r.mode) steps).calls new) (line_comes n s custom config ring c).steps_are h.drawn.0;
           })
       by (inr h) = inr (record {

@@ -51,17 +51,17 @@ use Rattle.line_editor.specs.Commands.{Means, in_vi_command, effect}
 use Rattle.line_editor.specs.Completing.{elected_among, elected, word_put, completed_with, candidates_given, complete_if}
 use Rattle.line_editor.specs.Hinting.{at_row_end, completed_by, complete_by}
 use Rattle.line_editor.specs.Inserting.{insert_char, replace_char, overwrite_char}
-use Rattle.line_editor.specs.Killing.{kill, insert_text_if}
+use Rattle.line_editor.specs.Killing.{kill_effect, insert_text_if}
 use Rattle.line_editor.specs.Leads.{Reaches, Sound}
 use Rattle.line_editor.specs.Moving.{cursor_moved_if, to_found, to_place, move_home, move_to_next_word, move_to_first_print, move_by}
 use Rattle.line_editor.specs.Remembering.{saved_now, at_place, saved_on_leaving, recall, recalled, restored, hit_shown, history_step, history_end, history_search}
 use Rattle.line_editor.specs.Returns.{ValueStep, value_after, value_after_all}
 use Rattle.line_editor.specs.Returns.ValueStep.{Done, Asked}
 use Rattle.line_editor.specs.Drawing.{refreshed_if}
-use Rattle.line_editor.specs.Rewording.{edit_word}
+use Rattle.line_editor.specs.Rewording.{edit_word_effect}
 use Rattle.line_editor.specs.UndoAll.{BegunSound, UndoesAll}
 use Rattle.line_editor.specs.Values.{Value, Setting, Effect, then_do, verdict_reply, completion_reply, rewritten, written_of, at_line}
-use Rattle.line_editor.specs.Yanking.{anchored, steps, behind_yank, yanked_by, yank_text, yank_lent, pop_lent}
+use Rattle.line_editor.specs.Yanking.{anchored, steps_over, behind_yank, yanked_by, yank_text, yank_lent, pop_lent}
 use Rattle.line_editor.proofs.ReachLemmas.{ended_reaches, edit_reaches, group_reaches, typing_reaches, yanking_reaches, updating_reaches, indenting_reaches, killing_reaches, transposing_reaches}
 use Rattle.line_editor.proofs.ReplaysLemmas.{transpose_words_replays, edit_word_replays}
 use Rattle.line_editor.proofs.UndoLemmas.{undo_reaches, unmade_reached}
@@ -148,7 +148,7 @@ motion_reached WholeBuffer s v first r = r
 motion_reached BeginningOfBuffer s v first r = step_reached MoveCursor (not (v.line.place == 0)) (record v.line { place = 0 }) s v first refl r
 motion_reached EndOfBuffer s v first r = step_reached MoveCursor (not (v.line.place == length v.line.text)) (record v.line { place = length v.line.text }) s v first refl r
 
-kill_reached : (m : Movement) (s : Setting) (v : Value) (first : List ℕ) → Sound v → Reached first v → Reached first (kill m s v).value
+kill_reached : (m : Movement) (s : Setting) (v : Value) (first : List ℕ) → Sound v → Reached first v → Reached first (kill_effect m s v).value
 kill_reached m s v first ok r =
     let h = killing_reaches m (written_of v) first ok.utf8 ok.boundary r in
     either first (is_some (range_of m v.line)) _ _ h h
@@ -176,7 +176,7 @@ yank_reached vi text anchor n s v first r =
     let k : Reached first w = yanking_reaches text n (written_of before) first (subst (Reaches first v.held) (sym (anchored_text anchor v.line)) r) in
     let h : Reached first (yanked_by vi text n before) =
     yanked_reached first (is_some (yanked_in text n before.line).answer) (at_line (behind_yank vi w.line) w) w (subst (Reaches first w.held) (sym (behind_text vi w.line)) k) k in
-    either first (is_some (yanked_in text n before.line).answer || steps anchor v.line) _ _ h h
+    either first (is_some (yanked_in text n before.line).answer || steps_over anchor v.line) _ _ h h
 
 lent_reached : (vi : Bool) (anchor : Anchor) (n : ℕ) (o : Option (List ℕ)) (s : Setting) (v : Value) (first : List ℕ) → Reached first v → Reached first (yank_lent vi anchor n o s v).value
 lent_reached vi anchor n None s v first r = r
@@ -258,7 +258,7 @@ char_reached c n s v first ok r =
 over_reached : (c : ℕ) (s : Setting) (v : Value) (first : List ℕ) → Sound v → Reached first v → Reached first (overwrite_char c s v).value
 over_reached c s v first ok r = drawn_reached (is_some (place_forward 1 v.line)) s (rewritten (overwritten c) v) first (overwriting_reaches first (written_of v) ok.utf8 ok.boundary r c)
 
-word_reached : (action : WordAction) (s : Setting) (v : Value) (first : List ℕ) → Sound v → Reached first v → Reached first (edit_word action s v).value
+word_reached : (action : WordAction) (s : Setting) (v : Value) (first : List ℕ) → Sound v → Reached first v → Reached first (edit_word_effect action s v).value
 word_reached action s v first ok r =
     drawn_reached (is_some (word_to_edit v.line)) s (rewritten (edit_word_in_group action) v) first
     (group_reaches (word_edited action) (written_of v) first (λ k. word_reaches first (group_opened (written_of v)) ok.utf8 ok.boundary k action) r)
@@ -313,7 +313,7 @@ command_reached m (Yank n anchor) s v first ok r = lent_reached (in_vi_command m
 command_reached m YankPop s v first ok r = pop_reached (exchanged m.ring) s v first ok r
 command_reached m (Move movement) s v first ok r = motion_reached movement s v first r
 command_reached m (Kill movement) s v first ok r = kill_reached movement s v first ok r
-command_reached m (Replace movement text) s v first ok r = text_reached text s (kill movement s v).value first (kill_reached movement s v first ok r)
+command_reached m (Replace movement text) s v first ok r = text_reached text s (kill_effect movement s v).value first (kill_reached movement s v first ok r)
 command_reached m (ReplaceChar n c) s v first ok r = char_reached c n s v first ok r
 command_reached m (Overwrite c) s v first ok r = over_reached c s v first ok r
 command_reached m (SelfInsert n c) s v first ok r = insertion_reached c n s v first r

@@ -19,11 +19,11 @@ use Rattle.line_editor.specs.Completing.{complete}
 use Rattle.line_editor.specs.Drawing.{refreshed, cleared_and_drawn, moved_to_end}
 use Rattle.line_editor.specs.Hinting.{complete_hint}
 use Rattle.line_editor.specs.Inserting.{insert_char, replace_char, overwrite_char}
-use Rattle.line_editor.specs.Killing.{kill, replace, killed_into, copied_into}
+use Rattle.line_editor.specs.Killing.{kill_effect, replace, killed_into, copied_into}
 use Rattle.line_editor.specs.Moving.{move_by, move_line_up, move_line_down}
 use Rattle.line_editor.specs.Remembering.{history_step, history_end, history_search}
-use Rattle.line_editor.specs.Rewording.{transpose_chars, transpose_words, edit_word, indent, undo}
-use Rattle.line_editor.specs.Values.{Value, Setting, Transition, unchanged, taking}
+use Rattle.line_editor.specs.Rewording.{transpose_chars_effect, transpose_words_effect, edit_word_effect, indent_effect, undo}
+use Rattle.line_editor.specs.Values.{Value, Setting, Transition, unchanged, taking_memory}
 use Rattle.line_editor.specs.Yanking.{yank_text, yank_lent, pop_lent}
 use Rattle.line_editor.specs.declared.commands.Status.{Status}
 use Rattle.line_editor.specs.declared.commands.Status.TheVariants.{Proceed, Submit}
@@ -65,7 +65,7 @@ effect m (Yank n anchor) =
     yank_lent (in_vi_command m) anchor n (slice_get m.ring.slots m.ring.place)
 effect m YankPop = pop_lent (exchanged m.ring)
 effect m (Move movement) = move_by movement
-effect m (Kill movement) = kill movement
+effect m (Kill movement) = kill_effect movement
 effect m (Replace movement text) = replace movement text
 effect m (ReplaceChar n c) = replace_char c n
 effect m (Overwrite c) = overwrite_char c
@@ -80,20 +80,20 @@ effect m (LineUpOrPreviousHistory n) = line_up_or_previous n
 effect m (LineDownOrNextHistory n) = line_down_or_next n
 effect m HistorySearchBackward = history_search Reverse
 effect m HistorySearchForward = history_search Forward
-effect m TransposeChars = transpose_chars
-effect m (TransposeWords n) = transpose_words n
-effect m CapitalizeWord = edit_word Capitalize
-effect m DowncaseWord = edit_word Lowercase
-effect m UpcaseWord = edit_word Uppercase
+effect m TransposeChars = transpose_chars_effect
+effect m (TransposeWords n) = transpose_words_effect n
+effect m CapitalizeWord = edit_word_effect Capitalize
+effect m DowncaseWord = edit_word_effect Lowercase
+effect m UpcaseWord = edit_word_effect Uppercase
 effect m (Undo n) = undo n
-effect m (Indent movement) = indent movement m.indent_size false
-effect m (Dedent movement) = indent movement m.indent_size true
+effect m (Indent movement) = indent_effect movement m.indent_size false
+effect m (Dedent movement) = indent_effect movement m.indent_size true
 effect m Complete = complete
 effect m CompleteHint = complete_hint
 effect m AcceptLine = accept
 effect m (AcceptOrInsertLine middle) = accept_or_insert middle
 effect m Interrupt = moved_to_end
-effect m (ViYankTo movement) = taking
+effect m (ViYankTo movement) = taking_memory
 effect m cmd = unchanged
 
 abbrev pub ring_after_command : Cmd → Value → Ring → Ring

@@ -33,8 +33,8 @@ show_taken before s v =
     killed_shown (length before.line.text - length v.line.text)
     (may_be_taken (drop (length v.line.text) before.line.text) before) s v
 
-abbrev pub kill : Movement → Transition
-kill movement s v =
+abbrev pub kill_effect : Movement → Transition
+kill_effect movement s v =
     if is_some (range_of movement v.line)
     then then_do (rewriting (killing movement)) (show_taken v) s v
     else unchanged s (rewritten (range_killed movement) v)
@@ -45,7 +45,7 @@ insert_text_if (Some text) = insert_text text
 
 -- killed, and a text put there
 abbrev pub replace : Movement → Option (List ℕ) → Transition
-replace movement text = then_do (kill movement) (insert_text_if text)
+replace movement text = then_do (kill_effect movement) (insert_text_if text)
 
 -- ---- the ring
 

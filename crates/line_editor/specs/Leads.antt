@@ -15,7 +15,7 @@ use Rattle.line_editor.specs.Accepting.{submitted}
 use Rattle.line_editor.specs.Asks.{ask_effect}
 use Rattle.line_editor.specs.Commands.{Means, effect}
 use Rattle.line_editor.specs.Courses.{TurnsLead, EndsLine}
-use Rattle.line_editor.specs.LineScripts.{Kept, kept, line_script, made_from, played_from, reported_from, turn_script}
+use Rattle.line_editor.specs.LineScripts.{LineState, kept, line_script, made_from, played_from, reported_from, turn_script}
 use Rattle.line_editor.specs.Sights.{Sight, no_sight, sight_with, sight_of, ended_sight, info_after, FitsAll, Turns}
 use Rattle.line_editor.specs.Redraws.{Redraw}
 use Rattle.line_editor.specs.Values.{Value, Setting, EditStep, Effect, first_value, shown_hint}
@@ -94,7 +94,7 @@ pub record TurnLeads (s : Setting) (v : Value) (info : Option (List ℕ))
 
 abbrev pub EachTurnLeads : Type 0
 EachTurnLeads =
-    (n : ℕ) (s : Setting) (custom : Custom) (indent : ℕ) (k : Kept) (info : Option (List ℕ))
+    (n : ℕ) (s : Setting) (custom : Custom) (indent : ℕ) (k : LineState) (info : Option (List ℕ))
     → let turn = turn_script n custom in
     TurnLeads s k.value info (played_from s indent turn k).answer (made_from s indent turn k)
 

@@ -20,7 +20,7 @@ use Rattle.line_editor.specs.Courses.{Turn, Open, last_turn, LineReport}
 use Rattle.line_editor.specs.Lines.{line_phrase, line_begun, reset_by}
 use Rattle.line_editor.specs.Sights.{sight_of, info_after}
 use Rattle.line_editor.specs.Steps.{asked, Surface, Stops}
-use Rattle.line_editor.specs.Values.{Value, Setting, EditStep, Effect, Transition, unchanged, taking}
+use Rattle.line_editor.specs.Values.{Value, Setting, EditStep, Effect, Transition, unchanged, taking_memory}
 use Rattle.line_editor.specs.declared.commands.Status.{Status}
 use Rattle.line_editor.specs.declared.commands.Status.TheVariants.{Proceed, Submit}
 
@@ -80,34 +80,34 @@ line_script n custom = Asks (Makes line_begun) (λ v. turns_script n custom)
 -- ---- what each ask means
 
 -- what goes on from ask to ask
-pub record Kept : Type 0 where
+pub record LineState : Type 0 where
   pub value : Value
   pub input : Input
   pub ring : Ring
   pub coming : Coming
 
-abbrev pub kept : Value → Input → Ring → Coming → Kept
+abbrev pub kept : Value → Input → Ring → Coming → LineState
 kept value input ring coming =
     record { value = value; input = input; ring = ring; coming = coming }
 
-abbrev pub beginning : Kept → Beginning
+abbrev pub beginning : LineState → Beginning
 beginning k = record { input = k.input; shown = shown_in k.value }
 
 module _ (s : Setting) (indent : ℕ) where
   -- most commands end a run of kills
-  abbrev pub means_at : Kept → Cmd → Means
+  abbrev pub means_at : LineState → Cmd → Means
   means_at k cmd = means_of k.input indent (reset_by cmd k.ring)
 
   -- the edit that it makes
-  abbrev pub effect_at : Kept → LineAsk → Effect
-  effect_at k (Keys Needs) = taking s k.value
+  abbrev pub effect_at : LineState → LineAsk → Effect
+  effect_at k (Keys Needs) = taking_memory s k.value
   effect_at k (Keys (Shows ask)) = ask_effect ask s k.value
   effect_at k (Obeys cmd) = effect (means_at k cmd) cmd s k.value
   effect_at k (Makes edit) = edit s k.value
   effect_at k ask = unchanged s k.value
 
   -- its answer, or why it is refused: by the input, or by a command that ends the line
-  abbrev pub answer_at : Kept → (ask : LineAsk) → Result (LineAnswer ask) ReadlineError
+  abbrev pub answer_at : LineState → (ask : LineAsk) → Result (LineAnswer ask) ReadlineError
   answer_at k Begins = Ok (beginning k)
   answer_at k (Keys Needs) = Ok tt
   answer_at k (Keys (Shows ask)) = Ok (shown_in (ask_effect ask s k.value).value)
@@ -118,7 +118,7 @@ module _ (s : Setting) (indent : ℕ) where
   answer_at k (Makes edit) = Ok (edit s k.value).value
 
   -- what it leaves
-  abbrev pub left_at : Kept → LineAsk → Kept
+  abbrev pub left_at : LineState → LineAsk → LineState
   left_at k (Keys (Reads item)) =
       record k { coming = left (item_at item k.coming) (behind k.coming) }
   left_at k (Keys (Becomes input)) = record k { input = input }
@@ -129,26 +129,26 @@ module _ (s : Setting) (indent : ℕ) where
   left_at k ask = record k { value = (effect_at k ask).value }
 
   -- the steps of some, in order
-  abbrev pub steps_along : Kept → List LineAsk → List EditStep
+  abbrev pub steps_along : LineState → List LineAsk → List EditStep
   steps_along k [] = []
   steps_along k (ask ∷ asks) = (effect_at k ask).steps ++ steps_along (left_at k ask) asks
 
-  abbrev pub line_plan : Plan LineAsk LineAnswer Kept ReadlineError
+  abbrev pub line_plan : Plan LineAsk LineAnswer LineState ReadlineError
   line_plan = record { answer = answer_at; left = left_at }
 
   -- ---- what a script comes to, where no fault comes
 
-  abbrev pub played_from : {X : Type 0} → LineScript X → Kept → Played LineAsk Kept ReadlineError X
+  abbrev pub played_from : {X : Type 0} → LineScript X → LineState → Played LineAsk LineState ReadlineError X
   played_from script k = played line_plan script k
 
   -- what it makes of the value
-  abbrev pub made_from : {X : Type 0} → LineScript X → Kept → Effect
+  abbrev pub made_from : {X : Type 0} → LineScript X → LineState → Effect
   made_from script k = let p = played_from script k in
       record { value = p.rest.value; steps = steps_along k p.asks }
 
   -- the turns of what is asked, each up to where the next one begins: of the first these steps
   -- have been made, and this information stood before them
-  abbrev pub turns_along : Result (List ℕ) ReadlineError → Kept → List EditStep
+  abbrev pub turns_along : Result (List ℕ) ReadlineError → LineState → List EditStep
       → Option (List ℕ) → List LineAsk → List Turn
   turns_along outcome k steps info [] =
       last_turn outcome steps (sight_of s k.value (info_after steps info)) ∷ []
@@ -158,7 +158,7 @@ module _ (s : Setting) (indent : ℕ) where
       turns_along outcome (left_at k ask) (steps ++ (effect_at k ask).steps) info asks
 
   -- and what a line's script comes to
-  abbrev pub reported_from : LineScript (List ℕ) → Kept → LineReport
+  abbrev pub reported_from : LineScript (List ℕ) → LineState → LineReport
   reported_from script k = let p = played_from script k in record {
     turns = turns_along p.answer k [] None p.asks;
     outcome = p.answer;
@@ -169,24 +169,24 @@ module _ (s : Setting) (indent : ℕ) where
 -- ---- and where a fault stops it
 
 -- what a fault leaves of what is kept: the value, and of a command's ring, are as far as it came
-abbrev pub FaultLeaves : LineAsk → Kept → ReadlineError → Kept → Type 0
+abbrev pub FaultLeaves : LineAsk → LineState → ReadlineError → LineState → Type 0
 FaultLeaves (Obeys cmd) k e l =
     (l ≡ record k { value = l.value; ring = l.ring })
     × LeavesRing cmd k.value (reset_by cmd k.ring) l.ring e
 FaultLeaves ask k e l = l ≡ record k { value = l.value }
 
 -- a pasted text finds no memory
-abbrev pub IsUnread : LineAsk → ReadlineError → Type 0
-IsUnread (Keys (Reads item)) e = IsReadFault item e
-IsUnread ask e = ⊥
+abbrev pub IsUnreadText : LineAsk → ReadlineError → Type 0
+IsUnreadText (Keys (Reads item)) e = IsReadFault item e
+IsUnreadText ask e = ⊥
 
 -- a renderer with what is kept of its drawing, and what goes on
-pub record Stage (R : Type 0) : Type 0 where
+pub record LineStage (R : Type 0) : Type 0 where
   pub drawn : Surface R
-  pub kept : Kept
+  pub kept : LineState
 
-abbrev pub stage : {R : Type 0} → Surface R → Kept → Stage R
-stage drawn kept = record { drawn = drawn; kept = kept }
+abbrev pub line_stage : {R : Type 0} → Surface R → LineState → LineStage R
+line_stage drawn kept = record { drawn = drawn; kept = kept }
 
 -- an edit's steps were made by their calls
 abbrev pub DrawnBy : {R : Type 0} → Canvas R → Ruler → List EditStep → Surface R → Surface R
@@ -197,20 +197,20 @@ DrawnBy canvas r steps old new =
 
 module _ {R : Type 0} (canvas : Canvas R) (r : Ruler) (s : Setting) (indent : ℕ) where
   -- the edit was made whole, and the answer is its own
-  abbrev pub Answered : Stage R → (ask : LineAsk) → Result (LineAnswer ask) ReadlineError
-      → Stage R → Type 0
+  abbrev pub Answered : LineStage R → (ask : LineAsk) → Result (LineAnswer ask) ReadlineError
+      → LineStage R → Type 0
   Answered x ask result y =
       (answer_at s indent x.kept ask ≡ result) × (y.kept ≡ left_at s indent x.kept ask)
       × DrawnBy canvas r (effect_at s indent x.kept ask).steps x.drawn y.drawn
 
   -- a fault stopped the edit, or a read, after which every read is refused
-  abbrev pub Stopped : Stage R → LineAsk → ReadlineError → Stage R → Type 0
+  abbrev pub Stopped : LineStage R → LineAsk → ReadlineError → LineStage R → Type 0
   Stopped x ask e y =
       (Stops canvas r (effect_at s indent x.kept ask).steps x.drawn e y.kept.value y.drawn
       × FaultLeaves ask x.kept e y.kept)
-      ⊎ (IsUnread ask e × (y ≡ stage x.drawn (record x.kept { coming = left_by e })))
+      ⊎ (IsUnreadText ask e × (y ≡ line_stage x.drawn (record x.kept { coming = left_by e })))
 
-  abbrev pub line_world : World LineAsk LineAnswer (Stage R) ReadlineError
+  abbrev pub line_world : World LineAsk LineAnswer (LineStage R) ReadlineError
   line_world = record {
     made = λ x ask a y. Answered x ask (Ok a) y;
     cut = λ x ask e y. Answered x ask (Err e) y ⊎ Stopped x ask e y;

@@ -11,7 +11,7 @@ use Rattle.line_keys.specs.Refreshing.Ask.{DoingInsert}
 use Rattle.line_record.specs.Ring.{Ring}
 use Rattle.line_record.specs.declared.kill_ring.Action.TheVariants.{Other}
 use Rattle.line_editor.specs.Drawing.{refreshed}
-use Rattle.line_editor.specs.Values.{Transition, then_do, taking}
+use Rattle.line_editor.specs.Values.{Transition, then_do, taking_memory}
 
 -- each change-to begins a group
 abbrev pub begins_group : Cmd → Bool
@@ -31,4 +31,4 @@ reset_by cmd r = if (standing cmd).resets_ring then record r { last = Other } el
 
 -- drawn when memory has been taken for a line
 abbrev pub line_begun : Transition
-line_begun = then_do taking refreshed
+line_begun = then_do taking_memory refreshed

@@ -11,24 +11,24 @@ use Rattle.line_editor.specs.Drawing.{refreshed, refreshed_if}
 use Rattle.line_editor.specs.Values.{Value, Transition, then_do, rewritten, rewriting}
 use Rattle.line_editor.specs.Values.EditStep.{TakesBack}
 
-abbrev pub transpose_chars : Transition
-transpose_chars s v =
+abbrev pub transpose_chars_effect : Transition
+transpose_chars_effect s v =
     then_do (rewriting transposing_chars_in_group) (refreshed_if (transposes_chars v.line)) s v
 
 -- also where only the cursor moved
-abbrev pub transpose_words : ℕ → Transition
-transpose_words n s v =
+abbrev pub transpose_words_effect : ℕ → Transition
+transpose_words_effect n s v =
     let w = rewritten (transpose_words_in_group n) v in
     then_do (rewriting (transposing_words_in_group n))
     (refreshed_if (transposes_words n v.line || not (w.line.place == v.line.place))) s v
 
-abbrev pub edit_word : WordAction → Transition
-edit_word action s v =
+abbrev pub edit_word_effect : WordAction → Transition
+edit_word_effect action s v =
     then_do (rewriting (editing_word_in_group action))
     (refreshed_if (is_some (word_to_edit v.line))) s v
 
-abbrev pub indent : Movement → ℕ → Bool → Transition
-indent movement amount dedent = then_do (rewriting (indenting movement amount dedent)) refreshed
+abbrev pub indent_effect : Movement → ℕ → Bool → Transition
+indent_effect movement amount dedent = then_do (rewriting (indenting movement amount dedent)) refreshed
 
 -- marks taken back, from which the line stays
 abbrev pub unmarked : ℕ → Value → Value

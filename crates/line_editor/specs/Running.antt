@@ -20,7 +20,7 @@ use Rattle.line_keys.specs.declared.command.CmdKind.{CmdKind}
 use Rattle.line_record.specs.Ring.{Ring}
 use Rattle.line_editor.specs.Calls.{Call, Canvas, Ruler}
 use Rattle.line_editor.specs.Courses.{Turn, steps_in, LineReport}
-use Rattle.line_editor.specs.LineScripts.{Kept, LineAsk, Stage, kept, line_script, line_world, played_from, stage, reported_from}
+use Rattle.line_editor.specs.LineScripts.{LineState, LineAsk, LineStage, kept, line_script, line_world, played_from, line_stage, reported_from}
 use Rattle.line_editor.specs.Redraws.{fresh}
 use Rattle.line_editor.specs.Steps.{asked, surface}
 use Rattle.line_editor.specs.Turning.{cause_of}
@@ -44,17 +44,17 @@ setting_by r prompt helping entries = record {
 }
 
 -- what goes on as a line begins: nothing is drawn, and nothing typed
-abbrev pub kept_first : Setting → Config → Ring → Coming → Kept
+abbrev pub kept_first : Setting → Config → Ring → Coming → LineState
 kept_first s config ring coming =
     kept (first_value s) (new_input config.edit_mode) ring coming
 
-abbrev pub stage_first : {R : Type 0} → R → Ruler → Setting → Config → Ring → Coming → Stage R
+abbrev pub stage_first : {R : Type 0} → R → Ruler → Setting → Config → Ring → Coming → LineStage R
 stage_first out r s config ring coming =
-    stage (surface out (fresh r.mode)) (kept_first s config ring coming)
+    line_stage (surface out (fresh r.mode)) (kept_first s config ring coming)
 
 -- its script, where no fault comes
 abbrev pub line_played : ℕ → Setting → Custom → Config → Ring → Coming
-    → Played LineAsk Kept ReadlineError (List ℕ)
+    → Played LineAsk LineState ReadlineError (List ℕ)
 line_played n s custom config ring c =
     played_from s config.indent_size (line_script n custom) (kept_first s config ring c)
 
@@ -100,7 +100,7 @@ pub record Runs {R H K T : Type 0} (canvas : Canvas R) (helps : Option H → Hel
       let setting = setting_by ruler prompt (helps helper) entries in
       Goes (line_world canvas ruler setting config.indent_size) (line_script n custom)
       (stage_first out ruler setting config ring feed.coming) (outcome_of ran)
-      (stage (surface ran.out layout) (kept value input ring' feed'.coming))
+      (line_stage (surface ran.out layout) (kept value input ring' feed'.coming))
   pub told : IsTrue feed'.told → IsTrue feed.told
   pub keeps : feed'.bound ≤ feed.bound
   pub falls : OnOk ran.outcome (feed'.bound < feed.bound)

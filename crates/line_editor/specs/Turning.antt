@@ -18,7 +18,7 @@ use Rattle.line_keys.specs.declared.command.Cmd.{Cmd}
 use Rattle.line_keys.specs.declared.command.Cmd.TheVariants.{AcceptLine, AcceptOrInsertLine, EndOfFile, Interrupt, Kill, Replace, ViYankTo}
 use Rattle.line_record.specs.Ring.{Ring}
 use Rattle.line_editor.specs.Commands.{Means, effect, ring_after_command, LeavesRing, outcome}
-use Rattle.line_editor.specs.LineScripts.{LineAsk, LineAnswer, LineScript, Stage, kept, line_world, stage}
+use Rattle.line_editor.specs.LineScripts.{LineAsk, LineAnswer, LineScript, LineStage, kept, line_world, line_stage}
 use Rattle.line_editor.specs.States.{value_of, setting_of, surface_of, Stays, Does}
 use Rattle.line_editor.specs.Values.{IsFailing}
 use Rattle.line_editor.specs.declared.commands.Status.{Status}
@@ -77,12 +77,12 @@ module _ {Out H Hi K T : Type 0} {renderer : renderers.Ghosts Out}
   -- what goes on in a line, where a state is in it
   abbrev pub stage_of :
       State Out H Hi K T renderer completer candidate hinter hint highlighter validator history
-      → Input → Ring → Coming → Stage Out
-  stage_of s input ring coming = stage (surface_of s) (kept (value_of s) input ring coming)
+      → Input → Ring → Coming → LineStage Out
+  stage_of s input ring coming = line_stage (surface_of s) (kept (value_of s) input ring coming)
 
   abbrev pub world_of : ℕ
       → State Out H Hi K T renderer completer candidate hinter hint highlighter validator history
-      → World LineAsk LineAnswer (Stage Out) ReadlineError
+      → World LineAsk LineAnswer (LineStage Out) ReadlineError
   world_of indent s =
       line_world renderer.canvas (renderer.canvas.ruler s.out) (setting_of s) indent
 

@@ -111,8 +111,8 @@ abbrev pub redrawn : Redraw → Transition
 redrawn x s v = record { value = v; steps = Draws v s.marks x ∷ [] }
 
 -- memory is taken for what isn't kept in the value
-abbrev pub taking : Transition
-taking s v = record { value = v; steps = Takes v ∷ [] }
+abbrev pub taking_memory : Transition
+taking_memory s v = record { value = v; steps = Takes v ∷ [] }
 
 -- ---- the line with its record
 

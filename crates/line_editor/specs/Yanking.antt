@@ -16,9 +16,9 @@ abbrev pub anchored : Anchor → Line → Line
 anchored After l = moved_to (place_forward 1 l) l
 anchored Before l = l
 
-abbrev pub steps : Anchor → Line → Bool
-steps After l = is_some (place_forward 1 l)
-steps Before l = false
+abbrev pub steps_over : Anchor → Line → Bool
+steps_over After l = is_some (place_forward 1 l)
+steps_over Before l = false
 
 -- in Vi's command mode the cursor stands on the last cluster
 abbrev pub behind_yank : Bool → Line → Line
@@ -30,8 +30,8 @@ yanked_by vi text n v =
     let w = rewritten (text_yanked text n) v in
     if is_some (yanked_in text n v.line).answer then at_line (behind_yank vi w.line) w else w
 
-abbrev pub put : Bool → List ℕ → ℕ → Transition
-put vi text n s v = record {
+abbrev pub put_yanked : Bool → List ℕ → ℕ → Transition
+put_yanked vi text n s v = record {
   value = yanked_by vi text n v;
   steps = Edits v (answering tt (yanking text n v.line)) ∷ [];
 }
@@ -39,8 +39,8 @@ put vi text n s v = record {
 abbrev pub yank_text : Bool → List ℕ → Anchor → ℕ → Transition
 yank_text vi text anchor n s v =
     let before = at_line (anchored anchor v.line) v in
-    if is_some (yanked_in text n before.line).answer || steps anchor v.line
-    then then_do (put vi text n) refreshed s before
+    if is_some (yanked_in text n before.line).answer || steps_over anchor v.line
+    then then_do (put_yanked vi text n) refreshed s before
     else unchanged s (yanked_by vi text n before)
 
 -- where so many bytes stand before the cursor, from between two characters on

@@ -17,7 +17,7 @@ use line_record::KillRing;
 #[tactic(auto, using(crate::proofs::StopsLemmas::edits_stop))]
 impl<'p, 'h, Out: Renderer, H: Helper + Drop, Hi: History> State<'p, 'h, Out, H, Hi> {
     ghost use Rattle.line_editor.specs.States.{value_of, setting_of, Does, Stays};
-    ghost use Rattle.line_editor.specs.Killing.{may_be_taken, killed_shown, kill, insert_text_if, replace, killed_into, copied_into};
+    ghost use Rattle.line_editor.specs.Killing.{may_be_taken, killed_shown, kill_effect, insert_text_if, replace, killed_into, copied_into};
 
     /// Whether an erased rest of the row may show what a movement kills: printable characters,
     /// taken from a bare line.
@@ -53,7 +53,7 @@ impl<'p, 'h, Out: Renderer, H: Helper + Drop, Hi: History> State<'p, 'h, Out, H,
         movement: &Movement,
         ring: &mut KillRing,
     ) -> Result<(), ReadlineError>
-        ensures does { Does (kill movement.now) self.old self.new result }
+        ensures does { Does (kill_effect movement.now) self.old self.new result }
         ensures ring { OnOk result
             (ring.new ≡ killed_into movement.now (value_of self.old) ring.old) }
         ensures refused_ring { IfErr result

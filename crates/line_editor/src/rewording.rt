@@ -11,11 +11,11 @@ use line_help::{Helper, History};
 impl<'p, 'h, Out: Renderer, H: Helper + Drop, Hi: History> State<'p, 'h, Out, H, Hi> {
     ghost use Rattle.line_edits.specs.Edits.{undone};
     ghost use Rattle.line_editor.specs.States.{Does};
-    ghost use Rattle.line_editor.specs.Rewording.{transpose_chars, transpose_words, edit_word, indent, undo};
+    ghost use Rattle.line_editor.specs.Rewording.{transpose_chars_effect, transpose_words_effect, edit_word_effect, indent_effect, undo};
 
     /// Exchanges the clusters around the cursor.
     pub fn edit_transpose_chars(&mut self) -> Result<(), ReadlineError>
-        ensures does { Does transpose_chars self.old self.new result }
+        ensures does { Does transpose_chars_effect self.old self.new result }
     {
         self.known = None;
         let done = transpose_chars(
@@ -29,7 +29,7 @@ impl<'p, 'h, Out: Renderer, H: Helper + Drop, Hi: History> State<'p, 'h, Out, H,
 
     /// Exchanges words.
     pub fn edit_transpose_words(&mut self, n: RepeatCount) -> Result<(), ReadlineError>
-        ensures does { Does (transpose_words n) self.old self.new result }
+        ensures does { Does (transpose_words_effect n) self.old self.new result }
     {
         let before = self.line.pos();
         self.known = None;
@@ -49,7 +49,7 @@ impl<'p, 'h, Out: Renderer, H: Helper + Drop, Hi: History> State<'p, 'h, Out, H,
 
     /// Sets a word's letters in another case.
     pub fn edit_word(&mut self, action: WordAction) -> Result<(), ReadlineError>
-        ensures does { Does (edit_word action) self.old self.new result }
+        ensures does { Does (edit_word_effect action) self.old self.new result }
     {
         self.known = None;
         let done = edit_word(
@@ -69,7 +69,7 @@ impl<'p, 'h, Out: Renderer, H: Helper + Drop, Hi: History> State<'p, 'h, Out, H,
         amount: u8,
         dedent: bool,
     ) -> Result<(), ReadlineError>
-        ensures does { Does (indent movement.now amount dedent) self.old self.new result }
+        ensures does { Does (indent_effect movement.now amount dedent) self.old self.new result }
     {
         self.known = None;
         indent(

@@ -1,6 +1,6 @@
 //! Texts yanked from the ring, and exchanged.
 ghost use Rattle.std.specs.Prelude.{◌≡◌, slice_get};
-ghost use Rattle.line_editor.specs.Yanking.{anchored, steps, behind_yank};
+ghost use Rattle.line_editor.specs.Yanking.{anchored, steps_over, behind_yank};
 
 use crate::renderer::Renderer;
 use crate::state::State;
@@ -15,7 +15,7 @@ use line_record::KillRing;
 fn step_on(line: &mut LineBuffer, anchor: Anchor) -> bool
     ensures line { line.new ≡ anchored anchor line.old }
     ensures text { line.new.text ≡ line.old.text }
-    ensures stepped { result ≡ steps anchor line.old }
+    ensures stepped { result ≡ steps_over anchor line.old }
 {
     match anchor {
         Anchor::After => line.move_forward(1),

@@ -7,7 +7,7 @@ use Rattle.line_config.specs.Scripts.{Ends, Asks, Goes}
 use Rattle.line_config.specs.Sending.{Takes, TakesSome, Sends}
 use Rattle.line_editor.specs.Calls.{Call, Ruler, MadeIn, RefusedIn, BrokenOff, Makes}
 use Rattle.line_editor.specs.Calls.Call.{Help}
-use Rattle.line_editor.specs.LineScripts.{LineScript, Stage, effect_at, line_world}
+use Rattle.line_editor.specs.LineScripts.{LineScript, LineStage, effect_at, line_world}
 use Rattle.line_editor.specs.Redraws.{asked_by}
 use Rattle.line_editor.specs.Steps.{one, asked, Surface, Refusal, StepCut, Stops}
 use Rattle.line_editor.specs.Values.{Value, Setting, EditStep}
@@ -71,16 +71,16 @@ module _ {D : Type 0} (held waits : D → List ℕ) (failed : D → Bool) where
       stops_stay r fault v steps between b h ∙ (sent_in_all (one r a.layout step).calls a.out between.out made.0).screen
   stops_stay r fault v (step ∷ steps) a b (inr (e, h, is)) = step_stays r step e a b h
 
-  pub goes_stay : {X : Type 0} (r : Ruler) (s : Setting) (indent : ℕ) (p : LineScript X) (x y : Stage (ScreenRenderer D)) (result : Result X ReadlineError)
+  pub goes_stay : {X : Type 0} (r : Ruler) (s : Setting) (indent : ℕ) (p : LineScript X) (x y : LineStage (ScreenRenderer D)) (result : Result X ReadlineError)
       → Goes (line_world (canvas_of held waits failed) r s indent) p x result y → screen_of y.drawn.out ≡ screen_of x.drawn.out
-  goes_stay r s indent (Ends z) x y result is = ap (λ (v : Stage (ScreenRenderer D)). screen_of v.drawn.out) is.1
+  goes_stay r s indent (Ends z) x y result is = ap (λ (v : LineStage (ScreenRenderer D)). screen_of v.drawn.out) is.1
   goes_stay r s indent (Asks ask later) x y result (inl (z, v, (is, kept, drawn), goes)) =
       goes_stay r s indent (later z) v y result goes ∙ (sent_in_all (asked r x.drawn.layout (effect_at s indent x.kept ask).steps).calls x.drawn.out v.drawn.out drawn.0).screen
   goes_stay r s indent (Asks ask later) x y result (inr (e, inl (is, kept, drawn), refused)) =
       (sent_in_all (asked r x.drawn.layout (effect_at s indent x.kept ask).steps).calls x.drawn.out y.drawn.out drawn.0).screen
   goes_stay r s indent (Asks ask later) x y result (inr (e, inr (inl (stops, left)), refused)) =
       stops_stay r e y.kept.value (effect_at s indent x.kept ask).steps x.drawn y.drawn stops
-  goes_stay r s indent (Asks ask later) x y result (inr (e, inr (inr (unread, same)), refused)) = ap (λ (v : Stage (ScreenRenderer D)). screen_of v.drawn.out) same
+  goes_stay r s indent (Asks ask later) x y result (inr (e, inr (inr (unread, same)), refused)) = ap (λ (v : LineStage (ScreenRenderer D)). screen_of v.drawn.out) same
 
   -- where nothing waits after a call, it may have been so before
   pub passes_on : {A : Type 0} (d e : D) (sent : Result A DeviceFailed) → OnOk sent (waits e ≡ []) → OnOk sent (waits d ≡ [] → waits e ≡ [])

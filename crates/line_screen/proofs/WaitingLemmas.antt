@@ -5,13 +5,13 @@ use Rattle.line_config.specs.Scripts.{Ends, Asks, Goes}
 use Rattle.line_config.specs.declared.errors.ReadlineError.{ReadlineError}
 use Rattle.line_editor.specs.Calls.{Call, Canvas, Ruler, MadeIn, RefusedIn, BrokenOff}
 use Rattle.line_editor.specs.Calls.Call.{Help}
-use Rattle.line_editor.specs.LineScripts.{LineScript, Stage, effect_at, line_script, line_world}
+use Rattle.line_editor.specs.LineScripts.{LineScript, LineStage, effect_at, line_script, line_world}
 use Rattle.line_editor.specs.Redraws.{asked_by}
 use Rattle.line_editor.specs.Steps.{one, asked, Surface, Refusal, StepCut, Stops}
 use Rattle.line_editor.specs.Values.{Value, Setting, EditStep}
 use Rattle.line_editor.specs.Values.EditStep.{Draws, Helped, Updates, Edits, TakesBack, Takes}
 use Rattle.line_screen.specs.Calls.{Sent, Unsent, canvas_of, sink_of}
-use Rattle.line_screen.specs.Waiting.{NothingWaits, holding, ReadsFindNothingWaiting}
+use Rattle.line_screen.specs.Waiting.{NothingWaits, holding_throughout, ReadsFindNothingWaiting}
 use Rattle.line_screen.specs.declared.renderer.ScreenRenderer.{ScreenRenderer}
 
 none_in_broken : {Z : Type 0} (failed : Bool) → IsTrue failed → failed ≡ false → Z
@@ -70,11 +70,11 @@ module _ {D : Type 0} (held waits : D → List ℕ) (failed : D → Bool) where
       stops_rest r fault v steps between b (calls_rest (one r a.layout step).calls a.out between.out none made.0) h
   stops_rest r fault v (step ∷ steps) a b none (inr (e, h, is)) = step_rests r step e a b none h
 
-  abbrev pub RestsOn : Stage (ScreenRenderer D) → Type 0
+  abbrev pub RestsOn : LineStage (ScreenRenderer D) → Type 0
   RestsOn x = Rests x.drawn.out
 
-  goes_rest : {X : Type 0} (r : Ruler) (s : Setting) (indent : ℕ) (p : LineScript X) (x y : Stage (ScreenRenderer D)) (result : Result X ReadlineError) → RestsOn x
-      → Goes (line_world all r s indent) p x result y → Goes (holding RestsOn (line_world all r s indent)) p x result y × RestsOn y
+  goes_rest : {X : Type 0} (r : Ruler) (s : Setting) (indent : ℕ) (p : LineScript X) (x y : LineStage (ScreenRenderer D)) (result : Result X ReadlineError) → RestsOn x
+      → Goes (line_world all r s indent) p x result y → Goes (holding_throughout RestsOn (line_world all r s indent)) p x result y × RestsOn y
   goes_rest r s indent (Ends z) x y result none h = (h, subst RestsOn (sym h.1) none)
   goes_rest r s indent (Asks ask later) x y result none (inl (z, v, made, goes)) =
       let rests = calls_rest (asked r x.drawn.layout (effect_at s indent x.kept ask).steps).calls x.drawn.out v.drawn.out none made.2.0 in

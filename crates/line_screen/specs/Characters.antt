@@ -36,20 +36,20 @@ StopFitting bytes left =
     × (BeginChar (front ++ byte ∷ []) → ⊥)
 
 -- why no character is read of these bytes, and which are left
-abbrev pub StopsAt : Last → List ℕ → Stop → List ℕ → Type 0
-StopsAt last bytes AtEnd left = (bytes ≡ []) × (last ≡ End) × (left ≡ [])
-StopsAt last bytes AtFailure left = (bytes ≡ []) × (last ≡ Failed) × (left ≡ [])
-StopsAt last bytes Torn left = AreCutChar bytes × (last ≡ Failed) × (left ≡ [])
-StopsAt last bytes AtBad left = (AreCutChar bytes × (last ≡ End) × (left ≡ []))
+abbrev pub CharsStopAt : Last → List ℕ → Stop → List ℕ → Type 0
+CharsStopAt last bytes AtEnd left = (bytes ≡ []) × (last ≡ End) × (left ≡ [])
+CharsStopAt last bytes AtFailure left = (bytes ≡ []) × (last ≡ Failed) × (left ≡ [])
+CharsStopAt last bytes Torn left = AreCutChar bytes × (last ≡ Failed) × (left ≡ [])
+CharsStopAt last bytes AtBad left = (AreCutChar bytes × (last ≡ End) × (left ≡ []))
     ⊎ StopFitting bytes left
-StopsAt last bytes Inside left = ⊥
+CharsStopAt last bytes Inside left = ⊥
 
 -- a character that is read is a scalar value and came from its bytes alone: no longer form, and
 -- nothing else
 abbrev pub ReadsFirst : Last → List ℕ → Chars → Type 0
 ReadsFirst last bytes (Next c behind rest) = IsScalar c × (bytes ≡ encode_utf8 c ++ behind)
     × (rest ≡ chars_of behind last)
-ReadsFirst last bytes (Over stop left) = StopsAt last bytes stop left
+ReadsFirst last bytes (Over stop left) = CharsStopAt last bytes stop left
 
 -- What is read of any bytes.
 abbrev pub CharsAreEncoded : Type 0

@@ -35,7 +35,7 @@ abbrev pub saturated : Position → Position
 saturated at = record { col = at.col; row = min at.row 65535 }
 
 -- a step of measuring answers this place, rows counted to 65,535, its column one of the row's
-pub record Comes (columns : ℕ) (to answer : Position) : Type 0 where
+pub record MeasuresTo (columns : ℕ) (to answer : Position) : Type 0 where
   pub place : answer ≡ saturated to
   pub inside : answer.col < columns
 

@@ -4,7 +4,7 @@ use Rattle.line_config.specs.Scripts.{World, Goes}
 use Rattle.line_config.specs.declared.errors.ReadlineError.{ReadlineError}
 use Rattle.line_keys.specs.Answers.{Custom}
 use Rattle.line_editor.specs.Calls.{Ruler}
-use Rattle.line_editor.specs.LineScripts.{Stage, line_script, line_world}
+use Rattle.line_editor.specs.LineScripts.{LineStage, line_script, line_world}
 use Rattle.line_editor.specs.Values.{Setting}
 use Rattle.line_screen.specs.Calls.{canvas_of, sink_of}
 use Rattle.line_screen.specs.declared.renderer.ScreenRenderer.{ScreenRenderer}
@@ -14,9 +14,9 @@ abbrev pub NothingWaits : {D : Type 0} → (D → List ℕ) → (D → Bool) →
 NothingWaits waits failed d = failed d ≡ false → waits d ≡ []
 
 -- a world in which this holds at each ask, and after it
-abbrev pub holding : {A : Type 0} {R : A → Type 0} {S E : Type 0} → (S → Type 0) → World A R S E
+abbrev pub holding_throughout : {A : Type 0} {R : A → Type 0} {S E : Type 0} → (S → Type 0) → World A R S E
     → World A R S E
-holding Holds w = record {
+holding_throughout Holds w = record {
   made = λ x ask a y. Holds x × w.made x ask a y × Holds y;
   cut = λ x ask e y. Holds x × w.cut x ask e y × Holds y;
 }
@@ -26,10 +26,10 @@ holding Holds w = record {
 abbrev pub ReadsFindNothingWaiting : {D : Type 0} → (D → List ℕ) → (D → List ℕ) → (D → Bool)
     → Type 0
 ReadsFindNothingWaiting {D} held waits failed =
-    let Rests : Stage (ScreenRenderer D) → Type 0 =
+    let Rests : LineStage (ScreenRenderer D) → Type 0 =
     λ x. NothingWaits waits failed (sink_of x.drawn.out) in
     (n : ℕ) (custom : Custom) (r : Ruler) (s : Setting) (indent : ℕ)
-    (x y : Stage (ScreenRenderer D)) (result : Result (List ℕ) ReadlineError)
+    (x y : LineStage (ScreenRenderer D)) (result : Result (List ℕ) ReadlineError)
     → let w = line_world (canvas_of held waits failed) r s indent in Rests x
     → Goes w (line_script n custom) x result y
-    → Goes (holding Rests w) (line_script n custom) x result y × Rests y
+    → Goes (holding_throughout Rests w) (line_script n custom) x result y × Rests y

@@ -6,7 +6,7 @@ ghost use Rattle.line_buffer.specs.Printable.{is_plain};
 ghost use Rattle.line_screen.specs.Display.{right};
 ghost use Rattle.line_screen.specs.Drawing.{drawn_item, row_items, next_items, text_items, next_row, fit, leave, place_after};
 ghost use Rattle.line_screen.specs.Drawing.DrawnItem.{Letter, NewRow};
-ghost use Rattle.line_screen.specs.Measure.{cluster_width, saturated, measure_of, Comes};
+ghost use Rattle.line_screen.specs.Measure.{cluster_width, saturated, measure_of, MeasuresTo};
 
 use crate::characters::{chars_are_clusters, is_narrow, is_wide};
 use crate::grid::{Grid, is_letter};
@@ -76,7 +76,7 @@ fn next_row(at: Position) -> Position
 
 fn leave_full(grid: Grid, at: Position) -> Position
     requires inside { at.col ≤ grid.columns }
-    ensures { Comes grid.columns (leave grid.columns at) result }
+    ensures { MeasuresTo grid.columns (leave grid.columns at) result }
 {
     if at.col == grid.columns {
         next_row(at)
@@ -88,7 +88,7 @@ fn leave_full(grid: Grid, at: Position) -> Position
 /// So many columns further in the same row.
 fn step_right(grid: Grid, at: Position, count: Unit) -> Position
     requires room { at.col + count ≤ grid.columns }
-    ensures { Comes grid.columns (leave grid.columns (right count at)) result }
+    ensures { MeasuresTo grid.columns (leave grid.columns (right count at)) result }
 {
     let behind = Position {
         col: at.col + count,
@@ -101,7 +101,7 @@ fn step_right(grid: Grid, at: Position, count: Unit) -> Position
 fn after_width(grid: Grid, at: Position, width: Unit) -> Position
     requires inside { at.col < grid.columns }
     requires narrow { width ≤ grid.columns }
-    ensures { Comes grid.columns
+    ensures { MeasuresTo grid.columns
         (leave grid.columns (right width (fit grid.columns width at))) result }
 {
     if at.col + width <= grid.columns {
@@ -114,7 +114,7 @@ fn after_width(grid: Grid, at: Position, width: Unit) -> Position
 fn after_cluster(grid: Grid, at: Position, cluster: &str) -> Position
     requires inside { at.col < grid.columns }
     ensures { let wide = cluster_width grid.mode grid.columns in
-        Comes grid.columns (place_after grid.columns (drawn_item wide cluster.now ∷ []) at) result }
+        MeasuresTo grid.columns (place_after grid.columns (drawn_item wide cluster.now ∷ []) at) result }
 {
     if is_letter(cluster) {
         return step_right(grid, at, 1);
@@ -126,7 +126,7 @@ fn after_cluster(grid: Grid, at: Position, cluster: &str) -> Position
 // Each letter takes the next cell, the last of a row being followed by the first of the next one.
 fn after_letters(grid: Grid, from: Position, letters: &[u8]) -> Position
     requires inside { from.col < grid.columns }
-    ensures { Comes grid.columns (place_after grid.columns (map Letter letters.now) from) result }
+    ensures { MeasuresTo grid.columns (place_after grid.columns (map Letter letters.now) from) result }
 {
     let columns = u64::from(grid.columns);
     let cell = u64::from(from.row) * columns + u64::from(from.col) + letters.len() as u64;
@@ -140,7 +140,7 @@ fn after_letters(grid: Grid, from: Position, letters: &[u8]) -> Position
 fn after_clusters(grid: Grid, from: Position, row: &str) -> Position
     requires inside { from.col < grid.columns }
     ensures { let item = drawn_item (cluster_width grid.mode grid.columns) in
-        Comes grid.columns
+        MeasuresTo grid.columns
         (place_after grid.columns (map item (graphemes true row.now)) from) result }
 {
     let mut at = from;
@@ -154,7 +154,7 @@ fn after_clusters(grid: Grid, from: Position, row: &str) -> Position
 fn after_char(grid: Grid, at: Position, c: char) -> Position
     requires inside { at.col < grid.columns }
     ensures { let wide = cluster_width grid.mode grid.columns in
-        Comes grid.columns
+        MeasuresTo grid.columns
         (place_after grid.columns (drawn_item wide (encode_utf8 c) ∷ []) at) result }
 {
     if c > '~' && c < '\u{3000}' && is_narrow(c) {
@@ -171,7 +171,7 @@ fn after_chars(grid: Grid, from: Position, row: &str) -> Position
     requires inside { from.col < grid.columns }
     requires clusters { graphemes true row.now ≡ map encode_utf8 (chars row.now) }
     ensures { let item = drawn_item (cluster_width grid.mode grid.columns) in
-        Comes grid.columns
+        MeasuresTo grid.columns
         (place_after grid.columns (map item (graphemes true row.now)) from) result }
 {
     let mut at = from;
@@ -184,7 +184,7 @@ fn after_chars(grid: Grid, from: Position, row: &str) -> Position
 fn after_row(grid: Grid, from: Position, row: &str) -> Position
     requires inside { from.col < grid.columns }
     ensures { let items = row_items (cluster_width grid.mode grid.columns) row.now in
-        Comes grid.columns (place_after grid.columns items from) result }
+        MeasuresTo grid.columns (place_after grid.columns items from) result }
 {
     if is_printable_text(row) {
         after_letters(grid, from, row.as_bytes())
@@ -198,7 +198,7 @@ fn after_row(grid: Grid, from: Position, row: &str) -> Position
 fn after_next_row(grid: Grid, from: Position, is_first: bool, row: &str) -> Position
     requires inside { from.col < grid.columns }
     ensures { let items = next_items (cluster_width grid.mode grid.columns) is_first row.now in
-        Comes grid.columns (place_after grid.columns items from) result }
+        MeasuresTo grid.columns (place_after grid.columns items from) result }
 {
     if is_first {
         after_row(grid, from, row)
@@ -212,7 +212,7 @@ fn after_next_row(grid: Grid, from: Position, is_first: bool, row: &str) -> Posi
 fn after_text(grid: Grid, from: Position, text: &str) -> Position
     requires inside { from.col < grid.columns }
     ensures { let all = text_items (cluster_width grid.mode grid.columns) text.now in
-        Comes grid.columns (place_after grid.columns all from) result }
+        MeasuresTo grid.columns (place_after grid.columns all from) result }
 {
     if is_printable_text(text) {
         return after_letters(grid, from, text.as_bytes());
