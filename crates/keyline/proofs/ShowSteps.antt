@@ -10,7 +10,7 @@ use Rattle.line_buffer.specs.declared.layout.Layout.{Layout}
 use Rattle.line_buffer.specs.declared.layout.Position.{Position}
 use Rattle.line_editor.specs.Calls.{Call, Marks}
 use Rattle.line_editor.specs.Calls.Call.{Draw, Move, Write, Beep, ClearScreen, MoveAndClearToEol, Help}
-use Rattle.line_editor.specs.Redraws.{info_text, fresh, layout_of, full, nothing_asked, moved_by_call, column_on, column_back, typed_short, taken_short, has_room, may_type, may_take}
+use Rattle.line_editor.specs.Redraws.{info_text, fresh, layout_of, full, nothing_asked, moved_by_call, column_on, column_back, typed_short, taken_short, fits_in_row, may_type, may_take}
 use Rattle.line_editor.specs.Redraws.Redraw.{Drawn, Moved, Typed, Taken, Bared, ToEnd, Beeped, Cleared}
 use Rattle.line_editor.specs.Sights.{Sight, sight_with, sight_as, no_sight, sight, ended_sight, TypedFits, TakenFits, Fits}
 use Rattle.line_editor.specs.Steps.{one}
@@ -227,7 +227,7 @@ module _ (s : Screen) (low : 2 ≤ s.columns) (high : s.columns ≤ 1000) where
         cursor = cursor_is;
         finish = cursor_is ∙ sym (end_is_cursor (picture y) refl end);
         prompt_size = h.prompt_size;
-        info_is = not-true l.has_info (and_parts (not l.has_info) (has_room s.columns l.cursor) e).0;
+        info_is = not-true l.has_info (and_parts (not l.has_info) (fits_in_row s.columns l.cursor) e).0;
         given_is = h.given_is ∙ given;
       } in
       subst (DisplayHolds s new over top (typed_short l c).layout) (sym (typed_is x prompt c text at t)) done

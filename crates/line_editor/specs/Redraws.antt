@@ -100,12 +100,12 @@ taken_short l count = record {
 }
 
 -- a byte that is written at a cell doesn't fill the row
-abbrev pub has_room : ℕ → Position → Bool
-has_room columns at = nat_lt (at.col + 1) columns
+abbrev pub fits_in_row : ℕ → Position → Bool
+fits_in_row columns at = nat_lt (at.col + 1) columns
 
 -- whether a typed character's byte alone can be written, by the layout that is kept
 abbrev pub may_type : Ruler → Layout → Bool
-may_type r l = not l.has_info && has_room r.columns l.cursor
+may_type r l = not l.has_info && fits_in_row r.columns l.cursor
 
 -- and the rest of the row erased alone
 abbrev pub may_take : Layout → ℕ → Bool

@@ -14,7 +14,7 @@ use Rattle.line_config.specs.declared.settings.BellStyle.{BellStyle}
 use Rattle.line_config.specs.declared.settings.BellStyle.TheVariants as Bells
 use Rattle.line_editor.specs.Calls.{Call}
 use Rattle.line_editor.specs.Calls.Call.{Draw, Move, Write, Beep, ClearScreen, ClearRows, ClearToEol, MoveAndClearToEol, ToLeftmost, Help}
-use Rattle.line_editor.specs.Redraws.{info_text, has_room}
+use Rattle.line_editor.specs.Redraws.{info_text, fits_in_row}
 use Rattle.line_screen.specs.Calls.{Screen, bytes_of, bell_bytes, old_row, drawing_bytes}
 use Rattle.line_screen.specs.Chain.{View, Good, Inside, empty_view, Replaces, Redraws, with_letter, Types, ClosesLine, cut_line, LeadsView, with_place, Moves, ErasesKilled}
 use Rattle.line_screen.specs.Display.{Placed, Display, read, start, put_down, right, ends_before, starts_before, is_cut, stays_in_row, at_cursor, erased_below, erased_right}
@@ -249,7 +249,7 @@ module _ (mode : GraphemeClusterMode) (columns : ℕ) (some : 1 ≤ columns) (fe
   not_left at room = ap (λ b. if b then next_row (right 1 at) else right 1 at) (ne_eqb (at.col + 1) columns (λ e. omega arith))
 
   types_good : (bytes : List ℕ) (over : List Placed) (a : View) (c : ℕ) → Good columns (cluster_width mode columns) bytes over a → typed_at_plain_end c a.shown.line a.shown.place ≡ true → a.shown.info ≡ []
-      → a.place ≡ cursor_of columns (cluster_width mode columns) a.shown → has_room columns a.place ≡ true
+      → a.place ≡ cursor_of columns (cluster_width mode columns) a.shown → fits_in_row columns a.place ≡ true
       → Good columns (cluster_width mode columns) (bytes ++ c ∷ []) over (record { shown = with_letter a.shown c; top = a.top; place = cursor_of columns (cluster_width mode columns) (with_letter a.shown c) })
   types_good bytes over a c g typed none place_is has =
       let wide = cluster_width mode columns in

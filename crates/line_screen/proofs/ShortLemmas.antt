@@ -4,7 +4,7 @@ use Rattle.std.proofs.lemmas.Bool.{and_from, and_parts, not-true, eqb-true, ltb-
 use Rattle.line_buffer.specs.Cells.{origin}
 use Rattle.line_buffer.specs.Printable.{is_printable, is_plain, at_plain_end}
 use Rattle.line_buffer.specs.declared.layout.Position.{Position}
-use Rattle.line_editor.specs.Redraws.{has_room, column_on, column_back}
+use Rattle.line_editor.specs.Redraws.{fits_in_row, column_on, column_back}
 use Rattle.line_screen.specs.Chain.{View, with_letter, cut_line}
 use Rattle.line_screen.specs.Display.{right}
 use Rattle.line_screen.specs.Drawing.{text_items, place_after}
@@ -23,9 +23,9 @@ typing_leads s low high l a c tells at_cursor typed may =
     let columns = s.columns in
     let wide = widths s in
     let v = a.shown in
-    let parts = and_parts (not l.has_info) (has_room columns l.cursor) may in
+    let parts = and_parts (not l.has_info) (fits_in_row columns l.cursor) may in
     let none = tells.info (not-true l.has_info parts.0) in
-    let place_has : has_room columns a.place ≡ true = subst (λ p. has_room columns p ≡ true) tells.cursor parts.1 in
+    let place_has : fits_in_row columns a.place ≡ true = subst (λ p. fits_in_row columns p ≡ true) tells.cursor parts.1 in
     let room : a.place.col + 1 < columns = ltb-true (a.place.col + 1) columns place_has in
     let letter = and_parts (is_printable c) (at_plain_end v.line v.place) typed in
     let stands = and_parts (v.place == length v.line) (is_plain v.line) letter.1 in

@@ -6,7 +6,7 @@ use Rattle.line_buffer.specs.Printable.{is_printable, is_plain, typed_at_plain_e
 use Rattle.line_buffer.specs.declared.layout.Position.{Position}
 use Rattle.line_editor.specs.Calls.{Call}
 use Rattle.line_editor.specs.Calls.Call.{Draw, Move, Write, Beep, ClearScreen, ClearRows, ClearToEol, MoveAndClearToEol, ToLeftmost, Help}
-use Rattle.line_editor.specs.Redraws.{info_text, has_room}
+use Rattle.line_editor.specs.Redraws.{info_text, fits_in_row}
 use Rattle.line_screen.specs.Calls.{old_row}
 use Rattle.line_screen.specs.Display.{Display, Placed, read, start}
 use Rattle.line_screen.specs.Drawing.{row_break}
@@ -89,7 +89,7 @@ pub record Types (columns : ℕ) (wide : List ℕ → Option ℕ) (a : View) (te
   pub typed : typed_at_plain_end c a.shown.line a.shown.place ≡ true
   pub info : a.shown.info ≡ []
   pub place_is : a.place ≡ cursor_of columns wide a.shown
-  pub room : has_room columns a.place ≡ true
+  pub room : fits_in_row columns a.place ≡ true
   pub view : b ≡ record {
     shown = with_letter a.shown c;
     top = a.top;
