@@ -4,7 +4,7 @@ use Rattle.std.specs.Prelude.{encode_utf8}
 use Rattle.std.specs.List.{repeat}
 use Rattle.line_buffer.specs.Event.{Event}
 use Rattle.line_buffer.specs.Indent.{indent_line, indent_events}
-use Rattle.line_buffer.specs.Insertions.{Insertion, insertion_by, insertion_of, insert, no_insertion, yank, yank_pop, without_before, fits_in_row}
+use Rattle.line_buffer.specs.Insertions.{Insertion, insertion_by, insertion_of, insert, no_insertion, yank, yank_pop, without_before, has_room}
 use Rattle.line_buffer.specs.LetterCase.{word_to_edit, recase_line, edit_word_line}
 use Rattle.line_buffer.specs.Line.{Line}
 use Rattle.line_buffer.specs.Range.{range_of, deletion_line, kill_line}
@@ -27,7 +27,7 @@ either_put g true x y h k = h
 either_put g false x y h k = k
 
 put_grows : (told : Event) (added : List ℕ) (l : Line) → (insertion_by told added l).line.growth ≡ l.growth
-put_grows told added l = either_put l.growth (fits_in_row (length added) l) _ _ refl refl
+put_grows told added l = either_put l.growth (has_room (length added) l) _ _ refl refl
 
 of_grows : (text : List ℕ) (n : ℕ) (l : Line) → (insertion_of text n l).line.growth ≡ l.growth
 of_grows text n l = put_grows _ (repeat n text) l

@@ -13,7 +13,7 @@ use Rattle.std.proofs.lemmas.Str.Ascii.{IsAscii-from_all}
 use Rattle.line_buffer.specs.declared.layout.Position.{Position}
 use Rattle.line_buffer.specs.Event.{Event}
 use Rattle.line_buffer.specs.Event.Event.{InsertChar}
-use Rattle.line_buffer.specs.Insertions.{no_insertion, fits_in_row, put_at_cursor, insertion_by, insert as insertion}
+use Rattle.line_buffer.specs.Insertions.{no_insertion, has_room, put_at_cursor, insertion_by, insert as insertion}
 use Rattle.line_buffer.specs.Line.{Line}
 use Rattle.line_buffer.specs.Replay.{insertion as told_insertion}
 use Rattle.line_buffer.specs.Printable.{is_plain_byte, is_plain}
@@ -45,7 +45,7 @@ put_room k true told added l near low = behind k l.place l.place l.text added ne
 put_room k false told added l near low = record { low = low; same = refl }
 
 put_by : (k : ℕ) (told : Event) (added : List ℕ) (l : Line) → k ≤ l.place → k ≤ length l.text → Begins k l.text (insertion_by told added l).line.text
-put_by k told added l near low = put_room k (fits_in_row (length added) l) told added l near low
+put_by k told added l near low = put_room k (has_room (length added) l) told added l near low
 
 typed_by : (c n k : ℕ) (one : Bool) (l : Line) → k ≤ l.place → k ≤ length l.text
     → Begins k l.text (if one then insertion_by (InsertChar l.place c) (encode_utf8 c) l else insertion_by (told_insertion l.place (repeat n (encode_utf8 c))) (repeat n (encode_utf8 c)) l).line.text
