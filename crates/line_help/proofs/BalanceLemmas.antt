@@ -4,8 +4,7 @@ use Rattle.std.specs.Prelude.{◌==◌, ◌||◌, ◌&&◌}
 use Rattle.std.proofs.lemmas.Bool.{eq-eqb}
 use Rattle.std.proofs.lemmas.List.{append-nil}
 use Rattle.line_help.specs.Brackets.{all_kinds, are_kind, is_opening, is_closing, partner, Balanced, empty, other, pair}
-use Rattle.line_help.specs.Validation.{verdict_from, mismatch, closes_innermost, without_innermost, bracket_verdict}
-use Rattle.line_help.specs.Laws.{ValidIsBalanced, IncompleteIsBegun, InvalidIsLost}
+use Rattle.line_help.specs.Validation.{verdict_from, mismatch, closes_innermost, without_innermost, bracket_verdict, ValidIsBalanced, IncompleteIsBegun, InvalidIsLost}
 use Rattle.line_help.specs.declared.validate.ValidationResult.{ValidationResult}
 use Rattle.line_help.specs.declared.validate.ValidationResult.TheVariants.{Incomplete, Invalid, Valid}
 

@@ -5,10 +5,9 @@ use Rattle.std.proofs.Math.Nat.{min-eq_left, min-eq_right}
 use Rattle.std.proofs.lemmas.Bool.Decides.{Decides-eqb}
 use Rattle.std.proofs.lemmas.Grind.{flat_map-append}
 use Rattle.std.proofs.lemmas.List.{append-nil, append_assoc, length-append}
-use Rattle.line_help.specs.Course.{WrittenHistory, HistoryStep, Adds, Saves, Appends, Loads, after_step, after_steps, just_saved, CanStep, CanMake, CanComeBack, loaded, history_made_of}
+use Rattle.line_help.specs.Course.{WrittenHistory, HistoryStep, Adds, Saves, Appends, Loads, after_step, after_steps, just_saved, CanStep, CanMake, CanComeBack, loaded, history_made_of, TextKeepsUp}
 use Rattle.line_help.specs.History.{Settings, Filed, added, all_saved, filed_with, ignored, newest, nothing_filed}
 use Rattle.line_help.specs.HistoryText.{header, row_of, rows_text, saved_text}
-use Rattle.line_help.specs.Laws.{TextKeepsUp}
 use Rattle.line_help.proofs.InTurnLemmas.{InTurn, added_all, added_in_parts, added_when, all_in_turn, all_small, filed_kept, gives_itself, overwritten, stays_in_turn, stays_small}
 use Rattle.line_help.proofs.NewestLemmas.{all_new, length-newest, newest_twice, newest_with, none_new}
 use Rattle.line_help.proofs.ReloadLemmas.{can_both, saved_back}

@@ -1,5 +1,5 @@
 -- Loading: one row after the other.
-use Rattle.std.proofs.Common.{◌≡◌, ℕ, ◌<◌, Bool, true, false, List, [], ◌∷◌, ◌++◌, length, refl, sym, ◌∙◌, ap, ap₂, arith, append_assoc, suc}
+use Rattle.std.proofs.Common.{◌≡◌, ℕ, ◌<◌, Bool, true, false, List, [], ◌∷◌, ◌++◌, length, refl, sym, ◌∙◌, ap, ap₂, arith, append_assoc, subst, suc}
 use Rattle.std.specs.Prelude.{Result, if◌then◌else◌, ◌&&◌, not, IsTrue, IsUtf8, IfErr, Ok, Err, IsOk, bytes_eq}
 use Rattle.std.specs.Result.{is_ok, MatchResult, OnOk}
 use Rattle.std.specs.Str.{is_utf8, chars}
@@ -257,16 +257,14 @@ pub loads_some : (escapes : Bool) (last : Last) (text coming later : List ℕ) (
 loads_some escapes last text coming later before now r l = record {
   loaded = r.loaded;
   later = text_rows last coming;
-  lost = l.lost;
   split = r.split;
   good = r.good;
   added = r.added;
-  left = r.left ∙ l.split;
-  row = l.row;
+  left = subst (λ t. LosesRow t later) (sym r.left) l;
 }
 
 pub loads_none : (last : Last) (text later : List ℕ) (before : Filed) → LosesRow text later → LoadsSome texts_of last text later before before
-loads_none last text later before l = record { loaded = []; later = text_rows last text; lost = l.lost; split = refl; good = refl; added = refl; left = l.split; row = l.row }
+loads_none last text later before l = record { loaded = []; later = text_rows last text; split = refl; good = refl; added = refl; left = l }
 
 pub loads_behind_first : (last : Last) (text coming later row : List ℕ) (before middle after : Filed) (escapes : Bool) → is_utf8 row ≡ true → escapes ≡ bytes_eq row header
     → text_rows last text ≡ row ∷ text_rows last coming → coming ≡ behind_row text → middle ≡ after_first before row
@@ -274,15 +272,13 @@ pub loads_behind_first : (last : Last) (text coming later row : List ℕ) (befor
 loads_behind_first last text coming later row before middle after escapes e b rows is m r = record {
   loaded = row ∷ r.loaded;
   later = r.later;
-  lost = r.lost;
   split = rows ∙ ap (λ rs. row ∷ rs) r.split;
   good = bad_more row r.loaded e ∙ r.good;
   added =
       r.added
       ∙ ap₂ (λ f x. filed_with_all f (entries_of x r.loaded)) m b
       ∙ sym (texts_step before row r.loaded (bytes_eq row header) refl);
-  left = ap (behind_rows (length r.loaded)) (sym is) ∙ r.left;
-  row = r.row;
+  left = subst (λ t. LosesRow (behind_rows (length r.loaded) t) later) is r.left;
 }
 
 rest_of : (rows : List (List ℕ)) (text : List ℕ) → List ℕ

@@ -2,8 +2,7 @@
 use Rattle.std.proofs.Common.{◌≡◌, ◌≢◌, ◌⊎◌, inl, inr, ℕ, true, false, List, [], ◌∷◌, ◌++◌, map, refl, sym, ap, ◌∙◌, append_assoc, Some, None}
 use Rattle.std.proofs.lemmas.Bool.{eq-eqb}
 use Rattle.line_help.specs.Brackets.{all_kinds, is_opening, is_closing, partner, Balanced, empty, other, pair}
-use Rattle.line_help.specs.Validation.{verdict_from, mismatch, closes_innermost, without_innermost, unpaired, not_closed}
-use Rattle.line_help.specs.Laws.{NamesWhatFails, MessageNames}
+use Rattle.line_help.specs.Validation.{verdict_from, mismatch, closes_innermost, without_innermost, unpaired, not_closed, NamesWhatFails, MessageNames}
 use Rattle.line_help.specs.declared.validate.ValidationResult.TheVariants.{Invalid, Valid}
 use Rattle.line_help.proofs.BalanceLemmas.{eqb_true, kind_of_opening, opens_step, closes_step, fails_step, passes_step, read, AllOpening, Closed, closed_behind_other, closed_behind_pair, closings_valid, valid_balanced}
 

@@ -3,8 +3,7 @@ use Rattle.std.proofs.Common.{◌≡◌, ◌≢◌, ℕ, zero, suc, ◌+◌, ◌
 use Rattle.std.specs.Prelude.{◌==◌, ◌||◌, ◌&&◌}
 use Rattle.std.proofs.lemmas.Bool.{eq-eqb, ne_eqb}
 use Rattle.std.proofs.lemmas.List.{reverse-append, reverse-reverse, length-reverse}
-use Rattle.line_help.specs.Brackets.{are_kind, partner, Balanced, empty, other, pair, bytes_between, match_place}
-use Rattle.line_help.specs.Laws.{OpeningIsMatched, ClosingIsMatched}
+use Rattle.line_help.specs.Brackets.{are_kind, partner, Balanced, empty, other, pair, bytes_between, match_place, OpeningIsMatched, ClosingIsMatched}
 use Rattle.line_help.proofs.BalanceLemmas.{eqb_true, both_true, Kind, kind_of_opening, kind_of_closing, brackets_differ}
 
 -- balanced in the brackets of one kind

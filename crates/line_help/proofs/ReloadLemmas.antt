@@ -11,8 +11,7 @@ use Rattle.std.proofs.lemmas.Str.{IsUtf8-append, IsUtf8-from_is_utf8, IsUtf8-nil
 use Rattle.line_config.specs.declared.device.Last.TheVariants.{End}
 use Rattle.line_help.specs.History.{Settings, Filed, begins_with_space, newest_is, filed_with, filed_with_all, nothing_filed, all_saved, newest}
 use Rattle.line_help.specs.HistoryText.{escaped_entry, escaped_byte, unescaped_row, entry_of, entries_of, row_of, rows_text, text_rows, saved_text, header, without_return, good_rows, has_bad_row, load_leaves, text_to_append}
-use Rattle.line_help.specs.Laws.{Reload, ReloadAppended}
-use Rattle.line_help.specs.Course.{ends_in_return, CanComeBack, loaded, history_made_of}
+use Rattle.line_help.specs.Course.{CanComeBack, loaded, history_made_of, Reload, ReloadAppended}
 use Rattle.line_help.proofs.EscapeLemmas.{plain_byte, no_byte}
 use Rattle.line_help.proofs.LoadLemmas.{loaded_leaves, header_is_utf8}
 use Rattle.line_help.proofs.RowLemmas.{cut_row, has_newline}
@@ -55,6 +54,20 @@ escaped_some b bs =
       | plain h k ↦ rw (plain_escaped b h k) (omega arith)
     ]
 
+abbrev ends_in_return : List ℕ → Bool
+ends_in_return [] = false
+ends_in_return (b ∷ []) = b == 13
+ends_in_return (b ∷ (c ∷ bs)) = ends_in_return (c ∷ bs)
+
+no_return_at_end : (row : List ℕ) → without_return row ≡ row → ends_in_return row ≡ false
+no_return_at_end [] e = refl
+no_return_at_end (b ∷ []) e = sole (b == 13) e
+  where
+    sole : (r : Bool) → (if r then [] else b ∷ []) ≡ b ∷ [] → r ≡ false
+    sole true e = cc
+    sole false e = refl
+no_return_at_end (b ∷ (c ∷ bs)) e = let rest : without_return (c ∷ bs) ≡ c ∷ bs = cc in no_return_at_end (c ∷ bs) rest
+
 ends_behind : (b : ℕ) (bs : List ℕ) → 0 < length bs → ends_in_return (b ∷ bs) ≡ ends_in_return bs
 ends_behind b [] some = absurd (omega arith)
 ends_behind b (c ∷ bs) some = refl
@@ -85,7 +98,7 @@ rows_back [] can = refl
 rows_back (entry ∷ entries) can =
     ap (λ t. text_rows End t) (append_assoc (escaped_entry entry) (10 ∷ []) (rows_text entries))
     ∙ cut_row End (escaped_entry entry) (rows_text entries) (one_row entry)
-    ∙ ap (λ r. r ∷ text_rows End (rows_text entries)) (without_same (escaped_entry entry) (same_end entry ∙ can.1))
+    ∙ ap (λ r. r ∷ text_rows End (rows_text entries)) (without_same (escaped_entry entry) (same_end entry ∙ no_return_at_end entry can.1))
     ∙ ap (λ rs. escaped_entry entry ∷ rs) (rows_back entries can.2)
 
 -- what is escaped is UTF-8 where the text is

@@ -1,6 +1,7 @@
 -- Brackets: which bytes they are, and which texts of them are balanced.
-use Rattle.std.specs.Prelude.{◌≡◌, ℕ, ◌==◌, ◌&&◌, ◌||◌, Bool, true, false, if◌then◌else◌, List, [], ◌∷◌, ◌++◌, suc, ◌+◌, ◌-◌, not, nat_le, length, take, drop, reverse, Option, Some, None, option_map, slice_get}
+use Rattle.std.specs.Prelude.{◌≡◌, ℕ, ◌==◌, ◌&&◌, ◌||◌, Bool, true, false, if◌then◌else◌, List, [], ◌∷◌, ◌++◌, suc, ◌+◌, ◌-◌, not, nat_le, length, take, drop, reverse, Option, Some, None, option_map, slice_get, ◌↔◌}
 use Rattle.std.specs.List.{list_any}
+use Rattle.std.specs.Option.{option_or}
 
 -- each opening bracket with its closing one: ( ), [ ], { }
 abbrev pub all_kinds : List (ℕ × ℕ)
@@ -52,10 +53,6 @@ abbrev pub where_it_is : (ℕ × ℕ → Bool) → Option (ℕ × ℕ) → Optio
 where_it_is test None = None
 where_it_is test (Some found) = if test found then Some found else None
 
-abbrev pub first_of_two : Option (ℕ × ℕ) → Option (ℕ × ℕ) → Option (ℕ × ℕ)
-first_of_two None other = other
-first_of_two (Some found) other = Some found
-
 -- the bracket that stands at a place, with the place
 abbrev pub bracket_at : List ℕ → ℕ → Option (ℕ × ℕ)
 bracket_at line place =
@@ -65,7 +62,7 @@ bracket_at line place =
 -- the bracket at the cursor, else the one right before it
 abbrev pub bracket_near : List ℕ → ℕ → Option (ℕ × ℕ)
 bracket_near line pos =
-    first_of_two (bracket_at line pos) (if pos == 0 then None else bracket_at line (pos - 1))
+    option_or (bracket_at line pos) (if pos == 0 then None else bracket_at line (pos - 1))
 
 -- whether something stands on the side on which the bracket's match would be
 abbrev pub match_has_room : List ℕ → ℕ × ℕ → Bool
@@ -83,15 +80,15 @@ bracket_to_match line pos =
 -- how many brackets stand open after a byte, where this many did before it; only those of one kind
 -- count
 abbrev pub unclosed_behind : ℕ → ℕ → ℕ → ℕ → ℕ
-unclosed_behind same other byte unclosed =
-    if byte == other then unclosed - 1 else if byte == same then unclosed + 1 else unclosed
+unclosed_behind same mate byte unclosed =
+    if byte == mate then unclosed - 1 else if byte == same then unclosed + 1 else unclosed
 
--- how many bytes stand before the bracket `other` with which the bracket `same` before these bytes
+-- how many bytes stand before the bracket `mate` with which the bracket `same` before these bytes
 -- is matched
 abbrev pub bytes_between : ℕ → ℕ → ℕ → List ℕ → Option ℕ
-bytes_between same other unclosed [] = None
-bytes_between same other unclosed (byte ∷ bytes) = if (byte == other) && (unclosed == 0) then Some 0
-    else option_map suc (bytes_between same other (unclosed_behind same other byte unclosed) bytes)
+bytes_between same mate unclosed [] = None
+bytes_between same mate unclosed (byte ∷ bytes) = if (byte == mate) && (unclosed == 0) then Some 0
+    else option_map suc (bytes_between same mate (unclosed_behind same mate byte unclosed) bytes)
 
 -- the place of the match of a bracket at a place: after it for an opening one, before it for a
 -- closing one
@@ -119,3 +116,16 @@ abbrev pub MatchesBefore : List ℕ → ℕ → ℕ → ℕ → Type 0
 MatchesBefore line closing pos place =
     (before : List ℕ) × (between : List ℕ) × (take pos line ≡ before ++ (partner closing ∷ between))
     × Balanced ((partner closing, closing) ∷ []) between × (place ≡ length before)
+
+-- what is answered as the match of an opening bracket matches it, and whatever matches it is
+-- answered; so it is the only one
+abbrev pub OpeningIsMatched : Type 0
+OpeningIsMatched =
+    (line : List ℕ) (pos opening place : ℕ) → is_opening opening ≡ true
+    → (match_place line pos opening ≡ Some place) ↔ MatchesBehind line opening pos place
+
+-- the same of a closing bracket
+abbrev pub ClosingIsMatched : Type 0
+ClosingIsMatched =
+    (line : List ℕ) (pos closing place : ℕ) → is_closing closing ≡ true
+    → (match_place line pos closing ≡ Some place) ↔ MatchesBefore line closing pos place

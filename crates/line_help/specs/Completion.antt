@@ -48,8 +48,6 @@ pub record Updates {L A E : Type 0} (takes refuses : L → Event → L → Type 
       ⊎ refuses listener (replacement start line.place elected line.text) listener')
   pub stays : OnErr result (line' ≡ line)
 
--- ---- the word before a place in a line
-
 -- whether a character is the escape
 abbrev pub is_escape : Option ℕ → ℕ → Bool
 is_escape None c = false
@@ -87,8 +85,6 @@ double_quote_characters = 34 ∷ 36 ∷ 92 ∷ 96 ∷ []
 abbrev pub is_among : List ℕ → ℕ → Bool
 is_among cs c = list_any (λ d. c == d) cs
 
--- ---- the longest beginning that texts have in common
-
 -- the longest beginning of a text, in whole characters, that another text has too
 abbrev pub common_beginning : List ℕ → List ℕ → List ℕ
 common_beginning text other = take (last_cut text (common_prefix_len nat_eq text other)) text
@@ -106,8 +102,6 @@ abbrev pub longest_common_prefix : List (List ℕ) → Option (List ℕ)
 longest_common_prefix [] = None
 longest_common_prefix (text ∷ []) = Some text
 longest_common_prefix (text ∷ (other ∷ others)) = unless_empty (common_to_all text (other ∷ others))
-
--- ---- laws of completion, in words of their own
 
 -- an escaped text, unescaped, is the text again, where the escape itself is escaped
 abbrev pub EscapesComeBack : Type 0
@@ -128,8 +122,6 @@ CommonBeginningIsLongest = (text : List ℕ) (others : List (List ℕ)) → IsUt
     × All (BeginsText (common_to_all text others)) (text ∷ others)
     × ((front : List ℕ) → IsUtf8 front → All (BeginsText front) (text ∷ others)
     → BeginsText front (common_to_all text others))
-
--- ---- by words: those that begin as the last word of a text does, in their order
 
 -- where the last word of a text begins: after its last whitespace
 abbrev pub last_word_start : List ℕ → ℕ

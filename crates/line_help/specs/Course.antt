@@ -1,20 +1,15 @@
 -- A history and its text over a course of steps, under unchanged settings.
-use Rattle.std.specs.Prelude.{◌==◌, ℕ, if◌then◌else◌, List, [], ◌∷◌, ◌++◌, ◌≡◌, Bool, true, false}
-use Rattle.line_help.specs.History.{Settings, Filed, filed_with, all_saved, filed_with_all, nothing_filed}
-use Rattle.line_help.specs.HistoryText.{saved_text, text_to_append, text_rows, load_leaves}
+use Rattle.std.specs.Prelude.{◌==◌, ℕ, if◌then◌else◌, List, [], ◌∷◌, ◌++◌, ◌≡◌, true, ◌≢◌}
+use Rattle.line_help.specs.History.{Settings, Filed, filed_with, all_saved, filed_with_all, nothing_filed, newest}
+use Rattle.line_help.specs.HistoryText.{saved_text, text_to_append, without_return, text_rows, load_leaves, text_to_save}
 use Rattle.std.specs.Str.{is_utf8}
 use Rattle.line_config.specs.declared.device.Last.TheVariants.{End}
-
-abbrev pub ends_in_return : List ℕ → Bool
-ends_in_return [] = false
-ends_in_return (b ∷ []) = b == 13
-ends_in_return (b ∷ (c ∷ bs)) = ends_in_return (c ∷ bs)
 
 -- each entry is UTF-8, as a text is, and none ends in a carriage return
 abbrev pub CanComeBack : List (List ℕ) → Type 0
 CanComeBack [] = Unit {0}
 CanComeBack (entry ∷ entries) =
-    (is_utf8 entry ≡ true) × (ends_in_return entry ≡ false) × CanComeBack entries
+    (is_utf8 entry ≡ true) × (without_return entry ≡ entry) × CanComeBack entries
 
 -- a new history, after a text was loaded into it
 abbrev pub loaded : Settings → List ℕ → Filed
@@ -70,3 +65,30 @@ abbrev pub CanMake : Settings → List HistoryStep → WrittenHistory → Type 0
 CanMake settings [] now = Unit {0}
 CanMake settings (step ∷ steps) now =
     CanStep step now × CanMake settings steps (after_step settings step now)
+
+-- a saved text that isn't empty, loaded into a new history, gives what adding the saved entries
+-- gives, and none is new
+abbrev pub Reload : Type 0
+Reload =
+    (settings : Settings) (filed : Filed) → text_to_save filed ≢ [] → CanComeBack filed.kept.entries
+    → loaded settings (text_to_save filed) ≡ history_made_of settings filed.kept.entries
+
+-- so does a saved text with appended rows after it: it gives what adding the saved entries and then
+-- the new ones gives
+abbrev pub ReloadAppended : Type 0
+ReloadAppended =
+    (settings : Settings) (saved later : Filed) → text_to_save saved ≢ []
+    → text_to_append later ≢ []
+    → CanComeBack saved.kept.entries → CanComeBack (newest later.unsaved later.kept.entries)
+    → loaded settings (text_to_save saved ++ text_to_append later)
+    ≡ history_made_of settings (saved.kept.entries ++ newest later.unsaved later.kept.entries)
+
+-- under unchanged settings, whatever is added, saved, appended and loaded after a first save: where
+-- nothing is new, the text, loaded into a new history, gives the history
+abbrev pub TextKeepsUp : Type 0
+TextKeepsUp =
+    (settings : Settings) (lines : List (List ℕ)) (steps : List HistoryStep)
+    → let start = just_saved settings lines in
+    let now = after_steps settings steps start in
+    CanComeBack start.history.kept.entries → CanMake settings steps start → now.history.unsaved ≡ 0
+    → loaded settings now.text ≡ now.history

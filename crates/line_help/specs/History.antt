@@ -1,11 +1,15 @@
 -- A history: its entries, oldest first, and which lines become entries.
-use Rattle.std.specs.Prelude.{◌≡◌, ℕ, ◌-◌, ◌+◌, ◌==◌, ◌&&◌, ◌||◌, not, min, Bool, true, false, if◌then◌else◌, List, [], ◌∷◌, ◌++◌, length, drop, chars, bytes_eq, Result, IfErr, OnOk, OnErr}
+use Rattle.std.specs.Prelude.{◌≡◌, ℕ, ◌-◌, ◌+◌, ◌==◌, ◌&&◌, ◌||◌, not, min, Bool, true, false, if◌then◌else◌, List, [], ◌∷◌, ◌++◌, length, drop, chars, bytes_eq, Result, IfErr, OnOk, OnErr, String, string_bytes}
 use Rattle.std.specs.Char.{is_whitespace}
 use Rattle.line_config.specs.declared.config.Config.{Config}
 use Rattle.line_config.specs.declared.errors.ReadlineError.{ReadlineError}
 use Rattle.line_config.specs.declared.errors.ReadlineError.TheVariants.{Memory}
 use Rattle.line_config.specs.declared.settings.HistoryDuplicates.{HistoryDuplicates}
 use Rattle.line_config.specs.declared.settings.HistoryDuplicates.TheVariants.{AlwaysAdd, IgnoreConsecutive}
+use Rattle.std.specs.Borrow.{Bor}
+use Rattle.std.specs.declared.alloc.Global.{Global}
+use Rattle.std.specs.VecDeque.Iter.{deque_iter_rest}
+use Rattle.line_help.specs.declared.history_iter.HistoryIter.{HistoryIter}
 
 -- how many entries there are at most, and which lines are left out
 pub record Settings : Type 0 where
@@ -122,3 +126,10 @@ nothing_filed settings = record { kept = nothing_kept settings; unsaved = 0 }
 -- the same history, with nothing to save
 abbrev pub all_saved : Filed → Filed
 all_saved filed = record filed { unsaved = 0 }
+
+-- the entries that are left, oldest first
+abbrev pub entries_left : HistoryIter → List (List ℕ)
+entries_left iter = deque_iter_rest iter.entries
+
+abbrev pub item_text : Bor (String Global) → List ℕ
+item_text item = string_bytes item.now

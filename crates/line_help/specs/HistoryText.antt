@@ -218,12 +218,10 @@ pub record LoadsSome (texts : List (List ℕ) → List (List ℕ)) (last : Last)
     (before after : Filed) : Type 0 where
   pub loaded : List (List ℕ)
   pub later : List (List ℕ)
-  pub lost : List ℕ
   pub split : text_rows last text ≡ loaded ++ later
   pub good : has_bad_row loaded ≡ false
   pub added : after ≡ filed_with_all before (texts loaded)
-  pub left : behind_rows (length loaded) text ≡ lost ++ coming
-  pub row : behind_row lost ≡ []
+  pub left : LosesRow (behind_rows (length loaded) text) coming
 
 -- answer, history and what is left follow from the text, but for want of memory; each refusal says
 -- what of the text was loaded. All this of a source that gave what was said

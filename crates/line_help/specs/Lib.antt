@@ -6,8 +6,6 @@ pub mod History
 pub mod HistoryText
 pub mod Highlights
 pub mod Hints
-pub mod Iterated
-pub mod Laws
 pub mod Quotes
 pub mod Search
 pub mod Validation

@@ -77,8 +77,6 @@ open_behind within place (b ∷ (c ∷ bs)) = if b == 92 && escapes_at within
 abbrev pub unclosed_quote : List ℕ → Option (ℕ × Quote)
 unclosed_quote text = open_behind None 0 text
 
--- ---- a text by its parts: closed quotes, and one that is still open at the end
-
 -- what stands within a quote that such a mark closes: bytes other than the mark, and where a
 -- backslash escapes, backslashes each with the byte after it
 pub data Within (mark : ℕ) (escaping : Bool) : List ℕ → Type 0 where

@@ -71,8 +71,6 @@ abbrev pub entry_at : ℕ → List (List ℕ) → Option Hit
 entry_at idx entries =
     option_map (λ entry. record { entry = entry; idx = idx; pos = 0 }) (slice_get entries idx)
 
--- ---- what a search answers: a hit, and none on the way to it
-
 -- the term stands in the entry at a place
 abbrev pub TermAt : List ℕ → List ℕ → ℕ → Type 0
 TermAt term entry pos =

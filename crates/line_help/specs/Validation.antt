@@ -1,6 +1,6 @@
 -- Validation: whether a text is a whole line.
-use Rattle.std.specs.Prelude.{ℕ, ◌==◌, Bool, true, false, if◌then◌else◌, List, [], ◌∷◌, ◌++◌, Some, None, codes, encode_utf8}
-use Rattle.line_help.specs.Brackets.{is_opening, is_closing, partner}
+use Rattle.std.specs.Prelude.{ℕ, ◌==◌, Bool, true, false, if◌then◌else◌, List, [], ◌∷◌, ◌++◌, Some, None, codes, encode_utf8, ◌≡◌, ◌≢◌, ◌↔◌, ◌⊎◌}
+use Rattle.line_help.specs.Brackets.{is_opening, is_closing, partner, all_kinds, Balanced}
 use Rattle.line_help.specs.declared.validate.ValidationResult.{ValidationResult}
 use Rattle.line_help.specs.declared.validate.ValidationResult.TheVariants.{Incomplete, Invalid, Valid}
 
@@ -51,3 +51,34 @@ verdict_from unclosed (byte ∷ text) = if is_opening byte then verdict_from (by
 
 abbrev pub bracket_verdict : List ℕ → ValidationResult
 bracket_verdict text = verdict_from [] text
+
+-- a text is valid where its brackets are balanced
+abbrev pub ValidIsBalanced : Type 0
+ValidIsBalanced = (text : List ℕ) → (bracket_verdict text ≡ Valid None) ↔ Balanced all_kinds text
+
+-- it is incomplete where they aren't, and something after it would balance them
+abbrev pub IncompleteIsBegun : Type 0
+IncompleteIsBegun =
+    (text : List ℕ) → (bracket_verdict text ≡ Incomplete)
+    ↔ ((¬ Balanced all_kinds text) × ((more : List ℕ) × Balanced all_kinds (text ++ more)))
+
+-- it is invalid, with a message, where nothing after it would balance them
+abbrev pub InvalidIsLost : Type 0
+InvalidIsLost =
+    (text : List ℕ) → ((message : List ℕ) × (bracket_verdict text ≡ Invalid (Some message)))
+    ↔ ((more : List ℕ) → ¬ Balanced all_kinds (text ++ more))
+
+-- what a message names is the first bracket with which nothing can balance the text: it closes, and
+-- before it either all is balanced, so that it is unpaired, or the innermost open bracket is of
+-- another kind, so that this one isn't closed
+abbrev pub NamesWhatFails : List ℕ → ℕ → List ℕ → Type 0
+NamesWhatFails before closing message = (Balanced all_kinds before × (message ≡ unpaired closing))
+    ⊎ ((front : List ℕ) × (opening : ℕ) × (inner : List ℕ) × (more : List ℕ)
+    × (before ≡ front ++ (opening ∷ inner)) × (is_opening opening ≡ true)
+    × Balanced all_kinds inner × (partner opening ≢ closing) × (message ≡ not_closed opening)
+    × Balanced all_kinds (front ++ more))
+
+abbrev pub MessageNames : Type 0
+MessageNames = (text message : List ℕ) → bracket_verdict text ≡ Invalid (Some message)
+    → (before : List ℕ) × (closing : ℕ) × (after : List ℕ) × (text ≡ before ++ (closing ∷ after))
+    × (is_closing closing ≡ true) × NamesWhatFails before closing message

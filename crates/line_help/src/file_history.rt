@@ -40,8 +40,7 @@ impl Model for FileHistory {
 impl FileHistory {
     ghost use Rattle.std.specs.Prelude.{◌≡◌};
     ghost use Rattle.line_config.specs.Config.{default_config};
-    ghost use Rattle.line_help.specs.History.{settings_of, nothing_filed};
-    ghost use Rattle.line_help.specs.Iterated.{entries_left};
+    ghost use Rattle.line_help.specs.History.{settings_of, nothing_filed, entries_left};
 
     /// A history with the default settings.
     pub fn new(alloc: Global) -> Self
@@ -227,7 +226,7 @@ impl<'a> IntoIterator for &'a FileHistory {
     type IntoIter = HistoryIter<'a>;
 
     ghost use Rattle.std.specs.Prelude.{◌≡◌};
-    ghost use Rattle.line_help.specs.Iterated.{entries_left};
+    ghost use Rattle.line_help.specs.History.{entries_left};
 
     ghost into_iter_gives = { λ h it. entries_left it ≡ h.now.kept.entries };
 

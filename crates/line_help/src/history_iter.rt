@@ -12,7 +12,7 @@ pub struct HistoryIter<'a> {
 
 impl<'a> HistoryIter<'a> {
     ghost use Rattle.std.specs.Prelude.{◌≡◌};
-    ghost use Rattle.line_help.specs.Iterated.{entries_left};
+    ghost use Rattle.line_help.specs.History.{entries_left};
     ghost use Rattle.std.specs.VecDeque.Iter.{deque_iter_rest};
 
     pub(crate) fn over(entries: vec_deque::Iter<'a, Entry>) -> Self
@@ -27,7 +27,7 @@ impl<'a> Iterator for HistoryIter<'a> {
 
     ghost use Rattle.std.specs.Prelude.{string_bytes};
     ghost use Rattle.std.specs.Iterator.{YieldsFirstBy, item_count};
-    ghost use Rattle.line_help.specs.Iterated.{entries_left, item_text};
+    ghost use Rattle.line_help.specs.History.{entries_left, item_text};
 
     ghost next_gives = { YieldsFirstBy item_text entries_left };
 

@@ -3,7 +3,9 @@
 ghost use Rattle.line_help.specs.Completion.{EscapesComeBack, CommonBeginningIsLongest};
 ghost use Rattle.line_help.specs.Quotes.{UnclosedQuoteIsOpen};
 ghost use Rattle.line_help.specs.Search.{NearestIsFound};
-ghost use Rattle.line_help.specs.Laws.{Reload, ReloadAppended, TextKeepsUp, OpeningIsMatched, ClosingIsMatched, ValidIsBalanced, IncompleteIsBegun, InvalidIsLost, MessageNames};
+ghost use Rattle.line_help.specs.Course.{Reload, ReloadAppended, TextKeepsUp};
+ghost use Rattle.line_help.specs.Brackets.{OpeningIsMatched, ClosingIsMatched};
+ghost use Rattle.line_help.specs.Validation.{ValidIsBalanced, IncompleteIsBegun, InvalidIsLost, MessageNames};
 
 /// A saved text that isn't empty, loaded into a new history, gives the entries that adding the
 /// saved entries in order gives, none of them new, where none ends in a carriage return.

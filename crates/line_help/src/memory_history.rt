@@ -39,8 +39,7 @@ impl Model for MemHistory {
 impl MemHistory {
     ghost use Rattle.std.specs.Prelude.{◌≡◌, ◌<◌, [], ◌∷◌, ◌++◌, drop, IsTrue, IsFalse};
     ghost use Rattle.line_config.specs.Config.{default_config};
-    ghost use Rattle.line_help.specs.History.{Grows, settings_of, nothing_kept, entries_with, newest, newest_is, ignored};
-    ghost use Rattle.line_help.specs.Iterated.{entries_left};
+    ghost use Rattle.line_help.specs.History.{Grows, settings_of, nothing_kept, entries_with, newest, newest_is, ignored, entries_left};
 
     /// A history with the default settings.
     pub fn new(alloc: Global) -> Self
@@ -286,7 +285,7 @@ impl<'a> IntoIterator for &'a MemHistory {
     type IntoIter = HistoryIter<'a>;
 
     ghost use Rattle.std.specs.Prelude.{◌≡◌};
-    ghost use Rattle.line_help.specs.Iterated.{entries_left};
+    ghost use Rattle.line_help.specs.History.{entries_left};
 
     ghost into_iter_gives = { λ h it. entries_left it ≡ h.now.entries };
 
