@@ -13,7 +13,7 @@ use Rattle.line_buffer.specs.declared.types.Anchor.TheVariants.{After, Before}
 use Rattle.line_buffer.specs.declared.types.WordAction.{WordAction}
 use Rattle.line_buffer.specs.declared.types.WordAction.TheVariants.{Capitalize, Lowercase, Uppercase}
 use Rattle.line_config.specs.Scripts.{Ends}
-use Rattle.line_edits.specs.Edits.{yanking, text_yanked, popping_in_group, updating, updating_in_group, written_over, overwriting, replacing, replacing_if_any, indenting, transposing_chars_in_group, transposing_words_in_group, transpose_words_in_group, editing_word_in_group, undone}
+use Rattle.line_edits.specs.Edits.{yanking, popping_in_group, updating, updating_in_group, overwriting, replacing, replacing_if_any, indenting, transposing_chars_in_group, transposing_words_in_group, editing_word_in_group, undone, by, writing_over}
 use Rattle.line_edits.specs.Steps.{WriteSteps, made, answering}
 use Rattle.line_edits.specs.Written.{Written, group_opened, group_closed}
 use Rattle.line_help.specs.Completion.{Completion}
@@ -77,7 +77,7 @@ not_anchored Before l h = refl
 
 yank_rests : (vi : Bool) (text : List ℕ) (n : ℕ) (v : Value) → is_some (yanked_in text n v.line).answer ≡ false → (yanked_by vi text n v).line ≡ v.line
 yank_rests vi text n v h =
-    let w = rewritten (text_yanked text n) v in
+    let w = rewritten (by (yanking text n)) v in
     ap (λ (x : Value). x.line) (if_none (is_some (yanked_in text n v.line).answer) (at_line (behind_yank vi w.line) w) w h) ∙ no_yank text n v.line (length text == 0) h
 
 yank_leads : (vi : Bool) (text : List ℕ) (anchor : Anchor) (n : ℕ) (s : Setting) (v : Value) → Leads s v (yank_text vi text anchor n s v)
@@ -108,7 +108,7 @@ words_rest n l h k =
 
 words_lead : (n : ℕ) (s : Setting) (v : Value) → Leads s v (transpose_words_effect n s v)
 words_lead n s v =
-    let w = rewritten (transpose_words_in_group n) v in
+    let w = rewritten (by (transposing_words_in_group n)) v in
     refresh_if_leads (transposing_words_in_group n) s v (transposes_words n v.line || not (w.line.place == v.line.place)) (λ e.
     let parts = or_none (transposes_words n v.line) _ e in
     words_rest n v.line parts.0 (eqb-true w.line.place v.line.place (not_none _ parts.1)))
@@ -120,7 +120,7 @@ recase_rests action (Some word) l h = cc
 word_leads : (action : WordAction) (s : Setting) (v : Value) → Leads s v (edit_word_effect action s v)
 word_leads action s v = refresh_if_leads (editing_word_in_group action) s v (is_some (word_to_edit v.line)) (recase_rests action (word_to_edit v.line) v.line)
 
-over_rests : (c : ℕ) (o : Option ℕ) (w : Written) → is_some o ≡ false → (written_over c o w).line ≡ w.line
+over_rests : (c : ℕ) (o : Option ℕ) (w : Written) → is_some o ≡ false → (by (writing_over c o) w).line ≡ w.line
 over_rests c None w h = refl
 over_rests c (Some end) w h = cc
 
@@ -213,7 +213,7 @@ accept_or_insert_leads middle s v =
 completion_leads : (o : Option (List ℕ)) (s : Setting) (v w : Value) → Leads s v (completed_by o s w)
 completion_leads None s v w = redrawn_leads Beeped w (hint_reply s w) s v (asked_anew s w).value (λ y. tt)
 completion_leads (Some text) s v w =
-    let u = rewritten (text_yanked text 1) w in
+    let u = rewritten (by (yanking text 1)) w in
     either s v (is_some (yanked_in text 1 w.line).answer) _ _ (λ e. redraw_leads (yanking text 1) s v w) (λ e. redrawn_leads Beeped u (hint_reply s u) s v (asked_anew s u).value (λ y. tt))
 
 hint_leads : (o : Option Hinted) (s : Setting) (v : Value) → Leads s v (complete_by o s v)

@@ -15,7 +15,7 @@ use Rattle.line_buffer.specs.declared.types.Movement.{Movement}
 use Rattle.line_buffer.specs.declared.types.WordAction.{WordAction}
 use Rattle.line_record.specs.Held.{Held, line_back, undone_line}
 use Rattle.line_record.specs.Held.Held.{Opened, Stepped}
-use Rattle.line_edits.specs.Edits.{written_over}
+use Rattle.line_edits.specs.Edits.{by, writing_over}
 use Rattle.line_edits.specs.Written.{Written}
 
 either_line : (g b : Bool) (l m : Line) → l.growth ≡ g → m.growth ≡ g → (if b then l else m).growth ≡ g
@@ -73,7 +73,7 @@ between_grows n l = refl
 pub words_grow : (n : ℕ) (l : Line) → (transpose_words_line n l).growth ≡ l.growth
 words_grow n l = either_line l.growth (transposes_words n l) _ _ refl (between_grows n l)
 
-pub over_grows : (c : ℕ) (o : Option ℕ) (w : Written) → (written_over c o w).line.growth ≡ w.line.growth
+pub over_grows : (c : ℕ) (o : Option ℕ) (w : Written) → (by (writing_over c o) w).line.growth ≡ w.line.growth
 over_grows c None w = refl
 over_grows c (Some end) w = refl
 

@@ -21,7 +21,7 @@ use Rattle.line_buffer.specs.declared.types.At.TheVariants.{Start}
 use Rattle.line_buffer.specs.declared.types.Movement.{Movement}
 use Rattle.line_buffer.specs.declared.types.Movement.TheVariants.{WholeLine, BeginningOfLine, EndOfLine, BackwardWord, ForwardWord, ViCharSearch, ViFirstPrint, BackwardChar, ForwardChar, LineUp, LineDown, WholeBuffer, BeginningOfBuffer, EndOfBuffer}
 use Rattle.line_buffer.specs.declared.types.Word.TheVariants.{Big}
-use Rattle.line_edits.specs.Edits.{by, typing, char_typed, putting_behind, killing, range_killed}
+use Rattle.line_edits.specs.Edits.{by, typing, putting_behind, killing}
 use Rattle.line_edits.specs.Steps.{answering, WriteSteps}
 use Rattle.line_help.specs.History.{begins_with_space}
 use Rattle.line_keys.specs.Replies.{Reply}
@@ -250,7 +250,7 @@ one_typed c n l false one h = cc
 
 pub insertion_leads : (c n : ℕ) (s : Setting) (v : Value) → Leads s v (insert_char c n s v)
 insertion_leads c n s v =
-    let w = rewritten (char_typed c n) v in
+    let w = rewritten (by (typing c n)) v in
     either s v (is_some (insertion c n v.line).answer) (then_do (rewriting (typing c n)) (inserted_shown c (may_be_typed c n v)) s v) (unchanged s w)
     (λ some. let asked = (asked_anew s w).value in
     edit_leads (answering tt (typing c n v.line)) s v v (inserted_shown c (may_be_typed c n v) s w)
@@ -312,7 +312,7 @@ killed_by edit s v held (Some span) h =
     (taken_by s v asked span.from span.upto (taken_alone v asked) refl h refl refl))
 
 pub kill_leads : (m : Movement) (s : Setting) (v : Value) → Leads s v (kill_effect m s v)
-kill_leads m s v = killed_by (answering tt (killing m v.line)) s v (rewritten (range_killed m) v).held (range_of m v.line) (λ plain. range_low v.line plain m)
+kill_leads m s v = killed_by (answering tt (killing m v.line)) s v (rewritten (by (killing m)) v).held (range_of m v.line) (λ plain. range_low v.line plain m)
 
 text_if_leads : (text : Option (List ℕ)) (s : Setting) (v : Value) → Leads s v (insert_text_if text s v)
 text_if_leads None s v = rest_leads s v v refl

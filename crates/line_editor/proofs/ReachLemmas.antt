@@ -10,7 +10,7 @@ use Rattle.line_buffer.specs.Transpositions.{transpose_chars_events, transpose_c
 use Rattle.line_buffer.specs.declared.types.Movement.{Movement}
 use Rattle.line_buffer.proofs.ReplayedLemmas.{update_replayed, insert_replayed, yank_replayed, indent_replayed}
 use Rattle.line_buffer.proofs.SpanLemmas as spans
-use Rattle.line_edits.specs.Edits.{char_typed, text_yanked, updated, range_killed, chars_transposed, indented}
+use Rattle.line_edits.specs.Edits.{by, typing, yanking, updating, killing, transposing_chars, indenting}
 use Rattle.line_edits.specs.Written.{Written, edited, group_opened, in_group}
 use Rattle.line_record.specs.Change.{Change}
 use Rattle.line_record.specs.Held.{Held, change_of, joined_to, stepped, stepped_on, stepped_if, has_mark, closes, grouped, ended, line_back}
@@ -97,24 +97,24 @@ pub group_reaches : (edit : Written → Written) (w : Written) (first : List ℕ
     → Reaches first w.held w.line.text → Reaches first (in_group edit w).held (in_group edit w).line.text
 group_reaches edit w first h r = ended_reaches first (edit (group_opened w)).held (edit (group_opened w)).line.text (h (refl, r))
 
-pub typing_reaches : (c n : ℕ) (w : Written) (first : List ℕ) → Reaches first w.held w.line.text → Reaches first (char_typed c n w).held (char_typed c n w).line.text
+pub typing_reaches : (c n : ℕ) (w : Written) (first : List ℕ) → Reaches first w.held w.line.text → Reaches first (by (typing c n) w).held (by (typing c n) w).line.text
 typing_reaches c n w first r = edit_reaches (insertion c n w.line).events (insertion c n w.line).line w first (sym (insert_replayed c n w.line)) r
 
-pub yanking_reaches : (text : List ℕ) (n : ℕ) (w : Written) (first : List ℕ) → Reaches first w.held w.line.text → Reaches first (text_yanked text n w).held (text_yanked text n w).line.text
+pub yanking_reaches : (text : List ℕ) (n : ℕ) (w : Written) (first : List ℕ) → Reaches first w.held w.line.text → Reaches first (by (yanking text n) w).held (by (yanking text n) w).line.text
 yanking_reaches text n w first r = edit_reaches (yanked_in text n w.line).events (yanked_in text n w.line).line w first (sym (yank_replayed text n w.line)) r
 
-pub updating_reaches : (text : List ℕ) (place : ℕ) (w : Written) (first : List ℕ) → Reaches first w.held w.line.text → Reaches first (updated text place w).held (updated text place w).line.text
+pub updating_reaches : (text : List ℕ) (place : ℕ) (w : Written) (first : List ℕ) → Reaches first w.held w.line.text → Reaches first (by (updating text place) w).held (by (updating text place) w).line.text
 updating_reaches text place w first r = edit_reaches (update_events text w.line) (update_line text place w.line) w first (sym (update_replayed text w.line)) r
 
 pub indenting_reaches : (movement : Movement) (amount : ℕ) (dedent : Bool) (w : Written) (first : List ℕ) → Reaches first w.held w.line.text
-    → Reaches first (indented movement amount dedent w).held (indented movement amount dedent w).line.text
+    → Reaches first (by (indenting movement amount dedent) w).held (by (indenting movement amount dedent) w).line.text
 indenting_reaches movement amount dedent w first r =
     edit_reaches (indent_events movement amount dedent w.line) (indent_line movement amount dedent w.line) w first (sym (indent_replayed movement amount dedent w.line)) r
 
 pub killing_reaches : (movement : Movement) (w : Written) (first : List ℕ) → IsUtf8 w.line.text → IsCharBoundary w.line.text w.line.place → Reaches first w.held w.line.text
-    → Reaches first (range_killed movement w).held (range_killed movement w).line.text
+    → Reaches first (by (killing movement) w).held (by (killing movement) w).line.text
 killing_reaches movement w first u b r = edit_reaches (kill_events movement w.line) (kill_line movement w.line) w first (sym (spans.kill_replays w.line u b movement)) r
 
 pub transposing_reaches : (w : Written) (first : List ℕ) → IsUtf8 w.line.text → IsCharBoundary w.line.text w.line.place → Reaches first w.held w.line.text
-    → Reaches first (chars_transposed w).held (chars_transposed w).line.text
+    → Reaches first (by transposing_chars w).held (by transposing_chars w).line.text
 transposing_reaches w first u b r = edit_reaches (transpose_chars_events w.line) (transpose_chars_line w.line) w first (sym (spans.transpose_chars_replays w.line u b)) r

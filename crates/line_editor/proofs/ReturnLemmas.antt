@@ -21,7 +21,7 @@ use Rattle.line_buffer.specs.declared.types.WordAction.{WordAction}
 use Rattle.line_buffer.specs.declared.types.WordAction.TheVariants.{Capitalize, Lowercase, Uppercase}
 use Rattle.line_config.specs.Scripts.{Ends}
 use Rattle.line_edits.specs.Steps.{made, answering}
-use Rattle.line_edits.specs.Edits.{chars_replaced, clusters_after, deleted, text_yanked, transpose_chars_in_group, transpose_words_in_group, edit_word_in_group, replacing, replacing_if_any, by, overwritten}
+use Rattle.line_edits.specs.Edits.{clusters_after, replacing, replacing_if_any, by, yanking, deleting, overwriting, transposing_chars_in_group, transposing_words_in_group, editing_word_in_group}
 use Rattle.line_edits.specs.Written.{Written, group_opened, group_closed}
 use Rattle.line_help.specs.Hints.{Hinted}
 use Rattle.line_help.specs.History.{begins_with_space}
@@ -135,7 +135,7 @@ behind_grows false l = refl
 yank_keeps : (vi : Bool) (text : List ℕ) (anchor : Anchor) (n : ℕ) (s : Setting) (v : Value) → Keeps v (yank_text vi text anchor n s v).value
 yank_keeps vi text anchor n s v =
     let before = at_line (anchored anchor v.line) v in
-    let w = rewritten (text_yanked text n) before in
+    let w = rewritten (by (yanking text n)) before in
     let g : w.line.growth ≡ v.line.growth = yank_grows text n before.line ∙ anchored_grows anchor v.line in
     let h : Keeps v (yanked_by vi text n before) = yanked_keeps (is_some (yanked_in text n before.line).answer) v (at_line (behind_yank vi w.line) w) w (kept refl refl (behind_grows vi w.line ∙ g)) (kept refl refl g) in
     either v (is_some (yanked_in text n before.line).answer || steps_over anchor v.line) _ _ (kept h.saved h.history h.growth) h
@@ -202,9 +202,9 @@ record Held (s : Setting) (text : List ℕ) (place : ℕ) (v : Value) : Type 0 w
   line : v.history ≡ length s.entries → (v.line.text ≡ text) × (v.line.place ≡ place)
   grows : v.line.growth ≡ true
 
-exchange_grows : (c n : ℕ) (v : Value) → (chars_replaced c n (written_of v)).line.growth ≡ v.line.growth
+exchange_grows : (c n : ℕ) (v : Value) → (by (replacing c n) (written_of v)).line.growth ≡ v.line.growth
 exchange_grows c n v =
-    let taken : Written = deleted n (group_opened (written_of v)) in
+    let taken : Written = by (deleting n) (group_opened (written_of v)) in
     insert_grows c (clusters_after n v.line) taken.line ∙ deletion_grows (range_of (ForwardChar n) v.line) v.line
 
 any_grows : (b : Bool) (c n : ℕ) (v : Value) → (made (if b then answering true (replacing c n v.line) else Ends false) (written_of v)).line.growth ≡ v.line.growth
@@ -296,7 +296,7 @@ last_held s text at v inside h away =
     either_held s text at (v.history == length s.entries) _ _ (λ e. h) (λ e. back_held s text at v inside (h.saved away) h.grows)
 
 word_keeps : (action : WordAction) (s : Setting) (v : Value) → Keeps v (edit_word_effect action s v).value
-word_keeps action s v = drawn_keeps (is_some (word_to_edit v.line)) s v (rewritten (edit_word_in_group action) v) (kept refl refl (word_grows action v.line))
+word_keeps action s v = drawn_keeps (is_some (word_to_edit v.line)) s v (rewritten (by (editing_word_in_group action)) v) (kept refl refl (word_grows action v.line))
 
 -- ---- any step
 
@@ -319,15 +319,15 @@ command_held m (Kill movement) s text at v quiet inside h away = keeps_held s te
 command_held m (Move movement) s text at v quiet inside h away = keeps_held s text at v (effect m (Move movement) s v).value h away (motion_keeps movement s v)
 command_held m Noop s text at v quiet inside h away = keeps_held s text at v (effect m Noop s v).value h away (same v)
 command_held m Repaint s text at v quiet inside h away = keeps_held s text at v (effect m Repaint s v).value h away (kept refl refl refl)
-command_held m (Overwrite c) s text at v quiet inside h away = keeps_held s text at v (effect m (Overwrite c) s v).value h away (drawn_keeps (is_some (place_forward 1 v.line)) s v (rewritten (overwritten c) v) (kept refl refl (over_grows c (place_forward 1 v.line) (written_of v))))
+command_held m (Overwrite c) s text at v quiet inside h away = keeps_held s text at v (effect m (Overwrite c) s v).value h away (drawn_keeps (is_some (place_forward 1 v.line)) s v (rewritten (by (overwriting c)) v) (kept refl refl (over_grows c (place_forward 1 v.line) (written_of v))))
 command_held m QuotedInsert s text at v quiet inside h away = keeps_held s text at v (effect m QuotedInsert s v).value h away (same v)
 command_held m (ReplaceChar n c) s text at v quiet inside h away = keeps_held s text at v (effect m (ReplaceChar n c) s v).value h away (drawn_keeps (is_some (place_forward n v.line)) s v (rewritten (by (replacing_if_any c n)) v) (kept refl refl (any_grows (is_some (place_forward n v.line)) c n v)))
 command_held m (Replace movement new) s text at v quiet inside h away = keeps_held s text at v (effect m (Replace movement new) s v).value h away (then_keeps v (kill_effect movement s v).value _ (kill_keeps movement s v) (text_keeps new s (kill_effect movement s v).value))
 command_held m ReverseSearchHistory s text at v quiet inside h away = keeps_held s text at v (effect m ReverseSearchHistory s v).value h away (same v)
 command_held m (SelfInsert n c) s text at v quiet inside h away = keeps_held s text at v (effect m (SelfInsert n c) s v).value h away (insertion_keeps c n s v)
 command_held m Suspend s text at v quiet inside h away = keeps_held s text at v (effect m Suspend s v).value h away (same v)
-command_held m TransposeChars s text at v quiet inside h away = keeps_held s text at v (effect m TransposeChars s v).value h away (drawn_keeps (transposes_chars v.line) s v (rewritten transpose_chars_in_group v) (kept refl refl (chars_grow v.line)))
-command_held m (TransposeWords n) s text at v quiet inside h away = keeps_held s text at v (effect m (TransposeWords n) s v).value h away ((let w = rewritten (transpose_words_in_group n) v in drawn_keeps (transposes_words n v.line || not (w.line.place == v.line.place)) s v w (kept refl refl (words_grow n v.line))))
+command_held m TransposeChars s text at v quiet inside h away = keeps_held s text at v (effect m TransposeChars s v).value h away (drawn_keeps (transposes_chars v.line) s v (rewritten (by transposing_chars_in_group) v) (kept refl refl (chars_grow v.line)))
+command_held m (TransposeWords n) s text at v quiet inside h away = keeps_held s text at v (effect m (TransposeWords n) s v).value h away ((let w = rewritten (by (transposing_words_in_group n)) v in drawn_keeps (transposes_words n v.line || not (w.line.place == v.line.place)) s v w (kept refl refl (words_grow n v.line))))
 command_held m (Undo n) s text at v quiet inside h away = keeps_held s text at v (effect m (Undo n) s v).value h away (either v (has_step (max n 1) v.held) _ _ (kept refl refl (back_grows (max n 1) v.held v.line)) (kept refl refl refl))
 command_held m Unknown s text at v quiet inside h away = keeps_held s text at v (effect m Unknown s v).value h away (same v)
 command_held m UpcaseWord s text at v quiet inside h away = keeps_held s text at v (effect m UpcaseWord s v).value h away (word_keeps Uppercase s v)

@@ -25,7 +25,7 @@ use Rattle.line_buffer.proofs.ReplayedLemmas.{replayed_all-one, replayed_inserti
 use Rattle.line_buffer.proofs.SpanLemmas.{IsLater, place_forward-later, deletion_replays}
 use Rattle.line_config.specs.Scripts.{Ends}
 use Rattle.line_edits.specs.Steps.{WriteSteps, made, answering}
-use Rattle.line_edits.specs.Edits.{put_behind, text_yanked, updated, popped, deleted, clusters_after, exchanged_for, written_over, overwritten, chars_transposed, transpose_chars_in_group, words_transposed, transpose_words_in_group, word_edited, edit_word_in_group, replacing, replacing_if_any, by}
+use Rattle.line_edits.specs.Edits.{clusters_after, replacing, replacing_if_any, by, yanking, putting_behind, updating, popping, deleting, exchanging, writing_over, overwriting, transposing_chars, transposing_chars_in_group, transposing_words, transposing_words_in_group, editing_word, editing_word_in_group}
 use Rattle.line_edits.specs.Written.{Written, group_opened, group_closed}
 use Rattle.line_help.specs.Hints.{Hinted}
 use Rattle.line_help.specs.History.{begins_with_space}
@@ -69,17 +69,17 @@ use Rattle.line_editor.proofs.UndoLemmas.{undo_reaches, unmade_reached}
 -- ---- edits of a line with its record
 
 module _ (first : List ℕ) (w : Written) (u : IsUtf8 w.line.text) (b : IsCharBoundary w.line.text w.line.place) (r : Reaches first w.held w.line.text) where
-  deleting_reaches : (n : ℕ) → Reaches first (deleted n w).held (deleted n w).line.text
+  deleting_reaches : (n : ℕ) → Reaches first (by (deleting n) w).held (by (deleting n) w).line.text
   deleting_reaches n =
       edit_reaches (deletion_events (range_of (ForwardChar n) w.line) w.line) (deletion_line (range_of (ForwardChar n) w.line) w.line) w first (sym (deletion_replays w.line u b (ForwardChar n))) r
 
-  writing_reaches : (c : ℕ) (o : Option ℕ) → IfSome o (IsLater w.line) → Reaches first (written_over c o w).held (written_over c o w).line.text
+  writing_reaches : (c : ℕ) (o : Option ℕ) → IfSome o (IsLater w.line) → Reaches first (by (writing_over c o) w).held (by (writing_over c o) w).line.text
   writing_reaches c None h = r
   writing_reaches c (Some end) h =
       edit_reaches (replacement w.line.place end (encode_utf8 c) w.line.text ∷ []) (replaced w.line.place end (encode_utf8 c) w.line) w first
       (sym (replayed_all-one _ w.line.text ∙ replayed_replacement w.line.text w.line.place end (encode_utf8 c) h.1 h.0.0)) r
 
-  overwriting_reaches : (c : ℕ) → Reaches first (overwritten c w).held (overwritten c w).line.text
+  overwriting_reaches : (c : ℕ) → Reaches first (by (overwriting c) w).held (by (overwriting c) w).line.text
   overwriting_reaches c = writing_reaches c (place_forward 1 w.line) (place_forward-later w.line u b 1)
 
   replacing_reaches : (start : ℕ) (text : List ℕ) → start ≤ w.line.place → Reaches first (word_put start text w).held (word_put start text w).line.text
@@ -87,16 +87,16 @@ module _ (first : List ℕ) (w : Written) (u : IsUtf8 w.line.text) (b : IsCharBo
       edit_reaches (replacement start w.line.place text w.line.text ∷ []) (replaced start w.line.place text w.line) w first
       (sym (replayed_all-one _ w.line.text ∙ replayed_replacement w.line.text start w.line.place text below b.0)) r
 
-  popping_reaches : (size : ℕ) (text : List ℕ) → Reaches first (popped size text w).held (popped size text w).line.text
+  popping_reaches : (size : ℕ) (text : List ℕ) → Reaches first (by (popping size text) w).held (by (popping size text) w).line.text
   popping_reaches size text = edit_reaches (popped_in size text w.line).events (popped_in size text w.line).line w first (sym (yank_pop_replayed size text w.line b.0)) r
 
-  words_reach : (n : ℕ) → Reaches first (words_transposed n w).held (words_transposed n w).line.text
+  words_reach : (n : ℕ) → Reaches first (by (transposing_words n) w).held (by (transposing_words n) w).line.text
   words_reach n = edit_reaches (transpose_words_events n w.line) (transpose_words_line n w.line) w first (sym (transpose_words_replays n w.line u b)) r
 
-  word_reaches : (action : WordAction) → Reaches first (word_edited action w).held (word_edited action w).line.text
+  word_reaches : (action : WordAction) → Reaches first (by (editing_word action) w).held (by (editing_word action) w).line.text
   word_reaches action = edit_reaches (edit_word_events action w.line) (edit_word_line action w.line) w first (sym (edit_word_replays action w.line u b)) r
 
-putting_reaches : (text : List ℕ) (w : Written) (first : List ℕ) → Reaches first w.held w.line.text → Reaches first (put_behind text w).held (put_behind text w).line.text
+putting_reaches : (text : List ℕ) (w : Written) (first : List ℕ) → Reaches first w.held w.line.text → Reaches first (by (putting_behind text) w).held (by (putting_behind text) w).line.text
 putting_reaches text w first r =
     edit_reaches (told_insertion w.line.place text ∷ []) (put_in w.line.place text w.line) w first (sym (replayed_all-one _ w.line.text ∙ replayed_insertion w.line.text w.line.place text)) r
 
@@ -172,7 +172,7 @@ anchored_text Before l = refl
 yank_reached : (vi : Bool) (text : List ℕ) (anchor : Anchor) (n : ℕ) (s : Setting) (v : Value) (first : List ℕ) → Reached first v → Reached first (yank_text vi text anchor n s v).value
 yank_reached vi text anchor n s v first r =
     let before = at_line (anchored anchor v.line) v in
-    let w = rewritten (text_yanked text n) before in
+    let w = rewritten (by (yanking text n)) before in
     let k : Reached first w = yanking_reaches text n (written_of before) first (subst (Reaches first v.held) (sym (anchored_text anchor v.line)) r) in
     let h : Reached first (yanked_by vi text n before) =
     yanked_reached first (is_some (yanked_in text n before.line).answer) (at_line (behind_yank vi w.line) w) w (subst (Reaches first w.held) (sym (behind_text vi w.line)) k) k in
@@ -186,7 +186,7 @@ pop_reached : (o : Option (ℕ × List ℕ)) (s : Setting) (v : Value) (first : 
 pop_reached None s v first ok r = r
 pop_reached (Some lent) s v first ok r =
     either first (can_take_before lent.0 v.line) _ _
-    (group_reaches (popped lent.0 lent.1) (written_of v) first (λ k. popping_reaches first (group_opened (written_of v)) ok.utf8 ok.boundary k lent.0 lent.1) r) r
+    (group_reaches (by (popping lent.0 lent.1)) (written_of v) first (λ k. popping_reaches first (group_opened (written_of v)) ok.utf8 ok.boundary k lent.0 lent.1) r) r
 
 drawn_reached : (b : Bool) (s : Setting) (v : Value) (first : List ℕ) → Reached first v → Reached first (refreshed_if b s v).value
 drawn_reached b s v first r = either first b _ _ r r
@@ -253,20 +253,20 @@ char_reached c n s v first ok r =
     let count = clusters_after n v.line in
     let some = is_some (place_forward n v.line) in
     drawn_reached some s (rewritten (by (replacing_if_any c n)) v) first (made_reached first some (answering true (replacing c n v.line)) (Ends false) w
-    (group_reaches (exchanged_for c n count) w first (λ k. typing_reaches c count (deleted n (group_opened w)) first (deleting_reaches first (group_opened w) ok.utf8 ok.boundary k n)) r) r)
+    (group_reaches (by (exchanging c n count)) w first (λ k. typing_reaches c count (by (deleting n) (group_opened w)) first (deleting_reaches first (group_opened w) ok.utf8 ok.boundary k n)) r) r)
 
 over_reached : (c : ℕ) (s : Setting) (v : Value) (first : List ℕ) → Sound v → Reached first v → Reached first (overwrite_char c s v).value
-over_reached c s v first ok r = drawn_reached (is_some (place_forward 1 v.line)) s (rewritten (overwritten c) v) first (overwriting_reaches first (written_of v) ok.utf8 ok.boundary r c)
+over_reached c s v first ok r = drawn_reached (is_some (place_forward 1 v.line)) s (rewritten (by (overwriting c)) v) first (overwriting_reaches first (written_of v) ok.utf8 ok.boundary r c)
 
 word_reached : (action : WordAction) (s : Setting) (v : Value) (first : List ℕ) → Sound v → Reached first v → Reached first (edit_word_effect action s v).value
 word_reached action s v first ok r =
-    drawn_reached (is_some (word_to_edit v.line)) s (rewritten (edit_word_in_group action) v) first
-    (group_reaches (word_edited action) (written_of v) first (λ k. word_reaches first (group_opened (written_of v)) ok.utf8 ok.boundary k action) r)
+    drawn_reached (is_some (word_to_edit v.line)) s (rewritten (by (editing_word_in_group action)) v) first
+    (group_reaches (by (editing_word action)) (written_of v) first (λ k. word_reaches first (group_opened (written_of v)) ok.utf8 ok.boundary k action) r)
 
 -- ---- the history's commands
 
 recalled_reached : (entry : List ℕ) (place : ℕ) (v : Value) (first : List ℕ) → Reached first v → Reached first (recalled entry place v)
-recalled_reached entry place v first r = group_reaches (updated entry place) (written_of v) first (λ k. updating_reaches entry place (group_opened (written_of v)) first k) r
+recalled_reached entry place v first r = group_reaches (by (updating entry place)) (written_of v) first (λ k. updating_reaches entry place (group_opened (written_of v)) first k) r
 
 restored_reached : (v : Value) (first : List ℕ) → Reached first v → Reached first (restored v)
 restored_reached v first r = updating_reaches v.saved.text v.saved.place (written_of v) first r
@@ -317,12 +317,12 @@ command_reached m (Replace movement text) s v first ok r = text_reached text s (
 command_reached m (ReplaceChar n c) s v first ok r = char_reached c n s v first ok r
 command_reached m (Overwrite c) s v first ok r = over_reached c s v first ok r
 command_reached m (SelfInsert n c) s v first ok r = insertion_reached c n s v first r
-command_reached m TransposeChars s v first ok r = drawn_reached (transposes_chars v.line) s (rewritten transpose_chars_in_group v) first
-    (group_reaches chars_transposed (written_of v) first (λ k. transposing_reaches (group_opened (written_of v)) first ok.utf8 ok.boundary k) r)
+command_reached m TransposeChars s v first ok r = drawn_reached (transposes_chars v.line) s (rewritten (by transposing_chars_in_group) v) first
+    (group_reaches (by transposing_chars) (written_of v) first (λ k. transposing_reaches (group_opened (written_of v)) first ok.utf8 ok.boundary k) r)
 command_reached m (TransposeWords n) s v first ok r =
-    let w = rewritten (transpose_words_in_group n) v in
+    let w = rewritten (by (transposing_words_in_group n)) v in
     drawn_reached (transposes_words n v.line || not (w.line.place == v.line.place)) s w first
-    (group_reaches (words_transposed n) (written_of v) first (λ k. words_reach first (group_opened (written_of v)) ok.utf8 ok.boundary k n) r)
+    (group_reaches (by (transposing_words n)) (written_of v) first (λ k. words_reach first (group_opened (written_of v)) ok.utf8 ok.boundary k n) r)
 command_reached m (Undo n) s v first ok r = unmade_reached n s v first r
 command_reached m PreviousHistory s v first ok r = history_reached true s v first r
 command_reached m NextHistory s v first ok r = history_reached false s v first r

@@ -2,7 +2,7 @@
 use Rattle.std.specs.Prelude.{ℕ, ◌==◌, ◌&&◌, not, Bool, if◌then◌else◌, List, length, is_some}
 use Rattle.line_buffer.specs.Clusters.{place_forward}
 use Rattle.line_buffer.specs.Insertions.{insert as insertion}
-use Rattle.line_edits.specs.Edits.{typing, char_typed, putting_behind, replacing_if_any, overwriting}
+use Rattle.line_edits.specs.Edits.{typing, putting_behind, replacing_if_any, overwriting, by}
 use Rattle.line_buffer.specs.Printable.{typed_at_plain_end, is_plain}
 use Rattle.line_editor.specs.Drawing.{drawn, asked_anew, refreshed, refreshed_if}
 use Rattle.line_editor.specs.Redraws.Redraw.{Typed}
@@ -33,7 +33,7 @@ abbrev pub insert_char : ℕ → ℕ → Transition
 insert_char c n s v =
     if is_some (insertion c n v.line).answer
     then then_do (rewriting (typing c n)) (inserted_shown c (may_be_typed c n v)) s v
-    else unchanged s (rewritten (char_typed c n) v)
+    else unchanged s (rewritten (by (typing c n)) v)
 
 -- a text at the cursor, which stays before it
 abbrev pub insert_text : List ℕ → Transition

@@ -5,7 +5,7 @@ use Rattle.line_buffer.specs.Range.{range_of, copied_range, span_text, kill_even
 use Rattle.line_buffer.specs.declared.types.Mode.TheVariants.{Append}
 use Rattle.line_buffer.specs.declared.types.Movement.{Movement}
 use Rattle.line_record.specs.Ring.{Ring, ring_all, killed}
-use Rattle.line_edits.specs.Edits.{killing, range_killed}
+use Rattle.line_edits.specs.Edits.{killing, by}
 use Rattle.line_buffer.specs.Printable.{is_printable, at_plain_end, is_plain}
 use Rattle.line_editor.specs.Drawing.{drawn, asked_anew}
 use Rattle.line_editor.specs.Inserting.{is_bare, insert_text}
@@ -37,7 +37,7 @@ abbrev pub kill_effect : Movement → Transition
 kill_effect movement s v =
     if is_some (range_of movement v.line)
     then then_do (rewriting (killing movement)) (show_taken v) s v
-    else unchanged s (rewritten (range_killed movement) v)
+    else unchanged s (rewritten (by (killing movement)) v)
 
 abbrev pub insert_text_if : Option (List ℕ) → Transition
 insert_text_if None = unchanged

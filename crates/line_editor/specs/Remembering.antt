@@ -1,6 +1,6 @@
 -- The history: entries in place of the line, and the line that was left for them.
 use Rattle.std.specs.Prelude.{ℕ, ◌+◌, ◌-◌, ◌==◌, Bool, true, false, if◌then◌else◌, List, [], ◌∷◌, take, length, Option, Some, None}
-use Rattle.line_edits.specs.Edits.{updating, updated, updating_in_group, update_in_group}
+use Rattle.line_edits.specs.Edits.{updating, updating_in_group, by}
 use Rattle.line_help.specs.Search.{Hit, entry_at, searched}
 use Rattle.line_help.specs.declared.search.SearchDirection.{SearchDirection}
 use Rattle.line_help.specs.declared.search.SearchDirection.TheVariants.{Forward, Reverse}
@@ -17,7 +17,7 @@ saving s v = record { value = saved_now v; steps = Takes v ∷ [] }
 
 -- put back
 abbrev pub restored : Value → Value
-restored v = rewritten (updated v.saved.text v.saved.place) v
+restored v = rewritten (by (updating v.saved.text v.saved.place)) v
 
 abbrev pub restoring : Transition
 restoring s v = rewriting (updating v.saved.text v.saved.place) s v
@@ -26,7 +26,7 @@ abbrev pub at_place : ℕ → Value → Value
 at_place place v = record v { history = place }
 
 abbrev pub recalled : List ℕ → ℕ → Value → Value
-recalled entry place v = rewritten (update_in_group entry place) v
+recalled entry place v = rewritten (by (updating_in_group entry place)) v
 
 -- where the history's end is left the line is saved
 abbrev pub saved_on_leaving : Setting → Value → Value

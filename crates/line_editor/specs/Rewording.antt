@@ -6,7 +6,7 @@ use Rattle.line_buffer.specs.Transpositions.{transposes_chars, transposes_words}
 use Rattle.line_buffer.specs.declared.types.Movement.{Movement}
 use Rattle.line_buffer.specs.declared.types.WordAction.{WordAction}
 use Rattle.line_record.specs.Held.{has_step}
-use Rattle.line_edits.specs.Edits.{transposing_chars_in_group, transposing_words_in_group, transpose_words_in_group, editing_word_in_group, indenting, undone}
+use Rattle.line_edits.specs.Edits.{transposing_chars_in_group, transposing_words_in_group, editing_word_in_group, indenting, undone, by}
 use Rattle.line_editor.specs.Drawing.{refreshed, refreshed_if}
 use Rattle.line_editor.specs.Values.{Value, Transition, then_do, rewritten, rewriting}
 use Rattle.line_editor.specs.Values.EditStep.{TakesBack}
@@ -18,7 +18,7 @@ transpose_chars_effect s v =
 -- also where only the cursor moved
 abbrev pub transpose_words_effect : ℕ → Transition
 transpose_words_effect n s v =
-    let w = rewritten (transpose_words_in_group n) v in
+    let w = rewritten (by (transposing_words_in_group n)) v in
     then_do (rewriting (transposing_words_in_group n))
     (refreshed_if (transposes_words n v.line || not (w.line.place == v.line.place))) s v
 

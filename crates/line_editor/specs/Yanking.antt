@@ -5,7 +5,7 @@ use Rattle.line_buffer.specs.Insertions.{yank as yanked_in, can_take_before}
 use Rattle.line_buffer.specs.Line.{Line, moved_to}
 use Rattle.line_buffer.specs.declared.types.Anchor.{Anchor}
 use Rattle.line_buffer.specs.declared.types.Anchor.TheVariants.{After, Before}
-use Rattle.line_edits.specs.Edits.{yanking, text_yanked, popping_in_group}
+use Rattle.line_edits.specs.Edits.{yanking, popping_in_group, by}
 use Rattle.line_edits.specs.Steps.{answering}
 use Rattle.line_editor.specs.Drawing.{refreshed}
 use Rattle.line_editor.specs.Values.{Value, Transition, unchanged, then_do, rewritten, rewriting, at_line}
@@ -27,7 +27,7 @@ behind_yank false l = l
 
 abbrev pub yanked_by : Bool → List ℕ → ℕ → Value → Value
 yanked_by vi text n v =
-    let w = rewritten (text_yanked text n) v in
+    let w = rewritten (by (yanking text n)) v in
     if is_some (yanked_in text n v.line).answer then at_line (behind_yank vi w.line) w else w
 
 abbrev pub put_yanked : Bool → List ℕ → ℕ → Transition

@@ -28,42 +28,24 @@ by edit w = made (edit w.line) w
 abbrev pub typing : ℕ → ℕ → Line → WriteSteps (Option Bool)
 typing c n l = telling (insert c n l)
 
-abbrev pub char_typed : ℕ → ℕ → Written → Written
-char_typed c n = by (typing c n)
-
 abbrev pub yanking : List ℕ → ℕ → Line → WriteSteps (Option Bool)
 yanking text n l = telling (yank text n l)
-
-abbrev pub text_yanked : List ℕ → ℕ → Written → Written
-text_yanked text n = by (yanking text n)
 
 -- a text put at the cursor, which stays before it
 abbrev pub putting_behind : List ℕ → Line → WriteSteps ⊤
 putting_behind text l = doing (Tells (insertion l.place text ∷ []) (put_in l.place text l)) tt
 
-abbrev pub put_behind : List ℕ → Written → Written
-put_behind text = by (putting_behind text)
-
 -- the whole text exchanged
 abbrev pub updating : List ℕ → ℕ → Line → WriteSteps ⊤
 updating text place l = telling (update text place l)
 
-abbrev pub updated : List ℕ → ℕ → Written → Written
-updated text place = by (updating text place)
-
 abbrev pub updating_in_group : List ℕ → ℕ → Line → WriteSteps ⊤
 updating_in_group text place l = grouping (updating text place l)
-
-abbrev pub update_in_group : List ℕ → ℕ → Written → Written
-update_in_group text place = by (updating_in_group text place)
 
 -- ---- a yanked text exchanged
 
 abbrev pub popping : ℕ → List ℕ → Line → WriteSteps ⊤
 popping size text l = answering tt (telling (yank_pop size text l))
-
-abbrev pub popped : ℕ → List ℕ → Written → Written
-popped size text = by (popping size text)
 
 abbrev pub popping_in_group : ℕ → List ℕ → Line → WriteSteps ⊤
 popping_in_group size text l = grouping (popping size text l)
@@ -72,9 +54,6 @@ popping_in_group size text l = grouping (popping size text l)
 
 abbrev pub killing : Movement → Line → WriteSteps Bool
 killing movement l = telling (kill movement l)
-
-abbrev pub range_killed : Movement → Written → Written
-range_killed movement = by (killing movement)
 
 -- the ring where a kill's text finds no memory: no kill is open in it
 abbrev pub unkilled : Movement → Ring → Ring
@@ -91,9 +70,6 @@ TookOrNot movement l old new =
 abbrev pub deleting : ℕ → Line → WriteSteps ⊤
 deleting n l = answering tt (telling (delete n l))
 
-abbrev pub deleted : ℕ → Written → Written
-deleted n = by (deleting n)
-
 -- how many of n clusters stand after the cursor
 abbrev pub clusters_after : ℕ → Line → ℕ
 clusters_after n l = length (take n (graphemes true (text_after l)))
@@ -108,14 +84,8 @@ exchanging c n count l =
     in_turn (deleting n l)
     (in_turn (typing c count bare) (stepping_back (insert c count bare).line))
 
-abbrev pub exchanged_for : ℕ → ℕ → ℕ → Written → Written
-exchanged_for c n count = by (exchanging c n count)
-
 abbrev pub replacing : ℕ → ℕ → Line → WriteSteps ⊤
 replacing c n l = grouping (exchanging c n (clusters_after n l) l)
-
-abbrev pub chars_replaced : ℕ → ℕ → Written → Written
-chars_replaced c n = by (replacing c n)
 
 -- nothing is done where none stands there
 abbrev pub replacing_if_any : ℕ → ℕ → Line → WriteSteps Bool
@@ -128,68 +98,38 @@ putting_over c end l =
     doing (Tells (replacement l.place end (encode_utf8 c) l.text ∷ [])
     (replaced l.place end (encode_utf8 c) l)) tt
 
-abbrev pub put_over : ℕ → ℕ → Written → Written
-put_over c end = by (putting_over c end)
-
 -- the cluster at the cursor written over, if there is one
 abbrev pub writing_over : ℕ → Option ℕ → Line → WriteSteps Bool
 writing_over c None l = Ends false
 writing_over c (Some end) l = answering true (putting_over c end l)
 
-abbrev pub written_over : ℕ → Option ℕ → Written → Written
-written_over c end = by (writing_over c end)
-
 abbrev pub overwriting : ℕ → Line → WriteSteps Bool
 overwriting c l = writing_over c (place_forward 1 l) l
-
-abbrev pub overwritten : ℕ → Written → Written
-overwritten c = by (overwriting c)
 
 -- ---- clusters and words
 
 abbrev pub transposing_chars : Line → WriteSteps Bool
 transposing_chars l = telling (transpose_chars l)
 
-abbrev pub chars_transposed : Written → Written
-chars_transposed = by transposing_chars
-
 abbrev pub transposing_chars_in_group : Line → WriteSteps Bool
 transposing_chars_in_group l = grouping (transposing_chars l)
-
-abbrev pub transpose_chars_in_group : Written → Written
-transpose_chars_in_group = by transposing_chars_in_group
 
 -- the cursor goes behind the earlier word before anything is exchanged
 abbrev pub transposing_words : ℕ → Line → WriteSteps Bool
 transposing_words n l =
     Asks (Leaves (before_transposed n l)) (λ none. telling (transpose_words n l))
 
-abbrev pub words_transposed : ℕ → Written → Written
-words_transposed n = by (transposing_words n)
-
 abbrev pub transposing_words_in_group : ℕ → Line → WriteSteps Bool
 transposing_words_in_group n l = grouping (transposing_words n l)
-
-abbrev pub transpose_words_in_group : ℕ → Written → Written
-transpose_words_in_group n = by (transposing_words_in_group n)
 
 abbrev pub editing_word : WordAction → Line → WriteSteps Bool
 editing_word action l = telling (edit_word action l)
 
-abbrev pub word_edited : WordAction → Written → Written
-word_edited action = by (editing_word action)
-
 abbrev pub editing_word_in_group : WordAction → Line → WriteSteps Bool
 editing_word_in_group action l = grouping (editing_word action l)
 
-abbrev pub edit_word_in_group : WordAction → Written → Written
-edit_word_in_group action = by (editing_word_in_group action)
-
 abbrev pub indenting : Movement → ℕ → Bool → Line → WriteSteps ⊤
 indenting movement amount dedent l = answering tt (telling (indent movement amount dedent l))
-
-abbrev pub indented : Movement → ℕ → Bool → Written → Written
-indented movement amount dedent = by (indenting movement amount dedent)
 
 -- ---- what is taken back
 
