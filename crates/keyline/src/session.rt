@@ -8,12 +8,11 @@ ghost use Rattle.line_keys.specs.Coming.{made_of};
 ghost use Rattle.line_editor.specs.Running.{helping_by};
 ghost use Rattle.line_screen.specs.Calls.{screen_of, sink_of};
 ghost use Rattle.line_screen.specs.Reader.{kept_of, source_of};
-ghost use Rattle.keyline.specs.Desks.{TakesLine, session_state_of};
+ghost use Rattle.keyline.specs.Desks.{TakesLine};
 ghost use Rattle.keyline.specs.Endings.{ending_of};
 ghost use Rattle.keyline.specs.Known.{known_by};
 ghost use Rattle.keyline.specs.Playing.{Saves, ending_after};
-ghost use Rattle.keyline.specs.Plays.{BeginsSession, LoadRefused, Loaded, Opens, PlaysSession, Remains, Unopens};
-ghost use Rattle.keyline.specs.Shows.{Displays};
+ghost use Rattle.keyline.specs.Plays.{BeginsSession, LoadRefused, Loaded, Opens, Remains, RunsSession, Unopens};
 ghost use Rattle.keyline.specs.Sessions.{given_of};
 
 use crate::boxed::Devices;
@@ -391,18 +390,12 @@ where
     /// once, after every ending.
     #[inline(never)]
     pub fn run(self) -> Ended<S, D, L, T>
-        ensures plays { let custom = custom_of self.bindings B.decides in
+        ensures { let custom = custom_of self.bindings B.decides in
             let helps = helping_by H.hint_of H.verdict_of H.completion_of H.update_of H.marks in
             let given = given_of self.config custom (string_bytes self.prompt)
             (screen_of self.desk.out) (helps self.desk.helper) in
             let known = known_by S.feed D.held D.waits D.has_failed L.held L.has_failed in
-            PlaysSession known T.held T.has_failed given self.desk self.text result }
-        ensures shows { let custom = custom_of self.bindings B.decides in
-            let helps = helping_by H.hint_of H.verdict_of H.completion_of H.update_of H.marks in
-            let given = given_of self.config custom (string_bytes self.prompt)
-            (screen_of self.desk.out) (helps self.desk.helper) in
-            let known = known_by S.feed D.held D.waits D.has_failed L.held L.has_failed in
-            Displays given (session_state_of known self.desk) }
+            RunsSession known T.held T.has_failed given self.desk self.text result }
     {
         let mut session = self;
         let empty = String::new(session.alloc);
