@@ -1,6 +1,6 @@
 //! Where the drawing of the line up to a place ends, from a place where it is known.
 ghost use Rattle.std.specs.Prelude.{◌≡◌, take, IsCharBoundary};
-ghost use Rattle.line_editor.specs.Known.{IsKnown, known_within};
+ghost use Rattle.line_editor.specs.Known.{IsKnownOn, known_within};
 
 use crate::renderer::Renderer;
 use crate::state::State;
@@ -39,8 +39,8 @@ impl<'p, 'h, Out: Renderer, H: Helper + Drop, Hi: History> State<'p, 'h, Out, H,
     /// What is known, taken back to before the characters that a movement back goes over, where
     /// each is a byte.
     pub(crate) fn known_before(&self, movement: &Movement) -> Option<(usize, Position)>
-        ensures { IsKnown (Out.canvas.ruler self.now.out).measure self.now.layout.prompt_size
-            self.now.line.text result }
+        ensures { IsKnownOn (Out.canvas.ruler self.now.out) self.now.layout self.now.line.text
+            result }
     {
         let Movement::BackwardChar(n) = movement else {
             return self.known;

@@ -2,7 +2,8 @@
 ghost use Rattle.std.specs.Prelude.{◌≡◌};
 ghost use Rattle.line_record.specs.Items.{ItemsStand, ItemsStand-prop};
 ghost use Rattle.line_buffer.specs.Printable.{is_plain};
-ghost use Rattle.line_editor.specs.Known.{IsKnown, IsKnown-prop};
+ghost use Rattle.line_editor.specs.Known.{IsKnown-prop, IsKnownOn};
+ghost use Rattle.line_record.specs.Items.{ItemsStand};
 
 use crate::renderer::Renderer;
 use crate::saved::SavedLine;
@@ -38,5 +39,5 @@ pub struct State<'p, 'h, Out: Renderer, H: Helper + Drop, Hi: History> {
     pub(crate) alloc: Global,
     ghost stand: { ItemsStand changes line.text } by { ItemsStand-prop changes line.text },
     ghost is_plain: { plain ≡ is_plain line.text },
-    ghost is_known: { IsKnown (Out.canvas.ruler out).measure layout.prompt_size line.text known } by { IsKnown-prop (Out.canvas.ruler out).measure layout.prompt_size line.text known },
+    ghost is_known: { IsKnownOn (Out.canvas.ruler out) layout line.text known } by { IsKnown-prop },
 }
