@@ -3,7 +3,6 @@ ghost use Rattle.std.specs.Prelude.{◌≡◌};
 ghost use Rattle.line_record.specs.Items.{ItemsStand, ItemsStand-prop};
 ghost use Rattle.line_buffer.specs.Printable.{is_plain};
 ghost use Rattle.line_editor.specs.Known.{IsKnown-prop, IsKnownOn};
-ghost use Rattle.line_record.specs.Items.{ItemsStand};
 
 use crate::renderer::Renderer;
 use crate::saved::SavedLine;
