@@ -18,7 +18,7 @@ use Rattle.line_editor.specs.States.{reason_of}
 use Rattle.line_editor.specs.Steps.{surface}
 use Rattle.line_editor.specs.Turning.{cause_of}
 use Rattle.line_editor.specs.Values.{Setting}
-use Rattle.line_editor.specs.declared.ran.Ran.{Ran}
+use Rattle.line_editor.specs.declared.running.Ran.{Ran}
 use Rattle.line_screen.specs.Calls.{canvas_of, screen_of, sink_of, ruler_of}
 use Rattle.line_screen.specs.Reader.{items_of}
 use Rattle.line_screen.specs.declared.reading.reader.KeyReader.{KeyReader}

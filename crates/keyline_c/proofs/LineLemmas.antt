@@ -10,7 +10,7 @@ use Rattle.line_config.specs.declared.memory.VecSink.{VecSink}
 use Rattle.line_editor.specs.Running.{Helping, Runs, outcome_of, line_calls}
 use Rattle.line_editor.specs.States.{reason_of}
 use Rattle.line_editor.proofs.ToldLemmas.{WholeLine, line_went}
-use Rattle.line_editor.specs.declared.ran.Ran.{Ran}
+use Rattle.line_editor.specs.declared.running.Ran.{Ran}
 use Rattle.line_help.specs.History.{Filed}
 use Rattle.line_keys.specs.Answers.{Custom}
 use Rattle.line_keys.specs.Coming.{Coming, made_of}

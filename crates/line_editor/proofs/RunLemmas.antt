@@ -26,7 +26,7 @@ use Rattle.line_editor.specs.States.{hooks_of, value_of, setting_of, Stays, Star
 use Rattle.line_editor.specs.Steps.{surface}
 use Rattle.line_editor.specs.Turning.{cause_of, Cause, Takes, stage_of, world_of}
 use Rattle.line_editor.specs.Values.{Setting, Hooks, IsFailing, empty_at, first_value}
-use Rattle.line_editor.specs.declared.ran.Ran.{Ran}
+use Rattle.line_editor.specs.declared.running.Ran.{Ran}
 use Rattle.line_editor.specs.declared.renderer as renderers
 use Rattle.line_editor.specs.declared.state.State.{State}
 use Rattle.line_editor.proofs.StopsLemmas.{stops_taking}

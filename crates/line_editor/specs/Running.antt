@@ -25,7 +25,7 @@ use Rattle.line_editor.specs.Redraws.{fresh}
 use Rattle.line_editor.specs.Steps.{asked, surface}
 use Rattle.line_editor.specs.Turning.{cause_of}
 use Rattle.line_editor.specs.Values.{Value, Setting, Hooks, first_value, hooks_by, IsFailing}
-use Rattle.line_editor.specs.declared.ran.Ran.{Ran}
+use Rattle.line_editor.specs.declared.running.Ran.{Ran}
 
 -- what a helper's hooks give, if there is one
 pub record Helping : Type 0 where

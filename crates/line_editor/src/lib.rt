@@ -12,13 +12,13 @@ mod killing;
 pub mod laws;
 mod measured;
 mod moving;
-pub mod ran;
+mod next_command;
 mod reading;
 mod refreshing;
 mod remembering;
 pub mod renderer;
 mod rewording;
-mod running;
+pub mod running;
 pub mod saved;
 mod starting;
 pub mod state;
@@ -48,6 +48,6 @@ pub use line_keys::{
     EventMap, InputMode, InputState, Invoke, KeyCode, KeyEvent, Keys, Modifiers, RawReader,
     Refresher, Text,
 };
-pub use ran::{Ran, run};
 pub use renderer::{RefreshKind, Renderer};
+pub use running::{Ran, run};
 pub use state::State;

@@ -1,36 +1,94 @@
-//! A line: turns until one ends it.
-ghost use Rattle.std.specs.Prelude.{◌≡◌};
-ghost use Rattle.line_keys.specs.InputStates.{input_of, custom_in};
+//! A whole line.
+ghost use Rattle.std.specs.Prelude.{◌≡◌, Err};
+ghost use Rattle.line_config.specs.declared.errors.ReadlineError.TheVariants.{Memory};
+ghost use Rattle.line_keys.specs.Answers.{custom_of};
+ghost use Rattle.line_editor.specs.Running.{Runs, helping_by, outcome_of, text_or};
 
-use crate::commands::{Status, execute};
 use crate::renderer::Renderer;
+use crate::starting::empty_line;
 use crate::state::State;
-use crate::turning::reset_for;
 use line_config::{Config, ReadlineError};
-use line_help::{Helper, History};
-use line_keys::{Decides, InputState, RawReader};
-use line_record::KillRing;
+use line_help::{Context, Helper, History};
+use line_keys::{Decides, EventMap, InputState, RawReader};
+use line_record::{Changeset, KillRing};
+use std::alloc::Global;
+
+/// What is left of a line: the renderer and the helper that were handed in, and the line's text or
+/// why there is none.
+#[derive(Drop)]
+pub struct Ran<Out: Renderer, H: Helper + Drop> {
+    pub out: Out,
+    pub helper: Option<H>,
+    pub outcome: Result<String, ReadlineError>,
+}
+
+impl<Out: Renderer, H: Helper + Drop> Ran<Out, H> {
+    /// There was no memory for a line.
+    fn unread(out: Out, helper: Option<H>) -> Self
+        ensures { result ≡ record { out = out; helper = helper; outcome = Err Memory } }
+    {
+        Ran {
+            out,
+            helper,
+            outcome: Err(ReadlineError::Memory),
+        }
+    }
+}
 
 impl<'p, 'h, Out: Renderer, H: Helper + Drop, Hi: History> State<'p, 'h, Out, H, Hi> {
-    ghost use Rattle.line_editor.specs.LineScripts.{turn_script};
-    ghost use Rattle.line_editor.specs.Turning.{Takes};
-
-    /// One turn: the next command, and what it does.
-    pub(crate) fn turn<R: RawReader, D: Decides>(
-        &mut self,
-        input_state: &mut InputState<'_, D>,
-        rdr: &mut R,
-        kill_ring: &mut KillRing,
-        config: &Config,
-    ) -> Result<Status, ReadlineError>
-        ensures turn { let custom = custom_in input_state.old D.decides in
-            Takes turn_script custom config.now.indent_size
-            self.old (input_of input_state.old) kill_ring.old (R.feed rdr.old)
-            self.new (input_of input_state.new) kill_ring.new (R.feed rdr.new) result }
-        ensures bindings { input_state.new.custom_bindings ≡ input_state.old.custom_bindings }
+    /// What is left where the line was read so.
+    fn ran(self, read: Result<(), ReadlineError>) -> Ran<Out, H>
+        ensures out { result.out ≡ self.entry.out }
+        ensures helper { result.helper ≡ self.entry.helper }
+        ensures outcome { outcome_of result ≡ text_or read self.entry.line.text }
     {
-        let cmd = self.next_cmd(input_state, rdr, false, false)?;
-        reset_for(kill_ring, &cmd);
-        execute(cmd, self, input_state, kill_ring, config)
+        let State {
+            out,
+            helper,
+            line,
+            ..
+        } = self;
+        let outcome = read.map(|()| line.into_string());
+        Ran {
+            out,
+            helper,
+            outcome,
+        }
     }
+}
+
+/// Reads a line: its keys come from `reader`, and it is drawn on `out`, from the cursor's row on.
+///
+/// The renderer and the helper are given back on every way out, and the reader and the kill ring go
+/// on to the next line.
+pub fn run<R: RawReader, Out: Renderer, H: Helper + Drop, Hi: History, D: Decides>(
+    alloc: Global,
+    reader: &mut R,
+    out: Out,
+    prompt: &str,
+    helper: Option<H>,
+    history: &Hi,
+    config: &Config,
+    bindings: &EventMap<D>,
+    kill_ring: &mut KillRing,
+) -> Ran<Out, H>
+    ensures { let helps = helping_by
+        H.hint_of H.verdict_of H.completion_of H.update_of H.marks in
+        Runs Out.canvas helps (custom_of bindings.now D.decides) prompt.now helper
+        (Hi.entries history.now) config.now out kill_ring.old (R.feed reader.old)
+        result kill_ring.new (R.feed reader.new) }
+{
+    let Ok(line) = empty_line(alloc) else {
+        return Ran::unread(out, helper);
+    };
+    let Ok(changes) = Changeset::new(alloc) else {
+        return Ran::unread(out, helper);
+    };
+    let Ok(mut input_state) = InputState::new(alloc, config, bindings) else {
+        return Ran::unread(out, helper);
+    };
+    let ctx = Context::new(history);
+    let mut state = State::of_parts(alloc, line, changes, out, prompt, helper, ctx);
+    let read = state.read_line(&mut input_state, reader, kill_ring, config);
+    state.ran(read)
 }

@@ -1,59 +1,36 @@
-//! The next command of a line.
-ghost use Rattle.std.specs.Prelude.{◌≡◌, ◌<◌, OnOk};
-ghost use Rattle.line_keys.specs.Follows.{Follows};
+//! A turn of a line.
+ghost use Rattle.std.specs.Prelude.{◌≡◌};
 ghost use Rattle.line_keys.specs.InputStates.{input_of, custom_in};
-ghost use Rattle.line_editor.specs.Lines.{line_phrase, begins_group, reset_by};
 
+use crate::commands::{Status, execute};
+use crate::next_command::reset_for;
 use crate::renderer::Renderer;
 use crate::state::State;
-use line_config::ReadlineError;
+use line_config::{Config, ReadlineError};
 use line_help::{Helper, History};
-use line_keys::{Cmd, Decides, InputState, RawReader, Refresher};
+use line_keys::{Decides, InputState, RawReader};
 use line_record::KillRing;
 
-/// Whether a command changes a range for what is typed next, all of which is undone as one.
-fn begins_group(cmd: &Cmd) -> bool
-    ensures { result ≡ begins_group cmd.now }
-{
-    matches!(cmd, Cmd::Replace(..))
-}
-
-/// Ends a run of kills before a command that is none of it.
-pub(crate) fn reset_for(ring: &mut KillRing, cmd: &Cmd)
-    ensures { ring.new ≡ reset_by cmd.now ring.old }
-{
-    if cmd.should_reset_kill_ring() {
-        ring.reset();
-    }
-}
-
 impl<'p, 'h, Out: Renderer, H: Helper + Drop, Hi: History> State<'p, 'h, Out, H, Hi> {
-    ghost use Rattle.line_editor.specs.Asks.{shown_in};
-    ghost use Rattle.line_editor.specs.States.{value_of, display_of};
+    ghost use Rattle.line_editor.specs.LineScripts.{turn_script};
+    ghost use Rattle.line_editor.specs.Turning.{Takes};
 
-    /// The next command: the keys and pastes that it is made of are read, and no more. A group is
-    /// begun where it changes a range for what is typed next.
-    pub fn next_cmd<R: RawReader, D: Decides>(
+    /// One turn: the next command, and what it does.
+    pub(crate) fn turn<R: RawReader, D: Decides>(
         &mut self,
         input_state: &mut InputState<'_, D>,
         rdr: &mut R,
-        single_esc_abort: bool,
-        ignore_external_print: bool,
-    ) -> Result<Cmd, ReadlineError>
-        ensures phrase { let custom = custom_in input_state.old D.decides in
-            let input = input_of input_state.old in
-            Follows display_of custom (line_phrase custom input (shown_in (value_of self.old)))
-            self.old input self.new (input_of input_state.new)
-            (R.feed rdr.old) (R.feed rdr.new) result }
+        kill_ring: &mut KillRing,
+        config: &Config,
+    ) -> Result<Status, ReadlineError>
+        ensures turn { let custom = custom_in input_state.old D.decides in
+            Takes turn_script custom config.now.indent_size
+            self.old (input_of input_state.old) kill_ring.old (R.feed rdr.old)
+            self.new (input_of input_state.new) kill_ring.new (R.feed rdr.new) result }
         ensures bindings { input_state.new.custom_bindings ≡ input_state.old.custom_bindings }
-        ensures falls { OnOk result ((R.feed rdr.new).bound < (R.feed rdr.old).bound) }
     {
-        let alloc = self.alloc;
-        let cmd = input_state.next_cmd(alloc, rdr, self, single_esc_abort, ignore_external_print)?;
-        if begins_group(&cmd) {
-            self.doing_insert()?;
-            return Ok(cmd);
-        }
-        Ok(cmd)
+        let cmd = self.next_cmd(input_state, rdr, false, false)?;
+        reset_for(kill_ring, &cmd);
+        execute(cmd, self, input_state, kill_ring, config)
     }
 }

@@ -2,7 +2,7 @@ use Rattle.std.proofs.Common.{◌≡◌, ap}
 use Rattle.line_keys.specs.Answers.{custom_of}
 use Rattle.line_keys.specs.InputStates.{custom_in, input_of}
 use Rattle.line_editor.proofs.RunLemmas.{not_begun_by, same_reads, runs_by}
-use Rattle.line_editor.proofs.ran.run.Goals as goal
+use Rattle.line_editor.proofs.running.run.Goals as goal
 
 pub returns-in_default : goal.returns-in_default
 returns-in_default g c = not_begun_by _ _ _ _ _ _ _ _ _ _ _ c.unread.ensures
