@@ -44,9 +44,9 @@ use Rattle.line_editor.specs.Accepting.{accept_or_insert}
 use Rattle.line_editor.specs.Asks.{shown_in}
 use Rattle.line_editor.specs.Commands.{in_vi_command, means_of}
 use Rattle.line_editor.specs.Drawing.{refreshed}
-use Rattle.line_editor.specs.LineScripts.{Begins, Keys, Obeys, LineState, LineAsk, beginning, kept, keyed, left_at, line_plan, line_script, obeying, phrase_script, played_from, reported_from, turn_script, turned_on, turns_script}
+use Rattle.line_editor.specs.LineScripts.{Begins, Keys, Obeys, LineState, LineAsk, beginning, kept, keyed, left_at, line_plan, line_script, obeying, phrase_script, played_from, reported_from, turn_script, turned_on, turns_script, line_begun}
 use Rattle.line_editor.specs.Courses.{LineReport}
-use Rattle.line_editor.specs.Lines.{line_begun, reset_by, with_group_begun}
+use Rattle.line_editor.specs.NextCommand.{reset_by, with_group_begun}
 use Rattle.line_editor.specs.Moving.{cursor_moved_if}
 use Rattle.line_editor.specs.Values.{Setting, Value, empty_at, first_value, unchanged, then_do, at_line}
 use Rattle.line_editor.specs.Yanking.{behind_yank, yanked_by, put_yanked, yank_text}

@@ -19,8 +19,7 @@ use Rattle.line_keys.specs.Phrases.{Input}
 use Rattle.line_record.specs.Ring.{Ring}
 use Rattle.line_editor.specs.Accepting.{submitted}
 use Rattle.line_editor.specs.Drawing.{refreshed}
-use Rattle.line_editor.specs.Lines.{line_begun}
-use Rattle.line_editor.specs.LineScripts.{LineAsk, LineAnswer, LineScript, Makes, LineStage, kept, turned_on, turn_script, turns_script, line_script}
+use Rattle.line_editor.specs.LineScripts.{line_begun, LineAsk, LineAnswer, LineScript, Makes, LineStage, kept, turned_on, turn_script, turns_script, line_script}
 use Rattle.line_editor.specs.Running.{text_or}
 use Rattle.line_editor.specs.States.{value_of, Reason, Stays, Does}
 use Rattle.line_editor.specs.Turning.{Cause, Takes, stage_of, world_of}

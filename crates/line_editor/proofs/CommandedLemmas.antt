@@ -23,7 +23,7 @@ use Rattle.line_editor.specs.Accepting.{accepts}
 use Rattle.line_editor.specs.Asks.{shown_in}
 use Rattle.line_editor.specs.Commands.{Means, means_of, effect, outcome}
 use Rattle.line_editor.specs.LineScripts.{Obeys, Answered, LineStage, kept, keyed, obeying, turn_script}
-use Rattle.line_editor.specs.Lines.{line_phrase, reset_by}
+use Rattle.line_editor.specs.NextCommand.{line_phrase, reset_by}
 use Rattle.line_editor.specs.States.{value_of, setting_of, display_of, Stays, Reason}
 use Rattle.line_editor.specs.Turning.{Executes, Cause, Takes, stage_of, world_of}
 use Rattle.line_editor.specs.Values.{Value, Setting}

@@ -19,8 +19,8 @@ use Rattle.line_editor.specs.Commands.{Means, effect, outcome}
 use Rattle.line_editor.specs.Courses.{TurnsLead, EndsLine}
 use Rattle.line_editor.specs.Drawing.{drawn_behind, asked_anew}
 use Rattle.line_editor.specs.Leads.{Leads, CommandLeads, EachTurnLeads, LinesLead}
-use Rattle.line_editor.specs.Lines.{begins_group, with_group_begun, line_phrase, line_begun}
-use Rattle.line_editor.specs.LineScripts.{LineAsk, LineScript, Keys, Obeys, Makes, LineState, kept, keyed, obeying, turn_script, turned_on, turns_script, line_script, means_at, effect_at, answer_at, left_at, line_plan, steps_along, played_from, turns_along}
+use Rattle.line_editor.specs.NextCommand.{begins_group, with_group_begun, line_phrase}
+use Rattle.line_editor.specs.LineScripts.{line_begun, LineAsk, LineScript, Keys, Obeys, Makes, LineState, kept, keyed, obeying, turn_script, turned_on, turns_script, line_script, means_at, effect_at, answer_at, left_at, line_plan, steps_along, played_from, turns_along}
 use Rattle.line_editor.specs.Sights.{Sight, no_sight, sight_with, sight_of, ended_sight, sight_all, FitsAll, Turns, info_after}
 use Rattle.line_editor.specs.Values.{Value, Setting, EditStep, Effect, first_value, taking_memory, hint_reply, helped, shown_hint}
 use Rattle.line_editor.specs.declared.commands.Status.{Status}

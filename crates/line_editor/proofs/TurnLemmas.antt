@@ -11,7 +11,7 @@ use Rattle.line_keys.specs.Refreshing.{KnownDisplay, Draws}
 use Rattle.line_keys.specs.Refreshing.Ask.{DoingInsert}
 use Rattle.line_keys.specs.declared.command.Cmd.{Cmd}
 use Rattle.line_keys.proofs.Following.{then_stops, then_follows, ends_follow, ask_follows, ask_stops, as_follows}
-use Rattle.line_editor.specs.Lines.{begins_group, with_group_begun, line_phrase}
+use Rattle.line_editor.specs.NextCommand.{begins_group, with_group_begun, line_phrase}
 use Rattle.line_editor.proofs.DoesLemmas.{is_err}
 
 abbrev by_group : Bool → Cmd → Part Cmd

@@ -10,7 +10,7 @@ pub mod Inserting
 pub mod Killing
 pub mod Known
 pub mod Leads
-pub mod Lines
+pub mod NextCommand
 pub mod LineScripts
 pub mod Moving
 pub mod Redraws

@@ -17,10 +17,11 @@ use Rattle.line_editor.specs.Asks.{shown_in, ask_effect}
 use Rattle.line_editor.specs.Calls.{Canvas, Ruler, MadeIn}
 use Rattle.line_editor.specs.Commands.{Means, means_of, effect, ring_after_command, LeavesRing, outcome}
 use Rattle.line_editor.specs.Courses.{Turn, Open, last_turn, LineReport}
-use Rattle.line_editor.specs.Lines.{line_phrase, line_begun, reset_by}
+use Rattle.line_editor.specs.Drawing.{refreshed}
+use Rattle.line_editor.specs.NextCommand.{line_phrase, reset_by}
 use Rattle.line_editor.specs.Sights.{sight_of, info_after}
 use Rattle.line_editor.specs.Steps.{asked, Surface, Stops}
-use Rattle.line_editor.specs.Values.{Value, Setting, EditStep, Effect, Transition, unchanged, taking_memory}
+use Rattle.line_editor.specs.Values.{Value, Setting, EditStep, Effect, Transition, unchanged, taking_memory, then_do}
 use Rattle.line_editor.specs.declared.commands.Status.{Status}
 use Rattle.line_editor.specs.declared.commands.Status.TheVariants.{Proceed, Submit}
 
@@ -73,6 +74,10 @@ turned_on next Submit = Asks (Makes submitted) (λ v. Ends v.line.text)
 unfoldable pub turns_script : ℕ → Custom → LineScript (List ℕ)
 turns_script zero custom = Asks (Keys (Refuses Memory)) (λ none. absurd none)
 turns_script (suc n) custom = then (turn_script (suc n) custom) (turned_on (turns_script n custom))
+
+-- drawn when memory has been taken for a line
+abbrev pub line_begun : Transition
+line_begun = then_do taking_memory refreshed
 
 unfoldable pub line_script : ℕ → Custom → LineScript (List ℕ)
 line_script n custom = Asks (Makes line_begun) (λ v. turns_script n custom)

@@ -2,7 +2,7 @@
 ghost use Rattle.std.specs.Prelude.{◌≡◌, ◌<◌, OnOk};
 ghost use Rattle.line_keys.specs.Follows.{Follows};
 ghost use Rattle.line_keys.specs.InputStates.{input_of, custom_in};
-ghost use Rattle.line_editor.specs.Lines.{line_phrase, begins_group, reset_by};
+ghost use Rattle.line_editor.specs.NextCommand.{line_phrase, begins_group, reset_by};
 
 use crate::renderer::Renderer;
 use crate::state::State;

@@ -1,4 +1,4 @@
--- A line: its phrases, and its first drawing.
+-- The next command of a line: a phrase, before which a group may begin, and the ring before it.
 use Rattle.std.specs.Prelude.{Bool, true, false, if◌then◌else◌}
 use Rattle.line_keys.specs.declared.command.Cmd.{Cmd}
 use Rattle.line_keys.specs.declared.command.Cmd.TheVariants.{Replace}
@@ -10,8 +10,6 @@ use Rattle.line_keys.specs.Refreshing.{Shown}
 use Rattle.line_keys.specs.Refreshing.Ask.{DoingInsert}
 use Rattle.line_record.specs.Ring.{Ring}
 use Rattle.line_record.specs.declared.kill_ring.Action.TheVariants.{Other}
-use Rattle.line_editor.specs.Drawing.{refreshed}
-use Rattle.line_editor.specs.Values.{Transition, then_do, taking_memory}
 
 -- each change-to begins a group
 abbrev pub begins_group : Cmd → Bool
@@ -28,7 +26,3 @@ line_phrase custom input shown = and_then input shown (phrase custom input shown
 -- most commands end a run of kills
 abbrev pub reset_by : Cmd → Ring → Ring
 reset_by cmd r = if (standing cmd).resets_ring then record r { last = Other } else r
-
--- drawn when memory has been taken for a line
-abbrev pub line_begun : Transition
-line_begun = then_do taking_memory refreshed
