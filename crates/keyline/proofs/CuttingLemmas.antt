@@ -5,9 +5,8 @@ use Rattle.line_config.specs.declared.settings.EditMode.TheVariants.{Emacs, Vi}
 use Rattle.line_keys.specs.declared.key.KeyCode.TheVariants.{BracketedPasteStart, Char, Esc, Left}
 use Rattle.line_keys.specs.Coming.{Coming, Pressed, Pasted, CutOff, Ends, End as AtItsEnd}
 use Rattle.line_keys.specs.Keys.{key_with, none, alt}
-use Rattle.line_screen.specs.Following.{readings_then}
+use Rattle.line_screen.specs.KeyGrammar.{readings_then, Readings, Key, Paste, Cut, Stops, readings, coming_of}
 use Rattle.line_screen.specs.Input.{chars_of}
-use Rattle.line_screen.specs.KeyGrammar.{Readings, Key, Paste, Cut, Stops, readings, coming_of}
 use Rattle.line_screen.proofs.FollowingLemmas.{whole_keys_stay}
 use Rattle.keyline.specs.Cutting.{coming_then, CutsAreFree}
 use Rattle.keyline.specs.Sessions.{coming_from}

@@ -52,8 +52,7 @@ use Rattle.line_editor.specs.Values.{Setting, Value, empty_at, first_value, unch
 use Rattle.line_editor.specs.Yanking.{behind_yank, yanked_by, put_yanked, yank_text}
 use Rattle.line_editor.specs.declared.commands.Status.{Status}
 use Rattle.line_editor.proofs.ToldLemmas.{follows, joined, played_then}
-use Rattle.line_screen.specs.KeyGrammar.{coming_of}
-use Rattle.line_screen.specs.Pasting.{paste_start, with_newlines}
+use Rattle.line_screen.specs.KeyGrammar.{coming_of, paste_start, with_newlines}
 use Rattle.line_screen.proofs.Pasting.{pasted_text_is_before_its_mark}
 use Rattle.keyline.specs.Program.{nothing_bound}
 use Rattle.keyline.specs.Pasting.{sent_as_paste, IsPasteable, IsUnbound, IsEmptyLine, Accepts, PastesAreAccepted, PastedLinesAreAccepted}

@@ -15,7 +15,7 @@ use Rattle.line_keys.specs.Coming.{Coming}
 use Rattle.line_record.specs.Ring.{Ring, new_ring}
 use Rattle.line_screen.specs.Calls.{Screen}
 use Rattle.line_screen.specs.Reader.{kept_of}
-use Rattle.line_screen.specs.Unread.{kept_count}
+use Rattle.line_screen.specs.Reading.{kept_count}
 use Rattle.keyline.specs.Desks.{desk_feed, session_state_of, work_of}
 use Rattle.keyline.specs.Known.{Known}
 use Rattle.keyline.specs.Program.{EditHelper, EditsByOptions, config_of, edit_helping, given_to, nothing_bound, PlaysBytes, program_given, program_start}

@@ -8,11 +8,10 @@ use Rattle.line_editor.specs.Sights.{Sight, no_sight, sight, sight_all, FitsAll}
 use Rattle.line_editor.specs.Steps.{one}
 use Rattle.line_editor.specs.Values.{EditStep}
 use Rattle.line_screen.specs.Calls.{Screen, bytes_of, ruler_of}
-use Rattle.line_screen.specs.Chain.{View, Good, empty_view}
+use Rattle.line_screen.specs.Chain.{View, Good, empty_view, finish_of, cursor_of, above}
 use Rattle.line_screen.specs.Display.{Display, Placed, meaning, at_cursor}
 use Rattle.line_screen.specs.Drawing.{row_break, break_if, next_row}
 use Rattle.line_screen.specs.Laws.{widths}
-use Rattle.line_screen.specs.Showing.{finish_of, cursor_of, above}
 use Rattle.line_screen.proofs.LawLemmas.{start_is_empty, shown_is_meant, line_ends_anywhere, ended_line_stays}
 use Rattle.keyline.specs.Shows.{picture, place_in, view_in, DisplayHolds, LowAll, LowTurns, top_by, top_after, next_top, above_by, above_after, drawn_by, bytes_for, HasMeaning, MomentShown, EachShown, DrawingsShow}
 use Rattle.keyline.proofs.ShowSteps.{fresh_holds, step}

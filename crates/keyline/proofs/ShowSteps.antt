@@ -17,13 +17,11 @@ use Rattle.line_editor.specs.Steps.{one}
 use Rattle.line_editor.specs.Values.{EditStep}
 use Rattle.line_editor.specs.Values.EditStep.{Draws, Helped, Updates, Edits, TakesBack, Takes}
 use Rattle.line_screen.specs.Calls.{Screen, bytes_of, ruler_of}
-use Rattle.line_screen.specs.Chain.{View, Good, Inside, LeadsView, empty_view, Types}
+use Rattle.line_screen.specs.Chain.{View, Good, Inside, LeadsView, empty_view, Types, Picture, finish_of, cursor_of, above}
 use Rattle.line_screen.specs.Display.{Placed}
 use Rattle.line_screen.specs.Drawing.{row_break, text_items, place_after}
-use Rattle.line_screen.specs.Laws.{widths}
+use Rattle.line_screen.specs.Laws.{widths, TellsView}
 use Rattle.line_screen.specs.Measure.{measure_of, saturated}
-use Rattle.line_screen.specs.Short.{TellsView}
-use Rattle.line_screen.specs.Showing.{Picture, finish_of, cursor_of, above}
 use Rattle.line_screen.proofs.Fitting.{drawable}
 use Rattle.line_screen.proofs.LawLemmas.{calls_lead, place_is_free, measures_go_on}
 use Rattle.line_screen.proofs.Leading.{line_items, line_cursor, over_again}

@@ -4,9 +4,8 @@ use Rattle.line_config.specs.declared.device.Last.{Last}
 use Rattle.line_config.specs.declared.device.Last.TheVariants.{End}
 use Rattle.line_config.specs.declared.settings.EditMode.{EditMode}
 use Rattle.line_keys.specs.Coming.{Coming, Pressed, Pasted, CutOff, Ends, Refused}
-use Rattle.line_screen.specs.Following.{are_whole, EndWithoutEsc}
+use Rattle.line_screen.specs.KeyGrammar.{are_whole, EndWithoutEsc, readings}
 use Rattle.line_screen.specs.Input.{chars_of}
-use Rattle.line_screen.specs.KeyGrammar.{readings}
 use Rattle.keyline.specs.Sessions.{coming_from}
 
 -- the keys and pastes of the one, then what the other has

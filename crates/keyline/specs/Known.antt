@@ -1,7 +1,7 @@
 -- What is known of the devices of a session.
 use Rattle.std.specs.Prelude.{ℕ, Bool, List}
 use Rattle.line_config.specs.Feed.{Feed}
-use Rattle.line_screen.specs.Waiting.{NothingWaits}
+use Rattle.line_screen.specs.Calls.{NothingWaits}
 
 -- what is known of a source, a display and a sink of lines
 pub record Known (S D L : Type 0) : Type 0 where

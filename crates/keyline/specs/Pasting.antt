@@ -8,8 +8,7 @@ use Rattle.line_keys.specs.Coming.{Coming}
 use Rattle.line_editor.specs.LineScripts.{LineState, reported_from, turns_script}
 use Rattle.line_editor.specs.Courses.{LineReport}
 use Rattle.line_editor.specs.Values.{Setting, Value}
-use Rattle.line_screen.specs.KeyGrammar.{marker}
-use Rattle.line_screen.specs.Pasting.{start_marker, HaveNoMarker}
+use Rattle.line_screen.specs.KeyGrammar.{marker, start_marker, HaveNoMarker}
 use Rattle.keyline.specs.Sessions.{Given, SessionState, coming_from, line_in}
 
 -- ESC [ 2 0 0 ~, the text, and ESC [ 2 0 1 ~

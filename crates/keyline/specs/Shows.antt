@@ -12,12 +12,11 @@ use Rattle.line_editor.specs.Steps.{asked}
 use Rattle.line_editor.specs.Values.{EditStep}
 use Rattle.line_editor.specs.Values.EditStep.{Draws}
 use Rattle.line_screen.specs.Calls.{Screen, bytes_of, ruler_of}
-use Rattle.line_screen.specs.Chain.{View, Good}
+use Rattle.line_screen.specs.Chain.{View, Good, Picture, Shows, finish_of, cursor_of, above}
 use Rattle.line_screen.specs.Display.{Display, Placed, meaning}
 use Rattle.line_screen.specs.Drawing.{row_break, break_if}
 use Rattle.line_screen.specs.Laws.{widths}
 use Rattle.line_screen.specs.Measure.{measure_of}
-use Rattle.line_screen.specs.Showing.{Picture, Shows, finish_of, cursor_of, above}
 use Rattle.keyline.specs.Sessions.{Given, SessionState, session, turns_of, display_bytes}
 
 -- ---- what is to be seen, as one drawing from nothing

@@ -5,8 +5,7 @@ ghost use Rattle.line_config.specs.declared.errors.ReadlineError.TheVariants.{Li
 ghost use Rattle.line_config.specs.Sending.{Sends};
 ghost use Rattle.line_editor.specs.Courses.{breaks_after};
 ghost use Rattle.line_keys.specs.Coming.{made_of};
-ghost use Rattle.line_screen.specs.Calls.{screen_of, sink_of};
-ghost use Rattle.line_screen.specs.Waiting.{NothingWaits};
+ghost use Rattle.line_screen.specs.Calls.{screen_of, sink_of, NothingWaits};
 ghost use Rattle.keyline.specs.Playing.{Closes, work};
 ghost use Rattle.keyline.specs.Sessions.{given_of, line_text, remembered};
 

@@ -17,7 +17,7 @@ use Rattle.line_keys.specs.Coming.{Coming, made_of}
 use Rattle.line_keys.specs.Feeds.{KeyFeed}
 use Rattle.line_record.specs.Ring.{Ring}
 use Rattle.line_screen.specs.Calls.{Screen, bytes_of, canvas_of, screen_of, sink_of, ruler_of}
-use Rattle.line_screen.specs.Unread.{kept_count}
+use Rattle.line_screen.specs.Reading.{kept_count}
 use Rattle.line_screen.specs.Drawing.{break_if}
 use Rattle.line_screen.specs.declared.renderer.ScreenRenderer.{ScreenRenderer}
 use Rattle.line_screen.proofs.CallLemmas.{sent_in_all}

@@ -9,7 +9,7 @@ use Rattle.line_screen.specs.Display.{Placed, Display, DisplayReading, put_cells
 use Rattle.line_screen.specs.Display.DisplayReading.{Text}
 use Rattle.line_screen.specs.Drawing.{DrawnItem, next_row, fit, after_one, place_after, placed_at, lay_one, lay, no_style, row_break, break_if, fitted_col, left_col, fenced, sent_one, col_after_one, sent, col_after}
 use Rattle.line_screen.specs.Drawing.DrawnItem.{NewRow, Letter, Cluster}
-use Rattle.line_screen.specs.Showing.{Stands}
+use Rattle.line_screen.specs.Chain.{Stands}
 use Rattle.line_screen.proofs.Standing.{stands_text, read-append, read_text, step_letter, read_plain, read_break}
 
 -- nothing stands after the cursor in its row, nor below

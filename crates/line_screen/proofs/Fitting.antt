@@ -5,7 +5,7 @@ use Rattle.std.specs.List.{list_all, list_any, flat_map}
 use Rattle.std.specs.Char.{is_control}
 use Rattle.std.proofs.lemmas.Bool.{and_parts, and_from, false≢true, leb-true, ltb-true, eqb-true, eqb-false, eq-eqb, false_from_ne_true}
 use Rattle.std.proofs.lemmas.List.{length-map}
-use Rattle.std.proofs.lemmas.Str.{chars-IsAscii}
+use Rattle.std.proofs.lemmas.Str.{chars-IsAscii, is_utf8-from_IsUtf8}
 use Rattle.ucd_table.proofs.Computing.{tables}
 use Rattle.ucd_table.proofs.Facts.{Stepped-below}
 use Rattle.ucd_breaks.specs.GraphemeClusterBreak.{grapheme_cluster_break}
@@ -23,9 +23,8 @@ use Rattle.line_screen.specs.Display.{Display, put_cells, put_letters, put_clust
 use Rattle.line_screen.specs.Drawing.{DrawnItem, drawn_cluster, is_letter, drawn_item, row_items, join_rows, split_rows, text_items, next_row, fit, after_one, place_after}
 use Rattle.line_screen.specs.Drawing.DrawnItem.{NewRow, Letter, Cluster}
 use Rattle.std.specs.Str.{IsUtf8, is_utf8}
-use Rattle.std.proofs.lemmas.Str.{is_utf8-from_IsUtf8}
 use Rattle.line_screen.specs.Measure.{is_cluster, is_width, cluster_width}
-use Rattle.line_screen.specs.Showing.{Picture, shown_items, finish_of, cursor_of}
+use Rattle.line_screen.specs.Chain.{Picture, shown_items, finish_of, cursor_of}
 use Rattle.line_screen.proofs.Draws.{Showable, Fits, AllFit}
 use Rattle.line_screen.proofs.Full.{Drawable}
 

@@ -10,8 +10,7 @@ use Rattle.line_buffer.specs.declared.layout.Position.{Position}
 use Rattle.line_screen.specs.Display.{Placed, Display, DisplayReading, read, at_cursor, starts_before, ends_before, is_cut, erased_below}
 use Rattle.line_screen.specs.Display.DisplayReading.{Text, Lost}
 use Rattle.line_screen.specs.Drawing.{DrawnItem, text_items, place_after, lay, no_style, sent, col_after, control_sequence, erase_to_end, clearing_bytes, move_bytes, shown_text, drawing, full_drawing}
-use Rattle.line_screen.specs.Chain.{Inside}
-use Rattle.line_screen.specs.Showing.{Stands, Picture, cells_of, finish_of, cursor_of, down, down_placed, above, from_top, Shows}
+use Rattle.line_screen.specs.Chain.{Inside, Stands, Picture, cells_of, finish_of, cursor_of, down, down_placed, above, from_top, Shows}
 use Rattle.line_screen.proofs.Standing.{stands_text, read-append, step_control, read_plain}
 use Rattle.line_screen.proofs.Draws.{Ready, AllFit, drawn, draws, after_cols}
 use Rattle.line_screen.proofs.ListLemmas.{filter_all, filter_none, list_all_filter, list_all_true, filter_comm}

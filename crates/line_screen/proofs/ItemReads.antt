@@ -7,8 +7,7 @@ use Rattle.line_config.specs.Refusals.{Met}
 use Rattle.line_keys.specs.declared.key.KeyEvent.{KeyEvent}
 use Rattle.line_keys.specs.Coming.{Coming, Pressed, Pasted, Refused, key_at, paste_at, left_by, behind, left}
 use Rattle.line_keys.specs.Feeds.{IsReaderRefusal, InputItem, Key, Paste, ReadAs, ReadsBy}
-use Rattle.line_screen.specs.KeyCalls.{AnswersKey, AnswersText, IsMemoryKept}
-use Rattle.line_screen.specs.Reader.{items_of}
+use Rattle.line_screen.specs.Reader.{AnswersKey, AnswersText, IsMemoryKept, items_of}
 use Rattle.line_screen.specs.declared.reading.reader.KeyReader.{KeyReader}
 
 -- a refusal that the input gives

@@ -16,13 +16,12 @@ use Rattle.line_editor.specs.Calls.{Call}
 use Rattle.line_editor.specs.Calls.Call.{Draw, Move, Write, Beep, ClearScreen, ClearRows, ClearToEol, MoveAndClearToEol, ToLeftmost, Help}
 use Rattle.line_editor.specs.Redraws.{info_text, fits_in_row}
 use Rattle.line_screen.specs.Calls.{Screen, bytes_of, bell_bytes, old_row, drawing_bytes}
-use Rattle.line_screen.specs.Chain.{View, Good, Inside, empty_view, Replaces, Redraws, with_letter, Types, ClosesLine, cut_line, LeadsView, with_place, Moves, ErasesKilled}
+use Rattle.line_screen.specs.Chain.{View, Good, Inside, empty_view, Replaces, Redraws, with_letter, Types, ClosesLine, cut_line, LeadsView, with_place, Moves, ErasesKilled, Stands, Picture, nothing, shown_items, cells_of, finish_of, cursor_of, down, down_placed, above, from_top}
 use Rattle.line_screen.specs.Display.{Placed, Display, read, start, put_down, right, ends_before, starts_before, is_cut, stays_in_row, at_cursor, erased_below, erased_right}
 use Rattle.line_screen.specs.Display.DisplayReading.{Text, Lost}
 use Rattle.line_screen.specs.Drawing.{text_items, next_row, leave, place_after, placed_at, lay, row_break, erase_to_end, erase_to_row_end, go_home, clearing_bytes, move_bytes, drawing, full_drawing}
 use Rattle.line_screen.specs.Drawing.DrawnItem.{Letter}
 use Rattle.line_screen.specs.Measure.{cluster_width}
-use Rattle.line_screen.specs.Showing.{Stands, Picture, nothing, shown_items, cells_of, finish_of, cursor_of, down, down_placed, above, from_top}
 use Rattle.line_screen.proofs.Standing.{stands_text, read-append, step_control, step_letter, read_break}
 use Rattle.line_screen.proofs.Draws.{list_all_since, Clear, Ready, put_clear}
 use Rattle.line_screen.proofs.ListLemmas.{filter_all, filter_none, list_all_filter, list_all_true, all_by_parts, filter_comm}

@@ -10,11 +10,9 @@ use Rattle.line_config.specs.declared.errors.ReadlineError.TheVariants.{Eof, Rea
 use Rattle.line_config.specs.Feed.{Feed}
 use Rattle.line_screen.specs.declared.reading.lookahead.Lookahead.{Lookahead}
 use Rattle.line_screen.specs.declared.reading.reader.KeyReader.{KeyReader}
-use Rattle.line_screen.specs.Characters.{ReadsFirst}
-use Rattle.line_screen.specs.Input.{Chars, Next, chars_of, char_at, behind_char}
+use Rattle.line_screen.specs.Input.{ReadsFirst, Chars, Next, chars_of, char_at, behind_char}
 use Rattle.line_screen.specs.KeyGrammar.{Readings, left_after, read_from}
-use Rattle.line_screen.specs.KeyReading.{ReadsPart}
-use Rattle.line_screen.specs.Reader.{feed_in, left_in, reads}
+use Rattle.line_screen.specs.Reader.{ReadsPart, feed_in, left_in, reads}
 use Rattle.line_screen.specs.Reading.{IsKeyRefusal, ReadsChar, PeeksByte, unread}
 use Rattle.line_screen.proofs.EncodedChars.{char_read}
 use Rattle.line_screen.proofs.ReadChars.{chars_are_encoded}

@@ -11,9 +11,8 @@ use Rattle.line_config.specs.Feed.{Feed, GivesBytes}
 use Rattle.line_screen.specs.declared.reading.reader.KeyReader.{KeyReader}
 use Rattle.line_screen.specs.Input.{Next, chars_of}
 use Rattle.line_screen.specs.KeyGrammar.{Readings, in_paste, marker, put}
-use Rattle.line_screen.specs.KeyReading.{TakesRun}
-use Rattle.line_screen.specs.Reader.{left_in}
-use Rattle.line_screen.specs.Unread.{with_kept}
+use Rattle.line_screen.specs.Reader.{TakesRun, left_in}
+use Rattle.line_screen.specs.Reading.{with_kept}
 use Rattle.line_screen.proofs.EncodedChars.{encode_one}
 use Rattle.line_screen.proofs.Onward.{leads_then, On}
 use Rattle.line_screen.proofs.Steps.{paste_other}

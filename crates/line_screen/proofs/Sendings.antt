@@ -6,9 +6,8 @@ use Rattle.std.proofs.lemmas.Bool.{ne_eqb}
 use Rattle.line_config.specs.declared.device.DeviceFailed.{DeviceFailed}
 use Rattle.line_config.specs.Sending.{Takes, TakesSome, Sends}
 use Rattle.line_config.proofs.Taking.{takes_then, some_of_more, some_then, sends_then, sends_cut}
-use Rattle.line_screen.specs.Drawing.{control_sequence, no_style, break_if, break_unless, fitted_col, fenced, sent_one, col_after_one}
+use Rattle.line_screen.specs.Drawing.{control_sequence, no_style, break_if, break_unless, fitted_col, fenced, sent_one, col_after_one, SendsTo}
 use Rattle.line_screen.specs.Drawing.DrawnItem.{Cluster}
-use Rattle.line_screen.specs.Sending.{SendsTo}
 
 module _ {D : Type 0} (held : D → List ℕ) (failed : D → Bool) where
   -- a sequence whose number isn't 0

@@ -13,7 +13,7 @@ use Rattle.line_config.specs.declared.settings.EditMode.{EditMode}
 use Rattle.line_keys.specs.declared.key.KeyEvent.{KeyEvent}
 use Rattle.line_screen.specs.Input.{Chars, Next, Over, chars_of}
 use Rattle.line_screen.specs.KeyGrammar.{Key, readings, read_from, in_sequence, in_paste, announces}
-use Rattle.line_screen.specs.KeyReading.{sequence_from}
+use Rattle.line_screen.specs.Reader.{sequence_from}
 use Rattle.line_screen.specs.Sequences.{is_parameter, is_intermediate, lacks_final, awaits_more, unknown, sequence_key}
 use Rattle.line_screen.proofs.SequenceLemmas.{by_test, names_none, long_unknown}
 

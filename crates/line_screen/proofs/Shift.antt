@@ -5,7 +5,7 @@ use Rattle.line_buffer.specs.declared.layout.Position.{Position}
 use Rattle.line_screen.specs.Display.{right}
 use Rattle.line_screen.specs.Drawing.{DrawnItem, next_row, fit, leave, after_one, place_after, placed_at, lay_one, lay}
 use Rattle.line_screen.specs.Drawing.DrawnItem.{NewRow, Letter, Cluster}
-use Rattle.line_screen.specs.Showing.{down, down_placed}
+use Rattle.line_screen.specs.Chain.{down, down_placed}
 use Rattle.line_screen.proofs.Moves.{place}
 
 down_next : (top : ℕ) (at : Position) → next_row (down top at) ≡ down top (next_row at)

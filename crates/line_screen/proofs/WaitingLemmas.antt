@@ -10,8 +10,7 @@ use Rattle.line_editor.specs.Redraws.{asked_by}
 use Rattle.line_editor.specs.Steps.{one, asked, Surface, Refusal, StepCut, Stops}
 use Rattle.line_editor.specs.Values.{Value, Setting, EditStep}
 use Rattle.line_editor.specs.Values.EditStep.{Draws, Helped, Updates, Edits, TakesBack, Takes}
-use Rattle.line_screen.specs.Calls.{Sent, Unsent, canvas_of, sink_of}
-use Rattle.line_screen.specs.Waiting.{NothingWaits, holding_throughout, ReadsFindNothingWaiting}
+use Rattle.line_screen.specs.Calls.{Sent, Unsent, canvas_of, sink_of, NothingWaits, holding_throughout, ReadsFindNothingWaiting}
 use Rattle.line_screen.specs.declared.renderer.ScreenRenderer.{ScreenRenderer}
 
 none_in_broken : {Z : Type 0} (failed : Bool) → IsTrue failed → failed ≡ false → Z

@@ -5,6 +5,7 @@ use Rattle.std.specs.Prelude.{ℕ, ◌+◌, ◌-◌, ◌*◌, ◌==◌, nat_lt, 
 use Rattle.std.specs.List.{list_all, filter}
 use Rattle.line_buffer.specs.Cells.{origin}
 use Rattle.line_buffer.specs.declared.layout.Position.{Position}
+
 pub use Rattle.line_buffer.specs.Printable.{is_printable}
 
 -- ---- cells
@@ -204,3 +205,16 @@ start = Text blank []
 -- what bytes mean on a display that was blank, where they mean something
 abbrev pub meaning : ℕ → (List ℕ → Option ℕ) → List ℕ → Option Display
 meaning columns wide bytes = settled columns wide (read columns wide start bytes)
+
+-- blank, the first cell of a cluster, or a further one
+pub data Cell : Type 0 where
+  Blank : Cell
+  Head : (bytes : List ℕ) → Cell
+  Tail : Cell
+
+abbrev pub cell_at : List Placed → ℕ → ℕ → Cell
+cell_at [] row col = Blank
+cell_at (p ∷ ps) row col =
+    if (p.row == row) && (p.col == col) then Head p.bytes
+    else if (p.row == row) && (nat_lt p.col col && nat_lt col (p.col + p.width)) then Tail
+    else cell_at ps row col

@@ -1,10 +1,12 @@
 -- Drawing a text on rows of `columns` cells: what stands in each cell, where the drawing ends, and
 -- the bytes that draw it.
-use Rattle.std.specs.Prelude.{ℕ, ◌+◌, ◌-◌, ◌==◌, nat_lt, nat_le, Bool, true, ◌&&◌, List, [], ◌∷◌, ◌++◌, length, Option, Some, None, if◌then◌else◌, map, codes, decimal, slice_index}
+use Rattle.std.specs.Prelude.{ℕ, ◌+◌, ◌-◌, ◌==◌, nat_lt, nat_le, Bool, true, ◌&&◌, List, [], ◌∷◌, ◌++◌, length, Option, Some, None, if◌then◌else◌, map, codes, decimal, slice_index, ◌≡◌, ◌<◌, Result, IfOk}
 use Rattle.std.specs.List.{list_all, flat_map, slice_split}
 use Rattle.unicode_segmentation.specs.Grapheme.{graphemes}
 use Rattle.line_buffer.specs.declared.layout.Position.{Position}
 use Rattle.line_screen.specs.Display.{Placed, right, is_printable}
+use Rattle.line_config.specs.declared.device.DeviceFailed.{DeviceFailed}
+use Rattle.line_config.specs.Sending.{Sends}
 
 -- ---- a text as items
 
@@ -190,3 +192,17 @@ abbrev pub full_drawing : ℕ → (List ℕ → Option ℕ) → ℕ → List ℕ
     → Position → List ℕ
 full_drawing columns wide old_row prompt line info finish cursor =
     clearing_bytes old_row ++ drawing columns wide prompt line info finish cursor
+
+-- a call sends these bytes, and answers the column after them, one of the row
+pub record SendsTo {D : Type 0} (bytes : List ℕ) (column columns : ℕ) (held : D → List ℕ)
+    (failed : D → Bool) (old new : D) (result : Result ℕ DeviceFailed) : Type 0 where
+  pub sends : Sends held failed bytes old new result
+  pub next : IfOk result (λ c. c ≡ column)
+  pub inside : IfOk result (λ c. c < columns)
+
+-- the same with the bytes of items, from a column on
+abbrev pub SendsItems : {D : Type 0} → List DrawnItem → ℕ → ℕ → (D → List ℕ) → (D → Bool) → D → D
+    → Result ℕ DeviceFailed → Type 0
+SendsItems items start columns held failed old new result =
+    SendsTo (sent columns items start)
+    (col_after columns items start) columns held failed old new result

@@ -1,5 +1,5 @@
 -- Keys and pasted texts in order, as the characters of the input give them.
-use Rattle.std.specs.Prelude.{ℕ, ◌+◌, Bool, true, false, ◌&&◌, ◌==◌, codes, if◌then◌else◌, List, [], ◌∷◌, ◌++◌, take, Result, Ok, Err, slice_index}
+use Rattle.std.specs.Prelude.{ℕ, ◌+◌, Bool, true, false, ◌&&◌, ◌==◌, codes, if◌then◌else◌, List, [], ◌∷◌, ◌++◌, take, Result, Ok, Err, slice_index, ◌≡◌, ◌≢◌, nat_le, IsTrue, map}
 use Rattle.std.specs.Char.{encode_utf8}
 use Rattle.line_config.specs.declared.settings.EditMode.{EditMode}
 use Rattle.line_config.specs.declared.settings.EditMode.TheVariants.{Emacs, Vi}
@@ -11,8 +11,12 @@ use Rattle.line_keys.specs.declared.key.KeyEvent.{KeyEvent}
 use Rattle.line_keys.specs.Keys.{key_of, key_with, none, alt}
 use Rattle.line_keys.specs.Coming.{Coming, Pressed, Pasted, CutOff, Ends, LastItem}
 use Rattle.line_keys.specs.Coming.LastItem.{End as EndItem, Bad as BadItem, Failed as FailedItem}
-use Rattle.line_screen.specs.Input.{Chars, Next, Over, Stop, AtEnd, AtBad, AtFailure, Torn, Inside, stop_refusal}
-use Rattle.line_screen.specs.Sequences.{awaits_more, sequence_key}
+use Rattle.line_screen.specs.Input.{Chars, Next, Over, Stop, AtEnd, AtBad, AtFailure, Torn, Inside, stop_refusal, chars_of}
+use Rattle.line_screen.specs.Sequences.{awaits_more, sequence_key, is_parameter, is_intermediate}
+use Rattle.std.specs.List.{list_all}
+use Rattle.line_config.specs.declared.device.Last.{Last}
+use Rattle.line_config.specs.declared.device.Last.TheVariants.{End}
+use Rattle.std.specs.Str.{IsUtf8}
 
 abbrev pub announces_code : KeyCode → Bool
 announces_code BracketedPasteStart = true
@@ -145,3 +149,99 @@ left_after (Key k behind rest) = behind
 left_after (Paste text behind rest) = behind
 left_after (Cut stop left) = left
 left_after (Stops stop left) = left
+
+abbrev pub is_final : ℕ → Bool
+is_final c = nat_le 0x40 c && nat_le c 0x7E
+
+-- what stands after ESC [: parameters, intermediates and a final; [ alone begins the Linux
+-- console's sequences
+pub record IsControl (body : List ℕ) : Type 0 where
+  pub parameters : List ℕ
+  pub intermediates : List ℕ
+  pub final : ℕ
+  pub is : body ≡ parameters ++ (intermediates ++ final ∷ [])
+  pub are_parameters : list_all is_parameter parameters ≡ true
+  pub are_intermediates : list_all is_intermediate intermediates ≡ true
+  pub ends : is_final final ≡ true
+  pub ours : body ≢ codes "["
+
+-- Whatever follows it, such a sequence is the key that its text names, and what follows is read
+-- from its beginning on, as a pasted text where the key announces one.
+abbrev pub ControlIsOneKey : Type 0
+ControlIsOneKey =
+    (mode : EditMode) (body more : List ℕ) (last : Last) → IsControl body
+    → let k = sequence_key (codes "[" ++ body) in
+    readings mode (chars_of (0x1B ∷ 0x5B ∷ body ++ more) last)
+    ≡ Key k more (read_from mode (announces k) (chars_of more last))
+
+abbrev pub is_end : Stop → Bool
+is_end AtEnd = true
+is_end stop = false
+
+-- the last byte, if there is one, isn't ESC
+abbrev pub EndWithoutEsc : List ℕ → Type 0
+EndWithoutEsc bytes = (front : List ℕ) → bytes ≢ front ++ 0x1B ∷ []
+
+-- the readings are whole keys and pasted texts
+abbrev pub are_whole : Readings → Bool
+are_whole (Key k behind rest) = are_whole rest
+are_whole (Paste text behind rest) = are_whole rest
+are_whole (Cut stop left) = false
+are_whole (Stops stop left) = is_end stop
+
+-- the readings, and others in the place of their end
+abbrev pub readings_then : Readings → List ℕ → Readings → Readings
+readings_then (Key k behind rest) more following = Key k (behind ++ more)
+    (readings_then rest more following)
+readings_then (Paste text behind rest) more following = Paste text (behind ++ more)
+    (readings_then rest more following)
+readings_then (Cut stop left) more following = Cut stop left
+readings_then (Stops stop left) more following = following
+
+-- Where bytes read as whole keys and pasted texts to their end, and the last isn't ESC, they read so
+-- whatever follows them.
+abbrev pub WholeKeysStay : Type 0
+WholeKeysStay = (mode : EditMode) (bytes more : List ℕ) (last : Last)
+    → EndWithoutEsc bytes → IsTrue (are_whole (readings mode (chars_of bytes End)))
+    → readings mode (chars_of (bytes ++ more) last)
+    ≡ readings_then (readings mode (chars_of bytes End)) more (readings mode (chars_of more last))
+
+-- what begins a paste: ESC [ 2 0 0 ~
+abbrev pub start_marker : List ℕ
+start_marker = 0x1B ∷ 0x5B ∷ 0x32 ∷ 0x30 ∷ 0x30 ∷ 0x7E ∷ []
+
+abbrev pub paste_start : KeyEvent
+paste_start = key_with BracketedPasteStart none
+
+-- the end mark stands nowhere in these bytes
+abbrev pub HaveNoMarker : List ℕ → Type 0
+HaveNoMarker bytes = (before after : List ℕ) → bytes ≢ before ++ marker ++ after
+
+-- CR LF as LF
+abbrev pub without_returns_before_newlines : List ℕ → List ℕ
+without_returns_before_newlines [] = []
+without_returns_before_newlines (byte ∷ bytes) =
+    if (byte == 0x0D) && byte_is 0x0A bytes then without_returns_before_newlines bytes
+    else byte ∷ without_returns_before_newlines bytes
+
+-- CR LF, then CR, as newlines
+abbrev pub with_newlines : List ℕ → List ℕ
+with_newlines bytes = map (λ byte. if byte == 0x0D then 0x0A else byte)
+    (without_returns_before_newlines bytes)
+
+-- The pasted text is what stands before the first end mark, with newlines; after the mark the keys
+-- go on.
+abbrev pub PastedTextIsBeforeItsMark : Type 0
+PastedTextIsBeforeItsMark =
+    (mode : EditMode) (text more : List ℕ) (last : Last) → IsUtf8 text → HaveNoMarker text
+    → readings mode (chars_of (start_marker ++ text ++ marker ++ more) last)
+    ≡ Key paste_start (text ++ marker ++ more)
+    (Paste (with_newlines text) more (readings mode (chars_of more last)))
+
+-- Without an end mark the pasted text is cut off where the characters stop, as they do at the end.
+abbrev pub PastedTextIsCutOff : Type 0
+PastedTextIsCutOff =
+    (mode : EditMode) (text more : List ℕ) (last : Last) (stop : Stop) (left : List ℕ)
+    → IsUtf8 text → HaveNoMarker text → chars_of more last ≡ Over stop left
+    → readings mode (chars_of (start_marker ++ text ++ more) last)
+    ≡ Key paste_start (text ++ more) (Cut stop left)

@@ -1,15 +1,29 @@
 -- What a call that reads makes of the bytes to come, whether it is answered or refused.
-use Rattle.std.specs.Prelude.{◌≡◌, ℕ, ◌<◌, ◌≤◌, ⊤, false, is_err, IsTrue, List, [], ◌∷◌, ◌++◌, option_to_list, Option, Some, None, Result, Ok, Err, IfOk, IfErr, IfSome, OnErr}
+use Rattle.std.specs.Prelude.{◌≡◌, ℕ, ◌<◌, ◌≤◌, ⊤, false, is_err, IsTrue, List, [], ◌∷◌, ◌++◌, option_to_list, Option, Some, None, Result, Ok, Err, IfOk, IfErr, IfSome, OnErr, ◌+◌, Bool, true, if◌then◌else◌}
 use Rattle.line_config.specs.declared.device.DeviceFailed.{DeviceFailed}
 use Rattle.line_config.specs.declared.device.Last.{Last}
 use Rattle.line_config.specs.declared.device.Last.TheVariants.{End, Failed}
 use Rattle.line_config.specs.declared.errors.ReadlineError.{ReadlineError}
-use Rattle.line_config.specs.declared.errors.ReadlineError.TheVariants.{Eof, NotUtf8, Reader}
+use Rattle.line_config.specs.declared.errors.ReadlineError.TheVariants.{Eof, NotUtf8, Reader, PasteOutOfPlace, Memory}
 use Rattle.line_config.specs.Feed.{Feed}
-use Rattle.line_screen.specs.Unread.{with_kept}
 use Rattle.line_screen.specs.declared.reading.lookahead.Lookahead.{Lookahead}
 use Rattle.line_screen.specs.declared.reading.utf8.Awaited.{Awaited}
 use Rattle.line_screen.specs.Input.{Chars, Next, Continuation, chars_of, in_char, char_at, behind_char, is_failure}
+
+abbrev pub kept_count : Option ℕ → ℕ
+kept_count None = 0
+kept_count (Some byte) = 1
+
+-- a source's bytes, with the byte that is kept in front
+abbrev pub with_kept : Option ℕ → Feed → Feed
+with_kept kept source =
+    record {
+      told = source.told;
+      coming = option_to_list kept ++ source.coming;
+      last = source.last;
+      bound = source.bound + kept_count kept;
+      failed = source.failed;
+    }
 
 -- the refusals of a character and of a key that is read: they take no memory
 abbrev pub IsKeyRefusal : ReadlineError → Type 0
@@ -115,3 +129,18 @@ pub record ReadsRest {S : Type 0} (feed : S → Feed) (awaited : Awaited) (old n
     (result : Result ℕ ReadlineError) : Type 0 where
   pub reads : ReadsChar feed (in_char (Some (continuation awaited))) old new result
   pub whole : result ≡ Err Eof → ⊥
+
+abbrev pub is_lasting : ReadlineError → Bool
+is_lasting NotUtf8 = true
+is_lasting PasteOutOfPlace = true
+is_lasting Memory = true
+is_lasting why = false
+
+-- what a reader keeps of an earlier refusal
+abbrev pub lasts : Option ReadlineError → Bool
+lasts None = true
+lasts (Some why) = is_lasting why
+
+-- the refusal that is kept after this one
+abbrev pub kept_refusal : ReadlineError → Option ReadlineError → Option ReadlineError
+kept_refusal why before = if is_lasting why then Some why else before

@@ -1,12 +1,9 @@
 //! Laws of the definitions: each is the contract of a function that does nothing.
 
-ghost use Rattle.line_screen.specs.Characters.{EncodedCharsAreRead, CharsAreEncoded};
-ghost use Rattle.line_screen.specs.Following.{WholeKeysStay};
-ghost use Rattle.line_screen.specs.Short.{TypingLeads, KillingLeads};
-ghost use Rattle.line_screen.specs.Laws.{FullDrawingShows, StartIsEmpty, CallsLead, ChainsLead, PlaceIsFree, LineEndsAnywhere, EndedLineStays, MeasuresGoOn, ShownIsMeant, CellsAreShown};
-ghost use Rattle.line_screen.specs.Pasting.{PastedTextIsBeforeItsMark, PastedTextIsCutOff};
-ghost use Rattle.line_screen.specs.Waiting.{ReadsFindNothingWaiting};
-ghost use Rattle.line_screen.specs.WholeSequences.{ControlIsOneKey};
+ghost use Rattle.line_screen.specs.Input.{EncodedCharsAreRead, CharsAreEncoded};
+ghost use Rattle.line_screen.specs.KeyGrammar.{WholeKeysStay, PastedTextIsBeforeItsMark, PastedTextIsCutOff, ControlIsOneKey};
+ghost use Rattle.line_screen.specs.Laws.{TypingLeads, KillingLeads, FullDrawingShows, StartIsEmpty, CallsLead, ChainsLead, PlaceIsFree, LineEndsAnywhere, EndedLineStays, MeasuresGoOn, ShownIsMeant, CellsAreShown};
+ghost use Rattle.line_screen.specs.Calls.{ReadsFindNothingWaiting};
 
 use line_config::Sink;
 

@@ -4,11 +4,10 @@ ghost use Rattle.std.specs.Prelude.{◌≡◌, ◌≤◌, ◌<◌, ◌∷◌, �
 ghost use Rattle.std.specs.List.{list_all};
 ghost use Rattle.unicode_segmentation.specs.Grapheme.{graphemes};
 ghost use Rattle.line_screen.specs.Display.{is_printable};
-ghost use Rattle.line_screen.specs.Drawing.{drawn_item, row_items, next_items, text_items, break_if, break_unless, left_col, fitted_col, fenced, sent_one, col_after_one, sent, col_after};
+ghost use Rattle.line_screen.specs.Drawing.{drawn_item, row_items, next_items, text_items, break_if, break_unless, left_col, fitted_col, fenced, sent_one, col_after_one, sent, col_after, SendsTo, SendsItems};
 ghost use Rattle.line_screen.specs.Drawing.DrawnItem.{Letter, Cluster};
 ghost use Rattle.line_screen.specs.Measure.{cluster_width};
 ghost use Rattle.line_config.specs.Sending.{Sends};
-ghost use Rattle.line_screen.specs.Sending.{SendsTo, SendsItems};
 
 use crate::characters::{chars_are_clusters, is_narrow, is_wide};
 use crate::drawing::sequences::send;

@@ -3,7 +3,7 @@
 ghost use Rattle.std.specs.Prelude.{◌≡◌, Option};
 ghost use Rattle.line_keys.specs.Feeds.{IsReaderRefusal, Key, Paste, ReadsBy};
 ghost use Rattle.line_keys.specs.Coming.{key_at, paste_at};
-ghost use Rattle.line_screen.specs.Lasting.{kept_refusal};
+ghost use Rattle.line_screen.specs.Reading.{kept_refusal};
 
 use crate::reading::reader::KeyReader;
 use line_config::{EditMode, ReadlineError, Source};
@@ -11,7 +11,7 @@ use line_keys::{Cmd, KeyCode, KeyEvent, Modifiers, RawReader, Text};
 use std::alloc::Global;
 
 impl<S: Source> KeyReader<S> {
-    ghost use Rattle.line_screen.specs.KeyCalls.{AsksKey, AsksText};
+    ghost use Rattle.line_screen.specs.Reader.{AsksKey, AsksText};
 
     /// Keeps a refusal that is for good.
     fn refuse(&mut self, why: ReadlineError) -> ReadlineError
@@ -75,8 +75,7 @@ impl<S: Source> KeyReader<S> {
 }
 
 impl<S: Source + Drop> RawReader for KeyReader<S> {
-    ghost use Rattle.line_screen.specs.KeyCalls.{AsksKey, AsksChar, AsksText};
-    ghost use Rattle.line_screen.specs.Reader.{items_of, kept_of};
+    ghost use Rattle.line_screen.specs.Reader.{AsksKey, AsksChar, AsksText, items_of, kept_of};
 
     type Buffer = u8;
 

@@ -1,7 +1,7 @@
 //! Keys and pasted texts of a source of bytes.
 
 ghost use Rattle.std.specs.Prelude.{◌≡◌, ◌<◌, None, IsTrue, OnOk, false};
-ghost use Rattle.line_screen.specs.Lasting.{lasts};
+ghost use Rattle.line_screen.specs.Reading.{lasts};
 
 use crate::reading::lookahead::Lookahead;
 use crate::reading::paste::{marker_char, marker_front, printable_front, put_char};
@@ -60,8 +60,7 @@ impl<S> KeyReader<S> {
 
 impl<S: Source> KeyReader<S> {
     ghost use Rattle.std.specs.Prelude.{codes, string_bytes};
-    ghost use Rattle.line_screen.specs.KeyReading.{ReadsKey, ReadsSequence, ReadsText, TakesRun, KeepsFor, IsEsc, key_from, escape_from, text_from};
-    ghost use Rattle.line_screen.specs.Reader.{feed_in, kept_of};
+    ghost use Rattle.line_screen.specs.Reader.{ReadsKey, ReadsSequence, ReadsText, TakesRun, KeepsFor, IsEsc, key_from, escape_from, text_from, feed_in, kept_of};
 
     /// The key of ESC `O` and a character.
     fn key_of_third(&mut self) -> Result<KeyEvent, ReadlineError>

@@ -5,7 +5,7 @@ use Rattle.std.specs.Prelude.{string_bytes}
 use Rattle.line_keys.specs.Feeds.{IsReaderRefusal}
 use Rattle.line_screen.specs.KeyGrammar.{Paste, text_answer, in_paste, marker, put}
 use Rattle.line_screen.specs.Input.{chars_of}
-use Rattle.line_screen.specs.KeyReading.{text_from}
+use Rattle.line_screen.specs.Reader.{text_from}
 use Rattle.line_screen.proofs.Onward.{on_char, on_stops}
 use Rattle.line_screen.proofs.PrintableRuns.{on_run}
 use Rattle.line_screen.proofs.Outcomes.{key_refusal}
