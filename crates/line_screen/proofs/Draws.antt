@@ -5,9 +5,9 @@ use Rattle.std.proofs.lemmas.Bool.{and_parts, and_from, le-leb}
 use Rattle.std.proofs.lemmas.Bool.Decides.{nat_tests}
 use Rattle.std.proofs.lemmas.List.Folds.{list_all-append}
 use Rattle.line_buffer.specs.declared.layout.Position.{Position}
-use Rattle.line_screen.specs.Display.{Placed, Display, DisplayReading, put_cells, put_down, put_run, is_printable, is_text, on_run, read, step, at_cursor, right, ends_before, touches}
+use Rattle.line_screen.specs.Display.{Placed, placed_at, Display, DisplayReading, put_cells, put_down, put_run, is_printable, is_text, on_run, read, step, at_cursor, right, ends_before, touches}
 use Rattle.line_screen.specs.Display.DisplayReading.{Text}
-use Rattle.line_screen.specs.Drawing.{DrawnItem, next_row, fit, after_one, place_after, placed_at, lay_one, lay, no_style, row_break, break_if, fitted_col, left_col, fenced, sent_one, col_after_one, sent, col_after}
+use Rattle.line_screen.specs.Drawing.{DrawnItem, next_row, fit, after_one, place_after, lay_one, lay, no_style, row_break, break_if, fitted_col, left_col, fenced, sent_one, col_after_one, sent, col_after}
 use Rattle.line_screen.specs.Drawing.DrawnItem.{NewRow, Letter, Cluster}
 use Rattle.line_screen.specs.Chain.{Stands}
 use Rattle.line_screen.proofs.Standing.{stands_text, read-append, read_text, step_letter, read_plain, read_break}

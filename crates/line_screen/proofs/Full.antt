@@ -7,7 +7,7 @@ use Rattle.std.proofs.lemmas.List.Elements.{filter-append, filter_agree}
 use Rattle.std.proofs.lemmas.List.Folds.{list_all-map}
 use Rattle.line_buffer.specs.Cells.{origin}
 use Rattle.line_buffer.specs.declared.layout.Position.{Position}
-use Rattle.line_screen.specs.Display.{Placed, Display, DisplayReading, read, at_cursor, starts_before, ends_before, is_cut, erased_below}
+use Rattle.line_screen.specs.Display.{Placed, Display, DisplayReading, read, at_cursor, starts_before, ends_before, is_cut, erased}
 use Rattle.line_screen.specs.Display.DisplayReading.{Text, Lost}
 use Rattle.line_screen.specs.Drawing.{DrawnItem, text_items, place_after, lay, no_style, sent, col_after, control_sequence, erase_to_end, clearing_bytes, move_bytes, shown_text, drawing, full_drawing}
 use Rattle.line_screen.specs.Chain.{Inside, Stands, Picture, cells_of, finish_of, cursor_of, down, down_placed, above, from_top, Shows}
@@ -65,7 +65,7 @@ module _ (columns : ℕ) (wide : List ℕ → Option ℕ) where
       let front : Display = at_cursor (place 0 (top + 0)) d in
       ap (λ x. read columns wide x erase_to_end) (step_control columns wide r d s 0x0D refl)
       ∙ ap (λ n. read columns wide (Text (at_cursor (place 0 n) d) []) erase_to_end) h
-      ∙ ap (λ b. if not b then Lost else erased_below front) (lt-ltb 0 columns some)
+      ∙ ap (λ b. if not b then Lost else erased starts_before front) (lt-ltb 0 columns some)
       ∙ ap (λ b. if b then Text (record { placed = filter (starts_before front.cursor) d.placed; cursor = front.cursor }) [] else Lost)
       (list_all_true (λ p. not (is_cut front.cursor p)) (not_cut (top + 0)) d.placed)
       ∙ ap (λ xs. Text (record { placed = xs; cursor = front.cursor }) []) (filter_agree (starts_before front.cursor) (above top) (starts_above top) d.placed)

@@ -9,7 +9,7 @@ use Rattle.line_config.specs.Sending.{Takes, TakesSome}
 use Rattle.line_config.specs.declared.settings.BellStyle.{BellStyle}
 use Rattle.line_config.specs.declared.settings.BellStyle.TheVariants.{Audible}
 use Rattle.line_editor.specs.Calls.{Call, Canvas, Ruler}
-use Rattle.line_editor.specs.Calls.Call.{Draw, Move, Write, Beep, ClearScreen, ClearRows, ClearToEol, MoveAndClearToEol, ToLeftmost, Help}
+use Rattle.line_editor.specs.Calls.Call.{Draw, Move, Write, Beep, ClearScreen, ClearRows, ClearToEol, MoveAndClearToEol}
 use Rattle.line_editor.specs.Redraws.{info_text}
 use Rattle.line_screen.specs.Drawing.{drawing, full_drawing, clearing_bytes, move_bytes, erase_to_end, erase_to_row_end, go_home}
 use Rattle.line_screen.specs.Measure.{cluster_width, measure_of}
@@ -71,8 +71,7 @@ bytes_of s ClearScreen = go_home ++ erase_to_end
 bytes_of s (ClearRows layout) = clearing_bytes layout.cursor.row
 bytes_of s ClearToEol = erase_to_row_end
 bytes_of s (MoveAndClearToEol old new) = move_bytes old new ++ erase_to_row_end
-bytes_of s ToLeftmost = []
-bytes_of s (Help fails) = []
+bytes_of s call = []
 
 -- a failed device's answer is the display's refusal
 abbrev pub display_answer : {A : Type 0} → Result A DeviceFailed → Result A ReadlineError

@@ -5,7 +5,7 @@ use Rattle.line_buffer.specs.Cells.{origin}
 use Rattle.line_buffer.specs.Printable.{is_printable, is_plain, typed_at_plain_end}
 use Rattle.line_buffer.specs.declared.layout.Position.{Position}
 use Rattle.line_editor.specs.Calls.{Call}
-use Rattle.line_editor.specs.Calls.Call.{Draw, Move, Write, Beep, ClearScreen, ClearRows, ClearToEol, MoveAndClearToEol, ToLeftmost, Help}
+use Rattle.line_editor.specs.Calls.Call.{Draw, Move, Write, ClearScreen, ClearRows, ClearToEol, MoveAndClearToEol}
 use Rattle.line_editor.specs.Redraws.{info_text, fits_in_row}
 use Rattle.line_screen.specs.Calls.{old_row}
 use Rattle.line_screen.specs.Display.{Display, Placed, read, start, DisplayReading, put_letters}
@@ -117,7 +117,7 @@ Replaces None a = (a.shown ≡ nothing) × (a.place ≡ origin)
 
 -- the same, with the cursor at another place in the line
 abbrev pub with_place : Picture → ℕ → Picture
-with_place v place = record { prompt = v.prompt; line = v.line; place = place; info = v.info }
+with_place v place = record v { place = place }
 
 -- the cursor goes to a cell, and may stand for another place in the line there
 pub record Moves (columns : ℕ) (a : View) (old new : Position) (b : View) : Type 0 where
@@ -127,12 +127,7 @@ pub record Moves (columns : ℕ) (a : View) (old new : Position) (b : View) : Ty
   pub view : b ≡ record { shown = with_place a.shown at; top = a.top; place = new }
 
 abbrev pub with_letter : Picture → ℕ → Picture
-with_letter v c = record {
-  prompt = v.prompt;
-  line = v.line ++ c ∷ [];
-  place = v.place + 1;
-  info = [];
-}
+with_letter v c = record v { line = v.line ++ c ∷ []; place = v.place + 1; info = [] }
 
 -- a printable character at the end of a plain line, not into the last column, with nothing after
 -- the line
@@ -158,7 +153,7 @@ pub record ClosesLine (columns : ℕ) (wide : List ℕ → Option ℕ) (a : View
   pub view : b ≡ empty_view (a.top + (finish_of columns wide a.shown).row + 1)
 
 abbrev pub cut_line : Picture → List ℕ → Picture
-cut_line v line = record { prompt = v.prompt; line = line; place = length line; info = [] }
+cut_line v line = record v { line = line; place = length line; info = [] }
 
 -- printable characters at the end of a plain line, no more of it than the columns of the line's end,
 -- with nothing after the line: the cursor was moved to where it begins
@@ -179,12 +174,10 @@ LeadsView columns wide a (Draw prompt text place info old new marks) b = Replace
 LeadsView columns wide a (Move old new) b = Moves columns a old new b
 LeadsView columns wide a (Write text) b =
     Types columns wide a text b ⊎ ClosesLine columns wide a text b
-LeadsView columns wide a Beep b = b ≡ a
 LeadsView columns wide a ClearScreen b = b ≡ empty_view 0
 LeadsView columns wide a (ClearRows layout) b = (layout.cursor.row ≡ a.place.row)
     × (b ≡ empty_view a.top)
 LeadsView columns wide a ClearToEol b = ErasesKilled columns wide a b
 LeadsView columns wide a (MoveAndClearToEol old new) b =
     (moved : View) × Moves columns a old new moved × ErasesKilled columns wide moved b
-LeadsView columns wide a ToLeftmost b = b ≡ a
-LeadsView columns wide a (Help fails) b = b ≡ a
+LeadsView columns wide a call b = b ≡ a

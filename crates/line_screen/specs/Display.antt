@@ -5,7 +5,6 @@ use Rattle.std.specs.Prelude.{ℕ, ◌+◌, ◌-◌, ◌*◌, ◌==◌, nat_lt, 
 use Rattle.std.specs.List.{list_all, filter}
 use Rattle.line_buffer.specs.Cells.{origin}
 use Rattle.line_buffer.specs.declared.layout.Position.{Position}
-
 pub use Rattle.line_buffer.specs.Printable.{is_printable}
 
 -- ---- cells
@@ -47,18 +46,12 @@ touches at width p =
 abbrev pub right : ℕ → Position → Position
 right width at = record { col = at.col + width; row = at.row }
 
+abbrev pub placed_at : List ℕ → ℕ → Position → Placed
+placed_at bytes width at = record { row = at.row; col = at.col; width = width; bytes = bytes }
+
 abbrev pub put_down : ℕ → List ℕ → Display → Display
 put_down width bytes d =
-    record {
-      placed = d.placed ++ record {
-        row = d.cursor.row;
-        col = d.cursor.col;
-        width = width;
-        bytes =
-            bytes;
-      } ∷ [];
-      cursor = right width d.cursor;
-    }
+    record { placed = d.placed ++ placed_at bytes width d.cursor ∷ []; cursor = right width d.cursor }
 
 -- on blank cells of the cursor's row
 abbrev pub put_cells : ℕ → ℕ → List ℕ → Display → Option Display
@@ -125,31 +118,24 @@ after_control columns d byte =
     else if (byte == 0x07) && is_inside columns d then Text d []
     else Lost
 
--- what a place leaves, if it is inside no cluster: all that begins before it, and all but what ends
--- after it in its row
-abbrev pub erased_below : Display → DisplayReading
-erased_below d =
-    if list_all (λ p. not (is_cut d.cursor p)) d.placed
-    then Text (record { placed = filter (starts_before d.cursor) d.placed; cursor = d.cursor }) []
-    else Lost
-
 abbrev pub stays_in_row : Position → Placed → Bool
 stays_in_row at p = not (p.row == at.row) || nat_le (p.col + p.width) at.col
 
-abbrev pub erased_right : Display → DisplayReading
-erased_right d =
+-- what a place leaves, if it is inside no cluster
+abbrev pub erased : (Position → Placed → Bool) → Display → DisplayReading
+erased stays d =
     if list_all (λ p. not (is_cut d.cursor p)) d.placed
-    then Text (record { placed = filter (stays_in_row d.cursor) d.placed; cursor = d.cursor }) []
+    then Text (record { placed = filter (stays d.cursor) d.placed; cursor = d.cursor }) []
     else Lost
 
--- ESC [ m (SGR) changes no cell; ESC [ J (ED) and ESC [ K (EL) erase, ESC [ H (CUP) goes to the
--- first cell
+-- ESC [ m (SGR) changes no cell; ESC [ J (ED) leaves all that begins before the cursor, ESC [ K (EL)
+-- all but what ends after it in its row; ESC [ H (CUP) goes to the first cell
 abbrev pub plain_sequence : ℕ → Display → ℕ → DisplayReading
 plain_sequence columns d byte =
     if byte == 0x6D then Text d []
     else if not (is_inside columns d) then Lost
-    else if byte == 0x4A then erased_below d
-    else if byte == 0x4B then erased_right d
+    else if byte == 0x4A then erased starts_before d
+    else if byte == 0x4B then erased stays_in_row d
     else if byte == 0x48 then Text (at_cursor origin d) []
     else Lost
 
@@ -206,7 +192,7 @@ start = Text blank []
 abbrev pub meaning : ℕ → (List ℕ → Option ℕ) → List ℕ → Option Display
 meaning columns wide bytes = settled columns wide (read columns wide start bytes)
 
--- blank, the first cell of a cluster, or a further one
+-- a cell of a display: blank, the first one of a cluster, or a further one
 pub data Cell : Type 0 where
   Blank : Cell
   Head : (bytes : List ℕ) → Cell

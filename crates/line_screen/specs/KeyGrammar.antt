@@ -60,10 +60,7 @@ keeps_byte Vi bytes = true
 -- the same inside a key
 abbrev pub inside : Stop → Stop
 inside AtEnd = Inside
-inside AtBad = AtBad
-inside AtFailure = AtFailure
-inside Torn = Torn
-inside Inside = Inside
+inside stop = stop
 
 -- Esc where no whole character follows: `again` is what the bytes read as by themselves
 abbrev pub lone_escape : EditMode → List ℕ → Stop → List ℕ → Readings → Readings

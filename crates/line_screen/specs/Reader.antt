@@ -1,4 +1,5 @@
--- What a reader of keys has still to give.
+-- What a reader of keys has still to give, and what its calls make of it, whether they are answered
+-- or refused.
 use Rattle.std.specs.Prelude.{◌≡◌, ℕ, Bool, true, false, IsTrue, List, Option, Some, None, Result, Err, ◌≤◌, [], ◌++◌, ◌⊎◌, Ok, IfOk, IfErr, OnErr, ◌<◌, not, IsErr, OnOk}
 use Rattle.line_config.specs.declared.errors.ReadlineError.{ReadlineError}
 use Rattle.line_config.specs.declared.errors.ReadlineError.TheVariants.{PasteOutOfPlace, Reader, Eof, Memory}

@@ -16,14 +16,10 @@ kept_count (Some byte) = 1
 
 -- a source's bytes, with the byte that is kept in front
 abbrev pub with_kept : Option ℕ → Feed → Feed
-with_kept kept source =
-    record {
-      told = source.told;
-      coming = option_to_list kept ++ source.coming;
-      last = source.last;
-      bound = source.bound + kept_count kept;
-      failed = source.failed;
-    }
+with_kept kept source = record source {
+  coming = option_to_list kept ++ source.coming;
+  bound = source.bound + kept_count kept;
+}
 
 -- the refusals of a character and of a key that is read: they take no memory
 abbrev pub IsKeyRefusal : ReadlineError → Type 0
@@ -73,13 +69,8 @@ pub record PeeksByte {S : Type 0} (feed : S → Feed) (old new : Lookahead S)
 
 -- what the code awaits of a character
 abbrev pub continuation : Awaited → Continuation
-continuation awaited =
-    record {
-      value = awaited.value;
-      least = awaited.least;
-      greatest = awaited.greatest;
-      more = awaited.more;
-    }
+continuation a =
+    record { value = a.value; least = a.least; greatest = a.greatest; more = a.more }
 
 -- a further byte of a character is read: one in the range that is awaited, or the definition's
 -- refusal
@@ -130,6 +121,7 @@ pub record ReadsRest {S : Type 0} (feed : S → Feed) (awaited : Awaited) (old n
   pub reads : ReadsChar feed (in_char (Some (continuation awaited))) old new result
   pub whole : result ≡ Err Eof → ⊥
 
+-- the refusals that a reader of keys keeps: every later call is refused in the same way
 abbrev pub is_lasting : ReadlineError → Bool
 is_lasting NotUtf8 = true
 is_lasting PasteOutOfPlace = true
