@@ -83,7 +83,7 @@ module _ {S : Type 0} (feed : S → Feed) (d : List ℕ → Last → Readings) w
   char_is : (c : ℕ) (m n : Lookahead S) → ReadsChar feed chars_of m n (Ok c) → IsTrue (unread feed n).told
       → chars_of (unread feed m).coming (unread feed m).last ≡ Next c (unread feed n).coming (chars_of (unread feed n).coming (unread feed m).last)
   char_is c m n char t =
-      char.ok t ∙ ap (λ last. Next c (unread feed n).coming (chars_of (unread feed n).coming last)) char.last
+      char.ok t ∙ ap (λ last. Next c (unread feed n).coming (chars_of (unread feed n).coming last)) char.leaves.last
 
   -- by one more character
   pub on_char : (f : Chars → Readings) (g : List ℕ → Last → Readings) (c : ℕ) (a m b : KeyReader S)
@@ -94,12 +94,12 @@ module _ {S : Type 0} (feed : S → Feed) (d : List ℕ → Last → Readings) w
   on_char f g c a m b on char mode past owed goes =
       record {
         leads = λ t.
-            leads_then d (λ bytes last. f (chars_of bytes last)) g (left_in feed a) (left_in feed m) (left_in feed b) (on.leads (char.told t))
+            leads_then d (λ bytes last. f (chars_of bytes last)) g (left_in feed a) (left_in feed m) (left_in feed b) (on.leads (char.leaves.told t))
             (leads_char f g c (left_in feed m) (left_in feed b) (feed_in feed m).last (char_is c m.bytes b.bytes char t) goes);
-        told = λ t. on.told (char.told t);
-        last = char.last ∙ on.last;
-        works = λ fine. char.failure (on.works fine);
-        keeps = let one = on.keeps in let two = char.keeps in omega arith;
+        told = λ t. on.told (char.leaves.told t);
+        last = char.leaves.last ∙ on.last;
+        works = λ fine. char.leaves.failure (on.works fine);
+        keeps = let one = on.keeps in let two = char.leaves.keeps in omega arith;
         mode = mode ∙ on.mode;
         past = past ∙ on.past;
         owed = owed ∙ on.owed;
@@ -113,7 +113,7 @@ module _ {S : Type 0} (feed : S → Feed) (d : List ℕ → Last → Readings) w
       → On feed d g a b
   on_peek g byte a b n r none peek is bytes mode past owed goes =
       let kept : n.kept ≡ Some byte = rw is at peek.kept in
-      let fine : (feed_in feed a).failed ≡ false → (unread feed n).failed ≡ false = rw is at peek.failure in
+      let fine : (feed_in feed a).failed ≡ false → (unread feed n).failed ≡ false = rw is at peek.leaves.failure in
       let back : IsTrue (feed_in feed b).told → IsTrue (unread feed n).told = λ t. subst (λ l. IsTrue (unread feed l).told) bytes t in
       (record {
         leads = λ t. record {
@@ -121,11 +121,11 @@ module _ {S : Type 0} (feed : S → Feed) (d : List ℕ → Last → Readings) w
           split = sym (peek.read (back t)) ∙ ap (λ k. option_to_list k ++ (feed n.source).coming) kept ∙ ap (λ l. byte ∷ (unread feed l).coming) (sym bytes);
           same = goes;
         };
-        told = λ t. peek.told (back t);
-        last = ap (λ l. (unread feed l).last) bytes ∙ peek.last;
+        told = λ t. peek.leaves.told (back t);
+        last = ap (λ l. (unread feed l).last) bytes ∙ peek.leaves.last;
         works = λ h. ap (λ l. (unread feed l).failed) bytes ∙ fine h;
         keeps =
-            let low = peek.keeps in
+            let low = peek.leaves.keeps in
             let all : (feed_in feed b).bound ≡ (feed n.source).bound + 0 = ap (λ l. (unread feed l).bound) bytes in
             omega arith;
         mode = mode;
@@ -139,10 +139,10 @@ module _ {S : Type 0} (feed : S → Feed) (d : List ℕ → Last → Readings) w
   on_look a b r none peek fine mode past owed =
       record {
         leads = λ t. record { read = []; split = sym (peek.read t); same = λ bytes last. refl };
-        told = peek.told;
-        last = peek.last;
-        works = λ h. peek.failure h ∙ fine;
-        keeps = peek.keeps;
+        told = peek.leaves.told;
+        last = peek.leaves.last;
+        works = λ h. peek.leaves.failure h ∙ fine;
+        keeps = peek.leaves.keeps;
         mode = mode;
         past = past;
         owed = owed ∙ none;
@@ -157,9 +157,9 @@ module _ {S : Type 0} (feed : S → Feed) (d : List ℕ → Last → Readings) w
         let same : IsTrue (feed_in feed m).told → d (left_in feed a) (feed_in feed a).last ≡ d' (left_in feed m) (feed_in feed m).last =
         λ t. leads_is d d' (left_in feed a) (left_in feed m) (feed_in feed a).last (on.leads t) ∙ ap (d' (left_in feed m)) (sym on.last) in
         record {
-          ok = λ t. IfOk-weaker r _ _ (λ x h. same (reads.told t) ∙ h) (reads.ok t);
-          answer = λ t h. reads.answer t h ∙ ap answer_of (sym (same (reads.told t)));
-          left = λ t h. ap left_after (same (reads.told t)) ∙ reads.left t h;
+          ok = λ t. IfOk-weaker r _ _ (λ x h. same (reads.leaves.told t) ∙ h) (reads.ok t);
+          answer = λ t h. reads.answer t h ∙ ap answer_of (sym (same (reads.leaves.told t)));
+          left = λ t h. ap left_after (same (reads.leaves.told t)) ∙ reads.left t h;
           spent = reads.spent;
           ends = λ t h. sym on.last ∙ reads.ends t h;
           owed = reads.owed;
@@ -167,10 +167,12 @@ module _ {S : Type 0} (feed : S → Feed) (d : List ℕ → Last → Readings) w
           past = reads.past ∙ on.past;
           refused = reads.refused;
           reason = reads.reason;
-          failure = λ fine. reads.failure (on.works fine);
-          told = λ t. on.told (reads.told t);
-          last = reads.last ∙ on.last;
-          keeps = let one = on.keeps in let two = reads.keeps in omega arith;
+          leaves = record {
+            failure = λ fine. reads.leaves.failure (on.works fine);
+            told = λ t. on.told (reads.leaves.told t);
+            last = reads.leaves.last ∙ on.last;
+            keeps = let one = on.keeps in let two = reads.leaves.keeps in omega arith;
+          };
         }
 
     -- a character ends the item
@@ -182,11 +184,11 @@ module _ {S : Type 0} (feed : S → Feed) (d : List ℕ → Last → Readings) w
         → ReadsPart feed item answer_of kinds d a b (Ok x)
     on_ends f c x a m b answers leaves on char mode past goes =
         let here : IsTrue (feed_in feed b).told → d (left_in feed a) (feed_in feed a).last ≡ item x (left_in feed b) (reads feed b) =
-        λ t. leads_is d (λ bytes last. f (chars_of bytes last)) (left_in feed a) (left_in feed m) (feed_in feed a).last (on.leads (char.told t))
+        λ t. leads_is d (λ bytes last. f (chars_of bytes last)) (left_in feed a) (left_in feed m) (feed_in feed a).last (on.leads (char.leaves.told t))
         ∙ ap (λ last. f (chars_of (left_in feed m) last)) (sym on.last)
         ∙ ap f (char_is c m.bytes b.bytes char t) ∙ goes (left_in feed b) (feed_in feed m).last
         ∙ ap (λ w. item x (left_in feed b) (read_from w b.owed (chars_of (left_in feed b) (feed_in feed m).last))) (sym mode)
-        ∙ ap (λ last. item x (left_in feed b) (read_from b.mode b.owed (chars_of (left_in feed b) last))) (sym char.last) in
+        ∙ ap (λ last. item x (left_in feed b) (read_from b.mode b.owed (chars_of (left_in feed b) last))) (sym char.leaves.last) in
         record {
           ok = here;
           answer = λ t h. sym (ap answer_of (here t) ∙ answers (left_in feed b) (reads feed b));
@@ -198,10 +200,12 @@ module _ {S : Type 0} (feed : S → Feed) (d : List ℕ → Last → Readings) w
           past = past ∙ on.past;
           refused = tt;
           reason = λ h. absurd (cc);
-          failure = λ fine. char.failure (on.works fine);
-          told = λ t. on.told (char.told t);
-          last = char.last ∙ on.last;
-          keeps = let one = on.keeps in let two = char.keeps in omega arith;
+          leaves = record {
+            failure = λ fine. char.leaves.failure (on.works fine);
+            told = λ t. on.told (char.leaves.told t);
+            last = char.leaves.last ∙ on.last;
+            keeps = let one = on.keeps in let two = char.leaves.keeps in omega arith;
+          };
         }
 
     same_refusal : (e e' : ReadlineError) → refusal X e ≡ refusal X e' → e ≡ e'
@@ -230,10 +234,7 @@ module _ {S : Type 0} (feed : S → Feed) (d : List ℕ → Last → Readings) w
           past = past;
           refused = kind e char.refused;
           reason = λ h. char.reason (ap no_char (same_refusal e Reader h));
-          failure = char.failure;
-          told = char.told;
-          last = char.last;
-          keeps = char.keeps;
+          leaves = char.leaves;
         })
 
     pub on_stops : (f : Chars → Readings) → ((chars : Chars) (e : ReadlineError) → char_at chars ≡ Err e → answer_of (f chars) ≡ Err e)

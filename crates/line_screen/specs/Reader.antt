@@ -7,7 +7,7 @@ use Rattle.line_config.specs.Feed.{Feed, GivesBytes}
 use Rattle.line_keys.specs.Coming.{Coming, Refused, Pressed, Pasted, key_at, paste_at, left_by}
 use Rattle.line_keys.specs.Feeds.{KeyFeed, IsReaderRefusal}
 use Rattle.line_screen.specs.Input.{Chars, char_at, chars_of, is_failure, Next, behind_char}
-use Rattle.line_screen.specs.Reading.{with_kept, IsKeyRefusal}
+use Rattle.line_screen.specs.Reading.{LeavesFeed, with_kept, IsKeyRefusal}
 use Rattle.line_screen.specs.KeyGrammar.{Readings, read_from, coming_of, Key, Paste, esc, readings, in_escape, in_sequence, in_paste, key_answer, text_answer, left_after}
 use Rattle.line_screen.specs.declared.reading.reader.KeyReader.{KeyReader}
 use Rattle.std.specs.List.{list_all}
@@ -117,10 +117,7 @@ pub record ReadsPart {S X : Type 0} (feed : S → Feed) (item : X → List ℕ �
   pub past : new.refused ≡ old.refused
   pub refused : IfErr result IsRefusal
   pub reason : result ≡ Err Reader → IsTrue (feed_in feed new).failed
-  pub failure : (feed_in feed old).failed ≡ false → (feed_in feed new).failed ≡ is_failure result
-  pub told : IsTrue (feed_in feed new).told → IsTrue (feed_in feed old).told
-  pub last : (feed_in feed new).last ≡ (feed_in feed old).last
-  pub keeps : (feed_in feed new).bound ≤ (feed_in feed old).bound
+  pub leaves : LeavesFeed (feed_in feed old) (feed_in feed new) (is_failure result)
 
 abbrev pub ReadsKey : {S : Type 0} → (S → Feed) → (List ℕ → Last → Readings) → KeyReader S
     → KeyReader S
