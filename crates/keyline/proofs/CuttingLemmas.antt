@@ -8,7 +8,7 @@ use Rattle.line_keys.specs.Keys.{key_with, none, alt}
 use Rattle.line_screen.specs.KeyGrammar.{readings_then, Readings, Key, Paste, Cut, Stops, readings, coming_of}
 use Rattle.line_screen.specs.Input.{chars_of}
 use Rattle.line_screen.proofs.FollowingLemmas.{whole_keys_stay}
-use Rattle.keyline.specs.Cutting.{coming_then, CutsAreFree}
+use Rattle.keyline.specs.SessionLaws.{coming_then, CutsAreFree}
 use Rattle.keyline.specs.Sessions.{coming_from}
 
 coming_follows : (r : Readings) (more : List ℕ) (following : Readings)

@@ -22,7 +22,7 @@ use Rattle.line_editor.proofs.StopsLemmas.{asked_both}
 use Rattle.line_editor.proofs.ToldLemmas.{left_along, played_each, steps_both, turns_steps}
 use Rattle.line_screen.specs.Calls.{Screen, bytes_of, ruler_of}
 use Rattle.line_screen.specs.Drawing.{break_if}
-use Rattle.keyline.specs.FewerKeys.{IsBeginning, LinesBegin, SessionsBegin}
+use Rattle.keyline.specs.SessionLaws.{IsBeginning, LinesBegin, SessionsBegin}
 use Rattle.keyline.specs.Sessions.{Given, SessionState, Report, line_in, setting_in, after_line, history_after, line_reported, line_bytes, breaks, display_bytes, LineGiven, for_line, screens_for, session_by}
 use Rattle.keyline.proofs.HeardBytes.{NeverEnds, Agrees, Opens, bytes_open}
 

@@ -9,8 +9,7 @@ use Rattle.line_editor.proofs.LineLeads.{turn_leads}
 use Rattle.line_keys.specs.declared.command.Cmd.{Cmd}
 use Rattle.line_keys.specs.declared.command.Cmd.TheVariants.{Interrupt}
 use Rattle.line_screen.specs.Calls.{Screen}
-use Rattle.keyline.specs.Shows.{DisplayHolds, above_after, top_after, drawn_by, bytes_for}
-use Rattle.keyline.specs.TurnShows.{Lead, sight_behind, CommandsShow, TurnsShow}
+use Rattle.keyline.specs.Shows.{DisplayHolds, above_after, top_after, drawn_by, bytes_for, Lead, sight_behind, CommandsShow, TurnsShow}
 use Rattle.keyline.proofs.ShowCourse.{steps}
 
 -- steps that lead from one sight to the other

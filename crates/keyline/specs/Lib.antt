@@ -1,8 +1,6 @@
-pub mod Cutting
 pub mod Desks
 pub mod Editors
 pub mod Endings
-pub mod FewerKeys
 pub mod Known
 pub mod OneByte
 pub mod Options
@@ -14,4 +12,3 @@ pub mod SessionLaws
 pub mod SessionScripts
 pub mod Sessions
 pub mod Shows
-pub mod TurnShows

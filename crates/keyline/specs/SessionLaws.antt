@@ -1,9 +1,17 @@
--- Laws of sessions: what their columns matter to, and what their history holds.
-use Rattle.std.specs.Prelude.{◌≡◌, ℕ, true, if◌then◌else◌, List, [], ◌∷◌}
+-- Laws of sessions: what their columns matter to, what their history holds, what fewer keys send, and
+-- where an input may be cut.
+use Rattle.std.specs.Prelude.{◌≡◌, ℕ, true, if◌then◌else◌, List, [], ◌∷◌, ◌++◌, IsTrue}
 use Rattle.line_buffer.specs.Cells.{origin}
 use Rattle.line_help.specs.History.{Settings, Filed, nothing_filed, ignored, filed_with, newest}
 use Rattle.line_screen.specs.Measure.{measure_of}
-use Rattle.keyline.specs.Sessions.{Given, LineGiven, SessionState, session, session_by, remembered}
+use Rattle.keyline.specs.Sessions.{Given, LineGiven, SessionState, session, session_by, remembered, line_in, line_bytes, display_bytes, screens_for, state_over, coming_from}
+use Rattle.line_config.specs.declared.device.Last.{Last}
+use Rattle.line_config.specs.declared.device.Last.TheVariants.{Failed, End}
+use Rattle.line_config.specs.declared.settings.EditMode.{EditMode}
+use Rattle.line_record.specs.Ring.{Ring}
+use Rattle.line_keys.specs.Coming.{Coming, Pressed, Pasted, CutOff, Ends, Refused}
+use Rattle.line_screen.specs.KeyGrammar.{are_whole, EndWithoutEsc, readings}
+use Rattle.line_screen.specs.Input.{chars_of}
 
 -- the same on rows of so many columns
 abbrev pub at_columns : ℕ → Given → Given
@@ -33,3 +41,49 @@ LastAreKept =
     (n : ℕ) (g : Given) (at : ℕ → LineGiven) (x : SessionState) (settings : Settings) →
     let lines = (session_by n g at x).accepted in let empty = nothing_filed settings in
     (remembered true lines empty).kept.entries ≡ newest settings.max_len (taken_of empty lines)
+
+-- the one is a beginning of the other
+abbrev pub IsBeginning : {A : Type 0} → List A → List A → Type 0
+IsBeginning {A} xs ys = (later : List A) × (ys ≡ xs ++ later)
+
+-- of a source that fails after its bytes, against one that gives more of them and then does
+-- whatever it does: a line's display bytes
+abbrev pub LinesBegin : Type 0
+LinesBegin =
+    (n : ℕ) (g : Given) (ring : Ring) (history : Filed) (mode : EditMode) (bytes more : List ℕ)
+    (last : Last)
+    → let fewer = line_in n g (state_over ring history mode bytes Failed) in
+    let all = line_in n g (state_over ring history mode (bytes ++ more) last) in
+    IsBeginning (line_bytes g.screen fewer) (line_bytes g.screen all)
+
+-- and a session's display bytes and accepted lines, whatever prompt and columns each line has
+abbrev pub SessionsBegin : Type 0
+SessionsBegin =
+    (n : ℕ) (g : Given) (at : ℕ → LineGiven) (ring : Ring) (history : Filed) (mode : EditMode)
+    (bytes more : List ℕ) (last : Last)
+    → let fewer = session_by n g at (state_over ring history mode bytes Failed) in
+    let all = session_by n g at (state_over ring history mode (bytes ++ more) last) in
+    let screens = screens_for g at in
+    IsBeginning (display_bytes screens fewer.told) (display_bytes screens all.told)
+    × IsBeginning fewer.accepted all.accepted
+
+-- the keys and pastes of the one, then what the other has
+abbrev pub coming_then : Coming → Coming → Coming
+coming_then (Pressed k rest) more = Pressed k (coming_then rest more)
+coming_then (Pasted text rest) more = Pasted text (coming_then rest more)
+coming_then (CutOff item) more = CutOff item
+coming_then (Ends item) more = more
+coming_then (Refused why) more = Refused why
+
+-- the bytes read as whole keys and pastes to their end, where no paste is owed
+abbrev pub AreWhole : EditMode → List ℕ → Type 0
+AreWhole mode bytes = IsTrue (are_whole (readings mode (chars_of bytes End)))
+
+-- The keys and pastes of such bytes, of which the last isn't ESC, with others behind them are those
+-- of the first, then those of the others.
+abbrev pub CutsAreFree : Type 0
+CutsAreFree =
+    (mode : EditMode) (bytes more : List ℕ) (last : Last)
+    → EndWithoutEsc bytes → AreWhole mode bytes
+    → coming_from mode (bytes ++ more) last
+    ≡ coming_then (coming_from mode bytes End) (coming_from mode more last)

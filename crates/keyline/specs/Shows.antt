@@ -1,5 +1,5 @@
 -- What a display shows over a session: what is to be seen of a line at its top, and what above.
-use Rattle.std.specs.Prelude.{◌≡◌, ⊤, ℕ, ◌+◌, ◌≤◌, Bool, true, false, if◌then◌else◌, List, [], ◌∷◌, ◌++◌, Some, is_some}
+use Rattle.std.specs.Prelude.{◌≡◌, ⊤, ℕ, ◌+◌, ◌≤◌, Bool, true, false, if◌then◌else◌, List, [], ◌∷◌, ◌++◌, Some, is_some, Option, Ok}
 use Rattle.std.specs.List.{filter, flat_map}
 use Rattle.line_buffer.specs.Cells.{origin}
 use Rattle.line_buffer.specs.declared.layout.Layout.{Layout}
@@ -7,9 +7,9 @@ use Rattle.line_buffer.specs.declared.layout.Position.{Position}
 use Rattle.line_editor.specs.Courses.{Turn, Open, Accept, Last, TurnsLead}
 use Rattle.line_editor.specs.Redraws.{Asked, fresh, info_text}
 use Rattle.line_editor.specs.Redraws.Redraw.{Cleared}
-use Rattle.line_editor.specs.Sights.{Sight, sight, sight_drawn, no_sight}
+use Rattle.line_editor.specs.Sights.{Sight, sight, sight_drawn, no_sight, sight_of, ended_sight, info_after}
 use Rattle.line_editor.specs.Steps.{asked}
-use Rattle.line_editor.specs.Values.{EditStep}
+use Rattle.line_editor.specs.Values.{EditStep, Value, Setting}
 use Rattle.line_editor.specs.Values.EditStep.{Draws}
 use Rattle.line_screen.specs.Calls.{Screen, bytes_of, ruler_of}
 use Rattle.line_screen.specs.Chain.{View, Good, Picture, Shows, finish_of, cursor_of, above}
@@ -18,6 +18,12 @@ use Rattle.line_screen.specs.Drawing.{row_break, break_if}
 use Rattle.line_screen.specs.Laws.{widths}
 use Rattle.line_screen.specs.Measure.{measure_of}
 use Rattle.keyline.specs.Sessions.{Given, SessionState, session, turns_of, display_bytes}
+use Rattle.line_editor.specs.Commands.{Means, effect}
+use Rattle.line_editor.specs.LineScripts.{LineState, made_from, played_from, turn_script}
+use Rattle.line_editor.specs.declared.commands.Status.{Status}
+use Rattle.line_keys.specs.Answers.{Custom}
+use Rattle.line_keys.specs.declared.command.Cmd.{Cmd}
+use Rattle.line_keys.specs.declared.command.Cmd.TheVariants.{Interrupt}
 
 -- ---- what is to be seen, as one drawing from nothing
 
@@ -165,3 +171,37 @@ Displays g x =
 abbrev pub SessionsShow : Type 0
 SessionsShow =
     (g : Given) (x : SessionState) → 2 ≤ g.screen.columns → g.screen.columns ≤ 1000 → Displays g x
+
+-- from any bytes after which the display shows the one, the bytes of these steps lead to the other;
+-- the rows above stay until the screen is cleared
+abbrev pub Lead : Screen → Sight → List EditStep → Sight → Type 0
+Lead s x steps y =
+    (bytes : List ℕ) (over : List Placed) (top : ℕ) (l : Layout)
+    → DisplayHolds s bytes over top l x → LowAll s x steps
+    → DisplayHolds s (bytes ++ bytes_for s l steps) (above_after steps over)
+    (top_after steps top) (drawn_by s l steps).layout y
+
+-- an interruption leaves the cursor at the drawing's end
+abbrev pub sight_behind : Cmd → Sight → Sight
+sight_behind Interrupt x = ended_sight x
+sight_behind cmd x = x
+
+-- a command, whatever information stands
+abbrev pub CommandsShow : Type 0
+CommandsShow =
+    (s : Screen) → 2 ≤ s.columns → s.columns ≤ 1000
+    → (m : Means) (cmd : Cmd) (a : Setting) (v : Value) (info : Option (List ℕ))
+    → let e = effect m cmd a v in
+    Lead s (sight_of a v info) e.steps
+    (sight_behind cmd (sight_of a e.value (info_after e.steps info)))
+
+-- a phrase and its command, whatever comes
+abbrev pub TurnsShow : Type 0
+TurnsShow =
+    (s : Screen) → 2 ≤ s.columns → s.columns ≤ 1000
+    → (n : ℕ) (a : Setting) (custom : Custom) (indent : ℕ) (k : LineState) (info : Option (List ℕ))
+    (status : Status)
+    → let turn = turn_script n custom in let made = made_from a indent turn k in
+    (played_from a indent turn k).answer ≡ Ok status
+    → Lead s (sight_of a k.value info) made.steps
+    (sight_of a made.value (info_after made.steps info))

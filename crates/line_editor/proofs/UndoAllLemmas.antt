@@ -55,11 +55,10 @@ use Rattle.line_editor.specs.Killing.{kill_effect, insert_text_if}
 use Rattle.line_editor.specs.Leads.{Reaches, Sound}
 use Rattle.line_editor.specs.Moving.{cursor_moved_if, to_found, to_place, move_home, move_to_next_word, move_to_first_print, move_by}
 use Rattle.line_editor.specs.Remembering.{saved_now, at_place, saved_on_leaving, recall, recalled, restored, hit_shown, history_step, history_end, history_search}
-use Rattle.line_editor.specs.Returns.{ValueStep, value_after, value_after_all}
+use Rattle.line_editor.specs.Returns.{ValueStep, value_after, value_after_all, BegunSound, UndoesAll}
 use Rattle.line_editor.specs.Returns.ValueStep.{Done, Asked}
 use Rattle.line_editor.specs.Drawing.{refreshed_if}
 use Rattle.line_editor.specs.Rewording.{edit_word_effect}
-use Rattle.line_editor.specs.UndoAll.{BegunSound, UndoesAll}
 use Rattle.line_editor.specs.Values.{Value, Setting, Effect, then_do, verdict_reply, completion_reply, rewritten, written_of, at_line}
 use Rattle.line_editor.specs.Yanking.{anchored, steps_over, behind_yank, yanked_by, yank_text, yank_lent, pop_lent}
 use Rattle.line_editor.proofs.ReachLemmas.{ended_reaches, edit_reaches, group_reaches, typing_reaches, yanking_reaches, updating_reaches, indenting_reaches, killing_reaches, transposing_reaches}

@@ -19,7 +19,7 @@ use Rattle.line_editor.specs.Drawing.{refreshed}
 use Rattle.line_editor.specs.Rewording.{unmarking, taking_back, undo}
 use Rattle.line_editor.specs.States.{value_of, setting_of, surface_of, Stays, Does}
 use Rattle.line_editor.specs.Steps.{Stops}
-use Rattle.line_editor.specs.UndoAll.{UndoReaches}
+use Rattle.line_editor.specs.Returns.{UndoReaches}
 use Rattle.line_editor.specs.Values.{Value, Setting, then_do, rewritten}
 use Rattle.line_editor.specs.declared.renderer as renderers
 use Rattle.line_editor.specs.declared.state.State.{State}

@@ -21,7 +21,6 @@ pub mod Rewording
 pub mod Running
 pub mod Sights
 pub mod States
-pub mod UndoAll
 pub mod Values
 pub mod Yanking
 pub mod Turning

@@ -1,8 +1,7 @@
 //! Laws of the editor, each the contract of a function that does nothing.
 
 ghost use Rattle.line_editor.specs.Leads.{CommandsLead, SubmittingLeads, AsksLead, EachTurnLeads, LinesLead};
-ghost use Rattle.line_editor.specs.Returns.{ComesBack};
-ghost use Rattle.line_editor.specs.UndoAll.{UndoReaches, UndoesAll};
+ghost use Rattle.line_editor.specs.Returns.{ComesBack, UndoReaches, UndoesAll};
 
 /// What a command wants to be seen leads from a display that shows the value before to one that
 /// shows the value after, so that nothing of an older drawing is left standing.
