@@ -50,8 +50,8 @@ abbrev pub placed_at : List ℕ → ℕ → Position → Placed
 placed_at bytes width at = record { row = at.row; col = at.col; width = width; bytes = bytes }
 
 abbrev pub put_down : ℕ → List ℕ → Display → Display
-put_down width bytes d =
-    record { placed = d.placed ++ placed_at bytes width d.cursor ∷ []; cursor = right width d.cursor }
+put_down width run d =
+    record { placed = d.placed ++ placed_at run width d.cursor ∷ []; cursor = right width d.cursor }
 
 -- on blank cells of the cursor's row
 abbrev pub put_cells : ℕ → ℕ → List ℕ → Display → Option Display
@@ -128,8 +128,8 @@ erased stays d =
     then Text (record { placed = filter (stays d.cursor) d.placed; cursor = d.cursor }) []
     else Lost
 
--- ESC [ m (SGR) changes no cell; ESC [ J (ED) leaves all that begins before the cursor, ESC [ K (EL)
--- all but what ends after it in its row; ESC [ H (CUP) goes to the first cell
+-- ESC [ m (SGR) changes no cell; ESC [ J (ED) leaves all that begins before the cursor, and
+-- ESC [ K (EL) all but what ends after it in its row; ESC [ H (CUP) goes to the first cell
 abbrev pub plain_sequence : ℕ → Display → ℕ → DisplayReading
 plain_sequence columns d byte =
     if byte == 0x6D then Text d []
