@@ -195,8 +195,8 @@ readings_then (Paste text behind rest) more following = Paste text (behind ++ mo
 readings_then (Cut stop left) more following = Cut stop left
 readings_then (Stops stop left) more following = following
 
--- Where bytes read as whole keys and pasted texts to their end, and the last isn't ESC, they read so
--- whatever follows them.
+-- Where bytes read as whole keys and pasted texts to their end, and the last isn't ESC, they read
+-- so whatever follows them.
 abbrev pub WholeKeysStay : Type 0
 WholeKeysStay = (mode : EditMode) (bytes more : List ℕ) (last : Last)
     → EndWithoutEsc bytes → IsTrue (are_whole (readings mode (chars_of bytes End)))
