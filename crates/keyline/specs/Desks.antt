@@ -29,8 +29,9 @@ module _ {S H D L : Type 0} (k : Known S D L) where
   pub record TakesLine (g g' : Given) (old new : Desk S H D L)
       (result : Result (List ℕ) ReadlineError) : Type 0 where
     pub goes : IsTrue (desk_feed new).told → (n : ℕ) → (desk_feed old).bound < n
-        → ComesTo k.shown k.written_in g.config.auto_add_history (one_line n g (session_state_of old))
-        (work_of old) (result, session_state_of new) (work_of new) result
+        → ComesTo k.shown k.written_in g.config.auto_add_history
+        (one_line n g (session_state_of old)) (work_of old) (result, session_state_of new)
+        (work_of new) result
     pub given : IsTrue (desk_feed new).told → g' ≡ g
     pub custom : g'.custom ≡ g.custom
     pub told : IsTrue (desk_feed new).told → IsTrue (desk_feed old).told

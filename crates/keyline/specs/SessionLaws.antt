@@ -1,5 +1,5 @@
--- Laws of sessions: what their columns matter to, what their history holds, what fewer keys send, and
--- where an input may be cut.
+-- Laws of sessions: what their columns matter to, what their history holds, what fewer keys send,
+-- and where an input may be cut.
 use Rattle.std.specs.Prelude.{◌≡◌, ℕ, true, if◌then◌else◌, List, [], ◌∷◌, ◌++◌, IsTrue}
 use Rattle.line_buffer.specs.Cells.{origin}
 use Rattle.line_help.specs.History.{Settings, Filed, nothing_filed, ignored, filed_with, newest}

@@ -6,8 +6,8 @@ use Rattle.line_buffer.specs.declared.layout.Layout.{Layout}
 use Rattle.line_buffer.specs.declared.layout.Position.{Position}
 use Rattle.line_editor.specs.Calls.{Ruler}
 
--- the place stands in the text, and the drawing of the text before it ends there, measured so from a
--- start
+-- the place stands in the text, and the drawing of the text before it ends there, measured so from
+-- a start
 pub record IsKnown (measure : List ℕ → Position → Position) (start : Position) (text : List ℕ)
     (known : Option (ℕ × Position)) : Type 0 where
   pub inside : ForSome known (λ k. k.0 ≤ length text)

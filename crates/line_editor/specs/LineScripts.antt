@@ -143,7 +143,8 @@ module _ (s : Setting) (indent : ℕ) where
 
   -- ---- what a script comes to, where no fault comes
 
-  abbrev pub played_from : {X : Type 0} → LineScript X → LineState → Played LineAsk LineState ReadlineError X
+  abbrev pub played_from : {X : Type 0} → LineScript X → LineState
+      → Played LineAsk LineState ReadlineError X
   played_from script k = played line_plan script k
 
   -- what it makes of the value

@@ -28,7 +28,8 @@ edit_word_effect action s v =
     (refreshed_if (is_some (word_to_edit v.line))) s v
 
 abbrev pub indent_effect : Movement → ℕ → Bool → Transition
-indent_effect movement amount dedent = then_do (rewriting (indenting movement amount dedent)) refreshed
+indent_effect movement amount dedent =
+    then_do (rewriting (indenting movement amount dedent)) refreshed
 
 -- marks taken back, from which the line stays
 abbrev pub unmarked : ℕ → Value → Value

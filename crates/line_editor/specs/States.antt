@@ -23,8 +23,8 @@ use Rattle.line_editor.specs.Values.{Value, Setting, Hooks, empty_at, hooks_by, 
 use Rattle.line_editor.specs.declared.renderer.Renderer as renderers
 use Rattle.line_editor.specs.declared.state.State.{State}
 
--- a call of a hook answers where it doesn't fail, or one of its faults: Helper where it fails, Memory
--- where it takes memory. Without helper it answers
+-- a call of a hook answers where it doesn't fail, or one of its faults: Helper where it fails,
+-- Memory where it takes memory. Without helper it answers
 abbrev pub fails_by : {A : Type 0} → Option (Reply A) → Bool
 fails_by None = false
 fails_by (Some reply) = fails reply
