@@ -120,8 +120,9 @@ pub fn columns()
 {}
 
 /// What a session does, event after event, comes to its report: its ending, the bytes drawn, what
-/// is left to come, the lines kept and the lines written. Any first events of it have written the first
-/// lines, and kept those and at most the next one. A line's events come to the line that is meant.
+/// is left to come, the lines kept and the lines written. Any first events of it have written the
+/// first lines, and kept those and at most the next one. A line's events come to the line that is
+/// meant.
 pub fn events()
     ensures sessions { EventsTell }
     ensures lines { LinesTell }
