@@ -57,7 +57,7 @@ row_stands = (
   record { fits = ((λ e. refl), tt); leads = refl },
   refl,
   (
-    record { fits = ((refl, refl, refl, record { printable = refl; simple = refl; end = refl; prompt_is = refl; text_is = refl; behind = refl }), tt); leads = refl },
+    record { fits = ((refl, refl, refl, record { typed = refl; prompt_is = refl; text_is = refl; behind = refl }), tt); leads = refl },
     refl,
     (
       record { fits = (tt, ((λ e. refl), tt)); leads = refl },
