@@ -100,7 +100,7 @@ module _ {Out H Hi K T : Type 0} {renderer : renderers.Renderer.Ghosts Out} {com
         abbrev means_here : Means
         means_here = means_of i1 indent (reset_by cmd r)
 
-        commanded : (result : Result Status ReadlineError) → Executes means_here cmd m t ring' result
+        commanded : (result : Result Status ReadlineError) → Executes cmd i1 indent m (reset_by cmd r) t ring' result
             → Goes (world_of indent s) (obeying cmd) (stage_of m i1 r c1) result (stage_of t i1 ring' c1)
         commanded result (inl (does, outcome_is, ring_is)) = ended result (
           sym (outcome_is ∙ ap (λ a. outcome means_here cmd a (value_of m)) (setting_stays s m stays)),
@@ -117,7 +117,7 @@ module _ {Out H Hi K T : Type 0} {renderer : renderers.Renderer.Ghosts Out} {com
 
       turn_goes : (cmd : Cmd) (t : State Out H Hi K T renderer completer candidate hinter hint highlighter validator history) (ring' : Ring) (result : Result Status ReadlineError)
           → Happens display_of b (line_phrase custom i (shown_in (value_of s))) (key_stage s i c) (Ok cmd) (key_stage m i1 c1)
-          → Executes (means_of i1 indent (reset_by cmd r)) cmd m t ring' result → Turns result (stage_of t i1 ring' c1)
+          → Executes cmd i1 indent m (reset_by cmd r) t ring' result → Turns result (stage_of t i1 ring' c1)
       turn_goes cmd t ring' result h k =
           let first = phrased (Ok cmd) h in
           turn_begun result (stage_of t i1 ring' c1)
@@ -127,9 +127,9 @@ module _ {Out H Hi K T : Type 0} {renderer : renderers.Renderer.Ghosts Out} {com
       turn_stays : (q : Result Cmd ReadlineError) → Happens display_of b (line_phrase custom i (shown_in (value_of s))) (key_stage s i c) q (key_stage m i1 c1) → Stays s m
       turn_stays q h = (phrased q h).1
 
-  executes_stay : (means : Means) (cmd : Cmd) (m t : State Out H Hi K T renderer completer candidate hinter hint highlighter validator history) (ring' : Ring) (result : Result Status ReadlineError) → Executes means cmd m t ring' result → Stays m t
-  executes_stay means cmd m t ring' result (inl (does, outcome_is, ring_is)) = does.stays
-  executes_stay means cmd m t ring' result (inr (e, is, refused, ring)) = refused.stays
+  executes_stay : (cmd : Cmd) (i : Input) (indent : ℕ) (m t : State Out H Hi K T renderer completer candidate hinter hint highlighter validator history) (ring ring' : Ring) (result : Result Status ReadlineError) → Executes cmd i indent m ring t ring' result → Stays m t
+  executes_stay cmd i indent m t ring ring' result (inl (does, outcome_is, ring_is)) = does.stays
+  executes_stay cmd i indent m t ring ring' result (inr (e, is, refused, left)) = refused.stays
 
   -- ---- turns
 
@@ -147,26 +147,26 @@ module _ {Out H Hi K T : Type 0} {renderer : renderers.Renderer.Ghosts Out} {com
         reason = phrase_cause custom t f' e h.reason;
       })
 
-  executes_cause : (custom : Custom) (m t : State Out H Hi K T renderer completer candidate hinter hint highlighter validator history) (f : KeyFeed) (means : Means) (cmd : Cmd) (ring' : Ring) (result : Result Status ReadlineError)
-      → Executes means cmd m t ring' result → IfErr result (λ e. Cause custom t f e)
-  executes_cause custom m t f means cmd ring' result (inl (does, outcome_is, ring_is)) =
-      subst (λ x. IfErr x (λ e. Cause custom t f e)) (sym outcome_is) (end_cause custom t f means (setting_of m) (value_of m) cmd)
-  executes_cause custom m t f means cmd ring' result (inr (e, is, k, left)) =
+  executes_cause : (custom : Custom) (m t : State Out H Hi K T renderer completer candidate hinter hint highlighter validator history) (f : KeyFeed) (cmd : Cmd) (i : Input) (indent : ℕ) (ring ring' : Ring) (result : Result Status ReadlineError)
+      → Executes cmd i indent m ring t ring' result → IfErr result (λ e. Cause custom t f e)
+  executes_cause custom m t f cmd i indent ring ring' result (inl (does, outcome_is, ring_is)) =
+      subst (λ x. IfErr x (λ e. Cause custom t f e)) (sym outcome_is) (end_cause custom t f (means_of i indent ring) (setting_of m) (value_of m) cmd)
+  executes_cause custom m t f cmd i indent ring ring' result (inr (e, is, k, left)) =
       subst (λ x. IfErr x (λ e. Cause custom t f e)) (sym is) (edit_cause custom t f e k.reason)
 
   -- a command came
   pub turn_commanded : (custom : Custom) (indent : ℕ) (s m t : State Out H Hi K T renderer completer candidate hinter hint highlighter validator history) (i i1 : Input) (r q ring' : Ring) (f f1 : KeyFeed) (cmd : Cmd) (result : Result Status ReadlineError)
       → Follows display_of custom (line_phrase custom i (shown_in (value_of s))) s i m i1 f f1 (Ok cmd) → f1.bound < f.bound → q ≡ reset_by cmd r
-      → Executes (means_of i1 indent q) cmd m t ring' result → Takes turn_script custom indent s i r f t i1 ring' f1 result
+      → Executes cmd i1 indent m q t ring' result → Takes turn_script custom indent s i r f t i1 ring' f1 result
   turn_commanded custom indent s m t i i1 r q ring' f f1 cmd result h falls reset k =
-      let done = subst (λ x. Executes (means_of i1 indent x) cmd m t ring' result) reset k in
+      let done = subst (λ x. Executes cmd i1 indent m x t ring' result) reset k in
       record {
         goes = λ told n enough. turn_goes n custom indent i r f.coming s f.bound enough m i1 f1.coming cmd t ring' result (h.goes told) done;
         stays = λ told. stays_both s m t (turn_stays (suc f.bound) custom indent i r f.coming s f.bound (le_refl (suc f.bound)) m i1 f1.coming (Ok cmd) (h.goes told))
-            (executes_stay (means_of i1 indent q) cmd m t ring' result k);
+            (executes_stay cmd i1 indent m t q ring' result k);
         told = h.told;
         keeps = h.keeps;
         falls = fell result f1.bound f.bound falls;
         mode = h.mode;
-        reason = executes_cause custom m t f1 (means_of i1 indent q) cmd ring' result k;
+        reason = executes_cause custom m t f1 cmd i1 indent q ring' result k;
       }

@@ -17,7 +17,7 @@ use Rattle.line_keys.specs.Phrases.{Input}
 use Rattle.line_keys.specs.declared.command.Cmd.{Cmd}
 use Rattle.line_keys.specs.declared.command.Cmd.TheVariants.{AcceptLine, AcceptOrInsertLine, EndOfFile, Interrupt, Kill, Replace, ViYankTo}
 use Rattle.line_record.specs.Ring.{Ring}
-use Rattle.line_editor.specs.Commands.{Means, effect, ring_after_command, LeavesRing, outcome}
+use Rattle.line_editor.specs.Commands.{means_of, effect, ring_after_command, LeavesRing, outcome}
 use Rattle.line_editor.specs.LineScripts.{LineAsk, LineAnswer, LineScript, LineStage, kept, line_world, line_stage}
 use Rattle.line_editor.specs.States.{value_of, setting_of, surface_of, Stays, Does}
 use Rattle.line_editor.specs.Values.{IsFailing}
@@ -56,16 +56,18 @@ module _ {Out H Hi K T : Type 0} {renderer : renderers.Ghosts Out}
     {highlighter : highlighters.Ghosts H} {validator : validators.Ghosts H}
     {history : histories.Ghosts Hi} where
   -- the command was done whole and ends as it says, or a fault stopped it
-  abbrev pub Executes : Means → Cmd
+  abbrev pub Executes : Cmd → Input → ℕ
       → State Out H Hi K T renderer completer candidate hinter hint highlighter validator history
+      → Ring
       → State Out H Hi K T renderer completer candidate hinter hint highlighter validator history
       → Ring → Result Status ReadlineError → Type 0
-  Executes m cmd s t ring result =
+  Executes cmd input indent s ring t ring' result =
+      let m = means_of input indent ring in
       (Does {A = Unit {0}} (effect m cmd) s t (Ok (tt {0}))
       × (result ≡ outcome m cmd (setting_of s) (value_of s))
-      × (ring ≡ ring_after_command cmd (value_of s) m.ring))
+      × (ring' ≡ ring_after_command cmd (value_of s) ring))
       ⊎ ((e : ReadlineError) × (result ≡ Err e)
-      × Does {A = Unit {0}} (effect m cmd) s t (Err e) × LeavesRing cmd (value_of s) m.ring ring e)
+      × Does {A = Unit {0}} (effect m cmd) s t (Err e) × LeavesRing cmd (value_of s) ring ring' e)
 
   abbrev pub Cause : Custom
       → State Out H Hi K T renderer completer candidate hinter hint highlighter validator history

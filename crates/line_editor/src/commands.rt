@@ -132,8 +132,8 @@ impl<'p, 'h, Out: Renderer, H: Helper + Drop, Hi: History> State<'p, 'h, Out, H,
         ring: &mut KillRing,
         indent: u8,
     ) -> Result<Status, ReadlineError>
-        ensures { Executes (means_of (input_of input_state.now) indent ring.old) cmd.now
-            self.old self.new ring.new result }
+        ensures { Executes cmd.now (input_of input_state.now) indent self.old ring.old
+            self.new ring.new result }
     {
         match cmd {
             Cmd::EndOfFile => {
@@ -186,8 +186,8 @@ pub fn execute<'p, 'h, Out: Renderer, H: Helper + Drop, Hi: History, D: Decides>
     kill_ring: &mut KillRing,
     config: &Config,
 ) -> Result<Status, ReadlineError>
-    ensures { Executes (means_of (input_of input_state.now) config.now.indent_size kill_ring.old)
-        cmd s.old s.new kill_ring.new result }
+    ensures { Executes cmd (input_of input_state.now) config.now.indent_size s.old kill_ring.old
+        s.new kill_ring.new result }
 {
     s.perform(&cmd, input_state, kill_ring, config.indent_size())
 }

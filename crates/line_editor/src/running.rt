@@ -72,8 +72,7 @@ pub fn run<R: RawReader, Out: Renderer, H: Helper + Drop, Hi: History, D: Decide
     bindings: &EventMap<D>,
     kill_ring: &mut KillRing,
 ) -> Ran<Out, H>
-    ensures { let helps = helping_by
-        H.hint_of H.verdict_of H.completion_of H.update_of H.marks in
+    ensures { let helps = helping_by H.hint_of H.verdict_of H.completion_of H.update_of H.marks in
         Runs Out.canvas helps (custom_of bindings.now D.decides) prompt.now helper
         (Hi.entries history.now) config.now out kill_ring.old (R.feed reader.old)
         result kill_ring.new (R.feed reader.new) }
