@@ -26,9 +26,9 @@ use Rattle.line_config.specs.Played.{Played, asked_first}
 use Rattle.line_config.specs.Scripts.{Ends, Asks}
 use Rattle.line_config.specs.declared.errors.ReadlineError.{ReadlineError}
 use Rattle.line_keys.specs.Coming.{Coming, Pressed, Pasted, Ends as NoMore, End as AtItsEnd}
-use Rattle.line_keys.specs.Common.{common_deed, command_or, bound_or, decided, terminal_command}
+use Rattle.line_keys.specs.Common.{common_action, command_or, bound_or, decided, terminal_command}
 use Rattle.line_keys.specs.Custom.{Situation, situation, shown_for, or_any, custom_answer}
-use Rattle.line_keys.specs.Emacs.{emacs_deed, emacs_command}
+use Rattle.line_keys.specs.Emacs.{emacs_action, emacs_command}
 use Rattle.line_keys.specs.Events.{single}
 use Rattle.line_keys.specs.Feeds.{Key, Paste}
 use Rattle.line_keys.specs.InputStates.{new_input}
@@ -38,7 +38,7 @@ use Rattle.line_keys.specs.Phrases.{Input, Steps, Part, steps, Needs, Reads, Bec
 use Rattle.line_keys.specs.Refreshing.{Shown}
 use Rattle.line_keys.specs.Replies.{gives_at_once, taking}
 use Rattle.line_keys.specs.Vi.{with_last, changed, typed, command_table, vi_counted, vi_command, insert_table, vi_insert}
-use Rattle.line_keys.specs.ViTables.{insert_deed, deed_of}
+use Rattle.line_keys.specs.ViTables.{insert_action, action_of}
 use Rattle.line_record.specs.Ring.{new_ring}
 use Rattle.line_editor.specs.Accepting.{accept_or_insert}
 use Rattle.line_editor.specs.Asks.{shown_in}
@@ -97,7 +97,7 @@ pasting mode input = Asks (Reads Paste) (keeping mode input)
 
 pastes : (mode : EditMode) (input_mode : InputMode) (custom : Custom) (last : Cmd) (search : Option CharSearch) (shown : Shown) (n : ℕ) → IsUnbound custom
     → steps (phrase_from mode custom (input_with mode input_mode last search) shown paste_start) (suc n) ≡ pasting mode (input_with mode input_mode last search)
-unfolding answered needing with_read from_key asking becoming deciding and_then emacs_deed common_deed deed_of insert_deed command_table vi_counted vi_command insert_table vi_insert
+unfolding answered needing with_read from_key asking becoming deciding and_then emacs_action common_action action_of insert_action command_table vi_counted vi_command insert_table vi_insert
 pastes Emacs input_mode custom last search shown n free =
     let s = situation custom (input_with Emacs input_mode last search) shown 1 true in
     by_the_table (Some 1) s paste_start (emacs_command s paste_start) (suc n) free refl
@@ -114,7 +114,7 @@ pastes Vi Overwriting custom last search shown n free =
 
 enters : (mode : EditMode) (input_mode : InputMode) (custom : Custom) (last : Cmd) (search : Option CharSearch) (shown : Shown) (n : ℕ) → IsUnbound custom
     → steps (phrase_from mode custom (input_with mode input_mode last search) shown enter) n ≡ Ends (AcceptOrInsertLine true)
-unfolding answered needing with_read from_key asking becoming deciding and_then emacs_deed common_deed deed_of insert_deed command_table vi_counted vi_command insert_table vi_insert
+unfolding answered needing with_read from_key asking becoming deciding and_then emacs_action common_action action_of insert_action command_table vi_counted vi_command insert_table vi_insert
 enters Emacs input_mode custom last search shown n free =
     let s = situation custom (input_with Emacs input_mode last search) shown 1 true in
     by_the_table (Some 1) s enter (emacs_command s enter) n free refl
@@ -323,14 +323,14 @@ later : Coming
 later = Pressed (key_with (Char 0x62) none) (NoMore AtItsEnd)
 
 pasted_row : Accepts (pasted_in Inserting (codes "a")) (codes "a") later
-unfolding turns_script turn_script answered needing with_read from_key asking becoming deciding and_then common_deed insert_deed insert_table vi_insert pasted_in plain_setting later lib.Utf8.encode
+unfolding turns_script turn_script answered needing with_read from_key asking becoming deciding and_then common_action insert_action insert_table vi_insert pasted_in plain_setting later lib.Utf8.encode
 pasted_row = record { outcome = refl; rest_is = refl }
 
 empty_row : Accepts (pasted_in Command []) [] later
-unfolding turns_script turn_script answered needing with_read from_key asking becoming deciding and_then common_deed deed_of command_table vi_counted vi_command pasted_in plain_setting later lib.Utf8.encode
+unfolding turns_script turn_script answered needing with_read from_key asking becoming deciding and_then common_action action_of command_table vi_counted vi_command pasted_in plain_setting later lib.Utf8.encode
 empty_row = record { outcome = refl; rest_is = refl }
 
 -- a CR is a newline
 return_row : Accepts (pasted_in Overwriting (0x0D ∷ [])) (0x0A ∷ []) later
-unfolding turns_script turn_script answered needing with_read from_key asking becoming deciding and_then common_deed insert_deed insert_table vi_insert pasted_in plain_setting later lib.Utf8.encode
+unfolding turns_script turn_script answered needing with_read from_key asking becoming deciding and_then common_action insert_action insert_table vi_insert pasted_in plain_setting later lib.Utf8.encode
 return_row = record { outcome = refl; rest_is = refl }

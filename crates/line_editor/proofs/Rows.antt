@@ -15,10 +15,10 @@ use Rattle.line_config.specs.declared.settings.EditMode.TheVariants.{Emacs}
 use Rattle.line_keys.specs.Answers.{Custom}
 use Rattle.line_keys.specs.Replies.{gives_at_once}
 use Rattle.line_keys.specs.Coming.{Coming, Pressed, Ends, End}
-use Rattle.line_keys.specs.Common.{common_deed}
+use Rattle.line_keys.specs.Common.{common_action}
 use Rattle.line_keys.specs.Counts.{counting}
 use Rattle.line_keys.specs.Custom.{followed, following}
-use Rattle.line_keys.specs.Emacs.{emacs_deed}
+use Rattle.line_keys.specs.Emacs.{emacs_action}
 use Rattle.line_keys.specs.Events.{begins_with, single}
 use Rattle.line_keys.specs.Keys.{key_with, none, ctrl, alt}
 use Rattle.line_keys.specs.Phrases.{Input, answered, needing, with_read, from_key, asking, becoming, deciding, and_then}
@@ -109,11 +109,11 @@ module _ (r : Ring) where
   a_left_enter = line [] nothing_bound (typed 0x61 ∷ key_with Left none ∷ key_with Enter none ∷ [])
 
   a_left_enter_calls : calls a_left_enter ≡ draw [] (fresh Unicode) ∷ Write (codes "a") ∷ Move (at 3) (at 2) ∷ Move (at 2) (at 3) ∷ []
-  unfolding unicode_segmentation line_script turns_script turn_script answered following needing with_read from_key asking becoming deciding and_then counting followed emacs_deed common_deed
+  unfolding unicode_segmentation line_script turns_script turn_script answered following needing with_read from_key asking becoming deciding and_then counting followed emacs_action common_action
   a_left_enter_calls = refl
 
   a_left_enter_outcome : a_left_enter.outcome ≡ Ok (codes "a")
-  unfolding unicode_segmentation line_script turns_script turn_script answered following needing with_read from_key asking becoming deciding and_then counting followed emacs_deed common_deed
+  unfolding unicode_segmentation line_script turns_script turn_script answered following needing with_read from_key asking becoming deciding and_then counting followed emacs_action common_action
   a_left_enter_outcome = refl
 
   -- ---- a count of two before x: its prompt, the session's own again, and both characters in one drawing
@@ -122,11 +122,11 @@ module _ (r : Ring) where
   two_x = line [] nothing_bound (key_with (Char 0x32) alt ∷ typed 0x78 ∷ [])
 
   two_x_calls : calls two_x ≡ draw [] (fresh Unicode) ∷ Draw (codes "(arg: 2) ") [] 0 None (Some (own_laid 2)) (laid false 9 9 9) None ∷ draw [] (laid false 9 9 9) ∷ draw (codes "xx") (own_laid 2) ∷ []
-  unfolding unicode_segmentation line_script turns_script turn_script answered following needing with_read from_key asking becoming deciding and_then counting followed emacs_deed common_deed digits
+  unfolding unicode_segmentation line_script turns_script turn_script answered following needing with_read from_key asking becoming deciding and_then counting followed emacs_action common_action digits
   two_x_calls = refl
 
   two_x_outcome : two_x.outcome ≡ Err Eof
-  unfolding unicode_segmentation line_script turns_script turn_script answered following needing with_read from_key asking becoming deciding and_then counting followed emacs_deed common_deed digits
+  unfolding unicode_segmentation line_script turns_script turn_script answered following needing with_read from_key asking becoming deciding and_then counting followed emacs_action common_action digits
   two_x_outcome = refl
 
   -- ---- a lone word transposed from its start: the cursor goes after it, by a whole drawing
@@ -135,7 +135,7 @@ module _ (r : Ring) where
   lone_word = line [] nothing_bound (typed 0x77 ∷ key_with (Char 0x41) ctrl ∷ key_with (Char 0x74) alt ∷ [])
 
   lone_word_calls : calls lone_word ≡ draw [] (fresh Unicode) ∷ Write (codes "w") ∷ Move (at 3) (at 2) ∷ draw (codes "w") (laid true 2 2 3) ∷ []
-  unfolding unicode_segmentation line_script turns_script turn_script answered following needing with_read from_key asking becoming deciding and_then counting followed emacs_deed common_deed after_words before_words starts_of ends_of
+  unfolding unicode_segmentation line_script turns_script turn_script answered following needing with_read from_key asking becoming deciding and_then counting followed emacs_action common_action after_words before_words starts_of ends_of
   lone_word_calls = refl
 
   -- ---- a key bound to a search, in an empty history
@@ -147,7 +147,7 @@ module _ (r : Ring) where
   }
 
   search_calls : calls (line [] ctrl_o (key_with (Char 0x4F) ctrl ∷ [])) ≡ draw [] (fresh Unicode) ∷ Beep ∷ []
-  unfolding unicode_segmentation line_script turns_script turn_script answered following needing with_read from_key asking becoming deciding and_then counting followed emacs_deed common_deed
+  unfolding unicode_segmentation line_script turns_script turn_script answered following needing with_read from_key asking becoming deciding and_then counting followed emacs_action common_action
   search_calls = refl
 
   -- ---- up three times over two entries, and down twice
@@ -168,9 +168,9 @@ module _ (r : Ring) where
   up_and_down_calls : calls up_and_down
       ≡ draw [] (fresh Unicode) ∷ Write (codes "c") ∷ Write (codes "u") ∷ Write (codes "r")
       ∷ draw (codes "line1") (own_laid 5) ∷ draw (codes "line0") (own_laid 7) ∷ draw (codes "line1") (own_laid 7) ∷ draw (codes "cur") (own_laid 7) ∷ []
-  unfolding unicode_segmentation line_script turns_script turn_script answered following needing with_read from_key asking becoming deciding and_then counting followed emacs_deed common_deed line_up line_down behind_newlines
+  unfolding unicode_segmentation line_script turns_script turn_script answered following needing with_read from_key asking becoming deciding and_then counting followed emacs_action common_action line_up line_down behind_newlines
   up_and_down_calls = refl
 
   up_and_down_outcome : up_and_down.outcome ≡ Ok (codes "cur")
-  unfolding unicode_segmentation line_script turns_script turn_script answered following needing with_read from_key asking becoming deciding and_then counting followed emacs_deed common_deed line_up line_down behind_newlines
+  unfolding unicode_segmentation line_script turns_script turn_script answered following needing with_read from_key asking becoming deciding and_then counting followed emacs_action common_action line_up line_down behind_newlines
   up_and_down_outcome = refl

@@ -1,5 +1,5 @@
 pub mod Beginnings
-pub mod Deeds
+pub mod RowActions
 pub mod Equality
 pub mod Following
 pub mod KeyReads

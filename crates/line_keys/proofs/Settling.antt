@@ -8,24 +8,24 @@ use Rattle.line_keys.specs.declared.command.Cmd.TheVariants.{Insert}
 use Rattle.line_keys.specs.declared.key.KeyEvent.{KeyEvent}
 use Rattle.line_keys.specs.Answers.{Custom}
 use Rattle.line_keys.specs.Commands.{holds_text, standing}
-use Rattle.line_keys.specs.declared.keymap.common.Deed.{Deed as CommonDeed}
-use Rattle.line_keys.specs.declared.keymap.common.Deed.TheVariants as commons
-use Rattle.line_keys.specs.declared.keymap.emacs.Deed.{Deed as EmacsDeed}
-use Rattle.line_keys.specs.declared.keymap.emacs.Deed.TheVariants as emacs_deeds
+use Rattle.line_keys.specs.declared.keymap.common.Action.{Action as CommonAction}
+use Rattle.line_keys.specs.declared.keymap.common.Action.TheVariants as commons
+use Rattle.line_keys.specs.declared.keymap.emacs.Action.{Action as EmacsAction}
+use Rattle.line_keys.specs.declared.keymap.emacs.Action.TheVariants as emacs_actions
 use Rattle.line_keys.specs.declared.keymap.vi.motion.Motion.{Motion}
 use Rattle.line_keys.specs.declared.keymap.vi.motion.Motion.TheVariants as motions
 use Rattle.line_keys.specs.declared.keymap.vi.motion.Search.{Search}
-use Rattle.line_keys.specs.declared.keymap.vi.table.Deed.{Deed as CommandDeed}
-use Rattle.line_keys.specs.declared.keymap.vi.table.Deed.TheVariants as commands
-use Rattle.line_keys.specs.declared.keymap.vi.table.InsertDeed.{InsertDeed}
-use Rattle.line_keys.specs.declared.keymap.vi.table.InsertDeed.TheVariants as inserts
-use Rattle.line_keys.specs.Common.{common, common_deed, common_done, command_or, bound_or, decided, sequence, terminal_command}
+use Rattle.line_keys.specs.declared.keymap.vi.table.Action.{Action as CommandAction}
+use Rattle.line_keys.specs.declared.keymap.vi.table.Action.TheVariants as commands
+use Rattle.line_keys.specs.declared.keymap.vi.table.InsertAction.{InsertAction}
+use Rattle.line_keys.specs.declared.keymap.vi.table.InsertAction.TheVariants as inserts
+use Rattle.line_keys.specs.Common.{common, common_action, common_done, command_or, bound_or, decided, sequence, terminal_command}
 use Rattle.line_keys.specs.Counts.{Counted, counted_key, counting, counting_or, counting_read, counting_by, begun_by, counted_on, how_often, is_plus, multiplied, typed_count}
 use Rattle.line_keys.specs.declared.keymap.custom.Followed.{Followed}
 use Rattle.line_keys.specs.declared.keymap.custom.Followed.TheVariants.{Bound, Unbound}
 use Rattle.line_keys.specs.Custom.{Situation, following, following_upto, followed, bound_by, sequence_answer}
 use Rattle.line_keys.specs.Custom.{situation, custom_answer}
-use Rattle.line_keys.specs.Emacs.{after_first_key, emacs_command, emacs_counted, emacs_decided, emacs_deed, emacs_done, emacs_phrase, move_to_char, second_command}
+use Rattle.line_keys.specs.Emacs.{after_first_key, emacs_command, emacs_counted, emacs_decided, emacs_action, emacs_done, emacs_phrase, move_to_char, second_command}
 use Rattle.line_keys.specs.Feeds.{InputItem, InputOf, Key, Paste}
 use Rattle.line_config.specs.Scripts.{Ends, Asks}
 use Rattle.line_keys.specs.Phrase.{phrase, phrase_from}
@@ -45,7 +45,7 @@ use Rattle.line_keys.specs.SameKeys.{same_key}
 use Rattle.line_keys.specs.Vi.{changes, command_of, in_mode, key_replacement, operated, move_or, is_new, remembering, with_last, command_done, command_table, insert_done, insert_table, vi_counted, vi_command, vi_insert, changed, typed, entered}
 use Rattle.line_keys.specs.ViMotions.{motion_done, motion_of, motion_after, change, counted_motion, vi_motion}
 use Rattle.line_keys.specs.ViSearches.{found, search_of, sought}
-use Rattle.line_keys.specs.ViTables.{deed_of, insert_deed}
+use Rattle.line_keys.specs.ViTables.{action_of, insert_action}
 
 -- ---- parts
 
@@ -161,13 +161,13 @@ followed_settles s k = needing_settles (s.custom.begins (k ∷ [])) (following s
 sequence_settles : (s : Situation) (k : KeyEvent) → Settled (sequence s k)
 sequence_settles s k = then_settles _ (λ f i w. answered_settles _) (followed s k) s.input s.shown (followed_settles s k)
 
-common_done_settles : (s : Situation) (k : KeyEvent) (o : Option CommonDeed) → Settled (common_done s k o)
+common_done_settles : (s : Situation) (k : KeyEvent) (o : Option CommonAction) → Settled (common_done s k o)
 common_done_settles s k (Some (commons.Give cmd)) = answered_settles cmd
 common_done_settles s k (Some commons.Paste) = read_settles Paste (λ text. answered (Insert 1 text)) (λ text. answered_settles (Insert 1 text))
 common_done_settles s k None = sequence_settles s k
 
 common_settles : (s : Situation) (k : KeyEvent) → Settled (common s k)
-common_settles s k = common_done_settles s k (common_deed s.input.mode s.shown s.n s.positive k)
+common_settles s k = common_done_settles s k (common_action s.input.mode s.shown s.n s.positive k)
 
 bound_key_settles : (new : Option ℕ) (s : Situation) (p : Part Cmd) → Settled p → (o : Option Cmd) → Settled (bound_or new s p o)
 bound_key_settles new s p h (Some cmd) = anew_settles cmd cmd new s.shown
@@ -185,15 +185,15 @@ after_first_settles n positive (Bound cmd) = answered_settles cmd
 after_first_settles n positive (Unbound (Some k)) = answered_settles (second_command n positive k)
 after_first_settles n positive (Unbound None) = key_settles (second_command n positive)
 
-emacs_done_settles : (s : Situation) (k : KeyEvent) (o : Option EmacsDeed) → Settled (emacs_done s k o)
-emacs_done_settles s k (Some (emacs_deeds.Give cmd)) = answered_settles cmd
-emacs_done_settles s k (Some (emacs_deeds.Seek search)) = key_settles (λ next. move_to_char s.n (search_of search) (char_with none next))
-emacs_done_settles s k (Some emacs_deeds.LeadOn) =
+emacs_done_settles : (s : Situation) (k : KeyEvent) (o : Option EmacsAction) → Settled (emacs_done s k o)
+emacs_done_settles s k (Some (emacs_actions.Give cmd)) = answered_settles cmd
+emacs_done_settles s k (Some (emacs_actions.Seek search)) = key_settles (λ next. move_to_char s.n (search_of search) (char_with none next))
+emacs_done_settles s k (Some emacs_actions.LeadOn) =
     then_settles (λ f input shown. after_first_key s.n s.positive f) (λ f i w. after_first_settles s.n s.positive f) (followed s k) s.input s.shown (followed_settles s k)
 emacs_done_settles s k None = common_settles s k
 
 emacs_command_settles : (s : Situation) (k : KeyEvent) → Settled (emacs_command s k)
-emacs_command_settles s k = emacs_done_settles s k (emacs_deed s.shown s.n s.positive k)
+emacs_command_settles s k = emacs_done_settles s k (emacs_action s.shown s.n s.positive k)
 
 emacs_decided_settles : (s : Situation) (k : KeyEvent) → Settled (emacs_decided s k)
 emacs_decided_settles s k = key_decided_settles (Some s.n) s k (emacs_command s k) (emacs_command_settles s k)
@@ -227,7 +227,7 @@ motion_key_settles operator n i w k =
 vi_motion_settles : (operator : KeyEvent) (n : ℕ) (i : Input) (w : Shown) → Settled (vi_motion operator n i w)
 vi_motion_settles operator n i w = read_settles Key (motion_after operator n i w) (motion_key_settles operator n i w)
 
-command_done_settles : (new : Option ℕ) (s : Situation) (k : KeyEvent) (o : Option CommandDeed) → Settled (command_done new s k o)
+command_done_settles : (new : Option ℕ) (s : Situation) (k : KeyEvent) (o : Option CommandAction) → Settled (command_done new s k o)
 command_done_settles new s k (Some (commands.Give cmd)) = answered_settles cmd
 command_done_settles new s k (Some (commands.Insert cmd)) = becoming_settles _ _ (inserting_settles _ (λ w. answered_settles cmd))
 command_done_settles new s k (Some (commands.Turn mode cmd)) = becoming_settles _ _ (answered_settles cmd)
@@ -244,7 +244,7 @@ command_done_settles new s k None = common_settles s k
 
 table_settles : (new : Option ℕ) (s : Situation) (k : KeyEvent) → Settled (command_table new s k)
 unfolding command_table
-table_settles new s k = command_done_settles new s k (deed_of s.n k)
+table_settles new s k = command_done_settles new s k (action_of s.n k)
 
 remembering_settles : (is : Bool) (cmd : Cmd) (i : Input) → Settled (remembering is cmd i)
 remembering_settles true cmd i = needing_settles (holds_text cmd) _ (becoming_settles (with_last cmd i) (answered cmd) (answered_settles cmd))
@@ -261,7 +261,7 @@ vi_command_settles : (custom : Custom) (k : KeyEvent) (i : Input) (w : Shown) �
 unfolding vi_command
 vi_command_settles custom k i w = then_settles (vi_counted custom) (counted_command_settles custom) (counted_key i.mode k) i w (key_counted_settles i.mode k)
 
-insert_done_settles : (custom : Custom) (i : Input) (w : Shown) (k : KeyEvent) (o : Option InsertDeed) → Settled (insert_done custom i w k o)
+insert_done_settles : (custom : Custom) (i : Input) (w : Shown) (k : KeyEvent) (o : Option InsertAction) → Settled (insert_done custom i w k o)
 insert_done_settles custom i w k (Some (inserts.Give cmd)) = answered_settles cmd
 insert_done_settles custom i w k (Some (inserts.Typed char)) = answered_settles _
 insert_done_settles custom i w k (Some (inserts.Leave cmd)) = becoming_settles _ _ (inserted_settles _ (λ v. answered_settles cmd))
@@ -270,7 +270,7 @@ insert_done_settles custom i w k None = common_settles (situation custom i w 1 t
 
 insert_table_settles : (custom : Custom) (i : Input) (w : Shown) (k : KeyEvent) → Settled (insert_table custom i w k)
 unfolding insert_table
-insert_table_settles custom i w k = insert_done_settles custom i w k (insert_deed w k)
+insert_table_settles custom i w k = insert_done_settles custom i w k (insert_action w k)
 
 insert_settles : (custom : Custom) (k : KeyEvent) (i : Input) (w : Shown) → Settled (vi_insert custom k i w)
 unfolding vi_insert

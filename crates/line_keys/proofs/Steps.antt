@@ -1,5 +1,5 @@
 -- The lemmas that each shape of a body goes by.
-use Rattle.line_keys.proofs.Deeds.{change_first, common_first, common_second, emacs_first, emacs_second, emacs_third, first_table, fourth_table, motion_then, second_table, third_table}
+use Rattle.line_keys.proofs.RowActions.{change_first, common_first, common_second, emacs_first, emacs_second, emacs_third, first_table, fourth_table, motion_then, second_table, third_table}
 use Rattle.line_keys.proofs.Equality.{events_both_ways, events_hash_alike, keys_both_ways, keys_hash_alike}
 use Rattle.line_keys.proofs.Following.{as_follows, ask_follows, ask_stops, becomes_follows, decides_follow, ends_follow, granted_follows, key_follows, no_key, no_paste, paste_follows, silent_follows, then_follows, then_stops, whole_read}
 use Rattle.line_keys.proofs.Places.{entry_at, found_at, found_nowhere}
@@ -14,7 +14,7 @@ pub ruleset counts = (count_unprompted, count_unasked, count_stops, count_goes_o
 
 pub ruleset decision = (decides_follow, ends_follow, as_follows)
 
-pub ruleset deed = (ask_stops, ask_follows, becomes_follows, then_stops, then_follows, silent_follows, whole_read, ends_follow, as_follows, granted_follows)
+pub ruleset action = (ask_stops, ask_follows, becomes_follows, then_stops, then_follows, silent_follows, whole_read, ends_follow, as_follows, granted_follows)
 
 pub ruleset emacs_tables = (emacs_first, emacs_second, emacs_third)
 

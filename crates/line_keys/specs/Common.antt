@@ -11,8 +11,8 @@ use Rattle.line_keys.specs.declared.command.Cmd.TheVariants.{AcceptOrInsertLine,
 use Rattle.line_keys.specs.declared.key.KeyCode.TheVariants.{BracketedPasteStart, Delete, Down, End, Enter, Home, Left, Right, UnknownEscSeq, Up, Char}
 use Rattle.line_keys.specs.declared.key.KeyEvent.{KeyEvent}
 use Rattle.line_keys.specs.Custom.{Situation, custom_answer, followed}
-use Rattle.line_keys.specs.declared.keymap.common.Deed.{Deed}
-use Rattle.line_keys.specs.declared.keymap.common.Deed.TheVariants.{Give, Paste}
+use Rattle.line_keys.specs.declared.keymap.common.Action.{Action}
+use Rattle.line_keys.specs.declared.keymap.common.Action.TheVariants.{Give, Paste}
 use Rattle.line_keys.specs.declared.keymap.custom.Followed.{Followed}
 use Rattle.line_keys.specs.declared.keymap.custom.Followed.TheVariants.{Bound, Unbound}
 use Rattle.line_keys.specs.Keys.{none, ctrl}
@@ -43,7 +43,7 @@ at_hint shown = shown.hinted && (shown.place == length shown.line)
 
 -- ---- the table
 
-abbrev pub common_command_rows : EditMode → Shown → List (Row Deed)
+abbrev pub common_command_rows : EditMode → Shown → List (Row Action)
 common_command_rows mode shown =
     named Home none (always (Give (Move BeginningOfLine)))
     ∷ named End none (always (Give (Move EndOfLine)))
@@ -70,15 +70,15 @@ common_command_rows mode shown =
     ∷ named UnknownEscSeq none (always (Give Noop))
     ∷ []
 
-abbrev pub common_reading_rows : List (Row Deed)
+abbrev pub common_reading_rows : List (Row Action)
 common_reading_rows = named BracketedPasteStart none (always Paste) ∷ []
 
-abbrev pub common_rows : EditMode → Shown → List (Row Deed)
+abbrev pub common_rows : EditMode → Shown → List (Row Action)
 common_rows mode shown = common_command_rows mode shown ++ common_reading_rows
 
 -- what a key does in both modes, if a row has it
-unfoldable pub common_deed : EditMode → Shown → ℕ → Bool → KeyEvent → Option Deed
-common_deed mode shown n positive k = look n positive k (common_rows mode shown)
+unfoldable pub common_action : EditMode → Shown → ℕ → Bool → KeyEvent → Option Action
+common_action mode shown n positive k = look n positive k (common_rows mode shown)
 
 -- ---- a key that no row has
 
@@ -90,13 +90,13 @@ bound_command (Unbound second) = Unknown
 abbrev pub sequence : Situation → KeyEvent → Part Cmd
 sequence s k = and_then s.input s.shown (followed s k) (λ f input shown. answered (bound_command f))
 
-abbrev pub common_done : Situation → KeyEvent → Option Deed → Part Cmd
+abbrev pub common_done : Situation → KeyEvent → Option Action → Part Cmd
 common_done s k (Some (Give cmd)) = answered cmd
 common_done s k (Some Paste) = with_paste (λ text. answered (Insert 1 text))
 common_done s k None = sequence s k
 
 abbrev pub common : Situation → KeyEvent → Part Cmd
-common s k = common_done s k (common_deed s.input.mode s.shown s.n s.positive k)
+common s k = common_done s k (common_action s.input.mode s.shown s.n s.positive k)
 
 -- ---- before the tables
 

@@ -15,8 +15,8 @@ use Rattle.line_keys.specs.Counts.{Counted, counted_key, how_often, is_plus}
 use Rattle.line_keys.specs.Custom.{Situation, situation, followed}
 use Rattle.line_keys.specs.declared.keymap.custom.Followed.{Followed}
 use Rattle.line_keys.specs.declared.keymap.custom.Followed.TheVariants.{Bound, Unbound}
-use Rattle.line_keys.specs.declared.keymap.emacs.Deed.{Deed}
-use Rattle.line_keys.specs.declared.keymap.emacs.Deed.TheVariants.{Give, Seek, LeadOn}
+use Rattle.line_keys.specs.declared.keymap.emacs.Action.{Action}
+use Rattle.line_keys.specs.declared.keymap.emacs.Action.TheVariants.{Give, Seek, LeadOn}
 use Rattle.line_keys.specs.declared.keymap.vi.motion.Search.TheVariants.{ForwardBefore, Backward}
 use Rattle.line_keys.specs.Keys.{none, ctrl, alt, ctrl_alt, char_with}
 use Rattle.line_keys.specs.Phrases.{Input, Part, Phrase, answered, from_key, and_then}
@@ -34,10 +34,10 @@ ahead n = ForwardWord n AfterEnd EmacsWord
 
 -- ---- the table
 
-abbrev pub typed_rows : List (Row Deed)
+abbrev pub typed_rows : List (Row Action)
 typed_rows = each_char none (λ c. by_sign (λ n. Give (SelfInsert n c)) (λ n. Give Unknown)) ∷ []
 
-abbrev pub emacs_command_rows : Shown → List (Row Deed)
+abbrev pub emacs_command_rows : Shown → List (Row Action)
 emacs_command_rows shown =
     char (codes "A") ctrl (always (Give (Move BeginningOfLine)))
     ∷ char (codes "E") ctrl (always (Give (Move EndOfLine)))
@@ -81,7 +81,7 @@ emacs_command_rows shown =
     ∷ named Esc none (always (Give Abort))
     ∷ []
 
-abbrev pub emacs_reading_rows : List (Row Deed)
+abbrev pub emacs_reading_rows : List (Row Action)
 emacs_reading_rows =
     char (codes "]") ctrl
     (by_sign (λ n. Seek ForwardBefore) (λ n. Seek Backward))
@@ -90,7 +90,7 @@ emacs_reading_rows =
     ∷ char (codes "X") ctrl (always LeadOn)
     ∷ []
 
-abbrev pub emacs_rows : Shown → List (Row Deed)
+abbrev pub emacs_rows : Shown → List (Row Action)
 emacs_rows shown = typed_rows ++ (emacs_command_rows shown ++ emacs_reading_rows)
 
 -- the key after C-X
@@ -103,8 +103,8 @@ second_rows =
     ∷ []
 
 -- what a key does, if a row has it
-unfoldable pub emacs_deed : Shown → ℕ → Bool → KeyEvent → Option Deed
-emacs_deed shown n positive k = look n positive k (emacs_rows shown)
+unfoldable pub emacs_action : Shown → ℕ → Bool → KeyEvent → Option Action
+emacs_action shown n positive k = look n positive k (emacs_rows shown)
 
 -- ---- what the keys do that read on
 
@@ -122,7 +122,7 @@ after_first_key n positive (Bound cmd) = answered cmd
 after_first_key n positive (Unbound (Some k)) = answered (second_command n positive k)
 after_first_key n positive (Unbound None) = from_key (second_command n positive)
 
-abbrev pub emacs_done : Situation → KeyEvent → Option Deed → Part Cmd
+abbrev pub emacs_done : Situation → KeyEvent → Option Action → Part Cmd
 emacs_done s k (Some (Give cmd)) = answered cmd
 emacs_done s k (Some (Seek search)) =
     from_key (λ next. move_to_char s.n (search_of search) (char_with none next))
@@ -133,7 +133,7 @@ emacs_done s k None = common s k
 -- ---- a key
 
 abbrev pub emacs_command : Situation → KeyEvent → Part Cmd
-emacs_command s k = emacs_done s k (emacs_deed s.shown s.n s.positive k)
+emacs_command s k = emacs_done s k (emacs_action s.shown s.n s.positive k)
 
 -- a bound command is made as often as the count says
 abbrev pub emacs_decided : Situation → KeyEvent → Part Cmd

@@ -10,10 +10,10 @@ use Rattle.line_keys.specs.declared.command.InputMode.{InputMode}
 use Rattle.line_keys.specs.declared.command.InputMode.TheVariants.{Command, Insert, Replace as Overwriting}
 use Rattle.line_keys.specs.declared.key.KeyCode.TheVariants.{Char}
 use Rattle.line_keys.specs.declared.key.KeyEvent.{KeyEvent}
-use Rattle.line_keys.specs.declared.keymap.vi.table.Deed.{Deed}
-use Rattle.line_keys.specs.declared.keymap.vi.table.Deed.TheVariants as deed
-use Rattle.line_keys.specs.declared.keymap.vi.table.InsertDeed.{InsertDeed}
-use Rattle.line_keys.specs.declared.keymap.vi.table.InsertDeed.TheVariants as inserting
+use Rattle.line_keys.specs.declared.keymap.vi.table.Action.{Action}
+use Rattle.line_keys.specs.declared.keymap.vi.table.Action.TheVariants as action
+use Rattle.line_keys.specs.declared.keymap.vi.table.InsertAction.{InsertAction}
+use Rattle.line_keys.specs.declared.keymap.vi.table.InsertAction.TheVariants as inserting
 use Rattle.line_keys.specs.declared.keymap.vi.table.Operator.{Operator}
 use Rattle.line_keys.specs.declared.keymap.vi.table.Operator.TheVariants as operators
 use Rattle.line_keys.specs.Answers.{Custom}
@@ -29,7 +29,7 @@ use Rattle.line_keys.specs.Refreshing.{Shown, DoingInsert, DoneInserting}
 use Rattle.line_keys.specs.Tables.{look}
 use Rattle.line_keys.specs.ViMotions.{vi_motion}
 use Rattle.line_keys.specs.ViSearches.{opposite_of, searching, sought}
-use Rattle.line_keys.specs.ViTables.{deed_of, insert_deed, replacing_rows}
+use Rattle.line_keys.specs.ViTables.{action_of, insert_action, replacing_rows}
 
 -- ---- the modes and the last change
 
@@ -109,26 +109,26 @@ abbrev pub key_replacement : ℕ → KeyEvent → Cmd
 key_replacement n k = unwrap_or (look n true k replacing_rows) Unknown
 
 -- what no row has is common
-abbrev pub command_done : Option ℕ → Situation → KeyEvent → Option Deed → Part Cmd
-command_done new s k (Some (deed.Give cmd)) = answered cmd
-command_done new s k (Some (deed.Insert cmd)) =
+abbrev pub command_done : Option ℕ → Situation → KeyEvent → Option Action → Part Cmd
+command_done new s k (Some (action.Give cmd)) = answered cmd
+command_done new s k (Some (action.Insert cmd)) =
     becoming (in_mode Insert s.input) (asking DoingInsert (λ shown. answered cmd))
-command_done new s k (Some (deed.Turn mode cmd)) = becoming (in_mode mode s.input) (answered cmd)
-command_done new s k (Some (deed.Operate o)) =
+command_done new s k (Some (action.Turn mode cmd)) = becoming (in_mode mode s.input) (answered cmd)
+command_done new s k (Some (action.Operate o)) =
     let input = entered (changes o) s.input in
     becoming input (operation s k (command_of o) input)
-command_done new s k (Some (deed.Search way)) =
+command_done new s k (Some (action.Search way)) =
     and_then s.input s.shown (sought way s.n s.input)
     (λ m input shown. answered (move_or Unknown m))
-command_done new s k (Some deed.Again) = answered (move_or Noop (searching s.n s.input.search))
-command_done new s k (Some deed.Back) =
+command_done new s k (Some action.Again) = answered (move_or Noop (searching s.n s.input.search))
+command_done new s k (Some action.Back) =
     answered (move_or Noop (searching s.n (opposite_of s.input.search)))
-command_done new s k (Some deed.Repeat) = anew_or Noop new s.shown s.input.last
-command_done new s k (Some deed.Replace) = from_key (key_replacement s.n)
+command_done new s k (Some action.Repeat) = anew_or Noop new s.shown s.input.last
+command_done new s k (Some action.Replace) = from_key (key_replacement s.n)
 command_done new s k None = common s k
 
 unfoldable pub command_table : Option ℕ → Situation → KeyEvent → Part Cmd
-command_table new s k = command_done new s k (deed_of s.n k)
+command_table new s k = command_done new s k (action_of s.n k)
 
 -- a bound command comes with the count if one was typed
 abbrev pub vi_command_decided : Option ℕ → Situation → KeyEvent → Part Cmd
@@ -155,7 +155,7 @@ abbrev pub leaving : Input → (Input → Shown → Part Cmd) → Part Cmd
 leaving input next =
     becoming (in_mode Command input) (asking DoneInserting (next (in_mode Command input)))
 
-abbrev pub insert_done : Custom → Input → Shown → KeyEvent → Option InsertDeed → Part Cmd
+abbrev pub insert_done : Custom → Input → Shown → KeyEvent → Option InsertAction → Part Cmd
 insert_done custom input shown k (Some (inserting.Give cmd)) = answered cmd
 insert_done custom input shown k (Some (inserting.Typed c)) = answered (typed_in input.input_mode c)
 insert_done custom input shown k (Some (inserting.Leave cmd)) =
@@ -165,7 +165,7 @@ insert_done custom input shown k (Some (inserting.Command c)) =
 insert_done custom input shown k None = common (situation custom input shown 1 true) k
 
 unfoldable pub insert_table : Custom → Input → Shown → KeyEvent → Part Cmd
-insert_table custom input shown k = insert_done custom input shown k (insert_deed shown k)
+insert_table custom input shown k = insert_done custom input shown k (insert_action shown k)
 
 -- a handler is shown no count
 unfoldable pub vi_insert : Custom → KeyEvent → Input → Shown → Part Cmd

@@ -10,11 +10,11 @@ use Rattle.line_keys.specs.declared.command.InputMode.TheVariants.{Insert, Repla
 use Rattle.line_keys.specs.declared.key.KeyCode.TheVariants.{BackTab, Backspace, End, Esc, Right, Tab}
 use Rattle.line_keys.specs.declared.key.KeyEvent.{KeyEvent}
 use Rattle.line_keys.specs.declared.keymap.vi.motion.Search.TheVariants.{Forward, ForwardBefore, Backward, BackwardAfter}
-use Rattle.line_keys.specs.declared.keymap.vi.table.Deed.{Deed}
-use Rattle.line_keys.specs.declared.keymap.vi.table.Deed.TheVariants as deed
-use Rattle.line_keys.specs.declared.keymap.vi.table.Deed.TheVariants.{Give}
-use Rattle.line_keys.specs.declared.keymap.vi.table.InsertDeed.{InsertDeed}
-use Rattle.line_keys.specs.declared.keymap.vi.table.InsertDeed.TheVariants as inserting
+use Rattle.line_keys.specs.declared.keymap.vi.table.Action.{Action}
+use Rattle.line_keys.specs.declared.keymap.vi.table.Action.TheVariants as action
+use Rattle.line_keys.specs.declared.keymap.vi.table.Action.TheVariants.{Give}
+use Rattle.line_keys.specs.declared.keymap.vi.table.InsertAction.{InsertAction}
+use Rattle.line_keys.specs.declared.keymap.vi.table.InsertAction.TheVariants as inserting
 use Rattle.line_keys.specs.declared.keymap.vi.table.Operator.TheVariants as operators
 use Rattle.line_keys.specs.Common.{at_hint}
 use Rattle.line_keys.specs.Keys.{none, ctrl, alt}
@@ -24,7 +24,7 @@ use Rattle.line_keys.specs.Tables.{named, char, each_char, only, look}
 
 -- ---- insert mode
 
-abbrev pub vi_insert_rows : Shown → List (Row InsertDeed)
+abbrev pub vi_insert_rows : Shown → List (Row InsertAction)
 vi_insert_rows shown =
     each_char none (λ c. always (inserting.Typed c))
     ∷ char (codes "H") ctrl (always (inserting.Give (Kill (BackwardChar 1))))
@@ -38,13 +38,13 @@ vi_insert_rows shown =
     ∷ []
 
 -- what a key of insert and replace mode does, if a row has it
-unfoldable pub insert_deed : Shown → KeyEvent → Option InsertDeed
-insert_deed shown k = look 1 true k (vi_insert_rows shown)
+unfoldable pub insert_action : Shown → KeyEvent → Option InsertAction
+insert_action shown k = look 1 true k (vi_insert_rows shown)
 
 -- ---- command mode
 
 -- motions, and rows of history where no row of the line is left
-abbrev pub vi_move_rows : List (Row Deed)
+abbrev pub vi_move_rows : List (Row Action)
 vi_move_rows =
     char (codes "h") none (by_count (λ n. Give (Move (BackwardChar n))))
     ∷ char (codes "H") ctrl (by_count (λ n. Give (Move (BackwardChar n))))
@@ -68,7 +68,7 @@ vi_move_rows =
     ∷ []
 
 -- edits that wait for no motion, and the rest
-abbrev pub vi_edit_rows : List (Row Deed)
+abbrev pub vi_edit_rows : List (Row Action)
 vi_edit_rows =
     char (codes "x") none (by_count (λ n. Give (Kill (ForwardChar n))))
     ∷ char (codes "X") none (by_count (λ n. Give (Kill (BackwardChar n))))
@@ -85,44 +85,44 @@ vi_edit_rows =
     ∷ []
 
 -- keys that leave command mode
-abbrev pub vi_turn_rows : List (Row Deed)
+abbrev pub vi_turn_rows : List (Row Action)
 vi_turn_rows =
-    char (codes "i") none (always (deed.Insert Noop))
-    ∷ char (codes "I") none (always (deed.Insert (Move BeginningOfLine)))
-    ∷ char (codes "a") none (by_count (λ n. deed.Insert (Move (ForwardChar n))))
-    ∷ char (codes "A") none (always (deed.Insert (Move EndOfLine)))
-    ∷ char (codes "C") none (always (deed.Turn Insert (Replace EndOfLine None)))
-    ∷ char (codes "S") none (always (deed.Turn Insert (Replace WholeLine None)))
-    ∷ char (codes "s") none (by_count (λ n. deed.Turn Insert (Replace (ForwardChar n) None)))
-    ∷ char (codes "R") none (always (deed.Turn Overwriting (Replace (ForwardChar 0) None)))
-    ∷ char (codes "R") ctrl (always (deed.Turn Insert ReverseSearchHistory))
-    ∷ char (codes "S") ctrl (always (deed.Turn Insert ForwardSearchHistory))
+    char (codes "i") none (always (action.Insert Noop))
+    ∷ char (codes "I") none (always (action.Insert (Move BeginningOfLine)))
+    ∷ char (codes "a") none (by_count (λ n. action.Insert (Move (ForwardChar n))))
+    ∷ char (codes "A") none (always (action.Insert (Move EndOfLine)))
+    ∷ char (codes "C") none (always (action.Turn Insert (Replace EndOfLine None)))
+    ∷ char (codes "S") none (always (action.Turn Insert (Replace WholeLine None)))
+    ∷ char (codes "s") none (by_count (λ n. action.Turn Insert (Replace (ForwardChar n) None)))
+    ∷ char (codes "R") none (always (action.Turn Overwriting (Replace (ForwardChar 0) None)))
+    ∷ char (codes "R") ctrl (always (action.Turn Insert ReverseSearchHistory))
+    ∷ char (codes "S") ctrl (always (action.Turn Insert ForwardSearchHistory))
     ∷ []
 
 -- keys that read on, or go by what is kept
-abbrev pub vi_reading_rows : List (Row Deed)
+abbrev pub vi_reading_rows : List (Row Action)
 vi_reading_rows =
-    char (codes "f") none (always (deed.Search Forward))
-    ∷ char (codes "F") none (always (deed.Search Backward))
-    ∷ char (codes "t") none (always (deed.Search ForwardBefore))
-    ∷ char (codes "T") none (always (deed.Search BackwardAfter))
-    ∷ char (codes ";") none (always deed.Again)
-    ∷ char (codes ",") none (always deed.Back)
-    ∷ char (codes "r") none (always deed.Replace)
-    ∷ char (codes ".") none (always deed.Repeat)
-    ∷ char (codes "d") none (always (deed.Operate operators.Delete))
-    ∷ char (codes "y") none (always (deed.Operate operators.Yank))
-    ∷ char (codes "<") none (always (deed.Operate operators.Dedent))
-    ∷ char (codes ">") none (always (deed.Operate operators.Indent))
-    ∷ char (codes "c") none (always (deed.Operate operators.Change))
+    char (codes "f") none (always (action.Search Forward))
+    ∷ char (codes "F") none (always (action.Search Backward))
+    ∷ char (codes "t") none (always (action.Search ForwardBefore))
+    ∷ char (codes "T") none (always (action.Search BackwardAfter))
+    ∷ char (codes ";") none (always action.Again)
+    ∷ char (codes ",") none (always action.Back)
+    ∷ char (codes "r") none (always action.Replace)
+    ∷ char (codes ".") none (always action.Repeat)
+    ∷ char (codes "d") none (always (action.Operate operators.Delete))
+    ∷ char (codes "y") none (always (action.Operate operators.Yank))
+    ∷ char (codes "<") none (always (action.Operate operators.Dedent))
+    ∷ char (codes ">") none (always (action.Operate operators.Indent))
+    ∷ char (codes "c") none (always (action.Operate operators.Change))
     ∷ []
 
-abbrev pub vi_command_rows : List (Row Deed)
+abbrev pub vi_command_rows : List (Row Action)
 vi_command_rows = vi_move_rows ++ (vi_edit_rows ++ (vi_turn_rows ++ vi_reading_rows))
 
 -- what a key of command mode does, if a row has it
-unfoldable pub deed_of : ℕ → KeyEvent → Option Deed
-deed_of n k = look n true k vi_command_rows
+unfoldable pub action_of : ℕ → KeyEvent → Option Action
+action_of n k = look n true k vi_command_rows
 
 -- the key after `r`
 abbrev pub replacing_rows : List (Row Cmd)

@@ -2,14 +2,14 @@
 
 ghost use Rattle.std.specs.Prelude.{◌≡◌, ℕ, Bool, option_map, if◌then◌else◌};
 ghost use Rattle.line_keys.specs.Common.{bound_command, terminal_command};
-ghost use Rattle.line_keys.specs.Common.{common_command_rows, common_deed, common_reading_rows};
+ghost use Rattle.line_keys.specs.Common.{common_command_rows, common_action, common_reading_rows};
 ghost use Rattle.line_buffer.specs.declared.types.Anchor.TheVariants.{Before};
 ghost use Rattle.line_buffer.specs.declared.types.Movement.TheVariants.{BackwardChar, ForwardChar};
 ghost use Rattle.line_config.specs.declared.settings.EditMode.{EditMode};
 ghost use Rattle.line_keys.specs.declared.command.Cmd.TheVariants.{Yank, Unknown};
 ghost use Rattle.line_keys.specs.Refreshing.{Shown};
 ghost use Rattle.line_keys.specs.Tables.{look, first_row};
-ghost use Rattle.line_keys.specs.declared.keymap.common.Deed.TheVariants.{Give};
+ghost use Rattle.line_keys.specs.declared.keymap.common.Action.TheVariants.{Give};
 
 use crate::command::Cmd;
 use crate::flags::Modifiers;
@@ -25,7 +25,7 @@ use std::alloc::Global;
 
 /// What a key of both modes does.
 #[derive(Drop)]
-pub enum Deed {
+pub enum Action {
     /// Gives a command.
     Give(Cmd),
     /// Inserts the pasted text, which is read.
@@ -50,9 +50,9 @@ impl<D: Decides> InputState<'_, D> {
         ensures { FollowsIn (λ s. common s key) self.now D.decides W.display wrt.now n positive
             (R.feed rdr.old) (R.feed rdr.new) result }
     {
-        match common_deed(self.mode, wrt, key, n, positive) {
-            Some(Deed::Give(cmd)) => Ok(cmd),
-            Some(Deed::Paste) => {
+        match common_action(self.mode, wrt, key, n, positive) {
+            Some(Action::Give(cmd)) => Ok(cmd),
+            Some(Action::Paste) => {
                 let text = rdr.read_pasted_text(alloc)?;
                 Ok(Cmd::Insert(1, text))
             }
@@ -135,29 +135,29 @@ pub(crate) fn forward_char(n: RepeatCount, positive: bool) -> Movement
 
 // What a key does in both modes, if a row has it.
 #[tactic(auto, using(crate::proofs::Steps::common_tables))]
-fn common_deed<W: Refresher>(
+fn common_action<W: Refresher>(
     mode: EditMode,
     wrt: &W,
     key: KeyEvent,
     n: RepeatCount,
     positive: bool,
-) -> Option<Deed>
+) -> Option<Action>
     ensures { let shown = W.display.shown wrt.now in
-        result ≡ common_deed mode shown n positive key }
+        result ≡ common_action mode shown n positive key }
 {
     match common_row(mode, wrt, key, n, positive) {
-        Some(cmd) => Some(Deed::Give(cmd)),
+        Some(cmd) => Some(Action::Give(cmd)),
         None => reading_row(key),
     }
 }
 
 // The row whose key reads on.
-fn reading_row(key: KeyEvent) -> Option<Deed>
+fn reading_row(key: KeyEvent) -> Option<Action>
     ensures { (n : ℕ) (positive : Bool)
         → result ≡ look n positive key common_reading_rows }
 {
     match key {
-        KeyEvent(KeyCode::BracketedPasteStart, Modifiers::NONE) => Some(Deed::Paste),
+        KeyEvent(KeyCode::BracketedPasteStart, Modifiers::NONE) => Some(Action::Paste),
         _ => None,
     }
 }

@@ -4,13 +4,13 @@ ghost use Rattle.std.specs.Prelude.{◌≡◌, ℕ, option_map, if◌then◌else
 ghost use Rattle.line_keys.specs.Coming.{from_key_at};
 ghost use Rattle.line_keys.specs.Keys.{none, char_with};
 ghost use Rattle.line_keys.specs.Emacs.{back, ahead, move_to_char, second_command};
-ghost use Rattle.line_keys.specs.Emacs.{emacs_command_rows, emacs_deed, emacs_reading_rows, typed_rows};
+ghost use Rattle.line_keys.specs.Emacs.{emacs_command_rows, emacs_action, emacs_reading_rows, typed_rows};
 ghost use Rattle.line_keys.specs.Feeds.{Key, ReadsBy};
 ghost use Rattle.line_keys.specs.Refreshing.{Shown};
 ghost use Rattle.line_keys.specs.Tables.{look, first_row};
 ghost use Rattle.line_keys.specs.ViSearches.{search_of};
 ghost use Rattle.line_keys.specs.declared.command.Cmd.TheVariants.{Complete, CompleteBackward};
-ghost use Rattle.line_keys.specs.declared.keymap.emacs.Deed.TheVariants.{Give};
+ghost use Rattle.line_keys.specs.declared.keymap.emacs.Action.TheVariants.{Give};
 
 use crate::command::Cmd;
 use crate::flags::Modifiers;
@@ -29,7 +29,7 @@ use std::alloc::Global;
 
 /// What a key of Emacs mode does.
 #[derive(Drop)]
-pub enum Deed {
+pub enum Action {
     /// Gives a command.
     Give(Cmd),
     /// Moves to the character that is typed next.
@@ -42,7 +42,7 @@ impl<D: Decides> InputState<'_, D> {
     ghost use Rattle.line_keys.specs.InputStates.{FollowsIn, input_of, custom_in};
     ghost use Rattle.line_keys.specs.Emacs.{emacs_phrase, emacs_decided, emacs_command};
     ghost use Rattle.line_keys.specs.Emacs.{emacs_done};
-    ghost use Rattle.line_keys.specs.declared.keymap.emacs.Deed.TheVariants.{LeadOn};
+    ghost use Rattle.line_keys.specs.declared.keymap.emacs.Action.TheVariants.{LeadOn};
     ghost use Rattle.std.specs.Prelude.{Some};
     ghost use Rattle.line_keys.specs.Counts.{how_often, is_plus};
     ghost use Rattle.line_keys.specs.Follows.{Follows};
@@ -106,10 +106,10 @@ impl<D: Decides> InputState<'_, D> {
         ensures { FollowsIn (λ s. emacs_command s key) self.now D.decides
             W.display wrt.now n positive (R.feed rdr.old) (R.feed rdr.new) result }
     {
-        match emacs_deed(wrt, key, n, positive) {
-            Some(Deed::Give(cmd)) => Ok(cmd),
-            Some(Deed::Seek(search)) => char_search(rdr, n, search),
-            Some(Deed::LeadOn) => self.ctrl_x(alloc, rdr, wrt, key, n, positive),
+        match emacs_action(wrt, key, n, positive) {
+            Some(Action::Give(cmd)) => Ok(cmd),
+            Some(Action::Seek(search)) => char_search(rdr, n, search),
+            Some(Action::LeadOn) => self.ctrl_x(alloc, rdr, wrt, key, n, positive),
             None => self.common(alloc, rdr, wrt, key, n, positive),
         }
     }
@@ -224,15 +224,20 @@ fn ahead(n: RepeatCount, positive: bool) -> Movement
 
 // What a key does, if a row has it.
 #[tactic(auto, using(crate::proofs::Steps::emacs_tables))]
-fn emacs_deed<W: Refresher>(wrt: &W, key: KeyEvent, n: RepeatCount, positive: bool) -> Option<Deed>
+fn emacs_action<W: Refresher>(
+    wrt: &W,
+    key: KeyEvent,
+    n: RepeatCount,
+    positive: bool,
+) -> Option<Action>
     ensures { let shown = W.display.shown wrt.now in
-        result ≡ emacs_deed shown n positive key }
+        result ≡ emacs_action shown n positive key }
 {
     if let Some(cmd) = typed_row(key, n, positive) {
-        return Some(Deed::Give(cmd));
+        return Some(Action::Give(cmd));
     }
     match emacs_row(wrt, key, n, positive) {
-        Some(cmd) => Some(Deed::Give(cmd)),
+        Some(cmd) => Some(Action::Give(cmd)),
         None => reading_row(key, positive),
     }
 }
@@ -249,7 +254,7 @@ fn typed_row(key: KeyEvent, n: RepeatCount, positive: bool) -> Option<Cmd>
 }
 
 // The rows whose keys read on.
-fn reading_row(key: KeyEvent, positive: bool) -> Option<Deed>
+fn reading_row(key: KeyEvent, positive: bool) -> Option<Action>
     ensures { (n : ℕ) → result ≡ look n positive key emacs_reading_rows }
 {
     use KeyCode as K;
@@ -257,11 +262,11 @@ fn reading_row(key: KeyEvent, positive: bool) -> Option<Deed>
     use Modifiers as M;
 
     match key {
-        E(K::Char(']'), M::CTRL) if positive => Some(Deed::Seek(Search::ForwardBefore)),
-        E(K::Char(']'), M::CTRL) => Some(Deed::Seek(Search::Backward)),
-        E(K::Char(']'), M::CTRL_ALT) if positive => Some(Deed::Seek(Search::Backward)),
-        E(K::Char(']'), M::CTRL_ALT) => Some(Deed::Seek(Search::ForwardBefore)),
-        E(K::Char('X'), M::CTRL) => Some(Deed::LeadOn),
+        E(K::Char(']'), M::CTRL) if positive => Some(Action::Seek(Search::ForwardBefore)),
+        E(K::Char(']'), M::CTRL) => Some(Action::Seek(Search::Backward)),
+        E(K::Char(']'), M::CTRL_ALT) if positive => Some(Action::Seek(Search::Backward)),
+        E(K::Char(']'), M::CTRL_ALT) => Some(Action::Seek(Search::ForwardBefore)),
+        E(K::Char('X'), M::CTRL) => Some(Action::LeadOn),
         _ => None,
     }
 }

@@ -18,7 +18,7 @@ use crate::keymap::common::term_binding;
 use crate::keymap::count::times;
 use crate::keymap::vi::count::typed_count;
 use crate::keymap::vi::motion::{opposite, searching};
-use crate::keymap::vi::table::{Deed, InsertDeed, Operator, vi_command_row, vi_insert_row};
+use crate::keymap::vi::table::{Action, InsertAction, Operator, vi_command_row, vi_insert_row};
 use crate::refresh::Refresher;
 use crate::tty::RawReader;
 use line_buffer::{Movement, RepeatCount};
@@ -127,7 +127,7 @@ impl<D: Decides> InputState<'_, D> {
     }
 
     // What the key's row says, or what is common to both modes.
-    #[tactic(auto, using(crate::proofs::Steps::deed), unfolding(crate::specs::Vi::command_table))]
+    #[tactic(auto, using(crate::proofs::Steps::action), unfolding(crate::specs::Vi::command_table))]
     fn vi_done<R: RawReader, W: Refresher>(
         &mut self,
         alloc: Global,
@@ -147,28 +147,28 @@ impl<D: Decides> InputState<'_, D> {
     {
         let n = times(count);
         match vi_command_row(key, n) {
-            Some(Deed::Give(cmd)) => Ok(cmd),
-            Some(Deed::Insert(cmd)) => {
+            Some(Action::Give(cmd)) => Ok(cmd),
+            Some(Action::Insert(cmd)) => {
                 self.input_mode = InputMode::Insert;
                 wrt.doing_insert()?;
                 Ok(cmd)
             }
-            Some(Deed::Turn(mode, cmd)) => {
+            Some(Action::Turn(mode, cmd)) => {
                 self.input_mode = mode;
                 Ok(cmd)
             }
-            Some(Deed::Operate(operator)) => self.vi_operation(alloc, rdr, wrt, key, n, operator),
-            Some(Deed::Search(search)) => {
+            Some(Action::Operate(operator)) => self.vi_operation(alloc, rdr, wrt, key, n, operator),
+            Some(Action::Search(search)) => {
                 let movement = self.vi_char_search(rdr, search, n)?;
                 Ok(move_or(Cmd::Unknown, movement))
             }
-            Some(Deed::Again) => Ok(move_or(Cmd::Noop, searching(n, self.last_char_search))),
-            Some(Deed::Back) => {
+            Some(Action::Again) => Ok(move_or(Cmd::Noop, searching(n, self.last_char_search))),
+            Some(Action::Back) => {
                 let search = opposite(self.last_char_search);
                 Ok(move_or(Cmd::Noop, searching(n, search)))
             }
-            Some(Deed::Repeat) => self.last_cmd.repeated(alloc, wrt, typed_count(count)),
-            Some(Deed::Replace) => replacement(rdr, n),
+            Some(Action::Repeat) => self.last_cmd.repeated(alloc, wrt, typed_count(count)),
+            Some(Action::Replace) => replacement(rdr, n),
             None => self.common(alloc, rdr, wrt, key, n, true),
         }
     }
@@ -285,14 +285,14 @@ impl<D: Decides> InputState<'_, D> {
         ensures bindings { self.new.custom_bindings ≡ self.old.custom_bindings }
     {
         match vi_insert_row(wrt, key) {
-            Some(InsertDeed::Give(cmd)) => Ok(cmd),
-            Some(InsertDeed::Typed(c)) => Ok(typed_in(self.input_mode, c)),
-            Some(InsertDeed::Leave(cmd)) => {
+            Some(InsertAction::Give(cmd)) => Ok(cmd),
+            Some(InsertAction::Typed(c)) => Ok(typed_in(self.input_mode, c)),
+            Some(InsertAction::Leave(cmd)) => {
                 self.input_mode = InputMode::Command;
                 wrt.done_inserting()?;
                 Ok(cmd)
             }
-            Some(InsertDeed::Command(c)) => {
+            Some(InsertAction::Command(c)) => {
                 self.input_mode = InputMode::Command;
                 wrt.done_inserting()?;
                 self.vi_command(alloc, rdr, wrt, KeyEvent(KeyCode::Char(c), Modifiers::NONE))

@@ -3,11 +3,11 @@
 ghost use Rattle.std.specs.Prelude.{◌≡◌, ℕ, None, option_map, true};
 ghost use Rattle.line_keys.specs.Tables.{look};
 ghost use Rattle.line_keys.specs.Vi.{operated};
-ghost use Rattle.line_keys.specs.ViTables.{deed_of, insert_deed, vi_edit_rows, vi_move_rows};
+ghost use Rattle.line_keys.specs.ViTables.{action_of, insert_action, vi_edit_rows, vi_move_rows};
 ghost use Rattle.line_keys.specs.ViTables.{vi_reading_rows, vi_turn_rows};
 ghost use Rattle.line_keys.specs.declared.command.Cmd.TheVariants.{Replace};
 ghost use Rattle.line_keys.specs.declared.command.InputMode.TheVariants.{Insert};
-ghost use Rattle.line_keys.specs.declared.keymap.vi.table.Deed.TheVariants.{Give, Turn};
+ghost use Rattle.line_keys.specs.declared.keymap.vi.table.Action.TheVariants.{Give, Turn};
 
 use crate::command::{Cmd, InputMode};
 use crate::flags::Modifiers;
@@ -18,7 +18,7 @@ use line_buffer::{Anchor, At, Movement, RepeatCount, Word};
 
 /// What a key of command mode does.
 #[derive(Drop)]
-pub enum Deed {
+pub enum Action {
     /// Gives a command.
     Give(Cmd),
     /// Turns to insert mode, which the display is told, and gives a command.
@@ -72,7 +72,7 @@ impl Operator {
 
 /// What a key of insert and replace mode does.
 #[derive(Drop)]
-pub enum InsertDeed {
+pub enum InsertAction {
     /// Gives a command.
     Give(Cmd),
     /// Types a character, in replace mode over the one at the cursor.
@@ -84,11 +84,11 @@ pub enum InsertDeed {
 }
 
 /// The rows of insert and replace mode.
-#[tactic(auto, unfolding(crate::specs::ViTables::insert_deed))]
-pub(crate) fn vi_insert_row<W: Refresher>(wrt: &W, key: KeyEvent) -> Option<InsertDeed>
-    ensures { result ≡ insert_deed (W.display.shown wrt.now) key }
+#[tactic(auto, unfolding(crate::specs::ViTables::insert_action))]
+pub(crate) fn vi_insert_row<W: Refresher>(wrt: &W, key: KeyEvent) -> Option<InsertAction>
+    ensures { result ≡ insert_action (W.display.shown wrt.now) key }
 {
-    use InsertDeed as D;
+    use InsertAction as D;
     use KeyCode as K;
     use KeyEvent as E;
     use Modifiers as M;
@@ -173,7 +173,7 @@ fn vi_edit_row(key: KeyEvent, n: RepeatCount) -> Option<Cmd>
 }
 
 // The rows whose keys leave command mode.
-fn vi_turn_row(key: KeyEvent, n: RepeatCount) -> Option<Deed>
+fn vi_turn_row(key: KeyEvent, n: RepeatCount) -> Option<Action>
     ensures { result ≡ look n true key vi_turn_rows }
 {
     use KeyCode as K;
@@ -181,72 +181,72 @@ fn vi_turn_row(key: KeyEvent, n: RepeatCount) -> Option<Deed>
     use Modifiers as M;
 
     match key {
-        E(K::Char('a'), M::NONE) => Some(Deed::Insert(Cmd::Move(Movement::ForwardChar(n)))),
-        E(K::Char('A'), M::NONE) => Some(Deed::Insert(Cmd::Move(Movement::EndOfLine))),
-        E(K::Char('i'), M::NONE) => Some(Deed::Insert(Cmd::Noop)),
-        E(K::Char('I'), M::NONE) => Some(Deed::Insert(Cmd::Move(Movement::BeginningOfLine))),
+        E(K::Char('a'), M::NONE) => Some(Action::Insert(Cmd::Move(Movement::ForwardChar(n)))),
+        E(K::Char('A'), M::NONE) => Some(Action::Insert(Cmd::Move(Movement::EndOfLine))),
+        E(K::Char('i'), M::NONE) => Some(Action::Insert(Cmd::Noop)),
+        E(K::Char('I'), M::NONE) => Some(Action::Insert(Cmd::Move(Movement::BeginningOfLine))),
         E(K::Char('C'), M::NONE) => Some(replacing(Movement::EndOfLine)),
         E(K::Char('s'), M::NONE) => Some(replacing(Movement::ForwardChar(n))),
         E(K::Char('S'), M::NONE) => Some(replacing(Movement::WholeLine)),
         E(K::Char('R'), M::NONE) => {
             let cmd = Cmd::Replace(Movement::ForwardChar(0), None);
-            Some(Deed::Turn(InputMode::Replace, cmd))
+            Some(Action::Turn(InputMode::Replace, cmd))
         }
         E(K::Char('R'), M::CTRL) => {
-            Some(Deed::Turn(InputMode::Insert, Cmd::ReverseSearchHistory))
+            Some(Action::Turn(InputMode::Insert, Cmd::ReverseSearchHistory))
         }
         E(K::Char('S'), M::CTRL) => {
-            Some(Deed::Turn(InputMode::Insert, Cmd::ForwardSearchHistory))
+            Some(Action::Turn(InputMode::Insert, Cmd::ForwardSearchHistory))
         }
         _ => None,
     }
 }
 
 // To insert mode, where what is typed takes the range's place.
-fn replacing(range: Movement) -> Deed
+fn replacing(range: Movement) -> Action
     ensures { result ≡ Turn Insert (Replace range None) }
 {
-    Deed::Turn(InputMode::Insert, Cmd::Replace(range, None))
+    Action::Turn(InputMode::Insert, Cmd::Replace(range, None))
 }
 
 // The rows whose keys read on, or go by what is kept.
-fn vi_reading_row(key: KeyEvent) -> Option<Deed>
+fn vi_reading_row(key: KeyEvent) -> Option<Action>
     ensures { (n : ℕ) → result ≡ look n true key vi_reading_rows }
 {
     let KeyEvent(KeyCode::Char(c), Modifiers::NONE) = key else {
         return None;
     };
     match c {
-        'c' => Some(Deed::Operate(Operator::Change)),
-        'd' => Some(Deed::Operate(Operator::Delete)),
-        'y' => Some(Deed::Operate(Operator::Yank)),
-        '<' => Some(Deed::Operate(Operator::Dedent)),
-        '>' => Some(Deed::Operate(Operator::Indent)),
-        'f' => Some(Deed::Search(Search::Forward)),
-        't' => Some(Deed::Search(Search::ForwardBefore)),
-        'F' => Some(Deed::Search(Search::Backward)),
-        'T' => Some(Deed::Search(Search::BackwardAfter)),
-        ';' => Some(Deed::Again),
-        ',' => Some(Deed::Back),
-        '.' => Some(Deed::Repeat),
-        'r' => Some(Deed::Replace),
+        'c' => Some(Action::Operate(Operator::Change)),
+        'd' => Some(Action::Operate(Operator::Delete)),
+        'y' => Some(Action::Operate(Operator::Yank)),
+        '<' => Some(Action::Operate(Operator::Dedent)),
+        '>' => Some(Action::Operate(Operator::Indent)),
+        'f' => Some(Action::Search(Search::Forward)),
+        't' => Some(Action::Search(Search::ForwardBefore)),
+        'F' => Some(Action::Search(Search::Backward)),
+        'T' => Some(Action::Search(Search::BackwardAfter)),
+        ';' => Some(Action::Again),
+        ',' => Some(Action::Back),
+        '.' => Some(Action::Repeat),
+        'r' => Some(Action::Replace),
         _ => None,
     }
 }
 
 /// What a key of command mode does, by the count.
 #[tactic(auto, using(crate::proofs::Steps::tables))]
-pub(crate) fn vi_command_row(key: KeyEvent, n: RepeatCount) -> Option<Deed>
-    ensures { result ≡ deed_of n key }
+pub(crate) fn vi_command_row(key: KeyEvent, n: RepeatCount) -> Option<Action>
+    ensures { result ≡ action_of n key }
 {
     if let Some(cmd) = vi_move_row(key, n) {
-        return Some(Deed::Give(cmd));
+        return Some(Action::Give(cmd));
     }
     if let Some(cmd) = vi_edit_row(key, n) {
-        return Some(Deed::Give(cmd));
+        return Some(Action::Give(cmd));
     }
     match vi_turn_row(key, n) {
-        Some(deed) => Some(deed),
+        Some(action) => Some(action),
         None => vi_reading_row(key),
     }
 }

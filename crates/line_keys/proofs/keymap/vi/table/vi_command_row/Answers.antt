@@ -1,4 +1,4 @@
-use Rattle.line_keys.proofs.Deeds.{first_table, second_table, third_table, fourth_table}
+use Rattle.line_keys.proofs.RowActions.{first_table, second_table, third_table, fourth_table}
 use Rattle.line_keys.proofs.keymap.vi.table.vi_command_row.Goals as goal
 
 pub returns-in-Some : goal.returns-in-Some
@@ -9,7 +9,7 @@ returns-in-Some-vi_edit_row c = second_table c.args.n c.args.key c.in-Some-vi_ed
 
 pub returns-in-Some-vi_turn_row : goal.returns-in-Some-vi_turn_row
 returns-in-Some-vi_turn_row c =
-    third_table c.args.n c.args.key c.in-Some-vi_turn_row.deed c.in_default.ensures c.in_default-vi_edit_row.ensures c.in-Some-vi_turn_row.ensures
+    third_table c.args.n c.args.key c.in-Some-vi_turn_row.action c.in_default.ensures c.in_default-vi_edit_row.ensures c.in-Some-vi_turn_row.ensures
 
 pub returns-in-None : goal.returns-in-None
 returns-in-None c =

@@ -6,19 +6,19 @@ use Rattle.line_config.specs.declared.settings.EditMode.{EditMode}
 use Rattle.line_keys.specs.declared.key.KeyCode.{KeyCode}
 use Rattle.line_keys.specs.declared.key.KeyEvent.{KeyEvent}
 use Rattle.line_keys.specs.declared.command.Cmd.{Cmd}
-use Rattle.line_keys.specs.declared.keymap.common.Deed.{Deed as CommonKey}
-use Rattle.line_keys.specs.declared.keymap.common.Deed.TheVariants.{Give as GiveCommon}
-use Rattle.line_keys.specs.declared.keymap.emacs.Deed.{Deed as EmacsKey}
-use Rattle.line_keys.specs.declared.keymap.emacs.Deed.TheVariants.{Give as GiveEmacs}
+use Rattle.line_keys.specs.declared.keymap.common.Action.{Action as CommonKey}
+use Rattle.line_keys.specs.declared.keymap.common.Action.TheVariants.{Give as GiveCommon}
+use Rattle.line_keys.specs.declared.keymap.emacs.Action.{Action as EmacsKey}
+use Rattle.line_keys.specs.declared.keymap.emacs.Action.TheVariants.{Give as GiveEmacs}
 use Rattle.line_keys.specs.declared.keymap.vi.motion.Motion.{Motion as MotionKey}
-use Rattle.line_keys.specs.declared.keymap.vi.table.Deed.{Deed as DeedKey}
-use Rattle.line_keys.specs.declared.keymap.vi.table.Deed.TheVariants.{Give}
-use Rattle.line_keys.specs.Common.{common_command_rows, common_reading_rows, common_deed}
-use Rattle.line_keys.specs.Emacs.{typed_rows, emacs_command_rows, emacs_reading_rows, emacs_deed}
+use Rattle.line_keys.specs.declared.keymap.vi.table.Action.{Action as ActionKey}
+use Rattle.line_keys.specs.declared.keymap.vi.table.Action.TheVariants.{Give}
+use Rattle.line_keys.specs.Common.{common_command_rows, common_reading_rows, common_action}
+use Rattle.line_keys.specs.Emacs.{typed_rows, emacs_command_rows, emacs_reading_rows, emacs_action}
 use Rattle.line_keys.specs.Refreshing.{Shown}
 use Rattle.line_keys.specs.Tables.{Row, has_key, first_row, look}
 use Rattle.line_keys.specs.ViMotions.{motion_rows, change_motion_rows}
-use Rattle.line_keys.specs.ViTables.{vi_move_rows, vi_edit_rows, vi_turn_rows, vi_reading_rows, deed_of}
+use Rattle.line_keys.specs.ViTables.{vi_move_rows, vi_edit_rows, vi_turn_rows, vi_reading_rows, action_of}
 
 or_by : {X : Type 0} (b : Bool) (x : X) (o p : Option X) → (if b then Some x else option_or o p) ≡ option_or (if b then Some x else o) p
 or_by true x o p = refl
@@ -41,31 +41,31 @@ module _ {X : Type 0} (n : ℕ) (p : Bool) (k : KeyEvent) (xs ys : List (Row X))
 -- ---- both modes
 
 module _ (mode : EditMode) (shown : Shown) (n : ℕ) (p : Bool) (k : KeyEvent) where
-  pub common_first : (cmd : Cmd) → Some (GiveCommon cmd) ≡ look n p k (common_command_rows mode shown) → Some (GiveCommon cmd) ≡ common_deed mode shown n p k
-  unfolding common_deed
+  pub common_first : (cmd : Cmd) → Some (GiveCommon cmd) ≡ look n p k (common_command_rows mode shown) → Some (GiveCommon cmd) ≡ common_action mode shown n p k
+  unfolding common_action
   common_first cmd is = in_first n p k (common_command_rows mode shown) common_reading_rows (GiveCommon cmd) is
 
   pub common_second : (o : Option CommonKey) → None ≡ look n p k (common_command_rows mode shown) → o ≡ look n p k common_reading_rows
-      → o ≡ common_deed mode shown n p k
-  unfolding common_deed
+      → o ≡ common_action mode shown n p k
+  unfolding common_action
   common_second o none is = in_rest n p k (common_command_rows mode shown) common_reading_rows o none is
 
 -- ---- Emacs
 
 module _ (shown : Shown) (n : ℕ) (p : Bool) (k : KeyEvent) where
-  pub emacs_first : (cmd : Cmd) → Some (GiveEmacs cmd) ≡ look n p k typed_rows → Some (GiveEmacs cmd) ≡ emacs_deed shown n p k
-  unfolding emacs_deed
+  pub emacs_first : (cmd : Cmd) → Some (GiveEmacs cmd) ≡ look n p k typed_rows → Some (GiveEmacs cmd) ≡ emacs_action shown n p k
+  unfolding emacs_action
   emacs_first cmd is = in_first n p k typed_rows (emacs_command_rows shown ++ emacs_reading_rows) (GiveEmacs cmd) is
 
-  pub emacs_second : (cmd : Cmd) → None ≡ look n p k typed_rows → Some (GiveEmacs cmd) ≡ look n p k (emacs_command_rows shown) → Some (GiveEmacs cmd) ≡ emacs_deed shown n p k
-  unfolding emacs_deed
+  pub emacs_second : (cmd : Cmd) → None ≡ look n p k typed_rows → Some (GiveEmacs cmd) ≡ look n p k (emacs_command_rows shown) → Some (GiveEmacs cmd) ≡ emacs_action shown n p k
+  unfolding emacs_action
   emacs_second cmd none is =
       in_rest n p k typed_rows (emacs_command_rows shown ++ emacs_reading_rows) (Some (GiveEmacs cmd)) none
       (in_first n p k (emacs_command_rows shown) emacs_reading_rows (GiveEmacs cmd) is)
 
   pub emacs_third : (o : Option EmacsKey) → None ≡ look n p k typed_rows → None ≡ look n p k (emacs_command_rows shown)
-      → o ≡ look n p k emacs_reading_rows → o ≡ emacs_deed shown n p k
-  unfolding emacs_deed
+      → o ≡ look n p k emacs_reading_rows → o ≡ emacs_action shown n p k
+  unfolding emacs_action
   emacs_third o none nor is =
       in_rest n p k typed_rows (emacs_command_rows shown ++ emacs_reading_rows) o none
       (in_rest n p k (emacs_command_rows shown) emacs_reading_rows o nor is)
@@ -73,27 +73,27 @@ module _ (shown : Shown) (n : ℕ) (p : Bool) (k : KeyEvent) where
 -- ---- Vi
 
 module _ (n : ℕ) (k : KeyEvent) where
-  pub first_table : (cmd : Cmd) → Some (Give cmd) ≡ look n true k vi_move_rows → Some (Give cmd) ≡ deed_of n k
-  unfolding deed_of
+  pub first_table : (cmd : Cmd) → Some (Give cmd) ≡ look n true k vi_move_rows → Some (Give cmd) ≡ action_of n k
+  unfolding action_of
   first_table cmd is = in_first n true k vi_move_rows (vi_edit_rows ++ (vi_turn_rows ++ vi_reading_rows)) (Give cmd) is
 
-  pub second_table : (cmd : Cmd) → None ≡ look n true k vi_move_rows → Some (Give cmd) ≡ look n true k vi_edit_rows → Some (Give cmd) ≡ deed_of n k
-  unfolding deed_of
+  pub second_table : (cmd : Cmd) → None ≡ look n true k vi_move_rows → Some (Give cmd) ≡ look n true k vi_edit_rows → Some (Give cmd) ≡ action_of n k
+  unfolding action_of
   second_table cmd none is =
       in_rest n true k vi_move_rows (vi_edit_rows ++ (vi_turn_rows ++ vi_reading_rows)) (Some (Give cmd)) none
       (in_first n true k vi_edit_rows (vi_turn_rows ++ vi_reading_rows) (Give cmd) is)
 
-  pub third_table : (deed : DeedKey) → None ≡ look n true k vi_move_rows → None ≡ look n true k vi_edit_rows → Some deed ≡ look n true k vi_turn_rows
-      → Some deed ≡ deed_of n k
-  unfolding deed_of
-  third_table deed none nor is =
-      in_rest n true k vi_move_rows (vi_edit_rows ++ (vi_turn_rows ++ vi_reading_rows)) (Some deed) none
-      (in_rest n true k vi_edit_rows (vi_turn_rows ++ vi_reading_rows) (Some deed) nor
-      (in_first n true k vi_turn_rows vi_reading_rows deed is))
+  pub third_table : (action : ActionKey) → None ≡ look n true k vi_move_rows → None ≡ look n true k vi_edit_rows → Some action ≡ look n true k vi_turn_rows
+      → Some action ≡ action_of n k
+  unfolding action_of
+  third_table action none nor is =
+      in_rest n true k vi_move_rows (vi_edit_rows ++ (vi_turn_rows ++ vi_reading_rows)) (Some action) none
+      (in_rest n true k vi_edit_rows (vi_turn_rows ++ vi_reading_rows) (Some action) nor
+      (in_first n true k vi_turn_rows vi_reading_rows action is))
 
-  pub fourth_table : (o : Option DeedKey) → None ≡ look n true k vi_move_rows → None ≡ look n true k vi_edit_rows → None ≡ look n true k vi_turn_rows
-      → o ≡ look n true k vi_reading_rows → o ≡ deed_of n k
-  unfolding deed_of
+  pub fourth_table : (o : Option ActionKey) → None ≡ look n true k vi_move_rows → None ≡ look n true k vi_edit_rows → None ≡ look n true k vi_turn_rows
+      → o ≡ look n true k vi_reading_rows → o ≡ action_of n k
+  unfolding action_of
   fourth_table o none nor neither is =
       in_rest n true k vi_move_rows (vi_edit_rows ++ (vi_turn_rows ++ vi_reading_rows)) o none
       (in_rest n true k vi_edit_rows (vi_turn_rows ++ vi_reading_rows) o nor

@@ -1,5 +1,5 @@
-use Rattle.line_keys.proofs.Deeds.{emacs_first, emacs_second, emacs_third}
-use Rattle.line_keys.proofs.keymap.emacs.emacs_deed.Goals as goal
+use Rattle.line_keys.proofs.RowActions.{emacs_first, emacs_second, emacs_third}
+use Rattle.line_keys.proofs.keymap.emacs.emacs_action.Goals as goal
 
 pub returns-in-Some : goal.returns-in-Some
 returns-in-Some g c =

@@ -1,5 +1,5 @@
-use Rattle.line_keys.proofs.Deeds.{common_first, common_second}
-use Rattle.line_keys.proofs.keymap.common.common_deed.Goals as goal
+use Rattle.line_keys.proofs.RowActions.{common_first, common_second}
+use Rattle.line_keys.proofs.keymap.common.common_action.Goals as goal
 
 pub returns-in-Some : goal.returns-in-Some
 returns-in-Some g c =
