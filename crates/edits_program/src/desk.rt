@@ -1,6 +1,7 @@
 //! A line with its undo record, and a kill ring that is told of its kills first.
 
 ghost use Rattle.line_record.specs.Items.{ItemsStand, ItemsStand-prop};
+ghost use Rattle.line_record.specs.Together.{SameNames};
 
 use line_buffer::{LineBuffer, Movement, NoListener, OutOfMemory, Word, WordAction};
 use line_record::{Changeset, Joined, KillRing};
@@ -66,21 +67,34 @@ impl Desk {
 
     pub(crate) fn type_text(&mut self, text: &str) -> Result<(), OutOfMemory> {
         for c in text.chars() {
-            put_char(self.alloc, &mut self.line, &mut self.changes, c)?;
+            self.type_char(c)?;
         }
         Ok(())
     }
 
+    fn type_char(&mut self, c: char) -> Result<(), OutOfMemory> {
+        let _text = self.line.as_str();
+        self.line.insert(self.alloc, c, 1, &mut self.changes)?;
+        Ok(())
+    }
+
     pub(crate) fn paste(&mut self, text: &str) -> Result<(), OutOfMemory> {
-        put_text(self.alloc, &mut self.line, &mut self.changes, text)
+        let _text = self.line.as_str();
+        self.line.yank(self.alloc, text, 1, &mut self.changes)?;
+        Ok(())
     }
 
     pub(crate) fn backspace(&mut self) -> Result<(), OutOfMemory> {
-        take_before(self.alloc, &mut self.line, &mut self.changes)
+        let _text = self.line.as_str();
+        self.line.backspace(self.alloc, 1, &mut self.changes)?;
+        Ok(())
     }
 
     pub(crate) fn update(&mut self, text: &str) -> Result<(), OutOfMemory> {
-        exchange_all(self.alloc, &mut self.line, &mut self.changes, text)
+        let _text = self.line.as_str();
+        self.line
+            .update(self.alloc, text, text.len(), &mut self.changes)?;
+        Ok(())
     }
 
     /// The text between two places exchanged for another.
@@ -90,35 +104,46 @@ impl Desk {
         upto: usize,
         text: &str,
     ) -> Result<(), OutOfMemory> {
-        exchange(
-            self.alloc,
-            &mut self.line,
-            &mut self.changes,
-            from,
-            upto,
-            text,
-        )
+        let here = self.line.as_str();
+        if from > upto || !here.is_char_boundary(from) || !here.is_char_boundary(upto) {
+            return Ok(());
+        }
+        self.line
+            .replace(self.alloc, from..upto, text, &mut self.changes)?;
+        Ok(())
     }
 
     pub(crate) fn raise_word(&mut self) -> Result<(), OutOfMemory> {
-        raise(self.alloc, &mut self.line, &mut self.changes)
+        let _text = self.line.as_str();
+        self.line
+            .edit_word(self.alloc, WordAction::Uppercase, &mut self.changes)?;
+        Ok(())
     }
 
     pub(crate) fn transpose_words(&mut self) -> Result<(), OutOfMemory> {
-        transpose(self.alloc, &mut self.line, &mut self.changes)
+        let _text = self.line.as_str();
+        self.line.transpose_words(self.alloc, 1, &mut self.changes)?;
+        Ok(())
     }
 
     pub(crate) fn indent_all(&mut self) -> Result<(), OutOfMemory> {
-        indent(self.alloc, &mut self.line, &mut self.changes)
+        let _text = self.line.as_str();
+        self.line.indent(
+            self.alloc,
+            &Movement::WholeBuffer,
+            2,
+            false,
+            &mut self.changes,
+        )?;
+        Ok(())
     }
 
     pub(crate) fn kill_word_back(&mut self) -> Result<(), OutOfMemory> {
-        kill(
-            self.alloc,
-            &mut self.line,
-            &mut self.ring,
-            &mut self.changes,
-        )
+        let mut both = Joined {
+            first: &mut self.ring,
+            second: &mut self.changes,
+        };
+        kill_both(self.alloc, &mut self.line, &mut both)
     }
 
     pub(crate) fn end_run(&mut self) {
@@ -174,129 +199,6 @@ impl Desk {
         Ok(!inserted && !undone && !made)
     }
 }
-
-fn put_char(
-    alloc: Global,
-    line: &mut LineBuffer,
-    changes: &mut Changeset,
-    c: char,
-) -> Result<(), OutOfMemory>
-    requires { ItemsStand changes.old line.old.text }
-    ensures { ItemsStand changes.new line.new.text }
-{
-    let _text = line.as_str();
-    line.insert(alloc, c, 1, changes)?;
-    Ok(())
-}
-
-fn put_text(
-    alloc: Global,
-    line: &mut LineBuffer,
-    changes: &mut Changeset,
-    text: &str,
-) -> Result<(), OutOfMemory>
-    requires { ItemsStand changes.old line.old.text }
-    ensures { ItemsStand changes.new line.new.text }
-{
-    let _text = line.as_str();
-    line.yank(alloc, text, 1, changes)?;
-    Ok(())
-}
-
-fn take_before(
-    alloc: Global,
-    line: &mut LineBuffer,
-    changes: &mut Changeset,
-) -> Result<(), OutOfMemory>
-    requires { ItemsStand changes.old line.old.text }
-    ensures { ItemsStand changes.new line.new.text }
-{
-    let _text = line.as_str();
-    line.backspace(alloc, 1, changes)?;
-    Ok(())
-}
-
-fn exchange_all(
-    alloc: Global,
-    line: &mut LineBuffer,
-    changes: &mut Changeset,
-    text: &str,
-) -> Result<(), OutOfMemory>
-    requires { ItemsStand changes.old line.old.text }
-    ensures { ItemsStand changes.new line.new.text }
-{
-    let _text = line.as_str();
-    line.update(alloc, text, text.len(), changes)?;
-    Ok(())
-}
-
-fn exchange(
-    alloc: Global,
-    line: &mut LineBuffer,
-    changes: &mut Changeset,
-    from: usize,
-    upto: usize,
-    text: &str,
-) -> Result<(), OutOfMemory>
-    requires { ItemsStand changes.old line.old.text }
-    ensures { ItemsStand changes.new line.new.text }
-{
-    let here = line.as_str();
-    if from > upto || !here.is_char_boundary(from) || !here.is_char_boundary(upto) {
-        return Ok(());
-    }
-    line.replace(alloc, from..upto, text, changes)?;
-    Ok(())
-}
-
-fn raise(alloc: Global, line: &mut LineBuffer, changes: &mut Changeset) -> Result<(), OutOfMemory>
-    requires { ItemsStand changes.old line.old.text }
-    ensures { ItemsStand changes.new line.new.text }
-{
-    let _text = line.as_str();
-    line.edit_word(alloc, WordAction::Uppercase, changes)?;
-    Ok(())
-}
-
-fn transpose(
-    alloc: Global,
-    line: &mut LineBuffer,
-    changes: &mut Changeset,
-) -> Result<(), OutOfMemory>
-    requires { ItemsStand changes.old line.old.text }
-    ensures { ItemsStand changes.new line.new.text }
-{
-    let _text = line.as_str();
-    line.transpose_words(alloc, 1, changes)?;
-    Ok(())
-}
-
-fn indent(alloc: Global, line: &mut LineBuffer, changes: &mut Changeset) -> Result<(), OutOfMemory>
-    requires { ItemsStand changes.old line.old.text }
-    ensures { ItemsStand changes.new line.new.text }
-{
-    let _text = line.as_str();
-    line.indent(alloc, &Movement::WholeBuffer, 2, false, changes)?;
-    Ok(())
-}
-
-fn kill(
-    alloc: Global,
-    line: &mut LineBuffer,
-    ring: &mut KillRing,
-    changes: &mut Changeset,
-) -> Result<(), OutOfMemory>
-    requires { ItemsStand changes.old line.old.text }
-    ensures { ItemsStand changes.new line.new.text }
-{
-    let mut both = Joined {
-        first: ring,
-        second: changes,
-    };
-    kill_both(alloc, line, &mut both)
-}
-
-ghost use Rattle.line_record.specs.Together.{SameNames};
 
 fn kill_both(
     alloc: Global,
