@@ -75,7 +75,7 @@ coming_then (CutOff item) more = CutOff item
 coming_then (Ends item) more = more
 coming_then (Refused why) more = Refused why
 
--- the bytes read as whole keys and pastes to their end, where no paste is owed
+-- the bytes read as whole keys and pastes to their end, where no paste is announced
 abbrev pub AreWhole : EditMode → List ℕ → Type 0
 AreWhole mode bytes = IsTrue (are_whole (readings mode (chars_of bytes End)))
 

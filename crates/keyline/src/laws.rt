@@ -140,7 +140,7 @@ pub fn kept()
     ensures { LastAreKept }
 {}
 
-/// Bytes that read as whole keys and pastes to their end, with no paste owed, read so whatever
+/// Bytes that read as whole keys and pastes to their end, with no paste announced, read so whatever
 /// follows them, unless the last one is ESC: what comes is theirs, and then what follows.
 pub fn cutting()
     ensures { CutsAreFree }

@@ -37,7 +37,7 @@ pub trait RawReader {
     /// The next key. `single_esc_abort` tells readers that wait for the rest of a sequence not to
     /// do so after Esc.
     ///
-    /// Where a pasted text is owed, the refusal is `PasteOutOfPlace` and nothing is read.
+    /// Where a pasted text is announced, the refusal is `PasteOutOfPlace` and nothing is read.
     fn next_key(&mut self, single_esc_abort: bool) -> Result<KeyEvent, ReadlineError>
         ensures { ReadsBy Key key_at (feed self.old) (feed self.new) result };
 

@@ -19,7 +19,7 @@ pub mod ListLemmas
 pub mod Moves
 pub mod Onward
 pub mod Outcomes
-pub mod Owed
+pub mod Announced
 pub mod Pasting
 pub mod PrintableRuns
 pub mod ReadChars

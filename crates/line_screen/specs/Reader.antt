@@ -38,7 +38,7 @@ chars_in feed r = chars_of (feed_in feed r).coming (feed_in feed r).last
 
 -- what these bytes read as
 abbrev pub reads : {S : Type 0} → (S → Feed) → KeyReader S → Readings
-reads feed r = read_from r.mode r.owed (chars_in feed r)
+reads feed r = read_from r.mode r.announced (chars_in feed r)
 
 -- a source that failed, and a call that was refused, are so for good
 abbrev pub coming_by : Bool → Option ReadlineError → Readings → Coming
@@ -69,8 +69,8 @@ left_by_call false None false before after = after
 
 -- the answer where a character is asked for
 abbrev pub char_answer : Bool → Option ReadlineError → Bool → Chars → Result ℕ ReadlineError
-char_answer true refused owed chars = Err Reader
-char_answer false (Some why) owed chars = Err why
+char_answer true refused announced chars = Err Reader
+char_answer false (Some why) announced chars = Err why
 char_answer false None true chars = Err PasteOutOfPlace
 char_answer false None false chars = char_at chars
 
@@ -112,7 +112,7 @@ pub record ReadsPart {S X : Type 0} (feed : S → Feed) (item : X → List ℕ �
       → left_after (definition (left_in feed old) (feed_in feed old).last) ≡ left_in feed new
   pub spent : IsTrue (feed_in feed new).told → result ≡ Err Eof → left_in feed new ≡ []
   pub ends : IsTrue (feed_in feed new).told → result ≡ Err Eof → (feed_in feed old).last ≡ End
-  pub owed : OnErr result (new.owed ≡ false)
+  pub announced : OnErr result (new.announced ≡ false)
   pub mode : new.mode ≡ old.mode
   pub past : new.refused ≡ old.refused
   pub refused : IfErr result IsRefusal
@@ -149,7 +149,7 @@ pub record TakesRun {S : Type 0} (feed : S → Feed) (after_return : Bool) (old 
   pub kept : kept_of new ≡ kept_of old
   pub mode : new.mode ≡ old.mode
   pub past : new.refused ≡ old.refused
-  pub owed : new.owed ≡ old.owed
+  pub announced : new.announced ≡ old.announced
 
 -- an item is asked for: the answer, what is to come then, and the bytes that are left
 pub record AnswersCall {S X : Type 0} (feed : S → Feed) (item : X → Coming → Coming)
@@ -172,24 +172,24 @@ pub record AnswersCall {S X : Type 0} (feed : S → Feed) (item : X → Coming �
 
 abbrev pub AnswersKey : {S : Type 0} → (S → Feed) → KeyReader S → KeyReader S
     → Result KeyEvent ReadlineError → Type 0
-AnswersKey feed old new result = AnswersCall feed Pressed key_at old.owed old new result
+AnswersKey feed old new result = AnswersCall feed Pressed key_at old.announced old new result
 
 abbrev pub AnswersText : {S : Type 0} → (S → Feed) → KeyReader S → KeyReader S
     → Result (List ℕ) ReadlineError → Type 0
-AnswersText feed old new result = AnswersCall feed Pasted paste_at (not old.owed) old new result
+AnswersText feed old new result = AnswersCall feed Pasted paste_at (not old.announced) old new result
 
 -- a character is asked for
 pub record AnswersChar {S : Type 0} (feed : S → Feed) (old new : KeyReader S)
     (result : Result ℕ ReadlineError)
     : Type 0 where
   pub answer : IsTrue (feed_in feed new).told
-      → result ≡ char_answer (feed_in feed old).failed old.refused old.owed (chars_in feed old)
+      → result ≡ char_answer (feed_in feed old).failed old.refused old.announced (chars_in feed old)
   pub ok : IsTrue (feed_in feed new).told
       → IfOk result (λ c. chars_in feed old ≡ Next c (left_in feed new) (chars_in feed new))
   pub rest : OnOk result (coming_in feed new ≡ coming_of (readings old.mode (chars_in feed new)))
   pub err : IsTrue (feed_in feed new).told → IfErr result (λ e. coming_in feed new ≡ left_by e)
   pub left : IsTrue (feed_in feed new).told
-      → left_in feed new ≡ left_by_call (feed_in feed old).failed old.refused old.owed
+      → left_in feed new ≡ left_by_call (feed_in feed old).failed old.refused old.announced
       (left_in feed old)
       (behind_char (chars_in feed old))
   pub refused : IfErr result IsReaderRefusal

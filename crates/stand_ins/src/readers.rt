@@ -41,7 +41,7 @@ impl After {
 #[derive(Drop)]
 pub struct KeyList<'t> {
     typed: &'t [Typed],
-    /// A pasted text is owed after the list, and is cut off.
+    /// A pasted text is announced after the list, and is cut off.
     cut: bool,
     after: After,
     refused: Option<ReadlineError>,

@@ -16,7 +16,7 @@ pub struct KeyReader<S> {
     pub(crate) bytes: Lookahead<S>,
     pub(crate) mode: EditMode,
     /// A pasted text was announced and isn't read yet.
-    pub(crate) owed: bool,
+    pub(crate) announced: bool,
     /// The refusal of an earlier call that is for good, unless the source failed.
     pub(crate) refused: Option<ReadlineError>,
     ghost lasting: { IsTrue (lasts refused) },
@@ -34,13 +34,13 @@ impl<S: Source> KeyReader<S> {
         ensures source { source_of result ≡ source }
         ensures kept { kept_of result ≡ None }
         ensures mode { result.mode ≡ mode }
-        ensures owed { result.owed ≡ false }
+        ensures announced { result.announced ≡ false }
         ensures refused { result.refused ≡ None }
     {
         KeyReader {
             bytes: Lookahead { source, kept: None },
             mode,
-            owed: false,
+            announced: false,
             refused: None,
         }
     }
@@ -64,7 +64,7 @@ impl<S: Source> KeyReader<S> {
 
     /// The key of ESC `O` and a character.
     fn key_of_third(&mut self) -> Result<KeyEvent, ReadlineError>
-        requires { self.old.owed ≡ false }
+        requires { self.old.announced ≡ false }
         ensures { ReadsSequence S.feed (codes "O") self.old self.new result }
     {
         let c = self.bytes.next_char()?;
@@ -73,7 +73,7 @@ impl<S: Source> KeyReader<S> {
 
     /// The key of ESC `[[` and a character.
     fn key_of_linux(&mut self) -> Result<KeyEvent, ReadlineError>
-        requires { self.old.owed ≡ false }
+        requires { self.old.announced ≡ false }
         ensures { ReadsSequence S.feed (codes "[[") self.old self.new result }
     {
         let c = self.bytes.next_char()?;
@@ -82,7 +82,7 @@ impl<S: Source> KeyReader<S> {
 
     /// The key of ESC `[` and what follows.
     fn key_of_bracket(&mut self) -> Result<KeyEvent, ReadlineError>
-        requires { self.old.owed ≡ false }
+        requires { self.old.announced ≡ false }
         ensures { ReadsSequence S.feed (codes "[") self.old self.new result }
     {
         let mut written = Parameters::new();
@@ -94,7 +94,7 @@ impl<S: Source> KeyReader<S> {
                 ' '..='/' => return self.key_of_unknown(),
                 _ => {
                     let key = ended_by(written.as_slice(), c);
-                    self.owed = announces_paste(key);
+                    self.announced = announces_paste(key);
                     return Ok(key);
                 }
             }
@@ -103,7 +103,7 @@ impl<S: Source> KeyReader<S> {
 
     /// The key of a control sequence after an intermediate character: none has a name.
     fn key_of_unknown(&mut self) -> Result<KeyEvent, ReadlineError>
-        requires { self.old.owed ≡ false }
+        requires { self.old.announced ≡ false }
         ensures { ReadsSequence S.feed (codes "[ ") self.old self.new result }
     {
         loop {
@@ -117,7 +117,7 @@ impl<S: Source> KeyReader<S> {
     /// The key of ESC and what follows. A byte that only follows the key Esc stays unread.
     #[tactic(auto, using(crate::proofs::ReaderRules::escapes))]
     fn key_of_escape(&mut self) -> Result<KeyEvent, ReadlineError>
-        requires { self.old.owed ≡ false }
+        requires { self.old.announced ≡ false }
         ensures reads { ReadsKey S.feed (escape_from self.old.mode) self.old self.new result }
         ensures kept { KeepsFor IsEsc self.new result }
     {
@@ -144,7 +144,7 @@ impl<S: Source> KeyReader<S> {
 
     /// The next key.
     pub(crate) fn key(&mut self) -> Result<KeyEvent, ReadlineError>
-        requires { self.old.owed ≡ false }
+        requires { self.old.announced ≡ false }
         ensures reads { ReadsKey S.feed (key_from self.old.mode) self.old self.new result }
         ensures kept { KeepsFor IsEsc self.new result }
         ensures falls { OnOk result
@@ -175,7 +175,7 @@ impl<S: Source> KeyReader<S> {
 
     /// The pasted text, up to the end mark.
     pub(crate) fn pasted_text(&mut self, alloc: Global) -> Result<Text, ReadlineError>
-        requires { self.old.owed ≡ false }
+        requires { self.old.announced ≡ false }
         ensures reads { ReadsText S.feed (text_from self.old.mode) self.old self.new result }
         ensures kept { kept_of self.new ≡ None }
         ensures falls { OnOk result

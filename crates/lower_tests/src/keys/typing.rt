@@ -33,7 +33,7 @@ fn name_keys(keys: &mut Vec<KeyEvent>, words: &str) -> Result<(), ReadlineError>
 #[derive(Drop)]
 pub struct Input {
     pub typed: Vec<Typed>,
-    /// A pasted text is owed after the keys, and is cut off.
+    /// A pasted text is announced after the keys, and is cut off.
     pub cut: bool,
     pub after: After,
 }
