@@ -4,32 +4,32 @@ ghost use Rattle.line_editor.specs.Yanking.{anchored, steps_over, behind_yank};
 
 use crate::renderer::Renderer;
 use crate::state::State;
-use line_buffer::{Anchor, LineBuffer, RepeatCount};
+use line_buffer::{Anchor, RepeatCount};
 use line_config::ReadlineError;
-use line_edits::{yank, yank_pop};
+use line_edits::RecordedLine;
 use line_help::{Helper, History};
 use line_keys::{Decides, InputState};
 use line_record::KillRing;
 
 /// Steps over the cluster at the cursor where a text goes after it. Answers whether there is one.
-fn step_on(line: &mut LineBuffer, anchor: Anchor) -> bool
-    ensures line { line.new ≡ anchored anchor line.old }
-    ensures text { line.new.text ≡ line.old.text }
-    ensures stepped { result ≡ steps_over anchor line.old }
+fn step_on(recorded: &mut RecordedLine, anchor: Anchor) -> bool
+    ensures line { recorded.new.line ≡ anchored anchor recorded.old.line }
+    ensures changes { recorded.new.changes ≡ recorded.old.changes }
+    ensures stepped { result ≡ steps_over anchor recorded.old.line }
 {
     match anchor {
-        Anchor::After => line.move_forward(1),
+        Anchor::After => recorded.line.move_forward(1),
         Anchor::Before => false,
     }
 }
 
 /// Steps back onto the last cluster, where Vi's command mode stands on it.
-fn step_back(line: &mut LineBuffer, vi_command: bool)
-    ensures line { line.new ≡ behind_yank vi_command line.old }
-    ensures text { line.new.text ≡ line.old.text }
+fn step_back(recorded: &mut RecordedLine, vi_command: bool)
+    ensures line { recorded.new.line ≡ behind_yank vi_command recorded.old.line }
+    ensures changes { recorded.new.changes ≡ recorded.old.changes }
 {
     if vi_command {
-        line.move_backward(1);
+        recorded.line.move_backward(1);
     }
 }
 
@@ -53,17 +53,10 @@ impl<'p, 'h, Out: Renderer, H: Helper + Drop, Hi: History> State<'p, 'h, Out, H,
             text.now anchor n) self.old self.new result }
     {
         self.known = None;
-        let stepped = step_on(&mut self.line, anchor);
-        let put = yank(
-            self.alloc,
-            &mut self.line,
-            &mut self.changes,
-            &mut self.plain,
-            text,
-            n,
-        )?;
+        let stepped = step_on(&mut self.recorded, anchor);
+        let put = self.recorded.yank(self.alloc, text, n)?;
         if put.is_some() {
-            step_back(&mut self.line, input_state.is_vi_cmd_mode());
+            step_back(&mut self.recorded, input_state.is_vi_cmd_mode());
             return self.refresh();
         }
         if stepped { self.refresh() } else { Ok(()) }
@@ -74,18 +67,11 @@ impl<'p, 'h, Out: Renderer, H: Helper + Drop, Hi: History> State<'p, 'h, Out, H,
     pub fn edit_yank_pop(&mut self, yank_size: usize, text: &str) -> Result<(), ReadlineError>
         ensures does { Does (pop_text yank_size text.now) self.old self.new result }
     {
-        if !self.line.can_take_before(yank_size) {
+        if !self.recorded.line.can_take_before(yank_size) {
             return Ok(());
         }
         self.known = None;
-        yank_pop(
-            self.alloc,
-            &mut self.line,
-            &mut self.changes,
-            &mut self.plain,
-            yank_size,
-            text,
-        )?;
+        self.recorded.yank_pop(self.alloc, yank_size, text)?;
         self.refresh()
     }
 
