@@ -37,10 +37,8 @@ impl<'p, 'h, Out: Renderer, H: Helper + Drop, Hi: History> State<'p, 'h, Out, H,
         let Some(helper) = &self.helper else {
             return Ok(ValidationResult::Valid(None));
         };
-        match helper.validate(
-            self.alloc,
-            &ValidationContext::new(self.recorded.line.as_str()),
-        ) {
+        let text = self.recorded.line.as_str();
+        match helper.validate(self.alloc, &ValidationContext::new(text)) {
             Ok(found) => Ok(found),
             Err(HookFault::Failed) => Err(ReadlineError::Helper),
             Err(HookFault::Memory) => Err(ReadlineError::Memory),

@@ -142,12 +142,8 @@ impl<'p, 'h, Out: Renderer, H: Helper + Drop, Hi: History> State<'p, 'h, Out, H,
         let Some(helper) = &self.helper else {
             return Ok((0, Vec::new(self.alloc)));
         };
-        match helper.complete(
-            self.alloc,
-            self.recorded.line.as_str(),
-            self.recorded.line.pos(),
-            &self.ctx,
-        ) {
+        let line = &self.recorded.line;
+        match helper.complete(self.alloc, line.as_str(), line.pos(), &self.ctx) {
             Ok(found) => Ok(found),
             Err(HookFault::Failed) => Err(ReadlineError::Helper),
             Err(HookFault::Memory) => Err(ReadlineError::Memory),

@@ -120,12 +120,8 @@ impl<'p, 'h, Out: Renderer, H: Helper + Drop, Hi: History> State<'p, 'h, Out, H,
         let Some(helper) = &self.helper else {
             return Ok(None);
         };
-        match helper.hint(
-            self.alloc,
-            self.recorded.line.as_str(),
-            self.recorded.line.pos(),
-            &self.ctx,
-        ) {
+        let line = &self.recorded.line;
+        match helper.hint(self.alloc, line.as_str(), line.pos(), &self.ctx) {
             Ok(Some(found)) => {
                 if !found.display().is_empty() {
                     Ok(Some(found))

@@ -22,7 +22,8 @@ impl<'p, 'h, Out: Renderer, H: Helper + Drop, Hi: History> State<'p, 'h, Out, H,
     /// taken from a bare line.
     fn may_be_taken(&self, movement: &Movement) -> bool
         ensures { let left = (kill_line movement.now self.now.recorded.line).text in
-            result ≡ may_be_taken (drop (length left) self.now.recorded.line.text) (value_of self.now) }
+            result ≡ may_be_taken (drop (length left) self.now.recorded.line.text)
+            (value_of self.now) }
     {
         self.is_bare() && self.recorded.line.has_printable_end(movement)
     }

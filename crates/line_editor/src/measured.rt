@@ -39,8 +39,8 @@ impl<'p, 'h, Out: Renderer, H: Helper + Drop, Hi: History> State<'p, 'h, Out, H,
     /// What is known, taken back to before the characters that a movement back goes over, where
     /// each is a byte.
     pub(crate) fn known_before(&self, movement: &Movement) -> Option<(usize, Position)>
-        ensures { IsKnownOn (Out.canvas.ruler self.now.out) self.now.layout self.now.recorded.line.text
-            result }
+        ensures { IsKnownOn (Out.canvas.ruler self.now.out) self.now.layout
+            self.now.recorded.line.text result }
     {
         let Movement::BackwardChar(n) = movement else {
             return self.known;

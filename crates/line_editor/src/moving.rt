@@ -151,7 +151,8 @@ impl<'p, 'h, Out: Renderer, H: Helper + Drop, Hi: History> State<'p, 'h, Out, H,
         ensures does { Does (move_line_up n) self.old self.new result }
         ensures answer { IfOk result
             (λ b. b ≡ is_some
-            (line_up (setting_of self.old).mode (setting_of self.old).column n self.old.recorded.line)) }
+            (line_up (setting_of self.old).mode (setting_of self.old).column n
+            self.old.recorded.line)) }
     {
         let layout = self.prompt_layout();
         let recorded = &mut self.recorded;
@@ -167,7 +168,8 @@ impl<'p, 'h, Out: Renderer, H: Helper + Drop, Hi: History> State<'p, 'h, Out, H,
         ensures does { Does (move_line_down n) self.old self.new result }
         ensures answer { IfOk result
             (λ b. b ≡ is_some
-            (line_down (setting_of self.old).mode (setting_of self.old).column n self.old.recorded.line)) }
+            (line_down (setting_of self.old).mode (setting_of self.old).column n
+            self.old.recorded.line)) }
     {
         let layout = self.prompt_layout();
         let recorded = &mut self.recorded;

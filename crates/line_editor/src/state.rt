@@ -29,5 +29,6 @@ pub struct State<'p, 'h, Out: Renderer, H: Helper + Drop, Hi: History> {
     /// A place in the line, and where the drawing of the line up to it ends, if one is known.
     pub(crate) known: Option<(usize, Position)>,
     pub(crate) alloc: Global,
-    ghost is_known: { IsKnownOn (Out.canvas.ruler out) layout recorded.line.text known } by { IsKnown-prop },
+    ghost is_known: { IsKnownOn (Out.canvas.ruler out) layout recorded.line.text
+        known } by { IsKnown-prop },
 }

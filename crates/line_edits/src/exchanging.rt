@@ -88,8 +88,8 @@ fn put_over(
 }
 
 impl RecordedLine {
-    /// Exchanges up to `n` clusters after the cursor for a character each, in one group, the cursor on
-    /// the last one. Answers whether any stands there; else nothing is done.
+    /// Exchanges up to `n` clusters after the cursor for a character each, in one group, the cursor
+    /// on the last one. Answers whether any stands there; else nothing is done.
     pub fn replace_chars(
         &mut self,
         alloc: Global,

@@ -100,8 +100,8 @@ fn pop_told_in_group(
 }
 
 impl RecordedLine {
-    /// Inserts a character so many times. `None`: there is no room for it; else whether that is at the
-    /// text's end.
+    /// Inserts a character so many times. `None`: there is no room for it; else whether that is at
+    /// the text's end.
     #[tactic(auto, using(crate::proofs::PlainLemmas::typed_plain, crate::proofs::StepLemmas::left_unanswered))]
     pub fn insert_char(
         &mut self,
@@ -132,7 +132,8 @@ impl RecordedLine {
         Ok(())
     }
 
-    /// Puts a text that isn't empty in so many times. `None`: it is empty, or there is no room for it.
+    /// Puts a text that isn't empty in so many times. `None`: it is empty, or there is no room for
+    /// it.
     pub fn yank(
         &mut self,
         alloc: Global,
@@ -140,7 +141,8 @@ impl RecordedLine {
         n: RepeatCount,
     ) -> Result<Option<bool>, OutOfMemory>
         ensures writes { Edits (yanking text.now n self.old.line) self.old self.new result }
-        ensures refused { OnErr result (is_some (yanked_in text.now n self.old.line).answer ≡ true) }
+        ensures refused { OnErr result
+            (is_some (yanked_in text.now n self.old.line).answer ≡ true) }
     {
         let put = yank_told(alloc, &mut self.line, &mut self.changes, text, n)?;
         if self.plain && is_plain(text) {
@@ -150,8 +152,8 @@ impl RecordedLine {
         Ok(put)
     }
 
-    /// Puts a text in place of so many bytes before the cursor, in one group. They begin between two
-    /// characters.
+    /// Puts a text in place of so many bytes before the cursor, in one group. They begin between
+    /// two characters.
     pub fn yank_pop(
         &mut self,
         alloc: Global,
@@ -160,7 +162,8 @@ impl RecordedLine {
     ) -> Result<(), OutOfMemory>
         requires size { yank_size ≤ self.old.line.place }
         requires start { IsCharBoundary self.old.line.text (self.old.line.place - yank_size) }
-        ensures { Edits (popping_in_group yank_size text.now self.old.line) self.old self.new result }
+        ensures { Edits (popping_in_group yank_size text.now self.old.line)
+            self.old self.new result }
     {
         let done = pop_told_in_group(alloc, &mut self.line, &mut self.changes, yank_size, text);
         self.plain = is_plain(self.line.as_str());

@@ -37,8 +37,8 @@ fn kill_told(
 }
 
 impl RecordedLine {
-    /// Kills what a movement names: the ring is told first, the record last. Answers whether it names
-    /// anything.
+    /// Kills what a movement names: the ring is told first, the record last. Answers whether it
+    /// names anything.
     pub fn kill(
         &mut self,
         alloc: Global,
@@ -46,9 +46,11 @@ impl RecordedLine {
         movement: &Movement,
     ) -> Result<bool, OutOfMemory>
         ensures writes { Edits (killing movement.now self.old.line) self.old self.new result }
-        ensures ring { OnOk result (ring.new ≡ ring_all (kill_events movement.now self.old.line) ring.old) }
+        ensures ring { OnOk result
+            (ring.new ≡ ring_all (kill_events movement.now self.old.line) ring.old) }
         ensures refused { OnErr result (is_some (range_of movement.now self.old.line) ≡ true) }
-        ensures refused_ring { OnErr result (TookOrNot movement.now self.old.line ring.old ring.new) }
+        ensures refused_ring { OnErr result
+            (TookOrNot movement.now self.old.line ring.old ring.new) }
         ensures shrinks { length self.new.line.text ≤ length self.old.line.text }
     {
         let mut both = Joined {

@@ -137,8 +137,8 @@ impl RecordedLine {
         done
     }
 
-    /// Sets the letters of the word at the cursor or after it in another case, in one group. Answers
-    /// whether there is one.
+    /// Sets the letters of the word at the cursor or after it in another case, in one group.
+    /// Answers whether there is one.
     #[tactic(auto, using(crate::proofs::StepLemmas::left_unanswered))]
     pub fn edit_word(&mut self, alloc: Global, action: WordAction) -> Result<bool, OutOfMemory>
         ensures { Edits (editing_word_in_group action self.old.line) self.old self.new result }
@@ -156,16 +156,11 @@ impl RecordedLine {
         amount: u8,
         dedent: bool,
     ) -> Result<(), OutOfMemory>
-        ensures { Edits (indenting movement.now amount dedent self.old.line) self.old self.new result }
+        ensures { Edits (indenting movement.now amount dedent self.old.line)
+            self.old self.new result }
     {
-        let done = rows_told(
-            alloc,
-            &mut self.line,
-            &mut self.changes,
-            movement,
-            amount,
-            dedent,
-        );
+        let line = &mut self.line;
+        let done = rows_told(alloc, line, &mut self.changes, movement, amount, dedent);
         if self.plain && done.is_ok() {
             return done;
         }

@@ -71,8 +71,8 @@ impl RecordedLine {
         done
     }
 
-    /// Takes back the last `n` items that were recorded, 0 acting as 1. Answers whether a change was
-    /// among them.
+    /// Takes back the last `n` items that were recorded, 0 acting as 1. Answers whether a change
+    /// was among them.
     pub fn undo(&mut self, alloc: Global, n: RepeatCount) -> Result<bool, OutOfMemory>
         ensures { Undoes n self.old self.new result }
     {
