@@ -161,7 +161,8 @@ impl<'p, 'h, Out: Renderer, H: Helper + Drop, Hi: History> State<'p, 'h, Out, H,
             return Ok(());
         };
         self.known = None;
-        match update(self.alloc, helper, &mut self.recorded, start, text) {
+        let done = update(self.alloc, helper, &mut self.recorded, start, text);
+        match done {
             Ok(()) => Ok(()),
             Err(HookFault::Failed) => Err(ReadlineError::Helper),
             Err(HookFault::Memory) => Err(ReadlineError::Memory),

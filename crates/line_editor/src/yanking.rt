@@ -4,32 +4,31 @@ ghost use Rattle.line_editor.specs.Yanking.{anchored, steps_over, behind_yank};
 
 use crate::renderer::Renderer;
 use crate::state::State;
-use line_buffer::{Anchor, RepeatCount};
+use line_buffer::{Anchor, LineBuffer, RepeatCount};
 use line_config::ReadlineError;
-use line_edits::RecordedLine;
 use line_help::{Helper, History};
 use line_keys::{Decides, InputState};
 use line_record::KillRing;
 
 /// Steps over the cluster at the cursor where a text goes after it. Answers whether there is one.
-fn step_on(recorded: &mut RecordedLine, anchor: Anchor) -> bool
-    ensures line { recorded.new.line ≡ anchored anchor recorded.old.line }
-    ensures changes { recorded.new.changes ≡ recorded.old.changes }
-    ensures stepped { result ≡ steps_over anchor recorded.old.line }
+fn step_on(line: &mut LineBuffer, anchor: Anchor) -> bool
+    ensures line { line.new ≡ anchored anchor line.old }
+    ensures text { line.new.text ≡ line.old.text }
+    ensures stepped { result ≡ steps_over anchor line.old }
 {
     match anchor {
-        Anchor::After => recorded.line.move_forward(1),
+        Anchor::After => line.move_forward(1),
         Anchor::Before => false,
     }
 }
 
 /// Steps back onto the last cluster, where Vi's command mode stands on it.
-fn step_back(recorded: &mut RecordedLine, vi_command: bool)
-    ensures line { recorded.new.line ≡ behind_yank vi_command recorded.old.line }
-    ensures changes { recorded.new.changes ≡ recorded.old.changes }
+fn step_back(line: &mut LineBuffer, vi_command: bool)
+    ensures line { line.new ≡ behind_yank vi_command line.old }
+    ensures text { line.new.text ≡ line.old.text }
 {
     if vi_command {
-        recorded.line.move_backward(1);
+        line.move_backward(1);
     }
 }
 
@@ -53,10 +52,11 @@ impl<'p, 'h, Out: Renderer, H: Helper + Drop, Hi: History> State<'p, 'h, Out, H,
             text.now anchor n) self.old self.new result }
     {
         self.known = None;
-        let stepped = step_on(&mut self.recorded, anchor);
-        let put = self.recorded.yank(self.alloc, text, n)?;
+        let recorded = &mut self.recorded;
+        let stepped = step_on(&mut recorded.line, anchor);
+        let put = recorded.yank(self.alloc, text, n)?;
         if put.is_some() {
-            step_back(&mut self.recorded, input_state.is_vi_cmd_mode());
+            step_back(&mut recorded.line, input_state.is_vi_cmd_mode());
             return self.refresh();
         }
         if stepped { self.refresh() } else { Ok(()) }
