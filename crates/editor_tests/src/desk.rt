@@ -196,7 +196,8 @@ fn set_line<H: Helper + Drop>(
     put(alloc, desk, before)?;
     desk.edit_move_buffer_end(CmdKind::Other)?;
     put(alloc, desk, after)?;
-    desk.changes = Changeset::new(alloc)?;
+    let recorded = &mut desk.recorded;
+    recorded.changes = Changeset::new(alloc)?;
     desk.repaint(RefreshKind::All)
 }
 
@@ -240,7 +241,7 @@ pub(crate) fn line_shown<H: Helper + Drop>(
     alloc: Global,
     desk: &Desk<'_, H>,
 ) -> Result<String, AllocError> {
-    let shown = marked(alloc, desk.line.as_str(), desk.line.pos())?;
+    let shown = marked(alloc, desk.recorded.line.as_str(), desk.recorded.line.pos())?;
     match shown.as_str().strip_prefix(' ') {
         Some(rest) => format!(in alloc; "␠{rest}"),
         None => Ok(shown),

@@ -51,8 +51,9 @@ fn helper_of(alloc: Global, listed: &str) -> Result<Option<Aide>, ReadlineError>
 
 /// Takes away the room that line and record have beyond what stands in them.
 fn tighten(alloc: Global, state: &mut Edited<'_>) -> Result<(), ReadlineError> {
-    state.line = state.line.try_clone(alloc)?;
-    state.changes = state.changes.try_clone(alloc)?;
+    let recorded = &mut state.recorded;
+    recorded.line = recorded.line.try_clone(alloc)?;
+    recorded.changes = recorded.changes.try_clone(alloc)?;
     Ok(())
 }
 
@@ -119,8 +120,8 @@ fn tell(rt: &HostRuntime, state: &Edited<'_>, ring: &KillRing, word: &str) -> io
     let (cursor, end) = (layout.cursor, layout.end);
     eprint!(rt;
         "\x1d{word}\t{}\t{}\t{hint}\t{}\t{} {} {} {}",
-        state.line.as_str(),
-        state.line.pos(),
+        state.recorded.line.as_str(),
+        state.recorded.line.pos(),
         state.ctx.history_index(),
         cursor.row,
         cursor.col,

@@ -1,16 +1,9 @@
 //! Edits of a line with its record, a kill ring and the mark of a plain text, by the names of their calls, a number and what
 //! stands after it: `insert_char 2 x`, `update 1 abc`, `edit_word 0 Uppercase`, `kill 0 WholeLine`.
 
-ghost use Rattle.std.specs.Prelude.{◌≡◌};
-ghost use Rattle.line_record.specs.Items.{ItemsStand, ItemsStand-prop};
-ghost use Rattle.line_buffer.specs.Printable.{is_plain};
-
 use crate::words::{first_char, parts, tell_ring, word_of};
 use line_buffer::{LineBuffer, Movement, OutOfMemory, RepeatCount, WordAction};
-use line_edits::{
-    edit_word, indent, insert_char, insert_text, is_plain, kill, overwrite, replace_chars,
-    transpose_chars, transpose_words, undo, update, update_grouped, yank, yank_pop,
-};
+use line_edits::{RecordedLine, is_plain};
 use line_record::{Changeset, KillRing};
 use stand_ins::commands::movement_named;
 use std::alloc::Global;
@@ -22,26 +15,19 @@ const INDENT: u8 = 2;
 /// Puts a text in, or tells that no such edit has this name.
 fn put(
     alloc: Global,
-    line: &mut LineBuffer,
-    changes: &mut Changeset,
-    plain: &mut bool,
+    recorded: &mut RecordedLine,
     name: &str,
     n: RepeatCount,
     text: &str,
-) -> Option<bool>
-    requires stand { ItemsStand changes.old line.old.text }
-    requires plain { plain.old ≡ is_plain line.old.text }
-    ensures stand { ItemsStand changes.new line.new.text }
-    ensures plain { plain.new ≡ is_plain line.new.text }
-{
+) -> Option<bool> {
     let c = first_char(text);
     let done = match name {
-        "insert_char" => insert_char(alloc, line, changes, plain, c, n).is_ok(),
-        "insert_text" => insert_text(alloc, line, changes, plain, text).is_ok(),
-        "yank" => yank(alloc, line, changes, plain, text, n).is_ok(),
-        "replace_chars" => replace_chars(alloc, line, changes, plain, c, n).is_ok(),
-        "overwrite" => overwrite(alloc, line, changes, plain, c).is_ok(),
-        _ => return put_over(alloc, line, changes, plain, name, usize::from(n), text),
+        "insert_char" => recorded.insert_char(alloc, c, n).is_ok(),
+        "insert_text" => recorded.insert_text(alloc, text).is_ok(),
+        "yank" => recorded.yank(alloc, text, n).is_ok(),
+        "replace_chars" => recorded.replace_chars(alloc, c, n).is_ok(),
+        "overwrite" => recorded.overwrite(alloc, c).is_ok(),
+        _ => return put_over(alloc, recorded, name, usize::from(n), text),
     };
     Some(done)
 }
@@ -49,27 +35,18 @@ fn put(
 /// Puts a text in place of another, if a character begins at the place that the number names.
 fn put_over(
     alloc: Global,
-    line: &mut LineBuffer,
-    changes: &mut Changeset,
-    plain: &mut bool,
+    recorded: &mut RecordedLine,
     name: &str,
     place: usize,
     text: &str,
-) -> Option<bool>
-    requires stand { ItemsStand changes.old line.old.text }
-    requires plain { plain.old ≡ is_plain line.old.text }
-    ensures stand { ItemsStand changes.new line.new.text }
-    ensures plain { plain.new ≡ is_plain line.new.text }
-{
+) -> Option<bool> {
     let done = match name {
-        "yank_pop" if line.can_take_before(place) => {
-            yank_pop(alloc, line, changes, plain, place, text).is_ok()
+        "yank_pop" if recorded.line.can_take_before(place) => {
+            recorded.yank_pop(alloc, place, text).is_ok()
         }
-        "update" if text.is_char_boundary(place) => {
-            update(alloc, line, changes, plain, text, place).is_ok()
-        }
+        "update" if text.is_char_boundary(place) => { recorded.update(alloc, text, place).is_ok() }
         "update_grouped" if text.is_char_boundary(place) => {
-            update_grouped(alloc, line, changes, plain, text, place).is_ok()
+            recorded.update_grouped(alloc, text, place).is_ok()
         }
         _ => return None,
     };
@@ -79,23 +56,16 @@ fn put_over(
 /// Exchanges or rewords what stands there, or takes back what was recorded.
 fn reword(
     alloc: Global,
-    line: &mut LineBuffer,
-    changes: &mut Changeset,
-    plain: &mut bool,
+    recorded: &mut RecordedLine,
     name: &str,
     n: RepeatCount,
     text: &str,
-) -> Option<bool>
-    requires stand { ItemsStand changes.old line.old.text }
-    requires plain { plain.old ≡ is_plain line.old.text }
-    ensures stand { ItemsStand changes.new line.new.text }
-    ensures plain { plain.new ≡ is_plain line.new.text }
-{
+) -> Option<bool> {
     let done = match name {
-        "transpose_chars" => transpose_chars(alloc, line, changes, plain).is_ok(),
-        "transpose_words" => transpose_words(alloc, line, changes, plain, n).is_ok(),
-        "edit_word" => edit_word(alloc, line, changes, plain, action_named(text)).is_ok(),
-        "undo" => undo(alloc, line, changes, plain, n).is_ok(),
+        "transpose_chars" => recorded.transpose_chars(alloc).is_ok(),
+        "transpose_words" => recorded.transpose_words(alloc, n).is_ok(),
+        "edit_word" => recorded.edit_word(alloc, action_named(text)).is_ok(),
+        "undo" => recorded.undo(alloc, n).is_ok(),
         _ => return None,
     };
     Some(done)
@@ -111,13 +81,9 @@ fn action_named(name: &str) -> WordAction {
 
 #[derive(Drop)]
 struct Slate {
-    line: LineBuffer,
-    changes: Changeset,
-    plain: bool,
+    recorded: RecordedLine,
     ring: KillRing,
     alloc: Global,
-    ghost stand: { ItemsStand changes line.text } by { ItemsStand-prop changes line.text },
-    ghost is_plain: { plain ≡ is_plain line.text },
 }
 
 impl Slate {
@@ -126,9 +92,7 @@ impl Slate {
         let changes = Changeset::new(alloc)?;
         let ring = KillRing::new(alloc, 2)?;
         Ok(Slate {
-            line,
-            changes,
-            plain: true,
+            recorded: RecordedLine::new(line, changes),
             ring,
             alloc,
         })
@@ -136,65 +100,40 @@ impl Slate {
 
     /// Takes away the room that line and record have beyond what stands in them.
     fn tighten(&mut self) -> Result<(), OutOfMemory> {
-        self.line = self.line.try_clone(self.alloc)?;
-        self.changes = self.changes.try_clone(self.alloc)?;
+        self.recorded.line = self.recorded.line.try_clone(self.alloc)?;
+        self.recorded.changes = self.recorded.changes.try_clone(self.alloc)?;
         Ok(())
     }
 
     /// Makes anew what was taken back last.
     fn redo(&mut self) -> bool {
-        let made = self.changes.redo(self.alloc, &mut self.line).is_ok();
-        self.plain = is_plain(self.line.as_str());
+        let recorded = &mut self.recorded;
+        let made = recorded
+            .changes
+            .redo(self.alloc, &mut recorded.line)
+            .is_ok();
+        recorded.plain = is_plain(recorded.line.as_str());
         made
     }
 
     fn puts(&mut self, name: &str, n: RepeatCount, text: &str) -> Option<bool> {
-        put(
-            self.alloc,
-            &mut self.line,
-            &mut self.changes,
-            &mut self.plain,
-            name,
-            n,
-            text,
-        )
+        put(self.alloc, &mut self.recorded, name, n, text)
     }
 
     fn rewords(&mut self, name: &str, n: RepeatCount, text: &str) -> Option<bool> {
-        reword(
-            self.alloc,
-            &mut self.line,
-            &mut self.changes,
-            &mut self.plain,
-            name,
-            n,
-            text,
-        )
+        reword(self.alloc, &mut self.recorded, name, n, text)
     }
 
     fn kills(&mut self, movement: &Movement) -> bool {
-        kill(
-            self.alloc,
-            &mut self.line,
-            &mut self.changes,
-            &mut self.plain,
-            &mut self.ring,
-            movement,
-        )
-        .is_ok()
+        self.recorded
+            .kill(self.alloc, &mut self.ring, movement)
+            .is_ok()
     }
 
     fn moves_rows(&mut self, movement: &Movement, dedent: bool) -> bool {
-        indent(
-            self.alloc,
-            &mut self.line,
-            &mut self.changes,
-            &mut self.plain,
-            movement,
-            INDENT,
-            dedent,
-        )
-        .is_ok()
+        self.recorded
+            .indent(self.alloc, movement, INDENT, dedent)
+            .is_ok()
     }
 
     /// Makes an edit that takes a movement.
@@ -224,19 +163,19 @@ impl Slate {
 
     /// Sets the cursor, where a character begins there.
     fn stands_at(&mut self, pos: usize) -> bool {
-        let is_boundary = self.line.as_str().is_char_boundary(pos);
+        let is_boundary = self.recorded.line.as_str().is_char_boundary(pos);
         if is_boundary {
-            self.line.set_pos(pos);
+            self.recorded.line.set_pos(pos);
         }
         is_boundary
     }
 
     fn tell(&self, rt: &HostRuntime, word: &str) -> io::Result<()> {
-        let mark = if self.plain { "plain" } else { "" };
+        let mark = if self.recorded.plain { "plain" } else { "" };
         eprint!(rt;
             "\x1d{word}\t{}\t{}\t{mark}",
-            self.line.as_str(),
-            self.line.pos()
+            self.recorded.line.as_str(),
+            self.recorded.line.pos()
         )?;
         tell_ring(rt, &self.ring)
     }

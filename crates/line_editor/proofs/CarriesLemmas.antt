@@ -94,8 +94,8 @@ module _ {Out H Hi K T : Type 0} {renderer : renderers.Renderer.Ghosts Out} {com
 
   -- the line's close, with its text
   closes : {A : Type 0} (indent : ℕ) (s m t : State Out H Hi K T renderer completer candidate hinter hint highlighter validator history) (i : Input) (r : Ring) (c : Coming) (result : Result A ReadlineError) → Stays s m → Does submitted m t result
-      → Goes (world_of indent s) (Asks (Makes submitted) (λ v. Ends v.line.text)) (stage_of m i r c) (text_or result t.line.text) (stage_of t i r c)
-  closes indent s m t i r c (Ok x) stays h = makes indent s m t stays submitted i r c (λ v. Ends v.line.text) x (Ok t.line.text) (stage_of t i r c) h (refl, refl)
+      → Goes (world_of indent s) (Asks (Makes submitted) (λ v. Ends v.line.text)) (stage_of m i r c) (text_or result t.recorded.line.text) (stage_of t i r c)
+  closes indent s m t i r c (Ok x) stays h = makes indent s m t stays submitted i r c (λ v. Ends v.line.text) x (Ok t.recorded.line.text) (stage_of t i r c) h (refl, refl)
   closes {A} indent s m t i r c (Err e) stays h = unmade indent s m t stays submitted i r c (λ v. Ends v.line.text) {A = A} e h
 
   -- ---- the loop
@@ -183,9 +183,9 @@ module _ {Out H Hi K T : Type 0} {renderer : renderers.Renderer.Ghosts Out} {com
 
       -- a turn that ends the line
       pub carries_ended : {A : Type 0} (t : State Out H Hi K T renderer completer candidate hinter hint highlighter validator history) (i2 : Input) (r2 : Ring) (feed2 : KeyFeed) (e : ReadlineError) (result : Result A ReadlineError)
-          → IsErrAnd result (λ x. x ≡ e) → TakesTurn t i2 r2 feed2 (Err e) → Takes turns_script custom indent s i r feed t i2 r2 feed2 (text_or result t.line.text)
+          → IsErrAnd result (λ x. x ≡ e) → TakesTurn t i2 r2 feed2 (Err e) → Takes turns_script custom indent s i r feed t i2 r2 feed2 (text_or result t.recorded.line.text)
       carries_ended t i2 r2 feed2 e result is turn =
-          subst (λ x. Takes turns_script custom indent s i r feed t i2 r2 feed2 (text_or x t.line.text)) (sym (is_err e result is)) (record {
+          subst (λ x. Takes turns_script custom indent s i r feed t i2 r2 feed2 (text_or x t.recorded.line.text)) (sym (is_err e result is)) (record {
             goes = λ told n h. refused t i2 r2 feed2 (turn.told told) n (so_far.goes (turn.told told) n h) e (turn.goes told);
             stays = λ told. stays_both s m t (so_far.stays (turn.told told)) (turn.stays told);
             told = λ h. so_far.told (turn.told h);
@@ -197,16 +197,16 @@ module _ {Out H Hi K T : Type 0} {renderer : renderers.Renderer.Ghosts Out} {com
 
       -- a turn that accepts the line, and the line's close
       pub carries_closed : {A : Type 0} (m2 t : State Out H Hi K T renderer completer candidate hinter hint highlighter validator history) (i2 : Input) (r2 : Ring) (feed2 : KeyFeed) (result : Result A ReadlineError)
-          → TakesTurn m2 i2 r2 feed2 (Ok Submit) → Does submitted m2 t result → Takes turns_script custom indent s i r feed t i2 r2 feed2 (text_or result t.line.text)
+          → TakesTurn m2 i2 r2 feed2 (Ok Submit) → Does submitted m2 t result → Takes turns_script custom indent s i r feed t i2 r2 feed2 (text_or result t.recorded.line.text)
       carries_closed m2 t i2 r2 feed2 result turn close = record {
-        goes = λ told n h. turned m2 i2 r2 feed2 (turn.told told) n (so_far.goes (turn.told told) n h) Submit (text_or result t.line.text) (stage_of t i2 r2 feed2.coming) (turn.goes told)
+        goes = λ told n h. turned m2 i2 r2 feed2 (turn.told told) n (so_far.goes (turn.told told) n h) Submit (text_or result t.recorded.line.text) (stage_of t i2 r2 feed2.coming) (turn.goes told)
             (λ k enough. closes indent s m2 t i2 r2 feed2.coming result (stays_both s m m2 (so_far.stays (turn.told told)) (turn.stays told)) close);
         stays = λ told. stays_both s m t (so_far.stays (turn.told told)) (stays_both m m2 t (turn.stays told) close.stays);
         told = λ h. so_far.told (turn.told h);
         keeps = let a : feed2.bound ≤ feed1.bound = turn.keeps in let b : feed1.bound ≤ feed.bound = so_far.keeps in omega arith;
-        falls = on_ok result t.line.text (let a : feed2.bound < feed1.bound = turn.falls in let b : feed1.bound ≤ feed.bound = so_far.keeps in omega arith);
+        falls = on_ok result t.recorded.line.text (let a : feed2.bound < feed1.bound = turn.falls in let b : feed1.bound ≤ feed.bound = so_far.keeps in omega arith);
         mode = turn.mode ∙ so_far.mode;
-        reason = caused custom t feed2 result t.line.text close.reason;
+        reason = caused custom t feed2 result t.recorded.line.text close.reason;
       }
 
   -- ---- the first drawing
@@ -228,10 +228,10 @@ module _ {Out H Hi K T : Type 0} {renderer : renderers.Renderer.Ghosts Out} {com
     not_drawn {B} n t e refused = unmade indent s s t (stays_same s) line_begun i r feed.coming (λ v. turns_script n custom) {A = B} e refused
 
     pub draws : {A B : Type 0} (x : B) (m t : State Out H Hi K T renderer completer candidate hinter hint highlighter validator history) (i2 : Input) (r2 : Ring) (feed2 : KeyFeed) (result : Result A ReadlineError)
-        → Does refreshed s m (Ok x) → Takes turns_script custom indent m i r feed t i2 r2 feed2 (text_or result t.line.text)
-        → Takes line_script custom indent s i r feed t i2 r2 feed2 (text_or result t.line.text)
+        → Does refreshed s m (Ok x) → Takes turns_script custom indent m i r feed t i2 r2 feed2 (text_or result t.recorded.line.text)
+        → Takes line_script custom indent s i r feed t i2 r2 feed2 (text_or result t.recorded.line.text)
     draws x m t i2 r2 feed2 result drawn read = record {
-      goes = λ told n h. drawn_on n x m (text_or result t.line.text) (stage_of t i2 r2 feed2.coming) (begun s m (Ok x) drawn) (read.goes told n h);
+      goes = λ told n h. drawn_on n x m (text_or result t.recorded.line.text) (stage_of t i2 r2 feed2.coming) (begun s m (Ok x) drawn) (read.goes told n h);
       stays = λ told. stays_both s m t drawn.stays (read.stays told);
       told = read.told;
       keeps = read.keeps;
@@ -241,8 +241,8 @@ module _ {Out H Hi K T : Type 0} {renderer : renderers.Renderer.Ghosts Out} {com
     }
 
     pub undrawn : {A B : Type 0} (t : State Out H Hi K T renderer completer candidate hinter hint highlighter validator history) (e : ReadlineError) (result : Result A ReadlineError)
-        → IsErrAnd result (λ x. x ≡ e) → Does {A = B} refreshed s t (Err e) → Takes line_script custom indent s i r feed t i r feed (text_or result t.line.text)
-    undrawn {A} {B} t e result is refused = subst (λ x. Takes line_script custom indent s i r feed t i r feed (text_or x t.line.text)) (sym (is_err e result is)) (record {
+        → IsErrAnd result (λ x. x ≡ e) → Does {A = B} refreshed s t (Err e) → Takes line_script custom indent s i r feed t i r feed (text_or result t.recorded.line.text)
+    undrawn {A} {B} t e result is refused = subst (λ x. Takes line_script custom indent s i r feed t i r feed (text_or x t.recorded.line.text)) (sym (is_err e result is)) (record {
       goes = λ told n h. not_drawn {B = B} n t e (begun {A = B} s t (Err e) refused);
       stays = λ told. refused.stays;
       told = λ h. h;

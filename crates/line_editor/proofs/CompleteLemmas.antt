@@ -75,31 +75,31 @@ module _ {Out H Hi K T : Type 0} {renderer : renderers.Renderer.Ghosts Out} {com
   -- ---- the update
 
   pub update_fails : (s : State Out H Hi K T renderer completer candidate hinter hint highlighter validator history) (h : H) (start : ℕ) (text : List ℕ) → s.helper ≡ Some h
-      → IsTrue (fails (completer.update_of h s.line start text)) → IsHelpFault (update_reply start text (setting_of s) (value_of s)) Helper
+      → IsTrue (fails (completer.update_of h s.recorded.line start text)) → IsHelpFault (update_reply start text (setting_of s) (value_of s)) Helper
   update_fails s h start text is why =
-      subst (λ (o : Option H). IsHelpFault (option_map (λ (k : Hooks). k.updates s.line start text) (option_map (hooks_of completer hinter validator) o)) Helper) (sym is) why
+      subst (λ (o : Option H). IsHelpFault (option_map (λ (k : Hooks). k.updates s.recorded.line start text) (option_map (hooks_of completer hinter validator) o)) Helper) (sym is) why
 
   -- line and record alone are another
   abbrev Touches : (State Out H Hi K T renderer completer candidate hinter hint highlighter validator history)
       → (State Out H Hi K T renderer completer candidate hinter hint highlighter validator history) → Type 0
-  Touches s t = value_of t ≡ record (value_of s) { line = t.line; held = held_on t.changes t.line.text }
+  Touches s t = value_of t ≡ record (value_of s) { line = t.recorded.line; held = held_on t.recorded.changes t.recorded.line.text }
 
   updating_stops : (start : ℕ) (text : List ℕ) (s t : State Out H Hi K T renderer completer candidate hinter hint highlighter validator history) (e : ReadlineError)
       → is_some s.helper ≡ true → Unhelped (fails_by (update_reply start text (setting_of s) (value_of s))) e → surface_of t ≡ surface_of s → Touches s t
       → Stops renderer.canvas (renderer.canvas.ruler s.out) (word_updated start text (setting_of s) (value_of s)).steps (surface_of s) e (value_of t) (surface_of t)
   updating_stops start text s t e some why same touches =
       stops_updating renderer.canvas (renderer.canvas.ruler s.out) (value_of s) (update_reply start text (setting_of s) (value_of s)) (surface_of s) (surface_of t) e (value_of t)
-      (some_mapped (λ (h : Hooks). h.updates s.line start text) (hooks_of completer hinter validator) s.helper ∙ some) why same touches
+      (some_mapped (λ (h : Hooks). h.updates s.recorded.line start text) (hooks_of completer hinter validator) s.helper ∙ some) why same touches
 
   -- a fault of the update that isn't want of memory
   pub updating_failed : {A : Type 0} (start : ℕ) (text : List ℕ) (s t : State Out H Hi K T renderer completer candidate hinter hint highlighter validator history) (h : H) (fault : HookFault) → s.helper ≡ Some h
-      → fault ≡ HookFailed → (fault ≡ HookMemory) ⊎ ((fault ≡ HookFailed) × IsTrue (fails (completer.update_of h s.line start text))) → surface_of t ≡ surface_of s → Stays s t → Touches s t
+      → fault ≡ HookFailed → (fault ≡ HookMemory) ⊎ ((fault ≡ HookFailed) × IsTrue (fails (completer.update_of h s.recorded.line start text))) → surface_of t ≡ surface_of s → Stays s t → Touches s t
       → Does {A = A} (word_updated start text) s t (Err Helper)
   updating_failed start text s t h fault is failed (inl memory) same stays touches = let never : HookFailed ≡ HookMemory = sym failed ∙ memory in absurd (cc)
   updating_failed start text s t h fault is failed (inr why) same stays touches =
       let reply = update_reply start text (setting_of s) (value_of s) in
       let fails : IsHelpFault reply Helper = update_fails s h start text is why.1 in
-      does_refused (word_updated start text) s t Helper stays (update_reason (setting_of s).hooks s.line start text (renderer.canvas.failed t.out) Helper fails)
+      does_refused (word_updated start text) s t Helper stays (update_reason (setting_of s).hooks s.recorded.line start text (renderer.canvas.failed t.out) Helper fails)
       (updating_stops start text s t Helper (ap is_some is) (help_fails reply fails) same touches)
 
   pub updating_wants : {A : Type 0} (start : ℕ) (text : List ℕ) (s t : State Out H Hi K T renderer completer candidate hinter hint highlighter validator history)
@@ -124,13 +124,13 @@ module _ {Out H Hi K T : Type 0} {renderer : renderers.Renderer.Ghosts Out} {com
   asked_refused : (s : State Out H Hi K T renderer completer candidate hinter hint highlighter validator history) (e : ReadlineError)
       → IsHelpFault (completion_reply (setting_of s) (value_of s)) e → Does {A = ⊤} candidates_asked s s (Err e)
   asked_refused s e why = does_refused candidates_asked s s e (stays_same s)
-      (completion_reason (setting_of s).hooks s.line (setting_of s).entries (value_of s).history (renderer.canvas.failed s.out) e why)
+      (completion_reason (setting_of s).hooks s.recorded.line (setting_of s).entries (value_of s).history (renderer.canvas.failed s.out) e why)
       (stops_asking renderer.canvas (renderer.canvas.ruler s.out) (value_of s) (completion_reply (setting_of s) (value_of s)) (surface_of s) (surface_of s) e (value_of s) why refl refl)
 
   complete_is : (s : State Out H Hi K T renderer completer candidate hinter hint highlighter validator history) → is_some s.helper ≡ true
       → then_do candidates_asked (completed (candidates_given (completion_reply (setting_of s) (value_of s)))) (setting_of s) (value_of s) ≡ complete (setting_of s) (value_of s)
   complete_is s some = completed_by_reply (completion_reply (setting_of s) (value_of s)) (setting_of s) (value_of s)
-      (some_mapped (λ (h : Hooks). h.completes s.line.text s.line.place (setting_of s).entries (value_of s).history) (hooks_of completer hinter validator) s.helper ∙ some)
+      (some_mapped (λ (h : Hooks). h.completes s.recorded.line.text s.recorded.line.place (setting_of s).entries (value_of s).history) (hooks_of completer hinter validator) s.helper ∙ some)
 
   pub complete_refused : {A : Type 0} (s : State Out H Hi K T renderer completer candidate hinter hint highlighter validator history) (e : ReadlineError) (result : Result A ReadlineError) → is_some s.helper ≡ true
       → IsErrAnd result (λ x. x ≡ e) → IsHelpFault (completion_reply (setting_of s) (value_of s)) e → Does complete s s result
@@ -140,7 +140,7 @@ module _ {Out H Hi K T : Type 0} {renderer : renderers.Renderer.Ghosts Out} {com
 
   pub complete_made : {A : Type 0} (start : ℕ) (items : List K) (o : Option (List ℕ)) (s t : State Out H Hi K T renderer completer candidate hinter hint highlighter validator history) (result : Result A ReadlineError)
       → is_some s.helper ≡ true → (let found : Completion = record { start = start; candidates = map candidate.offers items } in
-      found ≡ candidates_given (completion_reply (setting_of s) (value_of s)) → elected found s.line ≡ o → IsFalse (fails_by (completion_reply (setting_of s) (value_of s)))
+      found ≡ candidates_given (completion_reply (setting_of s) (value_of s)) → elected found s.recorded.line ≡ o → IsFalse (fails_by (completion_reply (setting_of s) (value_of s)))
       → Does (completed_with start o) s t result → Does complete s t result)
   complete_made {A} start items o s t result some same is works does =
       let found : Completion = record { start = start; candidates = map candidate.offers items } in

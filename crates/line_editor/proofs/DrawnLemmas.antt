@@ -41,14 +41,14 @@ module _ {Out H Hi K T : Type 0} {renderer : renderers.Renderer.Ghosts Out} {com
   pub typed_drawn : {A : Type 0} (c : ℕ) (s t : State Out H Hi K T renderer completer candidate hinter hint highlighter validator history) (result : Result A ReadlineError)
       → may_type (renderer.canvas.ruler s.out) s.layout ≡ false → Does (drawn_with None) s t result → Does (λ a v. redrawn (Typed a.prompt c v.line.text v.line.place) a v) s t result
   typed_drawn c s t result is h = drawn_as (λ a v. Drawn a.prompt true v.line.text v.line.place None) (λ a v. Typed a.prompt c v.line.text v.line.place) s t result
-      (ap (λ b. if b then typed_short s.layout c else full (renderer.canvas.ruler s.out) (setting_of s).marks s.layout s.prompt.now true s.line.text s.line.place None) (sym is)) h
+      (ap (λ b. if b then typed_short s.layout c else full (renderer.canvas.ruler s.out) (setting_of s).marks s.layout s.prompt.now true s.recorded.line.text s.recorded.line.place None) (sym is)) h
 
   pub taken_drawn : {A : Type 0} (count : ℕ) (s t : State Out H Hi K T renderer completer candidate hinter hint highlighter validator history) (result : Result A ReadlineError)
       → may_take s.layout count ≡ false → Does (drawn_with None) s t result → Does (λ a v. redrawn (Taken a.prompt count v.line.text v.line.place) a v) s t result
   taken_drawn count s t result is h = drawn_as (λ a v. Drawn a.prompt true v.line.text v.line.place None) (λ a v. Taken a.prompt count v.line.text v.line.place) s t result
-      (ap (λ b. if b then taken_short s.layout count else full (renderer.canvas.ruler s.out) (setting_of s).marks s.layout s.prompt.now true s.line.text s.line.place None) (sym is)) h
+      (ap (λ b. if b then taken_short s.layout count else full (renderer.canvas.ruler s.out) (setting_of s).marks s.layout s.prompt.now true s.recorded.line.text s.recorded.line.place None) (sym is)) h
 
   pub bared_drawn : {A : Type 0} (s t : State Out H Hi K T renderer completer candidate hinter hint highlighter validator history) (result : Result A ReadlineError)
       → s.layout.default_prompt ≡ false → Does (drawn_with None) s t result → Does (λ a v. redrawn (Bared a.prompt v.line.text v.line.place) a v) s t result
   bared_drawn s t result is h = drawn_as (λ a v. Drawn a.prompt true v.line.text v.line.place None) (λ a v. Bared a.prompt v.line.text v.line.place) s t result
-      (ap (λ b. if b then nothing_asked s.layout else full (renderer.canvas.ruler s.out) (setting_of s).marks s.layout s.prompt.now true s.line.text s.line.place None) (sym is)) h
+      (ap (λ b. if b then nothing_asked s.layout else full (renderer.canvas.ruler s.out) (setting_of s).marks s.layout s.prompt.now true s.recorded.line.text s.recorded.line.place None) (sym is)) h

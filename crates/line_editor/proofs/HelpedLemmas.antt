@@ -103,7 +103,7 @@ module _ {Out H Hi K T : Type 0} {renderer : renderers.Renderer.Ghosts Out} {com
   pub hint_refused : {A : Type 0} (s : State Out H Hi K T renderer completer candidate hinter hint highlighter validator history) (e : ReadlineError) (result : Result A ReadlineError)
       → IsErrAnd result (λ x. x ≡ e) → IsHelpFault (hint_reply (setting_of s) (value_of s)) e → Does hint_asked s s result
   hint_refused {A} s e result is why = subst (λ (r : Result A ReadlineError). Does {A = A} hint_asked s s r) (sym (is_err e result is))
-      (does_refused hint_asked s s e (stays_same s) (hint_reason (setting_of s).hooks s.line (setting_of s).entries (value_of s).history (renderer.canvas.failed s.out) e why)
+      (does_refused hint_asked s s e (stays_same s) (hint_reason (setting_of s).hooks s.recorded.line (setting_of s).entries (value_of s).history (renderer.canvas.failed s.out) e why)
       (stops_asking renderer.canvas (renderer.canvas.ruler s.out) (value_of s) (hint_reply (setting_of s) (value_of s)) (surface_of s) (surface_of s) e (value_of s) why refl refl))
 
   -- and highlighted characters
@@ -148,14 +148,14 @@ module _ {Out H Hi K T : Type 0} {renderer : renderers.Renderer.Ghosts Out} {com
 
   module _ (count : ℕ) (alone : Bool) where
     pub taken_made : {A B : Type 0} (s m t : State Out H Hi K T renderer completer candidate hinter hint highlighter validator history) (x : A) (result : Result B ReadlineError)
-        → (alone && (is_bare (value_of m) && at_plain_end m.line.text m.line.place)) ≡ true → Does asked_anew s m (Ok x)
+        → (alone && (is_bare (value_of m) && at_plain_end m.recorded.line.text m.recorded.line.place)) ≡ true → Does asked_anew s m (Ok x)
         → Does (λ a v. redrawn (Taken a.prompt count v.line.text v.line.place) a v) m t result → Does (killed_shown count alone) s t result
     taken_made s m t x result is h k =
         does_both asked_anew (taken_shown count alone) s m t x result h
         (does_as (λ a v. redrawn (Taken a.prompt count v.line.text v.line.place) a v) (taken_shown count alone) m t result (ap (λ b. taken count b (setting_of m) (value_of m)) (sym is)) k)
 
     pub killed_drawn : {A B : Type 0} (prompt : List ℕ) (s m t : State Out H Hi K T renderer completer candidate hinter hint highlighter validator history) (x : A) (result : Result B ReadlineError)
-        → prompt ≡ m.prompt.now → (alone && (is_bare (value_of m) && at_plain_end m.line.text m.line.place)) ≡ false → Does asked_anew s m (Ok x)
+        → prompt ≡ m.prompt.now → (alone && (is_bare (value_of m) && at_plain_end m.recorded.line.text m.recorded.line.place)) ≡ false → Does asked_anew s m (Ok x)
         → Does (drawn_behind prompt true) m t result → Does (killed_shown count alone) s t result
     killed_drawn prompt s m t x result own is h k =
         does_both asked_anew (taken_shown count alone) s m t x result h
@@ -184,13 +184,13 @@ module _ {Out H Hi K T : Type 0} {renderer : renderers.Renderer.Ghosts Out} {com
       let opened : Value = rewritten group_opened (value_of s) in
       let reply = verdict_reply (setting_of s) (value_of s) in
       let ruler = renderer.canvas.ruler s.out in
-      does_refused opened_and_asked s t e stays (verdict_reason (setting_of s).hooks s.line (renderer.canvas.failed t.out) e why)
+      does_refused opened_and_asked s t e stays (verdict_reason (setting_of s).hooks s.recorded.line (renderer.canvas.failed t.out) e why)
       (stops_after renderer.canvas ruler (Takes (value_of s)) (helped opened reply) (surface_of s) (surface_of s) (surface_of t) e (value_of t) (refl, refl)
       (stops_asking renderer.canvas ruler opened reply (surface_of s) (surface_of t) e (value_of t) why same value)))
 
   pub validated : (s : State Out H Hi K T renderer completer candidate hinter hint highlighter validator history) → is_some s.helper ≡ true
       → then_do opened_and_asked (closed_and_told (verdict (setting_of s) (value_of s))) (setting_of s) (value_of s) ≡ validate (setting_of s) (value_of s)
-  validated s some = validated_by (verdict_reply (setting_of s) (value_of s)) (setting_of s) (value_of s) (some_mapped (λ (h : Hooks). h.judge s.line.text) (hooks_of completer hinter validator) s.helper ∙ some)
+  validated s some = validated_by (verdict_reply (setting_of s) (value_of s)) (setting_of s) (value_of s) (some_mapped (λ (h : Hooks). h.judge s.recorded.line.text) (hooks_of completer hinter validator) s.helper ∙ some)
 
   pub validate_unasked : {A B : Type 0} (s t : State Out H Hi K T renderer completer candidate hinter hint highlighter validator history) (e : ReadlineError) (result : Result B ReadlineError)
       → is_some s.helper ≡ true → IsErrAnd result (λ x. x ≡ e) → Does {A = A} opened_and_asked s t (Err e) → Does validate s t result

@@ -47,7 +47,7 @@ module _ {Out H Hi K T : Type 0} {renderer : renderers.Renderer.Ghosts Out} {com
 
   -- an entry was found
   pub found_shown : {A : Type 0} (dir : SearchDirection) (place : ℕ) (hit : Hit) (s m t : State Out H Hi K T renderer completer candidate hinter hint highlighter validator history) (result : Result A ReadlineError)
-      → searched true (take s.line.place s.line.text) place dir (setting_of s).entries ≡ Some hit → value_of m ≡ at_place place (value_of s) → surface_of m ≡ surface_of s → Stays s m
+      → searched true (take s.recorded.line.place s.recorded.line.text) place dir (setting_of s).entries ≡ Some hit → value_of m ≡ at_place place (value_of s) → surface_of m ≡ surface_of s → Stays s m
       → Does (entry_shown hit.idx hit.entry hit.pos) m t result → Does (search_from dir place) s t result
   found_shown dir place hit s m t result found value same stays h =
       let shown : Transition = entry_shown hit.idx hit.entry hit.pos in

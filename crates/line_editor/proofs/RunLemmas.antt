@@ -105,8 +105,8 @@ module _ {Out H Hi K T : Type 0} {renderer : renderers.Renderer.Ghosts Out} {com
   module _ {A : Type 0} (prompt : List ℕ) (helper : Option H) (hist : Hi) (config : Config) (out : Out) (s t : State Out H Hi K T renderer completer candidate hinter hint highlighter validator history)
       (shown : Hi) (place : ℕ) (starts : Starts out prompt helper shown place s) (shown_is : shown ≡ hist) (place_is : place ≡ length (history.entries hist))
       (custom : Custom) (i i' : Input) (input_is : i ≡ new_input config.edit_mode) (ring ring' : Ring) (feed feed' : KeyFeed) (result : Result A ReadlineError)
-      (reads : Takes line_script custom config.indent_size s i ring feed t i' ring' feed' (text_or result t.line.text))
-      (ran : Ran Out H K T) (out_is : ran.out ≡ t.out) (helper_is : ran.helper ≡ t.helper) (outcome_is : outcome_of ran ≡ text_or result t.line.text) where
+      (reads : Takes line_script custom config.indent_size s i ring feed t i' ring' feed' (text_or result t.recorded.line.text))
+      (ran : Ran Out H K T) (out_is : ran.out ≡ t.out) (helper_is : ran.helper ≡ t.helper) (outcome_is : outcome_of ran ≡ text_or result t.recorded.line.text) where
     abbrev setting : Setting
     setting = setting_by (renderer.canvas.ruler out) prompt (helps s helper) (history.entries hist)
 
@@ -130,7 +130,7 @@ module _ {Out H Hi K T : Type 0} {renderer : renderers.Renderer.Ghosts Out} {com
         ∙ ap (λ v. line_stage (surface out (fresh (renderer.canvas.ruler out).mode)) (kept v i ring feed.coming)) (starts.value ∙ ap empty_at place_is)
         ∙ ap (λ j. line_stage (surface out (fresh (renderer.canvas.ruler out).mode)) (kept (first_value setting) j ring feed.coming)) input_is
 
-    goes_by : (n : ℕ) → Goes (world_of config.indent_size s) (line_script n custom) (stage_of s i ring feed.coming) (text_or result t.line.text) (stage_of t i' ring' feed'.coming)
+    goes_by : (n : ℕ) → Goes (world_of config.indent_size s) (line_script n custom) (stage_of s i ring feed.coming) (text_or result t.recorded.line.text) (stage_of t i' ring' feed'.coming)
         → Goes (line_world renderer.canvas (renderer.canvas.ruler out) setting config.indent_size) (line_script n custom)
         (stage_first out (renderer.canvas.ruler out) setting config ring feed.coming) (outcome_of ran) (last ran.out)
     goes_by n goes =
@@ -139,9 +139,9 @@ module _ {Out H Hi K T : Type 0} {renderer : renderers.Renderer.Ghosts Out} {com
         let first = stage_first out (renderer.canvas.ruler out) setting config ring feed.coming in
         subst (P (renderer.canvas.ruler out) setting first (outcome_of ran)) (sym out_is)
         (subst (λ q. P (renderer.canvas.ruler out) setting first q t.out) (sym outcome_is)
-        (subst (λ x. P (renderer.canvas.ruler out) setting x (text_or result t.line.text) t.out) first_same
-        (subst (λ a. P (renderer.canvas.ruler out) a (stage_of s i ring feed.coming) (text_or result t.line.text) t.out) setting_same
-        (subst (λ o. P (renderer.canvas.ruler o) (setting_of s) (stage_of s i ring feed.coming) (text_or result t.line.text) t.out) starts.out_is goes))))
+        (subst (λ x. P (renderer.canvas.ruler out) setting x (text_or result t.recorded.line.text) t.out) first_same
+        (subst (λ a. P (renderer.canvas.ruler out) a (stage_of s i ring feed.coming) (text_or result t.recorded.line.text) t.out) setting_same
+        (subst (λ o. P (renderer.canvas.ruler o) (setting_of s) (stage_of s i ring feed.coming) (text_or result t.recorded.line.text) t.out) starts.out_is goes))))
 
     pub runs_by : Runs renderer.canvas (helps s) custom prompt helper (history.entries hist) config out ring feed ran ring' feed'
     runs_by = record {
@@ -151,10 +151,10 @@ module _ {Out H Hi K T : Type 0} {renderer : renderers.Renderer.Ghosts Out} {com
       goes = λ told n h. goes_by n (reads.goes told n h);
       told = reads.told;
       keeps = reads.keeps;
-      falls = same_fall (feed'.bound < feed.bound) string_bytes ran.outcome (text_or result t.line.text) outcome_is reads.falls;
+      falls = same_fall (feed'.bound < feed.bound) string_bytes ran.outcome (text_or result t.recorded.line.text) outcome_is reads.falls;
       helper_stays = λ told. helper_same_as (reads.stays told);
       ruler_stays = λ told. ap renderer.canvas.ruler out_is ∙ (reads.stays told).ruler ∙ ap renderer.canvas.ruler starts.out_is;
-      reason = same_reason string_bytes ran.outcome (text_or result t.line.text) (Cause custom t feed')
+      reason = same_reason string_bytes ran.outcome (text_or result t.recorded.line.text) (Cause custom t feed')
           (cause_of custom (renderer.canvas.failed ran.out) (Failing (helps s ran.helper)) feed') outcome_is
           (λ e. cause_to custom (renderer.canvas.failed t.out) (renderer.canvas.failed ran.out) (Failing (helps s t.helper)) (Failing (helps s ran.helper)) feed' e
           (ap renderer.canvas.failed (sym out_is)) (λ fails. subst (λ h. Failing (helps s h)) (sym helper_is) fails))

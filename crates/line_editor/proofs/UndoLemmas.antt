@@ -75,14 +75,14 @@ module _ {Out H Hi K T : Type 0} {renderer : renderers.Renderer.Ghosts Out} {com
     {hinter : hints.Hinter.Ghosts H T} {hint : hints.Hint.Ghosts T} {highlighter : highlights.Highlighter.Ghosts H} {validator : verdicts.Validator.Ghosts H} {history : histories.History.Ghosts Hi} where
   -- where memory was wanting nothing is drawn
   undo_stops : (n : ℕ) (s t : State Out H Hi K T renderer completer candidate hinter hint highlighter validator history) (b : Bool)
-      → value_of t ≡ record (value_of s) { line = t.line; held = [] } → surface_of t ≡ surface_of s
+      → value_of t ≡ record (value_of s) { line = t.recorded.line; held = [] } → surface_of t ≡ surface_of s
       → Stops renderer.canvas (renderer.canvas.ruler s.out) (if b then then_do (taking_back n) refreshed (setting_of s) (value_of s) else unmarking n (setting_of s) (value_of s)).steps (surface_of s) Memory (value_of t) (surface_of t)
   undo_stops n s t true left same = stops_taking_back renderer.canvas (renderer.canvas.ruler s.out) (value_of s) _ (surface_of s) (surface_of t) Memory (value_of t) refl same left
   undo_stops n s t false left same = stops_taking_back renderer.canvas (renderer.canvas.ruler s.out) (value_of s) _ (surface_of s) (surface_of t) Memory (value_of t) refl same left
 
   pub undo_refused : {A : Type 0} (n : ℕ) (s t : State Out H Hi K T renderer completer candidate hinter hint highlighter validator history) (result : Result A ReadlineError)
-      → IsErrAnd result (λ e. e ≡ Memory) → t.changes ≡ no_items
-      → value_of t ≡ record (value_of s) { line = t.line; held = held_on t.changes t.line.text }
+      → IsErrAnd result (λ e. e ≡ Memory) → t.recorded.changes ≡ no_items
+      → value_of t ≡ record (value_of s) { line = t.recorded.line; held = held_on t.recorded.changes t.recorded.line.text }
       → surface_of t ≡ surface_of s → Stays s t → Does (undo n) s t result
   undo_refused {A} n s t result is forgotten left same stays = subst (λ (r : Result A ReadlineError). Does {A = A} (undo n) s t r) (sym (is_err Memory result is)) (record {
     value = tt;
@@ -90,23 +90,23 @@ module _ {Out H Hi K T : Type 0} {renderer : renderers.Renderer.Ghosts Out} {com
     layout = tt;
     stays = stays;
     reason = tt;
-    stops = undo_stops n s t (has_step (max n 1) (value_of s).held) (left ∙ ap (λ k. record (value_of s) { line = t.line; held = held_on k t.line.text }) forgotten) same;
+    stops = undo_stops n s t (has_step (max n 1) (value_of s).held) (left ∙ ap (λ k. record (value_of s) { line = t.recorded.line; held = held_on k t.recorded.line.text }) forgotten) same;
   })
 
   -- where marks alone are taken back nothing is drawn
   pub unmade_does : {A : Type 0} (n : ℕ) (s t : State Out H Hi K T renderer completer candidate hinter hint highlighter validator history) (x : A)
-      → has_step (max n 1) (held_on s.changes s.line.text) ≡ false
-      → t.line ≡ line_back (max n 1) (held_on s.changes s.line.text) s.line
-      → held_on t.changes t.line.text ≡ drop (max n 1) (held_on s.changes s.line.text)
-      → value_of t ≡ record (value_of s) { line = t.line; held = held_on t.changes t.line.text }
+      → has_step (max n 1) (held_on s.recorded.changes s.recorded.line.text) ≡ false
+      → t.recorded.line ≡ line_back (max n 1) (held_on s.recorded.changes s.recorded.line.text) s.recorded.line
+      → held_on t.recorded.changes t.recorded.line.text ≡ drop (max n 1) (held_on s.recorded.changes s.recorded.line.text)
+      → value_of t ≡ record (value_of s) { line = t.recorded.line; held = held_on t.recorded.changes t.recorded.line.text }
       → s.out ≡ t.out → t.layout ≡ s.layout → Stays s t → Does (undo n) s t (Ok x)
   unmade_does n s t x none line held rest out layout stays =
       let v = value_of s in
-      let same : t.line ≡ v.line = line ∙ items_rest (max n 1) s.changes.done s.line none in
+      let same : t.recorded.line ≡ v.line = line ∙ items_rest (max n 1) s.recorded.changes.done s.recorded.line none in
       let quiet : unmarking n (setting_of s) v ≡ undo n (setting_of s) v = ap (λ b. if b then then_do (taking_back n) refreshed (setting_of s) v else unmarking n (setting_of s) v) (sym none) in
       does_as (unmarking n) (undo n) s t (Ok x) quiet
       (record {
-        value = rest ∙ ap (λ l. record v { line = l; held = held_on t.changes t.line.text }) same ∙ ap (λ h. record v { line = v.line; held = h }) held;
+        value = rest ∙ ap (λ l. record v { line = l; held = held_on t.recorded.changes t.recorded.line.text }) same ∙ ap (λ h. record v { line = v.line; held = h }) held;
         calls = out;
         layout = layout;
         stays = stays;

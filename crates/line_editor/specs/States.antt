@@ -61,8 +61,8 @@ module _ {Out H Hi K T : Type 0} {renderer : renderers.Ghosts Out}
       State Out H Hi K T renderer completer candidate hinter hint highlighter validator history
       → Value
   value_of s = record {
-    line = s.line;
-    held = held_on s.changes s.line.text;
+    line = s.recorded.line;
+    held = held_on s.recorded.changes s.recorded.line.text;
     saved = record { text = string_bytes s.saved.text; place = s.saved.pos };
     history = s.ctx.place;
     hint = option_map hint.says s.hint;

@@ -37,7 +37,8 @@ impl<'p, 'h, Out: Renderer, H: Helper + Drop, Hi: History> State<'p, 'h, Out, H,
         let Some(helper) = &self.helper else {
             return Ok(ValidationResult::Valid(None));
         };
-        match helper.validate(self.alloc, &ValidationContext::new(self.line.as_str())) {
+        let text = self.recorded.line.as_str();
+        match helper.validate(self.alloc, &ValidationContext::new(text)) {
             Ok(found) => Ok(found),
             Err(HookFault::Failed) => Err(ReadlineError::Helper),
             Err(HookFault::Memory) => Err(ReadlineError::Memory),
@@ -76,7 +77,8 @@ impl<'p, 'h, Out: Renderer, H: Helper + Drop, Hi: History> State<'p, 'h, Out, H,
     fn close_and_tell(&mut self, found: &ValidationResult) -> Result<(), ReadlineError>
         ensures { Renders (closed_and_told found.now) self.old self.new result }
     {
-        let ended = self.changes.end(self.alloc)?;
+        let recorded = &mut self.recorded;
+        let ended = recorded.changes.end(self.alloc)?;
         let draws = ended || self.hint.is_some();
         self.tell_verdict(found, draws)
     }
@@ -87,7 +89,8 @@ impl<'p, 'h, Out: Renderer, H: Helper + Drop, Hi: History> State<'p, 'h, Out, H,
         ensures verdict { IfOk result
             (λ found. found ≡ verdict (setting_of self.old) (value_of self.old)) }
     {
-        self.changes.begin(self.alloc)?;
+        let recorded = &mut self.recorded;
+        recorded.changes.begin(self.alloc)?;
         let found = self.judge()?;
         Ok(found)
     }
@@ -113,7 +116,7 @@ impl<'p, 'h, Out: Renderer, H: Helper + Drop, Hi: History> State<'p, 'h, Out, H,
         ensures does { Does accept self.old self.new result }
         ensures verdict { IfOk result
             (λ found. found ≡ verdict (setting_of self.old) (value_of self.old)) }
-        ensures line { OnOk result (self.new.line ≡ self.old.line) }
+        ensures line { OnOk result (self.new.recorded.line ≡ self.old.recorded.line) }
     {
         self.bare_line()?;
         let found = self.validate()?;
@@ -122,9 +125,9 @@ impl<'p, 'h, Out: Renderer, H: Helper + Drop, Hi: History> State<'p, 'h, Out, H,
 
     /// Whether a line of which this was found is accepted.
     fn accepts_line(&self, found: &ValidationResult, middle: bool) -> bool
-        ensures { result ≡ accepts_found middle found.now self.now.line }
+        ensures { result ≡ accepts_found middle found.now self.now.recorded.line }
     {
-        found.is_valid() && (middle || self.line.is_end_of_input())
+        found.is_valid() && (middle || self.recorded.line.is_end_of_input())
     }
 
     /// Inserts a newline where the line isn't accepted and nothing else is told.

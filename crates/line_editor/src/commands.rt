@@ -52,7 +52,7 @@ impl<'p, 'h, Out: Renderer, H: Helper + Drop, Hi: History> State<'p, 'h, Out, H,
     fn end_of_file(&self, emacs: bool) -> Result<Status, ReadlineError>
         ensures { result ≡ end_of_file emacs (value_of self.now) }
     {
-        if self.line.is_empty() {
+        if self.recorded.line.is_empty() {
             return Err(ReadlineError::Eof);
         }
         if emacs {

@@ -11,7 +11,7 @@ use crate::renderer::Renderer;
 use crate::state::State;
 use line_buffer::LineBuffer;
 use line_config::{HookFault, ReadlineError};
-use line_edits::is_plain;
+use line_edits::{RecordedLine, is_plain};
 use line_help::{Candidate, Completer, Helper, History, longest_common_prefix};
 use line_record::Changeset;
 use std::alloc::Global;
@@ -102,6 +102,30 @@ fn put_in_group<C: Completer>(
     Ok(())
 }
 
+/// The same of a line with its record.
+fn update<C: Completer>(
+    alloc: Global,
+    completer: &C,
+    recorded: &mut RecordedLine,
+    start: usize,
+    text: &str,
+) -> Result<(), HookFault>
+    requires order { start ≤ recorded.old.line.place }
+    requires boundary { IsCharBoundary recorded.old.line.text start }
+    ensures writes { Writes (word_replaced start text.now) tt recorded.old.line recorded.new.line
+        recorded.old.changes recorded.new.changes result }
+    ensures works { OnOk result
+        (fails (C.update_of completer.now recorded.old.line start text.now) ≡ false) }
+    ensures fault { IfErr result (λ e. (e ≡ Memory)
+        ⊎ ((e ≡ Failed)
+        × IsTrue (fails (C.update_of completer.now recorded.old.line start text.now)))) }
+{
+    let line = &mut recorded.line;
+    let done = put_in_group(alloc, completer, line, &mut recorded.changes, start, text);
+    recorded.plain = is_plain(recorded.line.as_str());
+    done
+}
+
 impl<'p, 'h, Out: Renderer, H: Helper + Drop, Hi: History> State<'p, 'h, Out, H, Hi> {
     ghost use Rattle.line_editor.specs.States.{value_of, setting_of, Does, Helps};
     ghost use Rattle.line_editor.specs.Values.{completion_reply};
@@ -118,7 +142,8 @@ impl<'p, 'h, Out: Renderer, H: Helper + Drop, Hi: History> State<'p, 'h, Out, H,
         let Some(helper) = &self.helper else {
             return Ok((0, Vec::new(self.alloc)));
         };
-        match helper.complete(self.alloc, self.line.as_str(), self.line.pos(), &self.ctx) {
+        let line = &self.recorded.line;
+        match helper.complete(self.alloc, line.as_str(), line.pos(), &self.ctx) {
             Ok(found) => Ok(found),
             Err(HookFault::Failed) => Err(ReadlineError::Helper),
             Err(HookFault::Memory) => Err(ReadlineError::Memory),
@@ -128,23 +153,15 @@ impl<'p, 'h, Out: Renderer, H: Helper + Drop, Hi: History> State<'p, 'h, Out, H,
     /// The helper puts a text in place of the line from a start to the cursor.
     fn update_word(&mut self, start: usize, text: &str) -> Result<(), ReadlineError>
         requires some { is_some self.old.helper ≡ true }
-        requires order { start ≤ self.old.line.place }
-        requires boundary { IsCharBoundary self.old.line.text start }
+        requires order { start ≤ self.old.recorded.line.place }
+        requires boundary { IsCharBoundary self.old.recorded.line.text start }
         ensures does { Does (word_updated start text.now) self.old self.new result }
     {
         let Some(helper) = &self.helper else {
             return Ok(());
         };
         self.known = None;
-        let done = put_in_group(
-            self.alloc,
-            helper,
-            &mut self.line,
-            &mut self.changes,
-            start,
-            text,
-        );
-        self.plain = is_plain(self.line.as_str());
+        let done = update(self.alloc, helper, &mut self.recorded, start, text);
         match done {
             Ok(()) => Ok(()),
             Err(HookFault::Failed) => Err(ReadlineError::Helper),
@@ -155,8 +172,8 @@ impl<'p, 'h, Out: Renderer, H: Helper + Drop, Hi: History> State<'p, 'h, Out, H,
     /// Exchanges the word that begins at a place, and draws the line.
     fn complete_word(&mut self, start: usize, text: &str) -> Result<(), ReadlineError>
         requires some { is_some self.old.helper ≡ true }
-        requires order { start ≤ self.old.line.place }
-        requires boundary { IsCharBoundary self.old.line.text start }
+        requires order { start ≤ self.old.recorded.line.place }
+        requires boundary { IsCharBoundary self.old.recorded.line.text start }
         ensures does { Does (word_completed start text.now) self.old self.new result }
     {
         self.update_word(start, text)?;
@@ -173,7 +190,7 @@ impl<'p, 'h, Out: Renderer, H: Helper + Drop, Hi: History> State<'p, 'h, Out, H,
             return Ok(());
         }
         let (start, candidates) = self.candidates()?;
-        match elected(&self.line, start, &candidates) {
+        match elected(&self.recorded.line, start, &candidates) {
             Some(text) => self.complete_word(start, text),
             None => self.beep(),
         }

@@ -120,7 +120,8 @@ impl<'p, 'h, Out: Renderer, H: Helper + Drop, Hi: History> State<'p, 'h, Out, H,
         let Some(helper) = &self.helper else {
             return Ok(None);
         };
-        match helper.hint(self.alloc, self.line.as_str(), self.line.pos(), &self.ctx) {
+        let line = &self.recorded.line;
+        match helper.hint(self.alloc, line.as_str(), line.pos(), &self.ctx) {
             Ok(Some(found)) => {
                 if !found.display().is_empty() {
                     Ok(Some(found))
@@ -152,7 +153,7 @@ impl<'p, 'h, Out: Renderer, H: Helper + Drop, Hi: History> State<'p, 'h, Out, H,
         ensures stays { Stays self.old self.new }
     {
         let colours = self.out.colors_enabled();
-        let marked = marked_by(&mut self.helper, colours, &self.line, kind);
+        let marked = marked_by(&mut self.helper, colours, &self.recorded.line, kind);
         self.highlight_char = marked;
     }
 
@@ -160,7 +161,7 @@ impl<'p, 'h, Out: Renderer, H: Helper + Drop, Hi: History> State<'p, 'h, Out, H,
     pub(crate) fn draw(&mut self, prompt: &str, given: bool) -> Result<(), ReadlineError>
         ensures { Renders (drawn_behind prompt.now given) self.old self.new result }
     {
-        let pos = self.line.pos();
+        let pos = self.recorded.line.pos();
         let info = display_of(&self.hint);
         self.known = None;
         self.layout = draw_over(
@@ -168,7 +169,7 @@ impl<'p, 'h, Out: Renderer, H: Helper + Drop, Hi: History> State<'p, 'h, Out, H,
             self.layout,
             prompt,
             given,
-            &self.line,
+            &self.recorded.line,
             info,
             &self.helper,
         )?;
@@ -180,14 +181,14 @@ impl<'p, 'h, Out: Renderer, H: Helper + Drop, Hi: History> State<'p, 'h, Out, H,
     pub(crate) fn draw_with(&mut self, info: Option<&str>) -> Result<(), ReadlineError>
         ensures { Renders (drawn_with (option_copied info.entry)) self.old self.new result }
     {
-        let pos = self.line.pos();
+        let pos = self.recorded.line.pos();
         self.known = None;
         self.layout = draw_over(
             &mut self.out,
             self.layout,
             self.prompt,
             true,
-            &self.line,
+            &self.recorded.line,
             info,
             &self.helper,
         )?;
@@ -242,7 +243,7 @@ impl<'p, 'h, Out: Renderer, H: Helper + Drop, Hi: History> State<'p, 'h, Out, H,
     pub(crate) fn show_cursor(&mut self) -> Result<(), ReadlineError>
         ensures { Renders cursor_shown self.old self.new result }
     {
-        let pos = self.line.pos();
+        let pos = self.recorded.line.pos();
         let cursor = self.position_at(pos);
         self.known = Some((pos, cursor));
         if self.layout.cursor == cursor {

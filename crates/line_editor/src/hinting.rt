@@ -4,7 +4,6 @@ ghost use Rattle.std.specs.Prelude.{◌≡◌, option_map, option_copied, IfOk};
 use crate::renderer::Renderer;
 use crate::state::State;
 use line_config::ReadlineError;
-use line_edits::yank;
 use line_help::{Helper, Hint, History};
 
 #[tactic(auto, using(crate::proofs::StopsLemmas::edits_stop))]
@@ -30,18 +29,12 @@ impl<'p, 'h, Out: Renderer, H: Helper + Drop, Hi: History> State<'p, 'h, Out, H,
             return Ok(());
         };
         self.known = None;
-        self.line.move_end();
+        let recorded = &mut self.recorded;
+        recorded.line.move_end();
         let Some(text) = hint.completion() else {
             return self.beep_and_refresh();
         };
-        let put = yank(
-            self.alloc,
-            &mut self.line,
-            &mut self.changes,
-            &mut self.plain,
-            text,
-            1,
-        )?;
+        let put = recorded.yank(self.alloc, text, 1)?;
         if put.is_none() {
             return self.beep_and_refresh();
         }

@@ -7,7 +7,6 @@ use crate::renderer::Renderer;
 use crate::state::State;
 use line_buffer::{RepeatCount, is_printable};
 use line_config::ReadlineError;
-use line_edits::{insert_char, insert_text, overwrite, replace_chars};
 use line_help::{Helper, History};
 
 #[tactic(auto, using(crate::proofs::StopsLemmas::edits_stop))]
@@ -24,9 +23,9 @@ impl<'p, 'h, Out: Renderer, H: Helper + Drop, Hi: History> State<'p, 'h, Out, H,
 
     /// Whether the cursor is at the end of a plain text.
     pub(crate) fn is_at_plain_end(&self) -> bool
-        ensures { result ≡ at_plain_end self.now.line.text self.now.line.place }
+        ensures { result ≡ at_plain_end self.now.recorded.line.text self.now.recorded.line.place }
     {
-        self.line.is_cursor_at_end() && self.plain
+        self.recorded.line.is_cursor_at_end() && self.recorded.plain
     }
 
     /// Whether a character's byte alone may show it: one printable character, typed at the end of a
@@ -57,16 +56,9 @@ impl<'p, 'h, Out: Renderer, H: Helper + Drop, Hi: History> State<'p, 'h, Out, H,
         ensures does { Does (insert_char ch n) self.old self.new result }
     {
         let alone = self.may_be_typed(ch, n);
-        let known = known_within(self.line.pos(), self.known);
+        let known = known_within(self.recorded.line.pos(), self.known);
         self.known = None;
-        let inserted = insert_char(
-            self.alloc,
-            &mut self.line,
-            &mut self.changes,
-            &mut self.plain,
-            ch,
-            n,
-        )?;
+        let inserted = self.recorded.insert_char(self.alloc, ch, n)?;
         self.known = known;
         if inserted.is_none() {
             return Ok(());
@@ -82,13 +74,7 @@ impl<'p, 'h, Out: Renderer, H: Helper + Drop, Hi: History> State<'p, 'h, Out, H,
             return Ok(());
         }
         self.known = None;
-        insert_text(
-            self.alloc,
-            &mut self.line,
-            &mut self.changes,
-            &mut self.plain,
-            text,
-        )?;
+        self.recorded.insert_text(self.alloc, text)?;
         self.refresh()
     }
 
@@ -97,14 +83,7 @@ impl<'p, 'h, Out: Renderer, H: Helper + Drop, Hi: History> State<'p, 'h, Out, H,
         ensures does { Does (replace_char ch n) self.old self.new result }
     {
         self.known = None;
-        let replaced = replace_chars(
-            self.alloc,
-            &mut self.line,
-            &mut self.changes,
-            &mut self.plain,
-            ch,
-            n,
-        )?;
+        let replaced = self.recorded.replace_chars(self.alloc, ch, n)?;
         if replaced { self.refresh() } else { Ok(()) }
     }
 
@@ -113,13 +92,7 @@ impl<'p, 'h, Out: Renderer, H: Helper + Drop, Hi: History> State<'p, 'h, Out, H,
         ensures does { Does (overwrite_char ch) self.old self.new result }
     {
         self.known = None;
-        let written = overwrite(
-            self.alloc,
-            &mut self.line,
-            &mut self.changes,
-            &mut self.plain,
-            ch,
-        )?;
+        let written = self.recorded.overwrite(self.alloc, ch)?;
         if written { self.refresh() } else { Ok(()) }
     }
 }

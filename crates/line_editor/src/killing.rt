@@ -9,7 +9,6 @@ use crate::renderer::Renderer;
 use crate::state::State;
 use line_buffer::{Mode, Movement};
 use line_config::ReadlineError;
-use line_edits::kill;
 use line_help::{Helper, History};
 use line_keys::Text;
 use line_record::KillRing;
@@ -22,10 +21,11 @@ impl<'p, 'h, Out: Renderer, H: Helper + Drop, Hi: History> State<'p, 'h, Out, H,
     /// Whether an erased rest of the row may show what a movement kills: printable characters,
     /// taken from a bare line.
     fn may_be_taken(&self, movement: &Movement) -> bool
-        ensures { let left = (kill_line movement.now self.now.line).text in
-            result ≡ may_be_taken (drop (length left) self.now.line.text) (value_of self.now) }
+        ensures { let left = (kill_line movement.now self.now.recorded.line).text in
+            result ≡ may_be_taken (drop (length left) self.now.recorded.line.text)
+            (value_of self.now) }
     {
-        self.is_bare() && self.line.has_printable_end(movement)
+        self.is_bare() && self.recorded.line.has_printable_end(movement)
     }
 
     /// Shows that so many bytes were killed, with a new hint: what they showed is erased where that
@@ -61,22 +61,15 @@ impl<'p, 'h, Out: Renderer, H: Helper + Drop, Hi: History> State<'p, 'h, Out, H,
             ⊎ ((e ≡ ReadlineError.Memory) × (ring.new ≡ unkilled movement.now ring.old))) }
     {
         let alone = self.may_be_taken(movement);
-        let before = self.line.len();
+        let before = self.recorded.line.len();
         let known = self.known_before(movement);
         self.known = None;
-        let killed = kill(
-            self.alloc,
-            &mut self.line,
-            &mut self.changes,
-            &mut self.plain,
-            ring,
-            movement,
-        )?;
-        self.known = known_within(self.line.pos(), known);
+        let killed = self.recorded.kill(self.alloc, ring, movement)?;
+        self.known = known_within(self.recorded.line.pos(), known);
         if !killed {
             return Ok(());
         }
-        let count = before - self.line.len();
+        let count = before - self.recorded.line.len();
         self.show_killed(count, alone)
     }
 
@@ -121,7 +114,7 @@ impl<'p, 'h, Out: Renderer, H: Helper + Drop, Hi: History> State<'p, 'h, Out, H,
         ensures refused { IfErr result
             (λ e. (e ≡ ReadlineError.Memory) × (ring.new ≡ ring.old)) }
     {
-        if let Some(text) = self.line.copy(self.alloc, movement)? {
+        if let Some(text) = self.recorded.line.copy(self.alloc, movement)? {
             ring.kill(self.alloc, text.as_str(), Mode::Append)?;
         }
         Ok(())

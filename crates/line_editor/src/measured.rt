@@ -24,14 +24,14 @@ pub(crate) fn known_within(
 impl<'p, 'h, Out: Renderer, H: Helper + Drop, Hi: History> State<'p, 'h, Out, H, Hi> {
     /// Where the drawing of the line up to a place ends.
     pub(crate) fn position_at(&self, place: usize) -> Position
-        requires { IsCharBoundary self.now.line.text place }
+        requires { IsCharBoundary self.now.recorded.line.text place }
         ensures { result ≡ (Out.canvas.ruler self.now.out).measure
-            (take place self.now.line.text) self.now.layout.prompt_size }
+            (take place self.now.recorded.line.text) self.now.layout.prompt_size }
     {
-        let text = self.line.as_str();
+        let text = self.recorded.line.as_str();
         let start = self.layout.prompt_size;
         match self.known {
-            Some(known) if self.plain => self.out.position_from(text, start, known, place),
+            Some(known) if self.recorded.plain => self.out.position_from(text, start, known, place),
             _ => self.out.calculate_position(&text[..place], start),
         }
     }
@@ -39,15 +39,15 @@ impl<'p, 'h, Out: Renderer, H: Helper + Drop, Hi: History> State<'p, 'h, Out, H,
     /// What is known, taken back to before the characters that a movement back goes over, where
     /// each is a byte.
     pub(crate) fn known_before(&self, movement: &Movement) -> Option<(usize, Position)>
-        ensures { IsKnownOn (Out.canvas.ruler self.now.out) self.now.layout self.now.line.text
-            result }
+        ensures { IsKnownOn (Out.canvas.ruler self.now.out) self.now.layout
+            self.now.recorded.line.text result }
     {
         let Movement::BackwardChar(n) = movement else {
             return self.known;
         };
-        let place = self.line.pos().saturating_sub(usize::from(*n));
+        let place = self.recorded.line.pos().saturating_sub(usize::from(*n));
         match self.known {
-            Some((known, _)) if self.plain && place < known => Some((
+            Some((known, _)) if self.recorded.plain && place < known => Some((
                 place,
                 self.position_at(place),
             )),

@@ -22,7 +22,8 @@ impl<'p, 'h, Out: Renderer, H: Helper + Drop, Hi: History> State<'p, 'h, Out, H,
     pub fn edit_move_backward(&mut self, n: RepeatCount) -> Result<(), ReadlineError>
         ensures does { Does (move_backward n) self.old self.new result }
     {
-        if self.line.move_backward(n) {
+        let recorded = &mut self.recorded;
+        if recorded.line.move_backward(n) {
             self.move_cursor(CmdKind::MoveCursor)
         } else {
             Ok(())
@@ -33,7 +34,8 @@ impl<'p, 'h, Out: Renderer, H: Helper + Drop, Hi: History> State<'p, 'h, Out, H,
     pub fn edit_move_forward(&mut self, n: RepeatCount) -> Result<(), ReadlineError>
         ensures does { Does (move_forward n) self.old self.new result }
     {
-        if self.line.move_forward(n) {
+        let recorded = &mut self.recorded;
+        if recorded.line.move_forward(n) {
             self.move_cursor(CmdKind::MoveCursor)
         } else {
             Ok(())
@@ -44,7 +46,8 @@ impl<'p, 'h, Out: Renderer, H: Helper + Drop, Hi: History> State<'p, 'h, Out, H,
     pub fn edit_move_home(&mut self) -> Result<(), ReadlineError>
         ensures does { Does move_home self.old self.new result }
     {
-        if self.line.move_home() {
+        let recorded = &mut self.recorded;
+        if recorded.line.move_home() {
             self.move_cursor(CmdKind::MoveCursor)
         } else {
             Ok(())
@@ -55,7 +58,8 @@ impl<'p, 'h, Out: Renderer, H: Helper + Drop, Hi: History> State<'p, 'h, Out, H,
     pub fn edit_move_end(&mut self) -> Result<(), ReadlineError>
         ensures does { Does move_end self.old self.new result }
     {
-        if self.line.move_end() {
+        let recorded = &mut self.recorded;
+        if recorded.line.move_end() {
             self.move_cursor(CmdKind::MoveCursor)
         } else {
             Ok(())
@@ -66,7 +70,8 @@ impl<'p, 'h, Out: Renderer, H: Helper + Drop, Hi: History> State<'p, 'h, Out, H,
     pub fn edit_move_buffer_start(&mut self) -> Result<(), ReadlineError>
         ensures does { Does move_buffer_start self.old self.new result }
     {
-        if self.line.move_buffer_start() {
+        let recorded = &mut self.recorded;
+        if recorded.line.move_buffer_start() {
             self.move_cursor(CmdKind::MoveCursor)
         } else {
             Ok(())
@@ -77,7 +82,8 @@ impl<'p, 'h, Out: Renderer, H: Helper + Drop, Hi: History> State<'p, 'h, Out, H,
     pub fn edit_move_buffer_end(&mut self, kind: CmdKind) -> Result<(), ReadlineError>
         ensures { Renders (move_buffer_end kind) self.old self.new result }
     {
-        if self.line.move_buffer_end() {
+        let recorded = &mut self.recorded;
+        if recorded.line.move_buffer_end() {
             self.move_cursor(kind)
         } else {
             Ok(())
@@ -92,7 +98,8 @@ impl<'p, 'h, Out: Renderer, H: Helper + Drop, Hi: History> State<'p, 'h, Out, H,
     ) -> Result<(), ReadlineError>
         ensures does { Does (move_to_prev_word word n) self.old self.new result }
     {
-        if self.line.move_to_prev_word(word, n) {
+        let recorded = &mut self.recorded;
+        if recorded.line.move_to_prev_word(word, n) {
             self.move_cursor(CmdKind::MoveCursor)
         } else {
             Ok(())
@@ -108,7 +115,8 @@ impl<'p, 'h, Out: Renderer, H: Helper + Drop, Hi: History> State<'p, 'h, Out, H,
     ) -> Result<(), ReadlineError>
         ensures { Renders (move_to_next_word at word n) self.old self.new result }
     {
-        if self.line.move_to_next_word(at, word, n) {
+        let recorded = &mut self.recorded;
+        if recorded.line.move_to_next_word(at, word, n) {
             self.move_cursor(CmdKind::MoveCursor)
         } else {
             Ok(())
@@ -119,7 +127,8 @@ impl<'p, 'h, Out: Renderer, H: Helper + Drop, Hi: History> State<'p, 'h, Out, H,
     pub fn edit_move_to(&mut self, search: CharSearch, n: RepeatCount) -> Result<(), ReadlineError>
         ensures does { Does (move_to search n) self.old self.new result }
     {
-        if self.line.move_to(search, n) {
+        let recorded = &mut self.recorded;
+        if recorded.line.move_to(search, n) {
             self.move_cursor(CmdKind::MoveCursor)
         } else {
             Ok(())
@@ -142,10 +151,12 @@ impl<'p, 'h, Out: Renderer, H: Helper + Drop, Hi: History> State<'p, 'h, Out, H,
         ensures does { Does (move_line_up n) self.old self.new result }
         ensures answer { IfOk result
             (λ b. b ≡ is_some
-            (line_up (setting_of self.old).mode (setting_of self.old).column n self.old.line)) }
+            (line_up (setting_of self.old).mode (setting_of self.old).column n
+            self.old.recorded.line)) }
     {
         let layout = self.prompt_layout();
-        if !self.line.move_to_line_up(n, &layout) {
+        let recorded = &mut self.recorded;
+        if !recorded.line.move_to_line_up(n, &layout) {
             return Ok(false);
         }
         self.move_cursor(CmdKind::MoveCursor)?;
@@ -157,10 +168,12 @@ impl<'p, 'h, Out: Renderer, H: Helper + Drop, Hi: History> State<'p, 'h, Out, H,
         ensures does { Does (move_line_down n) self.old self.new result }
         ensures answer { IfOk result
             (λ b. b ≡ is_some
-            (line_down (setting_of self.old).mode (setting_of self.old).column n self.old.line)) }
+            (line_down (setting_of self.old).mode (setting_of self.old).column n
+            self.old.recorded.line)) }
     {
         let layout = self.prompt_layout();
-        if !self.line.move_to_line_down(n, &layout) {
+        let recorded = &mut self.recorded;
+        if !recorded.line.move_to_line_down(n, &layout) {
             return Ok(false);
         }
         self.move_cursor(CmdKind::MoveCursor)?;
@@ -180,7 +193,7 @@ impl<'p, 'h, Out: Renderer, H: Helper + Drop, Hi: History> State<'p, 'h, Out, H,
     fn edit_move_to_first_print(&mut self) -> Result<(), ReadlineError>
         ensures does { Does move_to_first_print self.old self.new result }
     {
-        if begins_with_space(self.line.as_str()) {
+        if begins_with_space(self.recorded.line.as_str()) {
             self.edit_move_home_and_on()
         } else {
             self.edit_move_home()

@@ -26,7 +26,7 @@ impl<'p, 'h, Out: Renderer, H: Helper + Drop, Hi: History> State<'p, 'h, Out, H,
             Takes turns_script custom config.now.indent_size
             self.old (input_of input_state.old) kill_ring.old (R.feed rdr.old)
             self.new (input_of input_state.new) kill_ring.new (R.feed rdr.new)
-            (text_or result self.new.line.text) }
+            (text_or result self.new.recorded.line.text) }
     {
         'turns: loop {
             match self.turn(input_state, rdr, kill_ring, config)? {
@@ -48,7 +48,7 @@ impl<'p, 'h, Out: Renderer, H: Helper + Drop, Hi: History> State<'p, 'h, Out, H,
             Takes line_script custom config.now.indent_size
             self.old (input_of input_state.old) kill_ring.old (R.feed rdr.old)
             self.new (input_of input_state.new) kill_ring.new (R.feed rdr.new)
-            (text_or result self.new.line.text) }
+            (text_or result self.new.recorded.line.text) }
     {
         self.refresh()?;
         self.turns(input_state, rdr, kill_ring, config)

@@ -16,7 +16,8 @@ impl<'p, 'h, Out: Renderer, H: Helper + Drop, Hi: History> State<'p, 'h, Out, H,
     pub(crate) fn open_group(&mut self) -> Result<(), ReadlineError>
         ensures does { Does open_group self.old self.new result }
     {
-        self.changes.begin(self.alloc)?;
+        let recorded = &mut self.recorded;
+        recorded.changes.begin(self.alloc)?;
         Ok(())
     }
 
@@ -24,16 +25,17 @@ impl<'p, 'h, Out: Renderer, H: Helper + Drop, Hi: History> State<'p, 'h, Out, H,
     pub(crate) fn close_groups(&mut self) -> Result<(), ReadlineError>
         ensures does { Does close_groups self.old self.new result }
     {
-        self.changes.end(self.alloc)?;
+        let recorded = &mut self.recorded;
+        recorded.changes.end(self.alloc)?;
         Ok(())
     }
 }
 
 impl<'p, 'h, Out: Renderer, H: Helper + Drop, Hi: History> Invoke for State<'p, 'h, Out, H, Hi> {
-    ghost typed = { λ s. s.line.text };
+    ghost typed = { λ s. s.recorded.line.text };
 
     fn input(&self) -> &str {
-        self.line.as_str()
+        self.recorded.line.as_str()
     }
 }
 
@@ -68,14 +70,14 @@ impl<'p, 'h, Out: Renderer, H: Helper + Drop, Hi: History> Refresher for State<'
     }
 
     fn last_insert(&self) -> Result<Option<Text>, ReadlineError> {
-        match self.changes.last_insert_text() {
+        match self.recorded.changes.last_insert_text() {
             Some(text) => Ok(Some(Text::try_from_str(self.alloc, text)?)),
             None => Ok(None),
         }
     }
 
     fn is_cursor_at_end(&self) -> bool {
-        self.line.is_cursor_at_end()
+        self.recorded.line.is_cursor_at_end()
     }
 
     fn has_hint(&self) -> bool {
@@ -90,10 +92,10 @@ impl<'p, 'h, Out: Renderer, H: Helper + Drop, Hi: History> Refresher for State<'
     }
 
     fn line(&self) -> &str {
-        self.line.as_str()
+        self.recorded.line.as_str()
     }
 
     fn pos(&self) -> usize {
-        self.line.pos()
+        self.recorded.line.pos()
     }
 }

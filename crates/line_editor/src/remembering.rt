@@ -5,7 +5,6 @@ use crate::renderer::Renderer;
 use crate::saved::SavedLine;
 use crate::state::State;
 use line_config::ReadlineError;
-use line_edits::{update, update_grouped};
 use line_help::{Helper, History, SearchDirection};
 
 #[tactic(auto, using(crate::proofs::StopsLemmas::recalls_stop))]
@@ -17,8 +16,8 @@ impl<'p, 'h, Out: Renderer, H: Helper + Drop, Hi: History> State<'p, 'h, Out, H,
     pub fn backup(&mut self) -> Result<(), ReadlineError>
         ensures does { Does saving self.old self.new result }
     {
-        let pos = self.line.pos();
-        self.saved = SavedLine::copy(self.alloc, self.line.as_str(), pos)?;
+        let pos = self.recorded.line.pos();
+        self.saved = SavedLine::copy(self.alloc, self.recorded.line.as_str(), pos)?;
         Ok(())
     }
 
@@ -27,14 +26,8 @@ impl<'p, 'h, Out: Renderer, H: Helper + Drop, Hi: History> State<'p, 'h, Out, H,
         ensures does { Does restoring self.old self.new result }
     {
         self.known = None;
-        update(
-            self.alloc,
-            &mut self.line,
-            &mut self.changes,
-            &mut self.plain,
-            self.saved.text.as_str(),
-            self.saved.pos,
-        )?;
+        self.recorded
+            .update(self.alloc, self.saved.text.as_str(), self.saved.pos)?;
         Ok(())
     }
 
@@ -67,14 +60,7 @@ impl<'p, 'h, Out: Renderer, H: Helper + Drop, Hi: History> State<'p, 'h, Out, H,
     {
         self.ctx.set_history_index(index);
         self.known = None;
-        update_grouped(
-            self.alloc,
-            &mut self.line,
-            &mut self.changes,
-            &mut self.plain,
-            entry,
-            pos,
-        )?;
+        self.recorded.update_grouped(self.alloc, entry, pos)?;
         self.refresh()
     }
 
@@ -166,8 +152,9 @@ impl<'p, 'h, Out: Renderer, H: Helper + Drop, Hi: History> State<'p, 'h, Out, H,
     {
         let history = self.ctx.history();
         self.ctx.set_history_index(place);
-        let pos = self.line.pos();
-        let Some(found) = history.starts_with(&self.line.as_str()[..pos], place, dir) else {
+        let pos = self.recorded.line.pos();
+        let Some(found) = history.starts_with(&self.recorded.line.as_str()[..pos], place, dir)
+        else {
             return self.beep();
         };
         self.show_entry(found.idx, entry_of(found.entry), found.pos)

@@ -4,7 +4,6 @@ use crate::renderer::Renderer;
 use crate::state::State;
 use line_buffer::{Movement, RepeatCount, WordAction};
 use line_config::ReadlineError;
-use line_edits::{edit_word, indent, transpose_chars, transpose_words, undo};
 use line_help::{Helper, History};
 
 #[tactic(auto, using(crate::proofs::StopsLemmas::undoes_stop))]
@@ -18,12 +17,7 @@ impl<'p, 'h, Out: Renderer, H: Helper + Drop, Hi: History> State<'p, 'h, Out, H,
         ensures does { Does transpose_chars_effect self.old self.new result }
     {
         self.known = None;
-        let done = transpose_chars(
-            self.alloc,
-            &mut self.line,
-            &mut self.changes,
-            &mut self.plain,
-        )?;
+        let done = self.recorded.transpose_chars(self.alloc)?;
         if done { self.refresh() } else { Ok(()) }
     }
 
@@ -31,16 +25,10 @@ impl<'p, 'h, Out: Renderer, H: Helper + Drop, Hi: History> State<'p, 'h, Out, H,
     pub fn edit_transpose_words(&mut self, n: RepeatCount) -> Result<(), ReadlineError>
         ensures does { Does (transpose_words_effect n) self.old self.new result }
     {
-        let before = self.line.pos();
+        let before = self.recorded.line.pos();
         self.known = None;
-        let done = transpose_words(
-            self.alloc,
-            &mut self.line,
-            &mut self.changes,
-            &mut self.plain,
-            n,
-        )?;
-        if done || self.line.pos() != before {
+        let done = self.recorded.transpose_words(self.alloc, n)?;
+        if done || self.recorded.line.pos() != before {
             self.refresh()
         } else {
             Ok(())
@@ -52,13 +40,7 @@ impl<'p, 'h, Out: Renderer, H: Helper + Drop, Hi: History> State<'p, 'h, Out, H,
         ensures does { Does (edit_word_effect action) self.old self.new result }
     {
         self.known = None;
-        let done = edit_word(
-            self.alloc,
-            &mut self.line,
-            &mut self.changes,
-            &mut self.plain,
-            action,
-        )?;
+        let done = self.recorded.edit_word(self.alloc, action)?;
         if done { self.refresh() } else { Ok(()) }
     }
 
@@ -72,15 +54,7 @@ impl<'p, 'h, Out: Renderer, H: Helper + Drop, Hi: History> State<'p, 'h, Out, H,
         ensures does { Does (indent_effect movement.now amount dedent) self.old self.new result }
     {
         self.known = None;
-        indent(
-            self.alloc,
-            &mut self.line,
-            &mut self.changes,
-            &mut self.plain,
-            movement,
-            amount,
-            dedent,
-        )?;
+        self.recorded.indent(self.alloc, movement, amount, dedent)?;
         self.refresh()
     }
 
@@ -89,13 +63,7 @@ impl<'p, 'h, Out: Renderer, H: Helper + Drop, Hi: History> State<'p, 'h, Out, H,
         ensures does { Does (undo n) self.old self.new result }
     {
         self.known = None;
-        let undone = undo(
-            self.alloc,
-            &mut self.line,
-            &mut self.changes,
-            &mut self.plain,
-            n,
-        )?;
+        let undone = self.recorded.undo(self.alloc, n)?;
         if undone { self.refresh() } else { Ok(()) }
     }
 }

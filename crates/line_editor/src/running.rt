@@ -8,9 +8,10 @@ use crate::renderer::Renderer;
 use crate::starting::empty_line;
 use crate::state::State;
 use line_config::{Config, ReadlineError};
+use line_edits::RecordedLine;
 use line_help::{Context, Helper, History};
 use line_keys::{Decides, EventMap, InputState, RawReader};
-use line_record::{Changeset, KillRing};
+use line_record::KillRing;
 use std::alloc::Global;
 
 /// What is left of a line: the renderer and the helper that were handed in, and the line's text or
@@ -40,14 +41,15 @@ impl<'p, 'h, Out: Renderer, H: Helper + Drop, Hi: History> State<'p, 'h, Out, H,
     fn ran(self, read: Result<(), ReadlineError>) -> Ran<Out, H>
         ensures out { result.out ≡ self.entry.out }
         ensures helper { result.helper ≡ self.entry.helper }
-        ensures outcome { outcome_of result ≡ text_or read self.entry.line.text }
+        ensures outcome { outcome_of result ≡ text_or read self.entry.recorded.line.text }
     {
         let State {
             out,
             helper,
-            line,
+            recorded,
             ..
         } = self;
+        let RecordedLine { line, .. } = recorded;
         let outcome = read.map(|()| line.into_string());
         Ran {
             out,
@@ -77,17 +79,14 @@ pub fn run<R: RawReader, Out: Renderer, H: Helper + Drop, Hi: History, D: Decide
         (Hi.entries history.now) config.now out kill_ring.old (R.feed reader.old)
         result kill_ring.new (R.feed reader.new) }
 {
-    let Ok(line) = empty_line(alloc) else {
-        return Ran::unread(out, helper);
-    };
-    let Ok(changes) = Changeset::new(alloc) else {
+    let Ok(recorded) = empty_line(alloc) else {
         return Ran::unread(out, helper);
     };
     let Ok(mut input_state) = InputState::new(alloc, config, bindings) else {
         return Ran::unread(out, helper);
     };
     let ctx = Context::new(history);
-    let mut state = State::of_parts(alloc, line, changes, out, prompt, helper, ctx);
+    let mut state = State::of_parts(alloc, recorded, out, prompt, helper, ctx);
     let read = state.read_line(&mut input_state, reader, kill_ring, config);
     state.ran(read)
 }

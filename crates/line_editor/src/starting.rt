@@ -9,17 +9,20 @@ use crate::saved::SavedLine;
 use crate::state::State;
 use line_buffer::{Layout, LineBuffer, MAX_LINE};
 use line_config::ReadlineError;
+use line_edits::RecordedLine;
 use line_help::{Context, Helper, History};
 use line_record::Changeset;
 use std::alloc::Global;
 
-/// An empty line that grows as it needs to.
-pub(crate) fn empty_line(alloc: Global) -> Result<LineBuffer, ReadlineError>
+/// An empty line that grows as it needs to, with nothing recorded.
+pub(crate) fn empty_line(alloc: Global) -> Result<RecordedLine, ReadlineError>
     ensures line { IfOk result
-        (λ l. l ≡ record { text = []; place = 0; growth = true; limit = 4096 }) }
+        (λ r. r.line ≡ record { text = []; place = 0; growth = true; limit = 4096 }) }
+    ensures changes { IfOk result (λ r. r.changes ≡ no_items) }
     ensures reason { IfErr result (λ e. e ≡ Memory) }
 {
-    Ok(LineBuffer::with_capacity(alloc, MAX_LINE)?.can_growth(true))
+    let line = LineBuffer::with_capacity(alloc, MAX_LINE)?.can_growth(true);
+    Ok(RecordedLine::new(line, Changeset::new(alloc)?))
 }
 
 impl<'p, 'h, Out: Renderer, H: Helper + Drop, Hi: History> State<'p, 'h, Out, H, Hi> {
@@ -38,38 +41,35 @@ impl<'p, 'h, Out: Renderer, H: Helper + Drop, Hi: History> State<'p, 'h, Out, H,
             (λ s. Starts out prompt.now helper ctx.entry.history.now ctx.entry.place s) }
         ensures reason { IfErr result (λ e. e ≡ Memory) }
     {
-        let line = empty_line(alloc)?;
-        let changes = Changeset::new(alloc)?;
-        Ok(State::of_parts(alloc, line, changes, out, prompt, helper, ctx))
+        let recorded = empty_line(alloc)?;
+        Ok(State::of_parts(alloc, recorded, out, prompt, helper, ctx))
     }
 
-    /// The same of an empty line and a record that stand already, so that no memory is taken.
+    /// The same of an empty line that stands already, so that no memory is taken.
     pub(crate) fn of_parts(
         alloc: Global,
-        line: LineBuffer,
-        changes: Changeset,
+        recorded: RecordedLine,
         out: Out,
         prompt: &'p str,
         helper: Option<H>,
         ctx: Context<'h, Hi>,
     ) -> Self
-        requires line { line ≡ record { text = []; place = 0; growth = true; limit = 4096 } }
-        requires changes { changes ≡ no_items }
+        requires line { recorded.line
+            ≡ record { text = []; place = 0; growth = true; limit = 4096 } }
+        requires changes { recorded.changes ≡ no_items }
         ensures { Starts out prompt.now helper ctx.entry.history.now ctx.entry.place result }
     {
         let layout = Layout::new(out.grapheme_cluster_mode());
         State {
             out,
-            line,
+            recorded,
             layout,
-            changes,
             helper,
             ctx,
             hint: None,
             highlight_char: false,
             prompt,
             saved: SavedLine::empty(alloc),
-            plain: true,
             known: None,
             alloc,
         }

@@ -6,7 +6,6 @@ use crate::renderer::Renderer;
 use crate::state::State;
 use line_buffer::{Anchor, LineBuffer, RepeatCount};
 use line_config::ReadlineError;
-use line_edits::{yank, yank_pop};
 use line_help::{Helper, History};
 use line_keys::{Decides, InputState};
 use line_record::KillRing;
@@ -53,17 +52,11 @@ impl<'p, 'h, Out: Renderer, H: Helper + Drop, Hi: History> State<'p, 'h, Out, H,
             text.now anchor n) self.old self.new result }
     {
         self.known = None;
-        let stepped = step_on(&mut self.line, anchor);
-        let put = yank(
-            self.alloc,
-            &mut self.line,
-            &mut self.changes,
-            &mut self.plain,
-            text,
-            n,
-        )?;
+        let recorded = &mut self.recorded;
+        let stepped = step_on(&mut recorded.line, anchor);
+        let put = recorded.yank(self.alloc, text, n)?;
         if put.is_some() {
-            step_back(&mut self.line, input_state.is_vi_cmd_mode());
+            step_back(&mut recorded.line, input_state.is_vi_cmd_mode());
             return self.refresh();
         }
         if stepped { self.refresh() } else { Ok(()) }
@@ -74,18 +67,11 @@ impl<'p, 'h, Out: Renderer, H: Helper + Drop, Hi: History> State<'p, 'h, Out, H,
     pub fn edit_yank_pop(&mut self, yank_size: usize, text: &str) -> Result<(), ReadlineError>
         ensures does { Does (pop_text yank_size text.now) self.old self.new result }
     {
-        if !self.line.can_take_before(yank_size) {
+        if !self.recorded.line.can_take_before(yank_size) {
             return Ok(());
         }
         self.known = None;
-        yank_pop(
-            self.alloc,
-            &mut self.line,
-            &mut self.changes,
-            &mut self.plain,
-            yank_size,
-            text,
-        )?;
+        self.recorded.yank_pop(self.alloc, yank_size, text)?;
         self.refresh()
     }
 

@@ -8,9 +8,9 @@ use Rattle.line_buffer.specs.Range.{delete}
 use Rattle.line_config.specs.Scripts.{Ends}
 use Rattle.line_record.specs.Items.{Items, ItemsStand}
 use Rattle.line_edits.specs.Edits.{typing, deleting, exchanging, replacing, replacing_if_any, stepping_back}
-use Rattle.line_buffer.specs.Printable.{is_plain}
 use Rattle.line_edits.specs.Steps.{StopsIn, Edits, made, answer_of, in_turn, answering, WriteSteps}
-use Rattle.line_edits.specs.Written.{Written, Writes, written}
+use Rattle.line_edits.specs.Written.{Written, Writes, written, written_in}
+use Rattle.line_edits.specs.declared.recorded_line.RecordedLine.{RecordedLine}
 use Rattle.line_edits.proofs.StepLemmas.{stops_before, stops_behind, written_is, made_answering, answered_is, edits_refused}
 
 -- the clusters stay where that is refused
@@ -32,25 +32,24 @@ exchange_stopped c n count k l m after old mid new is out stops =
 
 -- ---- where a cluster stands
 
-pub replaced_some : {E : Type 0} (c n : ℕ) (l : Line) {after : Line} {old new : Items} {plain : Bool} {result : Result Bool E} → is_some (place_forward n l) ≡ true
-    → Edits (answering true (replacing c n l)) l after old new plain result → Edits (replacing_if_any c n l) l after old new plain result
-replaced_some c n l {after} {old} {new} {plain} {result} some h =
-    subst (λ b. Edits (if b then answering true (replacing c n l) else Ends false) l after old new plain result) (sym some) h
+pub replaced_some : {E : Type 0} (c n : ℕ) (before : RecordedLine) {after : RecordedLine} {result : Result Bool E} → is_some (place_forward n before.line) ≡ true
+    → Edits (answering true (replacing c n before.line)) before after result → Edits (replacing_if_any c n before.line) before after result
+replaced_some c n before {after} {result} some h =
+    subst (λ b. Edits (if b then answering true (replacing c n before.line) else Ends false) before after result) (sym some) h
 
 -- and what is answered is that one does
-pub replaced_answered : {E : Type 0} (steps : WriteSteps ⊤) {before after : Line} {old new : Items} {plain : Bool} → Writes {E = E} (made steps) (answer_of steps) before after old new (Ok (tt {0}))
-    → plain ≡ is_plain after.text → Edits {E = E} (answering true steps) before after old new plain (Ok true)
-replaced_answered steps {before} {after} {old} {new} h plain = record {
+pub replaced_answered : {E : Type 0} (steps : WriteSteps ⊤) (before after : RecordedLine)
+    → Writes {E = E} (made steps) (answer_of steps) before.line after.line before.changes after.changes (Ok (tt {0})) → Edits {E = E} (answering true steps) before after (Ok true)
+replaced_answered steps before after h = record {
   writes = record {
     answers = sym (answered_is true steps);
-    line = h.line ∙ ap (λ w. w.line) (sym (made_answering true steps (written before old)));
-    held = h.held ∙ ap (λ w. w.held) (sym (made_answering true steps (written before old)));
+    line = h.line ∙ ap (λ w. w.line) (sym (made_answering true steps (written_in before)));
+    held = h.held ∙ ap (λ w. w.held) (sym (made_answering true steps (written_in before)));
     stand = h.stand;
   };
   left = tt;
-  plain_is = plain;
 }
 
-pub replaced_refused : {E : Type 0} (steps : WriteSteps ⊤) {before after : Line} {old new : Items} {plain : Bool} (e : E) (result : Result Bool E) → IsErrAnd result (λ x. x ≡ e)
-    → ItemsStand new after.text → plain ≡ is_plain after.text → StopsIn steps (written before old) (written after new) → Edits (answering true steps) before after old new plain result
-replaced_refused steps e result is stand plain stops = edits_refused e result is stand (stops_before steps (λ a. Ends true) stops) plain
+pub replaced_refused : {E : Type 0} (steps : WriteSteps ⊤) {before after : RecordedLine} (e : E) (result : Result Bool E) → IsErrAnd result (λ x. x ≡ e)
+    → ItemsStand after.changes after.line.text → StopsIn steps (written_in before) (written_in after) → Edits (answering true steps) before after result
+replaced_refused steps e result is stand stops = edits_refused e result is stand (stops_before steps (λ a. Ends true) stops)

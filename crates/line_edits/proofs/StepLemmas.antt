@@ -12,9 +12,9 @@ use Rattle.line_config.proofs.ScriptLaws.{then_goes, then_cut, ok_not_err}
 use Rattle.line_record.specs.Items.{Items, ItemsStand, RecordedIn, record_refuses, held_on, opened}
 use Rattle.line_record.specs.Course.{recorded_all}
 use Rattle.line_record.proofs.RunLemmas.{told_stand, told_held, stopped_stand, part_stopped, recorded_all-nil}
-use Rattle.line_buffer.specs.Printable.{is_plain}
 use Rattle.line_edits.specs.Steps.{Tells, Leaves, StopsWithin, StopsIn, Rewrites, Edits, written_world, made, answer_of, doing, answering, grouping, WriteSteps, step_made}
-use Rattle.line_edits.specs.Written.{Written, Writes, written}
+use Rattle.line_edits.specs.Written.{Written, Writes, written, written_in}
+use Rattle.line_edits.specs.declared.recorded_line.RecordedLine.{RecordedLine}
 
 -- ---- steps
 
@@ -60,10 +60,10 @@ pub rewrites_refused : {A E : Type 0} {steps : WriteSteps A} {before after : Lin
 rewrites_refused e (Ok a) is stand stops = absurd is
 rewrites_refused e (Err x) is stand stops = record { writes = record { answers = tt; line = tt; held = tt; stand = stand }; left = stops }
 
-pub edits_refused : {A E : Type 0} {steps : WriteSteps A} {before after : Line} {old new : Items} {plain : Bool} (e : E) (result : Result A E)
-    → IsErrAnd result (λ x. x ≡ e) → ItemsStand new after.text → StopsIn steps (written before old) (written after new) → plain ≡ is_plain after.text
-    → Edits steps before after old new plain result
-edits_refused {A} {E} {steps} {before} {after} {old} {new} e result is stand stops plain = let h = rewrites_refused e result is stand stops in record { writes = h.writes; left = left_unanswered result steps (written before old) (written after new) h.left; plain_is = plain }
+pub edits_refused : {A E : Type 0} {steps : WriteSteps A} {before after : RecordedLine} (e : E) (result : Result A E)
+    → IsErrAnd result (λ x. x ≡ e) → ItemsStand after.changes after.line.text → StopsIn steps (written_in before) (written_in after) → Edits steps before after result
+edits_refused {steps = steps} {before = before} {after = after} e result is stand stops =
+    let h = rewrites_refused e result is stand stops in record { writes = h.writes; left = left_unanswered result steps (written_in before) (written_in after) h.left }
 
 -- one that was answered is where its edit leads
 pub written_is : {A E : Type 0} {edit : Written → Written} {answer : A} {before after : Line} {old new : Items} {a : A} → Writes {A = A} {E = E} edit answer before after old new (Ok a)

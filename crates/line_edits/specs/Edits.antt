@@ -15,9 +15,9 @@ use Rattle.line_config.specs.Scripts.{Ends, Asks}
 use Rattle.line_record.specs.Held.{line_back, has_step}
 use Rattle.line_record.specs.Ring.{Ring, ring_all}
 use Rattle.line_edits.specs.Steps.{WriteSteps, Tells, Leaves, made, doing, telling, in_turn, answering, grouping, StopsIn}
-use Rattle.line_edits.specs.Written.{Written, Writes, group_opened}
-use Rattle.line_buffer.specs.Printable.{is_plain}
-use Rattle.line_record.specs.Items.{Items, no_items, lines_back, held_on, last_changes}
+use Rattle.line_edits.specs.Written.{Written, Writes, written_in, group_opened}
+use Rattle.line_edits.specs.declared.recorded_line.RecordedLine.{RecordedLine}
+use Rattle.line_record.specs.Items.{Items, no_items, lines_back, last_changes}
 
 -- what an edit of the line makes of line and record
 abbrev pub by : {A : Type 0} → (Line → WriteSteps A) → Written → Written
@@ -144,12 +144,11 @@ pub record UndoneInPart (n : ℕ) (before after : Line) (old new : Items) : Type
   pub forgotten : new ≡ no_items
 
 -- n items are taken back, 0 acting as 1, and the answer is whether a step was among them
-pub record Undoes {E : Type 0} (n : ℕ) (before after : Line) (old new : Items) (plain : Bool)
-    (result : Result Bool E) : Type 0 where
-  pub writes : Writes (undone n) (has_step (max n 1) (held_on old before.text))
-      before after old new result
-  pub left : OnErr result (UndoneInPart n before after old new)
-  pub plain_is : plain ≡ is_plain after.text
+pub record Undoes {E : Type 0} (n : ℕ) (before after : RecordedLine) (result : Result Bool E)
+    : Type 0 where
+  pub writes : Writes (undone n) (has_step (max n 1) (written_in before).held)
+      before.line after.line before.changes after.changes result
+  pub left : OnErr result (UndoneInPart n before.line after.line before.changes after.changes)
 
 -- ---- what a refused edit leaves
 

@@ -7,8 +7,8 @@ use Rattle.line_buffer.specs.Line.{Line}
 use Rattle.line_buffer.specs.Replay.{TellsOfChange, carried_all}
 use Rattle.line_config.specs.Scripts.{Script, Ends, Asks, World, Goes, then}
 use Rattle.line_record.specs.Items.{Items}
-use Rattle.line_buffer.specs.Printable.{is_plain}
-use Rattle.line_edits.specs.Written.{Written, Writes, written, edited, group_opened, group_closed}
+use Rattle.line_edits.specs.Written.{Written, Writes, written, written_in, edited, group_opened, group_closed}
+use Rattle.line_edits.specs.declared.recorded_line.RecordedLine.{RecordedLine}
 
 pub data WriteStep : Type 0 where
   -- line and record follow events together, one after another; the line is left so in the end
@@ -104,10 +104,10 @@ pub record Rewrites {A E : Type 0} (steps : WriteSteps A) (before after : Line) 
   pub writes : Writes (made steps) (answer_of steps) before after old new result
   pub left : OnErr result (StopsIn steps (written before old) (written after new))
 
--- the same, whatever the answer, and the mark of a plain text is true of the new one
-pub record Edits {A E : Type 0} (steps : WriteSteps A) (before after : Line) (old new : Items)
-    (plain : Bool) (result : Result A E) : Type 0 where
-  pub writes : Writes (made steps) (answer_of steps) before after old new result
+-- the same of a line with its record, whatever the answer
+pub record Edits {A E : Type 0} (steps : WriteSteps A) (before after : RecordedLine)
+    (result : Result A E) : Type 0 where
+  pub writes : Writes (made steps) (answer_of steps)
+      before.line after.line before.changes after.changes result
   pub left : OnErr result
-      (StopsIn (answering (tt {0}) steps) (written before old) (written after new))
-  pub plain_is : plain ≡ is_plain after.text
+      (StopsIn (answering (tt {0}) steps) (written_in before) (written_in after))

@@ -6,6 +6,7 @@ use Rattle.line_record.specs.Held.{Held, ended}
 use Rattle.line_record.specs.Held.Held.{Opened}
 use Rattle.line_record.specs.Items.{Items, ItemsStand, held_on}
 use Rattle.line_record.specs.Course.{recorded_all}
+use Rattle.line_edits.specs.declared.recorded_line.RecordedLine.{RecordedLine}
 
 pub record Written : Type 0 where
   pub line : Line
@@ -13,6 +14,9 @@ pub record Written : Type 0 where
 
 abbrev pub written : Line → Items → Written
 written line changes = record { line = line; held = held_on changes line.text }
+
+abbrev pub written_in : RecordedLine → Written
+written_in r = written r.line r.changes
 
 -- an edit by its events, and the line that it leaves
 abbrev pub edited : List Event → Line → Written → Written

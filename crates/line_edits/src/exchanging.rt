@@ -2,11 +2,11 @@
 ghost use Rattle.std.specs.Prelude.{◌≡◌, ◌≤◌, IsCharBoundary, OnErr};
 ghost use Rattle.line_record.specs.Items.{ItemsStand};
 ghost use Rattle.line_edits.specs.Edits.{deleting, clusters_after, exchanging, replacing, replacing_if_any, putting_over, overwriting};
-ghost use Rattle.line_buffer.specs.Printable.{is_plain};
 ghost use Rattle.line_edits.specs.Steps.{Edits, Rewrites};
 
 use crate::inserting::insert_told;
 use crate::plain::is_plain;
+use crate::recorded_line::RecordedLine;
 use line_buffer::{LineBuffer, OutOfMemory, RepeatCount, clusters_up_to, is_printable};
 use line_record::Changeset;
 use std::alloc::Global;
@@ -66,30 +66,6 @@ fn exchange_in_group(
     Ok(())
 }
 
-/// Exchanges up to `n` clusters after the cursor for a character each, in one group, the cursor on
-/// the last one. Answers whether any stands there; else nothing is done.
-pub fn replace_chars(
-    alloc: Global,
-    line: &mut LineBuffer,
-    changes: &mut Changeset,
-    plain: &mut bool,
-    ch: char,
-    n: RepeatCount,
-) -> Result<bool, OutOfMemory>
-    requires stand { ItemsStand changes.old line.old.text }
-    requires plain { plain.old ≡ is_plain line.old.text }
-    ensures { Edits (replacing_if_any ch n line.old)
-        line.old line.new changes.old changes.new plain.new result }
-{
-    if line.next_pos(n).is_none() {
-        return Ok(false);
-    }
-    let done = exchange_in_group(alloc, line, changes, ch, n);
-    *plain = is_plain(line.as_str());
-    done?;
-    Ok(true)
-}
-
 fn put_over(
     alloc: Global,
     line: &mut LineBuffer,
@@ -111,27 +87,39 @@ fn put_over(
     Ok(())
 }
 
-/// Writes a character over the cluster at the cursor. Answers whether one stands there; else
-/// nothing is done.
-pub fn overwrite(
-    alloc: Global,
-    line: &mut LineBuffer,
-    changes: &mut Changeset,
-    plain: &mut bool,
-    ch: char,
-) -> Result<bool, OutOfMemory>
-    requires stand { ItemsStand changes.old line.old.text }
-    requires plain { plain.old ≡ is_plain line.old.text }
-    ensures { Edits (overwriting ch line.old)
-        line.old line.new changes.old changes.new plain.new result }
-{
-    let Some(end) = line.next_pos(1) else {
-        return Ok(false);
-    };
-    put_over(alloc, line, changes, ch, end)?;
-    if *plain && is_printable(ch) {
-        return Ok(true);
+impl RecordedLine {
+    /// Exchanges up to `n` clusters after the cursor for a character each, in one group, the cursor
+    /// on the last one. Answers whether any stands there; else nothing is done.
+    pub fn replace_chars(
+        &mut self,
+        alloc: Global,
+        ch: char,
+        n: RepeatCount,
+    ) -> Result<bool, OutOfMemory>
+        ensures { Edits (replacing_if_any ch n self.old.line) self.old self.new result }
+    {
+        if self.line.next_pos(n).is_none() {
+            return Ok(false);
+        }
+        let done = exchange_in_group(alloc, &mut self.line, &mut self.changes, ch, n);
+        self.plain = is_plain(self.line.as_str());
+        done?;
+        Ok(true)
     }
-    *plain = is_plain(line.as_str());
-    Ok(true)
+
+    /// Writes a character over the cluster at the cursor. Answers whether one stands there; else
+    /// nothing is done.
+    pub fn overwrite(&mut self, alloc: Global, ch: char) -> Result<bool, OutOfMemory>
+        ensures { Edits (overwriting ch self.old.line) self.old self.new result }
+    {
+        let Some(end) = self.line.next_pos(1) else {
+            return Ok(false);
+        };
+        put_over(alloc, &mut self.line, &mut self.changes, ch, end)?;
+        if self.plain && is_printable(ch) {
+            return Ok(true);
+        }
+        self.plain = is_plain(self.line.as_str());
+        Ok(true)
+    }
 }

@@ -3,10 +3,10 @@ ghost use Rattle.std.specs.Prelude.{◌≡◌, ◌≤◌, ◌-◌, true, is_some
 ghost use Rattle.line_buffer.specs.Insertions.{insert as insertion, yank as yanked_in};
 ghost use Rattle.line_record.specs.Items.{ItemsStand};
 ghost use Rattle.line_edits.specs.Edits.{typing, yanking, putting_behind, popping, popping_in_group};
-ghost use Rattle.line_buffer.specs.Printable.{is_plain};
 ghost use Rattle.line_edits.specs.Steps.{Edits, Rewrites};
 
 use crate::plain::is_plain;
+use crate::recorded_line::RecordedLine;
 use line_buffer::{LineBuffer, OutOfMemory, RepeatCount, is_printable};
 use line_record::Changeset;
 use std::alloc::Global;
@@ -28,31 +28,6 @@ pub(crate) fn insert_told(
     Ok(line.insert(alloc, ch, n, changes)?)
 }
 
-/// Inserts a character so many times. `None`: there is no room for it; else whether that is at the
-/// text's end.
-#[tactic(auto, using(crate::proofs::PlainLemmas::typed_plain, crate::proofs::StepLemmas::left_unanswered))]
-pub fn insert_char(
-    alloc: Global,
-    line: &mut LineBuffer,
-    changes: &mut Changeset,
-    plain: &mut bool,
-    ch: char,
-    n: RepeatCount,
-) -> Result<Option<bool>, OutOfMemory>
-    requires stand { ItemsStand changes.old line.old.text }
-    requires plain { plain.old ≡ is_plain line.old.text }
-    ensures writes { Edits (typing ch n line.old)
-        line.old line.new changes.old changes.new plain.new result }
-    ensures refused { OnErr result (is_some (insertion ch n line.old).answer ≡ true) }
-{
-    let at_end = insert_told(alloc, line, changes, ch, n)?;
-    if n == 1 && *plain && is_printable(ch) {
-        return Ok(at_end);
-    }
-    *plain = is_plain(line.as_str());
-    Ok(at_end)
-}
-
 fn text_told(
     alloc: Global,
     line: &mut LineBuffer,
@@ -67,27 +42,6 @@ fn text_told(
     let _text = line.as_str();
     let at = line.pos();
     line.insert_str(alloc, at, text, changes)?;
-    Ok(())
-}
-
-/// Puts a text at the cursor, which stays before it.
-pub fn insert_text(
-    alloc: Global,
-    line: &mut LineBuffer,
-    changes: &mut Changeset,
-    plain: &mut bool,
-    text: &str,
-) -> Result<(), OutOfMemory>
-    requires stand { ItemsStand changes.old line.old.text }
-    requires plain { plain.old ≡ is_plain line.old.text }
-    ensures { Edits (putting_behind text.now line.old)
-        line.old line.new changes.old changes.new plain.new result }
-{
-    text_told(alloc, line, changes, text)?;
-    if *plain && is_plain(text) {
-        return Ok(());
-    }
-    *plain = is_plain(line.as_str());
     Ok(())
 }
 
@@ -106,29 +60,6 @@ fn yank_told(
 {
     let _text = line.as_str();
     Ok(line.yank(alloc, text, n, changes)?)
-}
-
-/// Puts a text that isn't empty in so many times. `None`: it is empty, or there is no room for it.
-pub fn yank(
-    alloc: Global,
-    line: &mut LineBuffer,
-    changes: &mut Changeset,
-    plain: &mut bool,
-    text: &str,
-    n: RepeatCount,
-) -> Result<Option<bool>, OutOfMemory>
-    requires stand { ItemsStand changes.old line.old.text }
-    requires plain { plain.old ≡ is_plain line.old.text }
-    ensures writes { Edits (yanking text.now n line.old)
-        line.old line.new changes.old changes.new plain.new result }
-    ensures refused { OnErr result (is_some (yanked_in text.now n line.old).answer ≡ true) }
-{
-    let put = yank_told(alloc, line, changes, text, n)?;
-    if *plain && is_plain(text) {
-        return Ok(put);
-    }
-    *plain = is_plain(line.as_str());
-    Ok(put)
 }
 
 fn pop_told(
@@ -168,23 +99,74 @@ fn pop_told_in_group(
     Ok(())
 }
 
-/// Puts a text in place of so many bytes before the cursor, in one group. They begin between two
-/// characters.
-pub fn yank_pop(
-    alloc: Global,
-    line: &mut LineBuffer,
-    changes: &mut Changeset,
-    plain: &mut bool,
-    yank_size: usize,
-    text: &str,
-) -> Result<(), OutOfMemory>
-    requires size { yank_size ≤ line.old.place }
-    requires start { IsCharBoundary line.old.text (line.old.place - yank_size) }
-    requires stand { ItemsStand changes.old line.old.text }
-    ensures { Edits (popping_in_group yank_size text.now line.old)
-        line.old line.new changes.old changes.new plain.new result }
-{
-    let done = pop_told_in_group(alloc, line, changes, yank_size, text);
-    *plain = is_plain(line.as_str());
-    done
+impl RecordedLine {
+    /// Inserts a character so many times. `None`: there is no room for it; else whether that is at
+    /// the text's end.
+    #[tactic(auto, using(crate::proofs::PlainLemmas::typed_plain, crate::proofs::StepLemmas::left_unanswered))]
+    pub fn insert_char(
+        &mut self,
+        alloc: Global,
+        ch: char,
+        n: RepeatCount,
+    ) -> Result<Option<bool>, OutOfMemory>
+        ensures writes { Edits (typing ch n self.old.line) self.old self.new result }
+        ensures refused { OnErr result (is_some (insertion ch n self.old.line).answer ≡ true) }
+    {
+        let at_end = insert_told(alloc, &mut self.line, &mut self.changes, ch, n)?;
+        if n == 1 && self.plain && is_printable(ch) {
+            return Ok(at_end);
+        }
+        self.plain = is_plain(self.line.as_str());
+        Ok(at_end)
+    }
+
+    /// Puts a text at the cursor, which stays before it.
+    pub fn insert_text(&mut self, alloc: Global, text: &str) -> Result<(), OutOfMemory>
+        ensures { Edits (putting_behind text.now self.old.line) self.old self.new result }
+    {
+        text_told(alloc, &mut self.line, &mut self.changes, text)?;
+        if self.plain && is_plain(text) {
+            return Ok(());
+        }
+        self.plain = is_plain(self.line.as_str());
+        Ok(())
+    }
+
+    /// Puts a text that isn't empty in so many times. `None`: it is empty, or there is no room for
+    /// it.
+    pub fn yank(
+        &mut self,
+        alloc: Global,
+        text: &str,
+        n: RepeatCount,
+    ) -> Result<Option<bool>, OutOfMemory>
+        ensures writes { Edits (yanking text.now n self.old.line) self.old self.new result }
+        ensures refused { OnErr result
+            (is_some (yanked_in text.now n self.old.line).answer ≡ true) }
+    {
+        let put = yank_told(alloc, &mut self.line, &mut self.changes, text, n)?;
+        if self.plain && is_plain(text) {
+            return Ok(put);
+        }
+        self.plain = is_plain(self.line.as_str());
+        Ok(put)
+    }
+
+    /// Puts a text in place of so many bytes before the cursor, in one group. They begin between
+    /// two characters.
+    pub fn yank_pop(
+        &mut self,
+        alloc: Global,
+        yank_size: usize,
+        text: &str,
+    ) -> Result<(), OutOfMemory>
+        requires size { yank_size ≤ self.old.line.place }
+        requires start { IsCharBoundary self.old.line.text (self.old.line.place - yank_size) }
+        ensures { Edits (popping_in_group yank_size text.now self.old.line)
+            self.old self.new result }
+    {
+        let done = pop_told_in_group(alloc, &mut self.line, &mut self.changes, yank_size, text);
+        self.plain = is_plain(self.line.as_str());
+        done
+    }
 }

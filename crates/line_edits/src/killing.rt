@@ -5,10 +5,10 @@ ghost use Rattle.line_record.specs.Items.{ItemsStand};
 ghost use Rattle.line_record.specs.Together.{SameNames};
 ghost use Rattle.line_record.specs.Ring.{ring_all};
 ghost use Rattle.line_edits.specs.Edits.{killing, TookOrNot};
-ghost use Rattle.line_buffer.specs.Printable.{is_plain};
 ghost use Rattle.line_edits.specs.Steps.{Edits, Rewrites};
 
 use crate::plain::is_plain;
+use crate::recorded_line::RecordedLine;
 use line_buffer::{LineBuffer, Movement, OutOfMemory};
 use line_record::{Changeset, Joined, KillRing};
 use std::alloc::Global;
@@ -36,32 +36,31 @@ fn kill_told(
     Ok(line.kill(alloc, movement, both)?)
 }
 
-/// Kills what a movement names: the ring is told first, the record last. Answers whether it names
-/// anything.
-pub fn kill(
-    alloc: Global,
-    line: &mut LineBuffer,
-    changes: &mut Changeset,
-    plain: &mut bool,
-    ring: &mut KillRing,
-    movement: &Movement,
-) -> Result<bool, OutOfMemory>
-    requires stand { ItemsStand changes.old line.old.text }
-    requires plain { plain.old ≡ is_plain line.old.text }
-    ensures writes { Edits (killing movement.now line.old)
-        line.old line.new changes.old changes.new plain.new result }
-    ensures ring { OnOk result (ring.new ≡ ring_all (kill_events movement.now line.old) ring.old) }
-    ensures refused { OnErr result (is_some (range_of movement.now line.old) ≡ true) }
-    ensures refused_ring { OnErr result (TookOrNot movement.now line.old ring.old ring.new) }
-    ensures shrinks { length line.new.text ≤ length line.old.text }
-{
-    let mut both = Joined {
-        first: ring,
-        second: changes,
-    };
-    let killed = kill_told(alloc, line, &mut both, movement);
-    if !*plain {
-        *plain = is_plain(line.as_str());
+impl RecordedLine {
+    /// Kills what a movement names: the ring is told first, the record last. Answers whether it
+    /// names anything.
+    pub fn kill(
+        &mut self,
+        alloc: Global,
+        ring: &mut KillRing,
+        movement: &Movement,
+    ) -> Result<bool, OutOfMemory>
+        ensures writes { Edits (killing movement.now self.old.line) self.old self.new result }
+        ensures ring { OnOk result
+            (ring.new ≡ ring_all (kill_events movement.now self.old.line) ring.old) }
+        ensures refused { OnErr result (is_some (range_of movement.now self.old.line) ≡ true) }
+        ensures refused_ring { OnErr result
+            (TookOrNot movement.now self.old.line ring.old ring.new) }
+        ensures shrinks { length self.new.line.text ≤ length self.old.line.text }
+    {
+        let mut both = Joined {
+            first: ring,
+            second: &mut self.changes,
+        };
+        let killed = kill_told(alloc, &mut self.line, &mut both, movement);
+        if !self.plain {
+            self.plain = is_plain(self.line.as_str());
+        }
+        killed
     }
-    killed
 }

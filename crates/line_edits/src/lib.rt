@@ -1,7 +1,5 @@
-//! Edits of a line that is followed by its record, a kill ring, and the mark of a plain text.
-//!
-//! Each call takes the record's changes to stand on the line's text, and leaves them so also where
-//! it is refused. It keeps the mark `plain` true of the text, so that a drawing needn't ask anew.
+//! Edits of a line that is followed by its record and a kill ring, as methods of the line with its
+//! record.
 #![tactic(auto)]
 
 pub mod exchanging;
@@ -9,12 +7,9 @@ pub mod inserting;
 pub mod killing;
 pub mod laws;
 pub mod plain;
+pub mod recorded_line;
 pub mod rewording;
 pub mod rewriting;
 
-pub use exchanging::{overwrite, replace_chars};
-pub use inserting::{insert_char, insert_text, yank, yank_pop};
-pub use killing::kill;
 pub use plain::is_plain;
-pub use rewording::{edit_word, indent, transpose_chars, transpose_words};
-pub use rewriting::{undo, update, update_grouped};
+pub use recorded_line::RecordedLine;

@@ -2,10 +2,10 @@
 ghost use Rattle.std.specs.Prelude.{◌≡◌};
 ghost use Rattle.line_record.specs.Items.{ItemsStand};
 ghost use Rattle.line_edits.specs.Edits.{transposing_chars, transposing_chars_in_group, transposing_words, transposing_words_in_group, editing_word, editing_word_in_group, indenting};
-ghost use Rattle.line_buffer.specs.Printable.{is_plain};
 ghost use Rattle.line_edits.specs.Steps.{Edits, Rewrites};
 
 use crate::plain::is_plain;
+use crate::recorded_line::RecordedLine;
 use line_buffer::{LineBuffer, Movement, OutOfMemory, RepeatCount, WordAction};
 use line_record::Changeset;
 use std::alloc::Global;
@@ -38,23 +38,6 @@ fn chars_in_group(
     Ok(done)
 }
 
-/// Exchanges the clusters around the cursor, in one group. Answers whether there are two.
-#[tactic(auto, using(crate::proofs::StepLemmas::left_unanswered))]
-pub fn transpose_chars(
-    alloc: Global,
-    line: &mut LineBuffer,
-    changes: &mut Changeset,
-    plain: &mut bool,
-) -> Result<bool, OutOfMemory>
-    requires { ItemsStand changes.old line.old.text }
-    ensures { Edits (transposing_chars_in_group line.old)
-        line.old line.new changes.old changes.new plain.new result }
-{
-    let done = chars_in_group(alloc, line, changes);
-    *plain = is_plain(line.as_str());
-    done
-}
-
 fn words_told(
     alloc: Global,
     line: &mut LineBuffer,
@@ -83,25 +66,6 @@ fn words_in_group(
     let done = words_told(alloc, line, changes, n)?;
     changes.end(alloc)?;
     Ok(done)
-}
-
-/// Exchanges the word at the cursor or after it with the one `n` words before it, in one group.
-/// Answers whether there are two; else the cursor may have moved.
-#[tactic(auto, using(crate::proofs::StepLemmas::left_unanswered))]
-pub fn transpose_words(
-    alloc: Global,
-    line: &mut LineBuffer,
-    changes: &mut Changeset,
-    plain: &mut bool,
-    n: RepeatCount,
-) -> Result<bool, OutOfMemory>
-    requires { ItemsStand changes.old line.old.text }
-    ensures { Edits (transposing_words_in_group n line.old)
-        line.old line.new changes.old changes.new plain.new result }
-{
-    let done = words_in_group(alloc, line, changes, n);
-    *plain = is_plain(line.as_str());
-    done
 }
 
 fn word_told(
@@ -134,25 +98,6 @@ fn word_in_group(
     Ok(done)
 }
 
-/// Sets the letters of the word at the cursor or after it in another case, in one group. Answers
-/// whether there is one.
-#[tactic(auto, using(crate::proofs::StepLemmas::left_unanswered))]
-pub fn edit_word(
-    alloc: Global,
-    line: &mut LineBuffer,
-    changes: &mut Changeset,
-    plain: &mut bool,
-    action: WordAction,
-) -> Result<bool, OutOfMemory>
-    requires { ItemsStand changes.old line.old.text }
-    ensures { Edits (editing_word_in_group action line.old)
-        line.old line.new changes.old changes.new plain.new result }
-{
-    let done = word_in_group(alloc, line, changes, action);
-    *plain = is_plain(line.as_str());
-    done
-}
-
 fn rows_told(
     alloc: Global,
     line: &mut LineBuffer,
@@ -170,25 +115,56 @@ fn rows_told(
     Ok(())
 }
 
-/// Moves the rows that a movement covers in or out by up to `amount` columns.
-pub fn indent(
-    alloc: Global,
-    line: &mut LineBuffer,
-    changes: &mut Changeset,
-    plain: &mut bool,
-    movement: &Movement,
-    amount: u8,
-    dedent: bool,
-) -> Result<(), OutOfMemory>
-    requires stand { ItemsStand changes.old line.old.text }
-    requires plain { plain.old ≡ is_plain line.old.text }
-    ensures { Edits (indenting movement.now amount dedent line.old)
-        line.old line.new changes.old changes.new plain.new result }
-{
-    let done = rows_told(alloc, line, changes, movement, amount, dedent);
-    if *plain && done.is_ok() {
-        return done;
+impl RecordedLine {
+    /// Exchanges the clusters around the cursor, in one group. Answers whether there are two.
+    #[tactic(auto, using(crate::proofs::StepLemmas::left_unanswered))]
+    pub fn transpose_chars(&mut self, alloc: Global) -> Result<bool, OutOfMemory>
+        ensures { Edits (transposing_chars_in_group self.old.line) self.old self.new result }
+    {
+        let done = chars_in_group(alloc, &mut self.line, &mut self.changes);
+        self.plain = is_plain(self.line.as_str());
+        done
     }
-    *plain = is_plain(line.as_str());
-    done
+
+    /// Exchanges the word at the cursor or after it with the one `n` words before it, in one group.
+    /// Answers whether there are two; else the cursor may have moved.
+    #[tactic(auto, using(crate::proofs::StepLemmas::left_unanswered))]
+    pub fn transpose_words(&mut self, alloc: Global, n: RepeatCount) -> Result<bool, OutOfMemory>
+        ensures { Edits (transposing_words_in_group n self.old.line) self.old self.new result }
+    {
+        let done = words_in_group(alloc, &mut self.line, &mut self.changes, n);
+        self.plain = is_plain(self.line.as_str());
+        done
+    }
+
+    /// Sets the letters of the word at the cursor or after it in another case, in one group.
+    /// Answers whether there is one.
+    #[tactic(auto, using(crate::proofs::StepLemmas::left_unanswered))]
+    pub fn edit_word(&mut self, alloc: Global, action: WordAction) -> Result<bool, OutOfMemory>
+        ensures { Edits (editing_word_in_group action self.old.line) self.old self.new result }
+    {
+        let done = word_in_group(alloc, &mut self.line, &mut self.changes, action);
+        self.plain = is_plain(self.line.as_str());
+        done
+    }
+
+    /// Moves the rows that a movement covers in or out by up to `amount` columns.
+    pub fn indent(
+        &mut self,
+        alloc: Global,
+        movement: &Movement,
+        amount: u8,
+        dedent: bool,
+    ) -> Result<(), OutOfMemory>
+        ensures { Edits (indenting movement.now amount dedent self.old.line)
+            self.old self.new result }
+    {
+        let line = &mut self.line;
+        let done = rows_told(alloc, line, &mut self.changes, movement, amount, dedent);
+        if self.plain && done.is_ok() {
+            return done;
+        }
+        self.plain = is_plain(self.line.as_str());
+        done
+    }
 }

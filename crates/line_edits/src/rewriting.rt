@@ -5,6 +5,7 @@ ghost use Rattle.line_edits.specs.Edits.{updating, updating_in_group, Undoes};
 ghost use Rattle.line_edits.specs.Steps.{Edits, Rewrites};
 
 use crate::plain::is_plain;
+use crate::recorded_line::RecordedLine;
 use line_buffer::{LineBuffer, OutOfMemory, RepeatCount};
 use line_record::Changeset;
 use std::alloc::Global;
@@ -44,57 +45,39 @@ fn put_in_group(
     Ok(())
 }
 
-/// Exchanges the whole text, the cursor at a place of the new one.
-pub fn update(
-    alloc: Global,
-    line: &mut LineBuffer,
-    changes: &mut Changeset,
-    plain: &mut bool,
-    text: &str,
-    pos: usize,
-) -> Result<(), OutOfMemory>
-    requires boundary { IsCharBoundary text.now pos }
-    requires stand { ItemsStand changes.old line.old.text }
-    ensures { Edits (updating text.now pos line.old)
-        line.old line.new changes.old changes.new plain.new result }
-{
-    let done = put(alloc, line, changes, text, pos);
-    *plain = is_plain(line.as_str());
-    done
-}
+impl RecordedLine {
+    /// Exchanges the whole text, the cursor at a place of the new one.
+    pub fn update(&mut self, alloc: Global, text: &str, pos: usize) -> Result<(), OutOfMemory>
+        requires boundary { IsCharBoundary text.now pos }
+        ensures { Edits (updating text.now pos self.old.line) self.old self.new result }
+    {
+        let done = put(alloc, &mut self.line, &mut self.changes, text, pos);
+        self.plain = is_plain(self.line.as_str());
+        done
+    }
 
-/// The same in one group.
-pub fn update_grouped(
-    alloc: Global,
-    line: &mut LineBuffer,
-    changes: &mut Changeset,
-    plain: &mut bool,
-    text: &str,
-    pos: usize,
-) -> Result<(), OutOfMemory>
-    requires boundary { IsCharBoundary text.now pos }
-    requires stand { ItemsStand changes.old line.old.text }
-    ensures { Edits (updating_in_group text.now pos line.old)
-        line.old line.new changes.old changes.new plain.new result }
-{
-    let done = put_in_group(alloc, line, changes, text, pos);
-    *plain = is_plain(line.as_str());
-    done
-}
+    /// The same in one group.
+    pub fn update_grouped(
+        &mut self,
+        alloc: Global,
+        text: &str,
+        pos: usize,
+    ) -> Result<(), OutOfMemory>
+        requires boundary { IsCharBoundary text.now pos }
+        ensures { Edits (updating_in_group text.now pos self.old.line) self.old self.new result }
+    {
+        let done = put_in_group(alloc, &mut self.line, &mut self.changes, text, pos);
+        self.plain = is_plain(self.line.as_str());
+        done
+    }
 
-/// Takes back the last `n` items that were recorded, 0 acting as 1. Answers whether a change was
-/// among them.
-pub fn undo(
-    alloc: Global,
-    line: &mut LineBuffer,
-    changes: &mut Changeset,
-    plain: &mut bool,
-    n: RepeatCount,
-) -> Result<bool, OutOfMemory>
-    requires { ItemsStand changes.old line.old.text }
-    ensures { Undoes n line.old line.new changes.old changes.new plain.new result }
-{
-    let undone = changes.undo(alloc, line, n);
-    *plain = is_plain(line.as_str());
-    undone
+    /// Takes back the last `n` items that were recorded, 0 acting as 1. Answers whether a change
+    /// was among them.
+    pub fn undo(&mut self, alloc: Global, n: RepeatCount) -> Result<bool, OutOfMemory>
+        ensures { Undoes n self.old self.new result }
+    {
+        let undone = self.changes.undo(alloc, &mut self.line, n);
+        self.plain = is_plain(self.line.as_str());
+        undone
+    }
 }
