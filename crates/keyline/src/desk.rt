@@ -129,7 +129,7 @@ pub(crate) struct Desk<S: Source, H, D: Sink, L: Sink> {
 }
 
 /// A desk after a line, and the line's text or why there is none.
-pub(crate) struct Lined<S: Source, H, D: Sink, L: Sink> {
+pub(crate) struct DeskAfter<S: Source, H, D: Sink, L: Sink> {
     pub(crate) desk: Desk<S, H, D, L>,
     pub(crate) outcome: Result<String, ReadlineError>,
 }
@@ -147,7 +147,7 @@ impl<S: Source + Drop, H: Helper + Drop, D: Sink + Drop, L: Sink + Drop> Desk<S,
         config: &Config,
         bindings: &EventMap<B>,
         prompt: &str,
-    ) -> Lined<S, H, D, L>
+    ) -> DeskAfter<S, H, D, L>
         ensures { let custom = custom_of bindings.now B.decides in
             let helps = helping_by H.hint_of H.verdict_of H.completion_of H.update_of H.marks in
             let given = given_of config.now custom prompt.now in
@@ -189,6 +189,6 @@ impl<S: Source + Drop, H: Helper + Drop, D: Sink + Drop, L: Sink + Drop> Desk<S,
             ring,
             lines,
         };
-        Lined { desk, outcome }
+        DeskAfter { desk, outcome }
     }
 }

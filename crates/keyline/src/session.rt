@@ -16,7 +16,7 @@ ghost use Rattle.keyline.specs.Plays.{BeginsSession, LoadRefused, Loaded, Opens,
 ghost use Rattle.keyline.specs.Sessions.{given_of};
 
 use crate::boxed::Devices;
-use crate::desk::{Desk, Lined};
+use crate::desk::{Desk, DeskAfter};
 use crate::ending::Ending;
 use line_config::{Config, ReadlineError, Sink, Source};
 use line_help::{FileHistory, Helper, History};
@@ -304,7 +304,7 @@ where
             desk,
             text,
         } = self;
-        let Lined { desk, outcome } = desk.one_line(alloc, &config, &bindings, prompt);
+        let DeskAfter { desk, outcome } = desk.one_line(alloc, &config, &bindings, prompt);
         LineRead {
             session: Session {
                 alloc,
