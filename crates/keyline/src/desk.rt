@@ -119,12 +119,15 @@ fn close<D: Sink + Drop, L: Sink>(
 
 /// What goes on from line to line, with the devices, which are behind pointers.
 #[derive(Drop)]
-pub(crate) struct Desk<S: Source, H, D: Sink, L: Sink> {
+pub struct Desk<S: Source, H, D: Sink, L: Sink> {
+    /// Reads keys from the source, and keeps what was read ahead.
     pub(crate) reader: KeyReader<Boxed<S>>,
+    /// Draws on the display.
     pub(crate) out: ScreenRenderer<Boxed<D>>,
     pub(crate) helper: Option<H>,
     pub(crate) history: FileHistory,
     pub(crate) ring: KillRing,
+    /// The sink of accepted lines.
     pub(crate) lines: Boxed<L>,
 }
 
