@@ -73,8 +73,8 @@ ok_of_cut (Err d) e P is = tt
 abbrev answered : {X : Type 0} → X → Result X ReadlineError
 answered x = Ok x
 
-abbrev desk_of : {S H D L : Type 0} → KeyReader S → ScreenRenderer D → Option H → Filed → Ring → L → Desk S H D L
-desk_of reader out helper history ring lines =
+abbrev desk_with : {S H D L : Type 0} → KeyReader S → ScreenRenderer D → Option H → Filed → Ring → L → Desk S H D L
+desk_with reader out helper history ring lines =
     record { reader = reader; out = out; helper = helper; history = history; ring = ring; lines = lines }
 
 module _ {S H D L K T : Type 0} (k : Known S D L) (helps : Option H → Helping) (custom : Custom) (config : Config) (prompt : List ℕ)
@@ -115,7 +115,7 @@ module _ {S H D L K T : Type 0} (k : Known S D L) (helps : Option H → Helping)
         (work (sink_of ran.out) old.lines old.history) (work (sink_of out) lines history) result
 
     abbrev new : Desk S H D L
-    new = desk_of reader out ran.helper history ring lines
+    new = desk_with reader out ran.helper history ring lines
 
     abbrev given : Given
     given = given_of config custom prompt (screen_of old.out) (helps old.helper)
@@ -136,18 +136,18 @@ module _ {S H D L K T : Type 0} (k : Known S D L) (helps : Option H → Helping)
     abbrev next : (Result (List ℕ) ReadlineError × LineState) → SessionScript (Result (List ℕ) ReadlineError × SessionState)
     next line = then (close_script line.0) (λ outcome. Taken (outcome, state_after config.auto_add_history line.0 line.1.ring line.1.coming state))
 
-    abbrev Lined : ℕ → Type 0
-    Lined n = ComesTo k.shown k.written_in config.auto_add_history (one_line n given state) (work_of k old) (result, session_state_of k new) (work_of k new) result
+    abbrev LineComes : ℕ → Type 0
+    LineComes n = ComesTo k.shown k.written_in config.auto_add_history (one_line n given state) (work_of k old) (result, session_state_of k new) (work_of k new) result
 
-    lined : (n : ℕ) (runs : RunsAt) → Ends (outcome_of ran)
+    line_comes : (n : ℕ) (runs : RunsAt) → Ends (outcome_of ran)
         → Went k.shown k.written_in config.auto_add_history old.lines old.history k.waits k.show_failed (screen_of old.out) setting config.indent_size next (λ line. tt) (line_script n custom) first (last runs) (outcome_of ran)
-        → Lined n
-    lined n runs closes (inl goes) = by (closes.goes left)
+        → LineComes n
+    line_comes n runs closes (inl goes) = by (closes.goes left)
       where
         o : Result (List ℕ) ReadlineError
         o = outcome_of ran
 
-        by : ComesTo k.shown k.written_in config.auto_add_history (close_script o) at_end result (work_of k new) result → Lined n
+        by : ComesTo k.shown k.written_in config.auto_add_history (close_script o) at_end result (work_of k new) result → LineComes n
         by (inl h) =
             let after = state_after config.auto_add_history o ring left state in
             let leaves = close_leaves k.shown k.written_in config.auto_add_history o result at_end (work_of k new) h in
@@ -157,24 +157,24 @@ module _ {S H D L K T : Type 0} (k : Known S D L) (helps : Option H → Helping)
             (ap (λ (x : SessionState). answered (result, x)) (sym state_is), refl)))
         by (inr (why, h, is)) =
             inr (why, goes (Err why) (work_of k new) (then_cut world (close_script o) (λ outcome. Taken (outcome, state_after config.auto_add_history o ring left state)) why at_end (work_of k new) h), is)
-    lined n runs closes (inr (e, goes, is, cause)) =
+    line_comes n runs closes (inr (e, goes, is, cause)) =
         let same = (subst Ends is closes).stays (unbroken true ⊤ e cause) in
         let StopsAt : Work D L → Type 0 = λ after. Goes world (one_line n given state) (work_of k old) (Err e) after in
         inr (e, subst StopsAt (ap (λ (f : Coming → Work D L). f left) (sym same.0)) goes, same.1)
 
-    line_goes : RunsAt → Ends (outcome_of ran) → IsTrue (items_of k.feed reader).told → (n : ℕ) → (desk_feed k old).bound < n → Lined n
-    line_goes runs closes t n b = lined n runs closes
+    line_goes : RunsAt → Ends (outcome_of ran) → IsTrue (items_of k.feed reader).told → (n : ℕ) → (desk_feed k old).bound < n → LineComes n
+    line_goes runs closes t n b = line_comes n runs closes
         (went k.shown k.written_in config.auto_add_history old.lines old.history k.waits k.show_failed (screen_of old.out) setting config.indent_size next (λ line. tt)
         (line_script n custom) first (last runs) (outcome_of ran) refl (runs.goes t n b))
 
-    lined_falls : RunsAt → ComesTo k.shown k.written_in config.auto_add_history (close_script (outcome_of ran)) at_end result (work_of k new) result
+    line_falls : RunsAt → ComesTo k.shown k.written_in config.auto_add_history (close_script (outcome_of ran)) at_end result (work_of k new) result
         → OnOk result ((desk_feed k new).bound < (desk_feed k old).bound)
-    lined_falls runs (inl h) =
+    line_falls runs (inl h) =
         ok_given ran.outcome string_bytes result _ runs.falls (close_leaves k.shown k.written_in config.auto_add_history (outcome_of ran) result at_end (work_of k new) h).0
-    lined_falls runs (inr (why, h, is)) = ok_of_cut result why _ is
+    line_falls runs (inr (why, h, is)) = ok_of_cut result why _ is
 
-    lined_given : RunsAt → screen_of out ≡ screen_of ran.out → IsTrue (desk_feed k new).told → given' ≡ given
-    lined_given runs screen t =
+    line_given : RunsAt → screen_of out ≡ screen_of ran.out → IsTrue (desk_feed k new).told → given' ≡ given
+    line_given runs screen t =
         ap (λ s. given_of config custom prompt s (helps ran.helper)) (screen ∙ screen_stays runs t)
         ∙ ap (λ h. given_of config custom prompt (screen_of old.out) h) (runs.helper_stays t)
 
@@ -196,10 +196,10 @@ module _ {S H D L K T : Type 0} (k : Known S D L) (helps : Option H → Helping)
         → TakesLine k given given' old new result
     takes_line runs closes screen passes = record {
       goes = λ t n b. line_goes runs closes t n b;
-      given = lined_given runs screen;
+      given = line_given runs screen;
       custom = refl;
       told = runs.told;
-      falls = lined_falls runs (closes.goes left);
+      falls = line_falls runs (closes.goes left);
       passes = λ t none. passes (line_passes runs t none);
       reason = if_err result (closes.reason left);
     }

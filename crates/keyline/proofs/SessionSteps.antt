@@ -35,8 +35,8 @@ module _ {S H D L : Type 0} (k : Known S D L) where
   pub onward_nowhere : (g : Given) (at : ℕ → LineGiven) (d : Desk S H D L) → Onward k g at at d d
   onward_nowhere g at d = record { told = λ t. t; passes = λ t none. none; onward = λ t n b. (n, b, λ end why r. r) }
 
-  abbrev LinedAt : Given → ℕ → Desk S H D L → Desk S H D L → Result (List ℕ) ReadlineError → Type 0
-  LinedAt g n now next result =
+  abbrev LineComes : Given → ℕ → Desk S H D L → Desk S H D L → Result (List ℕ) ReadlineError → Type 0
+  LineComes g n now next result =
       ComesTo k.shown k.written_in g.config.auto_add_history (one_line n g (session_state_of k now)) (work_of k now) (result, session_state_of k next) (work_of k next) result
 
   module _ (g : Given) (at : ℕ → LineGiven) (n : ℕ) (now next : Desk S H D L) where
@@ -50,7 +50,7 @@ module _ {S H D L : Type 0} (k : Known S D L) where
     on line = answered_by (λ text. session_script n g (λ line. at (suc line)) line.1) (λ e. Ends e) line.0
 
     -- a line that was accepted, and a session after it
-    line_on : (said : List ℕ) → LinedAt (for_line g (at 0)) (suc n) now next (Ok said)
+    line_on : (said : List ℕ) → LineComes (for_line g (at 0)) (suc n) now next (Ok said)
         → (end : Work D L) (why : ReadlineError) → Onwards k n g (λ line. at (suc line)) next end why → Onwards k (suc n) g at now end why
     unfolding session_script
     line_on said (inl w) end why (inl r) = inl (then_goes world first_line on (Ok said, session_state_of k next) (Ok why) (work_of k now) (work_of k next) end w r)
@@ -58,7 +58,7 @@ module _ {S H D L : Type 0} (k : Known S D L) where
     line_on said (inr (why, w, is)) end e r = ok_not_err said why is
 
     -- a line that wasn't
-    line_off : (e : ReadlineError) → LinedAt (for_line g (at 0)) (suc n) now next (Err e) → Onwards k (suc n) g at now (work_of k next) e
+    line_off : (e : ReadlineError) → LineComes (for_line g (at 0)) (suc n) now next (Err e) → Onwards k (suc n) g at now (work_of k next) e
     unfolding session_script
     line_off e (inl w) = inl (then_goes world first_line on (Err e, session_state_of k next) (Ok e) (work_of k now) (work_of k next) (work_of k next) w (refl, refl))
     line_off e (inr (why, w, is)) =
@@ -66,8 +66,8 @@ module _ {S H D L : Type 0} (k : Known S D L) where
 
   module _ (g : Given) (at at' : ℕ → LineGiven) (first now next : Desk S H D L) (h h' : Given) (result : Result (List ℕ) ReadlineError)
       (before : Onward k g at at' first now) (given : IsTrue (desk_feed k now).told → h ≡ for_line g (at' 0)) (line : TakesLine k h h' now next result) where
-    lined_at : (n : ℕ) → IsTrue (desk_feed k next).told → (desk_feed k now).bound < n → LinedAt (for_line g (at' 0)) n now next result
-    lined_at n t b = let P : Given → Type 0 = λ h. LinedAt h n now next result in subst P (given (line.told t)) (line.goes t n b)
+    line_comes : (n : ℕ) → IsTrue (desk_feed k next).told → (desk_feed k now).bound < n → LineComes (for_line g (at' 0)) n now next result
+    line_comes n t b = let P : Given → Type 0 = λ h. LineComes h n now next result in subst P (given (line.told t)) (line.goes t n b)
 
     pub onward_ok : (text : List ℕ) → result ≡ Ok text → Onward k g at (λ line. at' (suc line)) first next
     onward_ok text is = record {
@@ -83,11 +83,11 @@ module _ {S H D L : Type 0} (k : Known S D L) where
             × ((end : Work D L) (why : ReadlineError) → Onwards k m' g (λ line. at' (suc line)) next end why → Q end why)
         went t zero b so = absurd (search arith)
         went t (suc m) b so =
-            let P : Result (List ℕ) ReadlineError → Type 0 = λ result. LinedAt (for_line g (at' 0)) (suc m) now next result in
+            let P : Result (List ℕ) ReadlineError → Type 0 = λ result. LineComes (for_line g (at' 0)) (suc m) now next result in
             let F : Result (List ℕ) ReadlineError → Type 0 = λ result. OnOk result ((desk_feed k next).bound < (desk_feed k now).bound) in (
               m,
               lower (desk_feed k next).bound (desk_feed k now).bound m (subst F is line.falls) b,
-              λ end why r. so end why (line_on g at' m now next text (subst P is (lined_at (suc m) t b)) end why r),
+              λ end why r. so end why (line_on g at' m now next text (subst P is (line_comes (suc m) t b)) end why r),
             )
 
     pub onward_err : (e : ReadlineError) → result ≡ Err e → h.custom ≡ g.custom → TakesLines k g at first next e
@@ -101,8 +101,8 @@ module _ {S H D L : Type 0} (k : Known S D L) where
             → (Onwards k m g at' now (work_of k next) e → Q) → Q
         ends t zero b so = absurd (search arith)
         ends t (suc m) b so =
-            let P : Result (List ℕ) ReadlineError → Type 0 = λ result. LinedAt (for_line g (at' 0)) (suc m) now next result in
-            so (line_off g at' m now next e (subst P is (lined_at (suc m) t b)))
+            let P : Result (List ℕ) ReadlineError → Type 0 = λ result. LineComes (for_line g (at' 0)) (suc m) now next result in
+            so (line_off g at' m now next e (subst P is (line_comes (suc m) t b)))
 
         reason_kept : (e : ReadlineError) → DeskReason k h next e → DeskReason k g next e
         reason_kept Handler r = subst HandlerFails custom r

@@ -3,6 +3,7 @@ pub mod Editors
 pub mod Endings
 pub mod Known
 pub mod OneByte
+pub mod Opened
 pub mod Options
 pub mod Pasting
 pub mod Playing

@@ -1,9 +1,10 @@
 //! A session from what is wanted of it, and the program's defaults for the rest.
 
-ghost use Rattle.std.specs.Prelude.{◌≡◌, ◌≤◌, IfErr, IfOk, None, Some, [], codes, false, string_bytes};
+ghost use Rattle.std.specs.Prelude.{◌≡◌, ◌≤◌, IfErr, IfOk, None, Some, [], codes, false};
 ghost use Rattle.line_config.specs.Feed.{fresh_feed};
 ghost use Rattle.line_config.specs.declared.device.Last.TheVariants.{End};
 ghost use Rattle.keyline.specs.Program.{standard_config};
+ghost use Rattle.keyline.specs.Opened.{HasGiven, desk_of};
 ghost use Rattle.keyline.specs.Plays.{Opens, Unopens};
 
 use crate::session::{Session, Unopened};
@@ -278,11 +279,9 @@ where
         requires text { T.has_failed self.text ≡ false }
         ensures desk { let b = self.entry in
             IfOk result (λ s. Opens F.feed S.feed b.config b.history b.helper b.source b.columns
-            b.display b.lines s.desk) }
-        ensures config { IfOk result (λ s. s.config ≡ self.entry.config) }
-        ensures bindings { IfOk result (λ s. s.bindings ≡ self.entry.bindings) }
-        ensures prompt { IfOk result (λ s. string_bytes s.prompt ≡ self.entry.prompt.now) }
-        ensures text { IfOk result (λ s. s.text ≡ self.entry.text) }
+            b.display b.lines (desk_of s)) }
+        ensures given { let b = self.entry in
+            IfOk result (HasGiven b.config b.bindings b.prompt.now b.text) }
         ensures refused { let b = self.entry in
             IfErr result (Unopens F.feed b.config b.history b.source b.display b.lines b.text) }
     {

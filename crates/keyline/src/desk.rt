@@ -119,17 +119,20 @@ fn close<D: Sink + Drop, L: Sink>(
 
 /// What goes on from line to line, with the devices, which are behind pointers.
 #[derive(Drop)]
-pub(crate) struct Desk<S: Source, H, D: Sink, L: Sink> {
+pub struct Desk<S: Source, H, D: Sink, L: Sink> {
+    /// Reads keys from the source, and keeps what was read ahead.
     pub(crate) reader: KeyReader<Boxed<S>>,
+    /// Draws on the display.
     pub(crate) out: ScreenRenderer<Boxed<D>>,
     pub(crate) helper: Option<H>,
     pub(crate) history: FileHistory,
     pub(crate) ring: KillRing,
+    /// The sink of accepted lines.
     pub(crate) lines: Boxed<L>,
 }
 
 /// A desk after a line, and the line's text or why there is none.
-pub(crate) struct Lined<S: Source, H, D: Sink, L: Sink> {
+pub(crate) struct DeskAfter<S: Source, H, D: Sink, L: Sink> {
     pub(crate) desk: Desk<S, H, D, L>,
     pub(crate) outcome: Result<String, ReadlineError>,
 }
@@ -147,7 +150,7 @@ impl<S: Source + Drop, H: Helper + Drop, D: Sink + Drop, L: Sink + Drop> Desk<S,
         config: &Config,
         bindings: &EventMap<B>,
         prompt: &str,
-    ) -> Lined<S, H, D, L>
+    ) -> DeskAfter<S, H, D, L>
         ensures { let custom = custom_of bindings.now B.decides in
             let helps = helping_by H.hint_of H.verdict_of H.completion_of H.update_of H.marks in
             let given = given_of config.now custom prompt.now in
@@ -189,6 +192,6 @@ impl<S: Source + Drop, H: Helper + Drop, D: Sink + Drop, L: Sink + Drop> Desk<S,
             ring,
             lines,
         };
-        Lined { desk, outcome }
+        DeskAfter { desk, outcome }
     }
 }

@@ -4,14 +4,11 @@ ghost use Rattle.std.specs.Prelude.{◌≡◌, IfErr, IfOk, IfSome, IsSome, None
 ghost use Rattle.std.specs.Option.{option_map_or};
 ghost use Rattle.line_config.specs.declared.errors.ReadlineError.TheVariants.{Eof, Memory};
 ghost use Rattle.line_help.specs.History.{ignored};
-ghost use Rattle.line_keys.specs.Answers.{custom_of};
 ghost use Rattle.line_keys.specs.Coming.{made_of};
 ghost use Rattle.line_editor.specs.Running.{helping_by};
-ghost use Rattle.line_screen.specs.Calls.{screen_of};
 ghost use Rattle.keyline.specs.Endings.{ended_by};
 ghost use Rattle.keyline.specs.Known.{known_by};
 ghost use Rattle.keyline.specs.Plays.{Finishes};
-ghost use Rattle.keyline.specs.Sessions.{given_of};
 
 use crate::session::{Ended, LineRead, Session};
 use line_config::{ReadlineError, Sink, Source};
@@ -51,12 +48,13 @@ where
     L: Drop,
     T: Drop,
 {
-    ghost use Rattle.keyline.specs.Editors.{EditorReads, with_entry, with_helper};
+    ghost use Rattle.keyline.specs.Editors.{EditorReads, ending_in, session_of};
+    ghost use Rattle.keyline.specs.Opened.{desk_of, given_in, history_of, text_sink, with_entry, with_helper};
 
     /// The lines of this session.
     pub fn new(session: Session<S, H, D, L, T, B>) -> Self
-        ensures session { result.session.value ≡ Some session }
-        ensures ended { result.ended ≡ None }
+        ensures session { session_of result ≡ Some session }
+        ensures ended { ending_in result ≡ None }
     {
         LineEditor {
             session: Held {
@@ -73,9 +71,8 @@ where
         ensures { let helps =
             helping_by H.hint_of H.verdict_of H.completion_of H.update_of H.marks in
             let known = known_by S.feed D.held D.waits D.has_failed L.held L.has_failed in
-            EditorReads known self.old self.new (λ s. given_of s.config
-            (custom_of s.bindings B.decides) prompt.now (screen_of s.desk.out)
-            (helps s.desk.helper)) (made_of string_bytes result) }
+            EditorReads known (given_in B.decides helps prompt.now) self.old self.new
+            (made_of string_bytes result) }
     {
         if let Some(why) = self.ended {
             return Err(why);
@@ -93,12 +90,12 @@ where
     /// Adds a line to the history, whatever the settings say of accepted lines, and answers whether
     /// it did, as `Session::add_history_entry` does.
     pub fn add_history_entry(&mut self, line: &str) -> Result<bool, ReadlineError>
-        ensures answer { IfSome self.old.session.value (λ s. let kept = s.desk.history.kept in
+        ensures answer { IfSome (session_of self.old) (λ s. let kept = (history_of s).kept in
             IfOk result (λ b. b ≡ not (ignored kept.settings kept.entries line.now))) }
-        ensures added { OnOk result (self.new.session.value
-            ≡ option_map (with_entry line.now) self.old.session.value) }
-        ensures kept { OnErr result (self.new.session.value ≡ self.old.session.value) }
-        ensures ended { self.new.ended ≡ self.old.ended }
+        ensures added { OnOk result (session_of self.new
+            ≡ option_map (with_entry line.now) (session_of self.old)) }
+        ensures kept { OnErr result (session_of self.new ≡ session_of self.old) }
+        ensures ended { ending_in self.new ≡ ending_in self.old }
         ensures fault { IfErr result (λ e. e ≡ Memory) }
     {
         match &mut self.session.value {
@@ -109,7 +106,7 @@ where
 
     /// The history so far.
     pub fn history(&self) -> &FileHistory
-        ensures { IfSome self.now.session.value (λ s. result.now ≡ s.desk.history) }
+        ensures { IfSome (session_of self.now) (λ s. result.now ≡ history_of s) }
     {
         match &self.session.value {
             Some(session) => session.history(),
@@ -119,9 +116,9 @@ where
 
     /// What helps from the next line on.
     pub fn set_helper(&mut self, helper: Option<H>)
-        ensures session { self.new.session.value
-            ≡ option_map (with_helper helper) self.old.session.value }
-        ensures ended { self.new.ended ≡ self.old.ended }
+        ensures session { session_of self.new
+            ≡ option_map (with_helper helper) (session_of self.old) }
+        ensures ended { ending_in self.new ≡ ending_in self.old }
     {
         match &mut self.session.value {
             Some(session) => session.desk.helper = helper,
@@ -132,9 +129,9 @@ where
     /// Ends the session, for the reason that ended the editor, or as the end of input does: saves
     /// the history, where an entry is new, and hands back the devices.
     pub fn finish(self) -> Ended<S, D, L, T>
-        ensures { let why = option_map_or (λ e. e) self.ended Eof in
-            IfSome self.session.value (λ s. Finishes T.held T.has_failed s.desk s.text why
-            result) }
+        ensures { let why = option_map_or (λ e. e) (ending_in self) Eof in
+            IfSome (session_of self) (λ s.
+            Finishes T.held T.has_failed (desk_of s) (text_sink s) why result) }
     {
         let LineEditor { session, ended } = self;
         let why = ended.unwrap_or(ReadlineError::Eof);

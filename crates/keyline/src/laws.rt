@@ -1,11 +1,9 @@
 //! Laws of the definitions: each is the contract of a function that does nothing, or what a call
 //! comes to where more is known.
 
-ghost use Rattle.std.specs.Prelude.{IsTrue, string_bytes};
+ghost use Rattle.std.specs.Prelude.{IsTrue};
 ghost use Rattle.line_config.specs.Feed.{AlwaysTold};
-ghost use Rattle.line_keys.specs.Answers.{custom_of};
 ghost use Rattle.line_editor.specs.Running.{helping_by};
-ghost use Rattle.line_screen.specs.Calls.{screen_of};
 ghost use Rattle.keyline.specs.SessionLaws.{CutsAreFree, LinesBegin, SessionsBegin, ColumnsAreFree, LastAreKept};
 ghost use Rattle.keyline.specs.Desks.{TakesLines};
 ghost use Rattle.keyline.specs.Known.{known_by};
@@ -14,7 +12,7 @@ ghost use Rattle.keyline.specs.Pasting.{PastesAreAccepted, PastedLinesAreAccepte
 ghost use Rattle.keyline.specs.Playing.{SessionsCome};
 ghost use Rattle.keyline.specs.Plays.{PlaysSession};
 ghost use Rattle.keyline.specs.SessionScripts.{EventsTell, LinesTell};
-ghost use Rattle.keyline.specs.Sessions.{given_of};
+ghost use Rattle.keyline.specs.Opened.{desk_of, given_in, prompt_of, text_sink};
 ghost use Rattle.keyline.specs.Shows.{DrawingsShow, SessionsShow, CommandsShow, TurnsShow};
 
 use crate::prompter::Prompter;
@@ -36,12 +34,12 @@ pub fn always_told<
 >(session: Session<S, H, D, L, T, B>) -> Ended<S, D, L, T>
     requires { AlwaysTold S.feed }
     ensures told { IsTrue (S.feed result.source).told }
-    ensures plays { let custom = custom_of session.bindings B.decides in
-        let helps = helping_by H.hint_of H.verdict_of H.completion_of H.update_of H.marks in
-        let given = given_of session.config custom (string_bytes session.prompt)
-        (screen_of session.desk.out) (helps session.desk.helper) in
+    ensures plays { let helps =
+        helping_by H.hint_of H.verdict_of H.completion_of H.update_of H.marks in
         let known = known_by S.feed D.held D.waits D.has_failed L.held L.has_failed in
-        PlaysSession known T.held T.has_failed given session.desk session.text result }
+        PlaysSession known T.held T.has_failed
+        (given_in B.decides helps (prompt_of session) session)
+        (desk_of session) (text_sink session) result }
 {
     session.run()
 }
@@ -58,12 +56,11 @@ pub fn lines<
     B: Decides,
     P: Prompter + Drop,
 >(session: Session<S, H, D, L, T, B>, prompter: P) -> (Session<S, H, D, L, T, B>, ReadlineError)
-    ensures { let custom = custom_of session.bindings B.decides in
-        let helps = helping_by H.hint_of H.verdict_of H.completion_of H.update_of H.marks in
-        let given = given_of session.config custom (string_bytes session.prompt)
-        (screen_of session.desk.out) (helps session.desk.helper) in
+    ensures { let helps =
+        helping_by H.hint_of H.verdict_of H.completion_of H.update_of H.marks in
         let known = known_by S.feed D.held D.waits D.has_failed L.held L.has_failed in
-        TakesLines known given (P.lines prompter) session.desk result.0.desk result.1 }
+        TakesLines known (given_in B.decides helps (prompt_of session) session) (P.lines prompter)
+        (desk_of session) (desk_of result.0) result.1 }
 {
     let mut session = session;
     let mut prompter = prompter;

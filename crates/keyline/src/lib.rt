@@ -24,6 +24,7 @@ pub use builder::{
     DefaultBuilder, Nowhere, SessionBuilder, StandardBuilder, StandardKeys, session_builder,
     standard_builder,
 };
+pub use desk::Desk;
 pub use edit_helper::EditHelper;
 pub use editor::LineEditor;
 pub use ending::Ending;

@@ -1,22 +1,17 @@
 //! Sessions: from key bytes to accepted lines, a history and display bytes.
 
-ghost use Rattle.std.specs.Prelude.{◌≡◌, ◌≤◌, Bool, IfErr, IfOk, IsTrue, OnErr, OnOk, false, not, string_bytes};
+ghost use Rattle.std.specs.Prelude.{◌≡◌, ◌≤◌, IfErr, IfOk, IsTrue, OnErr, OnOk, false, not, string_bytes};
 ghost use Rattle.line_config.specs.declared.errors.ReadlineError.TheVariants.{Memory};
-ghost use Rattle.line_help.specs.History.{filed_with, ignored};
-ghost use Rattle.line_keys.specs.Answers.{custom_of};
+ghost use Rattle.line_help.specs.History.{ignored};
 ghost use Rattle.line_keys.specs.Coming.{made_of};
 ghost use Rattle.line_editor.specs.Running.{helping_by};
-ghost use Rattle.line_screen.specs.Calls.{screen_of, sink_of};
-ghost use Rattle.line_screen.specs.Reader.{kept_of, source_of};
-ghost use Rattle.keyline.specs.Desks.{TakesLine};
-ghost use Rattle.keyline.specs.Endings.{ending_of};
 ghost use Rattle.keyline.specs.Known.{known_by};
 ghost use Rattle.keyline.specs.Playing.{Saves, ending_after};
-ghost use Rattle.keyline.specs.Plays.{BeginsSession, LoadRefused, Loaded, Opens, Remains, RunsSession, Unopens};
-ghost use Rattle.keyline.specs.Sessions.{given_of};
+ghost use Rattle.keyline.specs.Opened.{HasGiven, ReadsNext, SetsColumns, desk_of, given_in, history_of, prompt_of, text_sink, with_entry};
+ghost use Rattle.keyline.specs.Plays.{BeginsSession, Finishes, LoadRefused, Loaded, Opens, Remains, RunsSession, Unopens};
 
 use crate::boxed::Devices;
-use crate::desk::{Desk, Lined};
+use crate::desk::{Desk, DeskAfter};
 use crate::ending::Ending;
 use line_config::{Config, ReadlineError, Sink, Source};
 use line_help::{FileHistory, Helper, History};
@@ -228,11 +223,8 @@ where
         requires lines { L.has_failed lines ≡ false }
         requires text { T.has_failed text ≡ false }
         ensures desk { IfOk result (λ s. Opens F.feed S.feed config history helper source columns
-            display lines s.desk) }
-        ensures config { IfOk result (λ s. s.config ≡ config) }
-        ensures bindings { IfOk result (λ s. s.bindings ≡ bindings) }
-        ensures prompt { IfOk result (λ s. string_bytes s.prompt ≡ prompt.now) }
-        ensures text { IfOk result (λ s. s.text ≡ text) }
+            display lines (desk_of s)) }
+        ensures given { IfOk result (HasGiven config bindings prompt.now text) }
         ensures refused { IfErr result (Unopens F.feed config history source display lines text) }
     {
         let mut history = history;
@@ -286,15 +278,11 @@ where
     /// the source has more to give.
     #[inline(never)]
     pub fn read_line(self, prompt: &str) -> LineRead<S, H, D, L, T, B>
-        ensures line { let custom = custom_of self.bindings B.decides in
-            let helps = helping_by H.hint_of H.verdict_of H.completion_of H.update_of H.marks in
-            let given = given_of self.config custom prompt.now in
+        ensures { let helps =
+            helping_by H.hint_of H.verdict_of H.completion_of H.update_of H.marks in
             let known = known_by S.feed D.held D.waits D.has_failed L.held L.has_failed in
-            let next = result.session.desk in
-            TakesLine known (given (screen_of self.desk.out) (helps self.desk.helper))
-            (given (screen_of next.out) (helps next.helper)) self.desk next
+            ReadsNext known (given_in B.decides helps prompt.now) self result.session
             (made_of string_bytes result.line) }
-        ensures others { result.session ≡ record self { desk = result.session.desk } }
     {
         let Session {
             alloc,
@@ -304,7 +292,7 @@ where
             desk,
             text,
         } = self;
-        let Lined { desk, outcome } = desk.one_line(alloc, &config, &bindings, prompt);
+        let DeskAfter { desk, outcome } = desk.one_line(alloc, &config, &bindings, prompt);
         LineRead {
             session: Session {
                 alloc,
@@ -321,12 +309,7 @@ where
     /// From now on rows of the display have so many columns. Nothing is drawn.
     pub fn set_columns(&mut self, columns: u16)
         requires { (2 ≤ columns) × (columns ≤ 1000) }
-        ensures screen { screen_of self.new.desk.out
-            ≡ record (screen_of self.old.desk.out) { columns = columns } }
-        ensures display { sink_of self.new.desk.out ≡ sink_of self.old.desk.out }
-        ensures others { self.new ≡ record self.old {
-          desk = record self.old.desk { out = self.new.desk.out };
-        } }
+        ensures { SetsColumns columns self.old self.new }
     {
         self.desk.out.set_columns(columns);
     }
@@ -334,11 +317,9 @@ where
     /// Adds a line to the history, whatever the settings say of accepted lines, and answers whether
     /// it did: some lines are ignored, as `History::add` says.
     pub fn add_history_entry(&mut self, line: &str) -> Result<bool, ReadlineError>
-        ensures answer { let kept = self.old.desk.history.kept in
+        ensures answer { let kept = (history_of self.old).kept in
             IfOk result (λ b. b ≡ not (ignored kept.settings kept.entries line.now)) }
-        ensures added { OnOk result (self.new ≡ record self.old {
-          desk = record self.old.desk { history = filed_with self.old.desk.history line.now };
-        }) }
+        ensures added { OnOk result (self.new ≡ with_entry line.now self.old) }
         ensures kept { OnErr result (self.new ≡ self.old) }
         ensures fault { IfErr result (λ e. e ≡ Memory) }
     {
@@ -347,7 +328,7 @@ where
 
     /// The history so far.
     pub fn history(&self) -> &FileHistory
-        ensures { result.now ≡ self.now.desk.history }
+        ensures { result.now ≡ history_of self.now }
     {
         &self.desk.history
     }
@@ -356,13 +337,7 @@ where
     /// the devices. A history that isn't saved counts where no fault came before.
     #[inline(never)]
     pub fn finish(self, why: ReadlineError) -> Ended<S, D, L, T>
-        ensures saves { (saved : Bool)
-            × Saves T.held T.has_failed self.desk.history result.history self.text result.text saved
-            × (result.ending ≡ ending_of (ending_after why saved)) }
-        ensures source { result.source ≡ source_of self.desk.reader }
-        ensures ahead { result.ahead ≡ kept_of self.desk.reader }
-        ensures display { result.display ≡ sink_of self.desk.out }
-        ensures lines { result.lines ≡ self.desk.lines }
+        ensures { Finishes T.held T.has_failed (desk_of self) (text_sink self) why result }
     {
         let Session { desk, mut text, .. } = self;
         let Desk {
@@ -390,12 +365,11 @@ where
     /// once, after every ending.
     #[inline(never)]
     pub fn run(self) -> Ended<S, D, L, T>
-        ensures { let custom = custom_of self.bindings B.decides in
-            let helps = helping_by H.hint_of H.verdict_of H.completion_of H.update_of H.marks in
-            let given = given_of self.config custom (string_bytes self.prompt)
-            (screen_of self.desk.out) (helps self.desk.helper) in
+        ensures { let helps =
+            helping_by H.hint_of H.verdict_of H.completion_of H.update_of H.marks in
             let known = known_by S.feed D.held D.waits D.has_failed L.held L.has_failed in
-            RunsSession known T.held T.has_failed given self.desk self.text result }
+            RunsSession known T.held T.has_failed (given_in B.decides helps (prompt_of self) self)
+            (desk_of self) (text_sink self) result }
     {
         let mut session = self;
         let empty = String::new(session.alloc);

@@ -4,7 +4,7 @@ ghost use Rattle.std.specs.Prelude.{◌≡◌, ◌≤◌, IfOk, length};
 
 use crate::line::{Left, read_line};
 use crate::ring::{Slots, ring_of, slots_of};
-use crate::room::{put, put_numbers};
+use crate::room::put;
 use crate::status::{Status, status_of};
 use keyline::{
     EditMode, FileHistory, Options, ReadlineError, SliceSource, VecSink, config_of, load_words,
@@ -151,7 +151,7 @@ fn give_rest(
     put(text, rooms.line).ok_or(Status::Room)?;
     put(history, rooms.history).ok_or(Status::Room)?;
     put(&slots.texts, rooms.kills).ok_or(Status::Room)?;
-    put_numbers(&slots.ends, rooms.ends).ok_or(Status::Room)
+    put(&slots.ends, rooms.ends).ok_or(Status::Room)
 }
 
 /// The text of a line; empty where there is none.

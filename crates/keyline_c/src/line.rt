@@ -1,6 +1,6 @@
 //! A line over memory.
 
-ghost use Rattle.std.specs.Prelude.{[], ◌≡◌, ◌≤◌, IfErr, IfOk, OnOk, length, string_bytes, true};
+ghost use Rattle.std.specs.Prelude.{[], ◌≡◌, ◌≤◌, MatchResult, length, string_bytes, true};
 ghost use Rattle.line_config.specs.Feed.{fresh_feed};
 ghost use Rattle.line_config.specs.Sending.{Takes};
 ghost use Rattle.line_keys.specs.Coming.{made_of};
@@ -84,9 +84,8 @@ fn breaks(outcome: &Result<String, ReadlineError>) -> bool
 
 /// Draws a new row.
 fn break_row(out: &mut ScreenRenderer<VecSink>) -> Result<(), ReadlineError>
-    ensures row { OnOk result (Takes ⟦<VecSink as Sink>⟧.held (sink_of out.old) (sink_of out.new)
-        row_break) }
-    ensures fault { IfErr result IsWant }
+    ensures { MatchResult result (λ _. Takes ⟦<VecSink as Sink>⟧.held
+        (sink_of out.old) (sink_of out.new) row_break) IsWant }
 {
     out.write_and_flush("\r\n")
 }
@@ -97,9 +96,8 @@ fn keep(
     outcome: &Result<String, ReadlineError>,
     history: &mut FileHistory,
 ) -> Result<(), ReadlineError>
-    ensures kept { OnOk result (history.new
-        ≡ history_after true (made_of string_bytes outcome.now) history.old) }
-    ensures fault { IfErr result IsWant }
+    ensures { MatchResult result (λ _. history.new
+        ≡ history_after true (made_of string_bytes outcome.now) history.old) IsWant }
 {
     if let Ok(text) = outcome {
         history.add(alloc, text.as_str())?;
@@ -114,9 +112,9 @@ fn close(
     out: &mut ScreenRenderer<VecSink>,
     history: &mut FileHistory,
 ) -> Result<(), ReadlineError>
-    ensures ends { OnOk result (Ends ⟦<VecSink as Sink>⟧.held (made_of string_bytes outcome.now)
-        (sink_of out.old) (sink_of out.new) history.old history.new) }
-    ensures fault { IfErr result IsWant }
+    ensures { MatchResult result (λ _. Ends ⟦<VecSink as Sink>⟧.held
+        (made_of string_bytes outcome.now)
+        (sink_of out.old) (sink_of out.new) history.old history.new) IsWant }
 {
     if breaks(outcome) {
         break_row(out)?;
@@ -136,10 +134,10 @@ pub(crate) fn read_line<'k>(
     ended: bool,
 ) -> Result<Left, ReadlineError>
     requires { (2 ≤ options.now.columns) × (options.now.columns ≤ 1000) }
-    ensures reads { let given = given_by_options options.now (word_texts words) in
+    ensures { let given = given_by_options options.now (word_texts words) in
         let state = state_over ring history options.now.mode keys.entry.now (last_of ended) in
-        IfOk result (ReadsLine ⟦<VecSink as Sink>⟧.held given state (length keys.entry.now)) }
-    ensures fault { IfErr result IsWant }
+        MatchResult result (ReadsLine ⟦<VecSink as Sink>⟧.held given state
+        (length keys.entry.now)) IsWant }
 {
     let config = config_of(options);
     let bindings = Bindings::new(alloc).unwrap();

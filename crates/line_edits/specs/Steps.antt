@@ -1,5 +1,5 @@
--- Edits by their steps, in order: what an edit makes of a line and its record, and what stands where
--- a step was refused.
+-- Edits by their steps, in order: what an edit makes of a line and its record, and what stands
+-- where a step was refused.
 use Rattle.std.specs.Prelude.{◌≡◌, ⊤, Bool, List, ◌∷◌, ◌++◌, Result, Err, OnErr}
 use Rattle.line_buffer.specs.Edit.{Edit}
 use Rattle.line_buffer.specs.Event.{Event}
@@ -30,8 +30,8 @@ step_made Closes w = group_closed w
 abbrev pub after_events : List Event → Written → Written
 after_events events w = edited events (carried_all events w.line) w
 
--- one of the events was refused: line and record followed those before it together, and neither that
--- one nor those after it
+-- one of the events was refused: line and record followed those before it together, and neither
+-- that one nor those after it
 pub record StopsWithin (events : List Event) (w v : Written) : Type 0 where
   pub done : List Event
   pub refused : Event

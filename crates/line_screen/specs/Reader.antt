@@ -176,7 +176,8 @@ AnswersKey feed old new result = AnswersCall feed Pressed key_at old.announced o
 
 abbrev pub AnswersText : {S : Type 0} → (S → Feed) → KeyReader S → KeyReader S
     → Result (List ℕ) ReadlineError → Type 0
-AnswersText feed old new result = AnswersCall feed Pasted paste_at (not old.announced) old new result
+AnswersText feed old new result =
+    AnswersCall feed Pasted paste_at (not old.announced) old new result
 
 -- a character is asked for
 pub record AnswersChar {S : Type 0} (feed : S → Feed) (old new : KeyReader S)

@@ -1,12 +1,13 @@
 -- Lines follow on lines, each with what was handed in for it.
-use Rattle.std.proofs.Common.{[], ap, ◌∙◌}
+use Rattle.std.proofs.Common.{ap, refl, ◌∙◌}
 use Rattle.std.specs.Prelude.{string_bytes}
 use Rattle.line_editor.specs.Running.{helping_by}
 use Rattle.line_keys.specs.Answers.{custom_of}
 use Rattle.line_keys.specs.Coming.{made_of}
 use Rattle.line_screen.specs.Calls.{screen_of}
 use Rattle.keyline.specs.Known.{known_by}
-use Rattle.keyline.specs.Sessions.{for_line, given_of}
+use Rattle.keyline.specs.Opened.{given_in}
+use Rattle.keyline.specs.Sessions.{given_of}
 use Rattle.keyline.proofs.LinesLemmas.{along, asking_nowhere, asking_ok, asking_err}
 use Rattle.keyline.proofs.laws.lines.Goals as goal
 
@@ -23,13 +24,13 @@ returns-in-Err g c =
     let next = c.read_line-next.result.session in
     let line = c.prompt.result.now in
     let screen = screen_of here.desk.out in
-    let asked = along {y = record now { desk = record now.desk { out = here.desk.out } }} c.set_columns.ensures.others (λ s. given_of s.config (custom_of s.bindings decides) line screen (helps s.desk.helper))
+    let asked = along {y = record now { desk = record now.desk { out = here.desk.out } }} c.set_columns.ensures.others (given_in decides helps line)
     ∙ (along c.prompt.ensures (λ p. given_of now.config (custom_of now.bindings decides) p screen (helps now.desk.helper))
     ∙ along (c.set_columns.ensures.screen ∙ along c.columns.ensures.columns (λ n. record (screen_of now.desk.out) { columns = n }))
     (λ screen. given_of now.config (custom_of now.bindings decides) (g.P.Prompter.lines c.loop-prompter.prompter 0).prompt screen (helps now.desk.helper))) in
     let desk = along {y = record now { desk = record now.desk { out = here.desk.out } }} c.set_columns.ensures.others (λ s. s.desk) in
     asking_err k _ _ _ _ _ _ c.args.session.desk now.desk here.desk next.desk _ c.loop-prompter.invariant desk c.set_columns.ensures.display asked
-    c.read_line-next.ensures.line c.in-Err.why (ap (made_of string_bytes) c.in-Err.is)
+    c.read_line-next.ensures.takes c.in-Err.why (ap (made_of string_bytes) c.in-Err.is)
 
 pub loop-prompter-preserved-in-Ok : goal.loop-prompter-preserved-in-Ok
 loop-prompter-preserved-in-Ok g c =
@@ -41,13 +42,10 @@ loop-prompter-preserved-in-Ok g c =
     let next = c.read_line-next.result.session in
     let line = c.prompt.result.now in
     let screen = screen_of here.desk.out in
-    let asked = along {y = record now { desk = record now.desk { out = here.desk.out } }} c.set_columns.ensures.others (λ s. given_of s.config (custom_of s.bindings decides) line screen (helps s.desk.helper))
+    let asked = along {y = record now { desk = record now.desk { out = here.desk.out } }} c.set_columns.ensures.others (given_in decides helps line)
     ∙ (along c.prompt.ensures (λ p. given_of now.config (custom_of now.bindings decides) p screen (helps now.desk.helper))
     ∙ along (c.set_columns.ensures.screen ∙ along c.columns.ensures.columns (λ n. record (screen_of now.desk.out) { columns = n }))
     (λ screen. given_of now.config (custom_of now.bindings decides) (g.P.Prompter.lines c.loop-prompter.prompter 0).prompt screen (helps now.desk.helper))) in
     let desk = along {y = record now { desk = record now.desk { out = here.desk.out } }} c.set_columns.ensures.others (λ s. s.desk) in
-    let others = c.read_line-next.ensures.others in
     asking_ok k _ _ _ _ _ _ c.args.session.desk now.desk here.desk next.desk _ c.loop-prompter.invariant desk c.set_columns.ensures.display asked
-    c.read_line-next.ensures.line _ (ap (made_of string_bytes) c.in-Ok.is) _ c.advance.ensures _
-    (λ line. along {y = record here { desk = next.desk }} others (λ s. for_line (given_of s.config (custom_of s.bindings decides) [] (screen_of next.desk.out) (helps next.desk.helper)) line))
-    (along {y = record here { desk = next.desk }} others (λ s. custom_of s.bindings decides))
+    c.read_line-next.ensures.takes _ (ap (made_of string_bytes) c.in-Ok.is) _ c.advance.ensures _ (λ line. refl) refl

@@ -1,8 +1,15 @@
 -- Whether the history was saved is what `save` answered.
-use Rattle.std.proofs.Common.{ap, ◌∙◌}
+use Rattle.std.proofs.Common.{ap, ◌∙◌, rules}
 use Rattle.keyline.specs.Endings.{ending_of}
 use Rattle.keyline.proofs.session.Session.finish.Goals as goal
 
-pub returns-clause-saves : goal.returns-clause-saves
-returns-clause-saves g c =
-    (c.save-saved.result, c.save-saved.ensures, c.from-ending.ensures ∙ ap ending_of c.ending_after.ensures)
+pub returns : goal.returns
+returns g c = record {
+  saved = c.save-saved.result;
+  saves = c.save-saved.ensures;
+  ending_is = c.from-ending.ensures ∙ ap ending_of c.ending_after.ensures;
+  source_is = search rules;
+  ahead_is = search rules;
+  display_is = search rules;
+  lines_are = search rules;
+}

@@ -2,14 +2,12 @@
 use Rattle.std.proofs.Common.{List, ℕ, refl, subst, ap, ◌∙◌}
 use Rattle.std.specs.Prelude.{string_bytes}
 use Rattle.line_editor.specs.Running.{helping_by}
-use Rattle.line_keys.specs.Answers.{custom_of}
 use Rattle.line_keys.specs.Coming.{made_of}
-use Rattle.line_screen.specs.Calls.{screen_of}
 use Rattle.line_screen.proofs.CallLemmas.{columns_in}
 use Rattle.keyline.specs.Desks.{TakesLine}
 use Rattle.keyline.specs.Known.{known_by}
+use Rattle.keyline.specs.Opened.{given_in}
 use Rattle.keyline.specs.Plays.{Finishes}
-use Rattle.keyline.specs.Sessions.{given_of}
 use Rattle.keyline.proofs.LinesLemmas.{along, underway_nowhere, underway_ok, underway_err}
 use Rattle.keyline.proofs.SessionCourse.{sessions_show}
 use Rattle.keyline.proofs.session.Session.run.Goals as goal
@@ -24,11 +22,9 @@ returns-in-Err g c =
     let self = c.args.self in
     let now = c.loop-why.session in
     let next = c.read_line-next.result.session in
-    let custom = custom_of now.bindings g.B.Decides.decides in
-    let P : List ℕ → Type 0 = λ p.
-    TakesLine k (given_of now.config custom p (screen_of now.desk.out) (helps now.desk.helper)) (given_of now.config custom p (screen_of next.desk.out) (helps next.desk.helper))
-    now.desk next.desk (made_of string_bytes c.read_line-next.result.line) in
-    let line = subst P (c.as_str.ensures.value ∙ ap string_bytes c.replace-prompt.ensures.value) c.read_line-next.ensures.line in
+    let given = given_in g.B.Decides.decides helps in
+    let P : List ℕ → Type 0 = λ p. TakesLine k (given p now) (given p next) now.desk next.desk (made_of string_bytes c.read_line-next.result.line) in
+    let line = subst P (c.as_str.ensures.value ∙ ap string_bytes c.replace-prompt.ensures.value) c.read_line-next.ensures.takes in
     let lines = underway_err k _ _ _ self.desk now.desk next.desk _ c.loop-why.invariant.0 line c.in-Err.why (ap (made_of string_bytes) c.in-Err.is) in
     let text = along {y = record now { desk = next.desk }} c.read_line-next.ensures.others (λ s. s.text) ∙ c.loop-why.invariant.1 in
     let columns = columns_in self.desk.out in
@@ -38,15 +34,7 @@ returns-in-Err g c =
         last = next.desk;
         why = c.in-Err.why;
         takes = lines;
-        finishes = subst (λ text. Finishes g.T.Sink.held g.T.Sink.has_failed next.desk text c.in-Err.why c.finish.result) text (record {
-          saved = c.finish.ensures.saves.0;
-          saves = c.finish.ensures.saves.1;
-          ending_is = c.finish.ensures.saves.2;
-          source_is = c.finish.ensures.source;
-          ahead_is = c.finish.ensures.ahead;
-          display_is = c.finish.ensures.display;
-          lines_are = c.finish.ensures.lines;
-        });
+        finishes = subst (λ text. Finishes g.T.Sink.held g.T.Sink.has_failed next.desk text c.in-Err.why c.finish.result) text c.finish.ensures;
       };
     }
 
@@ -57,13 +45,9 @@ loop-why-preserved-in-Ok g c =
     let self = c.args.self in
     let now = c.loop-why.session in
     let next = c.read_line-next.result.session in
-    let others = c.read_line-next.ensures.others in
-    let custom = custom_of now.bindings g.B.Decides.decides in
-    let P : List ℕ → Type 0 = λ p.
-    TakesLine k (given_of now.config custom p (screen_of now.desk.out) (helps now.desk.helper)) (given_of now.config custom p (screen_of next.desk.out) (helps next.desk.helper))
-    now.desk next.desk (made_of string_bytes c.read_line-next.result.line) in
-    let line = subst P (c.as_str.ensures.value ∙ ap string_bytes c.replace-prompt.ensures.value) c.read_line-next.ensures.line in (
-      underway_ok k _ _ _ self.desk now.desk next.desk _ c.loop-why.invariant.0 line _ (ap (made_of string_bytes) c.in-Ok.is) _
-          (along {y = record now { desk = next.desk }} others (λ s. given_of s.config (custom_of s.bindings g.B.Decides.decides) (string_bytes self.prompt) (screen_of next.desk.out) (helps next.desk.helper))),
-      along {y = record now { desk = next.desk }} others (λ s. s.text) ∙ c.loop-why.invariant.1,
+    let given = given_in g.B.Decides.decides helps in
+    let P : List ℕ → Type 0 = λ p. TakesLine k (given p now) (given p next) now.desk next.desk (made_of string_bytes c.read_line-next.result.line) in
+    let line = subst P (c.as_str.ensures.value ∙ ap string_bytes c.replace-prompt.ensures.value) c.read_line-next.ensures.takes in (
+      underway_ok k _ _ _ self.desk now.desk next.desk _ c.loop-why.invariant.0 line _ (ap (made_of string_bytes) c.in-Ok.is) _ refl,
+      along {y = record now { desk = next.desk }} c.read_line-next.ensures.others (λ s. s.text) ∙ c.loop-why.invariant.1,
     )

@@ -1,11 +1,9 @@
 -- The lines so far were taken, and the history's text is as it was.
-use Rattle.std.specs.Prelude.{◌≡◌, string_bytes}
+use Rattle.std.specs.Prelude.{◌≡◌}
 use Rattle.line_editor.specs.Running.{helping_by}
-use Rattle.line_keys.specs.Answers.{custom_of}
-use Rattle.line_screen.specs.Calls.{screen_of}
 use Rattle.keyline.specs.Desks.{desk_feed}
 use Rattle.keyline.specs.Known.{known_by}
-use Rattle.keyline.specs.Sessions.{given_of}
+use Rattle.keyline.specs.Opened.{given_in, prompt_of}
 use Rattle.keyline.proofs.LinesLemmas.{Underway}
 use Rattle.keyline.proofs.session.Session.run.Given as goal
 
@@ -13,13 +11,9 @@ abbrev pub invariant-loop-why : goal.invariant-loop-why
 invariant-loop-why g l =
     let k = known_by g.S.Source.feed g.D.Sink.held g.D.Sink.waits g.D.Sink.has_failed g.L.Sink.held g.L.Sink.has_failed in
     let helps = helping_by g.H.Hinter.hint_of g.H.Validator.verdict_of g.H.Completer.completion_of g.H.Completer.update_of g.H.Highlighter.marks in
-    let decides = g.B.Decides.decides in
     let self = l.fn.self in
-    Underway k
-    (given_of self.config (custom_of self.bindings decides) (string_bytes self.prompt) (screen_of self.desk.out) (helps self.desk.helper))
-    (given_of l.session.config (custom_of l.session.bindings decides) (string_bytes self.prompt) (screen_of l.session.desk.out) (helps l.session.desk.helper))
-    self.desk l.session.desk
-    × (l.session.text ≡ self.text)
+    let given = given_in g.B.Decides.decides helps (prompt_of self) in
+    Underway k (given self) (given l.session) self.desk l.session.desk × (l.session.text ≡ self.text)
 
 abbrev pub decreases-loop-why : goal.decreases-loop-why
 decreases-loop-why g l =

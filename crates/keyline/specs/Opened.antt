@@ -1,0 +1,67 @@
+-- A session that is open: what it has, what it hands in for a line, and what its calls make of it.
+use Rattle.std.specs.Prelude.{◌≡◌, ℕ, List, Option, Result, string_bytes}
+use Rattle.line_config.specs.declared.config.Config.{Config}
+use Rattle.line_config.specs.declared.errors.ReadlineError.{ReadlineError}
+use Rattle.line_editor.specs.Running.{Helping}
+use Rattle.line_help.specs.History.{Filed, filed_with}
+use Rattle.line_keys.specs.Answers.{custom_of}
+use Rattle.line_keys.specs.Handling.{Meaning}
+use Rattle.line_keys.specs.declared.events.Event.{Event}
+use Rattle.line_screen.specs.Calls.{screen_of, sink_of}
+use Rattle.keyline.specs.Desks.{TakesLine}
+use Rattle.keyline.specs.Known.{Known}
+use Rattle.keyline.specs.Sessions.{Given, given_of}
+use Rattle.keyline.specs.declared.desk.Desk.{Desk}
+use Rattle.keyline.specs.declared.session.Session.{Session}
+
+module _ {S H D L T B : Type 0} where
+  -- ---- what it has
+
+  -- what goes on from line to line, with the devices
+  abbrev pub desk_of : Session S H D L T B → Desk S H D L
+  desk_of s = s.desk
+
+  abbrev pub history_of : Session S H D L T B → Filed
+  history_of s = s.desk.history
+
+  -- the sink of the history's text
+  abbrev pub text_sink : Session S H D L T B → T
+  text_sink s = s.text
+
+  -- the prompt of its own
+  abbrev pub prompt_of : Session S H D L T B → List ℕ
+  prompt_of s = string_bytes s.prompt
+
+  -- what it hands in for a line behind this prompt, by what its bindings mean and its helper says
+  abbrev pub given_in : (B → Meaning) → (Option H → Helping) → List ℕ → Session S H D L T B
+      → Given
+  given_in means helps prompt s = given_of s.config (custom_of s.bindings means) prompt
+      (screen_of s.desk.out) (helps s.desk.helper)
+
+  -- it has what was handed in for all its lines
+  pub record HasGiven (config : Config) (bindings : List (Event × B)) (prompt : List ℕ) (text : T)
+      (s : Session S H D L T B) : Type 0 where
+    pub config_is : s.config ≡ config
+    pub bindings_are : s.bindings ≡ bindings
+    pub prompt_is : prompt_of s ≡ prompt
+    pub text_is : s.text ≡ text
+
+  -- ---- its calls
+
+  -- THE relation of a line that is asked for: the desk takes it, and all else stays as it was
+  pub record ReadsNext (k : Known S D L) (given : Session S H D L T B → Given)
+      (old new : Session S H D L T B) (result : Result (List ℕ) ReadlineError) : Type 0 where
+    pub takes : TakesLine k (given old) (given new) old.desk new.desk result
+    pub others : new ≡ record old { desk = new.desk }
+
+  -- rows of the display have so many columns, and all else is as it was
+  pub record SetsColumns (columns : ℕ) (old new : Session S H D L T B) : Type 0 where
+    pub screen : screen_of new.desk.out ≡ record (screen_of old.desk.out) { columns = columns }
+    pub display : sink_of new.desk.out ≡ sink_of old.desk.out
+    pub others : new ≡ record old { desk = record old.desk { out = new.desk.out } }
+
+  abbrev pub with_entry : List ℕ → Session S H D L T B → Session S H D L T B
+  with_entry line s = record s { desk = record s.desk { history = filed_with (history_of s) line } }
+
+  abbrev pub with_helper : Option H → Session S H D L T B → Session S H D L T B
+  with_helper helper s = record s { desk = record s.desk { helper = helper } }
