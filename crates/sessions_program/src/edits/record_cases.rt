@@ -1,7 +1,7 @@
 //! Each call that the undo record and the kill ring hear of, with each growth of memory that it wants refused: whether line,
 //! record and ring stand together then, and whether what was recorded can still be undone and made anew.
 
-use crate::desk::{Desk, ITEMS, START};
+use crate::edits::desk::{Desk, ITEMS, START};
 use line_buffer::{LineBuffer, OutOfMemory};
 use std::alloc::Global;
 use std::io;
@@ -243,8 +243,8 @@ fn check(rt: &impl Print, alloc: Global, case: Case, name: &str) -> io::Result<(
 }
 
 pub(crate) fn check_all(rt: &impl Print, alloc: Global) -> io::Result<()> {
-    for (case, name) in CASES {
-        check(rt, alloc, case, name)?;
+    for (case, name) in &CASES {
+        check(rt, alloc, *case, name)?;
     }
     Ok(())
 }

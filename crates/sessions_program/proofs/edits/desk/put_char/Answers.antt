@@ -1,5 +1,5 @@
 use Rattle.line_record.proofs.RunLemmas.{told_stand, stopped_stand}
-use Rattle.edits_program.proofs.desk.put_char.Goals as goal
+use Rattle.sessions_program.proofs.edits.desk.put_char.Goals as goal
 
 pub returns-in_err-insert : goal.returns-in_err-insert
 returns-in_err-insert c = stopped_stand c.requires c.as_str-text.ensures.utf8 c.in_err-insert.ensures.left.stops

@@ -1,5 +1,5 @@
 use Rattle.line_record.proofs.RunLemmas.{told_stand, stopped_stand}
-use Rattle.edits_program.proofs.desk.raise.Goals as goal
+use Rattle.sessions_program.proofs.edits.desk.raise.Goals as goal
 
 pub returns-in_err-edit_word : goal.returns-in_err-edit_word
 returns-in_err-edit_word c = stopped_stand c.requires c.as_str-text.ensures.utf8 c.in_err-edit_word.ensures.left.stops

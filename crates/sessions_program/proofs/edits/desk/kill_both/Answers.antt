@@ -2,7 +2,7 @@ use Rattle.std.specs.Prelude.{◌≡◌}
 use Rattle.line_record.specs.Items.{RecordedIn, record_refuses}
 use Rattle.line_record.specs.Ring.{ring_step, ring_refuses}
 use Rattle.line_record.proofs.JoinedLaws.{joined_stand, joined_stand_refused, joined_names_refused}
-use Rattle.edits_program.proofs.desk.kill_both.Goals as goal
+use Rattle.sessions_program.proofs.edits.desk.kill_both.Goals as goal
 
 pub returns-in_err-kill-clause-stand : goal.returns-in_err-kill-clause-stand
 returns-in_err-kill-clause-stand c =

@@ -1,6 +1,6 @@
 use Rattle.std.proofs.Common.{◌≡◌, ℕ, List, sym, ap, subst, inl, inr}
 use Rattle.line_record.specs.Items.{Items, ItemsStand}
-use Rattle.edits_program.proofs.desk.exchange.Goals as goal
+use Rattle.sessions_program.proofs.edits.desk.exchange.Goals as goal
 
 still_stand : {s t : Items} {a b : List ℕ} → t ≡ s → b ≡ a → ItemsStand s a → ItemsStand t b
 still_stand {s} {t} {a} {b} e k h = subst (λ x. ItemsStand x b) (sym e) (subst (ItemsStand s) (sym k) h)

@@ -1,5 +1,5 @@
 use Rattle.line_record.proofs.RunLemmas.{told_stand, stopped_stand}
-use Rattle.edits_program.proofs.desk.indent.Goals as goal
+use Rattle.sessions_program.proofs.edits.desk.indent.Goals as goal
 
 pub returns-in_err-indent : goal.returns-in_err-indent
 returns-in_err-indent c = stopped_stand c.requires c.as_str-text.ensures.utf8 c.in_err-indent.ensures.left.stops

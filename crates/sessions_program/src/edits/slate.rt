@@ -5,7 +5,7 @@ ghost use Rattle.std.specs.Prelude.{◌≡◌};
 ghost use Rattle.line_record.specs.Items.{ItemsStand, ItemsStand-prop};
 ghost use Rattle.line_buffer.specs.Printable.{is_plain};
 
-use crate::words::{first_char, parts, tell_ring, word_of};
+use crate::edits::words::{first_char, parts, tell_ring, word_of};
 use line_buffer::{LineBuffer, Movement, OutOfMemory, RepeatCount, WordAction};
 use line_edits::{
     edit_word, indent, insert_char, insert_text, is_plain, kill, overwrite, replace_chars,

@@ -1,7 +1,7 @@
 //! Commands of a line, by their names, over a renderer that takes no memory. Its bytes go to standard error, and among them
 //! what stands after each step.
 
-use crate::words::tell_ring;
+use crate::edits::words::tell_ring;
 use line_buffer::GraphemeClusterMode;
 use line_config::{BellStyle, Config, ReadlineError, WriteSink};
 use line_editor::{State, Status, execute};

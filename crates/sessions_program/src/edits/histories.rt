@@ -1,6 +1,6 @@
 //! Calls of histories that take memory, each with what has to stand after it, done or refused.
 
-use crate::row_sink::RowSink;
+use crate::edits::row_sink::RowSink;
 use line_config::{HookFault, ReadlineError, SliceSource, VecSink};
 use line_help::{Context, FileHistory, Hinter, History, HistoryHinter};
 use std::alloc::Global;
@@ -218,8 +218,8 @@ fn made(alloc: Global, call: Call) -> Option<Came> {
 
 /// Makes the calls, and prints a row for each.
 pub(crate) fn check(rt: &impl Print, alloc: Global) -> io::Result<()> {
-    for (call, name) in CALLS {
-        let words = match made(alloc, call) {
+    for (call, name) in &CALLS {
+        let words = match made(alloc, *call) {
             None => "not begun",
             Some(Came { stands: false, .. }) => "WRONG",
             Some(Came { done: true, .. }) => "done",
