@@ -3,9 +3,9 @@
 that the undo record and the kill ring hear of, and each call of a history; and what each edit of `line_edits` and each
 command of `execute` leaves then, by the tables of tests/edit_growth.txt.
 
-`rt ci` builds crates/edits_program first. Without arguments the program makes one call a row and says itself whether what
+`rt ci` builds crates/sessions_program first. With the argument `calls` the program makes one call a row and says itself whether what
 it left is right: WRONG where it isn't, "not begun" where the refusal came before the call, and "not judged" where it came
-after. With arguments it makes the steps that they name, and tells after each of them what stands. Here each call for
+after. With `edits` or `commands` it makes the steps that follow, and tells after each of them what stands. Here each call for
 memory of its run is refused once.
 """
 import os
@@ -16,7 +16,7 @@ import tempfile
 from checks import HUNG, TOP, Failed, built, run_all, same, shim
 from display import Display, Drawing
 
-PROGRAM = built("edits_program")
+PROGRAM = built("sessions_program")
 TABLES = os.path.join(TOP, "tests", "edit_growth.txt")
 MOST = 10000
 
@@ -31,7 +31,7 @@ GROWING = {
     "history append_to", "history hint",
 }
 
-# How many rows it tells without arguments.
+# How many rows it tells of calls.
 ROWS = 48
 
 COLUMNS = 20
@@ -39,7 +39,7 @@ PROMPT = "> "
 # More items than any row records.
 ALL = 8
 # Where the arguments don't fit into memory.
-UNREAD = b"Error: Kind(OutOfMemory)\n"
+UNREAD = b"Error: out of memory\n"
 # How a step ends that is neither refused nor unread.
 ANSWERED = {"done", "Submit", "Interrupted", "Eof"}
 
@@ -63,7 +63,7 @@ def each_growth_refused():
     with tempfile.TemporaryDirectory() as folder:
         report = os.path.join(folder, "refused")
         for number in range(1, MOST):
-            rows = rows_of(run_program([], number, report))
+            rows = rows_of(run_program(["calls"], number, report))
             words = [word for _, word in rows if word != "done"]
             if not os.path.exists(report):
                 same("rows that were told", len(rows), ROWS)

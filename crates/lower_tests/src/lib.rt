@@ -1,11 +1,13 @@
 //! Tests of the libraries below the editor, each in a module of its own: texts, the undo record and the kill ring,
-//! settings and devices, keys and the commands that they give.
+//! settings and devices, keys and the commands that they give, histories, completion and helpers.
 #![tactic(auto)]
 
 #[cfg(test)]
 mod buffer;
 #[cfg(test)]
 mod config;
+#[cfg(test)]
+mod help;
 #[cfg(test)]
 mod keys;
 #[cfg(test)]

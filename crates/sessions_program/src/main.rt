@@ -1,10 +1,15 @@
 //! Without an argument, plays the sessions that stand in files of `data/`, tells each session that differs from what its row
-//! says, and how many there were, and then draws a line. With the argument `each`, tells what each session leaves that
-//! stands on standard input; with `growths`, plays those in which each growth is to be refused, and says of each whether one
-//! was; with a name in `.txt`, plays the sessions of that file; with another one, draws the line that it names.
+//! says, and how many there were, makes each edit, and then draws a line. With the argument `each`, tells what each session
+//! leaves that stands on standard input; with `growths`, plays those in which each growth is to be refused, and says of each
+//! whether one was; with `calls`, makes each edit; with a name in `.txt`, plays the sessions of that file; with another one,
+//! draws the line that it names.
+//!
+//! With the word `edits` and steps, makes these edits of `line_edits`, and with `commands`, the entries of a history, words to
+//! complete and steps, these commands of `execute`; after each step it tells what stands.
 #![tactic(auto)]
 
 mod drawings;
+mod edits;
 
 use anyhow::Result;
 use session_rows::each::told_of_each;
@@ -79,19 +84,42 @@ fn grow(rt: &HostRuntime) -> Result<()> {
     Ok(())
 }
 
-fn main(rt: HostRuntime) -> Result<()> {
-    if let Some(name) = env::args(&rt)?.nth(1) {
-        return match name.as_str() {
-            "each" => tell_each(&rt),
-            "growths" => grow(&rt),
-            name if name.ends_with(".txt") => play_told(&rt, name),
-            name => drawings::draw_named(&rt, name),
-        };
+/// Plays all sessions, and makes all edits.
+fn play_all(rt: &HostRuntime) -> Result<()> {
+    for name in &FILES {
+        play_told(rt, name)?;
     }
-    for name in FILES {
-        play_told(&rt, name)?;
-    }
-    let count = play_file(&rt, REFUSED, true)?;
+    let count = play_file(rt, REFUSED, true)?;
     println!(rt; "{REFUSED}: {count} calls that failed in turn")?;
-    drawings::draw_named(&rt, "shorter")
+    edits::check_all(rt)?;
+    drawings::draw_named(rt, "shorter")
+}
+
+fn play_named(rt: &HostRuntime, name: &str) -> Result<()> {
+    match name {
+        "each" => tell_each(rt),
+        "growths" => grow(rt),
+        "calls" => Ok(edits::check_all(rt)?),
+        name if name.ends_with(".txt") => play_told(rt, name),
+        name => drawings::draw_named(rt, name),
+    }
+}
+
+fn arguments(rt: &HostRuntime) -> io::Result<Vec<String>> {
+    Ok(env::args(rt)?.collect(rt.alloc())?)
+}
+
+fn main(rt: HostRuntime) -> Result<()> {
+    let words = arguments(&rt)?;
+    match words.as_slice() {
+        [_, name, steps @ ..] if name.as_str() == "edits" => {
+            Ok(edits::slate::play(&rt, rt.alloc(), steps)?)
+        }
+        [_, name, entries, listed, steps @ ..] if name.as_str() == "commands" => {
+            let (entries, listed) = (entries.as_str(), listed.as_str());
+            Ok(edits::commands::play(&rt, entries, listed, steps)?)
+        }
+        [_, name, ..] => play_named(&rt, name.as_str()),
+        _ => play_all(&rt),
+    }
 }

@@ -2,6 +2,7 @@
 #![tactic(auto)]
 
 mod answer;
+mod keys;
 mod statements;
 mod table;
 
@@ -24,7 +25,10 @@ fn helper(tables: Vec<String>) -> HelperParts<WordCompleter, (), (), Statements>
 fn console(rt: &HostRuntime) -> Result<Ending, ReadlineError> {
     let alloc = rt.alloc();
     let mut conn = Connection::open_in_memory(alloc)?;
-    let session = standard_builder(rt).helper(helper(Vec::new(alloc))).open()?;
+    let session = standard_builder(rt)
+        .bindings(keys::bindings(alloc)?)
+        .helper(helper(Vec::new(alloc)))
+        .open()?;
     let mut editor = LineEditor::new(session);
     let mut statement = String::new(alloc);
     for _ in 0..u64::MAX {

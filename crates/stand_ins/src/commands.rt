@@ -1,7 +1,7 @@
 //! Commands and movements by their names: `Kill ForwardWord 2 Start Vi`, `SelfInsert 1 x`, `Insert 2 ab c`. A control
 //! character or a blank at an end stands as its picture.
 
-use crate::tables::{meant, word_and_rest};
+use crate::tables::{meant, named, word_and_rest};
 use line_buffer::{Anchor, At, CharSearch, Movement, RepeatCount, Word};
 use line_keys::{Cmd, Text};
 use std::alloc::Global;
@@ -59,23 +59,24 @@ fn counted_movement(alloc: Global, name: &str, n: RepeatCount, rest: &str) -> Op
     Some(movement)
 }
 
+const MOVEMENTS: [(&str, Movement); 7] = [
+    ("WholeLine", Movement::WholeLine),
+    ("BeginningOfLine", Movement::BeginningOfLine),
+    ("EndOfLine", Movement::EndOfLine),
+    ("ViFirstPrint", Movement::ViFirstPrint),
+    ("WholeBuffer", Movement::WholeBuffer),
+    ("BeginningOfBuffer", Movement::BeginningOfBuffer),
+    ("EndOfBuffer", Movement::EndOfBuffer),
+];
+
 /// The movement with these words.
 pub fn movement_named(alloc: Global, words: &str) -> Option<Movement> {
     let (name, rest) = word_and_rest(words);
-    let movement = match name {
-        "WholeLine" => Movement::WholeLine,
-        "BeginningOfLine" => Movement::BeginningOfLine,
-        "EndOfLine" => Movement::EndOfLine,
-        "ViFirstPrint" => Movement::ViFirstPrint,
-        "WholeBuffer" => Movement::WholeBuffer,
-        "BeginningOfBuffer" => Movement::BeginningOfBuffer,
-        "EndOfBuffer" => Movement::EndOfBuffer,
-        _ => {
-            let (count, rest) = word_and_rest(rest);
-            return counted_movement(alloc, name, count_named(count)?, rest);
-        }
-    };
-    Some(movement)
+    if let Some(movement) = named(&MOVEMENTS, name) {
+        return Some(movement);
+    }
+    let (count, rest) = word_and_rest(rest);
+    counted_movement(alloc, name, count_named(count)?, rest)
 }
 
 // A command that is a word alone.

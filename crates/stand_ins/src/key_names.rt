@@ -1,57 +1,47 @@
 //! Keys by their names: `x`, `Esc`, `F5`, and with `C-`, `A-` and `S-` before it, in this order, for Ctrl, Alt and Shift.
 
+use crate::tables::named;
 use line_keys::{KeyCode, KeyEvent, Modifiers};
 use std::alloc::AllocError;
 
-const NAMED: [KeyCode; 21] = [
-    KeyCode::Backspace,
-    KeyCode::BackTab,
-    KeyCode::BracketedPasteStart,
-    KeyCode::BracketedPasteEnd,
-    KeyCode::Delete,
-    KeyCode::Down,
-    KeyCode::End,
-    KeyCode::Enter,
-    KeyCode::Esc,
-    KeyCode::Home,
-    KeyCode::Insert,
-    KeyCode::Left,
-    KeyCode::Null,
-    KeyCode::PageDown,
-    KeyCode::PageUp,
-    KeyCode::Right,
-    KeyCode::Tab,
-    KeyCode::UnknownEscSeq,
-    KeyCode::Up,
-    KeyCode::Char(' '),
-    KeyCode::Char('|'),
+// The keys that aren't written as themselves.
+const NAMED: [(&str, KeyCode); 21] = [
+    ("Backspace", KeyCode::Backspace),
+    ("BackTab", KeyCode::BackTab),
+    ("PasteStart", KeyCode::BracketedPasteStart),
+    ("PasteEnd", KeyCode::BracketedPasteEnd),
+    ("Delete", KeyCode::Delete),
+    ("Down", KeyCode::Down),
+    ("End", KeyCode::End),
+    ("Enter", KeyCode::Enter),
+    ("Esc", KeyCode::Esc),
+    ("Home", KeyCode::Home),
+    ("Insert", KeyCode::Insert),
+    ("Left", KeyCode::Left),
+    ("Null", KeyCode::Null),
+    ("PageDown", KeyCode::PageDown),
+    ("PageUp", KeyCode::PageUp),
+    ("Right", KeyCode::Right),
+    ("Tab", KeyCode::Tab),
+    ("UnknownEscSeq", KeyCode::UnknownEscSeq),
+    ("Up", KeyCode::Up),
+    ("Space", KeyCode::Char(' ')),
+    ("Bar", KeyCode::Char('|')),
 ];
 
-// The name of a key that isn't written as itself.
+const HELD: [(&str, Modifiers); 3] = [
+    ("C-", Modifiers::CTRL),
+    ("A-", Modifiers::ALT),
+    ("S-", Modifiers::SHIFT),
+];
+
 fn name_of(code: KeyCode) -> &'static str {
-    match code {
-        KeyCode::Backspace => "Backspace",
-        KeyCode::BackTab => "BackTab",
-        KeyCode::BracketedPasteStart => "PasteStart",
-        KeyCode::BracketedPasteEnd => "PasteEnd",
-        KeyCode::Delete => "Delete",
-        KeyCode::Down => "Down",
-        KeyCode::End => "End",
-        KeyCode::Enter => "Enter",
-        KeyCode::Esc => "Esc",
-        KeyCode::Home => "Home",
-        KeyCode::Insert => "Insert",
-        KeyCode::Left => "Left",
-        KeyCode::Null => "Null",
-        KeyCode::PageDown => "PageDown",
-        KeyCode::PageUp => "PageUp",
-        KeyCode::Right => "Right",
-        KeyCode::Tab => "Tab",
-        KeyCode::UnknownEscSeq => "UnknownEscSeq",
-        KeyCode::Up => "Up",
-        KeyCode::Char('|') => "Bar",
-        KeyCode::Char(_) | KeyCode::F(_) => "Space",
+    for (name, named) in &NAMED {
+        if *named == code {
+            return name;
+        }
     }
+    ""
 }
 
 // A character, or the name of a key.
@@ -60,14 +50,12 @@ fn code_named(name: &str) -> Option<KeyCode> {
     if let (Some(c), None) = (chars.next(), chars.next()) {
         return Some(KeyCode::Char(c));
     }
-    for code in NAMED {
-        if name_of(code) == name {
-            return Some(code);
-        }
-    }
-    match name.strip_prefix('F')?.parse() {
-        Ok(number) => Some(KeyCode::F(number)),
-        Err(_) => None,
+    match name
+        .strip_prefix('F')
+        .and_then(|number| number.parse().ok())
+    {
+        Some(number) => Some(KeyCode::F(number)),
+        None => named(&NAMED, name),
     }
 }
 
@@ -75,15 +63,11 @@ fn code_named(name: &str) -> Option<KeyCode> {
 pub fn key_named(word: &str) -> Option<KeyEvent> {
     let mut mods = Modifiers::NONE;
     let mut name = word;
-    for (prefix, held) in [
-        ("C-", Modifiers::CTRL),
-        ("A-", Modifiers::ALT),
-        ("S-", Modifiers::SHIFT),
-    ] {
-        if let Some(rest) = name.strip_prefix(prefix)
+    for (prefix, held) in &HELD {
+        if let Some(rest) = name.strip_prefix(*prefix)
             && !rest.is_empty()
         {
-            mods.insert(held);
+            mods.insert(*held);
             name = rest;
         }
     }
@@ -93,12 +77,8 @@ pub fn key_named(word: &str) -> Option<KeyEvent> {
 /// Writes the name of a key.
 pub fn write_key(said: &mut String, key: KeyEvent) -> Result<(), AllocError> {
     let KeyEvent(code, mods) = key;
-    for (prefix, held) in [
-        ("C-", Modifiers::CTRL),
-        ("A-", Modifiers::ALT),
-        ("S-", Modifiers::SHIFT),
-    ] {
-        if mods.contains(held) {
+    for (prefix, held) in &HELD {
+        if mods.contains(*held) {
             said.push_str(prefix)?;
         }
     }

@@ -1,5 +1,6 @@
 //! Lines in tables of text: `ab|c` is the text `abc` with the cursor at 2.
 
+use crate::rows::raised;
 use crate::tables::{line_and_place, marked};
 use line_buffer::{LineBuffer, NoListener, OutOfMemory};
 use std::alloc::Global;
@@ -17,5 +18,5 @@ pub fn line_of(alloc: Global, shown: &str) -> Result<LineBuffer, OutOfMemory> {
 
 /// A line as tables show it.
 pub fn shown_of(alloc: Global, line: &LineBuffer) -> Result<String, OutOfMemory> {
-    Ok(marked(alloc, line.as_str(), line.pos())?)
+    raised(marked(alloc, line.as_str(), line.pos()))
 }

@@ -1,6 +1,7 @@
 //! Calls of a reader by their names, as tables make them.
 
 use crate::key_names::write_key;
+use crate::rows::raised;
 use crate::tables::{picture_of, push_pictured};
 use line_config::ReadlineError;
 use line_keys::RawReader;
@@ -11,7 +12,7 @@ use std::alloc::Global;
 
 fn tell_char<R: RawReader>(reader: &mut R, said: &mut String) -> Result<(), ReadlineError> {
     let c = reader.next_char()?;
-    Ok(said.push(picture_of(c))?)
+    raised(said.push(picture_of(c)))
 }
 
 fn tell_paste<R: RawReader>(
@@ -20,7 +21,7 @@ fn tell_paste<R: RawReader>(
     said: &mut String,
 ) -> Result<(), ReadlineError> {
     let text = reader.read_pasted_text(alloc)?;
-    Ok(push_pictured(said, text.as_str())?)
+    raised(push_pictured(said, text.as_str()))
 }
 
 fn tell_wait<R: RawReader>(
@@ -29,7 +30,7 @@ fn tell_wait<R: RawReader>(
     said: &mut String,
 ) -> Result<(), ReadlineError> {
     let Report::KeyPress(key) = reader.wait_for_input(single)?;
-    Ok(write_key(said, key)?)
+    raised(write_key(said, key))
 }
 
 fn tell_key<R: RawReader>(
@@ -38,7 +39,7 @@ fn tell_key<R: RawReader>(
     said: &mut String,
 ) -> Result<(), ReadlineError> {
     let key = reader.next_key(single)?;
-    Ok(write_key(said, key)?)
+    raised(write_key(said, key))
 }
 
 /// Makes a call, and tells what it answers: `key`, `wait`, `char` or `paste`. With `+` after it, a single Esc doesn't wait
@@ -50,11 +51,11 @@ pub fn tell_call<R: RawReader>(
     said: &mut String,
 ) -> Result<(), ReadlineError> {
     let single = call.ends_with('+');
-    match call {
+    match call.trim_end_matches('+') {
         "char" => tell_char(reader, said),
         "paste" => tell_paste(alloc, reader, said),
-        "wait" | "wait+" => tell_wait(reader, single, said),
-        "key" | "key+" => tell_key(reader, single, said),
-        _ => Ok(said.push_str("no such call")?),
+        "wait" => tell_wait(reader, single, said),
+        "key" => tell_key(reader, single, said),
+        _ => raised(said.push_str("no such call")),
     }
 }

@@ -25,5 +25,22 @@ pub fn rows_hold<P: Player>(alloc: Global, player: &mut P, table: &str) -> Resul
 
 /// A text without the blanks at its ends.
 pub fn trimmed(alloc: Global, text: &str) -> Result<String, Fail> {
-    Ok(String::from_str(alloc, text.trim())?)
+    raised(String::from_str(alloc, text.trim()))
+}
+
+/// Refuses a text that isn't the one that is wanted.
+pub fn same(found: &str, wanted: &str) -> Result<(), Fail> {
+    if found == wanted {
+        Ok(())
+    } else {
+        Err(Fail::new(format_args!("it is {found}, and not {wanted}")))
+    }
+}
+
+/// An answer, its error turned into the caller's as `?` turns it. As a last call this costs the prover half of `Ok(call()?)`.
+pub fn raised<T, E, F: From<E>>(answer: Result<T, E>) -> Result<T, F> {
+    match answer {
+        Ok(value) => Ok(value),
+        Err(why) => Err(F::from(why)),
+    }
 }

@@ -20,6 +20,16 @@ pub fn word_and_rest(text: &str) -> (&str, &str) {
     (word, rest.trim_start_matches(' '))
 }
 
+/// What a word means by a table.
+pub fn named<T: Copy>(table: &[(&str, T)], word: &str) -> Option<T> {
+    for (name, value) in table {
+        if *name == word {
+            return Some(*value);
+        }
+    }
+    None
+}
+
 // The character that a picture shows. Any other character shows itself.
 fn shown_by(picture: char) -> char {
     match u32::from(picture) {

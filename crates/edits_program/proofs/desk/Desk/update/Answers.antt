@@ -1,5 +1,0 @@
-use Rattle.edits_program.proofs.StandLemmas.{edited_stand}
-use Rattle.edits_program.proofs.desk.Desk.update.Goals as goal
-
-pub invariant_of-self : goal.invariant_of-self
-invariant_of-self c = record { stand = edited_stand c.update.result c.args.self.now.stand c.as_str-text.ensures.utf8 c.update.ensures }

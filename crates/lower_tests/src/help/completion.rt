@@ -1,0 +1,501 @@
+//! Completion: escapes, quotes, words, prefixes and file names over listers of the tests.
+ghost use Rattle.std.specs.Prelude.{◌≡◌, List, ℕ, [], true, false, map, if◌then◌else◌, bytes_eq, IfOk, IfErr};
+ghost use Rattle.line_config.specs.declared.errors.HookFault.TheVariants.{Memory};
+ghost use Rattle.line_help.specs.FileNames.{Named};
+ghost use Rattle.line_keys.specs.Replies.{gives, gives_unless};
+
+use crate::help::words::completer_of;
+use line_buffer::{LineBuffer, NoListener};
+use line_config::HookFault;
+use line_help::{
+    Candidate, Completer, Context, FilenameCompleter, HelperParts, Listed, Lister, MemHistory,
+    Pair, Quote, WordCompleter, escape, extract_word, longest_common_prefix, unescape,
+};
+use stand_ins::lines::{line_of, shown_of};
+use stand_ins::rows::{Player, rows_hold, trimmed};
+use stand_ins::tables::{line_and_place, marked, meant, word_and_rest};
+use std::alloc::{AllocError, Global};
+use std::test::Fail;
+
+/// Whether a character ends a word, as the completer of file names sees it.
+fn ends_word(c: char) -> bool {
+    matches!(
+        c,
+        ' ' | '\t'
+            | '\n'
+            | '"'
+            | '\\'
+            | '\''
+            | '`'
+            | '@'
+            | '$'
+            | '>'
+            | '<'
+            | '='
+            | ';'
+            | '|'
+            | '&'
+            | '{'
+            | '('
+            | '\0'
+    )
+}
+
+/// One folder: a name and whether a folder bears it, for each.
+#[derive(Drop)]
+struct Folder {
+    path: &'static str,
+    names: &'static [(&'static str, bool)],
+}
+
+impl Lister for Folder {
+    ghost held_in = { λ s dir. gives (if bytes_eq dir s.path.now then map (λ p. record { name = p.0.now; is_dir = p.1 }) s.names.now else []) };
+
+    fn list(&self, alloc: Global, dir: &str) -> Result<Vec<Listed>, HookFault> {
+        let mut all = Vec::new(alloc);
+        if dir != self.path {
+            return Ok(all);
+        }
+        let names = self.names;
+        for (name, is_dir) in names {
+            all.push(listed(alloc, name, *is_dir)?)?;
+        }
+        Ok(all)
+    }
+}
+
+fn listed(alloc: Global, name: &str, is_dir: bool) -> Result<Listed, HookFault>
+    ensures same { IfOk result (λ l. l ≡ record { name = name.now; is_dir = is_dir }) }
+    ensures fault { IfErr result (λ e. e ≡ Memory) }
+{
+    let name = String::from_str(alloc, name)?;
+    Ok(Listed { name, is_dir })
+}
+
+/// A lister that fails.
+#[derive(Drop)]
+struct Broken;
+
+impl Lister for Broken {
+    ghost held_in = { λ s dir. gives_unless true [] };
+
+    fn list(&self, _alloc: Global, _dir: &str) -> Result<Vec<Listed>, HookFault> {
+        Err(HookFault::Failed)
+    }
+}
+
+/// How many candidates are told.
+const TOLD: usize = 12;
+
+// The line with a bar where the completed word begins, and after it each candidate with its replacement; of many the first ones
+// and their number.
+fn told<C: Candidate>(
+    alloc: Global,
+    line: &str,
+    start: usize,
+    candidates: &[C],
+) -> Result<String, AllocError> {
+    let mut said = marked(alloc, line, start)?;
+    for candidate in candidates.iter().take(TOLD) {
+        let (display, replacement) = (candidate.display(), candidate.replacement());
+        write!(said, "; {display}→{replacement}")?;
+    }
+    let count = candidates.len();
+    if count > TOLD {
+        write!(said, "; {count} in all")?;
+    }
+    Ok(said)
+}
+
+/// Completes each row's line at its end, by the name of the call.
+#[derive(Drop)]
+struct PathCompleter {
+    completer: FilenameCompleter<Folder>,
+}
+
+impl Player for PathCompleter {
+    fn play(&mut self, alloc: Global, call: &str) -> Result<String, Fail> {
+        let (call, line) = word_and_rest(call);
+        let found = match call {
+            "sorted" => self.completer.complete_path(alloc, line, line.len()),
+            _ => self
+                .completer
+                .complete_path_unsorted(alloc, line, line.len()),
+        };
+        let (start, pairs) = found?;
+        Ok(told(alloc, line, start, &pairs)?)
+    }
+}
+
+fn completes_paths(
+    alloc: Global,
+    path: &'static str,
+    names: &'static [(&'static str, bool)],
+    table: &str,
+) -> Result<(), Fail> {
+    let completer = FilenameCompleter::new(Folder { path, names });
+    rows_hold(alloc, &mut PathCompleter { completer }, table)
+}
+
+const IN_USR: &str = r#"
+    sorted ls /usr/lo               = ls |/usr/lo; local→/usr/local/; log→/usr/log
+    sorted ls /usr/m                = ls |/usr/m; my file→/usr/my\ file
+    sorted ls "/usr/m               = ls "|/usr/m; my file→/usr/my file
+    sorted ls '/usr/m               = ls '|/usr/m; my file→/usr/my file
+    sorted ls "/usr/my f            = ls "|/usr/my f; my file→/usr/my file
+    sorted ls '/usr/my f            = ls '|/usr/my f; my file→/usr/my file
+    sorted ls /usr/my\ f            = ls |/usr/my\ f; my file→/usr/my\ file
+    sorted ls "/usr/a               = ls "|/usr/a; a"$b`\'→/usr/a\"\$b\`\\'
+    sorted ls '/usr/a               = ls '|/usr/a; a"$b`\'→/usr/a"$b`\'
+    sorted ls /usr/a                = ls |/usr/a; a"$b`\'→/usr/a\"\$b\`\\\'
+    sorted ls "/usr/a\"             = ls "|/usr/a\"; a"$b`\'→/usr/a\"\$b\`\\'
+    sorted ls /usr/é                = ls |/usr/é; été→/usr/été/
+    sorted ls /usr/x                = ls |/usr/x
+    sorted ls /etc/l                = ls |/etc/l
+    sorted ls l                     = ls |l
+    sorted ls "it's" /usr/loc       = ls "it's" |/usr/loc; local→/usr/local/
+    sorted 'a' "b'c"d\" '/usr/loc   = 'a' "b'c"d\" '|/usr/loc; local→/usr/local/
+    sorted a;cat</usr/loc           = a;cat<|/usr/loc; local→/usr/local/
+"#;
+
+const IN_ORDER: &str = "
+    sorted                          = |; →/; B→B; a→a/; a→a; b→b
+    unsorted                        = |; b→b; a→a/; B→B; a→a; →/
+";
+
+#[test]
+fn paths(rt: HostRuntime) -> Result<(), Fail> {
+    let in_usr: &'static [(&'static str, bool)] = &[
+        ("local", true),
+        ("log", false),
+        ("my file", false),
+        ("été", true),
+        ("a\"$b`\\'", false),
+    ];
+    completes_paths(rt.alloc(), "/usr/", in_usr, IN_USR)?;
+    let here: &'static [(&'static str, bool)] = &[
+        ("b", false),
+        ("a", true),
+        ("B", false),
+        ("a", false),
+        ("", true),
+    ];
+    completes_paths(rt.alloc(), "", here, IN_ORDER)?;
+    completes_paths(rt.alloc(), "~/", &[], "    sorted ~/ = |~/")
+}
+
+// Candidates for a line, and what all of them begin with.
+fn offer_told<C: Candidate>(
+    alloc: Global,
+    line: &str,
+    start: usize,
+    candidates: &[C],
+) -> Result<String, AllocError> {
+    let mut said = told(alloc, line, start, candidates)?;
+    if let Some(prefix) = longest_common_prefix(candidates) {
+        write!(said, ", all with {prefix}")?;
+    }
+    Ok(said)
+}
+
+// An answer of a completer.
+fn answer_told<C: Candidate>(
+    alloc: Global,
+    line: &str,
+    answer: Result<(usize, Vec<C>), HookFault>,
+) -> Result<String, AllocError> {
+    match answer {
+        Ok((start, found)) => offer_told(alloc, line, start, &found),
+        Err(fault) => format!(in alloc; "{fault:?}"),
+    }
+}
+
+// What a completer answers to a line with the cursor at a place.
+fn completed_at<C: Completer>(
+    alloc: Global,
+    completer: &C,
+    line: &str,
+    pos: usize,
+) -> Result<String, AllocError> {
+    if !line.is_char_boundary(pos) {
+        return String::from_str(alloc, "no place for a cursor");
+    }
+    let history = MemHistory::new(alloc);
+    let answer = completer.complete(alloc, line, pos, &Context::new(&history));
+    answer_told(alloc, line, answer)
+}
+
+// What a completer answers to a line with the cursor.
+pub(crate) fn completed<C: Completer>(
+    alloc: Global,
+    completer: &C,
+    line: &str,
+) -> Result<String, AllocError> {
+    let (line, pos) = line_and_place(alloc, line)?;
+    completed_at(alloc, completer, line.as_str(), pos)
+}
+
+const COMPLETERS: &str = "
+    broken cat lo|      = Failed
+    boxed cat lo|       = cat |lo; local→local/; log→log, all with lo
+    none ca|t lo        = |cat lo
+";
+
+/// A completer by its name: one whose lister fails, one in a box, and the one that has nothing.
+#[derive(Drop)]
+struct ByName;
+
+impl Player for ByName {
+    fn play(&mut self, alloc: Global, call: &str) -> Result<String, Fail> {
+        let (name, line) = word_and_rest(call);
+        let said = match name {
+            "broken" => completed(alloc, &FilenameCompleter::new(Broken), line),
+            "boxed" => boxed_completed(alloc, line),
+            _ => completed(alloc, &(), line),
+        };
+        Ok(said?)
+    }
+}
+
+fn of_two_names() -> FilenameCompleter<Folder> {
+    let names: &'static [(&'static str, bool)] = &[("log", false), ("local", true)];
+    FilenameCompleter::new(Folder { path: "", names })
+}
+
+fn boxed_completed(alloc: Global, line: &str) -> Result<String, AllocError> {
+    let completer = Box::new(alloc, of_two_names())?;
+    completed(alloc, &completer, line)
+}
+
+#[test]
+fn completers(rt: HostRuntime) -> Result<(), Fail> {
+    rows_hold(rt.alloc(), &mut ByName, COMPLETERS)
+}
+
+fn copied(alloc: Global, pairs: &[Pair]) -> Result<Vec<Pair>, HookFault> {
+    let mut copies = Vec::new(alloc);
+    for pair in pairs {
+        copies.push(pair.try_clone(alloc)?)?;
+    }
+    Ok(copies)
+}
+
+fn copies_told(alloc: Global) -> Result<String, HookFault> {
+    let (start, pairs) = of_two_names().complete_path(alloc, "lo", 2)?;
+    let copies = copied(alloc, &pairs)?;
+    Ok(told(alloc, "lo", start, &copies)?)
+}
+
+#[test]
+fn candidates_copied(rt: HostRuntime) -> Result<(), Fail> {
+    let said = copies_told(rt.alloc())?;
+    assert_eq!(rt; said.as_str(), "|lo; local→local/; log→log");
+    Ok(())
+}
+
+// A line in which the text from `[` to the cursor is replaced by what stands after the colon; the line then.
+const UPDATES: &str = "
+    cat [lo| x : log  = cat log| x
+    cat [log| x :     = cat | x
+    cat [| x : été    = cat été| x
+";
+
+/// Updates lines by a completer.
+#[derive(Drop)]
+struct Updater<C> {
+    completer: C,
+}
+
+impl<C: Completer> Updater<C> {
+    // Replaces the text from a place to the cursor.
+    fn update(
+        &self,
+        alloc: Global,
+        line: &mut LineBuffer,
+        start: usize,
+        elected: &str,
+    ) -> Result<(), HookFault> {
+        if start > line.pos() || !line.as_str().is_char_boundary(start) {
+            return Err(HookFault::Failed);
+        }
+        self.completer
+            .update(alloc, line, start, elected, &mut NoListener)
+    }
+
+    // The line after an update, with its cursor.
+    fn updated(
+        &self,
+        alloc: Global,
+        line: &str,
+        start: usize,
+        elected: &str,
+    ) -> Result<String, HookFault> {
+        let mut line = line_of(alloc, line)?;
+        self.update(alloc, &mut line, start, elected)?;
+        Ok(shown_of(alloc, &line)?)
+    }
+}
+
+impl<C: Completer> Player for Updater<C> {
+    fn play(&mut self, alloc: Global, call: &str) -> Result<String, Fail> {
+        let (line, elected) = call.split_once(':').unwrap_or((call, ""));
+        let start = line.find('[').unwrap_or(0);
+        let line = line.trim().replace(alloc, "[", "")?;
+        Ok(self.updated(alloc, line.as_str(), start, elected.trim())?)
+    }
+}
+
+#[test]
+fn updates(rt: HostRuntime) -> Result<(), Fail> {
+    let completer = Box::new(rt.alloc(), ())?;
+    rows_hold(rt.alloc(), &mut Updater { completer }, UPDATES)?;
+    let completer = completer_of(rt.alloc(), "log")?;
+    rows_hold(
+        rt.alloc(),
+        &mut Updater {
+            completer: in_parts(Some(completer)),
+        },
+        UPDATES,
+    )?;
+    rows_hold(
+        rt.alloc(),
+        &mut Updater {
+            completer: in_parts(None),
+        },
+        UPDATES,
+    )
+}
+
+// A helper that completes words, where they are there.
+fn in_parts(completer: Option<WordCompleter>) -> HelperParts<Option<WordCompleter>, (), (), ()> {
+    HelperParts {
+        completer,
+        hinter: (),
+        highlighter: (),
+        validator: (),
+    }
+}
+
+// Where the last word of a line begins, and the word; a text escaped, bare or in quotes; and unescaped. The character that
+// escapes stands first.
+const WORDS: &str = r#"
+    word \ ls '/usr/local/b         = ls '|/usr/local/b; /usr/local/b
+    word \ ls /User\ Information    = ls |/User\ Information; /User\ Information
+    word none ls /User\ Information = ls /User\ |Information; Information
+    word \                          = |;
+    word \ word                     = |word; word
+    word \ a␠                       = a |;
+    word \ a\\ b                    = a\|\ b; \ b
+    word \ \ a                      = |\ a; \ a
+    word \ é été                    = é |été; été
+    word \ a b␉c␊d"e\f'g`h@i$j>k<l=m;n|o&p{q(r␀s = a b␉c␊d"e\f'g`h@i$j>k<l=m;n|o&p{q(r␀|s; s
+    bare \ /usr/local/b             = /usr/local/b
+    bare \ /User Information        = /User\ Information
+    bare none a b                   = a b
+    bare é a b                      = aé b
+    bare \                          = nothing
+    double \ a\ b                   = a\\\ b
+    single \ a b                    = a b
+    unescape \ /usr/local/b         = /usr/local/b
+    unescape \ /User\ Information   = /User Information
+    unescape \ a\                   = a
+    unescape \ a\\                  = a\
+    unescape \ \é\                  = é
+    unescape none a\b               = a\b
+    unescape é aébé                 = ab
+"#;
+
+// Where the last word of a text begins, and the word.
+fn word_told(alloc: Global, esc: Option<char>, text: &str) -> Result<String, AllocError> {
+    let (start, word) = extract_word(text, text.len(), esc, ends_word);
+    let line = marked(alloc, text, start)?;
+    format!(in alloc; "{line}; {word}")
+}
+
+fn unescaped(alloc: Global, esc: Option<char>, text: &str) -> Result<String, HookFault> {
+    let text = unescape(alloc, text, esc)?;
+    Ok(text.into_owned(alloc)?)
+}
+
+fn escaped(
+    alloc: Global,
+    esc: Option<char>,
+    text: &str,
+    quote: Quote,
+) -> Result<String, HookFault> {
+    let input = String::from_str(alloc, text)?;
+    escape(alloc, input, esc, ends_word, quote)
+}
+
+// What a call makes of a text.
+fn made(alloc: Global, call: &str, esc: Option<char>, text: &str) -> Result<String, HookFault> {
+    match call {
+        "word" => Ok(word_told(alloc, esc, text)?),
+        "unescape" => unescaped(alloc, esc, text),
+        "double" => escaped(alloc, esc, text, Quote::Double),
+        "single" => escaped(alloc, esc, text, Quote::Single),
+        _ => escaped(alloc, esc, text, Quote::None),
+    }
+}
+
+/// What the rows of a table ask.
+#[derive(Drop)]
+enum Ask {
+    Words,
+    CommonPrefixes,
+}
+
+impl Player for Ask {
+    fn play(&mut self, alloc: Global, call: &str) -> Result<String, Fail> {
+        match self {
+            Ask::Words => trimmed(alloc, made_of_row(alloc, call)?.as_str()),
+            Ask::CommonPrefixes => Ok(common_prefix(alloc, call)?),
+        }
+    }
+}
+
+// The character that escapes, if there is one.
+fn escape_named(word: &str) -> Option<char> {
+    match word {
+        "none" => None,
+        _ => word.chars().next(),
+    }
+}
+
+// What a row's call makes of its text.
+fn made_of_row(alloc: Global, call: &str) -> Result<String, HookFault> {
+    let (call, rest) = word_and_rest(call);
+    let (esc, text) = word_and_rest(rest);
+    let text = meant(alloc, text)?;
+    made(alloc, call, escape_named(esc), text.as_str())
+}
+
+#[test]
+fn words_and_escapes(rt: HostRuntime) -> Result<(), Fail> {
+    rows_hold(rt.alloc(), &mut Ask::Words, WORDS)
+}
+
+// Candidates, with a semicolon after each, and what all of them begin with.
+const COMMON_PREFIXES: &str = "
+                            = none
+    User;                   = User
+    ;                       = nothing
+    User;Users;             = User
+    User;Users;;            = none
+    fée;fête;               = f
+    été;êta;                = none
+    漢字b;漢字ab;漢字a;        = 漢字
+";
+
+// What a row's candidates begin with.
+fn common_prefix(alloc: Global, texts: &str) -> Result<String, AllocError> {
+    let candidates: Vec<&str> = texts.split_terminator(';').collect(alloc)?;
+    let prefix = longest_common_prefix(&candidates).unwrap_or("none");
+    String::from_str(alloc, prefix)
+}
+
+#[test]
+fn common_prefixes(rt: HostRuntime) -> Result<(), Fail> {
+    assert_eq!(rt; "text".display(), "text");
+    rows_hold(rt.alloc(), &mut Ask::CommonPrefixes, COMMON_PREFIXES)
+}

@@ -1,0 +1,413 @@
+//! Devices that fail at each byte in turn, and what a history is then.
+
+use crate::help::history::{add_line, add_lines, answer_told, entries, with_lines};
+use line_config::{Config, DeviceFailed, Log, ReadlineError, Sink, SliceSource, Source, VecSink};
+use line_help::{FileHistory, History};
+use stand_ins::rows::{Player, rows_hold};
+use stand_ins::tables::{meant_bytes, or_nothing, pictured_bytes, word_and_rest};
+use std::alloc::{AllocError, Global};
+use std::test::Fail;
+
+/// A sink that has room for so many bytes and one flush, which takes the place of a byte.
+#[derive(Drop)]
+struct Narrow {
+    room: usize,
+    taken: Log,
+    failed: bool,
+}
+
+impl Narrow {
+    ghost use Rattle.std.specs.Prelude.{◌≡◌, is_err, IsErr, IsTrue};
+
+    fn new(room: usize) -> Self {
+        Narrow {
+            room,
+            taken: Log::new(),
+            failed: false,
+        }
+    }
+
+    fn take(&mut self, count: usize) -> Result<(), DeviceFailed>
+        ensures taken { self.new.taken ≡ self.old.taken }
+        ensures failure { self.new.failed ≡ is_err result }
+        ensures for_good { IsTrue self.old.failed → IsErr result }
+    {
+        if self.failed || count > self.room {
+            self.failed = true;
+            return Err(DeviceFailed);
+        }
+        self.room -= count;
+        Ok(())
+    }
+}
+
+impl Sink for Narrow {
+    ghost use Rattle.std.specs.Prelude.{[]};
+
+    ghost held = { λ s. s.taken.bytes };
+
+    ghost waits = { λ _. [] };
+
+    ghost has_failed = { λ s. s.failed };
+
+    fn write(&mut self, bytes: &[u8]) -> Result<(), DeviceFailed> {
+        self.take(bytes.len())?;
+        self.taken.note(bytes);
+        Ok(())
+    }
+
+    fn flush(&mut self) -> Result<(), DeviceFailed> {
+        self.take(1)
+    }
+
+    fn failed(&self) -> bool {
+        self.failed
+    }
+}
+
+/// A sink that writes a bar where it is asked to pass on what was written.
+#[derive(Drop)]
+struct Barred {
+    written: Vec<u8>,
+    taken: Log,
+    failed: bool,
+}
+
+impl Barred {
+    ghost use Rattle.std.specs.Prelude.{◌≡◌, is_err, IsErr, IsTrue};
+
+    fn new(alloc: Global) -> Self {
+        Barred {
+            written: Vec::new(alloc),
+            taken: Log::new(),
+            failed: false,
+        }
+    }
+
+    fn keep(&mut self, bytes: &[u8]) -> Result<(), DeviceFailed>
+        ensures taken { self.new.taken ≡ self.old.taken }
+        ensures failure { self.new.failed ≡ is_err result }
+        ensures for_good { IsTrue self.old.failed → IsErr result }
+    {
+        if self.failed || self.written.extend_from_slice(bytes).is_err() {
+            self.failed = true;
+            return Err(DeviceFailed);
+        }
+        Ok(())
+    }
+}
+
+impl Sink for Barred {
+    ghost use Rattle.std.specs.Prelude.{[]};
+
+    ghost held = { λ s. s.taken.bytes };
+
+    ghost waits = { λ _. [] };
+
+    ghost has_failed = { λ s. s.failed };
+
+    fn write(&mut self, bytes: &[u8]) -> Result<(), DeviceFailed> {
+        self.keep(bytes)?;
+        self.taken.note(bytes);
+        Ok(())
+    }
+
+    fn flush(&mut self) -> Result<(), DeviceFailed> {
+        self.keep(b"|")
+    }
+
+    fn failed(&self) -> bool {
+        self.failed
+    }
+}
+
+// What the history `old` answers to a source that fails after these bytes, its entries then, and what of them is new.
+const CUT_TEXTS: &str = r"
+                            = Reader old|
+    #                       = Reader old|
+    #V                      = Reader old|
+    #V2                     = Reader old|
+    #V2␊                    = Reader old|
+    #V2␊a                   = Reader old|
+    #V2␊a\                  = Reader old|
+    #V2␊a\n                 = Reader old|
+    #V2␊a\nb                = Reader old|
+    #V2␊a\nb␊               = Reader old|a␊b|, new a\nb␊
+    #V2␊a\nb␊c              = Reader old|a␊b|, new a\nb␊
+    #V2␊a\nb␊c␊             = Reader old|a␊b|c|, new a\nb␊c␊
+    #V2␊a\nb␊c␊d            = Reader old|a␊b|c|, new a\nb␊c␊
+";
+
+// What a history answers to such a source, and its entries then.
+fn refused(
+    alloc: Global,
+    history: &mut FileHistory,
+    source: &mut SliceSource<'_>,
+) -> Result<String, AllocError> {
+    let answer = answer_told(history.load_from(alloc, source));
+    let entries = entries(alloc, history)?;
+    let failed = if source.failed() {
+        ""
+    } else {
+        " at no failure"
+    };
+    format!(in alloc; "{answer}{failed} {entries}")
+}
+
+// What a history answers twice to a source that fails after these bytes.
+fn twice_refused(
+    alloc: Global,
+    history: &mut FileHistory,
+    bytes: &[u8],
+) -> Result<String, AllocError> {
+    let mut source = SliceSource::failing_after(bytes);
+    let first = refused(alloc, history, &mut source)?;
+    let second = refused(alloc, history, &mut source)?;
+    if first == second {
+        return Ok(first);
+    }
+    format!(in alloc; "{first}, then {second}")
+}
+
+// What of a history is written now.
+fn written(alloc: Global, way: &Way, history: &mut FileHistory) -> Result<String, AllocError> {
+    let mut sink = VecSink::new(alloc);
+    let _ = write_to(way, history, &mut sink);
+    pictured_bytes(alloc, sink.bytes())
+}
+
+// The same answers, and what of the history's entries is new then.
+fn after_failing_source(
+    alloc: Global,
+    history: &mut FileHistory,
+    bytes: &[u8],
+) -> Result<String, AllocError> {
+    let said = twice_refused(alloc, history, bytes)?;
+    let new = written(alloc, &Way::Append, history)?;
+    let mark = if new.is_empty() { "" } else { ", new " };
+    format!(in alloc; "{said}{mark}{new}")
+}
+
+/// Sources that fail after each row's bytes.
+#[derive(Drop)]
+struct CutTexts;
+
+impl Player for CutTexts {
+    fn play(&mut self, alloc: Global, text: &str) -> Result<String, Fail> {
+        Ok(cut_text_told(alloc, text)?)
+    }
+}
+
+fn cut_text_told(alloc: Global, text: &str) -> Result<String, ReadlineError> {
+    let bytes = meant_bytes(alloc, text)?;
+    let mut history = saved_with(alloc, "old|")?;
+    Ok(after_failing_source(alloc, &mut history, &bytes)?)
+}
+
+// A history with these lines, the text of which is saved.
+fn saved_with(alloc: Global, lines: &str) -> Result<FileHistory, ReadlineError> {
+    let mut history = with_lines(alloc, lines)?;
+    history.save_to(&mut VecSink::new(alloc))?;
+    Ok(history)
+}
+
+#[test]
+fn sources_that_fail_at_each_byte(rt: HostRuntime) -> Result<(), Fail> {
+    rows_hold(rt.alloc(), &mut CutTexts, CUT_TEXTS)
+}
+
+// What a new history answers to a row that isn't UTF-8 before a failure.
+fn bad_row_told(alloc: Global) -> Result<String, AllocError> {
+    let mut source = SliceSource::failing_after(b"a\n\xff\nb");
+    refused(alloc, &mut FileHistory::new(alloc), &mut source)
+}
+
+/// A row that isn't UTF-8 is met before the failure after it.
+#[test]
+fn bad_rows_before_a_failure(rt: HostRuntime) -> Result<(), Fail> {
+    let said = bad_row_told(rt.alloc())?;
+    assert_eq!(rt; said.as_str(), "HistoryText at no failure a|");
+    Ok(())
+}
+
+// A save to a sink with room for so many bytes: what it answers twice, the entries then, and what a further save writes.
+const SAVES: &str = r"
+    0       = HistoryText, HistoryText, a\|b␊|, #V2␊a\\␊b\n␊
+    1       = HistoryText, HistoryText, a\|b␊|, #V2␊a\\␊b\n␊
+    2       = HistoryText, HistoryText, a\|b␊|, #V2␊a\\␊b\n␊
+    3       = HistoryText, HistoryText, a\|b␊|, #V2␊a\\␊b\n␊
+    4       = HistoryText, HistoryText, a\|b␊|, #V2␊a\\␊b\n␊
+    5       = HistoryText, HistoryText, a\|b␊|, #V2␊a\\␊b\n␊
+    6       = HistoryText, HistoryText, a\|b␊|, #V2␊a\\␊b\n␊
+    7       = HistoryText, HistoryText, a\|b␊|, #V2␊a\\␊b\n␊
+    8       = HistoryText, HistoryText, a\|b␊|, #V2␊a\\␊b\n␊
+    9       = HistoryText, HistoryText, a\|b␊|, #V2␊a\\␊b\n␊
+    10      = HistoryText, HistoryText, a\|b␊|, #V2␊a\\␊b\n␊
+    11      = HistoryText, HistoryText, a\|b␊|, #V2␊a\\␊b\n␊
+    12      = HistoryText, HistoryText, a\|b␊|, #V2␊a\\␊b\n␊
+    13      = fine, fine, a\|b␊|, nothing
+";
+
+// The same of an addition after a saved text.
+const ADDITIONS: &str = r"
+    0       = HistoryText, HistoryText, a|b␊|c|, b\n␊c␊
+    1       = HistoryText, HistoryText, a|b␊|c|, b\n␊c␊
+    2       = HistoryText, HistoryText, a|b␊|c|, b\n␊c␊
+    3       = HistoryText, HistoryText, a|b␊|c|, b\n␊c␊
+    4       = HistoryText, HistoryText, a|b␊|c|, b\n␊c␊
+    5       = HistoryText, HistoryText, a|b␊|c|, b\n␊c␊
+    6       = HistoryText, HistoryText, a|b␊|c|, b\n␊c␊
+    7       = fine, fine, a|b␊|c|, nothing
+";
+
+/// Where the text of a history goes.
+#[derive(Drop)]
+enum Way {
+    Save,
+    Append,
+}
+
+// Writes the text, and tells the answer.
+fn write_to<S: Sink>(way: &Way, history: &mut FileHistory, sink: &mut S) -> &'static str {
+    let answer = match way {
+        Way::Save => history.save_to(sink),
+        Way::Append => history.append_to(sink),
+    };
+    match answer {
+        Ok(()) => "fine",
+        Err(ReadlineError::HistoryText) => "HistoryText",
+        Err(_) => "another",
+    }
+}
+
+// What a sink with so much room answers twice.
+fn answers(way: &Way, history: &mut FileHistory, room: usize) -> (&'static str, &'static str) {
+    let mut sink = Narrow::new(room);
+    let first = write_to(way, history, &mut sink);
+    if sink.failed() == (first == "fine") {
+        return (first, "not as the sink has failed");
+    }
+    (first, write_to(way, history, &mut sink))
+}
+
+// The entries of a history, and what of them is still to be written.
+fn left_told(alloc: Global, way: &Way, history: &mut FileHistory) -> Result<String, AllocError> {
+    let entries = entries(alloc, history)?;
+    let rest = written(alloc, way, history)?;
+    let rest = or_nothing(rest.as_str());
+    format!(in alloc; "{entries}, {rest}")
+}
+
+// What happens with so much room.
+fn with_room(
+    alloc: Global,
+    way: &Way,
+    history: &mut FileHistory,
+    room: usize,
+) -> Result<String, AllocError> {
+    let (first, second) = answers(way, history, room);
+    let left = left_told(alloc, way, history)?;
+    format!(in alloc; "{first}, {second}, {left}")
+}
+
+// A history with a text that is saved, and entries that are to be added to it.
+fn to_be_appended(alloc: Global) -> Result<FileHistory, ReadlineError> {
+    let mut history = saved_with(alloc, "a|")?;
+    add_lines(alloc, &mut history, "b␊|c|")?;
+    Ok(history)
+}
+
+// A history with entries that are to be written.
+fn to_be_written(alloc: Global, way: &Way) -> Result<FileHistory, ReadlineError> {
+    match way {
+        Way::Save => with_lines(alloc, r"a\|b␊|"),
+        Way::Append => to_be_appended(alloc),
+    }
+}
+
+// What happens to such a history with so much room.
+fn room_told(alloc: Global, way: &Way, room: usize) -> Result<String, ReadlineError> {
+    let mut history = to_be_written(alloc, way)?;
+    Ok(with_room(alloc, way, &mut history, room)?)
+}
+
+impl Player for Way {
+    fn play(&mut self, alloc: Global, room: &str) -> Result<String, Fail> {
+        Ok(room_told(alloc, self, room.parse()?)?)
+    }
+}
+
+#[test]
+fn sinks_that_fail_at_each_byte(rt: HostRuntime) -> Result<(), Fail> {
+    rows_hold(rt.alloc(), &mut Way::Save, SAVES)?;
+    rows_hold(rt.alloc(), &mut Way::Append, ADDITIONS)
+}
+
+// Whether a history with no entries has nothing to write to a sink.
+fn writes_nothing(alloc: Global, sink: &mut Narrow) -> bool {
+    let mut history = FileHistory::with_config(alloc, &Config::default());
+    history.save_to(sink) == Ok(()) && history.append_to(sink) == Ok(())
+}
+
+/// A sink that has failed isn't asked where nothing is new.
+#[test]
+fn nothing_new_for_a_failed_sink(rt: HostRuntime) {
+    let mut sink = Narrow::new(0);
+    assert!(rt; sink.flush().is_err());
+    assert!(rt; writes_nothing(rt.alloc(), &mut sink));
+}
+
+// Calls of one history, and what they write to one sink.
+const PASSED_ON: &str = "
+    save        = nothing
+    append      = nothing
+    add ab      = nothing
+    add cd      = nothing
+    save        = #V2␊ab␊cd␊|
+    save        = nothing
+    append      = nothing
+    add ef      = nothing
+    add g       = nothing
+    append      = ef␊g␊|
+    append      = nothing
+    add h       = nothing
+    save        = #V2␊ab␊cd␊ef␊g␊h␊|
+";
+
+/// A history and its sink.
+#[derive(Drop)]
+struct Desk {
+    history: FileHistory,
+    sink: Barred,
+}
+
+impl Desk {
+    fn made(&mut self, alloc: Global, call: &str) -> Result<(), ReadlineError> {
+        let (call, line) = word_and_rest(call);
+        match call {
+            "save" => self.history.save_to(&mut self.sink),
+            "append" => self.history.append_to(&mut self.sink),
+            _ => add_line(alloc, &mut self.history, line),
+        }
+    }
+}
+
+impl Player for Desk {
+    fn play(&mut self, alloc: Global, call: &str) -> Result<String, Fail> {
+        let before = self.sink.written.len();
+        self.made(alloc, call)?;
+        let said = match self.sink.written.get(before..) {
+            Some(written) => pictured_bytes(alloc, written),
+            None => String::from_str(alloc, "less than before"),
+        };
+        Ok(said?)
+    }
+}
+
+/// All rows of a call are passed on at once, after the last of them.
+#[test]
+fn rows_are_passed_on_at_their_end(rt: HostRuntime) -> Result<(), Fail> {
+    let history = FileHistory::new(rt.alloc());
+    let sink = Barred::new(rt.alloc());
+    rows_hold(rt.alloc(), &mut Desk { history, sink }, PASSED_ON)
+}

@@ -1,0 +1,444 @@
+//! Helpers of the tests, and prompts: a helper that has everything, and one that refuses every call.
+ghost use Rattle.std.specs.Prelude.{◌≡◌, if◌then◌else◌, None, Some, true, false, IfOk, refl};
+ghost use Rattle.std.proofs.Common.{ap};
+ghost use Rattle.line_help.specs.Completion.{nothing_offered};
+ghost use Rattle.line_keys.specs.Replies.{Replies, gives, gives_at_once, gives_unless, itself};
+ghost use Rattle.line_config.specs.declared.errors.HookFault.{HookFault};
+ghost use Rattle.line_help.specs.declared.validate.ValidationResult.TheVariants.{Valid};
+
+use crate::help::words::completer_of;
+use line_buffer::{ChangeListener, LineBuffer};
+use line_config::{CompletionType, HookFault};
+use line_help::{
+    Completer, Context, Helper, HelperParts, Highlighter, Hint, Hinter, History, HistoryHinter,
+    MatchingBracketHighlighter, MatchingBracketValidator, MemHistory, Prompt, ValidationContext,
+    ValidationResult, Validator, WordCompleter,
+};
+use line_keys::CmdKind;
+use stand_ins::rows::{Player, rows_hold};
+use stand_ins::tables::{meant, pictured, word_and_rest};
+use std::alloc::{AllocError, Global};
+use std::borrow::CowStr;
+use std::test::Fail;
+
+/// Words, hints from the history, and brackets shown and validated.
+type Whole = HelperParts<
+    WordCompleter,
+    HistoryHinter,
+    MatchingBracketHighlighter,
+    MatchingBracketValidator,
+>;
+
+/// Refuses every call that can be refused: as failed, or for want of memory.
+#[derive(Drop)]
+pub struct Refusing {
+    fails: bool,
+}
+
+impl Refusing {
+    fn fault(&self) -> HookFault
+        ensures failed { self.now.fails ≡ true → result ≡ HookFault.Failed }
+        ensures memory { self.now.fails ≡ false → result ≡ HookFault.Memory }
+    {
+        if self.fails {
+            HookFault::Failed
+        } else {
+            HookFault::Memory
+        }
+    }
+}
+
+impl Completer for Refusing {
+    type Candidate = String;
+
+    ghost completion_of = { λ self line pos entries place. gives_unless self.fails nothing_offered };
+
+    ghost update_of = { λ self line start elected. gives_unless self.fails (tt {0}) };
+
+    fn complete<Hi: History>(
+        &self,
+        _alloc: Global,
+        _line: &str,
+        _pos: usize,
+        _ctx: &Context<'_, Hi>,
+    ) -> Result<(usize, Vec<String>), HookFault> {
+        Err(self.fault())
+    }
+
+    fn update<L: ChangeListener>(
+        &self,
+        _alloc: Global,
+        _line: &mut LineBuffer,
+        _start: usize,
+        _elected: &str,
+        _cl: &mut L,
+    ) -> Result<(), HookFault> {
+        Err(self.fault())
+    }
+}
+
+impl Hinter for Refusing {
+    type Hint = String;
+
+    ghost hint_of = { λ self line pos entries place. gives_unless self.fails None };
+
+    fn hint<Hi: History>(
+        &self,
+        _alloc: Global,
+        _line: &str,
+        _pos: usize,
+        _ctx: &Context<'_, Hi>,
+    ) -> Result<Option<String>, HookFault> {
+        Err(self.fault())
+    }
+}
+
+impl Highlighter for Refusing {
+    ghost marks = { λ self line pos kind. true };
+
+    ghost kept = { λ before after. after ≡ before };
+
+    ghost shown_as = { λ self part text. gives_unless self.fails text };
+
+    fn highlight<'l>(
+        &self,
+        _alloc: Global,
+        _line: &'l str,
+        _pos: usize,
+    ) -> Result<CowStr<'l>, HookFault> {
+        Err(self.fault())
+    }
+
+    fn highlight_prompt<'p>(
+        &self,
+        _alloc: Global,
+        _prompt: &'p str,
+        _default: bool,
+    ) -> Result<CowStr<'p>, HookFault> {
+        Err(self.fault())
+    }
+
+    fn highlight_hint<'h>(&self, _alloc: Global, _hint: &'h str) -> Result<CowStr<'h>, HookFault> {
+        Err(self.fault())
+    }
+
+    fn highlight_candidate<'c>(
+        &self,
+        _alloc: Global,
+        _candidate: &'c str,
+        _completion: CompletionType,
+    ) -> Result<CowStr<'c>, HookFault> {
+        Err(self.fault())
+    }
+
+    fn highlight_char(&mut self, _line: &str, _pos: usize, _kind: CmdKind) -> bool {
+        true
+    }
+}
+
+impl Validator for Refusing {
+    ghost verdict_of = { λ self text. gives_unless self.fails (Valid None) };
+
+    ghost while_typing = { λ self. false };
+
+    fn validate(
+        &self,
+        _alloc: Global,
+        _ctx: &ValidationContext<'_>,
+    ) -> Result<ValidationResult, HookFault> {
+        Err(self.fault())
+    }
+
+    fn validate_while_typing(&self) -> bool {
+        false
+    }
+}
+
+impl Helper for Refusing {
+    ghost same_completions = { λ before after kept. ap ⟦<Refusing as Completer>⟧.completion_of kept };
+
+    ghost same_updates = { λ before after kept. ap ⟦<Refusing as Completer>⟧.update_of kept };
+
+    ghost same_hints = { λ before after kept. ap ⟦<Refusing as Hinter>⟧.hint_of kept };
+
+    ghost same_verdicts = { λ before after kept. ap ⟦<Refusing as Validator>⟧.verdict_of kept };
+}
+
+/// What a helper finds of a line after a drawing of it: what it found before.
+fn verdict_after_drawing<H: Helper>(
+    alloc: Global,
+    helper: &mut H,
+    line: &str,
+) -> Result<ValidationResult, HookFault>
+    ensures { Replies (H.verdict_of helper.old line.now) itself result }
+{
+    let _marked = helper.highlight_char(line, line.len(), CmdKind::Other);
+    helper.validate(alloc, &ValidationContext::new(line))
+}
+
+// A text with pictures, in quotes.
+fn quoted(alloc: Global, text: &str) -> Result<String, AllocError> {
+    let shown = pictured(alloc, text)?;
+    format!(in alloc; "\"{shown}\"")
+}
+
+// What a helper shows of a text.
+fn shown<'t, H: Helper>(
+    alloc: Global,
+    helper: &H,
+    call: &str,
+    text: &'t str,
+) -> Result<CowStr<'t>, HookFault> {
+    match call {
+        "prompt" => helper.highlight_prompt(alloc, text, true),
+        "hint_shown" => helper.highlight_hint(alloc, text),
+        "listed" => helper.highlight_candidate(alloc, text, CompletionType::List),
+        _ => helper.highlight(alloc, text, text.len()),
+    }
+}
+
+// How many candidates it has for a line with the cursor at its end.
+fn candidates<H: Helper>(
+    alloc: Global,
+    helper: &H,
+    line: &str,
+    context: &Context<'_, MemHistory>,
+) -> Result<usize, HookFault> {
+    Ok(helper.complete(alloc, line, line.len(), context)?.1.len())
+}
+
+// An answer, or the fault in its place.
+fn shown_told(alloc: Global, answer: Result<CowStr<'_>, HookFault>) -> Result<String, AllocError> {
+    match answer {
+        Ok(shown) => quoted(alloc, shown.as_str()),
+        Err(fault) => format!(in alloc; "{fault:?}"),
+    }
+}
+
+fn hint_told<T: Hint>(
+    alloc: Global,
+    answer: Result<Option<T>, HookFault>,
+) -> Result<String, AllocError> {
+    match answer {
+        Ok(Some(hint)) => String::from_str(alloc, hint.display()),
+        Ok(None) => String::from_str(alloc, "none"),
+        Err(fault) => format!(in alloc; "{fault:?}"),
+    }
+}
+
+fn count_told(alloc: Global, answer: Result<usize, HookFault>) -> Result<String, AllocError> {
+    match answer {
+        Ok(count) => format!(in alloc; "{count}"),
+        Err(fault) => format!(in alloc; "{fault:?}"),
+    }
+}
+
+fn bool_told(alloc: Global, answer: bool) -> Result<String, AllocError> {
+    format!(in alloc; "{answer}")
+}
+
+fn verdict_told(
+    alloc: Global,
+    answer: Result<ValidationResult, HookFault>,
+) -> Result<String, AllocError> {
+    match answer {
+        Ok(found) => format!(in alloc; "{found:?}"),
+        Err(fault) => format!(in alloc; "{fault:?}"),
+    }
+}
+
+// What a helper answers to a call.
+fn asked<H: Helper>(
+    alloc: Global,
+    helper: &mut H,
+    call: &str,
+    text: &str,
+    context: &Context<'_, MemHistory>,
+) -> Result<String, AllocError> {
+    match call {
+        "verdict" => verdict_told(alloc, verdict_after_drawing(alloc, helper, text)),
+        "hint" => hint_told(alloc, helper.hint(alloc, text, text.len(), context)),
+        "candidates" => count_told(alloc, candidates(alloc, helper, text, context)),
+        "while_typing" => bool_told(alloc, helper.validate_while_typing()),
+        _ => shown_told(alloc, shown(alloc, helper, call, text)),
+    }
+}
+
+/// A helper that is asked each row's question, with a history.
+#[derive(Drop)]
+struct Answering<H> {
+    helper: H,
+    history: MemHistory,
+}
+
+impl<H: Helper> Player for Answering<H> {
+    fn play(&mut self, alloc: Global, call: &str) -> Result<String, Fail> {
+        let (call, text) = word_and_rest(call);
+        let text = meant(alloc, text)?;
+        let context = Context::new(&self.history);
+        let said = asked(alloc, &mut self.helper, call, text.as_str(), &context);
+        Ok(said?)
+    }
+}
+
+// Asks a helper, with one entry in the history.
+fn answers<H: Helper + Drop>(
+    alloc: Global,
+    helper: H,
+    entry: &str,
+    table: &str,
+) -> Result<(), Fail> {
+    let mut history = MemHistory::new(alloc);
+    history.add(alloc, entry)?;
+    rows_hold(alloc, &mut Answering { helper, history }, table)
+}
+
+fn make_helper(alloc: Global) -> Result<Whole, AllocError> {
+    Ok(HelperParts {
+        completer: completer_of(alloc, "(help) (hello) hello")?,
+        hinter: HistoryHinter::new(),
+        highlighter: MatchingBracketHighlighter::new(),
+        validator: MatchingBracketValidator::new(),
+    })
+}
+
+// Each part in its place: two of them fail, and two want memory.
+fn make_refusing() -> HelperParts<Refusing, Refusing, Refusing, Refusing> {
+    HelperParts {
+        completer: Refusing { fails: true },
+        hinter: Refusing { fails: false },
+        highlighter: Refusing { fails: true },
+        validator: Refusing { fails: false },
+    }
+}
+
+const EVERYTHING: &str = r#"
+    verdict (a)         = Valid(None)
+    highlight (a)       = "␛[1;34m(␛[0ma)"
+    prompt >␠           = "> "
+    hint_shown (a)      = "(a)"
+    listed (a)          = "(a)"
+    verdict (a          = Incomplete
+    while_typing        = false
+    hint (he            = llo)
+    candidates (he      = 2
+"#;
+
+const REFUSED_BY_PARTS: &str = "
+    candidates a        = Failed
+    hint a              = Memory
+    highlight a         = Failed
+    prompt a            = Failed
+    hint_shown a        = Failed
+    listed a            = Failed
+    verdict a           = Memory
+";
+
+const BRACKETS_ALONE: &str = "
+    verdict (a          = Incomplete
+    while_typing        = false
+    candidates (he      = 0
+";
+
+const WORDS_ALONE: &str = "
+    verdict (a          = Valid(None)
+    while_typing        = false
+    candidates he       = 2
+";
+
+/// Words and brackets, each where it is wanted.
+type Wanted = HelperParts<Option<WordCompleter>, (), (), Option<MatchingBracketValidator>>;
+
+fn make_wanted(
+    completer: Option<WordCompleter>,
+    validator: Option<MatchingBracketValidator>,
+) -> Wanted {
+    HelperParts {
+        completer,
+        hinter: (),
+        highlighter: (),
+        validator,
+    }
+}
+
+const NOTHING: &str = "
+    verdict (a]         = Valid(None)
+    hint he             = none
+    candidates he       = 0
+";
+
+const FAILED: &str = "
+    verdict a           = Failed
+    highlight a         = Failed
+    candidates a        = Failed
+    hint a              = Failed
+    hint_shown a        = Failed
+";
+
+const WANTS_MEMORY: &str = "
+    verdict a           = Memory
+    highlight a         = Memory
+    candidates a        = Memory
+    hint a              = Memory
+    hint_shown a        = Memory
+";
+
+#[test]
+fn what_helpers_answer(rt: HostRuntime) -> Result<(), Fail> {
+    let whole = make_helper(rt.alloc())?;
+    answers(rt.alloc(), whole, "(hello)", EVERYTHING)?;
+    answers(rt.alloc(), (), "hello", NOTHING)?;
+    answers(rt.alloc(), Refusing { fails: true }, "a", FAILED)?;
+    answers(rt.alloc(), Refusing { fails: false }, "a", WANTS_MEMORY)
+}
+
+#[test]
+fn helpers_of_parts(rt: HostRuntime) -> Result<(), Fail> {
+    let words = completer_of(rt.alloc(), "help hello")?;
+    answers(rt.alloc(), make_refusing(), "a", REFUSED_BY_PARTS)?;
+    answers(
+        rt.alloc(),
+        make_wanted(None, Some(MatchingBracketValidator::new())),
+        "",
+        BRACKETS_ALONE,
+    )?;
+    answers(rt.alloc(), make_wanted(Some(words), None), "", WORDS_ALONE)
+}
+
+// A prompt in both versions.
+fn both_texts<P: Prompt>(alloc: Global, prompt: &P) -> Result<String, AllocError> {
+    let (raw, styled) = (prompt.raw(), pictured(alloc, prompt.styled())?);
+    format!(in alloc; "\"{raw}\" \"{styled}\"")
+}
+
+// The type of a prompt, and its versions.
+const PROMPTS: &str = r#"
+    str     = "> " "> "
+    String  = "é " "é "
+    pair    = "> " "␛[1m> ␛[m"
+"#;
+
+/// A prompt of each type.
+#[derive(Drop)]
+struct Prompts;
+
+impl Player for Prompts {
+    fn play(&mut self, alloc: Global, call: &str) -> Result<String, Fail> {
+        let said = match call {
+            "str" => both_texts(alloc, &"> "),
+            "String" => string_told(alloc),
+            _ => both_texts(alloc, &("> ", "\x1b[1m> \x1b[m")),
+        };
+        Ok(said?)
+    }
+}
+
+fn string_told(alloc: Global) -> Result<String, AllocError> {
+    let prompt = String::from_str(alloc, "é ")?;
+    both_texts(alloc, &prompt)
+}
+
+#[test]
+fn prompts_in_both_versions(rt: HostRuntime) -> Result<(), Fail> {
+    rows_hold(rt.alloc(), &mut Prompts, PROMPTS)
+}

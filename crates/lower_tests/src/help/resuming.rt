@@ -1,0 +1,107 @@
+//! Sources that end, and give more where they are asked again, as a terminal does.
+
+ghost use Rattle.std.specs.Prelude.{◌+◌, [], false, length};
+ghost use Rattle.line_config.specs.declared.device.Last.TheVariants.{End};
+
+use crate::help::history::{answer_told, entries};
+use line_config::{DeviceFailed, Source};
+use line_help::{FileHistory, load_words};
+use stand_ins::rows::{Player, rows_hold};
+use stand_ins::tables::meant_bytes;
+use std::alloc::{AllocError, Global};
+use std::test::Fail;
+
+/// Some bytes, an end, more bytes, and an end again.
+#[derive(Drop)]
+struct Resuming<'a> {
+    bytes: &'a [u8],
+    more: &'a [u8],
+}
+
+impl Source for Resuming<'_> {
+    ghost feed = { λ s. record {
+      told = false;
+      coming = [];
+      last = End;
+      bound = length s.bytes.now + length s.more.now;
+      failed = false;
+    } };
+
+    ghost buffered = { λ s. [] };
+
+    fn next_byte(&mut self) -> Result<Option<u8>, DeviceFailed> {
+        let Some((first, rest)) = self.bytes.split_first() else {
+            self.bytes = self.more;
+            self.more = &[];
+            return Ok(None);
+        };
+        self.bytes = rest;
+        Ok(Some(*first))
+    }
+
+    fn buffer(&self) -> &[u8] {
+        &[]
+    }
+
+    fn consume(&mut self, _amount: usize) {}
+
+    fn failed(&self) -> bool {
+        false
+    }
+}
+
+// A text before which nothing was loaded, and `c` behind its end: what a new history answers, its entries then, and those
+// that it has when it loads again.
+const ENDS: &str = r"
+    a␊b     = part a|b|, then part a|b|c|
+    a␊b␊    = part a|b|, then part a|b|c|
+    #V2     = whole , then part c|
+    #V2␊a   = whole a|, then part a|c|
+            = part , then part c|
+";
+
+/// What is loaded of such a source.
+#[derive(Drop)]
+struct Ends;
+
+impl Player for Ends {
+    fn play(&mut self, alloc: Global, text: &str) -> Result<String, Fail> {
+        let bytes = meant_bytes(alloc, text)?;
+        let mut source = Resuming {
+            bytes: &bytes,
+            more: b"c",
+        };
+        Ok(loaded_twice(alloc, &mut source)?)
+    }
+}
+
+fn loaded_twice(alloc: Global, source: &mut Resuming<'_>) -> Result<String, AllocError> {
+    let mut history = FileHistory::new(alloc);
+    let first = answer_told(history.load_from(alloc, source));
+    let then = entries(alloc, &history)?;
+    let second = answer_told(history.load_from(alloc, source));
+    let last = entries(alloc, &history)?;
+    format!(in alloc; "{first} {then}, then {second} {last}")
+}
+
+/// Nothing is read behind a text's end: what comes there is another text.
+#[test]
+fn nothing_read_behind_the_end(rt: HostRuntime) -> Result<(), Fail> {
+    rows_hold(rt.alloc(), &mut Ends, ENDS)
+}
+
+// How many words are read of a source, and how many behind its end.
+fn words_counted(alloc: Global) -> (usize, usize) {
+    let mut source = Resuming {
+        bytes: b"a\nb",
+        more: b"c",
+    };
+    let first = load_words(alloc, &mut source).map_or(0, |words| words.len());
+    let second = load_words(alloc, &mut source).map_or(0, |words| words.len());
+    (first, second)
+}
+
+#[test]
+fn no_word_read_behind_the_end(rt: HostRuntime) {
+    assert_eq!(rt; words_counted(rt.alloc()), (2, 1));
+}

@@ -1,0 +1,136 @@
+//! Words: what is completed by them, and how they are read from a text.
+
+use crate::help::completion::completed;
+use line_config::{ReadlineError, SliceSource};
+use line_help::{WordCompleter, load_words};
+use stand_ins::rows::{Player, rows_hold};
+use stand_ins::tables::{meant_bytes, pictured, word_and_rest};
+use std::alloc::{AllocError, Global};
+use std::test::Fail;
+
+/// A completer by the words of a text, with a space between two.
+pub(crate) fn completer_of(alloc: Global, text: &str) -> Result<WordCompleter, AllocError> {
+    let mut words = Vec::new(alloc);
+    for word in text.split(' ') {
+        words.push(String::from_str(alloc, word)?)?;
+    }
+    Ok(WordCompleter::new(words))
+}
+
+const LISTED: &str = "alpha alpine twin twin été étoile e\u{301}a eb 漢字 al";
+
+// A line with the cursor; where the word begins, the candidates in their order, and what all of them begin with.
+const BY_WORDS: &str = "
+    al|             = |al; alpha→alpha; alpine→alpine; al→al, all with al
+    alp|            = |alp; alpha→alpha; alpine→alpine, all with alp
+    alpha|          = |alpha; alpha→alpha, all with alpha
+    alphas|         = |alphas
+    x alp|ha y      = x |alpha y; alpha→alpha; alpine→alpine, all with alp
+    tw|             = |tw; twin→twin; twin→twin, all with twin
+    ét|             = |ét; été→été; étoile→étoile, all with ét
+    été é|t         = été |ét; été→été; étoile→étoile, all with ét
+    e|              = |e; e\u{301}a→e\u{301}a; eb→eb, all with e
+    a␉漢|            = a␉|漢; 漢字→漢字, all with 漢字
+    a\u{3000}tw|    = a\u{3000}|tw; twin→twin; twin→twin, all with twin
+    a␊al|p          = a␊|alp; alpha→alpha; alpine→alpine; al→al, all with al
+    a'alp|          = |a'alp
+    x |             = x |; alpha→alpha; alpine→alpine; twin→twin; twin→twin; été→été; étoile→étoile; e\u{301}a→e\u{301}a; eb→eb; 漢字→漢字; al→al
+";
+
+/// What the rows of a table ask: a completer, or for the words of a text.
+#[derive(Drop)]
+enum Ask {
+    Completed(WordCompleter),
+    Loaded,
+}
+
+impl Player for Ask {
+    fn play(&mut self, alloc: Global, call: &str) -> Result<String, Fail> {
+        let said = match self {
+            Ask::Completed(completer) => completed(alloc, completer, call),
+            Ask::Loaded => loaded_told(alloc, call),
+        };
+        Ok(said?)
+    }
+}
+
+#[test]
+fn words_complete(rt: HostRuntime) -> Result<(), Fail> {
+    let completer = completer_of(rt.alloc(), LISTED)?;
+    rows_hold(rt.alloc(), &mut Ask::Completed(completer), BY_WORDS)
+}
+
+// The same for 100,000 words.
+const AMONG_MANY: &str = "
+    word99999|      = |word99999; word99999→word99999, all with word99999
+    word9|9999      = |word99999; word9→word9; word90→word90; word91→word91; word92→word92; word93→word93; word94→word94; word95→word95; word96→word96; word97→word97; word98→word98; word99→word99; word900→word900; 11111 in all, all with word9
+    w|              = |w; word0→word0; word1→word1; word2→word2; word3→word3; word4→word4; word5→word5; word6→word6; word7→word7; word8→word8; word9→word9; word10→word10; word11→word11; 100000 in all, all with word
+";
+
+// Words that a number ends, from 0 on.
+fn numbered(alloc: Global, count: u32) -> Result<WordCompleter, AllocError> {
+    let mut words = Vec::new(alloc);
+    for number in 0..count {
+        words.push(format!(in alloc; "word{number}")?)?;
+    }
+    Ok(WordCompleter::new(words))
+}
+
+#[test]
+fn many_words(rt: HostRuntime) -> Result<(), Fail> {
+    let completer = numbered(rt.alloc(), 100_000)?;
+    rows_hold(rt.alloc(), &mut Ask::Completed(completer), AMONG_MANY)
+}
+
+// The words of a text, with a bar after each; the second text ends in a failure of its source.
+const TEXTS: &str = r"
+    whole alpha␊alpine      = alpha|alpine|
+    whole b␊a␊b␊            = b|a|b|
+    whole a␍␊b␍␊            = a|b|
+    whole ␊␊a␊␍␊b␊␊         = a|b|
+    whole ␍a␍␍␊b␍           = ␍a␍|b␍|
+    whole #V2␊a\nb␊é c      = #V2|a\nb|é c|
+    whole                   = nothing
+    whole a␊‹c3 28›␊b       = NotUtf8
+    whole ‹c3›              = NotUtf8
+    cut a␊b                 = Reader
+    cut                     = Reader
+    cut ‹ff›␊b              = NotUtf8
+    cut a␊‹ff›              = Reader
+";
+
+// The words of a text, or why there are none.
+fn words_told(
+    alloc: Global,
+    answer: Result<Vec<String>, ReadlineError>,
+) -> Result<String, AllocError> {
+    match answer {
+        Ok(words) => bars_behind(alloc, &words),
+        Err(fault) => format!(in alloc; "{fault:?}"),
+    }
+}
+
+fn bars_behind(alloc: Global, words: &[String]) -> Result<String, AllocError> {
+    let mut said = String::new(alloc);
+    for word in words {
+        let word = pictured(alloc, word.as_str())?;
+        write!(said, "{word}|")?;
+    }
+    Ok(said)
+}
+
+fn loaded_told(alloc: Global, call: &str) -> Result<String, AllocError> {
+    let (end, text) = word_and_rest(call);
+    let bytes = meant_bytes(alloc, text)?;
+    let mut source = match end {
+        "cut" => SliceSource::failing_after(&bytes),
+        _ => SliceSource::new(&bytes),
+    };
+    let answer = load_words(alloc, &mut source);
+    words_told(alloc, answer)
+}
+
+#[test]
+fn words_of_texts(rt: HostRuntime) -> Result<(), Fail> {
+    rows_hold(rt.alloc(), &mut Ask::Loaded, TEXTS)
+}

@@ -1,0 +1,5 @@
+use Rattle.sessions_program.proofs.edits.StandLemmas.{edited_stand}
+use Rattle.sessions_program.proofs.edits.desk.Desk.indent_all.Goals as goal
+
+pub invariant_of-self : goal.invariant_of-self
+invariant_of-self c = record { stand = edited_stand c.indent.result c.args.self.now.stand c.as_str-text.ensures.utf8 c.indent.ensures }

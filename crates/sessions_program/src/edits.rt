@@ -1,0 +1,157 @@
+//! Each edit of a line, with a listener that makes the events it is told on a text of its own, each call of the undo
+//! record and of the kill ring, and each call of a history. A row for each says whether it was done or refused, and
+//! whether what it left is right. `tests/edit_growth.py` runs this with each growth of memory refused in turn.
+
+pub(crate) mod commands;
+mod desk;
+mod histories;
+mod record_cases;
+mod row_sink;
+mod shadow;
+pub(crate) mod slate;
+mod words;
+
+use line_buffer::{
+    At, CharSearch, LineBuffer, Movement, NoListener, OutOfMemory, Word, WordAction,
+};
+use shadow::Shadow;
+use std::alloc::Global;
+use std::io;
+
+const TEXT: &str = "one tw\u{E9} (three)\nfour \u{6F22}\u{5B57} six\n  seven";
+
+/// A place inside the second row.
+const PLACE: usize = 22;
+
+const LONG: &str =
+    "a long text that takes more room than a line of this length has left, so that it must grow";
+
+/// One edit of a line.
+#[derive(Clone, Copy)]
+enum Edit {
+    Update,
+    Insert,
+    InsertMany,
+    Yank,
+    YankPop,
+    Delete,
+    Backspace,
+    KillLine,
+    KillBuffer,
+    DiscardLine,
+    DiscardBuffer,
+    TransposeChars,
+    DeletePrevWord,
+    DeleteWord,
+    DeleteTo,
+    EditWord,
+    TransposeWords,
+    KillWhole,
+    Indent,
+    Dedent,
+}
+
+const EDITS: [(Edit, &str); 20] = [
+    (Edit::Update, "update"),
+    (Edit::Insert, "insert"),
+    (Edit::InsertMany, "insert many"),
+    (Edit::Yank, "yank"),
+    (Edit::YankPop, "yank_pop"),
+    (Edit::Delete, "delete"),
+    (Edit::Backspace, "backspace"),
+    (Edit::KillLine, "kill_line"),
+    (Edit::KillBuffer, "kill_buffer"),
+    (Edit::DiscardLine, "discard_line"),
+    (Edit::DiscardBuffer, "discard_buffer"),
+    (Edit::TransposeChars, "transpose_chars"),
+    (Edit::DeletePrevWord, "delete_prev_word"),
+    (Edit::DeleteWord, "delete_word"),
+    (Edit::DeleteTo, "delete_to"),
+    (Edit::EditWord, "edit_word"),
+    (Edit::TransposeWords, "transpose_words"),
+    (Edit::KillWhole, "kill"),
+    (Edit::Indent, "indent"),
+    (Edit::Dedent, "dedent"),
+];
+
+/// Makes an edit that puts text in, or another one; whether it was done.
+fn change(alloc: Global, edit: Edit, line: &mut LineBuffer, shadow: &mut Shadow) -> bool {
+    match edit {
+        Edit::Update => line.update(alloc, LONG, 4, shadow).is_ok(),
+        Edit::Insert => line.insert(alloc, '\u{E9}', 1, shadow).is_ok(),
+        Edit::InsertMany => line.insert(alloc, '\u{6F22}', 90, shadow).is_ok(),
+        Edit::Yank => line.yank(alloc, LONG, 2, shadow).is_ok(),
+        Edit::YankPop => {
+            !line.can_take_before(1) || line.yank_pop(alloc, 1, LONG, shadow).is_ok()
+        }
+        _ => take_away(alloc, edit, line, shadow),
+    }
+}
+
+fn take_away(alloc: Global, edit: Edit, line: &mut LineBuffer, shadow: &mut Shadow) -> bool {
+    match edit {
+        Edit::Delete => line.delete(alloc, 2, shadow).is_ok(),
+        Edit::Backspace => line.backspace(alloc, 2, shadow).is_ok(),
+        Edit::KillLine => line.kill_line(alloc, shadow).is_ok(),
+        Edit::KillBuffer => line.kill_buffer(alloc, shadow).is_ok(),
+        Edit::DiscardLine => line.discard_line(alloc, shadow).is_ok(),
+        Edit::DiscardBuffer => line.discard_buffer(alloc, shadow).is_ok(),
+        Edit::DeletePrevWord => line.delete_prev_word(alloc, Word::Emacs, 1, shadow).is_ok(),
+        Edit::DeleteWord => line
+            .delete_word(alloc, At::AfterEnd, Word::Emacs, 1, shadow)
+            .is_ok(),
+        Edit::DeleteTo => line
+            .delete_to(alloc, CharSearch::Forward('s'), 1, shadow)
+            .is_ok(),
+        _ => exchange(alloc, edit, line, shadow),
+    }
+}
+
+fn exchange(alloc: Global, edit: Edit, line: &mut LineBuffer, shadow: &mut Shadow) -> bool {
+    let all = &Movement::WholeBuffer;
+    match edit {
+        Edit::TransposeChars => line.transpose_chars(alloc, shadow).is_ok(),
+        Edit::EditWord => line.edit_word(alloc, WordAction::Uppercase, shadow).is_ok(),
+        Edit::TransposeWords => line.transpose_words(alloc, 1, shadow).is_ok(),
+        Edit::Indent => line.indent(alloc, all, 40, false, shadow).is_ok(),
+        Edit::Dedent => line.indent(alloc, all, 2, true, shadow).is_ok(),
+        _ => line.kill(alloc, all, shadow).is_ok(),
+    }
+}
+
+/// A line of the text with its cursor at the place, and leave to grow.
+fn start(alloc: Global) -> Result<LineBuffer, OutOfMemory> {
+    let mut line = LineBuffer::with_capacity(alloc, TEXT.len())?.can_growth(true);
+    line.insert_str(alloc, 0, TEXT, &mut NoListener)?;
+    if line.as_str().is_char_boundary(PLACE) {
+        line.set_pos(PLACE);
+    }
+    Ok(line)
+}
+
+fn check(rt: &impl Print, alloc: Global, edit: Edit, name: &str) -> io::Result<()> {
+    let (Ok(mut line), Ok(mut shadow)) = (start(alloc), Shadow::new(alloc, TEXT)) else {
+        return println!(rt; "{name}: not begun");
+    };
+    let word = if change(alloc, edit, &mut line, &mut shadow) {
+        "done"
+    } else {
+        "refused"
+    };
+    let cursor = line.as_str().is_char_boundary(line.pos());
+    let verdict = if shadow.agrees(line.as_str()) && cursor {
+        ""
+    } else {
+        ", WRONG"
+    };
+    println!(rt; "{name}: {word}{verdict}")
+}
+
+/// Makes all these calls, and tells of each.
+pub(crate) fn check_all(rt: &HostRuntime) -> io::Result<()> {
+    for (edit, name) in &EDITS {
+        check(rt, rt.alloc(), *edit, name)?;
+    }
+    record_cases::check_all(rt, rt.alloc())?;
+    histories::check(rt, rt.alloc())
+}

@@ -1,0 +1,187 @@
+//! Commands of a line, by their names, over a renderer that takes no memory. Its bytes go to standard error, and among them
+//! what stands after each step.
+
+use crate::edits::words::tell_ring;
+use line_buffer::GraphemeClusterMode;
+use line_config::{BellStyle, Config, ReadlineError, WriteSink};
+use line_editor::{State, Status, execute};
+use line_help::{
+    Context, HelperParts, History, HistoryHinter, MatchingBracketValidator, MemHistory,
+    WordCompleter,
+};
+use line_keys::{Bindings, Cmd, InputState};
+use line_record::KillRing;
+use line_screen::ScreenRenderer;
+use stand_ins::commands::command_named;
+use stand_ins::tables::word_and_rest;
+use std::alloc::Global;
+use std::io::{self, Stderr};
+
+const COLUMNS: u16 = 20;
+
+/// Completion by words, hints of the history, and lines whose brackets are balanced.
+type Aide = HelperParts<WordCompleter, HistoryHinter, (), MatchingBracketValidator>;
+
+type Edited<'h> = State<'static, 'h, ScreenRenderer<WriteSink<Stderr>>, Aide, MemHistory>;
+
+fn history_of(alloc: Global, entries: &str) -> Result<MemHistory, ReadlineError> {
+    let mut history = MemHistory::new(alloc);
+    for entry in entries.split(',') {
+        let _ = history.add(alloc, entry)?;
+    }
+    Ok(history)
+}
+
+/// The helper that completes by these words, and none where there is no word.
+fn helper_of(alloc: Global, listed: &str) -> Result<Option<Aide>, ReadlineError> {
+    if listed.is_empty() {
+        return Ok(None);
+    }
+    let mut words = Vec::new(alloc);
+    for word in listed.split(',') {
+        words.push(String::from_str(alloc, word)?)?;
+    }
+    Ok(Some(HelperParts {
+        completer: WordCompleter::new(words),
+        hinter: HistoryHinter::new(),
+        highlighter: (),
+        validator: MatchingBracketValidator::new(),
+    }))
+}
+
+/// Takes away the room that line and record have beyond what stands in them.
+fn tighten(alloc: Global, state: &mut Edited<'_>) -> Result<(), ReadlineError> {
+    let recorded = &mut state.recorded;
+    recorded.line = recorded.line.try_clone(alloc)?;
+    recorded.changes = recorded.changes.try_clone(alloc)?;
+    Ok(())
+}
+
+/// Makes a command, as a turn of a line does.
+fn make(
+    state: &mut Edited<'_>,
+    input: &InputState<'_>,
+    ring: &mut KillRing,
+    config: &Config,
+    cmd: Cmd,
+) -> Result<Status, ReadlineError> {
+    if cmd.should_reset_kill_ring() {
+        ring.reset();
+    }
+    execute(cmd, state, input, ring, config)
+}
+
+fn word_of(answer: Result<Status, ReadlineError>) -> &'static str {
+    match answer {
+        Ok(Status::Proceed) => "done",
+        Ok(Status::Submit) => "Submit",
+        Err(ReadlineError::Memory) => "refused",
+        Err(ReadlineError::Eof) => "Eof",
+        Err(ReadlineError::Interrupted) => "Interrupted",
+        Err(_) => "fault",
+    }
+}
+
+/// Makes a step that is no command, if it is one.
+fn prepare(alloc: Global, state: &mut Edited<'_>, step: &str) -> Option<Result<(), ReadlineError>> {
+    let (name, text) = word_and_rest(step);
+    match name {
+        "put" => Some(state.edit_insert_text(text)),
+        "restore" => Some(state.restore()),
+        "tighten" => Some(tighten(alloc, state)),
+        _ => None,
+    }
+}
+
+/// Makes a step, and answers how it ended.
+fn step_on(
+    alloc: Global,
+    state: &mut Edited<'_>,
+    input: &InputState<'_>,
+    ring: &mut KillRing,
+    config: &Config,
+    step: &str,
+) -> &'static str {
+    if let Some(done) = prepare(alloc, state, step) {
+        return word_of(done.map(|()| Status::Proceed));
+    }
+    match command_named(alloc, step) {
+        Some(cmd) => word_of(make(state, input, ring, config, cmd)),
+        None => "unread",
+    }
+}
+
+fn tell(rt: &HostRuntime, state: &Edited<'_>, ring: &KillRing, word: &str) -> io::Result<()> {
+    let hint = match &state.hint {
+        Some(hint) => hint.as_str(),
+        None => "",
+    };
+    let layout = &state.layout;
+    let (cursor, end) = (layout.cursor, layout.end);
+    eprint!(rt;
+        "\x1d{word}\t{}\t{}\t{hint}\t{}\t{} {} {} {}",
+        state.recorded.line.as_str(),
+        state.recorded.line.pos(),
+        state.ctx.history_index(),
+        cursor.row,
+        cursor.col,
+        end.row,
+        end.col
+    )?;
+    tell_ring(rt, ring)
+}
+
+fn play_on(
+    rt: &HostRuntime,
+    state: &mut Edited<'_>,
+    input: &InputState<'_>,
+    ring: &mut KillRing,
+    config: &Config,
+    steps: &[String],
+) -> io::Result<()> {
+    for step in steps {
+        let word = step_on(rt.alloc(), state, input, ring, config, step.as_str());
+        tell(rt, state, ring, word)?;
+    }
+    Ok(())
+}
+
+fn play_over(
+    rt: &HostRuntime,
+    history: &MemHistory,
+    helper: Option<Aide>,
+    steps: &[String],
+) -> Result<io::Result<()>, ReadlineError> {
+    let alloc = rt.alloc();
+    let screen = ScreenRenderer::new(
+        WriteSink::new(rt.stderr()),
+        COLUMNS,
+        GraphemeClusterMode::Unicode,
+        BellStyle::Audible,
+    );
+    let config = Config::builder().build();
+    let bindings = Bindings::new(alloc)?;
+    let input = InputState::new(alloc, &config, &bindings)?;
+    let mut ring = KillRing::new(alloc, 2)?;
+    let mut state = State::new(alloc, screen, "> ", helper, Context::new(history))?;
+    Ok(play_on(rt, &mut state, &input, &mut ring, &config, steps))
+}
+
+/// Makes the steps on a line over a history with these entries and a helper with these words, and tells after each of them
+/// what stands then.
+pub(crate) fn play(
+    rt: &HostRuntime,
+    entries: &str,
+    words: &str,
+    steps: &[String],
+) -> io::Result<()> {
+    let history = history_of(rt.alloc(), entries);
+    let helper = helper_of(rt.alloc(), words);
+    let (Ok(history), Ok(helper)) = (history, helper) else {
+        return eprintln!(rt; "not begun");
+    };
+    match play_over(rt, &history, helper, steps) {
+        Ok(told) => told,
+        Err(_) => eprintln!(rt; "not begun"),
+    }
+}

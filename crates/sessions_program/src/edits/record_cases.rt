@@ -1,0 +1,250 @@
+//! Each call that the undo record and the kill ring hear of, with each growth of memory that it wants refused: whether line,
+//! record and ring stand together then, and whether what was recorded can still be undone and made anew.
+
+use crate::edits::desk::{Desk, ITEMS, START};
+use line_buffer::{LineBuffer, OutOfMemory};
+use std::alloc::Global;
+use std::io;
+
+const LONG: &str =
+    "a long text that takes more room than a line, a slot of a ring or a step of a record has left";
+
+/// The texts that the line of some case has at some time, so that no undo may leave another.
+const TEXTS: [&str; 12] = [
+    "",
+    "one",
+    "one two",
+    "one two three",
+    "one two three fou",
+    "one two three four",
+    START,
+    "one two three x",
+    "one two ",
+    "one two two",
+    "one two three \nfour",
+    "  one two three \nfour",
+];
+
+/// More steps than any case records.
+const ALL: u16 = 20;
+
+#[derive(Clone, Copy, PartialEq, Eq)]
+enum Case {
+    Letter,
+    LetterJoined,
+    Paste,
+    Backspace,
+    BackspaceJoined,
+    ReplacementJoined,
+    Update,
+    RaiseWord,
+    TransposeWords,
+    Indent,
+    Kill,
+    KillJoined,
+    KillRound,
+    Begin,
+    End,
+    Undo,
+    UndoAll,
+    Redo,
+    RedoAll,
+    LastInsert,
+    CopyOfRecord,
+}
+
+const CASES: [(Case, &str); 21] = [
+    (Case::Letter, "letter recorded"),
+    (Case::LetterJoined, "letter joined"),
+    (Case::Paste, "paste recorded"),
+    (Case::Backspace, "backspace recorded"),
+    (Case::BackspaceJoined, "backspace joined"),
+    (Case::ReplacementJoined, "replacement joined"),
+    (Case::Update, "update recorded"),
+    (Case::RaiseWord, "edit_word recorded"),
+    (Case::TransposeWords, "transpose_words recorded"),
+    (Case::Indent, "indent recorded"),
+    (Case::Kill, "kill in the ring"),
+    (Case::KillJoined, "kill joined in the ring"),
+    (Case::KillRound, "kill over the oldest"),
+    (Case::Begin, "begin"),
+    (Case::End, "end"),
+    (Case::Undo, "undo"),
+    (Case::UndoAll, "undo of all"),
+    (Case::Redo, "redo"),
+    (Case::RedoAll, "redo of all"),
+    (Case::LastInsert, "last_insert"),
+    (Case::CopyOfRecord, "copy of the record"),
+];
+
+impl Case {
+    /// A refusal may leave a part of the call done.
+    fn goes_by_parts(self) -> bool {
+        matches!(self, Case::Update | Case::TransposeWords | Case::Indent)
+    }
+
+    /// A refusal leaves no record.
+    fn rewinds(self) -> bool {
+        matches!(
+            self,
+            Case::Undo | Case::UndoAll | Case::Redo | Case::RedoAll
+        )
+    }
+
+    /// What the ring lends before the call and after it.
+    fn slots(self) -> (&'static str, &'static str) {
+        match self {
+            Case::Kill => ("four", "three "),
+            Case::KillJoined => ("four", "three four"),
+            Case::KillRound => ("three ", "two "),
+            _ => ("four", "four"),
+        }
+    }
+
+    /// What comes before the call.
+    fn prepare(self, desk: &mut Desk) -> Result<(), OutOfMemory> {
+        self.lead_up(desk)?;
+        desk.tighten()
+    }
+
+    fn lead_up(self, desk: &mut Desk) -> Result<(), OutOfMemory> {
+        match self {
+            Case::LetterJoined | Case::LastInsert => desk.type_text("x"),
+            Case::BackspaceJoined => desk.backspace(),
+            Case::ReplacementJoined => desk.replace(0, 3, "ONE"),
+            Case::RaiseWord => Ok(desk.move_to_start()),
+            Case::Indent => desk.paste("\nfour"),
+            Case::Kill => Ok(desk.end_run()),
+            Case::KillRound => kill_round(desk),
+            Case::End => type_group(desk),
+            Case::Redo => desk.undo(1).map(drop),
+            Case::RedoAll => desk.undo(ALL).map(drop),
+            _ => Ok(()),
+        }
+    }
+
+    /// The call, and whether its answer is the right one.
+    fn call(self, desk: &mut Desk) -> Result<bool, OutOfMemory> {
+        match self {
+            Case::Letter => desk.type_text("!")?,
+            Case::LetterJoined => desk.type_text("y")?,
+            Case::Paste => desk.paste(LONG)?,
+            Case::Backspace | Case::BackspaceJoined => desk.backspace()?,
+            Case::ReplacementJoined => desk.replace(3, 4, LONG)?,
+            Case::Update => desk.update(LONG)?,
+            Case::RaiseWord => desk.raise_word()?,
+            Case::TransposeWords => desk.transpose_words()?,
+            Case::Indent => desk.indent_all()?,
+            Case::Kill | Case::KillJoined | Case::KillRound => desk.kill_word_back()?,
+            _ => return self.call_record(desk),
+        }
+        Ok(true)
+    }
+
+    fn call_record(self, desk: &mut Desk) -> Result<bool, OutOfMemory> {
+        match self {
+            Case::Begin => Ok(desk.begin()? == ITEMS),
+            Case::End => desk.end(),
+            Case::Undo => desk.undo(1),
+            Case::UndoAll => desk.undo(ALL),
+            Case::Redo => desk.redo(),
+            Case::RedoAll => {
+                let mut all = true;
+                for _ in 0..ITEMS {
+                    all &= desk.redo()?;
+                }
+                Ok(all)
+            }
+            Case::LastInsert => desk.last_insert_is("x"),
+            _ => desk.copies_record(),
+        }
+    }
+}
+
+/// Another kill, so that the ring goes round at the next.
+fn kill_round(desk: &mut Desk) -> Result<(), OutOfMemory> {
+    desk.end_run();
+    desk.kill_word_back()?;
+    desk.end_run();
+    Ok(())
+}
+
+/// The changes of a group that is still open.
+fn type_group(desk: &mut Desk) -> Result<(), OutOfMemory> {
+    desk.begin()?;
+    desk.paste("x")?;
+    desk.type_text(" y")
+}
+
+/// Whether the line had this text at some time.
+fn is_known(text: &str) -> bool {
+    TEXTS.iter().any(|known| *known == text)
+}
+
+/// Whether undoing item by item leaves nothing but known texts and ends at the empty one, and making all anew gives the
+/// present text back, or after an undo the one before it.
+fn comes_back(case: Case, desk: &mut Desk) -> Result<bool, OutOfMemory> {
+    let now = desk.copy_of_line()?;
+    let last = if case.rewinds() { START } else { now.as_str() };
+    let mut known = true;
+    for _ in 0..ALL {
+        desk.undo(1)?;
+        known &= is_known(desk.text()) && desk.has_cursor();
+    }
+    known &= desk.text().is_empty();
+    for _ in 0..ALL {
+        desk.redo()?;
+    }
+    Ok(known && desk.text() == last)
+}
+
+/// Whether what a refused call left is what it promises.
+fn is_left(case: Case, desk: &mut Desk, before: &LineBuffer) -> Result<bool, OutOfMemory> {
+    if case.rewinds() {
+        return Ok(is_known(desk.text()) && desk.has_no_record()?);
+    }
+    let same = desk.text() == before.as_str() && desk.pos() == before.pos();
+    Ok((case.goes_by_parts() || same) && comes_back(case, desk)?)
+}
+
+fn begun(case: Case, alloc: Global) -> Result<(Desk, LineBuffer), OutOfMemory> {
+    let mut desk = Desk::new(alloc)?;
+    case.prepare(&mut desk)?;
+    let before = desk.copy_of_line()?;
+    Ok((desk, before))
+}
+
+fn check(rt: &impl Print, alloc: Global, case: Case, name: &str) -> io::Result<()> {
+    let Ok((mut desk, before)) = begun(case, alloc) else {
+        return println!(rt; "{name}: not begun");
+    };
+    let (old, new) = case.slots();
+    let (word, right) = match case.call(&mut desk) {
+        Ok(answer) => {
+            let right = answer && desk.yanks(new);
+            (
+                "done",
+                comes_back(case, &mut desk).map(|back| back && right),
+            )
+        }
+        Err(OutOfMemory) => {
+            let right = desk.yanks(old) || desk.yanks(new);
+            (
+                "refused",
+                is_left(case, &mut desk, &before).map(|left| left && right),
+            )
+        }
+    };
+    match right {
+        Ok(true) => println!(rt; "{name}: {word}"),
+        Ok(false) => println!(rt; "{name}: {word}, WRONG"),
+        Err(OutOfMemory) => println!(rt; "{name}: not judged"),
+    }
+}
+
+pub(crate) fn check_all(rt: &impl Print, alloc: Global) -> io::Result<()> {
+    for (case, name) in &CASES {
+        check(rt, alloc, *case, name)?;
+    }
+    Ok(())
+}

@@ -1,0 +1,195 @@
+//! Edits of a line with its record, a kill ring and the mark of a plain text, by the names of their calls, a number and what
+//! stands after it: `insert_char 2 x`, `update 1 abc`, `edit_word 0 Uppercase`, `kill 0 WholeLine`.
+
+use crate::edits::words::{first_char, parts, tell_ring, word_of};
+use line_buffer::{LineBuffer, Movement, OutOfMemory, RepeatCount, WordAction};
+use line_edits::{RecordedLine, is_plain};
+use line_record::{Changeset, KillRing};
+use stand_ins::commands::movement_named;
+use std::alloc::Global;
+use std::io;
+
+/// How many columns a row is moved by.
+const INDENT: u8 = 2;
+
+/// Puts a text in, or tells that no such edit has this name.
+fn put(
+    alloc: Global,
+    recorded: &mut RecordedLine,
+    name: &str,
+    n: RepeatCount,
+    text: &str,
+) -> Option<bool> {
+    let c = first_char(text);
+    let done = match name {
+        "insert_char" => recorded.insert_char(alloc, c, n).is_ok(),
+        "insert_text" => recorded.insert_text(alloc, text).is_ok(),
+        "yank" => recorded.yank(alloc, text, n).is_ok(),
+        "replace_chars" => recorded.replace_chars(alloc, c, n).is_ok(),
+        "overwrite" => recorded.overwrite(alloc, c).is_ok(),
+        _ => return put_over(alloc, recorded, name, usize::from(n), text),
+    };
+    Some(done)
+}
+
+/// Puts a text in place of another, if a character begins at the place that the number names.
+fn put_over(
+    alloc: Global,
+    recorded: &mut RecordedLine,
+    name: &str,
+    place: usize,
+    text: &str,
+) -> Option<bool> {
+    let done = match name {
+        "yank_pop" if recorded.line.can_take_before(place) => {
+            recorded.yank_pop(alloc, place, text).is_ok()
+        }
+        "update" if text.is_char_boundary(place) => { recorded.update(alloc, text, place).is_ok() }
+        "update_grouped" if text.is_char_boundary(place) => {
+            recorded.update_grouped(alloc, text, place).is_ok()
+        }
+        _ => return None,
+    };
+    Some(done)
+}
+
+/// Exchanges or rewords what stands there, or takes back what was recorded.
+fn reword(
+    alloc: Global,
+    recorded: &mut RecordedLine,
+    name: &str,
+    n: RepeatCount,
+    text: &str,
+) -> Option<bool> {
+    let done = match name {
+        "transpose_chars" => recorded.transpose_chars(alloc).is_ok(),
+        "transpose_words" => recorded.transpose_words(alloc, n).is_ok(),
+        "edit_word" => recorded.edit_word(alloc, action_named(text)).is_ok(),
+        "undo" => recorded.undo(alloc, n).is_ok(),
+        _ => return None,
+    };
+    Some(done)
+}
+
+fn action_named(name: &str) -> WordAction {
+    match name {
+        "Capitalize" => WordAction::Capitalize,
+        "Lowercase" => WordAction::Lowercase,
+        _ => WordAction::Uppercase,
+    }
+}
+
+#[derive(Drop)]
+struct Slate {
+    recorded: RecordedLine,
+    ring: KillRing,
+    alloc: Global,
+}
+
+impl Slate {
+    fn new(alloc: Global) -> Result<Self, OutOfMemory> {
+        let line = LineBuffer::with_capacity(alloc, 0)?.can_growth(true);
+        let changes = Changeset::new(alloc)?;
+        let ring = KillRing::new(alloc, 2)?;
+        Ok(Slate {
+            recorded: RecordedLine::new(line, changes),
+            ring,
+            alloc,
+        })
+    }
+
+    /// Takes away the room that line and record have beyond what stands in them.
+    fn tighten(&mut self) -> Result<(), OutOfMemory> {
+        self.recorded.line = self.recorded.line.try_clone(self.alloc)?;
+        self.recorded.changes = self.recorded.changes.try_clone(self.alloc)?;
+        Ok(())
+    }
+
+    /// Makes anew what was taken back last.
+    fn redo(&mut self) -> bool {
+        let recorded = &mut self.recorded;
+        let made = recorded
+            .changes
+            .redo(self.alloc, &mut recorded.line)
+            .is_ok();
+        recorded.plain = is_plain(recorded.line.as_str());
+        made
+    }
+
+    fn puts(&mut self, name: &str, n: RepeatCount, text: &str) -> Option<bool> {
+        put(self.alloc, &mut self.recorded, name, n, text)
+    }
+
+    fn rewords(&mut self, name: &str, n: RepeatCount, text: &str) -> Option<bool> {
+        reword(self.alloc, &mut self.recorded, name, n, text)
+    }
+
+    fn kills(&mut self, movement: &Movement) -> bool {
+        self.recorded
+            .kill(self.alloc, &mut self.ring, movement)
+            .is_ok()
+    }
+
+    fn moves_rows(&mut self, movement: &Movement, dedent: bool) -> bool {
+        self.recorded
+            .indent(self.alloc, movement, INDENT, dedent)
+            .is_ok()
+    }
+
+    /// Makes an edit that takes a movement.
+    fn makes_over(&mut self, name: &str, words: &str) -> Option<bool> {
+        let movement = movement_named(self.alloc, words)?;
+        match name {
+            "kill" => Some(self.kills(&movement)),
+            "indent" => Some(self.moves_rows(&movement, false)),
+            "dedent" => Some(self.moves_rows(&movement, true)),
+            _ => None,
+        }
+    }
+
+    /// Makes a step by its name: whether it was done, or nothing where it has none.
+    fn makes(&mut self, name: &str, n: RepeatCount, text: &str) -> Option<bool> {
+        match name {
+            "at" => Some(self.stands_at(usize::from(n))),
+            "tighten" => Some(self.tighten().is_ok()),
+            "redo" => Some(self.redo()),
+            "kill" | "indent" | "dedent" => self.makes_over(name, text),
+            "transpose_chars" | "transpose_words" | "edit_word" | "undo" => {
+                self.rewords(name, n, text)
+            }
+            _ => self.puts(name, n, text),
+        }
+    }
+
+    /// Sets the cursor, where a character begins there.
+    fn stands_at(&mut self, pos: usize) -> bool {
+        let is_boundary = self.recorded.line.as_str().is_char_boundary(pos);
+        if is_boundary {
+            self.recorded.line.set_pos(pos);
+        }
+        is_boundary
+    }
+
+    fn tell(&self, rt: &HostRuntime, word: &str) -> io::Result<()> {
+        let mark = if self.recorded.plain { "plain" } else { "" };
+        eprint!(rt;
+            "\x1d{word}\t{}\t{}\t{mark}",
+            self.recorded.line.as_str(),
+            self.recorded.line.pos()
+        )?;
+        tell_ring(rt, &self.ring)
+    }
+}
+
+/// Makes the steps, and tells after each of them what stands then.
+pub(crate) fn play(rt: &HostRuntime, alloc: Global, steps: &[String]) -> io::Result<()> {
+    let Ok(mut slate) = Slate::new(alloc) else {
+        return eprintln!(rt; "not begun");
+    };
+    for step in steps {
+        let (name, n, text) = parts(step.as_str());
+        let word = word_of(slate.makes(name, n, text));
+        slate.tell(rt, word)?;
+    }
+    Ok(())
+}
