@@ -1,10 +1,27 @@
 //! The changes of one range: each finds its memory, then tells the listener, then changes the text.
 
+ghost use Rattle.std.specs.Prelude.{◌≡◌, ◌≤◌, [], string_bytes, IsCharBoundary};
+ghost use Rattle.std.specs.List.{replace_range};
+
 use crate::line_buffer::{LineBuffer, OutOfMemory};
 use crate::listener::{ChangeListener, DeleteListener};
 use crate::types::Direction;
 use std::alloc::Global;
 use std::ops::Range;
+
+/// Takes a range out of a text. An end is cut off, with nothing to move.
+fn take_out(text: &mut String, from: usize, upto: usize)
+    requires order { from ≤ upto }
+    requires start { IsCharBoundary (string_bytes text.old) from }
+    requires end { IsCharBoundary (string_bytes text.old) upto }
+    ensures { string_bytes text.new ≡ replace_range (string_bytes text.old) from upto [] }
+{
+    if upto == text.len() {
+        text.truncate(from);
+        return;
+    }
+    text.replace_range(from..upto, "").unwrap();
+}
 
 impl LineBuffer {
     ghost use Rattle.std.specs.Prelude.{◌≡◌, ◌==◌, ◌≤◌, length, IfOk, IsCharBoundary};
@@ -98,7 +115,7 @@ impl LineBuffer {
             &self.buf[range.start..range.end],
             direction,
         )?;
-        self.buf.replace_range(range.start..range.end, "")?;
+        take_out(&mut self.buf, range.start, range.end);
         self.pos = range.start;
         Ok(())
     }

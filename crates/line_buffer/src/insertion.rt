@@ -1,12 +1,13 @@
 //! Texts put in at the cursor, and the exchange of the whole text.
 
-ghost use Rattle.std.specs.Prelude.{◌≡◌, ◌≤◌, length, IsCharBoundary};
+ghost use Rattle.std.specs.Prelude.{◌≡◌, ◌≤◌, ◌<◌, ◌+◌, length, string_bytes, string_len, string_capacity, encode_utf8, IsCharBoundary, OnOk, OnErr};
+ghost use Rattle.std.specs.List.{insert_slice};
 ghost use Rattle.line_buffer.specs.Insertions.{last_cut};
 
 use crate::line_buffer::{LineBuffer, OutOfMemory};
 use crate::listener::{ChangeListener, DeleteListener};
 use crate::types::RepeatCount;
-use std::alloc::Global;
+use std::alloc::{AllocError, Global};
 
 /// The greatest place up to `room` at which `text` may be cut.
 fn last_cut(text: &str, room: usize) -> usize
@@ -19,6 +20,20 @@ fn last_cut(text: &str, room: usize) -> usize
         end -= 1;
     }
     end
+}
+
+/// Puts a character into a text. At its end nothing is moved.
+fn put_char(text: &mut String, at: usize, ch: char) -> Result<(), AllocError>
+    requires { IsCharBoundary (string_bytes text.old) at }
+    ensures bytes { OnOk result (string_bytes text.new
+        ≡ insert_slice (string_bytes text.old) at (encode_utf8 ch)) }
+    ensures full { OnErr result (string_capacity text.old
+        < string_len text.old + length (encode_utf8 ch)) }
+{
+    if at == text.len() {
+        return text.push(ch);
+    }
+    text.insert(at, ch)
 }
 
 impl LineBuffer {
@@ -154,7 +169,7 @@ impl LineBuffer {
     {
         self.buf.reserve(ch.len_utf8())?;
         cl.insert_char(alloc, self.pos, ch)?;
-        self.buf.insert(self.pos, ch)?;
+        put_char(&mut self.buf, self.pos, ch)?;
         self.pos += ch.len_utf8();
         Ok(())
     }

@@ -7,7 +7,7 @@ pub returns : goal.returns
 returns g c = record {
   told = search rules;
   replays = swaps_deletion _ _ _ _ c.requires.order c.requires.start c.requires.end
-      (c.in_ok-replace_range.ensures.bytes ∙ ap (λ t. replace_range t c.args.range.start c.args.range.end []) (ap (λ l. l.text) c.self.view_is));
+      (c.take_out.ensures ∙ ap (λ t. replace_range t c.args.range.start c.args.range.end []) (ap (λ l. l.text) c.self.view_is));
   line = search rules;
   refused = tt;
   kept = tt;
