@@ -1,6 +1,7 @@
 //! The arguments of a call in a table, each known by its form.
 
 use line_buffer::{At, CharSearch, GraphemeClusterMode, Movement, RepeatCount, Word, WordAction};
+use stand_ins::rows::raised;
 use std::test::Fail;
 
 /// A call by its name, with what it was given, and what it is given by default.
@@ -122,7 +123,7 @@ impl<'a> Arguments<'a> {
             "EndOfBuffer" => Some(Movement::EndOfBuffer),
             _ => self.counted_movement(name),
         };
-        Ok(movement.ok_or("no movement")?)
+        raised(movement.ok_or("no movement"))
     }
 
     fn counted_movement(&self, name: &str) -> Option<Movement> {

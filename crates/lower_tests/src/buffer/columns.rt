@@ -4,92 +4,68 @@
 use crate::buffer::table::{layout, plays};
 use line_buffer::{GraphemeClusterMode, Layout, Position};
 use stand_ins::lines::line_of;
-use stand_ins::rows::{Player, rows_hold};
+use stand_ins::rows::{Player, raised, rows_hold};
 use stand_ins::tables::meant;
 use std::alloc::Global;
 use std::process::Abort;
 use std::test::Fail;
 
-#[test]
-fn up_by_rows(rt: HostRuntime) -> Result<(), Fail> {
-    plays(
-        rt.alloc(),
-        "
-        'hello␊abc|'    move_to_line_up 1 0 = true 'hel|lo␊abc'
-        'hello␊abc|'    move_to_line_up 1 2 = true 'h|ello␊abc'
-        'hello␊|abc'    move_to_line_up 1 2 = true '|hello␊abc'
-        'hello␊a|bc'    move_to_line_up 1 9 = true '|hello␊abc'
-        'ab␊hello|'     move_to_line_up 1 0 = true 'ab|␊hello'
-        'abc␊␊vwx|yz'   move_to_line_up 1 0 = true 'abc␊|␊vwxyz'
-        'abc␊␊vwx|yz'   move_to_line_up 2 0 = true 'abc|␊␊vwxyz'
-        'abc␊␊vwx|yz'   move_to_line_up 2 1 = true 'ab|c␊␊vwxyz'
-        'abc␊␊vwx|yz'   move_to_line_up 65535 0 = true 'abc|␊␊vwxyz'
-        'ab␍␊cd|'       move_to_line_up 1 0 = true 'ab|␍␊cd'
-        'ab␍␊cdef|'     move_to_line_up 1 0 = true 'ab␍|␊cdef'
-        '漢字␊ab|c'       move_to_line_up 1 0 = true '漢|字␊abc'
-        '漢字␊abcd|'      move_to_line_up 1 0 = true '漢字|␊abcd'
-        '漢字␊abcd|'      move_to_line_up 1 1 = true '漢|字␊abcd'
-        'e\u{301}x␊a|b' move_to_line_up 1 0 = true 'e\u{301}|x␊ab'
-        'e\u{301}x␊ab|' move_to_line_up 1 0 = true 'e\u{301}x|␊ab'
-        '🇩🇪z␊ab|c'      move_to_line_up 1 0 = true '🇩🇪|z␊abc'
-        ",
-    )
-}
+const UP_BY_ROWS: &str = "
+    'hello␊abc|'    move_to_line_up 1 0 = true 'hel|lo␊abc'
+    'hello␊abc|'    move_to_line_up 1 2 = true 'h|ello␊abc'
+    'hello␊|abc'    move_to_line_up 1 2 = true '|hello␊abc'
+    'hello␊a|bc'    move_to_line_up 1 9 = true '|hello␊abc'
+    'ab␊hello|'     move_to_line_up 1 0 = true 'ab|␊hello'
+    'abc␊␊vwx|yz'   move_to_line_up 1 0 = true 'abc␊|␊vwxyz'
+    'abc␊␊vwx|yz'   move_to_line_up 2 0 = true 'abc|␊␊vwxyz'
+    'abc␊␊vwx|yz'   move_to_line_up 2 1 = true 'ab|c␊␊vwxyz'
+    'abc␊␊vwx|yz'   move_to_line_up 65535 0 = true 'abc|␊␊vwxyz'
+    'ab␍␊cd|'       move_to_line_up 1 0 = true 'ab|␍␊cd'
+    'ab␍␊cdef|'     move_to_line_up 1 0 = true 'ab␍|␊cdef'
+    '漢字␊ab|c'       move_to_line_up 1 0 = true '漢|字␊abc'
+    '漢字␊abcd|'      move_to_line_up 1 0 = true '漢字|␊abcd'
+    '漢字␊abcd|'      move_to_line_up 1 1 = true '漢|字␊abcd'
+    'e\u{301}x␊a|b' move_to_line_up 1 0 = true 'e\u{301}|x␊ab'
+    'e\u{301}x␊ab|' move_to_line_up 1 0 = true 'e\u{301}x|␊ab'
+    '🇩🇪z␊ab|c'      move_to_line_up 1 0 = true '🇩🇪|z␊abc'
+    ";
 
-#[test]
-fn down_by_rows(rt: HostRuntime) -> Result<(), Fail> {
-    plays(
-        rt.alloc(),
-        "
-        'hell|o␊abc'     move_to_line_down 1 0 = true 'hello␊abc|'
-        'h|ello␊abc'     move_to_line_down 1 2 = true 'hello␊abc|'
-        '|hello␊abc'     move_to_line_down 1 2 = true 'hello␊ab|c'
-        '|hello␊abc'     move_to_line_down 1 0 = true 'hello␊|abc'
-        'ab|c␊␊vwxyz'    move_to_line_down 1 0 = true 'abc␊|␊vwxyz'
-        'ab|c␊␊vwxyz'    move_to_line_down 2 0 = true 'abc␊␊vw|xyz'
-        'ab|c␊␊vwxyz'    move_to_line_down 65535 0 = true 'abc␊␊vw|xyz'
-        'ab|c␊␊vwxyz'    move_to_line_down 2 2 = true 'abc␊␊vwxy|z'
-        'ab|c␊␊'         move_to_line_down 9 0 = true 'abc␊␊|'
-        '漢|字␊abc'        move_to_line_down 1 0 = true '漢字␊ab|c'
-        '漢|字␊abc'        move_to_line_down 1 1 = true '漢字␊abc|'
-        'abc|␊漢字'        move_to_line_down 1 0 = true 'abc␊漢|字'
-        'a|bc␊漢字'        move_to_line_down 1 0 = true 'abc␊|漢字'
-        'a|bc␊e\u{301}x' move_to_line_down 1 0 = true 'abc␊e\u{301}|x'
-        ",
-    )
-}
+const DOWN_BY_ROWS: &str = "
+    'hell|o␊abc'     move_to_line_down 1 0 = true 'hello␊abc|'
+    'h|ello␊abc'     move_to_line_down 1 2 = true 'hello␊abc|'
+    '|hello␊abc'     move_to_line_down 1 2 = true 'hello␊ab|c'
+    '|hello␊abc'     move_to_line_down 1 0 = true 'hello␊|abc'
+    'ab|c␊␊vwxyz'    move_to_line_down 1 0 = true 'abc␊|␊vwxyz'
+    'ab|c␊␊vwxyz'    move_to_line_down 2 0 = true 'abc␊␊vw|xyz'
+    'ab|c␊␊vwxyz'    move_to_line_down 65535 0 = true 'abc␊␊vw|xyz'
+    'ab|c␊␊vwxyz'    move_to_line_down 2 2 = true 'abc␊␊vwxy|z'
+    'ab|c␊␊'         move_to_line_down 9 0 = true 'abc␊␊|'
+    '漢|字␊abc'        move_to_line_down 1 0 = true '漢字␊ab|c'
+    '漢|字␊abc'        move_to_line_down 1 1 = true '漢字␊abc|'
+    'abc|␊漢字'        move_to_line_down 1 0 = true 'abc␊漢|字'
+    'a|bc␊漢字'        move_to_line_down 1 0 = true 'abc␊|漢字'
+    'a|bc␊e\u{301}x' move_to_line_down 1 0 = true 'abc␊e\u{301}|x'
+    ";
 
-#[test]
-fn no_row_to_go_to(rt: HostRuntime) -> Result<(), Fail> {
-    plays(
-        rt.alloc(),
-        "
-        '|'      move_to_line_up 1 2 = false '|'
-                 move_to_line_down 1 2 = false '|'
-        'ab|c'   move_to_line_up 1 2 = false 'ab|c'
-                 move_to_line_down 1 2 = false 'ab|c'
-        'abc|␊d' move_to_line_up 1 2 = false 'abc|␊d'
-                 move_to_line_down 0 2 = false 'abc|␊d'
-        'abc␊|d' move_to_line_up 0 2 = false 'abc␊|d'
-                 move_to_line_down 1 2 = false 'abc␊|d'
-        ",
-    )
-}
+const NO_ROW_TO_GO_TO: &str = "
+    '|'      move_to_line_up 1 2 = false '|'
+             move_to_line_down 1 2 = false '|'
+    'ab|c'   move_to_line_up 1 2 = false 'ab|c'
+             move_to_line_down 1 2 = false 'ab|c'
+    'abc|␊d' move_to_line_up 1 2 = false 'abc|␊d'
+             move_to_line_down 0 2 = false 'abc|␊d'
+    'abc␊|d' move_to_line_up 0 2 = false 'abc␊|d'
+             move_to_line_down 1 2 = false 'abc␊|d'
+    ";
 
-#[test]
-fn joined_emoji_above(rt: HostRuntime) -> Result<(), Fail> {
-    plays(
-        rt.alloc(),
-        "
-        '👩\u{200D}🔬z␊ab|cdef' move_to_line_up 1 0 Unicode = true '👩\u{200D}🔬|z␊abcdef'
-        '👩\u{200D}🔬z␊abc|def' move_to_line_up 1 0 Unicode = true '👩\u{200D}🔬z|␊abcdef'
-        '👩\u{200D}🔬z␊abc|def' move_to_line_up 1 0 WcWidth = true '|👩\u{200D}🔬z␊abcdef'
-        '👩\u{200D}🔬z␊abcd|ef' move_to_line_up 1 0 WcWidth = true '👩\u{200D}🔬|z␊abcdef'
-        '👩\u{200D}🔬z␊abc|def' move_to_line_up 1 0 NoZwj = true '|👩\u{200D}🔬z␊abcdef'
-        '👩\u{200D}🔬z␊abcde|f' move_to_line_up 1 0 NoZwj = true '👩\u{200D}🔬z|␊abcdef'
-        ",
-    )
-}
+const JOINED_EMOJI_ABOVE: &str = "
+    '👩\u{200D}🔬z␊ab|cdef' move_to_line_up 1 0 Unicode = true '👩\u{200D}🔬|z␊abcdef'
+    '👩\u{200D}🔬z␊abc|def' move_to_line_up 1 0 Unicode = true '👩\u{200D}🔬z|␊abcdef'
+    '👩\u{200D}🔬z␊abc|def' move_to_line_up 1 0 WcWidth = true '|👩\u{200D}🔬z␊abcdef'
+    '👩\u{200D}🔬z␊abcd|ef' move_to_line_up 1 0 WcWidth = true '👩\u{200D}🔬|z␊abcdef'
+    '👩\u{200D}🔬z␊abc|def' move_to_line_up 1 0 NoZwj = true '|👩\u{200D}🔬z␊abcdef'
+    '👩\u{200D}🔬z␊abcde|f' move_to_line_up 1 0 NoZwj = true '👩\u{200D}🔬z|␊abcdef'
+    ";
 
 /// The columns of each row's text by each mode.
 #[derive(Clone, Copy, Drop)]
@@ -101,7 +77,7 @@ impl Player for Widths {
         let unicode = Layout::new(GraphemeClusterMode::Unicode).width(text.as_str());
         let wc_width = Layout::new(GraphemeClusterMode::WcWidth).width(text.as_str());
         let no_zwj = Layout::new(GraphemeClusterMode::NoZwj).width(text.as_str());
-        Ok(format!(in alloc; "{unicode} {wc_width} {no_zwj}")?)
+        raised(format!(in alloc; "{unicode} {wc_width} {no_zwj}"))
     }
 }
 
@@ -141,13 +117,17 @@ fn long_rows_crossed(rt: &(impl AllocGlobal + Abort), text: &str) -> Result<(), 
     Ok(())
 }
 
+/// Whether each mode tells the most columns.
+fn has_most_columns(text: &str) -> bool {
+    GraphemeClusterMode::Unicode.width(text) == 65_535
+        && GraphemeClusterMode::WcWidth.width(text) == 65_535
+        && GraphemeClusterMode::NoZwj.width(text) == 65_535
+}
+
 #[test]
 fn widths_stop_at_the_most(rt: HostRuntime) -> Result<(), Fail> {
     let mut text = repeated(rt.alloc(), 70_000)?;
-    let unicode = GraphemeClusterMode::Unicode.width(text.as_str());
-    let wc_width = GraphemeClusterMode::WcWidth.width(text.as_str());
-    let no_zwj = GraphemeClusterMode::NoZwj.width(text.as_str());
-    assert_eq!(rt; (unicode, wc_width, no_zwj), (65_535, 65_535, 65_535));
+    assert!(rt; has_most_columns(text.as_str()));
     text.push_str("\n|m")?;
     long_rows_crossed(&rt, text.as_str())
 }
@@ -158,4 +138,16 @@ fn cells_in_reading_order(rt: HostRuntime) {
     let late = Position { col: 0, row: 1 };
     assert!(rt; early < late && Position { col: 1, row: 1 } > late);
     assert_eq!(rt; early.max(late), late);
+}
+
+const TABLES: [&str; 4] = [
+    UP_BY_ROWS,
+    DOWN_BY_ROWS,
+    NO_ROW_TO_GO_TO,
+    JOINED_EMOJI_ABOVE,
+];
+
+#[test]
+fn motions_by_rows(rt: HostRuntime) -> Result<(), Fail> {
+    plays(rt.alloc(), &TABLES)
 }

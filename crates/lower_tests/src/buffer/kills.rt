@@ -6,7 +6,7 @@ use crate::buffer::log::Log;
 use crate::buffer::table::{begun, plays, quoted, written};
 use line_buffer::{LineBuffer, Movement, OutOfMemory};
 use stand_ins::lines::line_of;
-use stand_ins::rows::{Player, rows_hold};
+use stand_ins::rows::{Player, raised, rows_hold};
 use std::alloc::{AllocError, Global};
 use std::test::Fail;
 
@@ -18,7 +18,7 @@ fn movement_of(call: &str) -> Result<Movement, Fail> {
 /// What a movement copies.
 fn copied(alloc: Global, line: &LineBuffer, movement: &Movement) -> Result<String, OutOfMemory> {
     let copy = line.copy(alloc, movement)?;
-    Ok(quoted(alloc, copy.as_ref())?)
+    raised(quoted(alloc, copy.as_ref()))
 }
 
 /// What a kill answers after a copy: `refused` where the listener refused it.
@@ -63,7 +63,7 @@ impl Player for Killing {
         } else {
             Log::new(alloc)
         };
-        Ok(killed(alloc, &mut line, &movement, log)?)
+        raised(killed(alloc, &mut line, &movement, log))
     }
 }
 
@@ -146,9 +146,7 @@ fn kills_at_the_ends_of_rows(rt: HostRuntime) -> Result<(), Fail> {
 
 #[test]
 fn parts_deleted_without_a_kill(rt: HostRuntime) -> Result<(), Fail> {
-    plays(
-        rt.alloc(),
-        "
+    let rows = "
         'one |twe\u{301} ab␊cd' delete 3 = 'twe\u{301}' 'one | ab␊cd' delete 4 'twe\u{301}' Forward
                                 delete 0 = none 'one | ab␊cd'
                                 backspace 1 = true 'one| ab␊cd' delete 3 ' ' Backward
@@ -158,8 +156,8 @@ fn parts_deleted_without_a_kill(rt: HostRuntime) -> Result<(), Fail> {
                                 delete_to f␊ 1 = true '|cd' delete 0 'ab␊' Forward
                                 kill_buffer = true '|' delete 0 'cd' Forward
                                 discard_buffer = false '|'
-        ",
-    )
+        ";
+    plays(rt.alloc(), &[rows])
 }
 
 /// A kill that its listener refuses is closed, and leaves the line as it was.

@@ -6,7 +6,7 @@ use crate::buffer::arguments::Arguments;
 use crate::buffer::log::Log;
 use line_buffer::{GraphemeClusterMode, Layout, LineBuffer, OutOfMemory, Position, RepeatCount};
 use stand_ins::lines::{line_of, shown_of};
-use stand_ins::rows::{Player, rows_hold};
+use stand_ins::rows::{Player, raised, rows_hold};
 use stand_ins::tables::pictured;
 use std::alloc::{AllocError, Global};
 use std::test::Fail;
@@ -24,8 +24,15 @@ impl Player for Desk {
     }
 }
 
-/// Plays rows, the first one on the empty line.
-pub(crate) fn plays(alloc: Global, rows: &str) -> Result<(), Fail> {
+/// Plays the rows of each table, the first one on the empty line.
+pub(crate) fn plays(alloc: Global, tables: &[&str]) -> Result<(), Fail> {
+    for table in tables {
+        plays_anew(alloc, table)?;
+    }
+    Ok(())
+}
+
+fn plays_anew(alloc: Global, rows: &str) -> Result<(), Fail> {
     let line = line_of(alloc, "")?;
     rows_hold(alloc, &mut Desk { line }, rows)
 }
@@ -61,7 +68,7 @@ pub(crate) fn written(
     let shown = shown_of(alloc, line)?;
     let events = log.events.as_str();
     let row = format!(in alloc; "{answer} '{shown}' {events}")?;
-    Ok(pictured(alloc, row.as_str().trim())?)
+    raised(pictured(alloc, row.as_str().trim()))
 }
 
 /// A text in quotes, or `none`.
@@ -77,7 +84,7 @@ fn step(alloc: Global, line: &mut LineBuffer, call: &str) -> Result<String, Fail
     let a = Arguments::of(call);
     let mut log = Log::new(alloc);
     let answer = answer(alloc, line, &a, &mut log)?;
-    Ok(written(alloc, answer.as_str(), line, &log)?)
+    raised(written(alloc, answer.as_str(), line, &log))
 }
 
 /// Makes a call, and answers what it answers.
@@ -94,7 +101,7 @@ fn answer(
             None => return changed(alloc, line, a, log),
         },
     };
-    Ok(told(alloc, answer)?)
+    raised(told(alloc, answer))
 }
 
 fn told(alloc: Global, answer: bool) -> Result<String, AllocError> {
@@ -197,7 +204,7 @@ fn indented(
 ) -> Result<String, Fail> {
     let movement = a.movement(a.movement)?;
     let indented = line.indent(alloc, &movement, a.amount, a.dedent, log)?;
-    Ok(told(alloc, indented)?)
+    raised(told(alloc, indented))
 }
 
 /// Takes text out, and answers it.
@@ -208,7 +215,7 @@ fn deleted(
     log: &mut Log,
 ) -> Result<String, OutOfMemory> {
     let text = line.delete(alloc, a.n(), log)?;
-    Ok(quoted(alloc, text.as_ref())?)
+    raised(quoted(alloc, text.as_ref()))
 }
 
 /// The place that a motion by clusters leads to.
@@ -230,8 +237,8 @@ fn asked(
     log: &mut Log,
 ) -> Result<String, Fail> {
     match a.name {
-        "next_pos" => Ok(next_told(alloc, line, a)?),
-        "delete" => Ok(deleted(alloc, line, a, log)?),
+        "next_pos" => raised(next_told(alloc, line, a)),
+        "delete" => raised(deleted(alloc, line, a, log)),
         "indent" => indented(alloc, line, a, log),
         "update" | "replace" => exchanged(alloc, line, a, log),
         _ => Ok(put_told(alloc, put(alloc, line, a, log)?)?),
@@ -246,8 +253,8 @@ fn put(
     log: &mut Log,
 ) -> Result<Option<bool>, Fail> {
     match a.name {
-        "insert" => Ok(line.insert(alloc, a.text.chars().next().unwrap_or(' '), a.n(), log)?),
-        "yank" => Ok(line.yank(alloc, a.text, a.n(), log)?),
+        "insert" => raised(line.insert(alloc, a.text.chars().next().unwrap_or(' '), a.n(), log)),
+        "yank" => raised(line.yank(alloc, a.text, a.n(), log)),
         "yank_pop" => popped(alloc, line, a, log),
         other => Err(Fail::new(format_args!("no call: {other}"))),
     }
@@ -264,7 +271,7 @@ fn popped(
     if size > line.pos() || !line.as_str().is_char_boundary(line.pos() - size) {
         return Err(Fail::new("no text to exchange"));
     }
-    Ok(line.yank_pop(alloc, size, a.text, log)?)
+    raised(line.yank_pop(alloc, size, a.text, log))
 }
 
 /// Exchanges the whole text, or puts some in by `replace`. Answers nothing.

@@ -5,7 +5,7 @@ use line_config::{
     DeviceFailed, ReadSource, Recorded, Sink, SliceSource, Source, VecSink, WriteSink,
 };
 use stand_ins::devices::{Pieces, Taker, Turns};
-use stand_ins::rows::{Player, rows_hold};
+use stand_ins::rows::{Player, raised, rows_hold, same};
 use stand_ins::tables::{or_nothing, pictured_bytes};
 use std::alloc::{AllocError, Global};
 use std::cell::Cell;
@@ -48,7 +48,7 @@ fn told<S: Source>(alloc: Global, source: &mut S, calls: &Cell<usize>) -> Result
     let mut bytes = Vec::new(alloc);
     let at_end = took_all(source, &mut bytes)?;
     stays_ended(source, at_end, calls)?;
-    Ok(given_told(alloc, &bytes, at_end)?)
+    raised(given_told(alloc, &bytes, at_end))
 }
 
 fn given_told(alloc: Global, bytes: &[u8], at_end: bool) -> Result<String, AllocError> {
@@ -66,14 +66,13 @@ fn told_of_memory(alloc: Global, mut source: SliceSource<'_>) -> Result<String, 
 fn both_told(alloc: Global) -> Result<String, Fail> {
     let whole = told_of_memory(alloc, SliceSource::new(b"ab"))?;
     let cut = told_of_memory(alloc, SliceSource::failing_after(b"ab"))?;
-    Ok(format!(in alloc; "{whole}; {cut}")?)
+    raised(format!(in alloc; "{whole}; {cut}"))
 }
 
 #[test]
 fn memory_sources(rt: HostRuntime) -> Result<(), Fail> {
     let said = both_told(rt.alloc())?;
-    assert_eq!(rt; said.as_str(), "ab, end; ab, failure");
-    Ok(())
+    same(said.as_str(), "ab, end; ab, failure")
 }
 
 /// Whether a sink takes three letters and passes them on.
@@ -85,12 +84,15 @@ fn takes_three<S: Sink>(sink: &mut S) -> bool {
         && !sink.failed()
 }
 
+fn holds_three(mut sink: VecSink) -> bool {
+    takes_three(&mut sink)
+        && sink.bytes() == b"abc".as_slice()
+        && sink.into_bytes().as_slice() == b"abc".as_slice()
+}
+
 #[test]
 fn memory_sinks(rt: HostRuntime) {
-    let mut sink = VecSink::new(rt.alloc());
-    assert!(rt; takes_three(&mut sink));
-    assert!(rt; sink.bytes() == b"abc".as_slice());
-    assert_eq!(rt; sink.into_bytes().as_slice(), b"abc".as_slice());
+    assert!(rt; holds_three(VecSink::new(rt.alloc())));
 }
 
 /// What the rows of a table ask.
@@ -160,11 +162,10 @@ fn reads_once_for_what_is_there(rt: HostRuntime) -> Result<(), Fail> {
     });
     let mut said = String::new(rt.alloc());
     tell_four(&mut source, &calls, &mut said)?;
-    assert_eq!(rt;
+    same(
         said.as_str(),
-        "Some(97) 1, Some(98) 1, Some(99) 2, None 3, "
-    );
-    Ok(())
+        "Some(97) 1, Some(98) 1, Some(99) 2, None 3, ",
+    )
 }
 
 fn has_read_nothing(source: ReadSource<Pieces<'_>>) -> bool {
@@ -172,15 +173,20 @@ fn has_read_nothing(source: ReadSource<Pieces<'_>>) -> bool {
     unread.is_empty()
 }
 
-#[test]
-fn hands_back_what_was_read(rt: HostRuntime) -> Result<(), Fail> {
+fn hands_back() -> bool {
     let calls = Cell::new(0);
     let mut source = ReadSource::new(letters("3", &calls));
-    assert!(rt; source.next_byte() == Ok(Some(b'a')));
+    let first = source.next_byte();
     let (reader, unread) = source.into_parts();
-    assert!(rt; unread.as_slice() == b"bc".as_slice() && reader.bytes == b"def".as_slice());
-    assert!(rt; has_read_nothing(ReadSource::new(reader)));
-    Ok(())
+    first == Ok(Some(b'a'))
+        && unread.as_slice() == b"bc".as_slice()
+        && reader.bytes == b"def".as_slice()
+        && has_read_nothing(ReadSource::new(reader))
+}
+
+#[test]
+fn hands_back_what_was_read(rt: HostRuntime) {
+    assert!(rt; hands_back());
 }
 
 /// Bytes of every value, more than the arrays of the adapters hold.
@@ -212,11 +218,15 @@ fn read_to_end(alloc: Global, text: &[u8]) -> Result<Vec<u8>, Fail> {
     }
 }
 
+fn reads_all(alloc: Global) -> Result<bool, Fail> {
+    let text = long_text(alloc)?;
+    let bytes = read_to_end(alloc, &text)?;
+    Ok(bytes == text)
+}
+
 #[test]
 fn reads_more_than_its_array(rt: HostRuntime) -> Result<(), Fail> {
-    let text = long_text(rt.alloc())?;
-    let bytes = read_to_end(rt.alloc(), &text)?;
-    assert_eq!(rt; bytes.as_slice(), text.as_slice());
+    assert!(rt; reads_all(rt.alloc())?);
     Ok(())
 }
 
@@ -296,19 +306,31 @@ fn three_told(
     Ok(said)
 }
 
+fn taken_told(
+    alloc: Global,
+    said: &str,
+    taken: &[u8],
+    unsent: &[u8],
+) -> Result<String, AllocError> {
+    let taken = pictured_bytes(alloc, taken)?;
+    let left = unsent.len();
+    format!(in alloc; "{said}{taken}, {left} left")
+}
+
+fn flushes_told(alloc: Global) -> Result<String, Fail> {
+    let calls = Calls::none();
+    let mut sink = sink_over(alloc, "", "", &calls);
+    let said = three_told(alloc, &mut sink, &calls)?;
+    let (writer, unsent) = sink.into_parts();
+    raised(taken_told(alloc, said.as_str(), &writer.taken, unsent.as_slice()))
+}
+
 /// Nothing is sent before the flush.
 #[test]
 fn writes_once_for_each_flush(rt: HostRuntime) -> Result<(), Fail> {
-    let calls = Calls::none();
-    let mut sink = sink_over(rt.alloc(), "", "", &calls);
-    let said = three_told(rt.alloc(), &mut sink, &calls)?;
-    assert_eq!(rt;
-        said.as_str(),
-        "(0, 0) (1, 1); (1, 1) (2, 2); (2, 2) (3, 3); "
-    );
-    let (writer, unsent) = sink.into_parts();
-    assert!(rt; writer.taken.as_slice() == b"abcabcabc".as_slice() && unsent.is_empty());
-    Ok(())
+    let said = flushes_told(rt.alloc())?;
+    let wanted = "(0, 0) (1, 1); (1, 1) (2, 2); (2, 2) (3, 3); abcabcabc, 0 left";
+    same(said.as_str(), wanted)
 }
 
 /// What a writer has taken of `ab` and these bytes, once they are flushed.
@@ -331,12 +353,15 @@ fn ab_and(alloc: Global, text: &[u8]) -> Result<Vec<u8>, AllocError> {
     Ok(wanted)
 }
 
+fn writes_all(alloc: Global) -> Result<bool, Fail> {
+    let text = long_text(alloc)?;
+    let wanted = ab_and(alloc, &text)?;
+    Ok(taken_of(alloc, &text)? == wanted)
+}
+
 #[test]
 fn writes_more_than_its_array(rt: HostRuntime) -> Result<(), Fail> {
-    let text = long_text(rt.alloc())?;
-    let wanted = ab_and(rt.alloc(), &text)?;
-    let taken = taken_of(rt.alloc(), &text)?;
-    assert_eq!(rt; taken.as_slice(), wanted.as_slice());
+    assert!(rt; writes_all(rt.alloc())?);
     Ok(())
 }
 
@@ -375,7 +400,7 @@ fn written_by(alloc: Global, turns: &str) -> Result<String, Fail> {
     let mut sink = sink_over(alloc, turns, flushes, &calls);
     let passed = wrote(&mut sink, &calls)?;
     let (writer, unsent) = sink.into_parts();
-    Ok(written_told(alloc, &writer.taken, unsent.as_slice(), passed)?)
+    raised(written_told(alloc, &writer.taken, unsent.as_slice(), passed))
 }
 
 fn written_told(

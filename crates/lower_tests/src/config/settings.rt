@@ -5,7 +5,7 @@ use line_config::{
     Behavior, BellStyle, Builder, ColorMode, CompletionType, Config, Configurer, DeviceFailed,
     EditMode, HookFault, ReadlineError,
 };
-use stand_ins::rows::{Player, rows_hold};
+use stand_ins::rows::{Player, raised, rows_hold, same};
 use std::alloc::{AllocError, Global};
 use std::fmt::Debug;
 use std::test::Fail;
@@ -64,7 +64,7 @@ struct Getters<'c> {
 
 impl Player for Getters<'_> {
     fn play(&mut self, alloc: Global, name: &str) -> Result<String, Fail> {
-        Ok(answer(alloc, self.config, name)?)
+        raised(answer(alloc, self.config, name))
     }
 }
 
@@ -114,9 +114,10 @@ fn have_defaults(alloc: Global) -> Result<(), Fail> {
 #[test]
 fn defaults(rt: HostRuntime) -> Result<(), Fail> {
     have_defaults(rt.alloc())?;
-    assert!(rt; copies_itself(&Config::default())?);
     assert!(rt;
-        BellStyle::default() == BellStyle::Audible && Behavior::default() == Behavior::Stdio
+        copies_itself(&Config::default())?
+            && BellStyle::default() == BellStyle::Audible
+            && Behavior::default() == Behavior::Stdio
     );
     Ok(())
 }
@@ -243,12 +244,17 @@ fn calls_of_the_builder(rt: HostRuntime) -> Result<(), Fail> {
     all_set(rt.alloc(), built()?, behind)
 }
 
+/// What follows from Vi mode, and then from Emacs mode.
+fn timeouts() -> (Option<u16>, Option<u16>) {
+    let mut config = Builder::new().edit_mode(EditMode::Vi).build();
+    let in_vi = config.keyseq_timeout();
+    config.set_edit_mode(EditMode::Emacs);
+    (in_vi, config.keyseq_timeout())
+}
+
 #[test]
 fn timeouts_of_the_modes(rt: HostRuntime) {
-    let mut config = Builder::new().edit_mode(EditMode::Vi).build();
-    assert_eq!(rt; config.keyseq_timeout(), Some(500));
-    config.set_edit_mode(EditMode::Emacs);
-    assert_eq!(rt; config.keyseq_timeout(), None);
+    assert!(rt; timeouts() == (Some(500), None));
 }
 
 /// Refusals, each of which a row names.
@@ -267,7 +273,7 @@ impl Player for Refusals {
         let (refusal, left) = self.left.split_first().ok_or("no refusal is left")?;
         self.left = left;
         if is_named(alloc, *refusal, name)? {
-            Ok(format!(in alloc; "{refusal}")?)
+            raised(format!(in alloc; "{refusal}"))
         } else {
             Err(Fail::new("another refusal"))
         }
@@ -310,14 +316,17 @@ fn texts_of_faults(rt: HostRuntime) -> Result<(), Fail> {
     let failed = HookFault::Failed;
     let memory = HookFault::Memory;
     let shown = format!(in rt.alloc(); "{failed}, {memory}, {DeviceFailed}")?;
-    assert_eq!(rt; shown.as_str(), "hook failed, out of memory, device failed");
-    Ok(())
+    same(shown.as_str(), "hook failed, out of memory, device failed")
 }
 
 #[test]
 fn want_of_memory(rt: HostRuntime) {
-    assert_eq!(rt; ReadlineError::from(AllocError), ReadlineError::Memory);
-    assert_eq!(rt; ReadlineError::from(OutOfMemory), ReadlineError::Memory);
-    assert_eq!(rt; HookFault::from(AllocError), HookFault::Memory);
-    assert_eq!(rt; HookFault::from(OutOfMemory), HookFault::Memory);
+    assert!(rt; is_told_as_memory());
+}
+
+fn is_told_as_memory() -> bool {
+    ReadlineError::from(AllocError) == ReadlineError::Memory
+        && ReadlineError::from(OutOfMemory) == ReadlineError::Memory
+        && HookFault::from(AllocError) == HookFault::Memory
+        && HookFault::from(OutOfMemory) == HookFault::Memory
 }

@@ -6,7 +6,7 @@ use line_help::{
     ValidationResult, Validator, check_bracket, find_matching_bracket, validate_brackets,
 };
 use line_keys::CmdKind;
-use stand_ins::rows::{Player, rows_hold, trimmed};
+use stand_ins::rows::{Player, raised, rows_hold, trimmed};
 use stand_ins::tables::{line_and_place, marked, meant, pictured, word_and_rest};
 use std::alloc::{AllocError, Global};
 use std::borrow::CowStr;
@@ -80,7 +80,7 @@ impl Player for Ask {
             Ask::AtTheCursor => bracket_at_the_cursor(alloc, call),
             _ => validated(alloc, self, call),
         };
-        Ok(said?)
+        raised(said)
     }
 }
 
@@ -300,7 +300,9 @@ fn texts_validated(rt: HostRuntime) -> Result<(), Fail> {
 
 #[test]
 fn validators_asked_for_the_line_alone(rt: HostRuntime) {
-    assert!(rt; !().validate_while_typing());
-    assert!(rt; !MatchingBracketValidator::new().validate_while_typing());
-    assert_eq!(rt; ValidationContext::new("a b").input(), "a b");
+    assert!(rt;
+        !().validate_while_typing()
+            && !MatchingBracketValidator::new().validate_while_typing()
+            && ValidationContext::new("a b").input() == "a b"
+    );
 }

@@ -12,7 +12,7 @@ use line_help::{
     Pair, Quote, WordCompleter, escape, extract_word, longest_common_prefix, unescape,
 };
 use stand_ins::lines::{line_of, shown_of};
-use stand_ins::rows::{Player, rows_hold, trimmed};
+use stand_ins::rows::{Player, raised, rows_hold, same, trimmed};
 use stand_ins::tables::{line_and_place, marked, meant, word_and_rest};
 use std::alloc::{AllocError, Global};
 use std::test::Fail;
@@ -123,7 +123,7 @@ impl Player for PathCompleter {
                 .complete_path_unsorted(alloc, line, line.len()),
         };
         let (start, pairs) = found?;
-        Ok(told(alloc, line, start, &pairs)?)
+        raised(told(alloc, line, start, &pairs))
     }
 }
 
@@ -253,7 +253,7 @@ impl Player for ByName {
             "boxed" => boxed_completed(alloc, line),
             _ => completed(alloc, &(), line),
         };
-        Ok(said?)
+        raised(said)
     }
 }
 
@@ -283,14 +283,13 @@ fn copied(alloc: Global, pairs: &[Pair]) -> Result<Vec<Pair>, HookFault> {
 fn copies_told(alloc: Global) -> Result<String, HookFault> {
     let (start, pairs) = of_two_names().complete_path(alloc, "lo", 2)?;
     let copies = copied(alloc, &pairs)?;
-    Ok(told(alloc, "lo", start, &copies)?)
+    raised(told(alloc, "lo", start, &copies))
 }
 
 #[test]
 fn candidates_copied(rt: HostRuntime) -> Result<(), Fail> {
     let said = copies_told(rt.alloc())?;
-    assert_eq!(rt; said.as_str(), "|lo; local→local/; log→log");
-    Ok(())
+    same(said.as_str(), "|lo; local→local/; log→log")
 }
 
 // A line in which the text from `[` to the cursor is replaced by what stands after the colon; the line then.
@@ -332,7 +331,7 @@ impl<C: Completer> Updater<C> {
     ) -> Result<String, HookFault> {
         let mut line = line_of(alloc, line)?;
         self.update(alloc, &mut line, start, elected)?;
-        Ok(shown_of(alloc, &line)?)
+        raised(shown_of(alloc, &line))
     }
 }
 
@@ -341,7 +340,7 @@ impl<C: Completer> Player for Updater<C> {
         let (line, elected) = call.split_once(':').unwrap_or((call, ""));
         let start = line.find('[').unwrap_or(0);
         let line = line.trim().replace(alloc, "[", "")?;
-        Ok(self.updated(alloc, line.as_str(), start, elected.trim())?)
+        raised(self.updated(alloc, line.as_str(), start, elected.trim()))
     }
 }
 
@@ -414,7 +413,7 @@ fn word_told(alloc: Global, esc: Option<char>, text: &str) -> Result<String, All
 
 fn unescaped(alloc: Global, esc: Option<char>, text: &str) -> Result<String, HookFault> {
     let text = unescape(alloc, text, esc)?;
-    Ok(text.into_owned(alloc)?)
+    raised(text.into_owned(alloc))
 }
 
 fn escaped(
@@ -430,7 +429,7 @@ fn escaped(
 // What a call makes of a text.
 fn made(alloc: Global, call: &str, esc: Option<char>, text: &str) -> Result<String, HookFault> {
     match call {
-        "word" => Ok(word_told(alloc, esc, text)?),
+        "word" => raised(word_told(alloc, esc, text)),
         "unescape" => unescaped(alloc, esc, text),
         "double" => escaped(alloc, esc, text, Quote::Double),
         "single" => escaped(alloc, esc, text, Quote::Single),
@@ -449,7 +448,7 @@ impl Player for Ask {
     fn play(&mut self, alloc: Global, call: &str) -> Result<String, Fail> {
         match self {
             Ask::Words => trimmed(alloc, made_of_row(alloc, call)?.as_str()),
-            Ask::CommonPrefixes => Ok(common_prefix(alloc, call)?),
+            Ask::CommonPrefixes => raised(common_prefix(alloc, call)),
         }
     }
 }

@@ -3,7 +3,7 @@
 use crate::help::history::{add_line, add_lines, answer_told, entries, with_lines};
 use line_config::{Config, DeviceFailed, Log, ReadlineError, Sink, SliceSource, Source, VecSink};
 use line_help::{FileHistory, History};
-use stand_ins::rows::{Player, rows_hold};
+use stand_ins::rows::{Player, raised, rows_hold, same};
 use stand_ins::tables::{meant_bytes, or_nothing, pictured_bytes, word_and_rest};
 use std::alloc::{AllocError, Global};
 use std::test::Fail;
@@ -194,14 +194,14 @@ struct CutTexts;
 
 impl Player for CutTexts {
     fn play(&mut self, alloc: Global, text: &str) -> Result<String, Fail> {
-        Ok(cut_text_told(alloc, text)?)
+        raised(cut_text_told(alloc, text))
     }
 }
 
 fn cut_text_told(alloc: Global, text: &str) -> Result<String, ReadlineError> {
     let bytes = meant_bytes(alloc, text)?;
     let mut history = saved_with(alloc, "old|")?;
-    Ok(after_failing_source(alloc, &mut history, &bytes)?)
+    raised(after_failing_source(alloc, &mut history, &bytes))
 }
 
 // A history with these lines, the text of which is saved.
@@ -226,8 +226,7 @@ fn bad_row_told(alloc: Global) -> Result<String, AllocError> {
 #[test]
 fn bad_rows_before_a_failure(rt: HostRuntime) -> Result<(), Fail> {
     let said = bad_row_told(rt.alloc())?;
-    assert_eq!(rt; said.as_str(), "HistoryText at no failure a|");
-    Ok(())
+    same(said.as_str(), "HistoryText at no failure a|")
 }
 
 // A save to a sink with room for so many bytes: what it answers twice, the entries then, and what a further save writes.
@@ -328,7 +327,7 @@ fn to_be_written(alloc: Global, way: &Way) -> Result<FileHistory, ReadlineError>
 // What happens to such a history with so much room.
 fn room_told(alloc: Global, way: &Way, room: usize) -> Result<String, ReadlineError> {
     let mut history = to_be_written(alloc, way)?;
-    Ok(with_room(alloc, way, &mut history, room)?)
+    raised(with_room(alloc, way, &mut history, room))
 }
 
 impl Player for Way {
@@ -400,7 +399,7 @@ impl Player for Desk {
             Some(written) => pictured_bytes(alloc, written),
             None => String::from_str(alloc, "less than before"),
         };
-        Ok(said?)
+        raised(said)
     }
 }
 

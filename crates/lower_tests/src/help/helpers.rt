@@ -15,7 +15,7 @@ use line_help::{
     ValidationResult, Validator, WordCompleter,
 };
 use line_keys::CmdKind;
-use stand_ins::rows::{Player, rows_hold};
+use stand_ins::rows::{Player, raised, rows_hold};
 use stand_ins::tables::{meant, pictured, word_and_rest};
 use std::alloc::{AllocError, Global};
 use std::borrow::CowStr;
@@ -277,7 +277,7 @@ impl<H: Helper> Player for Answering<H> {
         let text = meant(alloc, text)?;
         let context = Context::new(&self.history);
         let said = asked(alloc, &mut self.helper, call, text.as_str(), &context);
-        Ok(said?)
+        raised(said)
     }
 }
 
@@ -429,7 +429,7 @@ impl Player for Prompts {
             "String" => string_told(alloc),
             _ => both_texts(alloc, &("> ", "\x1b[1m> \x1b[m")),
         };
-        Ok(said?)
+        raised(said)
     }
 }
 

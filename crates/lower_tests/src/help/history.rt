@@ -5,7 +5,7 @@ use line_help::{
     Context, FileHistory, Hint, Hinter, History, HistoryHinter, MemHistory, SearchDirection,
     SearchResult,
 };
-use stand_ins::rows::{Player, rows_hold, trimmed};
+use stand_ins::rows::{Player, raised, rows_hold, same, trimmed};
 use stand_ins::tables::{
     line_and_place, marked, meant, meant_bytes, pictured, pictured_bytes, word_and_rest,
 };
@@ -58,7 +58,7 @@ pub(crate) fn with_lines(alloc: Global, lines: &str) -> Result<FileHistory, Read
 fn saved(alloc: Global, history: &mut FileHistory) -> Result<String, ReadlineError> {
     let mut sink = VecSink::new(alloc);
     history.save_to(&mut sink)?;
-    Ok(pictured_bytes(alloc, sink.bytes())?)
+    raised(pictured_bytes(alloc, sink.bytes()))
 }
 
 /// What loading a text answers: whether the text was whole, or why it was refused.
@@ -103,7 +103,7 @@ fn loaded(alloc: Global, history: &mut FileHistory, text: &[u8]) -> Result<Strin
     let said = load_told(alloc, history, text)?;
     let new = saved(alloc, history)?;
     let mark = if new.is_empty() { "" } else { ", new " };
-    Ok(format!(in alloc; "{said}{mark}{new}")?)
+    raised(format!(in alloc; "{said}{mark}{new}"))
 }
 
 /// What the rows of a table ask.
@@ -183,15 +183,14 @@ fn unlike_the_default() -> Config {
 fn kept_of(alloc: Global, config: &Config, lines: &str) -> Result<String, ReadlineError> {
     let mut history = FileHistory::with_config(alloc, config);
     add_lines(alloc, &mut history, lines)?;
-    Ok(entries(alloc, &history)?)
+    raised(entries(alloc, &history))
 }
 
 /// The settings of a configuration are those of a history made with it.
 #[test]
 fn histories_of_a_configuration(rt: HostRuntime) -> Result<(), Fail> {
     let kept = kept_of(rt.alloc(), &unlike_the_default(), "a|b|b| c|")?;
-    assert_eq!(rt; kept.as_str(), "b|b|");
-    Ok(())
+    same(kept.as_str(), "b|b|")
 }
 
 // Where a search found an entry: the place of the entry, and the entry with a bar at the place in it.
@@ -253,7 +252,7 @@ fn changed<H: History>(
         "add" | "add_owned" => added(alloc, history, call, text)?,
         _ => set(history, call, text),
     };
-    Ok(told_with_entries(alloc, history, answer)?)
+    raised(told_with_entries(alloc, history, answer))
 }
 
 // Looks an entry up, as `search forward 3 line` does from the place 3 on.
@@ -280,7 +279,7 @@ fn answered<H: History>(
     text: &str,
 ) -> Result<String, ReadlineError> {
     match call {
-        "search" | "starts_with" | "get" => Ok(looked_up(alloc, history, call, text)?),
+        "search" | "starts_with" | "get" => raised(looked_up(alloc, history, call, text)),
         _ => changed(alloc, history, call, text),
     }
 }
@@ -327,7 +326,7 @@ impl Desk {
 
     fn append(&mut self, alloc: Global) -> Result<String, ReadlineError> {
         self.history.append_to(&mut self.file)?;
-        Ok(pictured_bytes(alloc, self.file.bytes())?)
+        raised(pictured_bytes(alloc, self.file.bytes()))
     }
 
     fn reload(&mut self, alloc: Global) -> Result<String, ReadlineError> {
@@ -378,7 +377,7 @@ impl Memory {
 
     fn answer(&mut self, alloc: Global, call: &str, text: &str) -> Result<String, ReadlineError> {
         match call {
-            "lines" => Ok(self.told(alloc, text.parse().unwrap_or(0))?),
+            "lines" => raised(self.told(alloc, text.parse().unwrap_or(0))),
             _ => answered(alloc, &mut self.history, call, text),
         }
     }
@@ -527,7 +526,7 @@ impl Hinted {
 impl Player for Hinted {
     fn play(&mut self, alloc: Global, line: &str) -> Result<String, Fail> {
         let (line, pos) = line_and_place(alloc, line)?;
-        Ok(self.told(alloc, line.as_str(), pos)?)
+        raised(self.told(alloc, line.as_str(), pos))
     }
 }
 

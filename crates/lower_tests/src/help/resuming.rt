@@ -6,7 +6,7 @@ ghost use Rattle.line_config.specs.declared.device.Last.TheVariants.{End};
 use crate::help::history::{answer_told, entries};
 use line_config::{DeviceFailed, Source};
 use line_help::{FileHistory, load_words};
-use stand_ins::rows::{Player, rows_hold};
+use stand_ins::rows::{Player, raised, rows_hold};
 use stand_ins::tables::meant_bytes;
 use std::alloc::{AllocError, Global};
 use std::test::Fail;
@@ -71,7 +71,7 @@ impl Player for Ends {
             bytes: &bytes,
             more: b"c",
         };
-        Ok(loaded_twice(alloc, &mut source)?)
+        raised(loaded_twice(alloc, &mut source))
     }
 }
 

@@ -3,7 +3,7 @@
 use crate::help::completion::completed;
 use line_config::{ReadlineError, SliceSource};
 use line_help::{WordCompleter, load_words};
-use stand_ins::rows::{Player, rows_hold};
+use stand_ins::rows::{Player, raised, rows_hold};
 use stand_ins::tables::{meant_bytes, pictured, word_and_rest};
 use std::alloc::{AllocError, Global};
 use std::test::Fail;
@@ -50,7 +50,7 @@ impl Player for Ask {
             Ask::Completed(completer) => completed(alloc, completer, call),
             Ask::Loaded => loaded_told(alloc, call),
         };
-        Ok(said?)
+        raised(said)
     }
 }
 

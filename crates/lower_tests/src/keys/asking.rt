@@ -4,7 +4,7 @@ use crate::keys::telling::line_marked;
 use line_config::{Config, EditMode, ReadlineError};
 use line_keys::{Bindings, InputState};
 use stand_ins::listener::Listener;
-use stand_ins::rows::{Player, rows_hold};
+use stand_ins::rows::{Player, raised, rows_hold};
 use std::alloc::Global;
 use std::test::Fail;
 
@@ -76,7 +76,7 @@ impl Player for FirstKey {
             (false, true) => "key abort",
             (false, false) => "key",
         };
-        Ok(String::from_str(alloc, said)?)
+        raised(String::from_str(alloc, said))
     }
 }
 

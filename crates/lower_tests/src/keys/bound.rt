@@ -55,11 +55,6 @@ const COMMANDS: &str = "
     y              | SelfInsert(1, 'y')
 ";
 
-#[test]
-fn keys_bound_to_commands(rt: HostRuntime) -> Result<(), Fail> {
-    plays(rt.alloc(), EditMode::Emacs, COMMANDS)
-}
-
 const SEQUENCES: &str = "
     bind: C-x C-e      = Repaint
     bind: C-X C-Y      = SelfInsert 1 x
@@ -127,11 +122,6 @@ const SEQUENCES: &str = "
     A-9 C-X C-U q      | <9> <line> Undo(9); SelfInsert(1, 'q')
 ";
 
-#[test]
-fn bound_sequences(rt: HostRuntime) -> Result<(), Fail> {
-    plays(rt.alloc(), EditMode::Emacs, SEQUENCES)
-}
-
 const HANDLERS: &str = "
     ask: C-O           = Count
     ask: A-f           = Nothing
@@ -168,11 +158,6 @@ const HANDLERS: &str = "
     A-5 F2         | <5> <line> CompleteHint
 ";
 
-#[test]
-fn keys_bound_to_handlers(rt: HostRuntime) -> Result<(), Fail> {
-    plays(rt.alloc(), EditMode::Emacs, HANDLERS)
-}
-
 const ANY: &str = "
     bind:              = Noop
     bind: C-O          = Undo 3
@@ -201,7 +186,9 @@ const ANY: &str = "
     PasteStart text:ab x | Insert(1, \"ab\"); SelfInsert(1, 'x')
 ";
 
+const TABLES: [&str; 4] = [COMMANDS, SEQUENCES, HANDLERS, ANY];
+
 #[test]
-fn any_key_bound(rt: HostRuntime) -> Result<(), Fail> {
-    plays(rt.alloc(), EditMode::Emacs, ANY)
+fn keys_and_sequences_bound(rt: HostRuntime) -> Result<(), Fail> {
+    plays(rt.alloc(), EditMode::Emacs, &TABLES)
 }

@@ -157,11 +157,6 @@ const TYPED_COUNTS: &str = "
     A-2 x                | <2> <line> SelfInsert(2, 'x') in Emacs mode
 ";
 
-#[test]
-fn counts_and_how_they_end(rt: HostRuntime) -> Result<(), Fail> {
-    plays(rt.alloc(), EditMode::Emacs, TYPED_COUNTS)
-}
-
 // Where the input ends or is no key, in the middle of a phrase.
 const CUT: &str = "
                          | Eof left 0
@@ -192,11 +187,6 @@ const CUT: &str = "
     PasteStart text:ab PasteStart text:c x | Insert(1, \"ab\"); Insert(1, \"c\"); SelfInsert(1, 'x')
 ";
 
-#[test]
-fn phrases_cut_off(rt: HostRuntime) -> Result<(), Fail> {
-    plays(rt.alloc(), EditMode::Emacs, CUT)
-}
-
 const CONDITIONS: &str = "
     line: |
     C-D                  | EndOfFile
@@ -222,11 +212,6 @@ const CONDITIONS: &str = "
     Right                | Move(ForwardChar(1))
 ";
 
-#[test]
-fn rows_with_conditions(rt: HostRuntime) -> Result<(), Fail> {
-    plays(rt.alloc(), EditMode::Emacs, CONDITIONS)
-}
-
 const FAILING_DISPLAYS: &str = "
     answered: 0
     A-- 2 C-B | Display left 2
@@ -238,7 +223,9 @@ const FAILING_DISPLAYS: &str = "
     A-- 2 C-B | <-1> <-2> <line> Move(ForwardChar(2))
 ";
 
+const TABLES: [&str; 4] = [TYPED_COUNTS, CUT, CONDITIONS, FAILING_DISPLAYS];
+
 #[test]
-fn the_display_fails_at_each_call(rt: HostRuntime) -> Result<(), Fail> {
-    plays(rt.alloc(), EditMode::Emacs, FAILING_DISPLAYS)
+fn tables_of_emacs(rt: HostRuntime) -> Result<(), Fail> {
+    plays(rt.alloc(), EditMode::Emacs, &TABLES)
 }

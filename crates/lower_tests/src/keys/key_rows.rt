@@ -13,7 +13,7 @@ use stand_ins::key_names::{key_named, write_key};
 use stand_ins::reader_calls::tell_call;
 use stand_ins::readers::{After, KeyList};
 use stand_ins::refreshers::PlainLine;
-use stand_ins::rows::{Player, rows_hold};
+use stand_ins::rows::{Player, raised, rows_hold, same};
 use stand_ins::tables::{meant, word_and_rest};
 use std::alloc::{AllocError, Global};
 use std::fmt::Debug;
@@ -82,7 +82,7 @@ fn bound_told(
     cmd: &str,
 ) -> Result<String, ReadlineError> {
     let old = bind_command(alloc, bindings, keys, cmd)?;
-    Ok(handler_told(alloc, old.as_ref())?)
+    raised(handler_told(alloc, old.as_ref()))
 }
 
 fn unbound_told(
@@ -92,12 +92,12 @@ fn unbound_told(
 ) -> Result<String, ReadlineError> {
     let event = event(alloc, keys)?;
     let old = bindings.unbind_sequence(event);
-    Ok(handler_told(alloc, old.as_ref())?)
+    raised(handler_told(alloc, old.as_ref()))
 }
 
 fn got_told(alloc: Global, bindings: &Bindings, keys: &str) -> Result<String, ReadlineError> {
     let event = event(alloc, keys)?;
-    Ok(handler_told(alloc, bindings.get(&event))?)
+    raised(handler_told(alloc, bindings.get(&event)))
 }
 
 /// Bindings that the rows of a table change.
@@ -112,12 +112,12 @@ impl Player for Binder {
         let (call, keys) = word_and_rest(call);
         let bindings = &mut self.bindings;
         let said = match call {
-            "begins" => return Ok(begun_told(alloc, bindings, keys)?),
+            "begins" => return raised(begun_told(alloc, bindings, keys)),
             "bind" => bound_told(alloc, bindings, keys, cmd.trim()),
             "unbind" => unbound_told(alloc, bindings, keys),
             _ => got_told(alloc, bindings, keys),
         };
-        Ok(said?)
+        raised(said)
     }
 }
 
@@ -148,10 +148,10 @@ impl Player for Ask {
     fn play(&mut self, alloc: Global, call: &str) -> Result<String, Fail> {
         match self {
             Ask::Form => form_told(alloc, call),
-            Ask::MadeAnew => Ok(made_anew(alloc, call)?),
-            Ask::Printed => Ok(printed(alloc, call)?),
+            Ask::MadeAnew => raised(made_anew(alloc, call)),
+            Ask::Printed => raised(printed(alloc, call)),
             Ask::Reader => read(alloc, call),
-            Ask::Signal => Ok(signal_told(alloc, call)?),
+            Ask::Signal => raised(signal_told(alloc, call)),
         }
     }
 }
@@ -185,7 +185,7 @@ fn form_told(alloc: Global, call: &str) -> Result<String, Fail> {
     let (call, word) = word_and_rest(call);
     let word = meant(alloc, word)?;
     match key_made(call, word.as_str()) {
-        Some(key) => Ok(key_told(alloc, key)?),
+        Some(key) => raised(key_told(alloc, key)),
         None => Err(Fail::new("no key")),
     }
 }
@@ -245,6 +245,17 @@ fn decision(
     shown(alloc, &answer)
 }
 
+fn decision_at(
+    alloc: Global,
+    bindings: &Bindings,
+    n: RepeatCount,
+    positive: bool,
+    shown: &str,
+) -> Result<String, ReadlineError> {
+    let line = line_of(alloc, shown)?;
+    raised(decision(alloc, bindings, n, positive, &line))
+}
+
 /// What is bound to any key, asked at a line.
 #[derive(Drop)]
 struct Decider {
@@ -258,8 +269,7 @@ impl Player for Decider {
             return Err(Fail::new("no count"));
         };
         let positive = !count.starts_with('-');
-        let line = line_of(alloc, line)?;
-        Ok(decision(alloc, &self.bindings, amount, positive, &line)?)
+        raised(decision_at(alloc, &self.bindings, amount, positive, line))
     }
 }
 
@@ -303,7 +313,7 @@ fn redone(
     line: &PlainLine,
 ) -> Result<String, ReadlineError> {
     let again = cmd.redo(alloc, count, line)?;
-    Ok(shown(alloc, &again)?)
+    raised(shown(alloc, &again))
 }
 
 #[test]
@@ -333,15 +343,18 @@ fn length_told(alloc: Global, cmd: &Cmd) -> Result<String, AllocError> {
 fn typed_over(alloc: Global, line: &PlainLine) -> Result<String, ReadlineError> {
     let replacement = Cmd::Replace(Movement::ForwardChar(0), None);
     let again = replacement.redo(alloc, None, line)?;
-    Ok(length_told(alloc, &again)?)
+    raised(length_told(alloc, &again))
+}
+
+fn long_typed_over(alloc: Global) -> Result<String, ReadlineError> {
+    let line = line_behind_long(alloc)?;
+    typed_over(alloc, &line)
 }
 
 #[test]
 fn a_text_of_any_length_is_typed_over(rt: HostRuntime) -> Result<(), Fail> {
-    let line = line_behind_long(rt.alloc())?;
-    let said = typed_over(rt.alloc(), &line)?;
-    assert_eq!(rt; said.as_str(), "ForwardChar(65535) 70000");
-    Ok(())
+    let said = long_typed_over(rt.alloc())?;
+    same(said.as_str(), "ForwardChar(65535) 70000")
 }
 
 // What is typed, and calls of the reader, one after the other. A refusal stays, but for the end of the input.
@@ -445,10 +458,10 @@ struct Asked {
 impl Player for Asked {
     fn play(&mut self, alloc: Global, call: &str) -> Result<String, Fail> {
         if call == "count" {
-            return Ok(shown(alloc, &self.line.requests.len())?);
+            return raised(shown(alloc, &self.line.requests.len()));
         }
         request(&mut self.line, call)?;
-        Ok(kept(alloc, &self.line)?)
+        raised(kept(alloc, &self.line))
     }
 }
 
@@ -464,7 +477,7 @@ const PRINTED: &str = "
 
 fn printed(alloc: Global, keys: &str) -> Result<String, ReadlineError> {
     let event = event(alloc, keys)?;
-    Ok(shown(alloc, &event)?)
+    raised(shown(alloc, &event))
 }
 
 #[test]

@@ -10,7 +10,7 @@
 use crate::keys::commands::{bind_command, bind_handler};
 use crate::keys::telling::told;
 use line_config::{EditMode, ReadlineError};
-use line_keys::Bindings;
+use line_keys::{Bindings, EventHandler};
 use stand_ins::tables::word_and_rest;
 use std::alloc::{AllocError, Global};
 use std::test::Fail;
@@ -67,13 +67,19 @@ impl<'t> Desk<'t> {
 
     fn bind(&mut self, word: &str, rest: &str) -> Result<(), Fail> {
         let bindings = &mut self.bindings;
-        let old = match (word, rest.split_once("= ")) {
-            ("bind:", Some((keys, bound))) => bind_command(self.alloc, bindings, keys, bound),
-            ("ask:", Some((keys, bound))) => bind_handler(self.alloc, bindings, keys, bound),
-            _ => return Err(Fail::new(format_args!("no row: {word} {rest}"))),
-        };
-        let _old = old?;
-        Ok(())
+        match (word, rest.split_once("= ")) {
+            ("bind:", Some((keys, bound))) => done(bind_command(self.alloc, bindings, keys, bound)),
+            ("ask:", Some((keys, bound))) => done(bind_handler(self.alloc, bindings, keys, bound)),
+            _ => Err(Fail::new(format_args!("no row: {word} {rest}"))),
+        }
+    }
+}
+
+// What was bound before doesn't matter.
+fn done(old: Result<Option<EventHandler>, ReadlineError>) -> Result<(), Fail> {
+    match old {
+        Ok(_) => Ok(()),
+        Err(why) => Err(Fail::from(why)),
     }
 }
 
@@ -128,8 +134,15 @@ impl<'t> TakesParts<'t> for Desk<'t> {
     }
 }
 
-/// Types the keys of each row, from the desk as it stands at first.
-pub(crate) fn plays(alloc: Global, mode: EditMode, table: &str) -> Result<(), Fail> {
+/// Types the keys of each row, for each table from the desk as it stands at first.
+pub(crate) fn plays(alloc: Global, mode: EditMode, tables: &[&str]) -> Result<(), Fail> {
+    for table in tables {
+        plays_anew(alloc, mode, table)?;
+    }
+    Ok(())
+}
+
+fn plays_anew(alloc: Global, mode: EditMode, table: &str) -> Result<(), Fail> {
     let mut desk = Desk::new(alloc, mode)?;
     each_part(&mut desk, table, '\n')
 }

@@ -6,6 +6,7 @@ use line_config::{Config, ReadlineError};
 use line_keys::{Cmd, InputState, Text};
 use stand_ins::readers::KeyList;
 use stand_ins::refreshers::{PlainLine, Request};
+use stand_ins::rows::raised;
 use stand_ins::tables::line_and_place;
 use std::alloc::{AllocError, Global};
 
@@ -82,8 +83,18 @@ impl<'d> Typing<'d> {
         let answer = self
             .state
             .next_cmd(alloc, &mut self.reader, line, false, self.first_by_key);
+        raised(self.tell_all(line, said, &answer))
+    }
+
+    // Tells what was asked of the display, and then the answer.
+    fn tell_all(
+        &self,
+        line: &mut PlainLine,
+        said: &mut String,
+        answer: &Result<Cmd, ReadlineError>,
+    ) -> Result<bool, AllocError> {
         tell_requests(said, line)?;
-        Ok(self.tell_answer(said, &answer)?)
+        self.tell_answer(said, answer)
     }
 
     fn tell_answer(
@@ -142,8 +153,18 @@ fn tell_input(
     said: &mut String,
 ) -> Result<(), ReadlineError> {
     let mut line = line_at(desk)?;
+    tell_typed(desk, first_by_key, input, &mut line, said)
+}
+
+fn tell_typed(
+    desk: &Desk<'_>,
+    first_by_key: bool,
+    input: &Input,
+    line: &mut PlainLine,
+    said: &mut String,
+) -> Result<(), ReadlineError> {
     let mut typing = Typing::new(desk, first_by_key, input)?;
-    typing.tell(&mut line, said)
+    typing.tell(line, said)
 }
 
 // Tells what was asked of the display, and forgets it.

@@ -4,6 +4,7 @@ use crate::keys::tables::{Desk, each_count, plays};
 use crate::keys::telling::told;
 use crate::keys::typing::long_text;
 use line_config::{EditMode, ReadlineError};
+use stand_ins::rows::{raised, same};
 use std::alloc::Global;
 use std::test::Fail;
 
@@ -140,11 +141,6 @@ const NO_COUNT: &str = "
     Esc f C-C x          | <done> Move(BackwardChar(1)); Unknown; Kill(ForwardChar(1))
 ";
 
-#[test]
-fn what_is_no_count(rt: HostRuntime) -> Result<(), Fail> {
-    plays(rt.alloc(), EditMode::Vi, NO_COUNT)
-}
-
 // Where the input ends or is no key, in the middle of a phrase of command mode.
 const CUT: &str = "
     Esc 5                | <done> Move(BackwardChar(1)); <5> Eof left 0
@@ -163,11 +159,6 @@ const CUT: &str = "
     Esc PasteStart !cut  | <done> Move(BackwardChar(1)); Eof left 0
 ";
 
-#[test]
-fn phrases_cut_off(rt: HostRuntime) -> Result<(), Fail> {
-    plays(rt.alloc(), EditMode::Vi, CUT)
-}
-
 // Searches of a character, as they are remembered.
 const SEARCHES: &str = "
     A-f x ; , 3 ; , ,    | <done> Move(ViCharSearch(1, Forward('x'))); Move(ViCharSearch(1, Forward('x'))); Move(ViCharSearch(1, Backward('x'))); <3> <line> Move(ViCharSearch(3, Forward('x'))); Move(ViCharSearch(1, Backward('x'))); Move(ViCharSearch(1, Backward('x')))
@@ -181,11 +172,6 @@ const SEARCHES: &str = "
     A-f x Enter ;        | <done> Move(ViCharSearch(1, Forward('x'))); AcceptOrInsertLine { accept_in_the_middle: true }; Move(ViCharSearch(1, Forward('x')))
     A-; d ; d ,          | <done> Noop; Unknown; Unknown
 ";
-
-#[test]
-fn searches_are_remembered(rt: HostRuntime) -> Result<(), Fail> {
-    plays(rt.alloc(), EditMode::Vi, SEARCHES)
-}
 
 // Changes made anew by `.`, where no text was inserted before, and where the text `kl` was.
 const DOTS: &str = "
@@ -225,11 +211,6 @@ const DOTS: &str = "
     C-W x A-.            | Kill(BackwardWord(1, Big)); SelfInsert(1, 'x'); <done> Insert(1, \"kl\")
 ";
 
-#[test]
-fn changes_are_remembered(rt: HostRuntime) -> Result<(), Fail> {
-    plays(rt.alloc(), EditMode::Vi, DOTS)
-}
-
 // What keys lead to where this text was inserted before.
 fn told_behind(alloc: Global, inserted: &str) -> Result<String, ReadlineError> {
     let mut desk = Desk::new(alloc, EditMode::Vi)?;
@@ -240,16 +221,22 @@ fn told_behind(alloc: Global, inserted: &str) -> Result<String, ReadlineError> {
 // The same, with a word for the text.
 fn replacement_told(alloc: Global, inserted: &str) -> Result<String, ReadlineError> {
     let said = told_behind(alloc, inserted)?;
-    Ok(said.replace(alloc, inserted, "LONG")?)
+    raised(said.replace(alloc, inserted, "LONG"))
 }
 
 #[test]
 fn a_long_text_typed_over(rt: HostRuntime) -> Result<(), Fail> {
     let long = long_text(rt.alloc())?;
     let said = replacement_told(rt.alloc(), long.as_str())?;
-    assert_eq!(rt;
+    same(
         said.as_str(),
-        "<done> Move(BackwardChar(1)); Replace(ForwardChar(0), None); <done> Move(BackwardChar(1)); Replace(ForwardChar(65535), Some(\"LONG\"))"
-    );
-    Ok(())
+        "<done> Move(BackwardChar(1)); Replace(ForwardChar(0), None); <done> Move(BackwardChar(1)); Replace(ForwardChar(65535), Some(\"LONG\"))",
+    )
+}
+
+const TABLES: [&str; 4] = [NO_COUNT, CUT, SEARCHES, DOTS];
+
+#[test]
+fn tables_of_command_mode(rt: HostRuntime) -> Result<(), Fail> {
+    plays(rt.alloc(), EditMode::Vi, &TABLES)
 }

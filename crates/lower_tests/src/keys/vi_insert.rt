@@ -94,11 +94,6 @@ const MODES: &str = "
     x Esc R Esc          | SelfInsert(1, 'x') in insert mode; <done> Move(BackwardChar(1)) in command mode; Replace(ForwardChar(0), None) in insert mode; <done> Move(BackwardChar(1)) in command mode
 ";
 
-#[test]
-fn modes_left_and_entered(rt: HostRuntime) -> Result<(), Fail> {
-    plays(rt.alloc(), EditMode::Vi, MODES)
-}
-
 // Where the input ends or is no key, in the middle of a phrase of insert mode.
 const CUT: &str = "
                          | Eof left 0
@@ -113,11 +108,6 @@ const CUT: &str = "
     A-3 d !failed        | <done> <3> <line> Reader left 0
     A-r text:ab x        | <done> PasteOutOfPlace left 2
 ";
-
-#[test]
-fn phrases_cut_off(rt: HostRuntime) -> Result<(), Fail> {
-    plays(rt.alloc(), EditMode::Vi, CUT)
-}
 
 const CONDITIONS: &str = "
     line: |
@@ -136,11 +126,6 @@ const CONDITIONS: &str = "
     line: a|b
     Right                | Move(ForwardChar(1))
 ";
-
-#[test]
-fn rows_with_conditions(rt: HostRuntime) -> Result<(), Fail> {
-    plays(rt.alloc(), EditMode::Vi, CONDITIONS)
-}
 
 // Bindings, first in insert mode and then, after ALT with `u`, in command mode.
 const BOUND: &str = "
@@ -201,11 +186,6 @@ const BOUND: &str = "
     C-O                  | Insert(2, \"kl\")
 ";
 
-#[test]
-fn bindings_in_vi(rt: HostRuntime) -> Result<(), Fail> {
-    plays(rt.alloc(), EditMode::Vi, BOUND)
-}
-
 const FAILING_DISPLAYS: &str = "
     answered: 0
     A-3 0 d 2 w | Display left 4
@@ -226,7 +206,9 @@ const FAILING_DISPLAYS: &str = "
     Esc a x | <done> Move(BackwardChar(1)); Display left 1
 ";
 
+const TABLES: [&str; 5] = [MODES, CUT, CONDITIONS, BOUND, FAILING_DISPLAYS];
+
 #[test]
-fn the_display_fails_at_each_call(rt: HostRuntime) -> Result<(), Fail> {
-    plays(rt.alloc(), EditMode::Vi, FAILING_DISPLAYS)
+fn tables_of_insert_mode(rt: HostRuntime) -> Result<(), Fail> {
+    plays(rt.alloc(), EditMode::Vi, &TABLES)
 }

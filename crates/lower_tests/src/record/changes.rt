@@ -1,10 +1,12 @@
 //! A record by itself, told of changes. A row is a call, after `=` what it answers, and the last insertion as the
 //! record has it then, or `none`.
 
+use line_buffer::OutOfMemory;
 use line_record::Changeset;
-use stand_ins::rows::{Player, rows_hold};
+use stand_ins::rows::{Player, raised, rows_hold};
 use stand_ins::tables::word_and_rest;
 use std::alloc::Global;
+use std::fmt::Display;
 use std::test::Fail;
 
 /// Tells of a change: a place, and one text or two; `''` is no text.
@@ -14,27 +16,37 @@ fn told(alloc: Global, changes: &mut Changeset, call: &str, words: &str) -> Resu
     let (first, second) = word_and_rest(texts);
     let first = first.trim_matches('\'');
     let second = second.trim_matches('\'');
-    match call {
-        "insert" => changes.insert(alloc, place, first.chars().next().unwrap_or(' '))?,
-        "insert_str" => changes.insert_str(alloc, place, first)?,
-        "delete" => changes.delete(alloc, place, first)?,
-        "replace" => changes.replace(alloc, place, first, second)?,
-        "truncate" => changes.truncate(place),
+    raised(match call {
+        "insert" => changes.insert(alloc, place, first.chars().next().unwrap_or(' ')),
+        "insert_str" => changes.insert_str(alloc, place, first),
+        "delete" => changes.delete(alloc, place, first),
+        "replace" => changes.replace(alloc, place, first, second),
+        "truncate" => Ok(changes.truncate(place)),
         other => return Err(Fail::new(format_args!("no call: {other}"))),
-    }
-    Ok(())
+    })
+}
+
+/// An answer, with a blank behind it.
+fn answered<D: Display + Drop>(
+    alloc: Global,
+    answer: Result<D, OutOfMemory>,
+) -> Result<String, OutOfMemory> {
+    let answer = answer?;
+    raised(format!(in alloc; "{answer} "))
 }
 
 /// Makes a call, and answers what it answers.
 fn made(alloc: Global, changes: &mut Changeset, call: &str) -> Result<String, Fail> {
     let (call, words) = word_and_rest(call);
     match call {
-        "begin" => return Ok(format!(in alloc; "{} ", changes.begin(alloc)?)?),
-        "end" => return Ok(format!(in alloc; "{} ", changes.end(alloc)?)?),
-        "look" => {}
-        _ => told(alloc, changes, call, words)?,
+        "begin" => raised(answered(alloc, changes.begin(alloc))),
+        "end" => raised(answered(alloc, changes.end(alloc))),
+        "look" => Ok(String::new(alloc)),
+        _ => {
+            told(alloc, changes, call, words)?;
+            Ok(String::new(alloc))
+        }
     }
-    Ok(String::new(alloc))
 }
 
 /// Tells the last insertion, which two calls answer.
@@ -81,7 +93,12 @@ fn changes_recorded_by_themselves(rt: HostRuntime) -> Result<(), Fail> {
         end = true xyz!
         ";
     rows_hold(rt.alloc(), &mut first, told)?;
-    let changes = first.changes.try_clone(rt.alloc())?;
-    rows_hold(rt.alloc(), &mut first, "delete 0 x = none\ntruncate 1 = ab")?;
-    rows_hold(rt.alloc(), &mut Recorded { changes }, "look = xyz!")
+    copy_stands(rt.alloc(), &mut first)
+}
+
+/// A copy stays as it is where the record changes.
+fn copy_stands(alloc: Global, first: &mut Recorded) -> Result<(), Fail> {
+    let changes = first.changes.try_clone(alloc)?;
+    rows_hold(alloc, first, "delete 0 x = none\ntruncate 1 = ab")?;
+    rows_hold(alloc, &mut Recorded { changes }, "look = xyz!")
 }

@@ -2,39 +2,47 @@
 
 use line_buffer::{DeleteListener, Direction, Mode, OutOfMemory};
 use line_record::KillRing;
-use stand_ins::rows::{Player, rows_hold};
+use stand_ins::rows::{Player, raised, rows_hold};
 use stand_ins::tables::word_and_rest;
-use std::alloc::Global;
+use std::alloc::{AllocError, Global};
 use std::test::Fail;
 
 /// A yanked text, and `none` where there is none.
-fn yanked(alloc: Global, text: Option<&str>) -> Result<String, OutOfMemory> {
-    Ok(String::from_str(alloc, text.unwrap_or("none"))?)
+fn yanked(alloc: Global, text: Option<&str>) -> Result<String, AllocError> {
+    String::from_str(alloc, text.unwrap_or("none"))
 }
 
 /// A yanked text, and the size of the one that it takes the place of.
-fn popped(alloc: Global, popped: Option<(usize, &str)>) -> Result<String, OutOfMemory> {
+fn popped(alloc: Global, popped: Option<(usize, &str)>) -> Result<String, AllocError> {
     match popped {
-        Some((size, text)) => Ok(format!(in alloc; "{size} {text}")?),
+        Some((size, text)) => format!(in alloc; "{size} {text}"),
         None => yanked(alloc, None),
+    }
+}
+
+/// Makes a call that answers nothing.
+fn done(alloc: Global, ring: &mut KillRing, call: &str, text: &str) -> Result<(), OutOfMemory> {
+    match call {
+        "kill" => ring.kill(alloc, text, Mode::Append),
+        "kill_before" => ring.kill(alloc, text, Mode::Prepend),
+        "delete" => ring.delete(alloc, 0, text, Direction::Forward),
+        "delete_before" => ring.delete(alloc, 0, text, Direction::Backward),
+        "start_killing" => Ok(ring.start_killing()),
+        "stop_killing" => Ok(ring.stop_killing()),
+        _ => Ok(ring.reset()),
     }
 }
 
 /// Makes a call, and answers what it answers.
 fn made(alloc: Global, ring: &mut KillRing, call: &str, text: &str) -> Result<String, Fail> {
     match call {
-        "yank" => return Ok(yanked(alloc, ring.yank())?),
-        "yank_pop" => return Ok(popped(alloc, ring.yank_pop())?),
-        "kill" => ring.kill(alloc, text, Mode::Append)?,
-        "kill_before" => ring.kill(alloc, text, Mode::Prepend)?,
-        "delete" => ring.delete(alloc, 0, text, Direction::Forward)?,
-        "delete_before" => ring.delete(alloc, 0, text, Direction::Backward)?,
-        "start_killing" => ring.start_killing(),
-        "stop_killing" => ring.stop_killing(),
-        "reset" => ring.reset(),
-        other => return Err(Fail::new(format_args!("no call: {other}"))),
+        "yank" => raised(yanked(alloc, ring.yank())),
+        "yank_pop" => raised(popped(alloc, ring.yank_pop())),
+        _ => {
+            done(alloc, ring, call, text)?;
+            Ok(String::new(alloc))
+        }
     }
-    Ok(String::new(alloc))
 }
 
 /// A ring on which each row's call is made.

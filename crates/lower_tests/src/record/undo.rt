@@ -6,9 +6,10 @@ ghost use Rattle.line_record.specs.Items.{ItemsStand, ItemsStand-prop};
 use line_buffer::{DeleteListener, LineBuffer, Movement, OutOfMemory, Word, WordAction};
 use line_record::{Changeset, Joined, KillRing};
 use stand_ins::lines::{line_of, shown_of};
-use stand_ins::rows::{Player, rows_hold};
+use stand_ins::rows::{Player, raised, rows_hold};
 use stand_ins::tables::word_and_rest;
 use std::alloc::Global;
+use std::fmt::Display;
 use std::test::Fail;
 
 /// A line with its record.
@@ -73,43 +74,65 @@ impl Desk {
         self.changes.redo(self.alloc, &mut self.line)
     }
 
-    /// Makes a call; edits and motions answer nothing here.
-    fn ask(&mut self, call: &str, text: &str) -> Result<Option<bool>, Fail> {
+    /// Makes a call that answers nothing, if it is one.
+    fn edit(&mut self, call: &str, text: &str, n: u16) -> Option<Result<(), OutOfMemory>> {
         match call {
-            "end" => return Ok(Some(self.end()?)),
-            "undo" => return Ok(Some(self.undo(text.parse()?)?)),
-            "redo" => return Ok(Some(self.redo()?)),
-            "line" => {}
-            "put" => self.put(text)?,
-            "paste" => self.paste(text)?,
-            "backspace" => self.backspace(text.parse()?)?,
-            "delete" => self.delete(text.parse()?)?,
-            "upcase" => self.upcase()?,
-            "to_start" => {
-                self.line.move_buffer_start();
-            }
-            "to_end" => {
-                self.line.move_buffer_end();
-            }
-            other => return Err(Fail::new(format_args!("no call: {other}"))),
+            "put" => Some(self.put(text)),
+            "paste" => Some(self.paste(text)),
+            "backspace" => Some(self.backspace(n)),
+            "delete" => Some(self.delete(n)),
+            "upcase" => Some(self.upcase()),
+            _ => self.go(call),
         }
-        Ok(None)
+    }
+
+    /// Goes to an end, or stays on a new line.
+    fn go(&mut self, call: &str) -> Option<Result<(), OutOfMemory>> {
+        match call {
+            "line" => true,
+            "to_start" => self.line.move_buffer_start(),
+            "to_end" => self.line.move_buffer_end(),
+            _ => return None,
+        };
+        Some(Ok(()))
+    }
+
+    /// Makes a call, and answers what it answers.
+    fn ask(&mut self, call: &str, text: &str) -> Result<String, Fail> {
+        let n = text.parse().unwrap_or(0);
+        let answer = match call {
+            "begin" => return raised(told(self.alloc, self.begin())),
+            "end" => self.end(),
+            "undo" => self.undo(n),
+            "redo" => self.redo(),
+            _ => return edited(self.alloc, self.edit(call, text, n)),
+        };
+        raised(told(self.alloc, answer))
     }
 
     /// Makes a call, and answers what it answers and the line then.
     fn step(&mut self, call: &str, text: &str) -> Result<String, Fail> {
-        let alloc = self.alloc;
-        if call == "begin" {
-            let before = self.begin()?;
-            let shown = shown_of(alloc, &self.line)?;
-            return Ok(format!(in alloc; "{before} {shown}")?);
-        }
         let answer = self.ask(call, text)?;
-        let shown = shown_of(alloc, &self.line)?;
-        match answer {
-            Some(answer) => Ok(format!(in alloc; "{answer} {shown}")?),
-            None => Ok(shown),
-        }
+        let shown = shown_of(self.alloc, &self.line)?;
+        raised(format!(in self.alloc; "{answer}{shown}"))
+    }
+}
+
+/// An answer, with a blank behind it.
+fn told<D: Display + Drop>(
+    alloc: Global,
+    answer: Result<D, OutOfMemory>,
+) -> Result<String, OutOfMemory> {
+    let answer = answer?;
+    raised(format!(in alloc; "{answer} "))
+}
+
+/// What a call answers that answers nothing.
+fn edited(alloc: Global, edited: Option<Result<(), OutOfMemory>>) -> Result<String, Fail> {
+    match edited {
+        Some(Ok(())) => Ok(String::new(alloc)),
+        Some(Err(why)) => Err(Fail::from(why)),
+        None => Err(Fail::new("no such call")),
     }
 }
 
@@ -188,181 +211,140 @@ impl Player for Desk {
     }
 }
 
-/// Makes each row's call, the first one on the empty line.
-fn plays(alloc: Global, rows: &str) -> Result<(), Fail> {
+/// Makes the call of each row, for each table on the empty line at first.
+fn plays(alloc: Global, tables: &[&str]) -> Result<(), Fail> {
+    for table in tables {
+        plays_anew(alloc, table)?;
+    }
+    Ok(())
+}
+
+fn plays_anew(alloc: Global, rows: &str) -> Result<(), Fail> {
     let mut desk = Desk::new(alloc, "")?;
     rows_hold(alloc, &mut desk, rows)
 }
 
-#[test]
-fn typed_words_undone(rt: HostRuntime) -> Result<(), Fail> {
-    plays(
-        rt.alloc(),
-        "
-        put ab c = ab c|
-        undo 1 = true ab|
-        undo 1 = true |
-        undo 1 = false |
+const TYPED_WORDS_UNDONE: &str = "
+    put ab c = ab c|
+    undo 1 = true ab|
+    undo 1 = true |
+    undo 1 = false |
 
-        line | = |
-        put ab c = ab c|
-        undo 9 = true |
-        redo = true ab|
-        redo = true ab c|
-        redo = false ab c|
-        undo 0 = true ab|
-        ",
-    )
-}
+    line | = |
+    put ab c = ab c|
+    undo 9 = true |
+    redo = true ab|
+    redo = true ab c|
+    redo = false ab c|
+    undo 0 = true ab|
+    ";
 
-#[test]
-fn joins_at_each_edge(rt: HostRuntime) -> Result<(), Fail> {
-    plays(
-        rt.alloc(),
-        "
-        line abc|d = abc|d
-        backspace 1 = ab|d
-        backspace 1 = a|d
-        delete 1 = a|
-        undo 1 = true abcd|
-        redo = true a|
+const JOINS_AT_EACH_EDGE: &str = "
+    line abc|d = abc|d
+    backspace 1 = ab|d
+    backspace 1 = a|d
+    delete 1 = a|
+    undo 1 = true abcd|
+    redo = true a|
 
-        line abc| = abc|
-        backspace 1 = ab|
-        backspace 2 = |
-        undo 1 = true ab|
-        ",
-    )
-}
+    line abc| = abc|
+    backspace 1 = ab|
+    backspace 2 = |
+    undo 1 = true ab|
+    ";
 
-#[test]
-fn erased_letters_are_one_step(rt: HostRuntime) -> Result<(), Fail> {
-    plays(
-        rt.alloc(),
-        "
-        put a = a|
-        put b = ab|
-        put c = abc|
-        backspace 1 = ab|
-        backspace 1 = a|
-        backspace 1 = |
-        undo 1 = true abc|
-        undo 1 = true |
-        redo = true abc|
-        redo = true |
-        undo 1 = true abc|
-        put d = abcd|
-        redo = false abcd|
-        undo 1 = true |
-        ",
-    )
-}
+const ERASED_LETTERS_ARE_ONE_STEP: &str = "
+    put a = a|
+    put b = ab|
+    put c = abc|
+    backspace 1 = ab|
+    backspace 1 = a|
+    backspace 1 = |
+    undo 1 = true abc|
+    undo 1 = true |
+    redo = true abc|
+    redo = true |
+    undo 1 = true abc|
+    put d = abcd|
+    redo = false abcd|
+    undo 1 = true |
+    ";
 
-#[test]
-fn pasted_text_joined_by_typing(rt: HostRuntime) -> Result<(), Fail> {
-    plays(
-        rt.alloc(),
-        "
-        put a = a|
-        paste b = ab|
-        put cß = abcß|
-        undo 1 = true a|
-        to_start = |a
-        put x = x|a
-        redo = false x|a
-        undo 1 = true |a
-        ",
-    )
-}
+const PASTED_TEXT_JOINED_BY_TYPING: &str = "
+    put a = a|
+    paste b = ab|
+    put cß = abcß|
+    undo 1 = true a|
+    to_start = |a
+    put x = x|a
+    redo = false x|a
+    undo 1 = true |a
+    ";
 
-#[test]
-fn groups_undone_as_one(rt: HostRuntime) -> Result<(), Fail> {
-    plays(
-        rt.alloc(),
-        "
-        begin = 0 |
-        end = false |
-        undo 1 = false |
+const GROUPS_UNDONE_AS_ONE: &str = "
+    begin = 0 |
+    end = false |
+    undo 1 = false |
 
-        put a = a|
-        begin = 1 a|
-        put b = ab|
-        begin = 3 ab|
-        put c = abc|
-        end = true abc|
-        end = false abc|
-        begin = 2 abc|
-        end = false abc|
-        put d = abcd|
-        undo 1 = true abc|
-        undo 1 = true a|
-        redo = true abc|
-        undo 2 = true |
-        ",
-    )
-}
+    put a = a|
+    begin = 1 a|
+    put b = ab|
+    begin = 3 ab|
+    put c = abc|
+    end = true abc|
+    end = false abc|
+    begin = 2 abc|
+    end = false abc|
+    put d = abcd|
+    undo 1 = true abc|
+    undo 1 = true a|
+    redo = true abc|
+    undo 2 = true |
+    ";
 
-#[test]
-fn long_groups_made_near_and_far(rt: HostRuntime) -> Result<(), Fail> {
-    plays(
-        rt.alloc(),
-        "
-        line |漢 = |漢
-        begin = 0 |漢
-        put é b é d é f é h é j = é b é d é f é h é j|漢
-        to_end = é b é d é f é h é j漢|
-        put ! = é b é d é f é h é j漢!|
-        to_start = |é b é d é f é h é j漢!
-        delete 1 = | b é d é f é h é j漢!
-        end = true | b é d é f é h é j漢!
-        undo 1 = true |漢
-        redo = true | b é d é f é h é j漢!
-        put x = x| b é d é f é h é j漢!
-        undo 2 = true |漢
-        ",
-    )
-}
+const LONG_GROUPS_MADE_NEAR_AND_FAR: &str = "
+    line |漢 = |漢
+    begin = 0 |漢
+    put é b é d é f é h é j = é b é d é f é h é j|漢
+    to_end = é b é d é f é h é j漢|
+    put ! = é b é d é f é h é j漢!|
+    to_start = |é b é d é f é h é j漢!
+    delete 1 = | b é d é f é h é j漢!
+    end = true | b é d é f é h é j漢!
+    undo 1 = true |漢
+    redo = true | b é d é f é h é j漢!
+    put x = x| b é d é f é h é j漢!
+    undo 2 = true |漢
+    ";
 
-#[test]
-fn open_marks_undone(rt: HostRuntime) -> Result<(), Fail> {
-    plays(
-        rt.alloc(),
-        "
-        put a = a|
-        begin = 1 a|
-        put b = ab|
-        undo 1 = true a|
-        undo 1 = false a|
-        redo = false a|
-        redo = true ab|
-        ",
-    )
-}
+const OPEN_MARKS_UNDONE: &str = "
+    put a = a|
+    begin = 1 a|
+    put b = ab|
+    undo 1 = true a|
+    undo 1 = false a|
+    redo = false a|
+    redo = true ab|
+    ";
 
-#[test]
-fn each_kind_made_anew(rt: HostRuntime) -> Result<(), Fail> {
-    plays(
-        rt.alloc(),
-        "
-        line |one two = |one two
-        upcase = ONE| two
-        undo 1 = true one| two
-        to_start = |one two
-        redo = true ONE| two
+const EACH_KIND_MADE_ANEW: &str = "
+    line |one two = |one two
+    upcase = ONE| two
+    undo 1 = true one| two
+    to_start = |one two
+    redo = true ONE| two
 
-        to_end = ONE two|
-        paste !! = ONE two!!|
-        backspace 1 = ONE two!|
-        undo 2 = true ONE two|
-        redo = true ONE two!!|
-        redo = true ONE two!|
-        redo = false ONE two!|
+    to_end = ONE two|
+    paste !! = ONE two!!|
+    backspace 1 = ONE two!|
+    undo 2 = true ONE two|
+    redo = true ONE two!!|
+    redo = true ONE two!|
+    redo = false ONE two!|
 
-        undo 65535 = true one| two
-        undo 65535 = false one| two
-        ",
-    )
-}
+    undo 65535 = true one| two
+    undo 65535 = false one| two
+    ";
 
 #[test]
 fn ring_and_record_told_together(rt: HostRuntime) -> Result<(), Fail> {
@@ -406,4 +388,20 @@ fn ring_beside_the_record(rt: HostRuntime) -> Result<(), Fail> {
     assert_eq!(rt; ring.yank(), Some("bc"));
     assert_eq!(rt; changes.last_insert_text(), Some("d"));
     Ok(())
+}
+
+const TABLES: [&str; 8] = [
+    TYPED_WORDS_UNDONE,
+    JOINS_AT_EACH_EDGE,
+    ERASED_LETTERS_ARE_ONE_STEP,
+    PASTED_TEXT_JOINED_BY_TYPING,
+    GROUPS_UNDONE_AS_ONE,
+    LONG_GROUPS_MADE_NEAR_AND_FAR,
+    OPEN_MARKS_UNDONE,
+    EACH_KIND_MADE_ANEW,
+];
+
+#[test]
+fn changes_undone_and_made_anew(rt: HostRuntime) -> Result<(), Fail> {
+    plays(rt.alloc(), &TABLES)
 }
