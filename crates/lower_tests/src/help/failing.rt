@@ -8,10 +8,11 @@ use stand_ins::tables::{meant_bytes, or_nothing, pictured_bytes, word_and_rest};
 use std::alloc::{AllocError, Global};
 use std::test::Fail;
 
-/// A sink that has room for so many bytes and one flush, which takes the place of a byte.
+/// A sink with room for so many bytes, which writes a bar where it is asked to pass them on.
 #[derive(Drop)]
 struct Narrow {
     room: usize,
+    written: Vec<u8>,
     taken: Log,
     failed: bool,
 }
@@ -19,65 +20,9 @@ struct Narrow {
 impl Narrow {
     ghost use Rattle.std.specs.Prelude.{◌≡◌, is_err, IsErr, IsTrue};
 
-    fn new(room: usize) -> Self {
+    fn new(alloc: Global, room: usize) -> Self {
         Narrow {
             room,
-            taken: Log::new(),
-            failed: false,
-        }
-    }
-
-    fn take(&mut self, count: usize) -> Result<(), DeviceFailed>
-        ensures taken { self.new.taken ≡ self.old.taken }
-        ensures failure { self.new.failed ≡ is_err result }
-        ensures for_good { IsTrue self.old.failed → IsErr result }
-    {
-        if self.failed || count > self.room {
-            self.failed = true;
-            return Err(DeviceFailed);
-        }
-        self.room -= count;
-        Ok(())
-    }
-}
-
-impl Sink for Narrow {
-    ghost use Rattle.std.specs.Prelude.{[]};
-
-    ghost held = { λ s. s.taken.bytes };
-
-    ghost waits = { λ _. [] };
-
-    ghost has_failed = { λ s. s.failed };
-
-    fn write(&mut self, bytes: &[u8]) -> Result<(), DeviceFailed> {
-        self.take(bytes.len())?;
-        self.taken.note(bytes);
-        Ok(())
-    }
-
-    fn flush(&mut self) -> Result<(), DeviceFailed> {
-        self.take(1)
-    }
-
-    fn failed(&self) -> bool {
-        self.failed
-    }
-}
-
-/// A sink that writes a bar where it is asked to pass on what was written.
-#[derive(Drop)]
-struct Barred {
-    written: Vec<u8>,
-    taken: Log,
-    failed: bool,
-}
-
-impl Barred {
-    ghost use Rattle.std.specs.Prelude.{◌≡◌, is_err, IsErr, IsTrue};
-
-    fn new(alloc: Global) -> Self {
-        Barred {
             written: Vec::new(alloc),
             taken: Log::new(),
             failed: false,
@@ -89,15 +34,17 @@ impl Barred {
         ensures failure { self.new.failed ≡ is_err result }
         ensures for_good { IsTrue self.old.failed → IsErr result }
     {
-        if self.failed || self.written.extend_from_slice(bytes).is_err() {
+        let fits = bytes.len() <= self.room;
+        if self.failed || !fits || self.written.extend_from_slice(bytes).is_err() {
             self.failed = true;
             return Err(DeviceFailed);
         }
+        self.room -= bytes.len();
         Ok(())
     }
 }
 
-impl Sink for Barred {
+impl Sink for Narrow {
     ghost use Rattle.std.specs.Prelude.{[]};
 
     ghost held = { λ s. s.taken.bytes };
@@ -280,8 +227,13 @@ fn write_to<S: Sink>(way: &Way, history: &mut FileHistory, sink: &mut S) -> &'st
 }
 
 // What a sink with so much room answers twice.
-fn answers(way: &Way, history: &mut FileHistory, room: usize) -> (&'static str, &'static str) {
-    let mut sink = Narrow::new(room);
+fn answers(
+    alloc: Global,
+    way: &Way,
+    history: &mut FileHistory,
+    room: usize,
+) -> (&'static str, &'static str) {
+    let mut sink = Narrow::new(alloc, room);
     let first = write_to(way, history, &mut sink);
     if sink.failed() == (first == "fine") {
         return (first, "not as the sink has failed");
@@ -304,7 +256,7 @@ fn with_room(
     history: &mut FileHistory,
     room: usize,
 ) -> Result<String, AllocError> {
-    let (first, second) = answers(way, history, room);
+    let (first, second) = answers(alloc, way, history, room);
     let left = left_told(alloc, way, history)?;
     format!(in alloc; "{first}, {second}, {left}")
 }
@@ -351,7 +303,7 @@ fn writes_nothing(alloc: Global, sink: &mut Narrow) -> bool {
 /// A sink that has failed isn't asked where nothing is new.
 #[test]
 fn nothing_new_for_a_failed_sink(rt: HostRuntime) {
-    let mut sink = Narrow::new(0);
+    let mut sink = Narrow::new(rt.alloc(), 0);
     assert!(rt; sink.flush().is_err());
     assert!(rt; writes_nothing(rt.alloc(), &mut sink));
 }
@@ -377,7 +329,7 @@ const PASSED_ON: &str = "
 #[derive(Drop)]
 struct Desk {
     history: FileHistory,
-    sink: Barred,
+    sink: Narrow,
 }
 
 impl Desk {
@@ -407,6 +359,6 @@ impl Player for Desk {
 #[test]
 fn rows_are_passed_on_at_their_end(rt: HostRuntime) -> Result<(), Fail> {
     let history = FileHistory::new(rt.alloc());
-    let sink = Barred::new(rt.alloc());
+    let sink = Narrow::new(rt.alloc(), usize::MAX);
     rows_hold(rt.alloc(), &mut Desk { history, sink }, PASSED_ON)
 }
