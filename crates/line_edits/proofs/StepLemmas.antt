@@ -1,6 +1,6 @@
 -- Edits by their steps: what a call owes that was answered, or refused.
 use Rattle.std.specs.Prelude.{⊤, Result, Ok, Err, OnErr, IsErrAnd, IsUtf8}
-use Rattle.std.proofs.Common.{◌≡◌, ℕ, Bool, List, [], ◌∷◌, refl, sym, ap, ◌∙◌, inl, inr}
+use Rattle.std.proofs.Common.{◌≡◌, ℕ, List, [], ◌∷◌, refl, sym, ap, ◌∙◌, inl, inr}
 use Rattle.std.proofs.lemmas.Result.{on_err_weaker}
 use Rattle.line_buffer.specs.Edit.{StopsAt}
 use Rattle.line_buffer.specs.Event.{Event}

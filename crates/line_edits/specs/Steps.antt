@@ -1,6 +1,6 @@
 -- Edits by their steps, in order: what an edit makes of a line and its record, and what stands
 -- where a step was refused.
-use Rattle.std.specs.Prelude.{◌≡◌, ⊤, Bool, List, ◌∷◌, ◌++◌, Result, Err, OnErr}
+use Rattle.std.specs.Prelude.{◌≡◌, ⊤, List, ◌∷◌, ◌++◌, Result, Err, OnErr}
 use Rattle.line_buffer.specs.Edit.{Edit}
 use Rattle.line_buffer.specs.Event.{Event}
 use Rattle.line_buffer.specs.Line.{Line}

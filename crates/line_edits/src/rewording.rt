@@ -1,5 +1,4 @@
 //! Clusters and words exchanged, words in other letters, rows moved in and out.
-ghost use Rattle.std.specs.Prelude.{◌≡◌};
 ghost use Rattle.line_record.specs.Items.{ItemsStand};
 ghost use Rattle.line_edits.specs.Edits.{transposing_chars, transposing_chars_in_group, transposing_words, transposing_words_in_group, editing_word, editing_word_in_group, indenting};
 ghost use Rattle.line_edits.specs.Steps.{Edits, Rewrites};
