@@ -11,65 +11,30 @@ use line_screen::measure;
 use stand_ins::tables::{marked, pictured};
 use std::alloc::{AllocError, Global};
 
-/// Writes each call down in words, parted by `; `. Places are rows and columns: `1,4` is the fifth column of the second
-/// row. `draw '> a|b{c}' at 0,3 to 0,5` is prompt, line with a bar at the cursor, and hint or message in braces, then the
-/// place of the cursor and the end. `below 2` stands after it where the older drawing's cursor is in row 2, `fresh`
-/// where there is no older one, and `lit` where a highlighter is handed in.
+/// The calls that were made, and how many more are.
 #[derive(Drop)]
-pub struct CallList {
+pub struct CallLog {
     alloc: Global,
     calls: String,
-    columns: Unit,
-    colours: bool,
     /// How many more calls are made, if not all: the display fails at the next one.
     answered: Option<u32>,
     failed: bool,
-    ghost low: { 2 ≤ columns },
-    ghost high: { columns ≤ 1000 },
 }
 
-impl CallList {
-    ghost use Rattle.editor_tests.specs.Rulers.{ruler_with};
-
-    /// A display of so many columns, and of at least 2 and at most 1,000.
-    pub fn new(alloc: Global, columns: Unit, colours: bool) -> Self {
-        CallList {
-            alloc,
-            calls: String::new(alloc),
-            columns: columns.clamp(2, 1000),
-            colours,
-            answered: None,
-            failed: false,
-        }
-    }
-
-    /// The calls that were made.
-    pub fn calls(&self) -> &str {
-        self.calls.as_str()
-    }
-
+impl CallLog {
     /// Forgets the calls that were made.
-    pub fn forget(&mut self)
-        ensures { ruler_with self.new.columns self.new.colours
-            ≡ ruler_with self.old.columns self.old.colours }
-    {
+    pub fn forget(&mut self) {
         self.calls = String::new(self.alloc);
     }
 
     /// Sets how many more calls are made, if not all.
-    pub fn answer(&mut self, answered: Option<u32>)
-        ensures { ruler_with self.new.columns self.new.colours
-            ≡ ruler_with self.old.columns self.old.colours }
-    {
+    pub fn answer(&mut self, answered: Option<u32>) {
         self.answered = answered;
         self.failed = false;
     }
 
-    // Whether one more call is made.
-    fn answers(&mut self) -> bool
-        ensures { ruler_with self.new.columns self.new.colours
-            ≡ ruler_with self.old.columns self.old.colours }
-    {
+    /// Whether one more call is made.
+    fn answers(&mut self) -> bool {
         match self.answered {
             None => !self.failed,
             Some(0) => false,
@@ -80,22 +45,17 @@ impl CallList {
         }
     }
 
-    fn keep(&mut self, call: &str) -> Result<(), AllocError>
-        ensures { ruler_with self.new.columns self.new.colours
-            ≡ ruler_with self.old.columns self.old.colours }
-    {
+    fn keep(&mut self, call: &str) -> Result<(), AllocError> {
         if !self.calls.is_empty() {
             self.calls.push_str("; ")?;
         }
         self.calls.push_str(call)
     }
 
-    // Writes a call down, or refuses it.
+    /// Writes a call down, or refuses it.
     fn note(&mut self, call: Result<String, AllocError>) -> Result<(), ReadlineError>
         ensures fault { IfErr result (λ e. e ≡ Display) }
         ensures failed { OnErr result (IsTrue self.new.failed) }
-        ensures ruler { ruler_with self.new.columns self.new.colours
-            ≡ ruler_with self.old.columns self.old.colours }
     {
         if self.answers()
             && let Ok(call) = call
@@ -105,6 +65,40 @@ impl CallList {
         }
         self.failed = true;
         Err(ReadlineError::Display)
+    }
+}
+
+/// Writes each call down in words, parted by `; `. Places are rows and columns: `1,4` is the fifth column of the second
+/// row. `draw '> a|b{c}' at 0,3 to 0,5` is prompt, line with a bar at the cursor, and hint or message in braces, then the
+/// place of the cursor and the end. `below 2` stands after it where the older drawing's cursor is in row 2, `fresh`
+/// where there is no older one, and `lit` where a highlighter is handed in.
+#[derive(Drop)]
+pub struct CallList {
+    pub log: CallLog,
+    columns: Unit,
+    colours: bool,
+    ghost low: { 2 ≤ columns },
+    ghost high: { columns ≤ 1000 },
+}
+
+impl CallList {
+    /// A display of so many columns, and of at least 2 and at most 1,000.
+    pub fn new(alloc: Global, columns: Unit, colours: bool) -> Self {
+        CallList {
+            log: CallLog {
+                alloc,
+                calls: String::new(alloc),
+                answered: None,
+                failed: false,
+            },
+            columns: columns.clamp(2, 1000),
+            colours,
+        }
+    }
+
+    /// The calls that were made.
+    pub fn calls(&self) -> &str {
+        self.log.calls.as_str()
     }
 }
 
@@ -154,12 +148,15 @@ impl Renderer for CallList {
     ghost canvas = { record {
       made = λ _ _ _. ⊤;
       refused = λ _ _ _. ⊤;
-      failed = λ list. list.failed;
+      failed = λ list. list.log.failed;
       ruler = λ list. ruler_with list.columns list.colours;
     } };
 
     fn move_cursor(&mut self, old: Position, new: Position) -> Result<(), ReadlineError> {
-        self.note(format!(in self.alloc; "move {},{} to {},{}", old.row, old.col, new.row, new.col))
+        self.log.note(format!(in self.log.alloc;
+            "move {},{} to {},{}",
+            old.row, old.col, new.row, new.col
+        ))
     }
 
     fn refresh_line<H: Highlighter>(
@@ -171,9 +168,9 @@ impl Renderer for CallList {
         new_layout: &Layout,
         highlighter: Option<&H>,
     ) -> Result<(), ReadlineError> {
-        let call = match drawn(self.alloc, prompt, line, hint) {
+        let call = match drawn(self.log.alloc, prompt, line, hint) {
             Ok(text) => drawing(
-                self.alloc,
+                self.log.alloc,
                 text.as_str(),
                 old_layout,
                 new_layout,
@@ -181,27 +178,27 @@ impl Renderer for CallList {
             ),
             Err(refusal) => Err(refusal),
         };
-        self.note(call)
+        self.log.note(call)
     }
 
     fn write_and_flush(&mut self, text: &str) -> Result<(), ReadlineError> {
-        self.note(format!(in self.alloc; "write '{text}'"))
+        self.log.note(format!(in self.log.alloc; "write '{text}'"))
     }
 
     fn beep(&mut self) -> Result<(), ReadlineError> {
-        self.note(format!(in self.alloc; "beep"))
+        self.log.note(format!(in self.log.alloc; "beep"))
     }
 
     fn clear_screen(&mut self) -> Result<(), ReadlineError> {
-        self.note(format!(in self.alloc; "clear screen"))
+        self.log.note(format!(in self.log.alloc; "clear screen"))
     }
 
     fn clear_rows(&mut self, layout: &Layout) -> Result<(), ReadlineError> {
-        self.note(format!(in self.alloc; "clear rows {}", layout.cursor.row))
+        self.log.note(format!(in self.log.alloc; "clear rows {}", layout.cursor.row))
     }
 
     fn clear_to_eol(&mut self) -> Result<(), ReadlineError> {
-        self.note(format!(in self.alloc; "clear row"))
+        self.log.note(format!(in self.log.alloc; "clear row"))
     }
 
     fn move_and_clear_to_eol(&mut self, old: Position, new: Position) -> Result<(), ReadlineError> {
@@ -210,7 +207,7 @@ impl Renderer for CallList {
     }
 
     fn move_cursor_at_leftmost(&mut self) -> Result<(), ReadlineError> {
-        self.note(format!(in self.alloc; "leftmost"))
+        self.log.note(format!(in self.log.alloc; "leftmost"))
     }
 
     fn update_size(&mut self) {}

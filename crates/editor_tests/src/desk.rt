@@ -283,8 +283,8 @@ fn make_all<H: Helper + Drop>(
 ) -> Result<String, Fail> {
     let mut status = String::new(alloc);
     for words in commands.split("; ") {
-        desk.out.forget();
-        desk.out.answer(answered);
+        desk.out.log.forget();
+        desk.out.log.answer(answered);
         status = make_named(alloc, desk, input, ring, config, words.trim())?;
     }
     Ok(status)
@@ -317,7 +317,7 @@ fn ring_told<H: Helper + Drop>(
 ) -> Result<String, Fail> {
     let line = line_shown(alloc, desk)?;
     let lent = lent_by(alloc, ring)?;
-    desk.out.answer(None);
+    desk.out.log.answer(None);
     let _ = make(desk, input, ring, config, Cmd::Undo(1));
     let undone = line_shown(alloc, desk)?;
     Ok(format!(in alloc; "{line} / {lent} / {undone}")?)

@@ -163,7 +163,7 @@ fn typed_over<H: Helper + Drop>(
     let history = history_of(alloc, stage.history.as_str())?;
     let mut desk = empty_desk(alloc, stage, &history)?;
     desk.helper = helper;
-    desk.out.answer(stage.answered);
+    desk.out.log.answer(stage.answered);
     typed_on(alloc, stage, &mut desk, bindings, keys)
 }
 
@@ -180,7 +180,7 @@ pub(crate) fn run_over<H: Helper + Drop>(
     let mut ring = KillRing::new(alloc, 60)?;
     let mut reader = KeyList::new(&keys.typed, false, keys.after);
     let mut out = CallList::new(alloc, stage.columns, stage.colours);
-    out.answer(stage.answered);
+    out.log.answer(stage.answered);
     let ran = run(
         alloc,
         &mut reader,

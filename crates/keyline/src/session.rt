@@ -365,9 +365,8 @@ where
     /// once, after every ending.
     #[inline(never)]
     pub fn run(self) -> Ended<S, D, L, T>
-        ensures { let helps =
-            helping_by H.hint_of H.verdict_of H.completion_of H.update_of H.marks in
-            let known = known_by S.feed D.held D.waits D.has_failed L.held L.has_failed in
+        ensures { let known = known_by S.feed D.held D.waits D.has_failed L.held L.has_failed in
+            let helps = helping_by H.hint_of H.verdict_of H.completion_of H.update_of H.marks in
             RunsSession known T.held T.has_failed (given_in B.decides helps (prompt_of self) self)
             (desk_of self) (text_sink self) result }
     {
