@@ -17,6 +17,7 @@ mod RingRows
 pub mod RootLaws
 pub mod RunLemmas
 pub mod SpanLemmas
+pub mod StandLemmas
 pub mod StepLemmas
 pub mod StepsLemmas
 pub mod StoredLemmas

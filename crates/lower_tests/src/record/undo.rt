@@ -36,25 +36,40 @@ impl Desk {
     /// Types the characters one by one.
     fn put(&mut self, text: &str) -> Result<(), OutOfMemory> {
         for c in text.chars() {
-            put_char(self.alloc, &mut self.line, &mut self.changes, c)?;
+            self.type_char(c)?;
         }
         Ok(())
     }
 
+    fn type_char(&mut self, c: char) -> Result<(), OutOfMemory> {
+        let _text = self.line.as_str();
+        self.line.insert(self.alloc, c, 1, &mut self.changes)?;
+        Ok(())
+    }
+
     fn paste(&mut self, text: &str) -> Result<(), OutOfMemory> {
-        put_text(self.alloc, &mut self.line, &mut self.changes, text)
+        let _text = self.line.as_str();
+        self.line.yank(self.alloc, text, 1, &mut self.changes)?;
+        Ok(())
     }
 
     fn backspace(&mut self, n: u16) -> Result<(), OutOfMemory> {
-        take_before(self.alloc, &mut self.line, &mut self.changes, n)
+        let _text = self.line.as_str();
+        self.line.backspace(self.alloc, n, &mut self.changes)?;
+        Ok(())
     }
 
     fn delete(&mut self, n: u16) -> Result<(), OutOfMemory> {
-        take_after(self.alloc, &mut self.line, &mut self.changes, n)
+        let _text = self.line.as_str();
+        self.line.delete(self.alloc, n, &mut self.changes)?;
+        Ok(())
     }
 
     fn upcase(&mut self) -> Result<(), OutOfMemory> {
-        raise(self.alloc, &mut self.line, &mut self.changes)
+        let _text = self.line.as_str();
+        self.line
+            .edit_word(self.alloc, WordAction::Uppercase, &mut self.changes)?;
+        Ok(())
     }
 
     fn begin(&mut self) -> Result<usize, OutOfMemory> {
@@ -134,71 +149,6 @@ fn edited(alloc: Global, edited: Option<Result<(), OutOfMemory>>) -> Result<Stri
         Some(Err(why)) => Err(Fail::from(why)),
         None => Err(Fail::new("no such call")),
     }
-}
-
-fn put_char(
-    alloc: Global,
-    line: &mut LineBuffer,
-    changes: &mut Changeset,
-    c: char,
-) -> Result<(), OutOfMemory>
-    requires { ItemsStand changes.old line.old.text }
-    ensures { ItemsStand changes.new line.new.text }
-{
-    let _text = line.as_str();
-    line.insert(alloc, c, 1, changes)?;
-    Ok(())
-}
-
-fn put_text(
-    alloc: Global,
-    line: &mut LineBuffer,
-    changes: &mut Changeset,
-    text: &str,
-) -> Result<(), OutOfMemory>
-    requires { ItemsStand changes.old line.old.text }
-    ensures { ItemsStand changes.new line.new.text }
-{
-    let _text = line.as_str();
-    line.yank(alloc, text, 1, changes)?;
-    Ok(())
-}
-
-fn take_before(
-    alloc: Global,
-    line: &mut LineBuffer,
-    changes: &mut Changeset,
-    n: u16,
-) -> Result<(), OutOfMemory>
-    requires { ItemsStand changes.old line.old.text }
-    ensures { ItemsStand changes.new line.new.text }
-{
-    let _text = line.as_str();
-    line.backspace(alloc, n, changes)?;
-    Ok(())
-}
-
-fn take_after(
-    alloc: Global,
-    line: &mut LineBuffer,
-    changes: &mut Changeset,
-    n: u16,
-) -> Result<(), OutOfMemory>
-    requires { ItemsStand changes.old line.old.text }
-    ensures { ItemsStand changes.new line.new.text }
-{
-    let _text = line.as_str();
-    line.delete(alloc, n, changes)?;
-    Ok(())
-}
-
-fn raise(alloc: Global, line: &mut LineBuffer, changes: &mut Changeset) -> Result<(), OutOfMemory>
-    requires { ItemsStand changes.old line.old.text }
-    ensures { ItemsStand changes.new line.new.text }
-{
-    let _text = line.as_str();
-    line.edit_word(alloc, WordAction::Uppercase, changes)?;
-    Ok(())
 }
 
 impl Player for Desk {

@@ -1,4 +1,4 @@
-use Rattle.sessions_program.proofs.edits.StandLemmas.{changed_stand}
+use Rattle.line_record.proofs.StandLemmas.{changed_stand}
 use Rattle.sessions_program.proofs.edits.desk.Desk.replace.Goals as goal
 
 pub invariant_of-self : goal.invariant_of-self
