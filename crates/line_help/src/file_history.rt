@@ -237,7 +237,7 @@ impl<'a> IntoIterator for &'a FileHistory {
 
 // Loading.
 impl FileHistory {
-    ghost use Rattle.std.specs.Prelude.{◌≡◌, ◌≤◌, ◌⊎◌, ◌∷◌, [], true, false, IsTrue, IfOk, IfErr, OnOk, OnErr, Err, bytes_eq};
+    ghost use Rattle.std.specs.Prelude.{◌≡◌, ◌<◌, ◌≤◌, ◌⊎◌, ◌∷◌, [], length, true, false, IsTrue, IfOk, IfErr, OnOk, OnErr, Err, bytes_eq};
     ghost use Rattle.std.specs.Str.{is_utf8};
     ghost use Rattle.line_config.specs.declared.errors.ReadlineError.TheVariants.{HistoryText, Memory, Reader};
     ghost use Rattle.line_help.specs.History.{filed_with_all, takes_all};
@@ -251,7 +251,7 @@ impl FileHistory {
             ≡ filed_with_all self.old (entries_of escapes (row.now ∷ []))) }
         ensures text { OnOk result (is_utf8 row.now ≡ true) }
         ensures kept { OnErr result (self.new ≡ self.old) }
-        ensures fault { IfErr result (λ e. e ≡ row_fault row.now) }
+        ensures fault { IfErr result (λ e. (e ≡ row_fault row.now) × (0 < length row.now)) }
     {
         if row.is_empty() {
             return Ok(true);
@@ -269,7 +269,7 @@ impl FileHistory {
         ensures added { OnOk result (self.new ≡ after_first self.old row.now) }
         ensures text { OnOk result (is_utf8 row.now ≡ true) }
         ensures kept { OnErr result (self.new ≡ self.old) }
-        ensures fault { IfErr result (λ e. e ≡ row_fault row.now) }
+        ensures fault { IfErr result (λ e. (e ≡ row_fault row.now) × (0 < length row.now)) }
     {
         if row == b"#V2".as_slice() {
             return Ok(true);
