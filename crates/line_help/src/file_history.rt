@@ -117,7 +117,8 @@ impl FileHistory {
 }
 
 impl History for FileHistory {
-    ghost use Rattle.std.specs.Prelude.{◌≡◌, string_bytes, IfOk, [], true, false};
+    ghost use Rattle.std.specs.Prelude.{◌≡◌, string_bytes, IsTrue, IfOk, IfErr, [], true, false};
+    ghost use Rattle.line_config.specs.declared.errors.ReadlineError.TheVariants.{Memory};
     ghost use Rattle.line_help.specs.History.{Grows, takes, filed_with, filed_resized, nothing_filed};
 
     ghost entries = { λ h. h.kept.entries };
@@ -131,6 +132,7 @@ impl History for FileHistory {
     fn add(&mut self, alloc: Global, line: &str) -> Result<bool, ReadlineError>
         ensures answer { IfOk result (λ b. b ≡ takes self.old line.now) }
         ensures grows { Grows self.old (filed_with self.old line.now) self.new result }
+        ensures fault { IfErr result (λ e. (e ≡ Memory) × IsTrue (takes self.old line.now)) }
     {
         let added = self.memory.add(alloc, line)?;
         if added {
@@ -142,6 +144,8 @@ impl History for FileHistory {
     fn add_owned(&mut self, alloc: Global, line: String) -> Result<bool, ReadlineError>
         ensures answer { IfOk result (λ b. b ≡ takes self.old (string_bytes line)) }
         ensures grows { Grows self.old (filed_with self.old (string_bytes line)) self.new result }
+        ensures fault { IfErr result (λ e. (e ≡ Memory)
+            × IsTrue (takes self.old (string_bytes line))) }
     {
         let added = self.memory.add_owned(alloc, line)?;
         if added {

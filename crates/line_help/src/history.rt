@@ -1,5 +1,5 @@
 //! What a history does.
-ghost use Rattle.std.specs.Prelude.{◌≡◌, ◌==◌, ℕ, List, [], length, not, IsFalse, IfOk, IfErr, OnOk, OnErr, option_map, string_bytes, true, false};
+ghost use Rattle.std.specs.Prelude.{◌≡◌, ◌==◌, ℕ, List, [], length, not, IsTrue, IfOk, IfErr, OnOk, OnErr, option_map, string_bytes, true, false};
 ghost use Rattle.line_config.specs.declared.errors.ReadlineError.TheVariants.{Memory};
 ghost use Rattle.line_help.specs.History.{Settings, ignored, added, newest};
 ghost use Rattle.line_help.specs.Search.{Finds, hit_of, entry_at, searched};
@@ -32,7 +32,7 @@ pub trait History: Drop {
         ensures kept { OnErr result (entries self.new ≡ entries self.old) }
         ensures settings { settings self.new ≡ settings self.old }
         ensures fault { IfErr result (λ e. (e ≡ Memory)
-            × IsFalse (ignored (settings self.old) (entries self.old) line.now)) };
+            × IsTrue (not (ignored (settings self.old) (entries self.old) line.now))) };
 
     /// The same for a line that is handed over, whose text isn't copied.
     fn add_owned(&mut self, alloc: Global, line: String) -> Result<bool, ReadlineError>
@@ -43,7 +43,7 @@ pub trait History: Drop {
         ensures kept { OnErr result (entries self.new ≡ entries self.old) }
         ensures settings { settings self.new ≡ settings self.old }
         ensures fault { IfErr result (λ e. (e ≡ Memory)
-            × IsFalse (ignored (settings self.old) (entries self.old) (string_bytes line))) };
+            × IsTrue (not (ignored (settings self.old) (entries self.old) (string_bytes line)))) };
 
     /// How many entries there are.
     fn len(&self) -> usize
