@@ -103,13 +103,13 @@ pub good_text : (row : List ℕ) (result : Result Bool ReadlineError) → is_utf
 good_text row (Ok b) utf8 = utf8
 good_text row (Err why) utf8 = tt
 
-pub good_fault : (row : List ℕ) (result : Result Bool ReadlineError) → is_utf8 row ≡ true → IfErr result (λ e. e ≡ Memory) → IfErr result (λ e. e ≡ row_fault row)
-good_fault row (Ok b) utf8 e = tt
-good_fault row (Err why) utf8 e = rw utf8 e
+pub good_fault : (row : List ℕ) (result : Result Bool ReadlineError) → is_utf8 row ≡ true → 0 < length row → IfErr result (λ e. e ≡ Memory) → IfErr result (λ e. (e ≡ row_fault row) × (0 < length row))
+good_fault row (Ok b) utf8 some e = tt
+good_fault row (Err why) utf8 some e = (rw utf8 e, some)
 
-pub bad_fault : (row : List ℕ) (result : Result Bool ReadlineError) → is_utf8 row ≡ false → IfErr result (λ e. e ≡ HistoryText) → IfErr result (λ e. e ≡ row_fault row)
-bad_fault row (Ok b) bad e = tt
-bad_fault row (Err why) bad e = rw bad e
+pub bad_fault : (row : List ℕ) (result : Result Bool ReadlineError) → is_utf8 row ≡ false → 0 < length row → IfErr result (λ e. e ≡ HistoryText) → IfErr result (λ e. (e ≡ row_fault row) × (0 < length row))
+bad_fault row (Ok b) bad some e = tt
+bad_fault row (Err why) bad some e = (rw bad e, some)
 
 -- a row for which memory is wanting is UTF-8; one that isn't taken for what it says isn't
 pub memory_row : (row : List ℕ) → row_fault row ≡ Memory → is_utf8 row ≡ true

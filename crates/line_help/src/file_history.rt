@@ -117,7 +117,8 @@ impl FileHistory {
 }
 
 impl History for FileHistory {
-    ghost use Rattle.std.specs.Prelude.{◌≡◌, string_bytes, IfOk, [], true, false};
+    ghost use Rattle.std.specs.Prelude.{◌≡◌, string_bytes, IsTrue, IfOk, IfErr, [], true, false};
+    ghost use Rattle.line_config.specs.declared.errors.ReadlineError.TheVariants.{Memory};
     ghost use Rattle.line_help.specs.History.{Grows, takes, filed_with, filed_resized, nothing_filed};
 
     ghost entries = { λ h. h.kept.entries };
@@ -131,6 +132,7 @@ impl History for FileHistory {
     fn add(&mut self, alloc: Global, line: &str) -> Result<bool, ReadlineError>
         ensures answer { IfOk result (λ b. b ≡ takes self.old line.now) }
         ensures grows { Grows self.old (filed_with self.old line.now) self.new result }
+        ensures fault { IfErr result (λ e. (e ≡ Memory) × IsTrue (takes self.old line.now)) }
     {
         let added = self.memory.add(alloc, line)?;
         if added {
@@ -142,6 +144,8 @@ impl History for FileHistory {
     fn add_owned(&mut self, alloc: Global, line: String) -> Result<bool, ReadlineError>
         ensures answer { IfOk result (λ b. b ≡ takes self.old (string_bytes line)) }
         ensures grows { Grows self.old (filed_with self.old (string_bytes line)) self.new result }
+        ensures fault { IfErr result (λ e. (e ≡ Memory)
+            × IsTrue (takes self.old (string_bytes line))) }
     {
         let added = self.memory.add_owned(alloc, line)?;
         if added {
@@ -237,7 +241,7 @@ impl<'a> IntoIterator for &'a FileHistory {
 
 // Loading.
 impl FileHistory {
-    ghost use Rattle.std.specs.Prelude.{◌≡◌, ◌≤◌, ◌⊎◌, ◌∷◌, [], true, false, IsTrue, IfOk, IfErr, OnOk, OnErr, Err, bytes_eq};
+    ghost use Rattle.std.specs.Prelude.{◌≡◌, ◌<◌, ◌≤◌, ◌⊎◌, ◌∷◌, [], length, true, false, IsTrue, IfOk, IfErr, OnOk, OnErr, Err, bytes_eq};
     ghost use Rattle.std.specs.Str.{is_utf8};
     ghost use Rattle.line_config.specs.declared.errors.ReadlineError.TheVariants.{HistoryText, Memory, Reader};
     ghost use Rattle.line_help.specs.History.{filed_with_all, takes_all};
@@ -251,7 +255,7 @@ impl FileHistory {
             ≡ filed_with_all self.old (entries_of escapes (row.now ∷ []))) }
         ensures text { OnOk result (is_utf8 row.now ≡ true) }
         ensures kept { OnErr result (self.new ≡ self.old) }
-        ensures fault { IfErr result (λ e. e ≡ row_fault row.now) }
+        ensures fault { IfErr result (λ e. (e ≡ row_fault row.now) × (0 < length row.now)) }
     {
         if row.is_empty() {
             return Ok(true);
@@ -269,7 +273,7 @@ impl FileHistory {
         ensures added { OnOk result (self.new ≡ after_first self.old row.now) }
         ensures text { OnOk result (is_utf8 row.now ≡ true) }
         ensures kept { OnErr result (self.new ≡ self.old) }
-        ensures fault { IfErr result (λ e. e ≡ row_fault row.now) }
+        ensures fault { IfErr result (λ e. (e ≡ row_fault row.now) × (0 < length row.now)) }
     {
         if row == b"#V2".as_slice() {
             return Ok(true);

@@ -1,5 +1,5 @@
 //! What a history does.
-ghost use Rattle.std.specs.Prelude.{◌≡◌, ◌==◌, ℕ, List, [], length, not, IfOk, IfErr, OnOk, OnErr, option_map, string_bytes, true, false};
+ghost use Rattle.std.specs.Prelude.{◌≡◌, ◌==◌, ℕ, List, [], length, not, IsTrue, IfOk, IfErr, OnOk, OnErr, option_map, string_bytes, true, false};
 ghost use Rattle.line_config.specs.declared.errors.ReadlineError.TheVariants.{Memory};
 ghost use Rattle.line_help.specs.History.{Settings, ignored, added, newest};
 ghost use Rattle.line_help.specs.Search.{Finds, hit_of, entry_at, searched};
@@ -22,7 +22,8 @@ pub trait History: Drop {
 
     /// Adds a line, and answers whether it did: a line is ignored where the history keeps no
     /// entries, where it is empty, and, as the settings say, where it begins with whitespace or is
-    /// the newest entry. The oldest entry goes where the history is full.
+    /// the newest entry. The oldest entry goes where the history is full. Memory is wanted only for
+    /// a line that isn't ignored.
     fn add(&mut self, alloc: Global, line: &str) -> Result<bool, ReadlineError>
         ensures answer { IfOk result (λ b. b
             ≡ not (ignored (settings self.old) (entries self.old) line.now)) }
@@ -30,7 +31,8 @@ pub trait History: Drop {
             ≡ added (settings self.old) (entries self.old) line.now) }
         ensures kept { OnErr result (entries self.new ≡ entries self.old) }
         ensures settings { settings self.new ≡ settings self.old }
-        ensures fault { IfErr result (λ e. e ≡ Memory) };
+        ensures fault { IfErr result (λ e. (e ≡ Memory)
+            × IsTrue (not (ignored (settings self.old) (entries self.old) line.now))) };
 
     /// The same for a line that is handed over, whose text isn't copied.
     fn add_owned(&mut self, alloc: Global, line: String) -> Result<bool, ReadlineError>
@@ -40,7 +42,8 @@ pub trait History: Drop {
             ≡ added (settings self.old) (entries self.old) (string_bytes line)) }
         ensures kept { OnErr result (entries self.new ≡ entries self.old) }
         ensures settings { settings self.new ≡ settings self.old }
-        ensures fault { IfErr result (λ e. e ≡ Memory) };
+        ensures fault { IfErr result (λ e. (e ≡ Memory)
+            × IsTrue (not (ignored (settings self.old) (entries self.old) (string_bytes line)))) };
 
     /// How many entries there are.
     fn len(&self) -> usize

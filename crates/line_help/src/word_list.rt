@@ -1,5 +1,5 @@
 //! Words of a text, one a row.
-ghost use Rattle.std.specs.Prelude.{◌≡◌, ◌++◌, ◌∷◌, [], true, false, map, string_bytes, IsTrue, IfErr, OnOk};
+ghost use Rattle.std.specs.Prelude.{◌≡◌, ◌<◌, ◌++◌, ◌∷◌, [], length, true, false, map, string_bytes, IsTrue, IfErr, OnOk};
 ghost use Rattle.std.specs.Str.{is_utf8};
 ghost use Rattle.line_help.specs.HistoryText.{entries_of};
 ghost use Rattle.line_help.specs.WordList.{LoadsWords, word_fault};
@@ -13,7 +13,7 @@ fn push_word(alloc: Global, words: &mut Vec<String>, row: &[u8]) -> Result<(), R
     ensures added { OnOk result (map string_bytes words.new.items
         ≡ map string_bytes words.old.items ++ entries_of false (row.now ∷ [])) }
     ensures text { OnOk result (is_utf8 row.now ≡ true) }
-    ensures fault { IfErr result (λ e. e ≡ word_fault row.now) }
+    ensures fault { IfErr result (λ e. (e ≡ word_fault row.now) × (0 < length row.now)) }
 {
     if row.is_empty() {
         return Ok(());

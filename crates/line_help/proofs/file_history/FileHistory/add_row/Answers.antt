@@ -1,5 +1,5 @@
 use Rattle.std.specs.Result.{is_ok}
-use Rattle.std.proofs.Common.{◌≡◌, ◌∙◌, sym, ap, length, rules}
+use Rattle.std.proofs.Common.{◌≡◌, ◌<◌, ◌∙◌, sym, ap, length, rules}
 use Rattle.line_help.proofs.LoadLemmas.{empty_is_utf8, read_utf8, unread_utf8, good_text, good_fault, bad_fault}
 use Rattle.line_help.proofs.file_history.FileHistory.add_row.Goals as goal
 
@@ -10,15 +10,17 @@ returns-then-is_empty-clause-text c =
 
 pub returns-in_err-text-clause-fault : goal.returns-in_err-text-clause-fault
 returns-in_err-text-clause-fault c =
+    let some : 0 < length c.args.row.now = search rules in
     let bad = unread_utf8 _ _ c.args.row.now c.from_utf8.result c.from_utf8.ensures.cases
     (sym c.map_err.ensures.variant ∙ ap is_ok c.in_err-text.was)
     (λ fault p. p.0) in
-    bad_fault c.args.row.now c.from_residual.result bad (search rules)
+    bad_fault c.args.row.now c.from_residual.result bad some (search rules)
 
 pub returns-in_err-entry-clause-fault : goal.returns-in_err-entry-clause-fault
 returns-in_err-entry-clause-fault c =
+    let some : 0 < length c.args.row.now = search rules in
     let utf8 = read_utf8 _ _ c.args.row.now c.from_utf8.result c.from_utf8.ensures.cases (sym c.map_err.ensures.variant ∙ ap is_ok c.in_ok-text.was) (λ text p. p.1) in
-    good_fault c.args.row.now c.from_residual-in_err-entry.result utf8 (search rules)
+    good_fault c.args.row.now c.from_residual-in_err-entry.result utf8 some (search rules)
 
 pub returns-in-Some-clause-text : goal.returns-in-Some-clause-text
 returns-in-Some-clause-text c =
@@ -27,8 +29,9 @@ returns-in-Some-clause-text c =
 
 pub returns-in-Some-clause-fault : goal.returns-in-Some-clause-fault
 returns-in-Some-clause-fault c =
+    let some : 0 < length c.args.row.now = search rules in
     let utf8 = read_utf8 _ _ c.args.row.now c.from_utf8.result c.from_utf8.ensures.cases (sym c.map_err.ensures.variant ∙ ap is_ok c.in_ok-text.was) (λ text p. p.1) in
-    good_fault c.args.row.now c.add_owned.result utf8 c.add_owned.ensures.grows.fault
+    good_fault c.args.row.now c.add_owned.result utf8 some c.add_owned.ensures.grows.fault
 
 pub returns-in-None-clause-text : goal.returns-in-None-clause-text
 returns-in-None-clause-text c =
@@ -37,5 +40,6 @@ returns-in-None-clause-text c =
 
 pub returns-in-None-clause-fault : goal.returns-in-None-clause-fault
 returns-in-None-clause-fault c =
+    let some : 0 < length c.args.row.now = search rules in
     let utf8 = read_utf8 _ _ c.args.row.now c.from_utf8.result c.from_utf8.ensures.cases (sym c.map_err.ensures.variant ∙ ap is_ok c.in_ok-text.was) (λ text p. p.1) in
-    good_fault c.args.row.now c.add.result utf8 c.add.ensures.grows.fault
+    good_fault c.args.row.now c.add.result utf8 some c.add.ensures.grows.fault
