@@ -29,8 +29,8 @@ pub struct KeylineOptions {
     pub place: usize,
 }
 
-/// What a call answers. Where the status says that a text has no room, the lengths are those that it
-/// needs.
+/// What a call answers. Where the status says that a text has no room, the lengths are those that
+/// it needs.
 #[repr(C)]
 #[derive(Drop)]
 pub struct KeylineStep {

@@ -122,8 +122,8 @@ fn close(
     keep(alloc, outcome, history)
 }
 
-/// Reads a line, draws it, and keeps it in the history where it is accepted. Refused where memory is
-/// wanting for its end.
+/// Reads a line, draws it, and keeps it in the history where it is accepted. Refused where memory
+/// is wanting for its end.
 pub(crate) fn read_line<'k>(
     alloc: Global,
     options: &Options,

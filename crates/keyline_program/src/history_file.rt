@@ -21,8 +21,8 @@ pub(crate) fn load(rt: &HostRuntime, path: &str) -> io::Result<Vec<u8>> {
 }
 
 /// Writes the text whole. A regular file is replaced by a new one of its folder that has its rights
-/// and its owner, so the old text stays until the new one is there; a link stays, and a file that it
-/// names and that is missing is made. What is no regular file is written to.
+/// and its owner, so the old text stays until the new one is there; a link stays, and a file that
+/// it names and that is missing is made. What is no regular file is written to.
 pub(crate) fn save(rt: &HostRuntime, path: &str, text: &[u8]) -> io::Result<()> {
     let target = target_of(rt, path)?;
     let target = target.as_str();

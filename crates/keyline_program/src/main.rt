@@ -1,4 +1,5 @@
-//! The program `keyline`: keys from standard input, accepted lines to standard output, the display on standard error.
+//! The program `keyline`: keys from standard input, accepted lines to standard output, the display
+//! on standard error.
 #![tactic(auto)]
 
 ghost use Rattle.std.specs.Prelude.{◌≤◌, IfOk};

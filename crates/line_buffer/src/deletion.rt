@@ -191,7 +191,8 @@ impl LineBuffer {
         movement: &Movement,
         dl: &mut D,
     ) -> Result<bool, OutOfMemory>
-        ensures { CutsLine D.takes D.refuses (kill_closing movement.now) (kill movement.now self.old)
+        ensures { CutsLine D.takes D.refuses
+            (kill_closing movement.now) (kill movement.now self.old)
             dl.old dl.new self.old self.new result }
     {
         if goes_by_clusters(movement) {

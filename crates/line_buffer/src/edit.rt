@@ -45,7 +45,8 @@ impl LineBuffer {
         requires end { IsCharBoundary self.old.text range.end }
         ensures { ChangesLine C.takes (wants_or C.refuses)
             (replacement range.start range.end text.now self.old.text)
-            (replaced range.start range.end text.now self.old) cl.old cl.new self.old self.new result }
+            (replaced range.start range.end text.now self.old)
+            cl.old cl.new self.old self.new result }
     {
         self.buf.reserve(text.len())?;
         cl.replace(alloc, range.start, &self.buf[range.start..range.end], text)?;

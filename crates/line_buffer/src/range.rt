@@ -55,7 +55,8 @@ impl LineBuffer {
         requires order { IfSome found (λ r. r.0 ≤ r.1) }
         requires start { IfSome found (λ r. IsCharBoundary self.now.text r.0) }
         requires end { IfSome found (λ r. IsCharBoundary self.now.text r.1) }
-        ensures { FindsSpan (option_map (λ r. around_cursor r.0 r.1 self.now) found) self.now.text result }
+        ensures { FindsSpan (option_map (λ r. around_cursor r.0 r.1 self.now) found)
+            self.now.text result }
     {
         match found {
             Some((from, upto)) => Some(Span {

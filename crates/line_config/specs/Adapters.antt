@@ -57,13 +57,15 @@ given_by (Err e) = []
 -- a source gave these bytes, from the front of what its reads gave: what is noted more is what the
 -- reader gave more, where that one tells its bytes, and nothing was left of them at the end. After
 -- the end or a failure the reader isn't asked.
-pub record Asks {R K : Type 0} (remaining : R → Option (List ℕ)) (bytes : List ℕ) (old new : ReadSource R K) : Type 0 where
+pub record Asks {R K : Type 0} (remaining : R → Option (List ℕ)) (bytes : List ℕ)
+    (old new : ReadSource R K) : Type 0 where
   pub more : List ℕ
   pub noted : gave new ≡ gave old ++ more
   pub passed : unread_of old ++ more ≡ bytes ++ unread_of new
   pub reader : Consumes (remaining (reader_of old)) (remaining (reader_of new)) more
   pub end : met old ≡ None → met new ≡ Some End → IsAtEnd (remaining (reader_of new))
-  pub stays : (last : Last) → met old ≡ Some last → (met new ≡ Some last) × (reader_of new ≡ reader_of old)
+  pub stays : (last : Last) → met old ≡ Some last
+      → (met new ≡ Some last) × (reader_of new ≡ reader_of old)
 
 -- the writer with the log of what its writes took
 abbrev pub recorded_of : {W : Type 0} → WriteSink W → Recorded W

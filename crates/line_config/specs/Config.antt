@@ -37,7 +37,8 @@ default_config = record {
 }
 
 -- what holds settings is as before, but for what the change makes of its settings
-abbrev pub Sets : {H : Type 0} → (H → Config) → (H → Config → H) → (Config → Config) → H → H → Type 0
+abbrev pub Sets : {H : Type 0} → (H → Config) → (H → Config → H) → (Config → Config) → H → H
+    → Type 0
 Sets settings with_settings change old new = new ≡ with_settings old (change (settings old))
 
 -- a builder of these settings

@@ -65,8 +65,8 @@ pub record GivesBytes (old new : Feed) (bytes : List ℕ) : Type 0 where
   pub failed : new.failed ≡ old.failed
   pub falls : new.bound + length bytes ≤ old.bound
 
--- a source reads on where nothing is left of what it read before: what it is said to give stays; and
--- where the read gave nothing, nothing is to come, and it met what is said to stand there
+-- a source reads on where nothing is left of what it read before: what it is said to give stays;
+-- and where the read gave nothing, nothing is to come, and it met what is said to stand there
 pub record Fills (old new : Feed) (unread : List ℕ) (met : Option Last) : Type 0 where
   pub told : IsTrue new.told → IsTrue old.told
   pub coming : IsTrue new.told → new.coming ≡ old.coming

@@ -25,4 +25,5 @@ last_met (Some last) = last
 
 -- what reads gave, and the end or the failure that they met, agree with themselves
 abbrev pub EachRunAgrees : Type 0
-EachRunAgrees = (given : List ℕ) (met : Option Last) → IsTrue (agrees (left_of given given) (last_met met) met)
+EachRunAgrees = (given : List ℕ) (met : Option Last)
+    → IsTrue (agrees (left_of given given) (last_met met) met)

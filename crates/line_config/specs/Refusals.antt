@@ -17,8 +17,8 @@ refusal_text Helper = codes "helper failed"
 refusal_text Handler = codes "handler failed"
 refusal_text Memory = codes "out of memory"
 
--- whether a refusal is a fault: one that no input gives. A reader's failure isn't one, since it stands
--- after the bytes of the input.
+-- whether a refusal is a fault: one that no input gives. A reader's failure isn't one, since it
+-- stands after the bytes of the input.
 abbrev pub is_fault : ReadlineError → Bool
 is_fault Eof = false
 is_fault Interrupted = false

@@ -18,8 +18,8 @@ TakesSome held old new bytes = AppendsSome (held old) bytes (held new)
 
 -- a call that is answered has sent these bytes, and the sink works as before; one that is refused,
 -- by whatever name, is so because the sink has failed, and has sent a beginning of them
-pub record Sends {D A E : Type 0} (held : D → List ℕ) (failed : D → Bool) (bytes : List ℕ) (old new : D)
-    (result : Result A E) : Type 0 where
+pub record Sends {D A E : Type 0} (held : D → List ℕ) (failed : D → Bool) (bytes : List ℕ)
+    (old new : D) (result : Result A E) : Type 0 where
   pub sent : OnOk result (Takes held old new bytes)
   pub works : OnOk result (failed new ≡ failed old)
   pub err : OnErr result (IsTrue (failed new))

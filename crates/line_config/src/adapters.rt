@@ -28,8 +28,8 @@ const MOST_BYTES: u64 = 0x7FFF_FFFF_FFFF_F000;
 ///
 /// The reader is asked where no byte is left of its last answer, and then once: so a byte that is
 /// there is given before more are asked for. Each error of the reader is a failure, except that a
-/// read which a signal interrupts is made anew. After the end or a failure it isn't asked again, nor
-/// after more than 2^63 - 4,096 bytes, where the source fails.
+/// read which a signal interrupts is made anew. After the end or a failure it isn't asked again,
+/// nor after more than 2^63 - 4,096 bytes, where the source fails.
 #[derive(Drop)]
 pub struct ReadSource<R, K = Brand> {
     reader: R,

@@ -103,7 +103,8 @@ impl<const N: usize> Buffer<N> {
     /// Sends all that it holds. What a failure leaves unsent it still holds.
     #[tactic(auto, using(crate::proofs::NotesLemmas::on_notes))]
     pub(crate) fn send_to<W: Write>(&mut self, writer: &mut Recorded<W>) -> Result<(), DeviceFailed>
-        ensures bytes { took writer.new ++ bytes_in self.new ≡ took writer.old ++ bytes_in self.old }
+        ensures bytes { took writer.new ++ bytes_in self.new
+            ≡ took writer.old ++ bytes_in self.old }
         ensures writer { Notes W.contents writer.old writer.new }
         ensures sent { OnOk result (bytes_in self.new ≡ []) }
         ensures room { OnOk result (room_in self.new ≡ N) }

@@ -92,10 +92,10 @@ impl KeyEvent {
         KeyEvent::new(c, Modifiers::ALT)
     }
 
-    /// The key by which a binding is kept, by the first of these that fits: Ctrl with a small letter
-    /// is Ctrl with the capital, a capital letter needs no Shift, and Tab with Shift is `BackTab`.
-    /// So Ctrl and Shift with a small letter keep their Shift, as in rustyline; no terminal sends
-    /// such a key.
+    /// The key by which a binding is kept, by the first of these that fits: Ctrl with a small
+    /// letter is Ctrl with the capital, a capital letter needs no Shift, and Tab with Shift is
+    /// `BackTab`. So Ctrl and Shift with a small letter keep their Shift, as in rustyline; no
+    /// terminal sends such a key.
     pub fn normalize(key: Self) -> Self
         ensures { result ≡ normal key }
     {

@@ -159,7 +159,8 @@ pub(crate) fn take_back<L: EditedLine>(
 ) -> Result<(), OutOfMemory>
     requires spelt { All (Spelt log.now) entries.now }
     requires stand { AllStandIn (edits_in log.now entries.now) (L.value line.old).text }
-    ensures { TakesBack (edits_in log.now entries.now) (L.value line.old) (L.value line.new) result }
+    ensures { TakesBack (edits_in log.now entries.now)
+        (L.value line.old) (L.value line.new) result }
 {
     let mut left = entries;
     while let Some((newest, earlier)) = left.split_last() {
@@ -178,7 +179,8 @@ pub(crate) fn make_anew<L: EditedLine>(
 ) -> Result<(), OutOfMemory>
     requires spelt { All (Spelt log.now) entries.now }
     requires fit { AllFitIn (edits_in log.now entries.now) (L.value line.old).text }
-    ensures { MakesAnew (edits_in log.now entries.now) (L.value line.old) (L.value line.new) result }
+    ensures { MakesAnew (edits_in log.now entries.now)
+        (L.value line.old) (L.value line.new) result }
 {
     for change in entries {
         change.make_anew(alloc, log, line)?;

@@ -182,8 +182,8 @@ fn char_search<R: RawReader>(
     n: RepeatCount,
     search: Search,
 ) -> Result<Cmd, ReadlineError>
-    ensures { let given = from_key_at (λ next. move_to_char n (search_of search) (char_with none next))
-        in
+    ensures { let given = from_key_at (λ next.
+        move_to_char n (search_of search) (char_with none next)) in
         ReadsBy Key given (R.feed rdr.old) (R.feed rdr.new) result }
 {
     let key = rdr.next_key(false)?;
