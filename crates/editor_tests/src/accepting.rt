@@ -39,11 +39,6 @@ const ENDS: &str = "
     ab|: EndOfFile = Submit ab| /
 ";
 
-#[test]
-fn ends_of_lines_without_a_helper(rt: HostRuntime) -> Result<(), Fail> {
-    holds(&rt, ENDS)
-}
-
 const VERDICTS: &str = "
     helper: Valid = nothing
     ab|: AcceptLine = Submit ab| /
@@ -81,11 +76,6 @@ const VERDICTS: &str = "
     ab|: AcceptOrInsertLine; SelfInsert 1 c; SelfInsert 1 d = abcd| / write 'd'
 ";
 
-#[test]
-fn verdicts_of_a_helper(rt: HostRuntime) -> Result<(), Fail> {
-    holds(&rt, VERDICTS)
-}
-
 const HINTS: &str = "
     history: abcd = nothing
     helper: Valid = nothing
@@ -112,11 +102,6 @@ const HINTS: &str = "
     ab|: CompleteHint = ab| /
 ";
 
-#[test]
-fn hints_at_the_end_of_a_line(rt: HostRuntime) -> Result<(), Fail> {
-    holds(&rt, HINTS)
-}
-
 const HIGHLIGHTS: &str = "
     colours: yes = nothing
     helper: Valid = nothing
@@ -127,7 +112,9 @@ const HIGHLIGHTS: &str = "
     ab|: Repaint; Move BackwardChar 1; AcceptLine = Submit a|b /
 ";
 
+const TABLES: [&str; 4] = [ENDS, VERDICTS, HINTS, HIGHLIGHTS];
+
 #[test]
-fn highlights_at_the_end_of_a_line(rt: HostRuntime) -> Result<(), Fail> {
-    holds(&rt, HIGHLIGHTS)
+fn ends_of_lines(rt: HostRuntime) -> Result<(), Fail> {
+    holds(&rt, &TABLES)
 }

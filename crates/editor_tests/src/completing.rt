@@ -50,11 +50,6 @@ const COMPLETIONS: &str = "
     abcd a| z: Complete = abcd alphabetagammadelta| z / draw '> abcd alphabetagammadelta| z' at 3,2 to 3,4 below 1
 ";
 
-#[test]
-fn completions(rt: HostRuntime) -> Result<(), Fail> {
-    holds(&rt, COMPLETIONS)
-}
-
 const TAKEN_BACK: &str = "
     helper: Valid = nothing
     offers: 0 alpha alpine = nothing
@@ -64,11 +59,6 @@ const TAKEN_BACK: &str = "
     al|: Complete; SelfInsert 1 h = alph| / - / alp|
     al|: Kill BackwardChar 1; Complete = alp| / - / a|
 ";
-
-#[test]
-fn completions_taken_back(rt: HostRuntime) -> Result<(), Fail> {
-    holds(&rt, TAKEN_BACK)
-}
 
 // The group that was begun for it stays open: what is typed then is taken back step by step.
 const FAILING_COMPLETERS: &str = "
@@ -94,7 +84,9 @@ const FAILING_COMPLETERS: &str = "
     alp|: Complete = Display alp| /
 ";
 
+const TABLES: [&str; 3] = [COMPLETIONS, TAKEN_BACK, FAILING_COMPLETERS];
+
 #[test]
-fn completers_that_fail(rt: HostRuntime) -> Result<(), Fail> {
-    holds(&rt, FAILING_COMPLETERS)
+fn completions(rt: HostRuntime) -> Result<(), Fail> {
+    holds(&rt, &TABLES)
 }

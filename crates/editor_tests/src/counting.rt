@@ -14,7 +14,7 @@ use line_help::{
     Validator, update_line,
 };
 use line_keys::{Bindings, CmdKind};
-use stand_ins::rows::{Player, rows_hold};
+use stand_ins::rows::{Player, raised, rows_hold};
 use std::alloc::Global;
 use std::borrow::CowStr;
 use std::cell::Cell;
@@ -186,7 +186,7 @@ impl Player for Counter {
             verdicts: &verdicts,
         };
         self.led(alloc, helper, row)?;
-        Ok(format!(in alloc; "{} {}", hints.get(), verdicts.get())?)
+        raised(format!(in alloc; "{} {}", hints.get(), verdicts.get()))
     }
 }
 

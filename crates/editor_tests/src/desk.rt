@@ -18,7 +18,7 @@ use line_help::{Context, Helper, History, MemHistory};
 use line_keys::{Bindings, Cmd, CmdKind, Decides, InputState};
 use line_record::{Changeset, KillRing};
 use stand_ins::commands::command_named;
-use stand_ins::rows::{Player, rows_hold, trimmed};
+use stand_ins::rows::{Player, raised, rows_hold, trimmed};
 use stand_ins::tables::{marked, meant, pictured, word_and_rest};
 use std::alloc::{AllocError, Global};
 use std::test::Fail;
@@ -231,7 +231,7 @@ pub(crate) fn status_of(
 ) -> Result<String, Fail> {
     match answer {
         Ok(Status::Proceed) => Ok(String::new(alloc)),
-        Ok(Status::Submit) => Ok(String::from_str(alloc, "Submit ")?),
+        Ok(Status::Submit) => raised(String::from_str(alloc, "Submit ")),
         Err(refusal) => Ok(format!(in alloc; "{refusal:?} ")?),
     }
 }
@@ -304,7 +304,7 @@ fn told<H: Helper + Drop>(
         return ring_told(alloc, desk, input, ring, config);
     }
     let line = line_shown(alloc, desk)?;
-    Ok(format!(in alloc; "{status}{line} / {}", desk.out.calls())?)
+    raised(format!(in alloc; "{status}{line} / {}", desk.out.calls()))
 }
 
 // The line, what a yank would give, and the line when one change is taken back.
@@ -320,7 +320,7 @@ fn ring_told<H: Helper + Drop>(
     desk.out.log.answer(None);
     let _ = make(desk, input, ring, config, Cmd::Undo(1));
     let undone = line_shown(alloc, desk)?;
-    Ok(format!(in alloc; "{line} / {lent} / {undone}")?)
+    raised(format!(in alloc; "{line} / {lent} / {undone}"))
 }
 
 // Makes the commands of a row, and tells what they led to.
@@ -395,7 +395,14 @@ impl Player for Stage {
 /// Each row has, after ` = `, how the last command ends unless the line goes on, the line then, and after ` / ` the calls
 /// of that command; where the ring is told of, the line then, what a yank would give, in quotes or `-`, and the line when
 /// one change is taken back.
-pub(crate) fn holds(rt: &impl AllocGlobal, table: &str) -> Result<(), Fail> {
-    let mut stage = Stage::new(rt.alloc());
-    rows_hold(rt.alloc(), &mut stage, table)
+pub(crate) fn holds(rt: &impl AllocGlobal, tables: &[&str]) -> Result<(), Fail> {
+    for table in tables {
+        stage_holds(rt.alloc(), table)?;
+    }
+    Ok(())
+}
+
+fn stage_holds(alloc: Global, table: &str) -> Result<(), Fail> {
+    let mut stage = Stage::new(alloc);
+    rows_hold(alloc, &mut stage, table)
 }

@@ -50,11 +50,6 @@ const FAILING_DISPLAYS: &str = "
     abc|: Kill BackwardChar 1 = ab| / move 0,5 to 0,4; clear row
 ";
 
-#[test]
-fn displays_that_fail(rt: HostRuntime) -> Result<(), Fail> {
-    holds(&rt, FAILING_DISPLAYS)
-}
-
 // The group that was begun for it stays open: what is typed then is taken back step by step, until a later group
 // closes it.
 const FAILING_HELPERS: &str = "
@@ -95,7 +90,9 @@ const FAILING_HELPERS: &str = "
     ab|: AcceptLine; SelfInsert 1 +; TransposeChars = a+b| / - / ab+|
 ";
 
+const TABLES: [&str; 2] = [FAILING_DISPLAYS, FAILING_HELPERS];
+
 #[test]
-fn helpers_that_fail(rt: HostRuntime) -> Result<(), Fail> {
-    holds(&rt, FAILING_HELPERS)
+fn displays_and_helpers_that_fail(rt: HostRuntime) -> Result<(), Fail> {
+    holds(&rt, &TABLES)
 }

@@ -69,11 +69,6 @@ const INSERTIONS: &str = "
     abc|defgh: SelfInsert 1 x = abcx|defgh / draw '> abcx|defgh' at 0,6 to 1,1
 ";
 
-#[test]
-fn insertions_and_what_they_draw(rt: HostRuntime) -> Result<(), Fail> {
-    holds(&rt, INSERTIONS)
-}
-
 const HINTS_AND_HIGHLIGHTS: &str = "
     history: abcd = nothing
     helper: Valid = nothing
@@ -92,7 +87,9 @@ const HINTS_AND_HIGHLIGHTS: &str = "
     ab|: SelfInsert 1 c; SelfInsert 1 d; SelfInsert 1 e = abcde| / write 'e'
 ";
 
+const TABLES: [&str; 2] = [INSERTIONS, HINTS_AND_HIGHLIGHTS];
+
 #[test]
-fn insertions_with_hints_and_highlights(rt: HostRuntime) -> Result<(), Fail> {
-    holds(&rt, HINTS_AND_HIGHLIGHTS)
+fn insertions(rt: HostRuntime) -> Result<(), Fail> {
+    holds(&rt, &TABLES)
 }

@@ -72,11 +72,6 @@ const DRAWN: &str = "
     abcdefgh|ij: Kill EndOfLine = abcdefgh| / move 1,0 to 1,0; clear row
 ";
 
-#[test]
-fn kills_and_what_they_draw(rt: HostRuntime) -> Result<(), Fail> {
-    holds(&rt, DRAWN)
-}
-
 const KEPT: &str = "
     tells: ring = nothing
     abc|: Kill BackwardChar 1 = ab| / - / abc|
@@ -102,11 +97,6 @@ const KEPT: &str = "
     a|bc: Replace EndOfLine = a| / 'bc' / abc|
 ";
 
-#[test]
-fn kills_and_what_they_keep(rt: HostRuntime) -> Result<(), Fail> {
-    holds(&rt, KEPT)
-}
-
 const WITH_HINTS: &str = "
     history: abcd = nothing
     helper: Valid = nothing
@@ -116,7 +106,9 @@ const WITH_HINTS: &str = "
     xyz|: Repaint; Kill BackwardChar 1 = xy| / move 0,5 to 0,4; clear row
 ";
 
+const TABLES: [&str; 3] = [DRAWN, KEPT, WITH_HINTS];
+
 #[test]
-fn kills_with_hints(rt: HostRuntime) -> Result<(), Fail> {
-    holds(&rt, WITH_HINTS)
+fn kills(rt: HostRuntime) -> Result<(), Fail> {
+    holds(&rt, &TABLES)
 }

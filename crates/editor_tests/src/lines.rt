@@ -13,7 +13,7 @@ use line_record::KillRing;
 use stand_ins::commands::command_named;
 use stand_ins::key_names::key_named;
 use stand_ins::readers::{After, KeyList, Typed};
-use stand_ins::rows::{Player, rows_hold, trimmed};
+use stand_ins::rows::{Player, raised, rows_hold, trimmed};
 use stand_ins::tables::{meant, pictured};
 use std::alloc::{AllocError, Global};
 use std::test::Fail;
@@ -204,7 +204,7 @@ fn left_by(
 ) -> Result<String, Fail> {
     let text = outcome_shown(alloc, outcome)?;
     let lent = lent_by(alloc, ring)?;
-    Ok(format!(in alloc; "{text} / {calls} / {lent}")?)
+    raised(format!(in alloc; "{text} / {calls} / {lent}"))
 }
 
 // The text of a line, with pictures, or why there is none.
@@ -231,7 +231,7 @@ impl Ended {
     // What is told of this line: the calls, or the ring.
     fn told(&self, alloc: Global, ring: bool) -> Result<String, Fail> {
         let last = if ring { &self.ring } else { &self.calls };
-        Ok(format!(in alloc; "{}{} / {last}", self.status, self.line)?)
+        raised(format!(in alloc; "{}{} / {last}", self.status, self.line))
     }
 }
 
@@ -269,9 +269,9 @@ impl Player for Typist {
 
 /// Each row has, after ` / `, all calls from the first drawing on; where the ring is told of, what a yank would give, in
 /// quotes or `-`.
-fn types(rt: &impl AllocGlobal, table: &str) -> Result<(), Fail> {
-    let stage = Stage::new(rt.alloc());
-    rows_hold(rt.alloc(), &mut Typist { stage }, table)
+fn types(alloc: Global, table: &str) -> Result<(), Fail> {
+    let stage = Stage::new(alloc);
+    rows_hold(alloc, &mut Typist { stage }, table)
 }
 
 const TYPED: &str = "
@@ -297,11 +297,6 @@ const TYPED: &str = "
     A-2 C-G = Eof | / draw '> |' at 0,2 to 0,2; draw '(arg: 2) |' at 0,9 to 0,9; draw '> |' at 0,2 to 0,2
 ";
 
-#[test]
-fn keys_of_a_line(rt: HostRuntime) -> Result<(), Fail> {
-    types(&rt, TYPED)
-}
-
 const HISTORY: &str = "
     bind: C-O: HistorySearchBackward = nothing
     C-O = Eof | / draw '> |' at 0,2 to 0,2; beep
@@ -311,11 +306,6 @@ const HISTORY: &str = "
     l C-O Enter = Submit line1| / draw '> |' at 0,2 to 0,2; write 'l'; draw '> l|ine1' at 0,3 to 0,7; move 0,3 to 0,7
     A-< Enter = Submit line0| / draw '> |' at 0,2 to 0,2; draw '> line0|' at 0,7 to 0,7
 ";
-
-#[test]
-fn keys_that_step_through_the_history(rt: HostRuntime) -> Result<(), Fail> {
-    types(&rt, HISTORY)
-}
 
 const IN_VI: &str = "
     mode: Vi = nothing
@@ -346,11 +336,6 @@ const IN_VI: &str = "
     a b Esc X Enter = Submit b| / -
 ";
 
-#[test]
-fn keys_of_a_line_in_vi(rt: HostRuntime) -> Result<(), Fail> {
-    types(&rt, IN_VI)
-}
-
 const KILLS_AND_FAILURES: &str = "
     tells: ring = nothing
     a b c C-A C-K C-Y Enter = Submit abc| / 'abc'
@@ -370,11 +355,6 @@ const KILLS_AND_FAILURES: &str = "
     text:ab = PasteOutOfPlace | / draw '> |' at 0,2 to 0,2
 ";
 
-#[test]
-fn kills_and_sources_that_fail_within_a_line(rt: HostRuntime) -> Result<(), Fail> {
-    types(&rt, KILLS_AND_FAILURES)
-}
-
 const FAILING_DISPLAYS: &str = "
     answered: 0 = nothing
     a Left A-2 b Up Enter = Display | /
@@ -393,11 +373,6 @@ const FAILING_DISPLAYS: &str = "
     answered: 7 = nothing
     a Left A-2 b Up Enter = Submit bba| / draw '> |' at 0,2 to 0,2; write 'a'; move 0,3 to 0,2; draw '(arg: 2) |a' at 0,9 to 0,10; draw '> |a' at 0,2 to 0,3; draw '> bb|a' at 0,4 to 0,5; move 0,4 to 0,5
 ";
-
-#[test]
-fn displays_that_fail_within_a_line(rt: HostRuntime) -> Result<(), Fail> {
-    types(&rt, FAILING_DISPLAYS)
-}
 
 const WITH_A_HELPER: &str = "
     helper: Incomplete = nothing
@@ -419,7 +394,19 @@ const WITH_A_HELPER: &str = "
     a A-2 b Enter = Helper abb| / draw '> |' at 0,2 to 0,2; write 'a'; draw '(arg: 2) a|' at 0,10 to 0,10; draw '> a|' at 0,3 to 0,3
 ";
 
+const TABLES: [&str; 6] = [
+    TYPED,
+    HISTORY,
+    IN_VI,
+    KILLS_AND_FAILURES,
+    FAILING_DISPLAYS,
+    WITH_A_HELPER,
+];
+
 #[test]
-fn keys_of_a_line_with_a_helper(rt: HostRuntime) -> Result<(), Fail> {
-    types(&rt, WITH_A_HELPER)
+fn lines_as_they_are_typed(rt: HostRuntime) -> Result<(), Fail> {
+    for table in &TABLES {
+        types(rt.alloc(), table)?;
+    }
+    Ok(())
 }

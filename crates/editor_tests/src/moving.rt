@@ -82,11 +82,6 @@ const MOTIONS: &str = "
     |: Move ViFirstPrint = | /
 ";
 
-#[test]
-fn motions_ask_for_moves(rt: HostRuntime) -> Result<(), Fail> {
-    holds(&rt, MOTIONS)
-}
-
 const IN_TEN_COLUMNS: &str = "
     columns: 10 = nothing
     abcdefgh|: Move BackwardChar 1 = abcdefg|h / move 1,0 to 0,9
@@ -94,11 +89,6 @@ const IN_TEN_COLUMNS: &str = "
     abcdefghij|: Move BeginningOfLine = |abcdefghij / move 1,2 to 0,2
     abcdefg漢|: Move BackwardChar 1 = abcdefg|漢 / move 1,2 to 0,9
 ";
-
-#[test]
-fn motions_in_a_narrow_display(rt: HostRuntime) -> Result<(), Fail> {
-    holds(&rt, IN_TEN_COLUMNS)
-}
 
 const HIGHLIGHTS: &str = "
     helper: Valid = nothing
@@ -112,11 +102,6 @@ const HIGHLIGHTS: &str = "
     ab|c: Move BackwardChar 2 = |abc / move 0,4 to 0,2
 ";
 
-#[test]
-fn moves_that_highlight_draw(rt: HostRuntime) -> Result<(), Fail> {
-    holds(&rt, HIGHLIGHTS)
-}
-
 const WITH_A_HINT: &str = "
     history: abcd = nothing
     helper: Valid = nothing
@@ -125,7 +110,9 @@ const WITH_A_HINT: &str = "
     ab|: Repaint; Move ForwardChar 1 = ab| /
 ";
 
+const TABLES: [&str; 4] = [MOTIONS, IN_TEN_COLUMNS, HIGHLIGHTS, WITH_A_HINT];
+
 #[test]
-fn moves_leave_the_hint(rt: HostRuntime) -> Result<(), Fail> {
-    holds(&rt, WITH_A_HINT)
+fn moves(rt: HostRuntime) -> Result<(), Fail> {
+    holds(&rt, &TABLES)
 }

@@ -40,11 +40,6 @@ const STEPS: &str = "
     cu|r: BeginningOfHistory = line0| / - / cur|
 ";
 
-#[test]
-fn steps_through_the_history(rt: HostRuntime) -> Result<(), Fail> {
-    holds(&rt, STEPS)
-}
-
 // A search that finds nothing moves the place nevertheless, and no search keeps the line; at the history's end the
 // next step back does.
 const SEARCHES: &str = "
@@ -78,7 +73,9 @@ const SEARCHES: &str = "
     lix|: HistorySearchBackward = lix| / - / lix|
 ";
 
+const TABLES: [&str; 2] = [STEPS, SEARCHES];
+
 #[test]
-fn searches_of_the_history(rt: HostRuntime) -> Result<(), Fail> {
-    holds(&rt, SEARCHES)
+fn the_history(rt: HostRuntime) -> Result<(), Fail> {
+    holds(&rt, &TABLES)
 }

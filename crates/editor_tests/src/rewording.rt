@@ -60,5 +60,5 @@ const CHANGES: &str = "
 
 #[test]
 fn words_and_rows_changed(rt: HostRuntime) -> Result<(), Fail> {
-    holds(&rt, CHANGES)
+    holds(&rt, &[CHANGES])
 }

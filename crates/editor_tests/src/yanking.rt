@@ -35,5 +35,5 @@ const YANKS: &str = "
 
 #[test]
 fn yanks(rt: HostRuntime) -> Result<(), Fail> {
-    holds(&rt, YANKS)
+    holds(&rt, &[YANKS])
 }

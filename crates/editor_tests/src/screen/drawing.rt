@@ -6,7 +6,7 @@ use line_config::{BellStyle, ReadlineError, Sink, VecSink};
 use line_editor::Renderer;
 use line_screen::{ScreenRenderer, laws};
 use stand_ins::lines::line_of;
-use stand_ins::rows::{Player, rows_hold};
+use stand_ins::rows::{Player, raised, rows_hold, same};
 use stand_ins::tables::{meant, pictured_bytes, word_and_rest};
 use std::alloc::{AllocError, Global};
 use std::test::Fail;
@@ -93,7 +93,7 @@ impl Player for Ask {
             Ask::FailedWrite => refusals_told(alloc, call),
             Ask::PassedOn => passed_on(alloc, call),
         };
-        Ok(said?)
+        raised(said)
     }
 }
 
@@ -101,7 +101,7 @@ impl Player for Ask {
 fn bytes_of(alloc: Global, columns: u16, shown: Shown) -> Result<String, ReadlineError> {
     let mut screen = screen(VecSink::new(alloc), columns, BellStyle::Audible);
     draw(&mut screen, shown)?;
-    Ok(pictured_bytes(alloc, screen.into_sink().bytes())?)
+    raised(pictured_bytes(alloc, screen.into_sink().bytes()))
 }
 
 // The prompt that a word means.
@@ -150,7 +150,7 @@ fn drawn_over(alloc: Global, shown: Shown, longer: Shown) -> Result<String, Read
     draw_over(&mut screen, longer, Some(layout), &layout)?;
     draw_over(&mut screen, shown, None, &layout)?;
     screen.clear_rows(&layout)?;
-    Ok(pictured_bytes(alloc, screen.into_sink().bytes())?)
+    raised(pictured_bytes(alloc, screen.into_sink().bytes()))
 }
 
 fn after_the_prompt(line: &LineBuffer) -> Shown<'_> {
@@ -170,11 +170,10 @@ fn two_lines_drawn(alloc: Global) -> Result<String, ReadlineError> {
 #[test]
 fn draws_over_and_without_an_older_drawing(rt: HostRuntime) -> Result<(), Fail> {
     let said = two_lines_drawn(rt.alloc())?;
-    assert_eq!(rt;
+    same(
         said.as_str(),
-        "␛[1A␍␛[J␛[m> ␛[mab␍␊c␛[m␛[m␛[m> ␛[mab␍␊␛[m␛[m␛[1A␍␛[J"
-    );
-    Ok(())
+        "␛[1A␍␛[J␛[m> ␛[mab␍␊c␛[m␛[m␛[m> ␛[mab␍␊␛[m␛[m␛[1A␍␛[J",
+    )
 }
 
 // The bell, and a call: the bytes.
@@ -246,17 +245,23 @@ fn sent(alloc: Global, call: &str) -> Result<String, ReadlineError> {
     let line = line_of(alloc, text)?;
     let mut screen = screen(VecSink::new(alloc), 80, bell_of(bell));
     call_made(&mut screen, call, &line)?;
-    Ok(pictured_bytes(alloc, screen.into_sink().bytes())?)
+    raised(pictured_bytes(alloc, screen.into_sink().bytes()))
 }
 
 #[test]
 fn makes_the_other_calls(rt: HostRuntime) -> Result<(), Fail> {
     rows_hold(rt.alloc(), &mut Ask::Call, CALLS)?;
     let mut screen = screen(VecSink::new(rt.alloc()), 80, BellStyle::Audible);
-    screen.update_size();
-    assert_eq!(rt; (screen.get_columns(), screen.get_rows()), (80, 65535));
-    assert!(rt; !screen.colors_enabled() && !screen.failed());
+    assert!(rt; keeps_its_size(&mut screen));
     Ok(())
+}
+
+fn keeps_its_size(screen: &mut ScreenRenderer<VecSink>) -> bool {
+    screen.update_size();
+    screen.get_columns() == 80
+        && screen.get_rows() == 65535
+        && !screen.colors_enabled()
+        && !screen.failed()
 }
 
 // What a call that is refused answers, and the calls after it.
@@ -283,7 +288,7 @@ fn refusals_told(alloc: Global, writes: &str) -> Result<String, ReadlineError> {
     } else {
         "another"
     };
-    Ok(String::from_str(alloc, told)?)
+    raised(String::from_str(alloc, told))
 }
 
 // How many writes a sink takes, and what a drawing and the calls after it answer.
@@ -328,7 +333,7 @@ fn passed_on(alloc: Global, call: &str) -> Result<String, ReadlineError> {
     let line = line_of(alloc, text)?;
     let mut screen = screen(Gathers::new(), 80, BellStyle::Audible);
     call_made(&mut screen, call, &line)?;
-    Ok(String::from_str(alloc, screen.into_sink().told())?)
+    raised(String::from_str(alloc, screen.into_sink().told()))
 }
 
 #[test]

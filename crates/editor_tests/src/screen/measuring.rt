@@ -2,7 +2,7 @@
 
 use line_buffer::{GraphemeClusterMode, Position};
 use line_screen::measure;
-use stand_ins::rows::{Player, rows_hold};
+use stand_ins::rows::{Player, raised, rows_hold};
 use stand_ins::tables::{meant, word_and_rest};
 use std::alloc::{AllocError, Global};
 use std::test::Fail;
@@ -50,7 +50,7 @@ struct Ends;
 impl Player for Ends {
     fn play(&mut self, alloc: Global, call: &str) -> Result<String, Fail> {
         let (first, rest) = word_and_rest(call);
-        Ok(end_measured(alloc, first, rest)?)
+        raised(end_measured(alloc, first, rest))
     }
 }
 

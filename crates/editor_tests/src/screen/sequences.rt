@@ -2,7 +2,7 @@
 
 use crate::screen::reading::{read_as, read_in_both_modes, read_until_a_failure};
 use line_config::EditMode;
-use stand_ins::rows::{Player, rows_hold};
+use stand_ins::rows::{Player, raised, rows_hold};
 use stand_ins::tables::{meant_bytes, word_and_rest};
 use std::alloc::{AllocError, Global};
 use std::test::Fail;
@@ -138,7 +138,7 @@ struct Sequences {
 impl Player for Sequences {
     fn play(&mut self, alloc: Global, sequence: &str) -> Result<String, Fail> {
         let sequence = sequence.replace(alloc, "@", self.number)?;
-        Ok(key_told(alloc, sequence.as_str(), self.prefix)?)
+        raised(key_told(alloc, sequence.as_str(), self.prefix))
     }
 }
 
@@ -262,7 +262,7 @@ impl Player for After {
         let (first, last) = word_and_rest(range);
         let first = u8::from_str_radix(first, 16)?;
         let last = u8::from_str_radix(last, 16)?;
-        Ok(self.read_all(alloc, first, last)?)
+        raised(self.read_all(alloc, first, last))
     }
 }
 
