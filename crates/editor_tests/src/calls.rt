@@ -153,10 +153,8 @@ impl Renderer for CallList {
     } };
 
     fn move_cursor(&mut self, old: Position, new: Position) -> Result<(), ReadlineError> {
-        self.log.note(format!(in self.log.alloc;
-            "move {},{} to {},{}",
-            old.row, old.col, new.row, new.col
-        ))
+        let log = &mut self.log;
+        log.note(format!(in log.alloc; "move {},{} to {},{}", old.row, old.col, new.row, new.col))
     }
 
     fn refresh_line<H: Highlighter>(
@@ -182,23 +180,28 @@ impl Renderer for CallList {
     }
 
     fn write_and_flush(&mut self, text: &str) -> Result<(), ReadlineError> {
-        self.log.note(format!(in self.log.alloc; "write '{text}'"))
+        let log = &mut self.log;
+        log.note(format!(in log.alloc; "write '{text}'"))
     }
 
     fn beep(&mut self) -> Result<(), ReadlineError> {
-        self.log.note(format!(in self.log.alloc; "beep"))
+        let log = &mut self.log;
+        log.note(format!(in log.alloc; "beep"))
     }
 
     fn clear_screen(&mut self) -> Result<(), ReadlineError> {
-        self.log.note(format!(in self.log.alloc; "clear screen"))
+        let log = &mut self.log;
+        log.note(format!(in log.alloc; "clear screen"))
     }
 
     fn clear_rows(&mut self, layout: &Layout) -> Result<(), ReadlineError> {
-        self.log.note(format!(in self.log.alloc; "clear rows {}", layout.cursor.row))
+        let log = &mut self.log;
+        log.note(format!(in log.alloc; "clear rows {}", layout.cursor.row))
     }
 
     fn clear_to_eol(&mut self) -> Result<(), ReadlineError> {
-        self.log.note(format!(in self.log.alloc; "clear row"))
+        let log = &mut self.log;
+        log.note(format!(in log.alloc; "clear row"))
     }
 
     fn move_and_clear_to_eol(&mut self, old: Position, new: Position) -> Result<(), ReadlineError> {
@@ -207,7 +210,8 @@ impl Renderer for CallList {
     }
 
     fn move_cursor_at_leftmost(&mut self) -> Result<(), ReadlineError> {
-        self.log.note(format!(in self.log.alloc; "leftmost"))
+        let log = &mut self.log;
+        log.note(format!(in log.alloc; "leftmost"))
     }
 
     fn update_size(&mut self) {}

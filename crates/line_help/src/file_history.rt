@@ -260,7 +260,9 @@ impl FileHistory {
         if row.is_empty() {
             return Ok(true);
         }
-        let text = str::from_utf8(row).map_err(|_| ReadlineError::HistoryText)?;
+        let Ok(text) = str::from_utf8(row) else {
+            return Err(ReadlineError::HistoryText);
+        };
         match unescaped_entry(alloc, text, escapes)? {
             Some(entry) => self.add_owned(alloc, entry),
             None => self.add(alloc, text),
