@@ -3,12 +3,12 @@
 use crate::fixtures::{plain, told};
 use keyline::{
     Bindings, Cmd, Config, EditMode, Ending, Event, EventHandler, KeyEvent, ReadSource,
-    ReadlineError, Session, SliceSource, Source, VecSink, WriteSink,
+    ReadlineError, SliceSource, Source, VecSink, WriteSink, session_builder,
 };
 use session_rows::notation::display_meant;
 use session_rows::play::{ended, left_of};
 use stand_ins::devices::{Log, LoggedReader, LoggedWriter, Pieces, Turns};
-use stand_ins::rows::{Player, rows_hold};
+use stand_ins::rows::{Player, raised, rows_hold};
 use std::alloc::Global;
 use std::cell::{Cell, RefCell};
 use std::test::Fail;
@@ -26,7 +26,7 @@ impl Player for Reading {
             turns: Turns::new(turns, &calls),
         };
         let left = left_of(alloc, &plain(), ReadSource::new(reader))?;
-        Ok(told(alloc, &left, shown)?)
+        raised(told(alloc, &left, shown))
     }
 }
 
@@ -56,11 +56,9 @@ fn source_keeps_what_was_read(rt: HostRuntime) -> Result<(), Fail> {
     });
     let (display, lines) = (VecSink::new(alloc), VecSink::new(alloc));
     let end = ended(alloc, &plain(), source, display, lines, VecSink::new(alloc))?;
-    assert_eq!(rt; end.ending, Ending::Eof);
-    assert_eq!(rt; end.lines.bytes(), b"a\n".as_slice());
+    assert!(rt; end.ending == Ending::Eof && end.lines.bytes() == b"a\n".as_slice());
     let (reader, unread) = end.source.into_parts();
-    assert_eq!(rt; unread.as_slice(), b"bc".as_slice());
-    assert_eq!(rt; reader.bytes, b"d".as_slice());
+    assert!(rt; unread.as_slice() == b"bc".as_slice() && reader.bytes == b"d".as_slice());
     Ok(())
 }
 
@@ -71,24 +69,21 @@ fn byte_after_the_last_esc_is_handed_back(rt: HostRuntime) -> Result<(), Fail> {
     let mut bindings = Bindings::new(alloc)?;
     let event = Event::from_key(alloc, KeyEvent::ESC)?;
     let _ = bindings.bind_sequence(event, EventHandler::Simple(Cmd::Interrupt))?;
-    let session = Session::open(
-        alloc,
-        Config::builder().edit_mode(EditMode::Vi).build(),
-        bindings,
-        SliceSource::new(b""),
-        None::<()>,
-        "> ",
-        SliceSource::new(b"a\x1Bbc"),
-        80,
-        VecSink::new(alloc),
-        VecSink::new(alloc),
-        VecSink::new(alloc),
-    )?;
+    let display = VecSink::new(alloc);
+    let session = session_builder(alloc, SliceSource::new(b"a\x1Bbc"), display)
+        .config(Config::builder().edit_mode(EditMode::Vi).build())
+        .bindings(bindings)
+        .prompt("? ")
+        .lines(VecSink::new(alloc))
+        .open()?;
     let mut end = session.run();
-    assert_eq!(rt; end.ending, Ending::Interrupted);
-    assert_eq!(rt; end.ahead, Some(b'b'));
-    assert_eq!(rt; end.source.next_byte()?, Some(b'c'));
-    assert_eq!(rt; end.source.next_byte()?, None);
+    assert!(rt;
+        end.ending == Ending::Interrupted
+            && end.ahead == Some(b'b')
+            && end.display.bytes().starts_with(b"\r\x1B[J\x1B[m? ")
+            && end.source.next_byte() == Ok(Some(b'c'))
+            && end.source.next_byte() == Ok(None)
+    );
     Ok(())
 }
 
