@@ -73,8 +73,8 @@ ok_of_cut (Err d) e P is = tt
 abbrev answered : {X : Type 0} → X → Result X ReadlineError
 answered x = Ok x
 
-abbrev desk_with : {S H D L : Type 0} → KeyReader S → ScreenRenderer D → Option H → Filed → Ring → L → Desk S H D L
-desk_with reader out helper history ring lines =
+abbrev desk_of : {S H D L : Type 0} → KeyReader S → ScreenRenderer D → Option H → Filed → Ring → L → Desk S H D L
+desk_of reader out helper history ring lines =
     record { reader = reader; out = out; helper = helper; history = history; ring = ring; lines = lines }
 
 module _ {S H D L K T : Type 0} (k : Known S D L) (helps : Option H → Helping) (custom : Custom) (config : Config) (prompt : List ℕ)
@@ -115,7 +115,7 @@ module _ {S H D L K T : Type 0} (k : Known S D L) (helps : Option H → Helping)
         (work (sink_of ran.out) old.lines old.history) (work (sink_of out) lines history) result
 
     abbrev new : Desk S H D L
-    new = desk_with reader out ran.helper history ring lines
+    new = desk_of reader out ran.helper history ring lines
 
     abbrev given : Given
     given = given_of config custom prompt (screen_of old.out) (helps old.helper)
