@@ -1,13 +1,11 @@
 //! Tests of the libraries below the editor, each in a module of its own: texts, the undo record and the kill ring,
-//! settings and devices, keys and the commands that they give, histories, completion and helpers.
+//! settings and devices, keys and the commands that they give.
 #![tactic(auto)]
 
 #[cfg(test)]
 mod buffer;
 #[cfg(test)]
 mod config;
-#[cfg(test)]
-mod help;
 #[cfg(test)]
 mod keys;
 #[cfg(test)]

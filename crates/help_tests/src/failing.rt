@@ -1,6 +1,6 @@
 //! Devices that fail at each byte in turn, and what a history is then.
 
-use crate::help::history::{add_line, add_lines, answer_told, entries, with_lines};
+use crate::history::{add_line, add_lines, answer_told, entries, with_lines};
 use line_config::{Config, DeviceFailed, Log, ReadlineError, Sink, SliceSource, Source, VecSink};
 use line_help::{FileHistory, History};
 use stand_ins::rows::{Player, raised, rows_hold, same};

@@ -1,6 +1,6 @@
 //! Words: what is completed by them, and how they are read from a text.
 
-use crate::help::completion::completed;
+use crate::completion::completed;
 use line_config::{ReadlineError, SliceSource};
 use line_help::{WordCompleter, load_words};
 use stand_ins::rows::{Player, raised, rows_hold};

@@ -3,7 +3,7 @@
 ghost use Rattle.std.specs.Prelude.{◌+◌, [], false, length};
 ghost use Rattle.line_config.specs.declared.device.Last.TheVariants.{End};
 
-use crate::help::history::{answer_told, entries};
+use crate::history::{answer_told, entries};
 use line_config::{DeviceFailed, Source};
 use line_help::{FileHistory, load_words};
 use stand_ins::rows::{Player, raised, rows_hold};

@@ -6,7 +6,7 @@ ghost use Rattle.line_keys.specs.Replies.{Replies, gives, gives_at_once, gives_u
 ghost use Rattle.line_config.specs.declared.errors.HookFault.{HookFault};
 ghost use Rattle.line_help.specs.declared.validate.ValidationResult.TheVariants.{Valid};
 
-use crate::help::words::completer_of;
+use crate::words::completer_of;
 use line_buffer::{ChangeListener, LineBuffer};
 use line_config::{CompletionType, HookFault};
 use line_help::{
