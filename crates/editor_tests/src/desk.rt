@@ -283,8 +283,9 @@ fn make_all<H: Helper + Drop>(
 ) -> Result<String, Fail> {
     let mut status = String::new(alloc);
     for words in commands.split("; ") {
-        desk.out.log.forget();
-        desk.out.log.answer(answered);
+        let out = &mut desk.out;
+        out.log.forget();
+        out.log.answer(answered);
         status = make_named(alloc, desk, input, ring, config, words.trim())?;
     }
     Ok(status)
@@ -317,7 +318,8 @@ fn ring_told<H: Helper + Drop>(
 ) -> Result<String, Fail> {
     let line = line_shown(alloc, desk)?;
     let lent = lent_by(alloc, ring)?;
-    desk.out.log.answer(None);
+    let out = &mut desk.out;
+    out.log.answer(None);
     let _ = make(desk, input, ring, config, Cmd::Undo(1));
     let undone = line_shown(alloc, desk)?;
     raised(format!(in alloc; "{line} / {lent} / {undone}"))

@@ -163,7 +163,8 @@ fn typed_over<H: Helper + Drop>(
     let history = history_of(alloc, stage.history.as_str())?;
     let mut desk = empty_desk(alloc, stage, &history)?;
     desk.helper = helper;
-    desk.out.log.answer(stage.answered);
+    let out = &mut desk.out;
+    out.log.answer(stage.answered);
     typed_on(alloc, stage, &mut desk, bindings, keys)
 }
 
