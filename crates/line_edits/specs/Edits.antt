@@ -1,5 +1,5 @@
 -- The steps of each edit of a line and its record, and what they make of both.
-use Rattle.std.specs.Prelude.{◌≡◌, ◌⊎◌, ⊤, ℕ, Bool, true, false, max, if◌then◌else◌, List, [], ◌∷◌, take, drop, length, Option, Some, None, is_some, encode_utf8, Result, OnErr}
+use Rattle.std.specs.Prelude.{◌≡◌, ◌⊎◌, ⊤, ℕ, Bool, true, false, max, if◌then◌else◌, List, [], ◌∷◌, take, drop, length, Option, Some, None, is_some, encode_utf8, Result, OnOk, OnErr}
 use Rattle.unicode_segmentation.specs.Grapheme.{graphemes}
 use Rattle.line_buffer.specs.Clusters.{place_forward, place_backward}
 use Rattle.line_buffer.specs.Indent.{indent}
@@ -12,12 +12,12 @@ use Rattle.line_buffer.specs.Transpositions.{transpose_chars, transpose_words, b
 use Rattle.line_buffer.specs.declared.types.Movement.{Movement}
 use Rattle.line_buffer.specs.declared.types.WordAction.{WordAction}
 use Rattle.line_config.specs.Scripts.{Ends, Asks}
-use Rattle.line_record.specs.Held.{line_back, has_step}
+use Rattle.line_record.specs.Held.{line_back, has_step, ahead_back}
 use Rattle.line_record.specs.Ring.{Ring, ring_all}
 use Rattle.line_edits.specs.Steps.{WriteSteps, Tells, Leaves, made, doing, telling, in_turn, answering, grouping, StopsIn}
 use Rattle.line_edits.specs.Written.{Written, Writes, written_in, group_opened}
 use Rattle.line_edits.specs.declared.recorded_line.RecordedLine.{RecordedLine}
-use Rattle.line_record.specs.Items.{Items, no_items, lines_back, last_changes}
+use Rattle.line_record.specs.Items.{Items, BackInPart, no_items, last_changes, ahead_on}
 
 -- what an edit of the line makes of line and record
 abbrev pub by : {A : Type 0} → (Line → WriteSteps A) → Written → Written
@@ -136,18 +136,20 @@ indenting movement amount dedent l = answering tt (telling (indent movement amou
 abbrev pub undone : ℕ → Written → Written
 undone n w = record { line = line_back (max n 1) w.held w.line; held = drop (max n 1) w.held }
 
--- the newest of the changes were taken back, the first ones that are left were not, and nothing is
+-- the newest of the changes were taken back, the first ones, one at least, were not, and nothing is
 -- recorded any more
 pub record UndoneInPart (n : ℕ) (before after : Line) (old new : Items) : Type 0 where
-  pub left : ℕ
-  pub line : after ≡ lines_back (drop left (last_changes (max n 1) old.done)) before
+  pub line : BackInPart (last_changes (max n 1) old.done) before after
   pub forgotten : new ≡ no_items
 
--- n items are taken back, 0 acting as 1, and the answer is whether a step was among them
+-- n items are taken back, 0 acting as 1, and can be made anew; the answer is whether a step was
+-- among them
 pub record Undoes {E : Type 0} (n : ℕ) (before after : RecordedLine) (result : Result Bool E)
     : Type 0 where
   pub writes : Writes (undone n) (has_step (max n 1) (written_in before).held)
       before.line after.line before.changes after.changes result
+  pub ahead : OnOk result (ahead_on after.changes after.line.text ≡ ahead_back (max n 1)
+      (written_in before).held before.line.text (ahead_on before.changes before.line.text))
   pub left : OnErr result (UndoneInPart n before.line after.line before.changes after.changes)
 
 -- ---- what a refused edit leaves

@@ -1,11 +1,11 @@
 -- Groups that are closed.
-use Rattle.std.proofs.Common.{◌≡◌, ℕ, ◌||◌, Bool, true, false, List, [], ◌∷◌, ◌++◌, reverse, refl, sym, ap, subst, ◌∙◌, None, append_assoc}
+use Rattle.std.proofs.Common.{◌≡◌, ℕ, zero, suc, take, ◌||◌, Bool, true, false, List, [], ◌∷◌, ◌++◌, reverse, refl, sym, ap, subst, ◌∙◌, None, append_assoc}
 use Rattle.std.specs.Prelude.{if◌then◌else◌, is_some, slice_get}
 use Rattle.std.proofs.lemmas.List.{append-nil, reverse-append}
 use Rattle.line_record.specs.Change.{Change, newest_of, all_taken_back, AllStandIn, undo_place, taken_back, StandsIn}
 use Rattle.line_record.specs.Held.{Held, has_mark, closes, grouped, ended}
 use Rattle.line_record.specs.Held.Held.{Stepped}
-use Rattle.line_record.specs.Items.{Item, changes_of, before_item, done_held, DoneStand, gathered, group_of, EndedBy}
+use Rattle.line_record.specs.Items.{Item, changes_of, before_item, done_held, DoneStand, gathered, group_of, last_changes, EndedBy}
 use Rattle.line_record.specs.Items.Item.{Open, Lone, Group}
 use Rattle.line_record.specs.Steps.{oldest_mark, is_open, item_from}
 
@@ -143,6 +143,12 @@ pub gather-reverse : (items : List Item) → gather (reverse items) ≡ gathered
 unfolding gather
 gather-reverse [] = refl
 gather-reverse (x ∷ items) = ap gather (reverse-append (x ∷ []) items) ∙ gather-push (reverse items) x ∙ ap (λ cs. changes_of x ++ cs) (gather-reverse items)
+
+pub last_changes_are : (n : ℕ) (items : List Item) → last_changes n items ≡ gather (take n items)
+unfolding gather
+last_changes_are zero items = refl
+last_changes_are (suc n) [] = refl
+last_changes_are (suc n) (x ∷ items) = ap (λ cs. cs ++ changes_of x) (last_changes_are n items)
 
 pub changes_of-item_from : (closed : Bool) (cs : List Change) → changes_of (item_from closed cs) ≡ cs
 changes_of-item_from true [] = refl

@@ -1,5 +1,5 @@
 -- Two lists of bytes, the second from the text's end: bytes passed from one to the other, and a text exchanged at their seam.
-use Rattle.std.proofs.Common.{◌≡◌, ℕ, ◌+◌, ◌-◌, ◌≤◌, List, [], ◌∷◌, ◌++◌, length, take, drop, reverse, refl, sym, ap, subst, ◌∙◌, arith, append_assoc, length-append}
+use Rattle.std.proofs.Common.{◌≡◌, ℕ, ◌+◌, ◌-◌, ◌<◌, ◌≤◌, List, [], ◌∷◌, ◌++◌, length, take, drop, reverse, refl, sym, ap, subst, ◌∙◌, arith, append_assoc, length-append}
 use Rattle.std.specs.Prelude.{Bool, Option, Result, Ok, Err, IsErrAnd, IsUtf8, IsCharBoundary}
 use Rattle.std.proofs.Math.Seq.{take-append_seam, drop-append_seam}
 use Rattle.std.proofs.lemmas.List.{append-nil, drop_all, take_all, take_at, take-append-drop, take-take, length-drop, length-reverse, reverse-append}
@@ -8,7 +8,7 @@ use borrow.Rule.Slice.PartMut.{post_of}
 use Rattle.line_buffer.specs.Line.{Line}
 use Rattle.line_record.specs.Change.{Change, StandsAt, exchanged_at}
 use Rattle.line_record.specs.Gap.{seamed, detached, taking_over}
-use Rattle.line_record.specs.Items.{Items, taken_back_in, made_anew_in, lines_back, lines_ahead, UndoesItems, RedoesItem, last_changes}
+use Rattle.line_record.specs.Items.{Items, taken_back_in, made_anew_in, lines_back, lines_ahead, UndoesItems, last_changes}
 use Rattle.line_record.proofs.Exchange.{exchanged}
 
 -- a list whose second part was turned round, as a vector sees it
@@ -83,16 +83,17 @@ pub ahead_apart : (cs : List Change) (l : Line) → taking_over l (lines_ahead c
 ahead_apart cs l = sym (ahead_over cs l (detached l))
 
 -- a refusal that leaves the line as it was: none of the changes is taken back
-pub nothing_undone : {E : Type 0} (n : ℕ) (old new : Items) (before after : Line) (e : E) (result : Result Bool E) → IsErrAnd result (λ x. x ≡ e) → after ≡ before → UndoesItems n old new before after result
-nothing_undone n old new before after e (Ok b) is kept = absurd is
-nothing_undone n old new before after e (Err x) is kept =
+pub nothing_undone : {E : Type 0} (n : ℕ) (old new : Items) (before after : Line) (e : E) (result : Result Bool E) → IsErrAnd result (λ x. x ≡ e) → 0 < length (last_changes n old.done) → after ≡ before
+    → UndoesItems n old new before after result
+nothing_undone n old new before after e (Ok b) is some kept = absurd is
+nothing_undone n old new before after e (Err x) is some kept =
     let cs = last_changes n old.done in
+    let all : length cs ≤ length cs = omega arith in
     record {
       answer = tt;
       items = tt;
-      back = record { line = tt; part = (length cs, kept ∙ sym (ap (λ ds. lines_back ds before) (drop_all (length cs) cs (omega arith)))) };
+      back = record {
+        line = tt;
+        part = record { left = length cs; some = some; inside = all; line = kept ∙ sym (ap (λ ds. lines_back ds before) (drop_all (length cs) cs all)) };
+      };
     }
-
-pub nothing_redone : {E : Type 0} (old new : Items) (before after : Line) (e : E) (result : Result (Option Bool) E) → IsErrAnd result (λ x. x ≡ e) → after ≡ before → RedoesItem old new before after result
-nothing_redone old new before after e (Ok b) is kept = absurd is
-nothing_redone old new before after e (Err x) is kept = record { answer = tt; items = tt; anew = record { line = tt; part = (0, kept) } }

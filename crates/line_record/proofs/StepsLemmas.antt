@@ -1,9 +1,9 @@
 -- What the steps over a log hold where some are cut off, put in, closed and read.
 use Rattle.std.proofs.Common.{◌≡◌, ℕ, suc, ◌+◌, ◌-◌, ◌<◌, ◌≤◌, Bool, true, false, List, [], ◌∷◌, ◌++◌, length, take, drop, reverse, refl, sym, ap, subst, ◌∙◌, arith, get_or, Some, None, Option, ◌==◌, not, ◌&&◌, add-one, eqb-true}
 use Rattle.std.proofs.Math.Seq.{take-add}
-use Rattle.std.specs.Prelude.{slice_range, is_some, slice_get, option_map, ⊤, unwrap_or, slice_set}
+use Rattle.std.specs.Prelude.{slice_range, is_some, slice_get, option_map, ⊤, unwrap_or, slice_set, min}
 use Rattle.std.proofs.lemmas.Bool.Decides.{nat_tests}
-use Rattle.std.proofs.lemmas.List.{take-take, take_at, drop_at, take-map, drop-map, get_or-map, get_or-take, get_or-drop, length-map, length-append, length-take, length-drop, length-take-le, map_push, reverse-append, take_more, take_more_set, drop-drop}
+use Rattle.std.proofs.lemmas.List.{take-take, take_min, take_at, drop_at, take-map, drop-map, get_or-map, get_or-take, get_or-drop, length-map, length-append, length-take, length-drop, length-take-le, map_push, reverse-append, take_more, take_more_set, drop-drop}
 use Rattle.line_record.specs.declared.steps.Step.{Step}
 use Rattle.line_record.specs.Change.{Change}
 use Rattle.line_buffer.specs.Event.{Event}
@@ -315,6 +315,17 @@ closed_from edits steps items n index last a b are view ha hb next order is =
       order = adjoin_le first_of last_of Any edits (drop index (take n steps)) a.first b.last back;
       end = end;
     }
+
+-- the number of their changes
+pub changes_counted : (edits : List Change) (steps : List Step) (items : List Item) (first end n : ℕ) (a b : Step) → AreSteps edits steps → items_in edits steps ≡ items → n ≡ min end (length items)
+    → first < n → a ≡ get_or steps first a → b ≡ get_or steps (n - 1) b → (a.first ≤ b.last) × (b.last - a.first ≡ length (gathered (drop first (take end items))))
+changes_counted edits steps items first end n a b are view is order at_a at_b =
+    let inside : n ≤ length items = omega (arith, is) in
+    let ha = step_at edits steps items first a are view (omega (arith, order, inside)) at_a in
+    let hb = step_at edits steps items (n - 1) b are view (omega (arith, order, inside)) at_b in
+    let c = closed_from edits steps items n first (n - 1) a b are view ha hb (omega (arith, order)) order at_a in
+    let same : take n items ≡ take end items = ap (λ k. take k items) is ∙ take_min end items in
+    (c.order, sym (ap (λ xs. length (gathered (drop first xs))) (sym same) ∙ ap length c.group ∙ slice_length edits a.first b.last hb.inside))
 
 pub group_none : (edits : List Change) (group : List Change) (i j : ℕ) → group ≡ slice_range edits i j → i ≡ j → group ≡ []
 group_none edits group i j is e = is ∙ ap (slice_range edits i) (sym e) ∙ no_slice edits i

@@ -1,7 +1,8 @@
 -- What undoing and making anew do to the record of texts.
 use Rattle.std.proofs.Common.{◌≡◌, ℕ, zero, suc, ◌+◌, ◌-◌, ◌<◌, ◌≤◌, ◌||◌, Bool, true, false, List, [], ◌∷◌, ◌++◌, length, take, drop, reverse, refl, sym, ap, subst, ◌∙◌, arith, append_assoc, Some, None, Ok, Err, Result, add-zero, zero-add}
 use Rattle.std.proofs.Math.Seq.{drop-append_seam}
-use Rattle.std.proofs.lemmas.List.{append-nil, take-append-drop, reverse-append}
+use Rattle.std.proofs.lemmas.List.{append-nil, take-append-drop, reverse-append, length-append, length-drop, length-reverse, length-take-le, take_at, take_all, drop-drop}
+use native.Mathlib.Decide.{dec_le}
 use Rattle.std.specs.List.{list_any}
 use Rattle.std.proofs.Math.Nat.{sub-zero}
 use Rattle.std.proofs.Math.Bool.{or_assoc}
@@ -9,8 +10,9 @@ use Rattle.std.specs.Prelude.{IsErrAnd, IsUtf8}
 use Rattle.line_buffer.specs.Line.{Line}
 use Rattle.line_record.specs.Change.{Change, place_of, removed_of, added_of, taken_back, made_anew, redo_place, StandsIn, all_taken_back, all_made_anew, AllStandIn, AllFitIn, newest_of}
 use Rattle.line_record.specs.Held.{Held, is_step, undone_line, line_back, has_step, ahead_back, remade_line, line_ahead, has_step_ahead, held_ahead}
-use Rattle.line_record.specs.Items.{Item, Items, changes_of, before_item, after_item, holding, done_held, undone_ahead, DoneStand, UndoneFit, ItemsStand, held_on, ahead_on, taken_back_in, made_anew_in, lines_back, lines_ahead, nearest_changes, undo_one, redo_one, is_step_item, nearest_is_change, UndoesItems, last_changes}
+use Rattle.line_record.specs.Items.{Item, Items, changes_of, before_item, after_item, holding, done_held, undone_ahead, DoneStand, UndoneFit, ItemsStand, held_on, ahead_on, taken_back_in, made_anew_in, lines_back, lines_ahead, nearest_changes, undo_one, redo_one, is_step_item, nearest_is_change, UndoesItems, last_changes, BackInPart, gathered}
 use Rattle.line_record.specs.Items.Item.{Open, Lone, Group}
+use Rattle.line_record.proofs.EndLemmas.{gather, gather-reverse, last_changes_are}
 use Rattle.line_record.proofs.Exchange.{exchanged}
 use Rattle.line_record.proofs.StepLemmas.{lines_back_text, lines_ahead_text, lines_back_but_place}
 use Rattle.line_record.proofs.StoredLemmas.{text_of-holding}
@@ -58,38 +60,80 @@ many_change_is zero items = refl
 many_change_is (suc n) [] = refl
 many_change_is (suc n) (x ∷ items) = ap (λ b. is_step_item x || b) (many_change_is n items)
 
--- the changes that a part leaves, and those that it takes back
+-- the changes that a part leaves, one at least, and those that it takes back
 record PartOf (n k j : ℕ) (items : List Item) (l : Line) : Type 0 where
   left : List Change
   back : List Change
+  some : 0 < length left
   split : last_changes n items ≡ left ++ back
   line : part_back k j items l ≡ lines_back back l
 
-part_of : (n k j : ℕ) (items : List Item) (l : Line) → k < n → PartOf n k j items l
-part_of n k j [] l less = record { left = last_changes n []; back = []; split = sym (append-nil (last_changes n [])); line = refl }
-part_of zero k j (x ∷ items) l less = absurd (omega (arith, less))
-part_of (suc n) zero j (x ∷ items) l less =
+part_of : (n k j : ℕ) (items : List Item) (l : Line) → k < n → 0 < j → j ≤ length (nearest_changes (drop k items)) → PartOf n k j items l
+part_of n zero j [] l less some inside = absurd (omega (arith, some, inside))
+part_of n (suc k) j [] l less some inside = absurd (omega (arith, some, inside))
+part_of zero k j (x ∷ items) l less some inside = absurd (omega (arith, less))
+part_of (suc n) zero j (x ∷ items) l less some inside =
     let cs = changes_of x in
     record {
       left = last_changes n items ++ take j cs;
       back = drop j cs;
+      some = omega (arith, some, length-append (last_changes n items) (take j cs), length-take-le j cs inside);
       split = ap (λ ds. last_changes n items ++ ds) (sym (take-append-drop j cs)) ∙ sym (append_assoc (last_changes n items) (take j cs) (drop j cs));
       line = refl;
     }
-part_of (suc n) (suc k) j (x ∷ items) l less =
+part_of (suc n) (suc k) j (x ∷ items) l less some inside =
     let cs = changes_of x in
-    let rest = part_of n k j items (lines_back cs l) (omega (arith, less)) in
+    let rest = part_of n k j items (lines_back cs l) (omega (arith, less)) some inside in
     record {
       left = rest.left;
       back = rest.back ++ cs;
+      some = rest.some;
       split = ap (λ ds. ds ++ cs) rest.split ∙ append_assoc rest.left rest.back cs;
       line = rest.line ∙ sym (lines_back-append rest.back cs l);
     }
 
-part_is : (n k j : ℕ) (items : List Item) (l : Line) → k < n → (i : ℕ) × (part_back k j items l ≡ lines_back (drop i (last_changes n items)) l)
-part_is n k j items l less =
-    let p = part_of n k j items l less in
-    (length p.left, p.line ∙ sym (ap (λ cs. lines_back cs l) (ap (drop (length p.left)) p.split ∙ drop-append_seam p.left p.back)))
+part_is : (n k j : ℕ) (items : List Item) (l left : Line) → k < n → 0 < j → j ≤ length (nearest_changes (drop k items)) → left ≡ part_back k j items l → BackInPart (last_changes n items) l left
+part_is n k j items l left less some inside is =
+    let p = part_of n k j items l less some inside in
+    record {
+      left = length p.left;
+      some = p.some;
+      inside = omega (arith, ap length p.split, length-append p.left p.back);
+      line = is ∙ p.line ∙ sym (ap (λ cs. lines_back cs l) (ap (drop (length p.left)) p.split ∙ drop-append_seam p.left p.back));
+    }
+
+-- ---- the changes of some items, as the code counts them
+
+last_reversed : (n : ℕ) (steps : List Item) → take n (reverse steps) ≡ reverse (drop (length steps - n) steps)
+last_reversed n steps = elim (dec_le n (length steps)) [
+  | yes le ↦
+      let older = take (length steps - n) steps in
+      let newer = drop (length steps - n) steps in
+      let count : length (reverse newer) ≡ n = omega (arith, le, length-reverse newer, length-drop (length steps - n) steps) in
+      ap (take n) (ap reverse (sym (take-append-drop (length steps - n) steps)) ∙ reverse-append older newer) ∙ take_at (reverse newer) (reverse older) n count
+  | no more ↦
+      let all : length steps - n ≡ 0 = omega (arith, more) in
+      take_all n (reverse steps) (omega (arith, more, length-reverse steps)) ∙ sym (ap (λ k. reverse (drop k steps)) all)
+]
+
+-- the last of the items that are done, among all items
+pub last_changes_of : (items : List Item) (done n first : ℕ) → done ≤ length items → first ≡ done - n → last_changes n (reverse (take done items)) ≡ gathered (drop first (take done items))
+last_changes_of items done n first inside is =
+    let steps = take done items in
+    let from : length steps - n ≡ first = omega (arith, is, length-take-le done items inside) in
+    last_changes_are n (reverse steps) ∙ ap gather (last_reversed n steps) ∙ gather-reverse (drop (length steps - n) steps) ∙ ap (λ k. gathered (drop k steps)) from
+
+-- the nearest item that is undone, among all items
+pub some_ahead : (items : List Item) (done end : ℕ) → end ≤ done + 1 → 0 < length (gathered (drop done (take end items))) → 0 < length (nearest_changes (drop done items))
+some_ahead [] zero zero le some = some
+some_ahead [] zero (suc end) le some = some
+some_ahead [] (suc done) zero le some = some
+some_ahead [] (suc done) (suc end) le some = some
+some_ahead (x ∷ items) zero zero le some = absurd (omega (arith, some))
+some_ahead (x ∷ items) zero (suc zero) le some = omega (arith, some, ap length (append-nil (changes_of x)))
+some_ahead (x ∷ items) zero (suc (suc end)) le some = absurd (omega (arith, le))
+some_ahead (x ∷ items) (suc done) zero le some = absurd (omega (arith, some))
+some_ahead (x ∷ items) (suc done) (suc end) le some = some_ahead items done end (omega (arith, le)) some
 
 -- changes that were taken back can be made anew
 pub record TakenBack (cs : List Change) (text : List ℕ) : Type 0 where
@@ -179,6 +223,7 @@ pub record Undoing (end counter : ℕ) (first now : Items) (before after : Line)
   pub items : undo_many (end - counter) now.done now.undone ≡ undo_many end first.done first.undone
   pub line : many_back (end - counter) now.done after ≡ many_back end first.done before
   pub answer : (undone || many_change (end - counter) now.done) ≡ many_change end first.done
+  pub left : now.done ≡ drop counter first.done
   pub part : (k j : ℕ) → part_back k j now.done after ≡ part_back (counter + k) j first.done before
   pub stand : DoneStand now.done after.text
 
@@ -188,9 +233,13 @@ begun n s l h = record {
   items = ap (λ k. undo_many k s.done s.undone) (sub-zero n);
   line = ap (λ k. many_back k s.done l) (sub-zero n);
   answer = ap (λ k. many_change k s.done) (sub-zero n);
+  left = refl;
   part = λ k j. ap (λ i. part_back i j s.done l) (sym (zero-add k));
   stand = h;
 }
+
+drop_next : (n : ℕ) (all : List Item) (x : Item) (items : List Item) → x ∷ items ≡ drop n all → items ≡ drop (n + 1) all
+drop_next n all x items is = ap (drop 1) is ∙ drop-drop 1 n all
 
 -- one item more
 undo_turn_on : (end counter : ℕ) (first : Items) (done undone_items : List Item) (before after : Line) (undone b : Bool)
@@ -206,6 +255,7 @@ undo_turn_on end counter first (x ∷ items) undone_items before after undone b 
       line = sym (ap (λ k. many_back k (x ∷ items) after) n) ∙ u.line;
       answer = ap (λ c. (undone || c) || many_change (end - (counter + 1)) items) same ∙ or_assoc undone (is_step_item x) (many_change (end - (counter + 1)) items)
           ∙ sym (ap (λ k. undone || many_change k (x ∷ items)) n) ∙ u.answer;
+      left = drop_next counter first.done x items u.left;
       part = λ k j. u.part (suc k) j ∙ ap (λ i. part_back i j first.done before) (let e : counter + suc k ≡ counter + 1 + k = omega arith in e);
       stand = subst (DoneStand items) (sym (lines_back_text (changes_of x) after)) u.stand.1;
     }
@@ -303,13 +353,13 @@ nearest_part (suc j) [] l = refl
 nearest_part j (x ∷ items) l = refl
 
 part_left : (end counter : ℕ) (first now : Items) (before after left : Line) (undone : Bool) → Undoing end counter first now before after undone → counter < end
-    → (j : ℕ) × (left ≡ lines_back (drop j (nearest_changes now.done)) after) → (i : ℕ) × (left ≡ lines_back (drop i (last_changes end first.done)) before)
-part_left end counter first now before after left undone u less (j, e) =
-    let p = part_is end counter j first.done before less in
-    (p.0, e ∙ nearest_part j now.done after ∙ u.part 0 j ∙ ap (λ k. part_back k j first.done before) (add-zero counter) ∙ p.1)
+    → BackInPart (nearest_changes now.done) after left → BackInPart (last_changes end first.done) before left
+part_left end counter first now before after left undone u less p =
+    part_is end counter p.left first.done before left less p.some (omega (arith, p.inside, ap (λ items. length (nearest_changes items)) u.left))
+    (p.line ∙ nearest_part p.left now.done after ∙ u.part 0 p.left ∙ ap (λ k. part_back k p.left first.done before) (add-zero counter))
 
 pub undoes_in_part : {E : Type 0} (end counter : ℕ) (first now next : Items) (before after left : Line) (undone : Bool) (e : E) (result : Result Bool E) → IsErrAnd result (λ x. x ≡ e)
-    → Undoing end counter first now before after undone → counter < end → (j : ℕ) × (left ≡ lines_back (drop j (nearest_changes now.done)) after) → UndoesItems end first next before left result
+    → Undoing end counter first now before after undone → counter < end → BackInPart (nearest_changes now.done) after left → UndoesItems end first next before left result
 undoes_in_part end counter first now next before after left undone e (Ok b) is u less part = absurd is
 undoes_in_part end counter first now next before after left undone e (Err x) is u less part =
     record { answer = tt; items = tt; back = record { line = tt; part = part_left end counter first now before after left undone u less part } }

@@ -1,6 +1,6 @@
 -- The record's value: the changes done and undone, each side nearest first; the texts that they
 -- hold on a line's text; and what undoing and making anew make of the record and its line.
-use Rattle.std.specs.Prelude.{◌≡◌, ℕ, Bool, true, false, List, [], ◌∷◌, ◌++◌, drop, length, ◌-◌, Option, Some, None, is_some, IsUtf8, zero, suc, take, reverse, Result, IfOk, OnOk, OnErr}
+use Rattle.std.specs.Prelude.{◌≡◌, ◌<◌, ◌≤◌, ℕ, Bool, true, false, List, [], ◌∷◌, ◌++◌, drop, length, ◌-◌, Option, Some, None, is_some, IsUtf8, zero, suc, take, reverse, Result, IfOk, OnOk, OnErr}
 use Rattle.line_buffer.specs.Event.{Event}
 use Rattle.line_buffer.specs.Event.Event.{StartKilling, StopKilling}
 use Rattle.line_buffer.specs.Line.{Line}
@@ -201,17 +201,30 @@ UndoneFit-prop (x ∷ items) text =
 pub ItemsStand-prop : (s : Items) (text : List ℕ) → IsProp (ItemsStand s text)
 ItemsStand-prop s text = ×_prop (DoneStand-prop s.done text) (UndoneFit-prop s.undone text)
 
--- changes are taken back, the newest first; a refusal leaves the newest of them taken back
+-- the newest of several changes were taken back, and the first ones, one at least, were not
+pub record BackInPart (changes : List Change) (before after : Line) : Type 0 where
+  pub left : ℕ
+  pub some : 0 < left
+  pub inside : left ≤ length changes
+  pub line : after ≡ lines_back (drop left changes) before
+
+-- the oldest of several changes were made anew, and the last ones, one at least, were not
+pub record AnewInPart (changes : List Change) (before after : Line) : Type 0 where
+  pub made : ℕ
+  pub inside : made < length changes
+  pub line : after ≡ lines_ahead (take made changes) before
+
+-- changes are taken back, the newest first, or in part
 pub record TakesBack {A E : Type 0} (changes : List Change) (before after : Line)
     (result : Result A E) : Type 0 where
   pub line : OnOk result (after ≡ lines_back changes before)
-  pub part : OnErr result ((j : ℕ) × (after ≡ lines_back (drop j changes) before))
+  pub part : OnErr result (BackInPart changes before after)
 
--- changes are made anew, the oldest first; a refusal leaves the oldest of them made
+-- changes are made anew, the oldest first, or in part
 pub record MakesAnew {A E : Type 0} (changes : List Change) (before after : Line)
     (result : Result A E) : Type 0 where
   pub line : OnOk result (after ≡ lines_ahead changes before)
-  pub part : OnErr result ((j : ℕ) × (after ≡ lines_ahead (take j changes) before))
+  pub part : OnErr result (AnewInPart changes before after)
 
 -- the changes of the last n items, in the order in which they were made
 abbrev pub last_changes : ℕ → List Item → List Change

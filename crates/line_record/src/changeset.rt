@@ -29,7 +29,7 @@ impl Model for Changeset {
 }
 
 impl Changeset {
-    ghost use Rattle.std.specs.Prelude.{◌≡◌, ◌-◌, ℕ, [], List, length, drop, IfOk, IsOkAnd, OnOk, OnErr, option_map, option_copied, string_bytes};
+    ghost use Rattle.std.specs.Prelude.{◌≡◌, ◌-◌, ℕ, true, [], List, length, drop, is_some, IfOk, IsOkAnd, OnOk, OnErr, option_map, option_copied, string_bytes};
     ghost use Rattle.line_buffer.specs.Event.Event.{InsertChar, InsertStr, Delete, Replace};
     ghost use Rattle.line_buffer.specs.declared.types.Direction.TheVariants.{Forward};
     ghost use Rattle.line_record.specs.Held.{ended, closes, last_inserted, first_held, text_kept};
@@ -104,8 +104,10 @@ impl Changeset {
 
     /// The text that was put in last: `None` where the last item is a mark or took text out.
     pub fn last_insert(&self, alloc: Global) -> Result<Option<String>, OutOfMemory>
-        ensures { IfOk result (λ o. (text : List ℕ) → option_map string_bytes o ≡ last_inserted
-            (held_on self.now text)) }
+        ensures text { IfOk result (λ o. (text : List ℕ) → option_map string_bytes o
+            ≡ last_inserted (held_on self.now text)) }
+        ensures some { OnErr result ((text : List ℕ)
+            → is_some (last_inserted (held_on self.now text)) ≡ true) }
     {
         let Some(text) = self.last_insert_text() else {
             return Ok(None);

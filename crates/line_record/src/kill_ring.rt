@@ -48,7 +48,8 @@ impl KillRing {
 
     /// An empty ring of `size` slots; one of none keeps nothing.
     pub fn new(alloc: Global, size: usize) -> Result<Self, OutOfMemory>
-        ensures { IfOk result (λ r. r ≡ new_ring size) }
+        ensures ring { IfOk result (λ r. r ≡ new_ring size) }
+        ensures refused { OnErr result (0 < size) }
     {
         let slots = Vec::with_capacity(alloc, size)?;
         Ok(KillRing {

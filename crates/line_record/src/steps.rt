@@ -203,15 +203,15 @@ impl Steps {
         step.first == step.last
     }
 
-    /// How many changes the step of an index has; none where there is no such step.
-    pub fn change_count(&self, index: usize) -> usize
-        ensures { result ≡ length (changes_of (slice_index_or self.now index Open)) }
+    /// How many changes the steps have that begin at one index and end before another.
+    pub fn change_count(&self, first: usize, end: usize) -> usize
+        ensures { result ≡ length (gathered (drop first (take end self.now))) }
     {
-        if index >= self.len() {
+        let end = end.min(self.len());
+        if first >= end {
             return 0;
         }
-        let step = self.steps[index];
-        step.last - step.first
+        self.steps[end - 1].last - self.steps[first].first
     }
 
     /// The text that the newest change of a step put in, if it put one in.

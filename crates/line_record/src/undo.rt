@@ -10,9 +10,9 @@ use std::alloc::Global;
 const FEW: usize = 8;
 
 impl Changeset {
-    ghost use Rattle.std.specs.Prelude.{◌≡◌, ◌+◌, ◌++◌, ℕ, true, max, take, drop, IfOk, OnOk, OnErr, IsUtf8};
+    ghost use Rattle.std.specs.Prelude.{◌≡◌, ◌<◌, max, length, drop, IfOk, OnOk, OnErr};
     ghost use Rattle.line_record.specs.Held.{line_back, has_step, ahead_back, line_ahead, has_step_ahead, held_ahead};
-    ghost use Rattle.line_record.specs.Items.{no_items, undo_one, lines_back, lines_ahead, nearest_changes, nearest_is_change, ItemsStand, DoneStand, UndoneFit, held_on, ahead_on, TakesBack, UndoesItems, RedoesItem, last_changes};
+    ghost use Rattle.line_record.specs.Items.{no_items, undo_one, nearest_changes, nearest_is_change, BackInPart, AnewInPart, ItemsStand, DoneStand, UndoneFit, held_on, ahead_on, TakesBack, UndoesItems, RedoesItem, last_changes};
 
     /// Takes the last `n` items back: steps, and open marks. 0 acts as 1. Answers whether a step
     /// was among them. The cursor goes to the place of the oldest of their changes, after what was
@@ -35,8 +35,8 @@ impl Changeset {
             (held_on self.old line.old.text) line.old.text (ahead_on self.old line.old.text)) }
         ensures stand { ItemsStand self.new line.new.text }
         ensures refused { OnErr result (self.new ≡ no_items) }
-        ensures part { OnErr result ((j : ℕ) × (line.new
-            ≡ lines_back (drop j (last_changes (max n 1) self.old.done)) line.old)) }
+        ensures part { OnErr result (BackInPart (last_changes (max n 1) self.old.done) line.old
+            line.new) }
     {
         // Its contract says that the text is UTF-8.
         let _text = line.as_str();
@@ -49,7 +49,7 @@ impl Changeset {
         }
     }
 
-    /// `undo_items` in the line itself, or apart from it where there may be many changes.
+    /// `undo_items` in the line itself, or apart from it where there are many changes.
     fn undo_last(
         &mut self,
         alloc: Global,
@@ -59,8 +59,8 @@ impl Changeset {
         requires { DoneStand self.old.done line.old.text }
         ensures { UndoesItems n self.old self.new line.old line.new result }
     {
-        let last = self.done.saturating_sub(1);
-        let is_long = n > 1 || self.steps.change_count(last) > FEW;
+        let first = self.done.saturating_sub(usize::from(n));
+        let is_long = self.steps.change_count(first, self.done) > FEW;
         if is_long {
             self.undo_apart(alloc, line, n)
         } else {
@@ -76,7 +76,8 @@ impl Changeset {
         line: &mut LineBuffer,
         n: RepeatCount,
     ) -> Result<bool, OutOfMemory>
-        requires { DoneStand self.old.done line.old.text }
+        requires stand { DoneStand self.old.done line.old.text }
+        requires some { 0 < length (last_changes n self.old.done) }
         ensures { UndoesItems n self.old self.new line.old line.new result }
     {
         let mut apart = GapLine::new(alloc, line)?;
@@ -141,8 +142,8 @@ impl Changeset {
             (ahead_on self.old line.old.text)) }
         ensures stand { ItemsStand self.new line.new.text }
         ensures refused { OnErr result (self.new ≡ no_items) }
-        ensures part { OnErr result ((j : ℕ) × (line.new
-            ≡ lines_ahead (take j (nearest_changes self.old.undone)) line.old)) }
+        ensures part { OnErr result (AnewInPart (nearest_changes self.old.undone) line.old
+            line.new) }
     {
         // Its contract says that the text is UTF-8.
         let _text = line.as_str();
@@ -164,7 +165,10 @@ impl Changeset {
         requires { UndoneFit self.old.undone line.old.text }
         ensures { RedoesItem self.old self.new line.old line.new result }
     {
-        let is_long = self.steps.change_count(self.done) > FEW;
+        let is_long = self
+            .steps
+            .change_count(self.done, self.done.saturating_add(1))
+            > FEW;
         if is_long {
             self.redo_apart(alloc, line)
         } else {
@@ -178,7 +182,8 @@ impl Changeset {
         alloc: Global,
         line: &mut LineBuffer,
     ) -> Result<Option<bool>, OutOfMemory>
-        requires { UndoneFit self.old.undone line.old.text }
+        requires fit { UndoneFit self.old.undone line.old.text }
+        requires some { 0 < length (nearest_changes self.old.undone) }
         ensures { RedoesItem self.old self.new line.old line.new result }
     {
         let mut apart = GapLine::new(alloc, line)?;

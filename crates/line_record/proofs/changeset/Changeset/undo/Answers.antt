@@ -1,5 +1,5 @@
-use Rattle.std.proofs.Common.{◌≡◌, subst, drop}
-use Rattle.line_record.specs.Items.{lines_back, last_changes}
+use Rattle.std.proofs.Common.{subst}
+use Rattle.line_record.specs.Items.{BackInPart, last_changes}
 use Rattle.line_record.proofs.UndoLemmas.{UndoneAs, undone_as}
 use Rattle.line_record.proofs.changeset.Changeset.undo.Goals as goal
 
@@ -11,5 +11,4 @@ returns-in-Ok c =
 
 pub returns-in-Err-clause-part : goal.returns-in-Err-clause-part
 returns-in-Err-clause-part c =
-    let p = c.in-Err.ensures.back.part in
-    (p.0, subst (λ n. c.undo_last.new.line ≡ lines_back (drop p.0 (last_changes n c.args.self.now.done)) c.args.line.now) c.max.ensures p.1)
+    subst (λ n. BackInPart (last_changes n c.args.self.now.done) c.args.line.now c.undo_last.new.line) c.max.ensures c.in-Err.ensures.back.part

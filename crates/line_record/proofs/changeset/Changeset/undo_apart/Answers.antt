@@ -17,10 +17,10 @@ returns c =
     }
 
 pub returns-in_err-apart : goal.returns-in_err-apart
-returns-in_err-apart c = nothing_undone c.args.n _ _ _ _ _ _ c.from_residual.ensures.1 refl
+returns-in_err-apart c = nothing_undone c.args.n _ _ _ _ _ _ c.from_residual.ensures.1 c.requires.some refl
 
 pub returns-in_err-undone : goal.returns-in_err-undone
-returns-in_err-undone c = nothing_undone c.args.n _ _ _ _ _ _ c.from_residual-in_err-undone.ensures.1 refl
+returns-in_err-undone c = nothing_undone c.args.n _ _ _ _ _ _ c.from_residual-in_err-undone.ensures.1 c.requires.some refl
 
 pub returns-in_err-write : goal.returns-in_err-write
-returns-in_err-write c = nothing_undone c.args.n _ _ _ _ _ _ c.from_residual-in_err-write.ensures.1 c.in_err-write.ensures.kept
+returns-in_err-write c = nothing_undone c.args.n _ _ _ _ _ _ c.from_residual-in_err-write.ensures.1 c.requires.some c.in_err-write.ensures.kept
