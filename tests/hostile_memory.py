@@ -65,8 +65,6 @@ abc Enter Enter 漢 Enter Enter = nothing
 BATCH, LIMITS, LONGEST = 40, {resource.RLIMIT_CPU: 100, resource.RLIMIT_AS: 64_000_000}, 2_000_000
 # How the program ends where it finds no memory for what it tells.
 WANTS_MEMORY = b"Error: memory allocation failed\n"
-# What it tells where it finds none to open a session, or for a copy of what it left.
-UNTOLD = "unopened Memory"
 
 
 @dataclasses.dataclass(frozen=True)
@@ -174,9 +172,8 @@ def found_of(session, whole, pieces, accepted):
 
 
 def judge(session, whole, pieces, accepted):
-    # (the program has room for so much: what a session left is copied before it is told of)
-    wants = {"Memory", UNTOLD} & {whole.ending, pieces.ending}
-    is_short = wants and (whole != pieces or not has_reason(session, whole.ending))
+    # (`unopened Memory` is judged: what a session left is told without a copy, which might find no room)
+    is_short = "Memory" in (whole.ending, pieces.ending) and (whole != pieces or not has_reason(session, "Memory"))
     if is_short or TOO_LONG in (whole, pieces, accepted):
         raise Unjudged(MUCH)
     if whole != pieces:

@@ -338,7 +338,8 @@ impl Desk {
         match call {
             "save" => self.history.save_to(&mut self.sink),
             "append" => self.history.append_to(&mut self.sink),
-            _ => add_line(alloc, &mut self.history, line),
+            "add" => add_line(alloc, &mut self.history, line),
+            _ => Err(ReadlineError::Helper),
         }
     }
 }

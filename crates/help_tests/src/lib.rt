@@ -1,4 +1,4 @@
-//! Tests that cross crates: histories and their texts, brackets, helpers and prompts.
+//! Tests of `line_help`: histories and their texts, completion, brackets and helpers.
 #![tactic(auto)]
 
 #[cfg(test)]

@@ -170,7 +170,7 @@ where
         }
     }
 
-    /// What helps.
+    /// What completes, hints, highlights and validates.
     pub fn helper<G: Helper + Drop>(self, helper: G) -> SessionBuilder<'p, F, S, G, D, L, T, B>
         ensures { result ≡ record {
           alloc = self.entry.alloc;

@@ -2,9 +2,10 @@
 //! typed, a kill ring, undo and a history.
 //!
 //! A [`Session`] is opened over its devices (the text of a history, a source of key bytes, a
-//! display, a sink of lines and one of the history's text) with settings, bindings and a helper,
-//! and run once, to its ending. Its contract says what it sends, writes and saves and how it ends,
-//! by the definitions in `specs/`. All that a call of it needs is handed on here.
+//! display, a sink of lines and one of the history's text) with settings, bindings and a helper. It
+//! is run to its ending, or asked for one line after the other ([`LineEditor`]). Its contracts say
+//! what it sends, writes and saves and how it ends, by the definitions in `specs/`. All that a call
+//! of it needs is handed on here.
 #![tactic(auto)]
 
 mod boxed;

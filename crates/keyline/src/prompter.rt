@@ -11,6 +11,7 @@ pub trait Prompter {
     fn prompt(&self) -> &str
         ensures { result.now ≡ (lines self.now 0).prompt };
 
+    /// The columns of the display's rows for the next line, 2 to 1,000.
     fn columns(&self) -> u16
         ensures columns { result ≡ (lines self.now 0).columns }
         ensures drawable { (2 ≤ result) × (result ≤ 1000) };

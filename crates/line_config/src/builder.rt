@@ -150,7 +150,7 @@ impl Builder {
         self
     }
 
-    /// Sets how many spaces a line is indented or dedented by.
+    /// Sets by how many spaces a row is moved in or out.
     pub fn indent_size(mut self, spaces: u8) -> Self
         ensures { result ≡ built (record self.config { indent_size = spaces }) }
     {

@@ -142,7 +142,7 @@ impl Config {
         self.tab_stop
     }
 
-    /// How many spaces a line is indented or dedented by.
+    /// By how many spaces a row is moved in or out.
     pub fn indent_size(&self) -> u8
         ensures { result ≡ self.now.indent_size }
     {

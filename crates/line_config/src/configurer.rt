@@ -140,7 +140,7 @@ pub trait Configurer {
         self.config_mut().tab_stop = columns;
     }
 
-    /// Sets how many spaces a line is indented or dedented by.
+    /// Sets by how many spaces a row is moved in or out.
     fn set_indent_size(&mut self, spaces: u8)
         ensures { Sets settings with_settings (λ c. record c { indent_size = spaces })
             self.old self.new }

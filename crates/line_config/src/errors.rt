@@ -20,7 +20,8 @@ pub enum ReadlineError {
     Eof,
     /// The command to interrupt came.
     Interrupted,
-    /// A character was asked for where the input has none: its bytes aren't UTF-8 (RFC 3629).
+    /// A character was asked for where the input has none: its bytes aren't UTF-8 (RFC 3629); or a
+    /// row of a list of words isn't.
     NotUtf8,
     /// Pasted text came where no command asks for it.
     PasteOutOfPlace,
@@ -30,7 +31,7 @@ pub enum ReadlineError {
     Display,
     /// The sink of the accepted lines failed.
     Lines,
-    /// The sink of the history's text failed, or a text that was to be loaded isn't UTF-8.
+    /// The sink of the history's text failed, or a history that was to be loaded isn't UTF-8.
     HistoryText,
     /// A helper answered that it failed.
     Helper,

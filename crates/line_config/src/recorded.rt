@@ -16,6 +16,7 @@ pub struct Recorded<W> {
 impl<W: Write> Recorded<W> {
     ghost use Rattle.line_config.specs.Recorded.{took, inner_of};
 
+    /// A writer over this one, of which nothing is noted yet.
     pub fn new(writer: W) -> Self
         ensures took { took result ≡ [] }
         ensures writer { inner_of result ≡ writer }

@@ -32,7 +32,7 @@ use Rattle.line_editor.specs.declared.commands.Status.TheVariants.{Proceed, Subm
 pub record Means : Type 0 where
   pub mode : EditMode
   pub input_mode : InputMode
-  -- by how many columns a row is moved in or out
+  -- by how many spaces a row is moved in or out
   pub indent_size : ℕ
   pub ring : Ring
 
@@ -47,7 +47,7 @@ means_of input indent r = record {
 abbrev pub in_vi_command : Means → Bool
 in_vi_command m = is_vi_command m.mode m.input_mode
 
--- up or down by rows, and in the last row through the history
+-- up or down by rows; in the first row, and in the last one, through the history
 abbrev pub line_up_or_previous : ℕ → Transition
 line_up_or_previous n s v =
     if is_some (line_up s.mode s.column n v.line) then move_line_up n s v else history_step true s v

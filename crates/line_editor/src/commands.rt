@@ -16,7 +16,9 @@ use line_record::KillRing;
 /// Whether a line goes on.
 #[derive(Clone, Copy, Debug, PartialEq, Eq)]
 pub enum Status {
+    /// It goes on.
     Proceed,
+    /// It is accepted.
     Submit,
 }
 

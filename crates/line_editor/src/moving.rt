@@ -123,7 +123,7 @@ impl<'p, 'h, Out: Renderer, H: Helper + Drop, Hi: History> State<'p, 'h, Out, H,
         }
     }
 
-    /// Moves to a character.
+    /// Moves by a search to the n-th such character, or to the last where fewer stand.
     pub fn edit_move_to(&mut self, search: CharSearch, n: RepeatCount) -> Result<(), ReadlineError>
         ensures does { Does (move_to search n) self.old self.new result }
     {

@@ -53,6 +53,7 @@ pub trait Renderer: Drop {
     fn write_and_flush(&mut self, text: &str) -> Result<(), ReadlineError>
         ensures { Makes canvas (Write text.now) self.old self.new result };
 
+    /// Sounds the bell, where the display is to be heard.
     fn beep(&mut self) -> Result<(), ReadlineError>
         ensures { Makes canvas Beep self.old self.new result };
 
@@ -96,6 +97,7 @@ pub trait Renderer: Drop {
     fn update_size(&mut self)
         ensures { self.new ≡ self.old };
 
+    /// How many columns a row has.
     fn get_columns(&self) -> Unit
         ensures { result ≡ (canvas.ruler self.now).columns };
 
@@ -103,9 +105,11 @@ pub trait Renderer: Drop {
     fn get_rows(&self) -> Unit
         ensures { result ≡ (canvas.ruler self.now).rows };
 
+    /// Whether highlighted texts are drawn with their styles.
     fn colors_enabled(&self) -> bool
         ensures { result ≡ (canvas.ruler self.now).colours };
 
+    /// How the columns of a cluster are counted.
     fn grapheme_cluster_mode(&self) -> GraphemeClusterMode
         ensures { result ≡ (canvas.ruler self.now).mode };
 

@@ -21,7 +21,8 @@ impl<'p, 'h, Out: Renderer, H: Helper + Drop, Hi: History> State<'p, 'h, Out, H,
         if done { self.refresh() } else { Ok(()) }
     }
 
-    /// Exchanges words.
+    /// Exchanges the word at the cursor or after it with the one `n` words before it, as one step.
+    /// The line is drawn also where only the cursor moved.
     pub fn edit_transpose_words(&mut self, n: RepeatCount) -> Result<(), ReadlineError>
         ensures does { Does (transpose_words_effect n) self.old self.new result }
     {
@@ -44,7 +45,8 @@ impl<'p, 'h, Out: Renderer, H: Helper + Drop, Hi: History> State<'p, 'h, Out, H,
         if done { self.refresh() } else { Ok(()) }
     }
 
-    /// Moves rows in or out.
+    /// Gives each row that a movement covers `amount` spaces, or takes as many whitespace
+    /// characters at most: a change a row.
     pub fn edit_indent(
         &mut self,
         movement: &Movement,

@@ -147,7 +147,8 @@ impl RecordedLine {
         done
     }
 
-    /// Moves the rows that a movement covers in or out by up to `amount` columns.
+    /// Gives each row that a movement covers `amount` spaces, or takes as many whitespace
+    /// characters at most.
     pub fn indent(
         &mut self,
         alloc: Global,

@@ -8,7 +8,7 @@ use Rattle.line_keys.specs.declared.command.Cmd.{Cmd}
 use Rattle.line_keys.specs.declared.command.Cmd.TheVariants.{ClearScreen, Dedent, Indent, Insert, Kill, Move, Noop, ReplaceChar, Replace, SelfInsert, Suspend, ViYankTo, Yank, YankPop}
 
 pub record Standing : Type 0 where
-  -- the next kill begins a new slot of the ring
+  -- the ring is reset before it: a run of kills ends, and a yank can't be popped any more
   pub resets_ring : Bool
   -- it changes the text, and can be made anew
   pub is_change : Bool

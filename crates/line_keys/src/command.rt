@@ -167,7 +167,8 @@ impl Cmd {
         Ok(copy)
     }
 
-    /// Whether a kill after this command begins a new slot of the kill ring.
+    /// Whether the kill ring is reset before this command: a run of kills ends, and a yanked text
+    /// can't be exchanged any more.
     pub const fn should_reset_kill_ring(&self) -> bool
         ensures { result ≡ (standing self.now).resets_ring }
     {
@@ -202,7 +203,7 @@ impl Cmd {
         )
     }
 
-    /// Whether the command takes a count when it is made anew.
+    /// Whether the command can be made anew: a move, or a change that Vi's `.` makes anew.
     pub const fn is_repeatable(&self) -> bool
         ensures { result ≡ (standing self.now).repeats }
     {

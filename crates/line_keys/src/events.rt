@@ -43,6 +43,7 @@ impl Keys {
         Keys::try_from_slice(alloc, self.as_slice())
     }
 
+    /// The keys, lent.
     pub fn as_slice(&self) -> &[KeyEvent]
         ensures { result.now ≡ self.now }
     {

@@ -85,12 +85,14 @@ impl Modifiers {
         self.0 & other.0 == other.0
     }
 
+    /// Adds all of `other`.
     pub fn insert(&mut self, other: Modifiers)
         ensures { self.new.0 ≡ bit_or self.old.0 other.0 }
     {
         self.0 |= other.0;
     }
 
+    /// Takes all of `other` out.
     pub fn remove(&mut self, other: Modifiers)
         ensures { self.new.0 ≡ without 8 self.old.0 other.0 }
     {

@@ -39,6 +39,7 @@ impl<'r> EventContext<'r> {
         }
     }
 
+    /// The keymap.
     pub fn mode(&self) -> EditMode
         ensures { result ≡ self.now.mode }
     {
@@ -66,6 +67,7 @@ impl<'r> EventContext<'r> {
         self.hint_text
     }
 
+    /// The line's text.
     pub fn line(&self) -> &str
         ensures { result.now ≡ self.now.line.now }
     {

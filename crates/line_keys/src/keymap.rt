@@ -58,6 +58,7 @@ impl<'b, D: Decides> InputState<'b, D> {
         })
     }
 
+    /// Whether the keymap is Emacs's.
     pub fn is_emacs_mode(&self) -> bool
         ensures { result ≡ is_emacs self.now.mode }
     {

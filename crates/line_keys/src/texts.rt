@@ -39,6 +39,7 @@ impl Text {
         Text::try_from_str(alloc, self.as_str())
     }
 
+    /// The text, lent.
     pub fn as_str(&self) -> &str
         ensures { result.now ≡ self.now }
     {

@@ -1,4 +1,4 @@
-//! Tests of the libraries below the editor, each in a module of its own: texts, the undo record and the kill ring,
+//! Tests of the four lowest libraries, each in a module of its own: texts, the undo record and the kill ring,
 //! settings and devices, keys and the commands that they give.
 #![tactic(auto)]
 

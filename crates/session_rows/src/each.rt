@@ -36,14 +36,17 @@ fn turns_of(alloc: Global, words: &str) -> Result<String, AllocError> {
     Ok(turns)
 }
 
-/// What a session over a reader leaves, of the keys of a row.
-fn left_of_reads(alloc: Global, setting: &Setting<'_>, keys: &str) -> Result<Left, ReadlineError> {
-    let keys = typed(alloc, keys)?;
-    let turns = turns_of(alloc, setting.reads)?;
+/// What a session over a reader with these keys and turns leaves.
+fn left_of_reads(
+    alloc: Global,
+    setting: &Setting<'_>,
+    keys: &[u8],
+    turns: &str,
+) -> Result<Left, ReadlineError> {
     let calls = Cell::new(0);
     let reader = Pieces {
-        bytes: &keys,
-        turns: Turns::new(turns.as_str(), &calls),
+        bytes: keys,
+        turns: Turns::new(turns, &calls),
     };
     left_of(alloc, setting, ReadSource::new(reader))
 }
@@ -54,14 +57,17 @@ fn tell_row(
     keys: &str,
     said: &mut String,
 ) -> Result<(), AllocError> {
-    match left_of_reads(alloc, setting, keys) {
+    let keys = typed(alloc, keys)?;
+    let turns = turns_of(alloc, setting.reads)?;
+    match left_of_reads(alloc, setting, &keys, turns.as_str()) {
         Ok(left) => tell_left(said, &left),
         Err(why) => write!(said, "unopened {why:?}\n"),
     }
 }
 
 /// Tells of each session of rows with these settings, in a line each: its ending, and after points in hexadecimal its lines,
-/// the text of its history and the bytes of its display; or why it wasn't opened.
+/// the text of its history and the bytes of its display; or why it wasn't opened. Memory that is wanting for a row's keys,
+/// or for what is told, is no session's refusal, but the call's own.
 pub fn told_of_each(alloc: Global, settings: &str, rows: &str) -> Result<String, AllocError> {
     let setting = setting_of(settings);
     let mut said = String::new(alloc);

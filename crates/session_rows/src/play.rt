@@ -158,22 +158,16 @@ pub fn ended<S: Source + Drop, D: Sink + Drop, L: Sink + Drop, T: Sink + Drop>(
     handed_back(alloc, setting, source, display, lines, text, &mut handed)
 }
 
-/// The lines that a session left, by what its sink of lines holds: where they are handed back these are the same, but for
-/// one that the sink tore.
-fn lines_left(
-    alloc: Global,
-    setting: &Setting<'_>,
-    ending: Ending,
-    held: &[u8],
-    handed: &[u8],
-) -> Result<Vec<u8>, AllocError> {
-    let mut lines = Vec::from_slice(alloc, held)?;
-    let torn = ending == Ending::Lines && held.starts_with(handed);
-    if setting.asking == Asking::ReadLine && !torn && held != handed {
-        lines.extend_from_slice(b" handed back: ")?;
-        lines.extend_from_slice(handed)?;
+/// Tells of the lines that were handed back too, where they aren't those that the sink of lines holds, but for one that it
+/// tore. Where they are, and of a session that was run, no memory is taken.
+fn tell_handed(setting: &Setting<'_>, left: &mut Left, handed: &[u8]) -> Result<(), AllocError> {
+    let torn = left.ending == Ending::Lines && left.lines.as_slice().starts_with(handed);
+    let same = left.lines.as_slice() == handed;
+    if setting.asking == Asking::Run || torn || same {
+        return Ok(());
     }
-    Ok(lines)
+    left.lines.extend_from_slice(b" handed back: ")?;
+    left.lines.extend_from_slice(handed)
 }
 
 /// What a session left in sinks that fail.
@@ -192,15 +186,18 @@ fn left_in_trays<S: Source + Drop>(
     );
     let mut handed = Vec::new(alloc);
     let end = handed_back(alloc, setting, source, display, lines, text, &mut handed)?;
-    Ok(Left {
+    let mut left = Left {
         ending: end.ending,
-        lines: lines_left(alloc, setting, end.ending, end.lines.bytes(), &handed)?,
+        lines: Vec::from_slice(alloc, end.lines.bytes())?,
         saved: Vec::from_slice(alloc, end.text.bytes())?,
         shown: Vec::from_slice(alloc, end.display.bytes())?,
-    })
+    };
+    tell_handed(setting, &mut left, &handed)?;
+    Ok(left)
 }
 
-/// What a session over a source of keys left.
+/// What a session over a source of keys left. Over sinks that don't fail nothing of it is copied: of a session that is run,
+/// memory can be wanting before a key is read, and not after that.
 pub fn left_of<S: Source + Drop>(
     alloc: Global,
     setting: &Setting<'_>,
@@ -219,12 +216,14 @@ pub fn left_of<S: Source + Drop>(
     );
     let mut handed = Vec::new(alloc);
     let end = handed_back(alloc, setting, source, display, lines, text, &mut handed)?;
-    Ok(Left {
+    let mut left = Left {
         ending: end.ending,
-        lines: lines_left(alloc, setting, end.ending, end.lines.bytes(), &handed)?,
+        lines: end.lines.into_bytes(),
         saved: end.text.into_bytes(),
         shown: end.display.into_bytes(),
-    })
+    };
+    tell_handed(setting, &mut left, &handed)?;
+    Ok(left)
 }
 
 /// What was left, in words.

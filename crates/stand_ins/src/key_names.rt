@@ -35,13 +35,14 @@ const HELD: [(&str, Modifiers); 3] = [
     ("S-", Modifiers::SHIFT),
 ];
 
+// The name in the table. One that isn't there shows: an empty one would pass where a row wants nothing.
 fn name_of(code: KeyCode) -> &'static str {
     for (name, named) in &NAMED {
         if *named == code {
             return name;
         }
     }
-    ""
+    "no name"
 }
 
 // A character, or the name of a key.

@@ -51,11 +51,11 @@ pub fn tell_call<R: RawReader>(
     said: &mut String,
 ) -> Result<(), ReadlineError> {
     let single = call.ends_with('+');
-    match call.trim_end_matches('+') {
+    match call {
         "char" => tell_char(reader, said),
         "paste" => tell_paste(alloc, reader, said),
-        "wait" => tell_wait(reader, single, said),
-        "key" => tell_key(reader, single, said),
+        "wait" | "wait+" => tell_wait(reader, single, said),
+        "key" | "key+" => tell_key(reader, single, said),
         _ => raised(said.push_str("no such call")),
     }
 }

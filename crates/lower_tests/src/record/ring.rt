@@ -1,5 +1,6 @@
 //! The kill ring. A row is a call and, where it answers, what it answers.
 
+use crate::record::undo::edited;
 use line_buffer::{DeleteListener, Direction, Mode, OutOfMemory};
 use line_record::KillRing;
 use stand_ins::rows::{Player, raised, rows_hold};
@@ -20,17 +21,23 @@ fn popped(alloc: Global, popped: Option<(usize, &str)>) -> Result<String, AllocE
     }
 }
 
-/// Makes a call that answers nothing.
-fn done(alloc: Global, ring: &mut KillRing, call: &str, text: &str) -> Result<(), OutOfMemory> {
-    match call {
+/// Makes a call that answers nothing, if it is one.
+fn done(
+    alloc: Global,
+    ring: &mut KillRing,
+    call: &str,
+    text: &str,
+) -> Option<Result<(), OutOfMemory>> {
+    Some(match call {
         "kill" => ring.kill(alloc, text, Mode::Append),
         "kill_before" => ring.kill(alloc, text, Mode::Prepend),
         "delete" => ring.delete(alloc, 0, text, Direction::Forward),
         "delete_before" => ring.delete(alloc, 0, text, Direction::Backward),
         "start_killing" => Ok(ring.start_killing()),
         "stop_killing" => Ok(ring.stop_killing()),
-        _ => Ok(ring.reset()),
-    }
+        "reset" => Ok(ring.reset()),
+        _ => return None,
+    })
 }
 
 /// Makes a call, and answers what it answers.
@@ -38,10 +45,7 @@ fn made(alloc: Global, ring: &mut KillRing, call: &str, text: &str) -> Result<St
     match call {
         "yank" => raised(yanked(alloc, ring.yank())),
         "yank_pop" => raised(popped(alloc, ring.yank_pop())),
-        _ => {
-            done(alloc, ring, call, text)?;
-            Ok(String::new(alloc))
-        }
+        _ => edited(alloc, call, done(alloc, ring, call, text)),
     }
 }
 

@@ -89,14 +89,14 @@ impl Desk {
         self.changes.redo(self.alloc, &mut self.line)
     }
 
-    /// Makes a call that answers nothing, if it is one.
-    fn edit(&mut self, call: &str, text: &str, n: u16) -> Option<Result<(), OutOfMemory>> {
-        match call {
-            "put" => Some(self.put(text)),
-            "paste" => Some(self.paste(text)),
-            "backspace" => Some(self.backspace(n)),
-            "delete" => Some(self.delete(n)),
-            "upcase" => Some(self.upcase()),
+    /// Makes a call that answers nothing, if it is one and has the number that it takes.
+    fn edit(&mut self, call: &str, text: &str, n: Option<u16>) -> Option<Result<(), OutOfMemory>> {
+        match (call, n) {
+            ("put", _) => Some(self.put(text)),
+            ("paste", _) => Some(self.paste(text)),
+            ("backspace", Some(n)) => Some(self.backspace(n)),
+            ("delete", Some(n)) => Some(self.delete(n)),
+            ("upcase", _) => Some(self.upcase()),
             _ => self.go(call),
         }
     }
@@ -114,13 +114,13 @@ impl Desk {
 
     /// Makes a call, and answers what it answers.
     fn ask(&mut self, call: &str, text: &str) -> Result<String, Fail> {
-        let n = text.parse().unwrap_or(0);
-        let answer = match call {
-            "begin" => return raised(told(self.alloc, self.begin())),
-            "end" => self.end(),
-            "undo" => self.undo(n),
-            "redo" => self.redo(),
-            _ => return edited(self.alloc, self.edit(call, text, n)),
+        let n: Option<u16> = text.parse().ok();
+        let answer = match (call, n) {
+            ("begin", _) => return raised(told(self.alloc, self.begin())),
+            ("end", _) => self.end(),
+            ("undo", Some(n)) => self.undo(n),
+            ("redo", _) => self.redo(),
+            _ => return edited(self.alloc, call, self.edit(call, text, n)),
         };
         raised(told(self.alloc, answer))
     }
@@ -142,12 +142,16 @@ fn told<D: Display + Drop>(
     raised(format!(in alloc; "{answer} "))
 }
 
-/// What a call answers that answers nothing.
-fn edited(alloc: Global, edited: Option<Result<(), OutOfMemory>>) -> Result<String, Fail> {
+/// What a call answers that answers nothing; a word that is no call is refused.
+pub(crate) fn edited(
+    alloc: Global,
+    call: &str,
+    edited: Option<Result<(), OutOfMemory>>,
+) -> Result<String, Fail> {
     match edited {
         Some(Ok(())) => Ok(String::new(alloc)),
         Some(Err(why)) => Err(Fail::from(why)),
-        None => Err(Fail::new("no such call")),
+        None => Err(Fail::new(format_args!("no call, or no number for it: {call}"))),
     }
 }
 
