@@ -201,6 +201,15 @@ module _ {S H D L K T : Type 0} (k : Known S D L) (helps : Option H → Helping)
       told = runs.told;
       falls = line_falls runs (closes.goes left);
       passes = λ t none. passes (line_passes runs t none);
+      ends = record {
+        drawn = ran.out;
+        layout = runs.layout;
+        outcome = outcome_of ran;
+        value = runs.value;
+        input = runs.input;
+        goes = λ t n b. runs.goes t n b;
+        closes = closes;
+      };
       reason = if_err result (closes.reason left);
     }
       where

@@ -1,13 +1,21 @@
 -- What goes on from line to line, with its devices, and what a line makes of it.
 use Rattle.std.specs.Prelude.{◌≡◌, ℕ, ◌<◌, List, Result, IsTrue, IfErr, OnOk}
+use Rattle.line_buffer.specs.declared.layout.Layout.{Layout}
+use Rattle.line_config.specs.Scripts.{Goes}
 use Rattle.line_config.specs.declared.errors.ReadlineError.{ReadlineError}
+use Rattle.line_editor.specs.LineScripts.{kept, line_script, line_stage, line_world}
+use Rattle.line_editor.specs.Running.{stage_first}
+use Rattle.line_editor.specs.Steps.{surface}
+use Rattle.line_editor.specs.Values.{Value}
 use Rattle.line_keys.specs.Feeds.{KeyFeed}
-use Rattle.line_screen.specs.Calls.{sink_of}
+use Rattle.line_keys.specs.Phrases.{Input}
+use Rattle.line_screen.specs.Calls.{canvas_of, ruler_of, sink_of}
 use Rattle.line_screen.specs.Reader.{items_of, source_of}
+use Rattle.line_screen.specs.declared.renderer.ScreenRenderer.{ScreenRenderer}
 use Rattle.keyline.specs.Known.{Known, HasPassedOn}
-use Rattle.keyline.specs.Playing.{Work, ComesTo, SessionReason, Reads, work}
+use Rattle.keyline.specs.Playing.{Closes, Work, ComesTo, SessionReason, Reads, work}
 use Rattle.keyline.specs.SessionScripts.{one_line}
-use Rattle.keyline.specs.Sessions.{Given, LineGiven, SessionState}
+use Rattle.keyline.specs.Sessions.{Given, LineGiven, SessionState, setting_in}
 use Rattle.keyline.specs.declared.desk.Desk.{Desk}
 
 module _ {S H D L : Type 0} (k : Known S D L) where
@@ -25,6 +33,25 @@ module _ {S H D L : Type 0} (k : Known S D L) where
   DeskReason g d e = SessionReason g (k.feed (source_of d.reader)).failed
       (k.show_failed (sink_of d.out)) (k.write_failed d.lines) e
 
+  -- what a line came to before its end was drawn, kept and written, and what its end made of that:
+  -- the ring is the one that the line left, whatever refused its end
+  pub record EndsLine (g : Given) (old new : Desk S H D L) (result : Result (List ℕ) ReadlineError)
+      : Type 0 where
+    pub drawn : ScreenRenderer D
+    pub layout : Layout
+    pub outcome : Result (List ℕ) ReadlineError
+    pub value : Value
+    pub input : Input
+    pub goes : IsTrue (desk_feed new).told → (n : ℕ) → (desk_feed old).bound < n →
+        let ruler = ruler_of g.screen in let setting = setting_in g old.history.kept.entries in
+        Goes (line_world (canvas_of k.shown k.waits k.show_failed) ruler setting
+        g.config.indent_size) (line_script n g.custom)
+        (stage_first old.out ruler setting g.config old.ring (desk_feed old).coming) outcome
+        (line_stage (surface drawn layout) (kept value input new.ring (desk_feed new).coming))
+    pub closes : Closes k.shown k.show_failed k.written_in k.write_failed
+        g.config.auto_add_history outcome (work (sink_of drawn) old.lines old.history)
+        (work (sink_of new.out) new.lines new.history) result
+
   -- THE relation of a line: it comes to its outcome and what goes on, or to a fault
   pub record TakesLine (g g' : Given) (old new : Desk S H D L)
       (result : Result (List ℕ) ReadlineError) : Type 0 where
@@ -38,6 +65,7 @@ module _ {S H D L : Type 0} (k : Known S D L) where
     pub falls : OnOk result ((desk_feed new).bound < (desk_feed old).bound)
     pub passes : IsTrue (desk_feed new).told → HasPassedOn k (sink_of old.out)
         → HasPassedOn k (sink_of new.out)
+    pub ends : EndsLine g old new result
     pub reason : IfErr result (DeskReason g new)
 
   -- THE relation of lines until one is refused, with what is handed in for each
