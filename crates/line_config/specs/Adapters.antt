@@ -2,7 +2,7 @@
 -- std's ghost members of these.
 use Rattle.std.specs.Prelude.{◌≡◌, ℕ, ◌+◌, ◌-◌, ◌^◌, List, [], ◌++◌, length, option_to_list, Option, Some, None, Bool, Result, Ok, Err, unwrap_or}
 use Rattle.std.specs.Io.KnownBytes.{Consumes, IsAtEnd}
-use Rattle.line_config.specs.Buffer.{bytes_in}
+use Rattle.line_config.specs.Buffer.{bytes_in, room_in}
 use Rattle.line_config.specs.Feed.{Feed}
 use Rattle.line_config.specs.Foretold.{left_of, agrees}
 use Rattle.line_config.specs.Recorded.{took, inner_of}
@@ -81,6 +81,10 @@ sent_of s = took s.writer
 -- what was taken and is not sent yet
 abbrev pub unsent_of : {W : Type 0} → WriteSink W → List ℕ
 unsent_of s = bytes_in s.unsent
+
+-- for how many bytes more there is room before any are sent
+abbrev pub room_of : {W : Type 0} → WriteSink W → ℕ
+room_of s = room_in s.unsent
 
 -- all that it took
 abbrev pub taken : {W : Type 0} → WriteSink W → List ℕ

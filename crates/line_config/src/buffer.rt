@@ -89,8 +89,8 @@ impl<const N: usize> Buffer<N> {
     /// Takes as many of the bytes as there is room for after those that it holds.
     pub(crate) fn append(&mut self, bytes: &[u8]) -> usize
         ensures bytes { bytes_in self.new ≡ bytes_in self.old ++ take result bytes.now }
-        ensures bound { result ≤ length bytes.now }
-        ensures some { 0 < room_in self.old → 0 < length bytes.now → 0 < result }
+        ensures count { result ≡ min (length bytes.now) (room_in self.old) }
+        ensures room { room_in self.new ≡ room_in self.old - result }
     {
         let end = self.end;
         let count = bytes.len().min(N - end);
