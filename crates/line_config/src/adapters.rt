@@ -1,5 +1,5 @@
 //! Devices over std's readers and writers, each with a fixed array.
-ghost use Rattle.std.specs.Prelude.{◌≡◌, ◌++◌, ◌+◌, ◌^◌, ◌≤◌, ◌<◌, [], false, length, take, is_err, is_some, IsErr, IsTrue, Ok, Some, None, IfOk, OnOk, OnErr};
+ghost use Rattle.std.specs.Prelude.{◌≡◌, ◌++◌, ◌+◌, ◌^◌, ◌≤◌, ◌<◌, [], false, length, take, drop, is_err, is_some, IsErr, IsTrue, Ok, Some, None, IfOk, OnOk, OnErr};
 ghost use Rattle.std.specs.Io.KnownBytes.{Appends};
 ghost use Rattle.line_config.specs.Sending.{AppendsSome, Takes};
 ghost use Rattle.line_config.specs.Buffer.{bytes_in};
@@ -127,7 +127,7 @@ impl<R: Read, K: Foretold> ReadSource<R, K> {
 }
 
 impl<R: Read, K: Foretold> Source for ReadSource<R, K> {
-    ghost use Rattle.line_config.specs.Adapters.{Asks, given_by, met, source_feed, unread_of};
+    ghost use Rattle.line_config.specs.Adapters.{Asks, gave, given_by, met, reader_of, source_feed, unread_of};
 
     ghost feed = { λ s. source_feed K.bytes K.last s };
 
@@ -165,7 +165,12 @@ impl<R: Read, K: Foretold> Source for ReadSource<R, K> {
         requires { amount ≤ length (unread_of self.old) }
         ensures bytes { GivesBytes (source_feed K.bytes K.last self.old)
             (source_feed K.bytes K.last self.new) (take amount (unread_of self.old)) }
-        ensures reader { Asks R.remaining (take amount (unread_of self.old)) self.old self.new }
+
+        // No read is made.
+        ensures unread { unread_of self.new ≡ drop amount (unread_of self.old) }
+        ensures gave { gave self.new ≡ gave self.old }
+        ensures met { met self.new ≡ met self.old }
+        ensures reader { reader_of self.new ≡ reader_of self.old }
     {
         self.unread.consume(amount);
     }
