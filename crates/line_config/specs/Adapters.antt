@@ -1,8 +1,8 @@
 -- What a clause reads of the devices over std's readers and writers. `remaining` and `contents` are
 -- std's ghost members of these.
-use Rattle.std.specs.Prelude.{◌≡◌, ℕ, ◌+◌, ◌-◌, ◌^◌, List, [], ◌++◌, length, option_to_list, Option, Some, None, Bool, Result, Ok, Err, unwrap_or}
+use Rattle.std.specs.Prelude.{◌≡◌, ℕ, ◌+◌, ◌-◌, ◌^◌, ◌<◌, List, [], ◌++◌, length, option_to_list, Option, Some, None, Bool, Result, Ok, Err, unwrap_or}
 use Rattle.std.specs.Io.KnownBytes.{Consumes, IsAtEnd}
-use Rattle.line_config.specs.Buffer.{bytes_in}
+use Rattle.line_config.specs.Buffer.{bytes_in, piece_in, room_in}
 use Rattle.line_config.specs.Feed.{Feed}
 use Rattle.line_config.specs.Foretold.{left_of, agrees}
 use Rattle.line_config.specs.Recorded.{took, inner_of}
@@ -19,6 +19,10 @@ reader_of s = s.reader
 -- what was read and is not given yet
 abbrev pub unread_of : {R K : Type 0} → ReadSource R K → List ℕ
 unread_of s = bytes_in s.unread
+
+-- what its last read gave
+abbrev pub piece_of : {R K : Type 0} → ReadSource R K → List ℕ
+piece_of s = piece_in s.unread
 
 -- what its reads gave
 abbrev pub gave : {R K : Type 0} → ReadSource R K → List ℕ
@@ -55,14 +59,17 @@ given_by (Ok byte) = option_to_list byte
 given_by (Err e) = []
 
 -- a source gave these bytes, from the front of what its reads gave: what is noted more is what the
--- reader gave more, where that one tells its bytes, and nothing was left of them at the end. After
--- the end or a failure the reader isn't asked.
+-- reader gave more, where that one tells its bytes, and nothing was left of them at the end. While
+-- something is unread the reader isn't asked, nor after the end or a failure; what it gives else is
+-- one piece.
 pub record Asks {R K : Type 0} (remaining : R → Option (List ℕ)) (bytes : List ℕ)
     (old new : ReadSource R K) : Type 0 where
   pub more : List ℕ
   pub noted : gave new ≡ gave old ++ more
   pub passed : unread_of old ++ more ≡ bytes ++ unread_of new
   pub reader : Consumes (remaining (reader_of old)) (remaining (reader_of new)) more
+  pub lazy : 0 < length (unread_of old) → (more ≡ []) × (reader_of new ≡ reader_of old)
+  pub once : 0 < length more → more ≡ piece_of new
   pub end : met old ≡ None → met new ≡ Some End → IsAtEnd (remaining (reader_of new))
   pub stays : (last : Last) → met old ≡ Some last
       → (met new ≡ Some last) × (reader_of new ≡ reader_of old)
@@ -81,6 +88,10 @@ sent_of s = took s.writer
 -- what was taken and is not sent yet
 abbrev pub unsent_of : {W : Type 0} → WriteSink W → List ℕ
 unsent_of s = bytes_in s.unsent
+
+-- for how many bytes more there is room before any are sent
+abbrev pub room_of : {W : Type 0} → WriteSink W → ℕ
+room_of s = room_in s.unsent
 
 -- all that it took
 abbrev pub taken : {W : Type 0} → WriteSink W → List ℕ

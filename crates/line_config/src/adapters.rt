@@ -1,5 +1,5 @@
 //! Devices over std's readers and writers, each with a fixed array.
-ghost use Rattle.std.specs.Prelude.{◌≡◌, ◌++◌, ◌^◌, ◌≤◌, ◌<◌, [], false, length, take, is_err, is_some, IsErr, IsTrue, Ok, Some, None, IfOk, OnOk, OnErr};
+ghost use Rattle.std.specs.Prelude.{◌≡◌, ◌++◌, ◌+◌, ◌^◌, ◌≤◌, ◌<◌, [], false, length, take, drop, is_err, is_some, IsErr, IsTrue, Ok, Some, None, IfOk, OnOk, OnErr};
 ghost use Rattle.std.specs.Io.KnownBytes.{Appends};
 ghost use Rattle.line_config.specs.Sending.{AppendsSome, Takes};
 ghost use Rattle.line_config.specs.Buffer.{bytes_in};
@@ -127,7 +127,7 @@ impl<R: Read, K: Foretold> ReadSource<R, K> {
 }
 
 impl<R: Read, K: Foretold> Source for ReadSource<R, K> {
-    ghost use Rattle.line_config.specs.Adapters.{Asks, given_by, met, source_feed, unread_of};
+    ghost use Rattle.line_config.specs.Adapters.{Asks, gave, given_by, met, reader_of, source_feed, unread_of};
 
     ghost feed = { λ s. source_feed K.bytes K.last s };
 
@@ -165,7 +165,12 @@ impl<R: Read, K: Foretold> Source for ReadSource<R, K> {
         requires { amount ≤ length (unread_of self.old) }
         ensures bytes { GivesBytes (source_feed K.bytes K.last self.old)
             (source_feed K.bytes K.last self.new) (take amount (unread_of self.old)) }
-        ensures reader { Asks R.remaining (take amount (unread_of self.old)) self.old self.new }
+
+        // No read is made.
+        ensures unread { unread_of self.new ≡ drop amount (unread_of self.old) }
+        ensures gave { gave self.new ≡ gave self.old }
+        ensures met { met self.new ≡ met self.old }
+        ensures reader { reader_of self.new ≡ reader_of self.old }
     {
         self.unread.consume(amount);
     }
@@ -189,7 +194,7 @@ pub struct WriteSink<W> {
 }
 
 impl<W: Write> WriteSink<W> {
-    ghost use Rattle.line_config.specs.Adapters.{IsUnused, recorded_of, writer_of, unsent_of, taken};
+    ghost use Rattle.line_config.specs.Adapters.{IsUnused, recorded_of, writer_of, unsent_of, room_of, taken};
 
     /// A sink that sends to the writer.
     pub fn new(writer: W) -> Self
@@ -211,13 +216,17 @@ impl<W: Write> WriteSink<W> {
         (self.writer.into_inner(), self.unsent)
     }
 
-    // Puts as many of the bytes after those that wait as there is room for, which is made first.
+    // Puts as many of the bytes after those that wait as there is room for. Where there is none, it
+    // is made first.
     fn gather(&mut self, bytes: &[u8]) -> Result<usize, DeviceFailed>
         ensures ok { IfOk result (λ n. Takes taken self.old self.new (take n bytes.now)) }
         ensures err { OnErr result (taken self.new ≡ taken self.old) }
         ensures writer { Notes W.contents (recorded_of self.old) (recorded_of self.new) }
         ensures bound { IfOk result (λ n. n ≤ length bytes.now) }
         ensures some { IfOk result (λ n. 0 < length bytes.now → 0 < n) }
+        ensures room { IfOk result (λ n. room_of self.old ≤ room_of self.new + n) }
+        ensures refused { OnErr result (room_of self.old ≡ 0) }
+        ensures waiting { 0 < room_of self.old → recorded_of self.new ≡ recorded_of self.old }
     {
         if self.unsent.is_full() {
             self.unsent.send_to(&mut self.writer)?;
@@ -229,6 +238,9 @@ impl<W: Write> WriteSink<W> {
         ensures ok { OnOk result (Takes taken self.old self.new bytes.now) }
         ensures begins { AppendsSome (taken self.old) bytes.now (taken self.new) }
         ensures writer { Notes W.contents (recorded_of self.old) (recorded_of self.new) }
+        ensures refused { OnErr result (room_of self.old < length bytes.now) }
+        ensures waiting { length bytes.now ≤ room_of self.old
+            → recorded_of self.new ≡ recorded_of self.old }
     {
         let mut rest = bytes;
         while !rest.is_empty() {
@@ -251,7 +263,7 @@ impl<W: Write> WriteSink<W> {
 }
 
 impl<W: Write> Sink for WriteSink<W> {
-    ghost use Rattle.line_config.specs.Adapters.{recorded_of, writer_of, sent_of, unsent_of, taken};
+    ghost use Rattle.line_config.specs.Adapters.{recorded_of, writer_of, sent_of, unsent_of, room_of, taken};
 
     ghost held = { taken };
 
@@ -267,6 +279,12 @@ impl<W: Write> Sink for WriteSink<W> {
 
         // Where the writer tells its bytes, it has taken what its writes are said to have taken.
         ensures writer { Notes W.contents (recorded_of self.old) (recorded_of self.new) }
+
+        // Bytes for which the array has room wait: the writer isn't asked, so nothing can fail.
+        ensures refused { OnErr result (self.old.failed ≡ false
+            → room_of self.old < length bytes.now) }
+        ensures waiting { length bytes.now ≤ room_of self.old
+            → recorded_of self.new ≡ recorded_of self.old }
     {
         if self.failed {
             return Err(DeviceFailed);

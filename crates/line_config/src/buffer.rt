@@ -19,7 +19,7 @@ pub struct Buffer<const N: usize> {
 }
 
 impl<const N: usize> Buffer<N> {
-    ghost use Rattle.line_config.specs.Buffer.{bytes_in, room_in};
+    ghost use Rattle.line_config.specs.Buffer.{bytes_in, piece_in, room_in};
 
     pub(crate) fn new() -> Self
         ensures empty { bytes_in result ≡ [] }
@@ -57,6 +57,7 @@ impl<const N: usize> Buffer<N> {
     pub(crate) fn next_byte(&mut self) -> Option<u8>
         ensures byte { bytes_in self.old ≡ option_to_list result ++ bytes_in self.new }
         ensures none { IsNone result ↔ (bytes_in self.old ≡ []) }
+        ensures piece { piece_in self.new ≡ piece_in self.old }
     {
         let first = *self.as_slice().first()?;
         self.start += 1;
@@ -79,6 +80,7 @@ impl<const N: usize> Buffer<N> {
         ensures end { OnOk result
             (bytes_in self.new ≡ [] → 0 < N → IsAtEnd (R.remaining reader.new)) }
         ensures err { OnErr result (bytes_in self.new ≡ []) }
+        ensures piece { piece_in self.new ≡ bytes_in self.new }
     {
         self.start = 0;
         self.end = 0;
@@ -89,8 +91,8 @@ impl<const N: usize> Buffer<N> {
     /// Takes as many of the bytes as there is room for after those that it holds.
     pub(crate) fn append(&mut self, bytes: &[u8]) -> usize
         ensures bytes { bytes_in self.new ≡ bytes_in self.old ++ take result bytes.now }
-        ensures bound { result ≤ length bytes.now }
-        ensures some { 0 < room_in self.old → 0 < length bytes.now → 0 < result }
+        ensures count { result ≡ min (length bytes.now) (room_in self.old) }
+        ensures room { room_in self.new ≡ room_in self.old - result }
     {
         let end = self.end;
         let count = bytes.len().min(N - end);

@@ -193,6 +193,10 @@ impl Configurer for Builder {
 
     ghost settings_as_set = { λ _ _. refl };
 
+    ghost own_settings = { λ _. refl };
+
+    ghost later_settings = { λ _ _ _. refl };
+
     fn config_mut(&mut self) -> &mut Config {
         &mut self.config
     }

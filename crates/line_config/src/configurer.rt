@@ -187,6 +187,12 @@ pub trait Configurer {
     // Settings read back as they were set.
     ghost settings_as_set: { (holder : Self) (config : Config)
         → settings (with_settings holder config) ≡ config };
+
+    // With its own settings it is as it was, and nothing else of it depends on those set before.
+    ghost own_settings: { (holder : Self) → with_settings holder (settings holder) ≡ holder };
+
+    ghost later_settings: { (holder : Self) (before config : Config)
+        → with_settings (with_settings holder before) config ≡ with_settings holder config };
 }
 
 impl Configurer for Config {
@@ -195,6 +201,10 @@ impl Configurer for Config {
     ghost with_settings = { λ _ config. config };
 
     ghost settings_as_set = { λ _ _. refl };
+
+    ghost own_settings = { λ _. refl };
+
+    ghost later_settings = { λ _ _ _. refl };
 
     fn config_mut(&mut self) -> &mut Config {
         self
