@@ -1,12 +1,12 @@
 -- Words of a text, one a row.
-use Rattle.std.specs.Prelude.{◌≡◌, true, false, if◌then◌else◌, List, ℕ, map, Result, IfOk, IfErr, String, string_bytes}
+use Rattle.std.specs.Prelude.{◌≡◌, ◌≢◌, true, false, if◌then◌else◌, List, ℕ, map, Result, Err, IfOk, IfErr, String, string_bytes}
 use Rattle.std.specs.Str.{is_utf8}
 use Rattle.std.specs.Global.{Global, Vec}
 use Rattle.line_config.specs.Feed.{Feed}
 use Rattle.line_config.specs.declared.device.Last.TheVariants.{End, Failed}
 use Rattle.line_config.specs.declared.errors.ReadlineError.{ReadlineError}
 use Rattle.line_config.specs.declared.errors.ReadlineError.TheVariants.{Memory, NotUtf8, Reader}
-use Rattle.line_help.specs.HistoryText.{ReadsGood, entries_of, has_bad_row, text_rows}
+use Rattle.line_help.specs.HistoryText.{ReadsGood, entries_of, has_bad_row, left_by_load, text_rows}
 
 -- why a row gives no word: it isn't UTF-8, or else memory is wanting
 abbrev pub word_fault : List ℕ → ReadlineError
@@ -17,15 +17,17 @@ rows_to_come text = text_rows text.last text.coming
 
 -- why a text of which this is left gives no words
 abbrev pub IsWordFault : Feed → Feed → ReadlineError → Type 0
-IsWordFault text left NotUtf8 = has_bad_row (rows_to_come text) ≡ true
-IsWordFault text left Reader = text.last ≡ Failed
-IsWordFault text left Memory = ReadsGood text.coming left.coming
-IsWordFault text left why = ⊥
+IsWordFault text after NotUtf8 = has_bad_row (rows_to_come text) ≡ true
+IsWordFault text after Reader = (text.last ≡ Failed) × (has_bad_row (rows_to_come text) ≡ false)
+IsWordFault text after Memory = ReadsGood text.coming after.coming
+IsWordFault text after why = ⊥
 
--- the words of a text are its rows, cut as a history's are, but for empty ones
-pub record LoadsWords (text left : Feed) (result : Result (Vec (String Global)) ReadlineError)
+-- the words of a text are its rows, cut as a history's are, but for empty ones; what is left follows
+-- from the text, but for want of memory
+pub record LoadsWords (text after : Feed) (result : Result (Vec (String Global)) ReadlineError)
     : Type 0 where
   pub ends : IfOk result (λ words. text.last ≡ End)
   pub words : IfOk result (λ words. map string_bytes words.items
       ≡ entries_of false (rows_to_come text))
-  pub fault : IfErr result (IsWordFault text left)
+  pub fault : IfErr result (IsWordFault text after)
+  pub left : result ≢ Err Memory → after.coming ≡ left_by_load text.last text.coming

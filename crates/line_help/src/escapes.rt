@@ -1,5 +1,5 @@
 //! Escapes in a saved history: a newline stands as `\n`, a backslash as two.
-ghost use Rattle.std.specs.Prelude.{◌≡◌, ◌==◌, [], IfOk, option_map, unwrap_or, string_bytes};
+ghost use Rattle.std.specs.Prelude.{◌≡◌, ◌==◌, [], IfOk, OnOk, option_map, unwrap_or, string_bytes};
 ghost use Rattle.std.specs.List.{list_any};
 ghost use Rattle.line_help.specs.HistoryText.{escaped_byte, row_of, unescaped_row, entry_of, SendsText};
 
@@ -15,7 +15,8 @@ pub(crate) fn put<S: Sink>(sink: &mut S, bytes: &[u8]) -> Result<(), ReadlineErr
 
 /// Passes on what was written.
 pub(crate) fn pass_on<S: Sink>(sink: &mut S) -> Result<(), ReadlineError>
-    ensures { SendsText S.held S.has_failed [] sink.old sink.new result }
+    ensures sends { SendsText S.held S.has_failed [] sink.old sink.new result }
+    ensures passes { OnOk result (S.waits sink.new ≡ []) }
 {
     sink.flush().map_err(|_| ReadlineError::HistoryText)
 }

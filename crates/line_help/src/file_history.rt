@@ -70,13 +70,14 @@ impl FileHistory {
 
 // Saving.
 impl FileHistory {
-    ghost use Rattle.std.specs.Prelude.{drop};
+    ghost use Rattle.std.specs.Prelude.{◌≡◌, ◌<◌, [], OnOk, drop};
     ghost use Rattle.line_help.specs.HistoryText.{rows_text, text_to_save, text_to_append, SavesNew, SendsText};
 
     /// Writes the rows of the entries from the first one on, and passes on what was written.
     fn write_rows<S: Sink>(&self, sink: &mut S, first: usize) -> Result<(), ReadlineError>
-        ensures { SendsText S.held S.has_failed
+        ensures sends { SendsText S.held S.has_failed
             (rows_text (drop first self.now.kept.entries)) sink.old sink.new result }
+        ensures passes { OnOk result (S.waits sink.new ≡ []) }
     {
         for index in first..self.memory.len() {
             write_row(sink, self.memory[index].as_str())?;
@@ -84,11 +85,13 @@ impl FileHistory {
         pass_on(sink)
     }
 
-    /// Writes the whole text of the history, where an entry is new. Then none is new. Where the
-    /// sink fails the history stays as it is, and the sink has taken a beginning of the text.
+    /// Writes the whole text of the history, where an entry is new, and passes it on. Then none is
+    /// new. Where the sink fails the history stays as it is, and the sink has taken a beginning of
+    /// the text.
     pub fn save_to<S: Sink>(&mut self, sink: &mut S) -> Result<(), ReadlineError>
-        ensures { SavesNew S.held S.has_failed (text_to_save self.old) self.old self.new sink.old
-            sink.new result }
+        ensures saves { SavesNew S.held S.has_failed (text_to_save self.old) self.old self.new
+            sink.old sink.new result }
+        ensures passes { 0 < self.old.unsaved → OnOk result (S.waits sink.new ≡ []) }
     {
         if self.unsaved == 0 {
             return Ok(());
@@ -100,11 +103,12 @@ impl FileHistory {
     }
 
     /// Writes the rows of the new entries, where there are any, to go after a text that was saved
-    /// before. Then none is new. Where the sink fails the history stays as it is, and the sink has
-    /// taken a beginning of the rows.
+    /// before, and passes them on. Then none is new. Where the sink fails the history stays as it
+    /// is, and the sink has taken a beginning of the rows.
     pub fn append_to<S: Sink>(&mut self, sink: &mut S) -> Result<(), ReadlineError>
-        ensures { SavesNew S.held S.has_failed (text_to_append self.old) self.old self.new sink.old
-            sink.new result }
+        ensures saves { SavesNew S.held S.has_failed (text_to_append self.old) self.old self.new
+            sink.old sink.new result }
+        ensures passes { 0 < self.old.unsaved → OnOk result (S.waits sink.new ≡ []) }
     {
         let count = self.unsaved;
         if count == 0 {

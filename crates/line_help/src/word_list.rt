@@ -25,7 +25,7 @@ fn push_word(alloc: Global, words: &mut Vec<String>, row: &[u8]) -> Result<(), R
 
 /// The words of a text, one a row, in their order. Rows are cut as a history's are, and an empty
 /// one has no word. Refused where a row isn't UTF-8 (`NotUtf8`), the source fails (`Reader`) or
-/// memory is wanting.
+/// memory is wanting. What stands behind a row that isn't UTF-8 is still to come.
 pub fn load_words<S: Source>(alloc: Global, source: &mut S) -> Result<Vec<String>, ReadlineError>
     ensures { IsTrue (S.feed source.new).told
         → LoadsWords (S.feed source.old) (S.feed source.new) result }

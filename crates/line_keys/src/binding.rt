@@ -1,7 +1,6 @@
 //! Events and what is bound to them.
 
-ghost use Rattle.std.specs.Prelude.{◌≡◌, ◌↔◌, ◌++◌, List, IsTrue, IsSome, IfSome, OnOk, OnErr, MatchResult, [], option_copied, option_map, position};
-ghost use Rattle.line_config.specs.Refusals.{OrMemory};
+ghost use Rattle.std.specs.Prelude.{◌≡◌, ◌↔◌, ◌++◌, List, IsTrue, IsSome, IfOk, IfErr, IfSome, OnOk, OnErr, MatchResult, [], option_copied, option_map, position};
 ghost use Rattle.line_keys.specs.declared.key.KeyEvent.{KeyEvent};
 ghost use Rattle.line_keys.specs.declared.events.Event.{Event};
 ghost use Rattle.line_keys.specs.declared.events.Event.TheVariants.{KeySeq};
@@ -57,13 +56,15 @@ impl<H: Drop> EventMap<H> {
         self.entries.is_empty()
     }
 
-    /// Binds an event in its normal form, and gives back what it was bound to. Where that is
-    /// refused for want of memory, all stays as it is.
+    /// Binds an event in its normal form, and gives back what it was bound to. Only one that isn't
+    /// bound yet takes memory, and where that is refused all stays as it is.
     pub fn bind_sequence(&mut self, event: Event, handler: H) -> Result<Option<H>, ReadlineError>
-        ensures old { OrMemory result (λ old. old ≡ find (normal_event event) self.old) }
+        ensures old { IfOk result (λ old. old ≡ find (normal_event event) self.old) }
         ensures bound { let before = λ (o : Event). find o self.old in
             OnOk result ((e : Event)
             → find e self.new ≡ put_at (normal_event event) handler before e) }
+        ensures refused { IfErr result (λ e. (e ≡ ReadlineError.Memory)
+            × (find (normal_event event) self.old ≡ None)) }
         ensures kept { OnErr result (self.new ≡ self.old) }
     {
         bind_in(&mut self.entries, event.normalize(), handler)
@@ -139,9 +140,11 @@ fn bind_in<H: Drop>(
     event: Event,
     handler: H,
 ) -> Result<Option<H>, ReadlineError>
-    ensures old { OrMemory result (λ old. old ≡ find event entries.old.items) }
+    ensures old { IfOk result (λ old. old ≡ find event entries.old.items) }
     ensures bound { let before = λ (o : Event). find o entries.old.items in
         OnOk result ((e : Event) → find e entries.new.items ≡ put_at event handler before e) }
+    ensures refused { IfErr result (λ e. (e ≡ ReadlineError.Memory)
+        × (find event entries.old.items ≡ None)) }
     ensures kept { OnErr result (entries.new.items ≡ entries.old.items) }
     ensures map { IsNormal event → IsMap entries.old.items → IsMap entries.new.items }
 {

@@ -1,6 +1,6 @@
 use Rattle.std.proofs.Common.{◌≡◌, ◌++◌, IsTrue, map, false}
 use Rattle.std.specs.Prelude.{string_bytes}
-use Rattle.line_help.specs.HistoryText.{EndIsMet, GoodUpTo, entries_of, has_bad_row, text_rows}
+use Rattle.line_help.specs.HistoryText.{EndIsMet, GoodUpTo, entries_of, has_bad_row, left_by_load, text_rows}
 use Rattle.line_help.proofs.word_list.load_words.Given as goal
 
 abbrev pub invariant-loop-rows : goal.invariant-loop-rows
@@ -15,6 +15,9 @@ invariant-loop-rows g l = record {
   bad : IsTrue (g.S.Source.feed l.source).told
       → has_bad_row (text_rows (g.S.Source.feed l.fn.source).last (g.S.Source.feed l.source).coming)
       ≡ has_bad_row (text_rows (g.S.Source.feed l.fn.source).last (g.S.Source.feed l.fn.source).coming);
+  left : IsTrue (g.S.Source.feed l.source).told
+      → left_by_load (g.S.Source.feed l.fn.source).last (g.S.Source.feed l.source).coming
+      ≡ left_by_load (g.S.Source.feed l.fn.source).last (g.S.Source.feed l.fn.source).coming;
 }
 
 abbrev pub decreases-loop-rows : goal.decreases-loop-rows

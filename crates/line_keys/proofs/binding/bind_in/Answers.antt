@@ -1,4 +1,4 @@
-use Rattle.std.proofs.Common.{◌≡◌, ap, sym, refl, ◌∙◌, Some, None}
+use Rattle.std.proofs.Common.{◌≡◌, ap, sym, refl, ◌∙◌, Some, None, rules}
 use Rattle.std.specs.Prelude.{position}
 use Rattle.line_keys.specs.Bound.{has_event}
 use Rattle.line_keys.proofs.Places.{place_below, found_at, found_nowhere, bound_at_place, bound_behind, map_set, map_push}
@@ -38,3 +38,9 @@ returns-in_ok-push-in-None-clause-map g c normal is =
 
 pub returns-in_err-push-in-None-clause-map : goal.returns-in_err-push-in-None-clause-map
 returns-in_err-push-in-None-clause-map g c normal is = rw c.in_err-push-in-None.ensures.items is
+
+pub returns-in_err-push-in-None-clause-refused : goal.returns-in_err-push-in-None-clause-refused
+returns-in_err-push-in-None-clause-refused g c =
+    let at : position (has_event c.args.event) c.args.entries.now.items ≡ None = sym (rw c.as_slice.ensures.value at c.in-None.ensures) in
+    let nowhere = found_nowhere c.args.event c.args.entries.now.items at in
+    search rules

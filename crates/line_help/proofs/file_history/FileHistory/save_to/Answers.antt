@@ -6,8 +6,8 @@ use Rattle.line_config.proofs.Taking.{sends_then, sends_cut, sends_refused}
 use Rattle.line_help.specs.HistoryText.{rows_text, saved_text}
 use Rattle.line_help.proofs.file_history.FileHistory.save_to.Goals as goal
 
-pub returns-in_err-put : goal.returns-in_err-put
-returns-in_err-put g c =
+pub returns-in_err-put-clause-saves : goal.returns-in_err-put-clause-saves
+returns-in_err-put-clause-saves g c =
     let held = g.S.Sink.held in
     let failed = g.S.Sink.has_failed in
     let entries = c.args.self.now.kept.entries in
@@ -22,8 +22,8 @@ returns-in_err-put g c =
       fault = search rules;
     }
 
-pub returns-in_err-write_rows : goal.returns-in_err-write_rows
-returns-in_err-write_rows g c =
+pub returns-in_err-write_rows-clause-saves : goal.returns-in_err-write_rows-clause-saves
+returns-in_err-write_rows-clause-saves g c =
     let held = g.S.Sink.held in
     let failed = g.S.Sink.has_failed in
     let entries = c.args.self.now.kept.entries in
@@ -33,7 +33,7 @@ returns-in_err-write_rows g c =
       nothing = λ none. absurd (let k : true ≡ false = rw none at is_new in cc);
       sends = subst Saved (sym is_new)
           (sends_then held failed (35 ∷ 86 ∷ 50 ∷ 10 ∷ []) (rows_text entries) c.in_ok-put.ensures.sends.sent c.in_ok-put.ensures.sends.works
-          (sends_refused held failed _ (rows_text entries) c.from_residual-in_err-write_rows.ensures.1 c.in_err-write_rows.ensures.sends.err c.in_err-write_rows.ensures.sends.begins));
+          (sends_refused held failed _ (rows_text entries) c.from_residual-in_err-write_rows.ensures.1 c.in_err-write_rows.ensures.sends.sends.err c.in_err-write_rows.ensures.sends.sends.begins));
       saved = search rules;
       kept = search rules;
       fault = search rules;

@@ -24,8 +24,8 @@ loop-index-preserved g c =
     piece_sent held failed row_of entries (rows_text (drop c.args.first entries)) at other inside c.loop-index.invariant
     (subst Took entry c.in_ok-write_row.ensures.sends.sent) c.in_ok-write_row.ensures.sends.works
 
-pub returns-in_err-write_row : goal.returns-in_err-write_row
-returns-in_err-write_row g c =
+pub returns-in_err-write_row-clause-sends : goal.returns-in_err-write_row-clause-sends
+returns-in_err-write_row-clause-sends g c =
     let held = g.S.Sink.held in
     let failed = g.S.Sink.has_failed in
     let entries = c.args.self.now.kept.entries in
@@ -41,8 +41,8 @@ returns-in_err-write_row g c =
       fault = search rules;
     }
 
-pub returns : goal.returns
-returns g c =
+pub returns-clause-sends : goal.returns-clause-sends
+returns-clause-sends g c =
     let held = g.S.Sink.held in
     let failed = g.S.Sink.has_failed in
     let entries = c.args.self.now.kept.entries in
@@ -50,6 +50,6 @@ returns g c =
     let rows = rows_text (drop c.args.first entries) in
     let all : length entries ≤ at = search rules in
     record {
-      sends = sends_flushed held failed rows (pieces_sent held failed row_of entries rows at all c.loop-index.invariant) c.loop-index.invariant.works c.pass_on.ensures.sends;
-      fault = c.pass_on.ensures.fault;
+      sends = sends_flushed held failed rows (pieces_sent held failed row_of entries rows at all c.loop-index.invariant) c.loop-index.invariant.works c.pass_on.ensures.sends.sends;
+      fault = c.pass_on.ensures.sends.fault;
     }
