@@ -1,5 +1,5 @@
 -- What a session makes of its devices and history: all that its script says, or a beginning of it.
-use Rattle.std.specs.Prelude.{◌≡◌, ◌⊎◌, ⊤, ℕ, Bool, true, false, List, [], ◌∷◌, Result, Ok, Err, IsTrue, IsFalse, IfErr}
+use Rattle.std.specs.Prelude.{◌≡◌, ◌⊎◌, ⊤, ℕ, Bool, true, false, ◌&&◌, List, [], ◌∷◌, Result, Ok, Err, IsTrue, IsFalse, IfErr}
 use Rattle.std.specs.List.{flat_map}
 use Rattle.line_config.specs.Played.{Cut}
 use Rattle.line_config.specs.Scripts.{World, Goes}
@@ -7,7 +7,7 @@ use Rattle.line_config.specs.declared.errors.ReadlineError.{ReadlineError}
 use Rattle.line_config.specs.declared.errors.ReadlineError.TheVariants.{Eof, Interrupted, NotUtf8, PasteOutOfPlace, Reader, Display, Lines, HistoryText, Helper, Handler, Memory}
 use Rattle.line_config.specs.Sending.{AppendsSome, Takes, TakesSome}
 use Rattle.line_editor.specs.Courses.{breaks_after}
-use Rattle.line_help.specs.History.{Filed, all_saved}
+use Rattle.line_help.specs.History.{Filed, all_saved, takes}
 use Rattle.line_help.specs.HistoryText.{text_to_save}
 use Rattle.line_keys.specs.Answers.{HandlerFails}
 use Rattle.line_keys.specs.Coming.{Coming, left_by}
@@ -50,7 +50,8 @@ module _ {D L : Type 0} (shown : D → List ℕ) (written_in : L → List ℕ) (
 
   -- the display or the sink of lines fails, and has taken a beginning of the bytes; the helper
   -- fails; or memory is wanting, and in a paste it may be that every read is refused from there on.
-  -- None is taken to write a line, nor to keep one where lines aren't added. No other fault stops
+  -- None is taken to write a line, nor for one that the history doesn't take, or where lines aren't
+  -- added. No other fault stops
   abbrev pub IsStopped : Work D L → SessionEvent → ReadlineError → Work D L → Type 0
   IsStopped x (Draws bytes) Display y =
       TakesSome shown x.display y.display bytes × (y ≡ record x { display = y.display })
@@ -58,7 +59,7 @@ module _ {D L : Type 0} (shown : D → List ℕ) (written_in : L → List ℕ) (
   IsStopped x (Helped fails) Helper y = IsTrue fails × (y ≡ x)
   IsStopped x (Helped fails) Memory y = y ≡ x
   IsStopped x (Hears rest) Memory y = (y ≡ x) ⊎ (y ≡ record x { coming = left_by Memory })
-  IsStopped x (Keeps line) Memory y = IsTrue adds × (y ≡ x)
+  IsStopped x (Keeps line) Memory y = IsTrue (adds && takes x.history line) × (y ≡ x)
   IsStopped x (Writes line) Lines y =
       TakesSome written_in x.lines y.lines (line_text line) × (y ≡ record x { lines = y.lines })
   IsStopped x event why y = ⊥
