@@ -131,13 +131,15 @@ pub record Closes {D L : Type 0} (shown : D → List ℕ) (show_failed : D → B
 -- ---- the end of a session
 
 -- the history was saved, so that nothing in it is new; or the sink of its text has failed, and has
--- taken a beginning of the text
+-- taken a beginning of the text. Where nothing is new the sink isn't asked
 pub record Saves {T : Type 0} (held : T → List ℕ) (failed : T → Bool)
     (kept history' : Filed) (text text' : T) (saved : Bool) : Type 0 where
   pub done : saved ≡ true → (history' ≡ all_saved kept)
       × Takes held text text' (text_to_save kept)
+  pub works : saved ≡ true → failed text' ≡ failed text
   pub refused : saved ≡ false → (history' ≡ kept) × IsTrue (failed text')
       × AppendsSome (held text) (text_to_save kept) (held text')
+  pub nothing : kept.unsaved ≡ 0 → (saved ≡ true) × (text' ≡ text)
 
 -- a fault comes before that of the history's text
 abbrev pub ending_after : ReadlineError → Bool → ReadlineError
