@@ -45,7 +45,7 @@ module _ {D L : Type 0} (shown : D → List ℕ) (show_failed : D → Bool) (wri
       record {
         goes = λ coming. inr (Display, inr (Display, (subst (TakesSome shown d d') (new_row outcome breaks) some, refl), refl), now);
         stays = stays_not outcome (work d l h) (work d' l h) result breaks;
-        reason = λ coming. let P : Result (List ℕ) ReadlineError → Type 0 = λ r. IfErr r (CloseReason outcome (show_failed d) (show_failed d') (write_failed l)) in
+        reason = λ coming. let P : Result (List ℕ) ReadlineError → Type 0 = λ r. IfErr r (CloseReason adds h outcome (show_failed d) (show_failed d') (write_failed l)) in
             subst P (sym now) (inr (inl (refl, failed)));
       }
 
@@ -57,8 +57,8 @@ module _ {D L : Type 0} (shown : D → List ℕ) (show_failed : D → Bool) (wri
       record {
         goes = λ coming. inr (Memory, inl (tt, work d' l h coming, (drawn, refl), inr (Memory, (adding, ap (λ h. work d' l h coming) kept), refl)), now);
         stays = tt;
-        reason = λ coming. let P : Result (List ℕ) ReadlineError → Type 0 = λ r. IfErr r (CloseReason (Ok text) (show_failed d) (show_failed d') (write_failed l)) in
-            subst P (sym now) (inr (inr (inr refl)));
+        reason = λ coming. let P : Result (List ℕ) ReadlineError → Type 0 = λ r. IfErr r (CloseReason adds h (Ok text) (show_failed d) (show_failed d') (write_failed l)) in
+            subst P (sym now) (inr (inr (inr (refl, adding))));
       }
 
   -- the line's text and newline were written, or torn

@@ -1,5 +1,5 @@
 -- What a session makes of its devices and history: all that its script says, or a beginning of it.
-use Rattle.std.specs.Prelude.{◌≡◌, ◌⊎◌, ⊤, ℕ, Bool, true, false, ◌&&◌, List, [], ◌∷◌, Result, Ok, Err, IsTrue, IsFalse, IfErr}
+use Rattle.std.specs.Prelude.{◌≡◌, ◌⊎◌, ⊤, ℕ, Bool, true, false, ◌&&◌, List, [], ◌∷◌, Result, Ok, Err, IsTrue, IsFalse, IfErr, IsOkAnd}
 use Rattle.std.specs.List.{flat_map}
 use Rattle.line_config.specs.Played.{Cut}
 use Rattle.line_config.specs.Scripts.{World, Goes}
@@ -108,12 +108,18 @@ module _ {D L : Type 0} (shown : D → List ℕ) (written_in : L → List ℕ) w
 
 -- ---- the end of a line
 
--- why the end of a line is refused: as the line was, or by a device that has failed
-abbrev pub CloseReason : {A : Type 0} → Result A ReadlineError → Bool → Bool → Bool
+-- memory may be wanting for the end of an accepted line that the history is to take
+abbrev pub WantsMemory : Bool → Filed → Result (List ℕ) ReadlineError → ReadlineError → Type 0
+WantsMemory adds history outcome e =
+    (e ≡ Memory) × IsOkAnd outcome (λ text. IsTrue (adds && takes history text))
+
+-- why the end of a line is refused: as the line was, by a device that has failed, or by memory
+abbrev pub CloseReason : Bool → Filed → Result (List ℕ) ReadlineError → Bool → Bool → Bool
     → ReadlineError → Type 0
-CloseReason outcome was_failed display lines e =
+CloseReason adds history outcome was_failed display lines e =
     ((outcome ≡ Err e) × (display ≡ was_failed))
-    ⊎ (((e ≡ Display) × IsTrue display) ⊎ (((e ≡ Lines) × IsTrue lines) ⊎ (e ≡ Memory)))
+    ⊎ (((e ≡ Display) × IsTrue display)
+    ⊎ (((e ≡ Lines) × IsTrue lines) ⊎ WantsMemory adds history outcome e))
 
 -- an accepted line is drawn to its end, kept and written; after the endings that say so a new row
 -- is drawn, and after the others nothing is done; whatever comes isn't read
@@ -124,7 +130,7 @@ pub record Closes {D L : Type 0} (shown : D → List ℕ) (show_failed : D → B
   pub goes : (coming : Coming) → ComesTo shown written_in adds (close_script outcome) (old coming)
       result (new coming) result
   pub stays : IfErr outcome (λ e. breaks_after e ≡ false → (new ≡ old) × (result ≡ Err e))
-  pub reason : (coming : Coming) → IfErr result (CloseReason outcome
+  pub reason : (coming : Coming) → IfErr result (CloseReason adds (old coming).history outcome
       (show_failed (old coming).display) (show_failed (new coming).display)
       (write_failed (new coming).lines))
 
