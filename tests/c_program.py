@@ -24,6 +24,7 @@ ARCHIVE = os.path.join(CRATE, "out", "libkeyline_c.a")
 CONSOLE = os.path.join(TOP, "build", "console")
 CALLS = os.path.join(TOP, "build", "c_calls")
 KIT = os.path.dirname(os.path.dirname(os.path.realpath(shutil.which("rt") or "/")))
+NO_ROOM = b"console: status 7\n"
 REFUSED = b"console: status 8\n"
 VALGRIND = ["valgrind", "--quiet", "--leak-check=full", "--show-leak-kinds=all", "--errors-for-leak-kinds=all", "--error-exitcode=99"]
 
@@ -115,9 +116,22 @@ def under_valgrind():
             raise Failed(f"valgrind at {words}: {done.returncode}, {done.stderr[-3000:].decode(errors='replace')}")
 
 
+def without_room():
+    """A line whose display has no room in the console: it tells that by its status, and sends nothing of the line."""
+    console = run([CONSOLE], b"x" * 1500 + b"\x01" + b"y" * 1500)
+    same("the status", console.returncode, 1)
+    same("the last words", console.stderr[-len(NO_ROOM) :], NO_ROOM)
+    same("what is sent of the line", console.stderr.count(b"x"), 0)
+
+
 def refused_growths():
-    """Each growth refused in turn: the console tells it by its status, and the lines before it stand."""
-    keys = b"one two\x17\r\x19\x19\r\x10\x10 three\r"
+    """Each growth refused in turn, that of a display for the new row at a line's end among them."""
+    for keys in (b"one two\x17\r\x19\x19\r\x10\x10 three\r", *(b"a" * count + b"\r" for count in range(16))):
+        each_refused(keys)
+
+
+def each_refused(keys):
+    """Of these keys each growth refused in turn: the console tells it by its status, and the lines before it stand."""
     whole = run([CONSOLE], keys).stdout
     with tempfile.TemporaryDirectory() as folder:
         number, report = 0, os.path.join(folder, "report")
@@ -196,7 +210,7 @@ def on_a_terminal():
 def main():
     os.environ["LC_ALL"] = "C.UTF-8"
     made()
-    return run_all([calls, on_pipes, after_ctrl_c, refused_growths, on_a_terminal, under_valgrind])
+    return run_all([calls, on_pipes, after_ctrl_c, without_room, refused_growths, on_a_terminal, under_valgrind])
 
 
 if __name__ == "__main__":

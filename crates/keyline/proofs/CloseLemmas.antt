@@ -1,10 +1,10 @@
 -- The end of a line: an exit for each fault, and the one where all went well.
-use Rattle.std.proofs.Common.{◌≡◌, ℕ, Bool, true, false, List, [], ◌∷◌, inl, inr, refl, sym, ap, ◌∙◌, subst, IsTrue, Result, Ok, Err, IfErr}
+use Rattle.std.proofs.Common.{◌≡◌, ℕ, Bool, true, false, ◌&&◌, List, [], ◌∷◌, inl, inr, refl, sym, ap, ◌∙◌, subst, IsTrue, Result, Ok, Err, IfErr}
 use Rattle.line_config.specs.declared.errors.ReadlineError.{ReadlineError}
 use Rattle.line_config.specs.declared.errors.ReadlineError.TheVariants.{Display, Lines, Memory}
 use Rattle.line_config.specs.Sending.{Takes, TakesSome, Sends}
 use Rattle.line_editor.specs.Courses.{breaks_after}
-use Rattle.line_help.specs.History.{Filed}
+use Rattle.line_help.specs.History.{Filed, takes}
 use Rattle.line_keys.specs.Coming.{Coming, made_of}
 use Rattle.line_screen.specs.Drawing.{row_break, break_if}
 use Rattle.keyline.specs.Playing.{Work, Closes, CloseReason, IsStopped, work}
@@ -45,20 +45,20 @@ module _ {D L : Type 0} (shown : D → List ℕ) (show_failed : D → Bool) (wri
       record {
         goes = λ coming. inr (Display, inr (Display, (subst (TakesSome shown d d') (new_row outcome breaks) some, refl), refl), now);
         stays = stays_not outcome (work d l h) (work d' l h) result breaks;
-        reason = λ coming. let P : Result (List ℕ) ReadlineError → Type 0 = λ r. IfErr r (CloseReason outcome (show_failed d) (show_failed d') (write_failed l)) in
+        reason = λ coming. let P : Result (List ℕ) ReadlineError → Type 0 = λ r. IfErr r (CloseReason adds h outcome (show_failed d) (show_failed d') (write_failed l)) in
             subst P (sym now) (inr (inl (refl, failed)));
       }
 
   -- the history could take no line
   pub closes_unkept : (adds : Bool) (text : List ℕ) (d d' : D) (l : L) (h h' : Filed) (result : Result (List ℕ) ReadlineError) (e : ReadlineError)
-      → Takes shown d d' row_break → result ≡ Err e → e ≡ Memory → IsTrue adds → h' ≡ h → Ends adds (Ok text) (work d l h) (work d' l h') result
+      → Takes shown d d' row_break → result ≡ Err e → e ≡ Memory → IsTrue (adds && takes h text) → h' ≡ h → Ends adds (Ok text) (work d l h) (work d' l h') result
   closes_unkept adds text d d' l h h' result e drawn is memory adding kept =
       let now : result ≡ Err Memory = is ∙ ap (λ e. Err e) memory in
       record {
         goes = λ coming. inr (Memory, inl (tt, work d' l h coming, (drawn, refl), inr (Memory, (adding, ap (λ h. work d' l h coming) kept), refl)), now);
         stays = tt;
-        reason = λ coming. let P : Result (List ℕ) ReadlineError → Type 0 = λ r. IfErr r (CloseReason (Ok text) (show_failed d) (show_failed d') (write_failed l)) in
-            subst P (sym now) (inr (inr (inr refl)));
+        reason = λ coming. let P : Result (List ℕ) ReadlineError → Type 0 = λ r. IfErr r (CloseReason adds h (Ok text) (show_failed d) (show_failed d') (write_failed l)) in
+            subst P (sym now) (inr (inr (inr (refl, adding))));
       }
 
   -- the line's text and newline were written, or torn

@@ -178,7 +178,7 @@ module _ {S H D L K T : Type 0} (k : Known S D L) (helps : Option H → Helping)
         ap (λ s. given_of config custom prompt s (helps ran.helper)) (screen ∙ screen_stays runs t)
         ∙ ap (λ h. given_of config custom prompt (screen_of old.out) h) (runs.helper_stays t)
 
-    reason_of_close : RunsAt → (e : ReadlineError) → CloseReason (outcome_of ran) (k.show_failed (sink_of ran.out)) (k.show_failed (sink_of out)) (k.write_failed lines) e
+    reason_of_close : RunsAt → (e : ReadlineError) → CloseReason config.auto_add_history old.history (outcome_of ran) (k.show_failed (sink_of ran.out)) (k.show_failed (sink_of out)) (k.write_failed lines) e
         → DeskReason k given new e
     reason_of_close runs e (inl p) =
         let cause = err_given ran.outcome string_bytes e _ runs.reason p.0 in
@@ -190,7 +190,7 @@ module _ {S H D L K T : Type 0} (k : Known S D L) (helps : Option H → Helping)
     reason_of_close runs e (inr (inr (inl p))) =
         let P : ReadlineError → Type 0 = DeskReason k given new in subst P (sym p.0) p.1
     reason_of_close runs e (inr (inr (inr p))) =
-        let P : ReadlineError → Type 0 = DeskReason k given new in subst P (sym p) tt
+        let P : ReadlineError → Type 0 = DeskReason k given new in subst P (sym p.0) tt
 
     pub takes_line : RunsAt → Ends (outcome_of ran) → screen_of out ≡ screen_of ran.out → (HasPassedOn k (sink_of ran.out) → HasPassedOn k (sink_of out))
         → TakesLine k given given' old new result
@@ -213,7 +213,7 @@ module _ {S H D L K T : Type 0} (k : Known S D L) (helps : Option H → Helping)
       reason = if_err result (closes.reason left);
     }
       where
-        if_err : (r : Result (List ℕ) ReadlineError) → IfErr r (CloseReason (outcome_of ran) (k.show_failed (sink_of ran.out)) (k.show_failed (sink_of out)) (k.write_failed lines))
+        if_err : (r : Result (List ℕ) ReadlineError) → IfErr r (CloseReason config.auto_add_history old.history (outcome_of ran) (k.show_failed (sink_of ran.out)) (k.show_failed (sink_of out)) (k.write_failed lines))
             → IfErr r (DeskReason k given new)
         if_err (Ok u) p = tt
         if_err (Err e) p = reason_of_close runs e p

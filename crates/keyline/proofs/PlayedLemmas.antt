@@ -1,6 +1,6 @@
 -- A session by options, over all that is said of its keys.
-use Rattle.std.proofs.Common.{◌≡◌, ℕ, ◌+◌, ◌<◌, ◌^◌, Bool, false, IsTrue, List, [], ◌++◌, Option, inl, inr, refl, sym, ap, subst, ◌∙◌, arith}
-use Rattle.std.specs.Prelude.{IsErr, IsOk, OnOk, Result, Ok, Err, is_err, string_bytes, unwrap_or}
+use Rattle.std.proofs.Common.{◌≡◌, ℕ, ◌+◌, ◌<◌, ◌^◌, Bool, true, false, IsTrue, List, [], ◌++◌, Option, inl, inr, refl, sym, ap, subst, ◌∙◌, arith}
+use Rattle.std.specs.Prelude.{if◌then◌else◌, IsErr, IsOk, OnOk, Result, Ok, Err, is_err, string_bytes, unwrap_or}
 use Rattle.line_config.specs.Feed.{AlwaysTold, Feed, fresh_feed}
 use Rattle.line_config.specs.Foretold.{left_of}
 use Rattle.line_config.specs.Scripts.{Ends, Asks}
@@ -9,7 +9,7 @@ use Rattle.line_config.specs.declared.device.Last.{Last}
 use Rattle.line_config.specs.declared.device.Last.TheVariants.{End}
 use Rattle.line_config.specs.declared.errors.ReadlineError.{ReadlineError}
 use Rattle.line_config.specs.declared.errors.ReadlineError.TheVariants.{Display, Helper, HistoryText, Lines, Memory, Reader}
-use Rattle.line_help.specs.History.{Filed}
+use Rattle.line_help.specs.History.{Filed, all_saved}
 use Rattle.line_help.specs.HistoryText.{text_to_save}
 use Rattle.line_keys.specs.Coming.{Coming}
 use Rattle.line_record.specs.Ring.{Ring, new_ring}
@@ -49,6 +49,12 @@ fails_still result before after is for_good failed = is ∙ for_good failed
 pub handed_on : {A E P : Type 0} (result : Result A E) (failed : Bool) → failed ≡ is_err result → failed ≡ false → OnOk result P → P
 handed_on (Ok x) failed is works p = p
 handed_on (Err e) failed is works p = absurd (cc)
+
+-- after the end nothing is new, or the history is as the lines left it
+history_at_end : (saved : Bool) (kept history : Filed) → (saved ≡ true → history ≡ all_saved kept) → (saved ≡ false → history ≡ kept)
+    → history ≡ (if saved then all_saved kept else kept)
+history_at_end true kept history done refused = done refl
+history_at_end false kept history done refused = refused refl
 
 abbrev state_by : Ring → Filed → Coming → SessionState
 state_by ring history coming = record { ring = ring; history = history; coming = coming }
@@ -150,7 +156,7 @@ module _ {F S D L T : Type 0} (text_of : F → Feed) (k : Known S D L) (held : T
       ∙ ap (λ (c : Coming). state_by (new_ring 60) loaded_is c) coming) in
       record {
         kept = left_desk.history;
-        left = left;
+        reader = left_desk.reader;
         why = why;
         saved = end.saved;
         loaded = subst (λ (f : Feed). IsOk (loads (config_of options) f)) text_is (opens.loaded.whole always);
@@ -173,6 +179,9 @@ module _ {F S D L T : Type 0} (text_of : F → Feed) (k : Known S D L) (held : T
         refused = λ s.
             let r = end.saves.refused s in
             (r.1, subst (λ before. AppendsSome before (text_to_save left_desk.history) (held ended.text)) blank r.2);
+        history_is = history_at_end end.saved _ _ (λ s. (end.saves.done s).0) (λ s. (end.saves.refused s).0);
+        source_is = end.source_is;
+        ahead_is = end.ahead_is;
         ending_is = end.ending_is;
         reason = reason_still g (k.feed ended.source).failed (k.show_failed ended.display) (k.show_failed display') (k.write_failed ended.lines) (k.write_failed lines')
             why shows writes

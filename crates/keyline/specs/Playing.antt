@@ -1,5 +1,5 @@
 -- What a session makes of its devices and history: all that its script says, or a beginning of it.
-use Rattle.std.specs.Prelude.{◌≡◌, ◌⊎◌, ⊤, ℕ, Bool, true, false, List, [], ◌∷◌, Result, Ok, Err, IsTrue, IsFalse, IfErr}
+use Rattle.std.specs.Prelude.{◌≡◌, ◌⊎◌, ⊤, ℕ, Bool, true, false, ◌&&◌, List, [], ◌∷◌, Result, Ok, Err, IsTrue, IsFalse, IfErr, IsOkAnd}
 use Rattle.std.specs.List.{flat_map}
 use Rattle.line_config.specs.Played.{Cut}
 use Rattle.line_config.specs.Scripts.{World, Goes}
@@ -7,7 +7,7 @@ use Rattle.line_config.specs.declared.errors.ReadlineError.{ReadlineError}
 use Rattle.line_config.specs.declared.errors.ReadlineError.TheVariants.{Eof, Interrupted, NotUtf8, PasteOutOfPlace, Reader, Display, Lines, HistoryText, Helper, Handler, Memory}
 use Rattle.line_config.specs.Sending.{AppendsSome, Takes, TakesSome}
 use Rattle.line_editor.specs.Courses.{breaks_after}
-use Rattle.line_help.specs.History.{Filed, all_saved}
+use Rattle.line_help.specs.History.{Filed, all_saved, takes}
 use Rattle.line_help.specs.HistoryText.{text_to_save}
 use Rattle.line_keys.specs.Answers.{HandlerFails}
 use Rattle.line_keys.specs.Coming.{Coming, left_by}
@@ -50,7 +50,8 @@ module _ {D L : Type 0} (shown : D → List ℕ) (written_in : L → List ℕ) (
 
   -- the display or the sink of lines fails, and has taken a beginning of the bytes; the helper
   -- fails; or memory is wanting, and in a paste it may be that every read is refused from there on.
-  -- None is taken to write a line, nor to keep one where lines aren't added. No other fault stops
+  -- None is taken to write a line, nor for one that the history doesn't take, or where lines aren't
+  -- added. No other fault stops
   abbrev pub IsStopped : Work D L → SessionEvent → ReadlineError → Work D L → Type 0
   IsStopped x (Draws bytes) Display y =
       TakesSome shown x.display y.display bytes × (y ≡ record x { display = y.display })
@@ -58,7 +59,7 @@ module _ {D L : Type 0} (shown : D → List ℕ) (written_in : L → List ℕ) (
   IsStopped x (Helped fails) Helper y = IsTrue fails × (y ≡ x)
   IsStopped x (Helped fails) Memory y = y ≡ x
   IsStopped x (Hears rest) Memory y = (y ≡ x) ⊎ (y ≡ record x { coming = left_by Memory })
-  IsStopped x (Keeps line) Memory y = IsTrue adds × (y ≡ x)
+  IsStopped x (Keeps line) Memory y = IsTrue (adds && takes x.history line) × (y ≡ x)
   IsStopped x (Writes line) Lines y =
       TakesSome written_in x.lines y.lines (line_text line) × (y ≡ record x { lines = y.lines })
   IsStopped x event why y = ⊥
@@ -107,12 +108,18 @@ module _ {D L : Type 0} (shown : D → List ℕ) (written_in : L → List ℕ) w
 
 -- ---- the end of a line
 
--- why the end of a line is refused: as the line was, or by a device that has failed
-abbrev pub CloseReason : {A : Type 0} → Result A ReadlineError → Bool → Bool → Bool
+-- memory may be wanting for the end of an accepted line that the history is to take
+abbrev pub WantsMemory : Bool → Filed → Result (List ℕ) ReadlineError → ReadlineError → Type 0
+WantsMemory adds history outcome e =
+    (e ≡ Memory) × IsOkAnd outcome (λ text. IsTrue (adds && takes history text))
+
+-- why the end of a line is refused: as the line was, by a device that has failed, or by memory
+abbrev pub CloseReason : Bool → Filed → Result (List ℕ) ReadlineError → Bool → Bool → Bool
     → ReadlineError → Type 0
-CloseReason outcome was_failed display lines e =
+CloseReason adds history outcome was_failed display lines e =
     ((outcome ≡ Err e) × (display ≡ was_failed))
-    ⊎ (((e ≡ Display) × IsTrue display) ⊎ (((e ≡ Lines) × IsTrue lines) ⊎ (e ≡ Memory)))
+    ⊎ (((e ≡ Display) × IsTrue display)
+    ⊎ (((e ≡ Lines) × IsTrue lines) ⊎ WantsMemory adds history outcome e))
 
 -- an accepted line is drawn to its end, kept and written; after the endings that say so a new row
 -- is drawn, and after the others nothing is done; whatever comes isn't read
@@ -123,20 +130,22 @@ pub record Closes {D L : Type 0} (shown : D → List ℕ) (show_failed : D → B
   pub goes : (coming : Coming) → ComesTo shown written_in adds (close_script outcome) (old coming)
       result (new coming) result
   pub stays : IfErr outcome (λ e. breaks_after e ≡ false → (new ≡ old) × (result ≡ Err e))
-  pub reason : (coming : Coming) → IfErr result (CloseReason outcome
+  pub reason : (coming : Coming) → IfErr result (CloseReason adds (old coming).history outcome
       (show_failed (old coming).display) (show_failed (new coming).display)
       (write_failed (new coming).lines))
 
 -- ---- the end of a session
 
 -- the history was saved, so that nothing in it is new; or the sink of its text has failed, and has
--- taken a beginning of the text
+-- taken a beginning of the text. Where nothing is new the sink isn't asked
 pub record Saves {T : Type 0} (held : T → List ℕ) (failed : T → Bool)
     (kept history' : Filed) (text text' : T) (saved : Bool) : Type 0 where
   pub done : saved ≡ true → (history' ≡ all_saved kept)
       × Takes held text text' (text_to_save kept)
+  pub works : saved ≡ true → failed text' ≡ failed text
   pub refused : saved ≡ false → (history' ≡ kept) × IsTrue (failed text')
       × AppendsSome (held text) (text_to_save kept) (held text')
+  pub nothing : kept.unsaved ≡ 0 → (saved ≡ true) × (text' ≡ text)
 
 -- a fault comes before that of the history's text
 abbrev pub ending_after : ReadlineError → Bool → ReadlineError

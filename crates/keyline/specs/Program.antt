@@ -15,6 +15,8 @@ use Rattle.line_help.specs.declared.validate.ValidationResult.TheVariants.{Valid
 use Rattle.line_keys.specs.Answers.{Custom}
 use Rattle.line_editor.specs.Running.{Helping, helping_by}
 use Rattle.line_screen.specs.Calls.{screen_of}
+use Rattle.line_screen.specs.Reader.{coming_in, kept_of, source_of}
+use Rattle.line_screen.specs.declared.reading.reader.KeyReader.{KeyReader}
 use Rattle.keyline.specs.Desks.{session_state_of}
 use Rattle.keyline.specs.Known.{Known}
 use Rattle.keyline.specs.Plays.{Opens, PlaysSession, loaded_from, loads}
@@ -31,9 +33,8 @@ use Rattle.line_config.specs.declared.adapters.WriteSink.{WriteSink}
 use Rattle.line_config.specs.declared.device.Last.{Last}
 use Rattle.line_config.specs.declared.device.Last.TheVariants.{End}
 use Rattle.line_config.specs.declared.errors.ReadlineError.{ReadlineError}
-use Rattle.line_help.specs.History.{Filed}
+use Rattle.line_help.specs.History.{Filed, all_saved}
 use Rattle.line_help.specs.HistoryText.{text_to_save}
-use Rattle.line_keys.specs.Coming.{Coming}
 use Rattle.line_record.specs.Ring.{new_ring}
 use Rattle.keyline.specs.Endings.{ending_of}
 use Rattle.keyline.specs.Playing.{Reads, SessionReason, ending_after, work}
@@ -120,10 +121,10 @@ program_start options old bytes last =
 pub record PlaysBytes {S D L T : Type 0} (known : Known S D L) (held : T → List ℕ)
     (failed : T → Bool) (options : Options) (words : Option (List (List ℕ))) (old bytes : List ℕ)
     (last : Last) (ended : Ended S D L T) : Type 0 where
-  -- the history as the lines left it, what is left to come, why there was no further line, and
+  -- the history and the reader of keys as the lines left them, why there was no further line, and
   -- whether the history was saved
   pub kept : Filed
-  pub left : Coming
+  pub reader : KeyReader S
   pub why : ReadlineError
   pub saved : Bool
   pub loaded : IsOk (loads (config_of options) (fresh_feed old End))
@@ -131,11 +132,15 @@ pub record PlaysBytes {S D L T : Type 0} (known : Known S D L) (held : T → Lis
       let start = program_start options old bytes last in
       Reads (λ drawn. drawn) (λ wrote. wrote) n g (each g) start
       (work [] [] start.history start.coming)
-      (work (known.shown ended.display) (known.written_in ended.lines) kept left) why
+      (work (known.shown ended.display) (known.written_in ended.lines) kept
+      (coming_in known.feed reader)) why
   pub shows : Displays (program_given options words) (program_start options old bytes last)
   pub done : saved ≡ true → held ended.text ≡ text_to_save kept
   pub refused : saved ≡ false → IsTrue (failed ended.text)
       × AppendsSome [] (text_to_save kept) (held ended.text)
+  pub history_is : ended.history ≡ (if saved then all_saved kept else kept)
+  pub source_is : ended.source ≡ source_of reader
+  pub ahead_is : ended.ahead ≡ kept_of reader
   pub ending_is : ended.ending ≡ ending_of (ending_after why saved)
   pub reason : SessionReason (program_given options words) (known.feed ended.source).failed
       (known.show_failed ended.display) (known.write_failed ended.lines) why

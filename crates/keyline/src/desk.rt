@@ -1,9 +1,10 @@
 //! Lines, one after the other: read, drawn, kept and written.
 
-ghost use Rattle.std.specs.Prelude.{◌≡◌, ◌++◌, ◌∷◌, [], IfErr, IsTrue, OnOk, OnErr, string_bytes, Ok};
+ghost use Rattle.std.specs.Prelude.{◌≡◌, ◌++◌, ◌∷◌, ◌&&◌, [], IfErr, IsTrue, OnOk, OnErr, string_bytes, Ok};
 ghost use Rattle.line_config.specs.declared.errors.ReadlineError.TheVariants.{Lines, Memory};
 ghost use Rattle.line_config.specs.Sending.{Sends};
 ghost use Rattle.line_editor.specs.Courses.{breaks_after};
+ghost use Rattle.line_help.specs.History.{takes};
 ghost use Rattle.line_keys.specs.Coming.{made_of};
 ghost use Rattle.line_screen.specs.Calls.{screen_of, sink_of, NothingWaits};
 ghost use Rattle.keyline.specs.Playing.{Closes, work};
@@ -57,7 +58,8 @@ fn remember(
 ) -> Result<(), ReadlineError>
     ensures added { OnOk result (history.new ≡ remembered adds (text.now ∷ []) history.old) }
     ensures kept { OnErr result (history.new ≡ history.old) }
-    ensures fault { IfErr result (λ e. (e ≡ Memory) × IsTrue adds) }
+    ensures fault { IfErr result
+        (λ e. (e ≡ Memory) × IsTrue (adds && takes history.old text.now)) }
 {
     if adds {
         history.add(alloc, text)?;

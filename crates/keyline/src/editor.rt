@@ -1,9 +1,9 @@
 //! A line at a time, by `&mut self`.
 
-ghost use Rattle.std.specs.Prelude.{◌≡◌, IfErr, IfOk, IfSome, IsSome, None, OnErr, OnOk, Some, not, option_map, string_bytes};
+ghost use Rattle.std.specs.Prelude.{◌≡◌, IfErr, IfOk, IfSome, IsSome, IsTrue, None, OnErr, OnOk, Some, option_map, string_bytes};
 ghost use Rattle.std.specs.Option.{option_map_or};
 ghost use Rattle.line_config.specs.declared.errors.ReadlineError.TheVariants.{Eof, Memory};
-ghost use Rattle.line_help.specs.History.{ignored};
+ghost use Rattle.line_help.specs.History.{takes};
 ghost use Rattle.line_keys.specs.Coming.{made_of};
 ghost use Rattle.line_editor.specs.Running.{helping_by};
 ghost use Rattle.keyline.specs.Endings.{ended_by};
@@ -90,13 +90,14 @@ where
     /// Adds a line to the history, whatever the settings say of accepted lines, and answers whether
     /// it did, as `Session::add_history_entry` does.
     pub fn add_history_entry(&mut self, line: &str) -> Result<bool, ReadlineError>
-        ensures answer { IfSome (session_of self.old) (λ s. let kept = (history_of s).kept in
-            IfOk result (λ b. b ≡ not (ignored kept.settings kept.entries line.now))) }
+        ensures answer { IfSome (session_of self.old)
+            (λ s. IfOk result (λ b. b ≡ takes (history_of s) line.now)) }
         ensures added { OnOk result (session_of self.new
             ≡ option_map (with_entry line.now) (session_of self.old)) }
         ensures kept { OnErr result (session_of self.new ≡ session_of self.old) }
         ensures ended { ending_in self.new ≡ ending_in self.old }
-        ensures fault { IfErr result (λ e. e ≡ Memory) }
+        ensures fault { IfSome (session_of self.old) (λ s. IfErr result
+            (λ e. (e ≡ Memory) × IsTrue (takes (history_of s) line.now))) }
     {
         match &mut self.session.value {
             Some(session) => session.add_history_entry(line),

@@ -1,8 +1,8 @@
 //! Sessions: from key bytes to accepted lines, a history and display bytes.
 
-ghost use Rattle.std.specs.Prelude.{◌≡◌, ◌≤◌, IfErr, IfOk, IsTrue, OnErr, OnOk, false, not, string_bytes};
+ghost use Rattle.std.specs.Prelude.{◌≡◌, ◌≤◌, IfErr, IfOk, IsTrue, OnErr, OnOk, false, string_bytes};
 ghost use Rattle.line_config.specs.declared.errors.ReadlineError.TheVariants.{Memory};
-ghost use Rattle.line_help.specs.History.{ignored};
+ghost use Rattle.line_help.specs.History.{takes};
 ghost use Rattle.line_keys.specs.Coming.{made_of};
 ghost use Rattle.line_editor.specs.Running.{helping_by};
 ghost use Rattle.keyline.specs.Known.{known_by};
@@ -317,11 +317,11 @@ where
     /// Adds a line to the history, whatever the settings say of accepted lines, and answers whether
     /// it did: some lines are ignored, as `History::add` says.
     pub fn add_history_entry(&mut self, line: &str) -> Result<bool, ReadlineError>
-        ensures answer { let kept = (history_of self.old).kept in
-            IfOk result (λ b. b ≡ not (ignored kept.settings kept.entries line.now)) }
+        ensures answer { IfOk result (λ b. b ≡ takes (history_of self.old) line.now) }
         ensures added { OnOk result (self.new ≡ with_entry line.now self.old) }
         ensures kept { OnErr result (self.new ≡ self.old) }
-        ensures fault { IfErr result (λ e. e ≡ Memory) }
+        ensures fault { IfErr result
+            (λ e. (e ≡ Memory) × IsTrue (takes (history_of self.old) line.now)) }
     {
         self.desk.history.add(self.alloc, line)
     }

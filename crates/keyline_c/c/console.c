@@ -19,13 +19,13 @@ static struct keyline_step next_line(void) {
     struct keyline_step step;
     for (options.sent = 0;; options.sent = step.sent) {
         keyline_line(&options, &given, &room, &step);
+        if (step.status >= KEYLINE_ARGUMENT) return step;
         if (fwrite(display, 1, step.display, stderr) < step.display) step.status = KEYLINE_END;
         if (step.status != KEYLINE_MORE) break;
         ssize_t count = read(0, keys + given.keys.length, sizeof keys - given.keys.length);
         if (count > 0) given.keys.length += (size_t)count;
         else options.ended = true;
     }
-    if (step.status >= KEYLINE_ARGUMENT) return step;
     memmove(keys, keys + step.keys, given.keys.length -= step.keys);
     if (step.history > 0) memcpy(history, new_history, given.history.length = step.history);
     memcpy(kills, new_kills, given.kills.length = step.kills);

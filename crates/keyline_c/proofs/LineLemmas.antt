@@ -1,6 +1,6 @@
 -- What `run` leaves, and then the line's end.
 use Rattle.std.proofs.Common.{◌≡◌, inl, inr, ℕ, Bool, true, List, [], ◌++◌, Option, None, length, ◌+◌, arith, Result, Ok, Err, refl, sym, ap, ◌∙◌, subst, IsTrue}
-use Rattle.std.specs.Prelude.{flat_map, IfErr, String, string_bytes}
+use Rattle.std.specs.Prelude.{flat_map, IsErrAnd, String, string_bytes}
 use Rattle.std.specs.Global.{Global}
 use Rattle.line_config.specs.declared.config.Config.{Config}
 use Rattle.line_config.specs.declared.device.Last.{Last}
@@ -33,7 +33,7 @@ wanting failed hook Display is = inr (inl refl)
 wanting failed hook Helper is = inr (inr refl)
 wanting failed hook _ is = absurd is
 
-wants : (o : Result (String Global) ReadlineError) (e : ReadlineError) → made_of string_bytes o ≡ Err e → IsWant e → IfErr o IsWant
+wants : (o : Result (String Global) ReadlineError) (e : ReadlineError) → made_of string_bytes o ≡ Err e → IsWant e → IsErrAnd o IsWant
 wants (Ok x) e is want = absurd (cc)
 wants (Err d) e is want = let same : d ≡ e = cc in subst IsWant (sym same) want
 

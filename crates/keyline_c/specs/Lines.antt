@@ -1,5 +1,5 @@
 -- A line of the keys so far: what is handed in for it, and what it leaves.
-use Rattle.std.specs.Prelude.{◌≡◌, ◌⊎◌, ℕ, ◌<◌, ◌++◌, Bool, true, if◌then◌else◌, List, Option, Result, IfErr, string_bytes}
+use Rattle.std.specs.Prelude.{◌≡◌, ◌⊎◌, ℕ, ◌<◌, ◌++◌, Bool, true, if◌then◌else◌, List, Option, Result, IsErrAnd, string_bytes}
 use Rattle.line_config.specs.Config.{default_config}
 use Rattle.line_config.specs.declared.device.Last.{Last}
 use Rattle.line_config.specs.declared.device.Last.TheVariants.{End, Failed}
@@ -46,7 +46,7 @@ pub record LeftBy (held : VecSink → List ℕ) (g : Given) (t : LineReport) (ol
 pub record ReadsLine (held : VecSink → List ℕ) (g : Given) (x : SessionState) (bound : ℕ)
     (left : Left) : Type 0 where
   pub goes : (n : ℕ) → bound < n
-      → LeftBy held g (line_in n g x) x.history left ⊎ IfErr left.outcome IsWant
+      → LeftBy held g (line_in n g x) x.history left ⊎ IsErrAnd left.outcome IsWant
 
 -- the end of a line: a new row where it says so, and an accepted one in the history
 pub record Ends (held : VecSink → List ℕ) (outcome : Result (List ℕ) ReadlineError)

@@ -62,8 +62,8 @@ pub(crate) fn status_of<T>(outcome: &Result<T, ReadlineError>) -> Status {
 impl From<ReadlineError> for Status {
     fn from(why: ReadlineError) -> Status {
         match why {
-            ReadlineError::Memory => Status::Memory,
-            _ => Status::Argument,
+            ReadlineError::HistoryText | ReadlineError::NotUtf8 => Status::Argument,
+            _ => Status::Memory,
         }
     }
 }

@@ -2,9 +2,13 @@
 //! on standard error.
 #![tactic(auto)]
 
-ghost use Rattle.std.specs.Prelude.{◌≤◌, IfOk};
+ghost use Rattle.std.specs.Prelude.{◌≡◌, ◌⊎◌, ◌≤◌, Err, IfErr, IfOk};
+ghost use Rattle.line_config.specs.Feed.{fresh_feed};
+ghost use Rattle.line_config.specs.declared.device.Last.TheVariants.{End};
+ghost use Rattle.line_config.specs.declared.errors.ReadlineError.TheVariants.{Memory};
 ghost use Rattle.keyline.specs.Known.{known_by};
-ghost use Rattle.keyline.specs.Program.{PlaysOver, word_texts};
+ghost use Rattle.keyline.specs.Plays.{loads};
+ghost use Rattle.keyline.specs.Program.{PlaysOver, config_of, word_texts};
 
 mod files;
 mod history_file;
@@ -102,12 +106,14 @@ fn play<K: Foretold>(
     old: &[u8],
 ) -> Result<Played<K>, ReadlineError>
     requires { (2 ≤ options.now.columns) × (options.now.columns ≤ 1000) }
-    ensures { let known = known_by ⟦<ReadSource<StdinLock<'static>, K> as Source>⟧.feed
+    ensures plays { let known = known_by ⟦<ReadSource<StdinLock<'static>, K> as Source>⟧.feed
         ⟦<WriteSink<Stderr> as Sink>⟧.held ⟦<WriteSink<Stderr> as Sink>⟧.waits
         ⟦<WriteSink<Stderr> as Sink>⟧.has_failed
         ⟦<WriteSink<Stdout> as Sink>⟧.held ⟦<WriteSink<Stdout> as Sink>⟧.has_failed in
         IfOk result (PlaysOver known ⟦<VecSink as Sink>⟧.held ⟦<VecSink as Sink>⟧.has_failed
         options.now (word_texts words) old.now K.bytes K.last) }
+    ensures refused { IfErr result (λ why. (why ≡ Memory)
+        ⊎ (loads (config_of options.now) (fresh_feed old.now End) ≡ Err why)) }
 {
     keyline::play::<K, _, _, _>(
         rt.alloc(),

@@ -1,6 +1,7 @@
 -- A fault of the display, of memory or of the sink of lines, or none.
-use Rattle.std.proofs.Common.{◌∙◌, ap, Ok, Err}
+use Rattle.std.proofs.Common.{◌∙◌, ◌&&◌, ap, subst, ℕ, List, IsTrue, Ok, Err}
 use Rattle.std.specs.Prelude.{string_bytes}
+use Rattle.line_help.specs.History.{takes}
 use Rattle.line_keys.specs.Coming.{made_of}
 use Rattle.std.proofs.lemmas.Result.{err_from_is_err_and}
 use Rattle.line_screen.proofs.WaitingLemmas.{sent_rests, unsent_rests}
@@ -17,7 +18,8 @@ pub returns-in_err-remember-clause-closes : goal.returns-in_err-remember-clause-
 returns-in_err-remember-clause-closes g c =
     let p = err_from_is_err_and c.from_residual-in_err-remember.result c.from_residual-in_err-remember.ensures.1 in
     closes_unkept g.D.Sink.held g.D.Sink.has_failed g.L.Sink.held g.L.Sink.has_failed
-    c.args.adds _ _ _ _ _ _ _ p.0 c.in_ok-write_and_flush.ensures.made.takes (ap (made_of string_bytes) p.1) (p.2 ∙ c.in_err-remember.ensures.fault.0) c.in_err-remember.ensures.fault.1 c.in_err-remember.ensures.kept
+    c.args.adds _ _ _ _ _ _ _ p.0 c.in_ok-write_and_flush.ensures.made.takes (ap (made_of string_bytes) p.1) (p.2 ∙ c.in_err-remember.ensures.fault.0)
+    (subst (λ (t : List ℕ). IsTrue (c.args.adds && takes c.args.history.now t)) c.as_str.ensures.value c.in_err-remember.ensures.fault.1) c.in_err-remember.ensures.kept
 
 pub returns-in-Ok-clause-closes : goal.returns-in-Ok-clause-closes
 returns-in-Ok-clause-closes g c =
