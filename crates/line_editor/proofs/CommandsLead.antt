@@ -7,9 +7,11 @@ use Rattle.line_buffer.specs.Columns.{line_up, line_down}
 use Rattle.line_buffer.specs.Insertions.{no_insertion, insertion_of, can_take_before, yank as yanked_in}
 use Rattle.line_buffer.specs.LetterCase.{word_to_edit, recase_line}
 use Rattle.line_buffer.specs.Line.{Line, moved_to}
+use Rattle.line_buffer.specs.Range.{copied_range}
 use Rattle.line_buffer.specs.Transpositions.{transposes_chars, transposes_words, transpose_words_line, after_words, before_words, first_word, swap_line, words_around}
 use Rattle.line_buffer.specs.declared.types.Anchor.{Anchor}
 use Rattle.line_buffer.specs.declared.types.Anchor.TheVariants.{After, Before}
+use Rattle.line_buffer.specs.declared.types.Movement.{Movement}
 use Rattle.line_buffer.specs.declared.types.WordAction.{WordAction}
 use Rattle.line_buffer.specs.declared.types.WordAction.TheVariants.{Capitalize, Lowercase, Uppercase}
 use Rattle.line_config.specs.Scripts.{Ends}
@@ -37,6 +39,7 @@ use Rattle.line_editor.specs.Completing.{elected, word_replaced, updates, comple
 use Rattle.line_editor.specs.Drawing.{drawn_behind, repainted, asked_anew, refreshed, moved_to_end}
 use Rattle.line_editor.specs.Hinting.{at_row_end, completed_by, complete_by}
 use Rattle.line_editor.specs.Inserting.{insert_char}
+use Rattle.line_editor.specs.Killing.{copy_effect}
 use Rattle.line_editor.specs.Leads.{Leads, CommandsLead, SubmittingLeads, AsksLead}
 use Rattle.line_editor.specs.Moving.{move_buffer_end}
 use Rattle.line_editor.specs.Redraws.Redraw.{Drawn, Bared, Beeped}
@@ -246,6 +249,11 @@ up_leads n s v = either s v (is_some (line_up s.mode s.column n v.line)) _ _ (λ
 down_leads : (n : ℕ) (s : Setting) (v : Value) → Leads s v (line_down_or_next n s v)
 down_leads n s v = either s v (is_some (line_down s.mode s.column n v.line)) _ _ (λ e. step_leads _ _ _ s v refl) (λ e. step_back_leads false s v)
 
+-- ---- a copy
+
+copy_leads : (movement : Movement) (s : Setting) (v : Value) → Leads s v (copy_effect movement s v)
+copy_leads movement s v = either s v (is_some (copied_range movement v.line)) _ _ (λ e. take_leads s v v (unchanged s v) (rest_leads s v v refl)) (λ e. rest_leads s v v refl)
+
 -- ---- the laws
 
 pub commands_lead : CommandsLead
@@ -286,7 +294,7 @@ commands_lead m (TransposeWords n) s v = words_lead n s v
 commands_lead m (Undo n) s v = undo_leads n s v
 commands_lead m Unknown s v = rest_leads s v v refl
 commands_lead m UpcaseWord s v = word_leads Uppercase s v
-commands_lead m (ViYankTo movement) s v = λ info. record { fits = (tt, tt); leads = refl }
+commands_lead m (ViYankTo movement) s v = copy_leads movement s v
 commands_lead m (Yank n anchor) s v = lent_leads (in_vi_command m) anchor n (slice_get m.ring.slots m.ring.place) s v
 commands_lead m YankPop s v = pop_leads (exchanged m.ring) s v
 commands_lead m (LineUpOrPreviousHistory n) s v = up_leads n s v

@@ -6,7 +6,7 @@ use Rattle.line_buffer.specs.Insertions.{kept_text, can_take_before, insert as i
 use Rattle.line_buffer.specs.Clusters.{place_forward, place_backward}
 use Rattle.line_buffer.specs.Line.{Line, moved_to}
 use Rattle.line_buffer.specs.LetterCase.{word_to_edit}
-use Rattle.line_buffer.specs.Range.{range_of}
+use Rattle.line_buffer.specs.Range.{range_of, copied_range}
 use Rattle.line_buffer.specs.Transpositions.{transposes_chars, transposes_words}
 use Rattle.line_buffer.specs.declared.types.Anchor.{Anchor}
 use Rattle.line_buffer.specs.declared.types.Anchor.TheVariants.{After, Before}
@@ -331,7 +331,7 @@ command_held m (TransposeWords n) s text at v quiet inside h away = keeps_held s
 command_held m (Undo n) s text at v quiet inside h away = keeps_held s text at v (effect m (Undo n) s v).value h away (either v (has_step (max n 1) v.held) _ _ (kept refl refl (back_grows (max n 1) v.held v.line)) (kept refl refl refl))
 command_held m Unknown s text at v quiet inside h away = keeps_held s text at v (effect m Unknown s v).value h away (same v)
 command_held m UpcaseWord s text at v quiet inside h away = keeps_held s text at v (effect m UpcaseWord s v).value h away (word_keeps Uppercase s v)
-command_held m (ViYankTo movement) s text at v quiet inside h away = keeps_held s text at v (effect m (ViYankTo movement) s v).value h away (same v)
+command_held m (ViYankTo movement) s text at v quiet inside h away = keeps_held s text at v (effect m (ViYankTo movement) s v).value h away (either v (is_some (copied_range movement v.line)) _ _ (same v) (same v))
 command_held m (Yank n anchor) s text at v quiet inside h away = keeps_held s text at v (effect m (Yank n anchor) s v).value h away (lent_keeps (in_vi_command m) anchor n (slice_get m.ring.slots m.ring.place) s v)
 command_held m YankPop s text at v quiet inside h away = keeps_held s text at v (effect m YankPop s v).value h away (pop_keeps (exchanged m.ring) s v)
 command_held m Newline s text at v quiet inside h away = keeps_held s text at v (effect m Newline s v).value h away (then_keeps v (bare s v).value _ (bare_keeps s v) (insertion_keeps 10 1 s (bare s v).value))

@@ -7,7 +7,7 @@ use Rattle.line_buffer.specs.Insertions.{is_inside_char, can_take_before, insert
 use Rattle.line_buffer.specs.Clusters.{place_forward, place_backward}
 use Rattle.line_buffer.specs.Line.{Line, moved_to, put_in, replaced}
 use Rattle.line_buffer.specs.LetterCase.{word_to_edit, edit_word_events, edit_word_line}
-use Rattle.line_buffer.specs.Range.{range_of, deletion_events, deletion_line}
+use Rattle.line_buffer.specs.Range.{range_of, copied_range, deletion_events, deletion_line}
 use Rattle.line_buffer.specs.Replay.{insertion as told_insertion, replacement}
 use Rattle.line_buffer.specs.Transpositions.{transposes_chars, transposes_words, transpose_words_events, transpose_words_line}
 use Rattle.line_buffer.specs.declared.types.Anchor.{Anchor}
@@ -40,7 +40,7 @@ use Rattle.line_help.specs.declared.validate.ValidationResult.TheVariants.{Incom
 use Rattle.line_keys.specs.Refreshing.{Ask}
 use Rattle.line_keys.specs.Refreshing.Ask.{Line as LineAsked, Message, Prompted, DoingInsert, DoneInserting}
 use Rattle.line_keys.specs.declared.command.Cmd.{Cmd}
-use Rattle.line_keys.specs.declared.command.Cmd.TheVariants.{AcceptLine, BeginningOfHistory, CapitalizeWord, Complete, CompleteHint, Dedent, DowncaseWord, EndOfHistory, HistorySearchBackward, HistorySearchForward, Indent, Insert, Kill, Move, NextHistory, Overwrite, PreviousHistory, ReplaceChar, Replace, SelfInsert, TransposeChars, TransposeWords, Undo, UpcaseWord, Yank, YankPop, LineUpOrPreviousHistory, LineDownOrNextHistory, Newline, AcceptOrInsertLine}
+use Rattle.line_keys.specs.declared.command.Cmd.TheVariants.{AcceptLine, BeginningOfHistory, CapitalizeWord, Complete, CompleteHint, Dedent, DowncaseWord, EndOfHistory, HistorySearchBackward, HistorySearchForward, Indent, Insert, Kill, Move, NextHistory, Overwrite, PreviousHistory, ReplaceChar, Replace, SelfInsert, TransposeChars, TransposeWords, Undo, UpcaseWord, ViYankTo, Yank, YankPop, LineUpOrPreviousHistory, LineDownOrNextHistory, Newline, AcceptOrInsertLine}
 use Rattle.line_keys.specs.declared.command.CmdKind.{CmdKind}
 use Rattle.line_keys.specs.declared.command.CmdKind.TheVariants.{ForcedRefresh, MoveCursor, Other}
 use Rattle.line_record.specs.Held.{closes}
@@ -312,6 +312,7 @@ command_reached m (Yank n anchor) s v first ok r = lent_reached (in_vi_command m
 command_reached m YankPop s v first ok r = pop_reached (exchanged m.ring) s v first ok r
 command_reached m (Move movement) s v first ok r = motion_reached movement s v first r
 command_reached m (Kill movement) s v first ok r = kill_reached movement s v first ok r
+command_reached m (ViYankTo movement) s v first ok r = either first (is_some (copied_range movement v.line)) _ _ r r
 command_reached m (Replace movement text) s v first ok r = text_reached text s (kill_effect movement s v).value first (kill_reached movement s v first ok r)
 command_reached m (ReplaceChar n c) s v first ok r = char_reached c n s v first ok r
 command_reached m (Overwrite c) s v first ok r = over_reached c s v first ok r

@@ -19,11 +19,11 @@ use Rattle.line_editor.specs.Completing.{complete}
 use Rattle.line_editor.specs.Drawing.{refreshed, cleared_and_drawn, moved_to_end}
 use Rattle.line_editor.specs.Hinting.{complete_hint}
 use Rattle.line_editor.specs.Inserting.{insert_char, replace_char, overwrite_char}
-use Rattle.line_editor.specs.Killing.{kill_effect, replace, killed_into, copied_into}
+use Rattle.line_editor.specs.Killing.{kill_effect, replace, killed_into, copy_effect, copied_into}
 use Rattle.line_editor.specs.Moving.{move_by, move_line_up, move_line_down}
 use Rattle.line_editor.specs.Remembering.{history_step, history_end, history_search}
 use Rattle.line_editor.specs.Rewording.{transpose_chars_effect, transpose_words_effect, edit_word_effect, indent_effect, undo}
-use Rattle.line_editor.specs.Values.{Value, Setting, Transition, unchanged, taking_memory}
+use Rattle.line_editor.specs.Values.{Value, Setting, Transition, unchanged}
 use Rattle.line_editor.specs.Yanking.{yank_text, yank_lent, pop_lent}
 use Rattle.line_editor.specs.declared.commands.Status.{Status}
 use Rattle.line_editor.specs.declared.commands.Status.TheVariants.{Proceed, Submit}
@@ -93,7 +93,7 @@ effect m CompleteHint = complete_hint
 effect m AcceptLine = accept
 effect m (AcceptOrInsertLine middle) = accept_or_insert middle
 effect m Interrupt = moved_to_end
-effect m (ViYankTo movement) = taking_memory
+effect m (ViYankTo movement) = copy_effect movement
 effect m cmd = unchanged
 
 abbrev pub ring_after_command : Cmd → Value → Ring → Ring

@@ -10,7 +10,7 @@ use Rattle.line_buffer.specs.Printable.{is_printable, at_plain_end, is_plain}
 use Rattle.line_editor.specs.Drawing.{drawn, asked_anew}
 use Rattle.line_editor.specs.Inserting.{is_bare, insert_text}
 use Rattle.line_editor.specs.Redraws.Redraw.{Taken}
-use Rattle.line_editor.specs.Values.{Value, Transition, unchanged, then_do, redrawn, rewritten, rewriting}
+use Rattle.line_editor.specs.Values.{Value, Transition, unchanged, taking_memory, then_do, redrawn, rewritten, rewriting}
 
 -- whether an erased rest of the row may show a kill: printable characters, taken from a bare line
 abbrev pub may_be_taken : List ℕ → Value → Bool
@@ -55,6 +55,11 @@ killed_into movement v r = ring_all (kill_events movement v.line) r
 abbrev pub copied_by : Option (List ℕ) → Ring → Ring
 copied_by None r = r
 copied_by (Some text) r = killed text Append r
+
+-- what is copied takes memory; nothing is drawn
+abbrev pub copy_effect : Movement → Transition
+copy_effect movement s v =
+    if is_some (copied_range movement v.line) then taking_memory s v else unchanged s v
 
 abbrev pub copied_into : Movement → Value → Ring → Ring
 copied_into movement v r =

@@ -1,6 +1,6 @@
 //! What is killed, and what is copied into the ring.
-ghost use Rattle.std.specs.Prelude.{◌≡◌, ◌⊎◌, OnOk, IfErr, length, drop};
-ghost use Rattle.line_buffer.specs.Range.{kill_line};
+ghost use Rattle.std.specs.Prelude.{◌≡◌, ◌⊎◌, OnOk, IfErr, length, drop, is_some, IsTrue};
+ghost use Rattle.line_buffer.specs.Range.{kill_line, copied_range};
 ghost use Rattle.line_config.specs.declared.errors.ReadlineError.{ReadlineError};
 ghost use Rattle.line_edits.specs.Edits.{unkilled};
 
@@ -111,8 +111,8 @@ impl<'p, 'h, Out: Renderer, H: Helper + Drop, Hi: History> State<'p, 'h, Out, H,
     ) -> Result<(), ReadlineError>
         ensures ring { OnOk result
             (ring.new ≡ copied_into movement.now (value_of self.now) ring.old) }
-        ensures refused { IfErr result
-            (λ e. (e ≡ ReadlineError.Memory) × (ring.new ≡ ring.old)) }
+        ensures refused { IfErr result (λ e. (e ≡ ReadlineError.Memory) × (ring.new ≡ ring.old)
+            × IsTrue (is_some (copied_range movement.now (value_of self.now).line))) }
     {
         if let Some(text) = self.recorded.line.copy(self.alloc, movement)? {
             ring.kill(self.alloc, text.as_str(), Mode::Append)?;
