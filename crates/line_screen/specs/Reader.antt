@@ -199,10 +199,28 @@ pub record AnswersChar {S : Type 0} (feed : S → Feed) (old new : KeyReader S)
   pub falls : OnOk result ((feed_in feed new).bound < (feed_in feed old).bound)
   pub keeps : (feed_in feed new).bound ≤ (feed_in feed old).bound
 
+-- an earlier call wanted memory, and this one reads nothing
+abbrev pub StaysShort : {S : Type 0} → (S → Feed) → KeyReader S → KeyReader S → Type 0
+StaysShort feed old new =
+    (coming_in feed old ≡ Refused Memory) × (left_in feed new ≡ left_in feed old)
+
 -- want of memory is an earlier call's, and every call's since
-abbrev pub IsMemoryKept : {S X : Type 0} → (S → Feed) → KeyReader S → Result X ReadlineError
-    → Type 0
-IsMemoryKept feed old result = IfErr result (λ e. e ≡ Memory → coming_in feed old ≡ Refused Memory)
+abbrev pub IsMemoryKept : {S X : Type 0} → (S → Feed) → KeyReader S → KeyReader S
+    → Result X ReadlineError → Type 0
+IsMemoryKept feed old new result = IfErr result (λ e. e ≡ Memory → StaysShort feed old new)
+
+-- memory is wanting in a text that is announced, where the source works and no call was refused for
+-- good
+pub record RunsShort {S : Type 0} (feed : S → Feed) (old new : KeyReader S) : Type 0 where
+  pub works : (feed_in feed old).failed ≡ false
+  pub past : old.refused ≡ None
+  pub announced : old.announced ≡ true
+
+-- want of memory is an earlier call's, or comes in this text
+abbrev pub IsMemoryOfText : {S X : Type 0} → (S → Feed) → KeyReader S → KeyReader S
+    → Result X ReadlineError → Type 0
+IsMemoryOfText feed old new result =
+    IfErr result (λ e. e ≡ Memory → StaysShort feed old new ⊎ RunsShort feed old new)
 
 -- a byte is kept only after such an item; a call that is refused for what was before keeps what was
 -- kept
@@ -216,15 +234,16 @@ pub record AsksKey {S : Type 0} (feed : S → Feed) (old new : KeyReader S)
     (result : Result KeyEvent ReadlineError) : Type 0 where
   pub call : AnswersKey feed old new result
   pub kept : KeepsAfter IsEsc old new result
-  pub memory : IsMemoryKept feed old result
+  pub memory : IsMemoryKept feed old new result
 
 pub record AsksChar {S : Type 0} (feed : S → Feed) (old new : KeyReader S)
     (result : Result ℕ ReadlineError) : Type 0 where
   pub call : AnswersChar feed old new result
   pub kept : KeepsAfter (λ _. ⊥) old new result
-  pub memory : IsMemoryKept feed old result
+  pub memory : IsMemoryKept feed old new result
 
 pub record AsksText {S : Type 0} (feed : S → Feed) (old new : KeyReader S)
     (result : Result (List ℕ) ReadlineError) : Type 0 where
   pub call : AnswersText feed old new result
   pub kept : KeepsAfter (λ _. ⊥) old new result
+  pub memory : IsMemoryOfText feed old new result
