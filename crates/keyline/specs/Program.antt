@@ -7,7 +7,7 @@ use Rattle.line_config.specs.Feed.{Feed, fresh_feed}
 use Rattle.line_config.specs.declared.config.Config.{Config}
 use Rattle.line_keys.specs.Replies.{gives, gives_at_once}
 use Rattle.line_help.specs.Completion.{nothing_offered}
-use Rattle.line_help.specs.Validation.{bracket_verdict}
+use Rattle.line_help.specs.Validation.{bracket_reply}
 use Rattle.line_help.specs.Completion.{word_reply}
 use Rattle.line_help.specs.declared.bracket_validator.MatchingBracketValidator.{MatchingBracketValidator}
 use Rattle.line_help.specs.declared.helper_parts.HelperParts.{HelperParts}
@@ -74,7 +74,7 @@ helper_of options words = if options.brackets || is_some words
 -- what it gives, and it helps with nothing else
 abbrev pub edit_helping : Option EditHelper → Helping
 edit_helping = helping_by (λ helper line pos entries place. gives_at_once None)
-    (λ helper text. option_map_or (λ validator. gives (bracket_verdict text)) helper.validator
+    (λ helper text. option_map_or (λ validator. bracket_reply text) helper.validator
     (gives_at_once (Valid None)))
     (λ helper line pos entries place. option_map_or (λ words. word_reply words (take pos line))
     helper.completer (gives_at_once nothing_offered))

@@ -1,6 +1,8 @@
 -- Validation: whether a text is a whole line.
 use Rattle.std.specs.Prelude.{ℕ, ◌==◌, Bool, true, false, if◌then◌else◌, List, [], ◌∷◌, ◌++◌, Some, None, codes, encode_utf8, ◌≡◌, ◌≢◌, ◌↔◌, ◌⊎◌}
-use Rattle.line_help.specs.Brackets.{is_opening, is_closing, partner, all_kinds, Balanced}
+use Rattle.std.specs.List.{list_any}
+use Rattle.line_keys.specs.Replies.{Reply}
+use Rattle.line_help.specs.Brackets.{is_bracket, is_opening, is_closing, partner, all_kinds, Balanced}
 use Rattle.line_help.specs.declared.validate.ValidationResult.{ValidationResult}
 use Rattle.line_help.specs.declared.validate.ValidationResult.TheVariants.{Incomplete, Invalid, Valid}
 
@@ -51,6 +53,11 @@ verdict_from unclosed (byte ∷ text) = if is_opening byte then verdict_from (by
 
 abbrev pub bracket_verdict : List ℕ → ValidationResult
 bracket_verdict text = verdict_from [] text
+
+-- what the validator by brackets gives of a text: memory is taken only where a bracket stands in it
+abbrev pub bracket_reply : List ℕ → Reply ValidationResult
+bracket_reply text =
+    record { answer = Some (bracket_verdict text); takes = list_any is_bracket text }
 
 -- a text is valid where its brackets are balanced
 abbrev pub ValidIsBalanced : Type 0

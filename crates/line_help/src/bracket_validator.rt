@@ -1,8 +1,9 @@
 //! Validation by brackets.
-ghost use Rattle.std.specs.Prelude.{◌≡◌, ◌++◌, false, IfOk, IfErr, codes, encode_utf8};
+ghost use Rattle.std.specs.Prelude.{◌≡◌, ◌++◌, false, IsTrue, IfOk, IfErr, codes, encode_utf8};
+ghost use Rattle.std.specs.List.{list_any};
 ghost use Rattle.line_config.specs.declared.errors.HookFault.TheVariants.{Memory};
-ghost use Rattle.line_keys.specs.Replies.{gives};
-ghost use Rattle.line_help.specs.Validation.{bracket_verdict};
+ghost use Rattle.line_help.specs.Brackets.{is_bracket};
+ghost use Rattle.line_help.specs.Validation.{bracket_reply, bracket_verdict};
 
 use crate::brackets::{is_closing, is_opening, partner};
 use crate::validate::{ValidationContext, ValidationResult, Validator};
@@ -25,7 +26,7 @@ impl MatchingBracketValidator {
 }
 
 impl Validator for MatchingBracketValidator {
-    ghost verdict_of = { λ self text. gives (bracket_verdict text) };
+    ghost verdict_of = { λ self text. bracket_reply text };
 
     ghost while_typing = { λ self. false };
 
@@ -44,10 +45,11 @@ impl Validator for MatchingBracketValidator {
 
 /// Whether the brackets of a text are balanced. The first closing bracket that doesn't fit makes it
 /// invalid, with a message that names the innermost open bracket, or the closing one where none is
-/// open.
+/// open. Only a text with a bracket takes memory.
 pub fn validate_brackets(alloc: Global, input: &str) -> Result<ValidationResult, HookFault>
     ensures verdict { IfOk result (λ found. found ≡ bracket_verdict input.now) }
-    ensures fault { IfErr result (λ e. e ≡ Memory) }
+    ensures fault { IfErr result (λ e. (e ≡ Memory)
+        × IsTrue (list_any is_bracket input.now)) }
 {
     let bytes = input.as_bytes();
     let mut unclosed: Vec<u8> = Vec::new(alloc);
