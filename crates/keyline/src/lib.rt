@@ -51,5 +51,5 @@ pub use line_keys::{
     EventMap, InputMode, Invoke, KeyCode, KeyEvent, Keys, Modifiers, Text,
 };
 pub use options::{Options, Parsed, parse};
-pub use program::{config_of, edit, helper_of, play, standard_devices};
+pub use program::{config_of, edit, helper_of, play};
 pub use session::{Ended, LineRead, Session, Unopened};

@@ -1,7 +1,6 @@
 //! A session by the program's options.
 
-ghost use Rattle.std.specs.Prelude.{[], ◌≡◌, ◌⊎◌, ◌≤◌, Err, IfErr, IfOk, false};
-ghost use Rattle.line_config.specs.Adapters.{gave, taken};
+ghost use Rattle.std.specs.Prelude.{◌≡◌, ◌⊎◌, ◌≤◌, Err, IfErr, IfOk, false};
 ghost use Rattle.line_config.specs.Feed.{fresh_feed};
 ghost use Rattle.line_config.specs.declared.device.Last.TheVariants.{End};
 ghost use Rattle.line_config.specs.declared.errors.ReadlineError.TheVariants.{Memory};
@@ -18,7 +17,7 @@ use line_config::{
 use line_help::{HelperParts, MatchingBracketValidator, WordCompleter};
 use line_keys::Bindings;
 use std::alloc::Global;
-use std::io::{Input, Read, Stderr, Stdin, StdinLock, Stdout, Write};
+use std::io::{Read, Write};
 
 /// The settings of options: each accepted line is kept in the history.
 pub fn config_of(options: &Options) -> Config
@@ -131,28 +130,4 @@ pub fn play<K: Foretold, R: Read + Drop, E: Write + Drop, W: Write + Drop>(
     let _ = played.display.flush();
     let _ = played.lines.flush();
     Ok(played)
-}
-
-/// The standard streams as devices of a session: keys from standard input, the display on standard
-/// error, and accepted lines to standard output.
-pub fn standard_devices(
-    stdin: Stdin,
-    stderr: Stderr,
-    stdout: Stdout,
-) -> (
-    ReadSource<StdinLock<'static>>,
-    WriteSink<Stderr>,
-    WriteSink<Stdout>,
-)
-    ensures keys { (⟦<ReadSource<StdinLock<'static>> as Source>⟧.feed result.0).failed ≡ false }
-    ensures display { ⟦<WriteSink<Stderr> as Sink>⟧.has_failed result.1 ≡ false }
-    ensures lines { ⟦<WriteSink<Stdout> as Sink>⟧.has_failed result.2 ≡ false }
-    ensures nothing_read { gave result.0 ≡ [] }
-    ensures nothing_written { (taken result.1 ≡ []) × (taken result.2 ≡ []) }
-{
-    (
-        ReadSource::new(stdin.reader()),
-        WriteSink::new(stderr),
-        WriteSink::new(stdout),
-    )
 }
