@@ -50,8 +50,8 @@ module _ {D L : Type 0} (shown : D → List ℕ) (written_in : L → List ℕ) (
 
   -- the display or the sink of lines fails, and has taken a beginning of the bytes; the helper
   -- fails; or memory is wanting, and in a paste it may be that every read is refused from there on.
-  -- None is taken to write a line, nor for one that the history doesn't take, or where lines aren't
-  -- added. No other fault stops
+  -- None is taken to write a line, nor to keep one that the history ignores, nor any where lines
+  -- aren't added. No other fault stops
   abbrev pub IsStopped : Work D L → SessionEvent → ReadlineError → Work D L → Type 0
   IsStopped x (Draws bytes) Display y =
       TakesSome shown x.display y.display bytes × (y ≡ record x { display = y.display })
