@@ -210,11 +210,11 @@ module _ {D L : Type 0} (shown : D → List ℕ) (written_in : L → List ℕ) (
     stands why p c a b is wants same =
         subst (λ why. GoesIn p (on a c) (Err why) (on b c)) (sym is) (subst (λ out. GoesIn p (on a c) (Err Memory) (on out c)) (sym same) (wanting p (on a c) wants))
 
-    unhelped : {X : Type 0} (why : ReadlineError) (fails : Bool) (later : SessionScript X) (c : Coming) (a b : ScreenRenderer D) → Unhelped fails why → b ≡ a
+    unhelped : {X : Type 0} (why : ReadlineError) (fails takes : Bool) (later : SessionScript X) (c : Coming) (a b : ScreenRenderer D) → Unhelped fails takes why → b ≡ a
         → GoesIn (Asks (Helped fails) (λ none. later)) (on a c) (Err why) (on b c)
-    unhelped Helper fails later c a b h same = inr (Helper, (h, ap (λ out. on out c) same), refl)
-    unhelped Memory fails later c a b h same = inr (Memory, ap (λ out. on out c) same, refl)
-    unhelped _ fails later c a b h same = absurd h
+    unhelped Helper fails takes later c a b h same = inr (Helper, (h, ap (λ out. on out c) same), refl)
+    unhelped Memory fails takes later c a b h same = inr (Memory, ap (λ out. on out c) same, refl)
+    unhelped _ fails takes later c a b h same = absurd h
 
     -- ---- steps: one that was refused, and those of which the first were made
 
@@ -223,8 +223,8 @@ module _ {D L : Type 0} (shown : D → List ℕ) (written_in : L → List ℕ) (
     stopped_step (DrawStep v marks x) later wants c e a b is h =
         let calls = (asked_by (ruler_of s) marks a.layout x).calls in
         subst (λ why. GoesIn (calls_then s calls later) (on a.out c) (Err why) (on b.out c)) (sym h.0) (calls_break calls later c a.out b.out is h.1)
-    stopped_step (HelpStep v fails) later wants c e a b is h = unhelped e.fault fails later c a.out b.out h.0 (ap (λ x. x.out) h.1)
-    stopped_step (UpdateStep v fails) later wants c e a b is h = unhelped e.fault fails later c a.out b.out h.0 (ap (λ x. x.out) h.1)
+    stopped_step (HelpStep v fails takes) later wants c e a b is h = unhelped e.fault fails takes later c a.out b.out h.0 (ap (λ x. x.out) h.1)
+    stopped_step (UpdateStep v fails) later wants c e a b is h = unhelped e.fault fails true later c a.out b.out h.0 (ap (λ x. x.out) h.1)
     stopped_step (EditingStep v edit) later wants c e a b is h = stands e.fault later c a.out b.out h.0 wants (ap (λ x. x.out) h.1)
     stopped_step (BackStep v) later wants c e a b is h = stands e.fault later c a.out b.out h.0 wants (ap (λ x. x.out) h.1)
     stopped_step (TakingStep v) later wants c e a b is h = stands e.fault later c a.out b.out h.0 wants (ap (λ x. x.out) h.1)

@@ -63,7 +63,7 @@ one_tells s own l x (Draws v m ToEnd) h fits =
     let t = moved_tells l x l.end (same_cell l.cursor l.end) h in
     record { info_is = t.info_is; given_is = t.given_is }
 one_tells s own l x (Draws v m Beeped) h fits = h
-one_tells s own l x (Helped v fails) h fits = h
+one_tells s own l x (Helped v fails takes) h fits = h
 one_tells s own l x (Updates v fails) h fits = h
 one_tells s own l x (Edits v edit) h fits = h
 one_tells s own l x (TakesBack v) h fits = h
@@ -92,7 +92,7 @@ shown_short a u step c false alone room before after = cc
 help_bytes : {A : Type 0} (s : Screen) (l : Layout) (u : Value) (step : EditStep) (reply : Option (Reply A)) (steps : List EditStep) → one (ruler_of s) l step ≡ nothing_asked l
     → bytes_for s l (step ∷ (helped u reply ++ steps)) ≡ bytes_for s l steps
 help_bytes s l u step None steps nothing = ap (λ a. flat_map (bytes_of s) (a.calls ++ (drawn_by s a.layout steps).calls)) nothing
-help_bytes s l u step (Some reply) steps nothing = ap (λ a. flat_map (bytes_of s) (a.calls ++ (drawn_by s a.layout (Helped u (fails reply) ∷ steps)).calls)) nothing
+help_bytes s l u step (Some reply) steps nothing = ap (λ a. flat_map (bytes_of s) (a.calls ++ (drawn_by s a.layout (Helped u (fails reply) reply.takes ∷ steps)).calls)) nothing
 
 sent_short : (s : Screen) (l : Layout) (a : Setting) (u : Value) (step : EditStep) (c : ℕ) (b alone : Bool) → b ≡ true → alone ≡ true
     → (let shown = inserted_shown c alone a u in let e : Effect = if b then record { value = shown.value; steps = step ∷ shown.steps } else unchanged a u in

@@ -308,7 +308,7 @@ module _ (s : Screen) (low : 2 ≤ s.columns) (high : s.columns ≤ 1000) where
   step own bytes over top l x (Draws v m ToEnd) h fits rows = end_if bytes over top l x (same_cell l.cursor l.end) h (record { finish = rows.finish; cursor = rows.cursor }) refl
   step own bytes over top l x (Draws v m Beeped) h fits rows = same_holds bytes over top l x Beep h refl (λ e. cc)
   step own bytes over top l x (Draws v m Cleared) h fits rows = fresh_holds (bytes ++ flat_map (bytes_of s) (ClearScreen ∷ [])) [] 0 l (cleared_led bytes over (view_in s top x) h.good)
-  step own bytes over top l x (Helped v fails) h fits rows = same_holds bytes over top l x (Help fails) h refl (λ e. cc)
+  step own bytes over top l x (Helped v fails takes) h fits rows = same_holds bytes over top l x (Help fails) h refl (λ e. cc)
   step own bytes over top l x (Updates v fails) h fits rows = same_holds bytes over top l x (Help fails) h refl (λ e. cc)
   step own bytes over top l x (Edits v edit) h fits rows = still_holds bytes over top l x h
   step own bytes over top l x (TakesBack v) h fits rows = still_holds bytes over top l x h

@@ -85,7 +85,7 @@ module _ {Out H Hi K T : Type 0} {renderer : renderers.Renderer.Ghosts Out} {com
   Touches s t = value_of t ≡ record (value_of s) { line = t.recorded.line; held = held_on t.recorded.changes t.recorded.line.text }
 
   updating_stops : (start : ℕ) (text : List ℕ) (s t : State Out H Hi K T renderer completer candidate hinter hint highlighter validator history) (e : ReadlineError)
-      → is_some s.helper ≡ true → Unhelped (fails_by (update_reply start text (setting_of s) (value_of s))) e → surface_of t ≡ surface_of s → Touches s t
+      → is_some s.helper ≡ true → Unhelped (fails_by (update_reply start text (setting_of s) (value_of s))) true e → surface_of t ≡ surface_of s → Touches s t
       → Stops renderer.canvas (renderer.canvas.ruler s.out) (word_updated start text (setting_of s) (value_of s)).steps (surface_of s) e (value_of t) (surface_of t)
   updating_stops start text s t e some why same touches =
       stops_updating renderer.canvas (renderer.canvas.ruler s.out) (value_of s) (update_reply start text (setting_of s) (value_of s)) (surface_of s) (surface_of t) e (value_of t)
@@ -104,7 +104,7 @@ module _ {Out H Hi K T : Type 0} {renderer : renderers.Renderer.Ghosts Out} {com
 
   pub updating_wants : {A : Type 0} (start : ℕ) (text : List ℕ) (s t : State Out H Hi K T renderer completer candidate hinter hint highlighter validator history)
       → is_some s.helper ≡ true → surface_of t ≡ surface_of s → Stays s t → Touches s t → Does {A = A} (word_updated start text) s t (Err Memory)
-  updating_wants start text s t some same stays touches = does_refused (word_updated start text) s t Memory stays tt (updating_stops start text s t Memory some tt same touches)
+  updating_wants start text s t some same stays touches = does_refused (word_updated start text) s t Memory stays tt (updating_stops start text s t Memory some refl same touches)
 
   -- ---- the candidates
 

@@ -103,9 +103,9 @@ module _ {R : Type 0} (canvas : Canvas R) (r : Ruler) where
   unfolding Stops
   stops_taking stands more old new fault v is same value = inr (refusal fault v, (is, same, value), refl)
 
-  unhelped_by : {A : Type 0} (reply : Reply A) (fault : ReadlineError) → IsHelpFault (Some reply) fault → Unhelped (fails reply) fault
+  unhelped_by : {A : Type 0} (reply : Reply A) (fault : ReadlineError) → IsHelpFault (Some reply) fault → Unhelped (fails reply) reply.takes fault
   unhelped_by reply Helper why = why
-  unhelped_by reply Memory why = tt
+  unhelped_by reply Memory why = why
   unhelped_by reply _ why = absurd why
 
   -- a hook was asked
@@ -117,7 +117,7 @@ module _ {R : Type 0} (canvas : Canvas R) (r : Ruler) where
 
   -- it was asked to make an edit of the line
   pub stops_updating : (stands : Value) (reply : Option (Reply ⊤)) (old new : Surface R) (fault : ReadlineError) (v : Value)
-      → is_some reply ≡ true → Unhelped (fails_by reply) fault → new ≡ old → SameBeside stands v → Stops canvas r (updates reply stands) old fault v new
+      → is_some reply ≡ true → Unhelped (fails_by reply) true fault → new ≡ old → SameBeside stands v → Stops canvas r (updates reply stands) old fault v new
   unfolding Stops
   stops_updating stands None old new fault v some why same value = absurd (true≢false (sym some))
   stops_updating stands (Some reply) old new fault v some why same value = inr (refusal fault v, (why, same, value), refl)

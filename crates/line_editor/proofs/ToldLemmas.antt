@@ -207,18 +207,18 @@ module _ {R : Type 0} (canvas : Canvas R) (u : Ruler) (a : Setting) (indent : �
 -- ---- a line
 
 module _ {R : Type 0} (canvas : Canvas R) (r : Ruler) where
-  unhelped_cause : (fails : Bool) (e : ReadlineError) → Unhelped fails e → reason_of true ⊤ e
-  unhelped_cause fails Helper h = tt
-  unhelped_cause fails Memory h = tt
-  unhelped_cause fails _ h = absurd h
+  unhelped_cause : (fails takes : Bool) (e : ReadlineError) → Unhelped fails takes e → reason_of true ⊤ e
+  unhelped_cause fails takes Helper h = tt
+  unhelped_cause fails takes Memory h = tt
+  unhelped_cause fails takes _ h = absurd h
 
   caused_by : (e f : ReadlineError) → e ≡ f → reason_of true ⊤ f → reason_of true ⊤ e
   caused_by e f is why = subst (reason_of true ⊤) (sym is) why
 
   step_cause : (step : EditStep) (e : Refusal) (x y : Surface R) → StepCut canvas r x step e y → reason_of true ⊤ e.fault
   step_cause (Draws v marks redraw) e x y h = caused_by e.fault Display h.0 refl
-  step_cause (Helped v fails) e x y h = unhelped_cause fails e.fault h.0
-  step_cause (Updates v fails) e x y h = unhelped_cause fails e.fault h.0
+  step_cause (Helped v fails takes) e x y h = unhelped_cause fails takes e.fault h.0
+  step_cause (Updates v fails) e x y h = unhelped_cause fails true e.fault h.0
   step_cause (Edits v edit) e x y h = caused_by e.fault Memory h.0 tt
   step_cause (TakesBack v) e x y h = caused_by e.fault Memory h.0 tt
   step_cause (Takes v) e x y h = caused_by e.fault Memory h.0 tt

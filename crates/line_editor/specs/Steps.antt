@@ -1,5 +1,5 @@
 -- What the steps of an edit ask of a renderer, and where a fault stops them.
-use Rattle.std.specs.Prelude.{◌≡◌, ⊤, Bool, List, [], ◌∷◌, Err, IsTrue}
+use Rattle.std.specs.Prelude.{◌≡◌, ⊤, Bool, true, List, [], ◌∷◌, Err, IsTrue}
 use Rattle.std.specs.List.{FoldsTo}
 use Rattle.line_buffer.specs.declared.layout.Layout.{Layout}
 use Rattle.line_config.specs.Scripts.{Script, Ends, Asks, World, Goes}
@@ -19,7 +19,7 @@ help_asked l fails = record { calls = Help fails ∷ []; layout = l }
 
 abbrev pub one : Ruler → Layout → EditStep → Asked
 one r l (Draws v marks x) = asked_by r marks l x
-one r l (Helped v fails) = help_asked l fails
+one r l (Helped v fails takes) = help_asked l fails
 one r l (Updates v fails) = help_asked l fails
 one r l (Edits v edit) = nothing_asked l
 one r l (TakesBack v) = nothing_asked l
@@ -47,11 +47,11 @@ pub record Refusal : Type 0 where
 abbrev pub refusal : ReadlineError → Value → Refusal
 refusal fault value = record { fault = fault; value = value }
 
--- the helper fails, or finds no memory
-abbrev pub Unhelped : Bool → ReadlineError → Type 0
-Unhelped fails Helper = IsTrue fails
-Unhelped fails Memory = ⊤
-Unhelped fails why = ⊥
+-- the helper fails, or finds no memory where it takes some
+abbrev pub Unhelped : Bool → Bool → ReadlineError → Type 0
+Unhelped fails takes Helper = IsTrue fails
+Unhelped fails takes Memory = IsTrue takes
+Unhelped fails takes why = ⊥
 
 -- what an edit of line and record that was refused leaves: all else is as it was
 abbrev pub SameBeside : Value → Value → Type 0
@@ -71,9 +71,10 @@ abbrev pub StepCut : {R : Type 0} → Canvas R → Ruler → Surface R → EditS
 StepCut canvas r s (Draws v marks x) e t =
     (e.fault ≡ Display) × BrokenOff canvas (asked_by r marks s.layout x).calls s.out t.out
     × (t.layout ≡ s.layout) × (e.value ≡ v)
-StepCut canvas r s (Helped v fails) e t = Unhelped fails e.fault × (t ≡ s) × (e.value ≡ v)
+StepCut canvas r s (Helped v fails takes) e t =
+    Unhelped fails takes e.fault × (t ≡ s) × (e.value ≡ v)
 StepCut canvas r s (Updates v fails) e t =
-    Unhelped fails e.fault × (t ≡ s) × SameBeside v e.value
+    Unhelped fails true e.fault × (t ≡ s) × SameBeside v e.value
 StepCut canvas r s (Edits v edit) e t =
     (e.fault ≡ Memory) × (t ≡ s) × SameBeside v e.value
     × StopsIn edit (written_of v) (written_of e.value)

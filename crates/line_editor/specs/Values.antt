@@ -77,9 +77,9 @@ first_value s = empty_at (length s.entries)
 pub data EditStep : Type 0 where
   -- this is drawn, highlighted by these marks, if there are any
   Draws : (value : Value) (marks : Option Marks) (redraw : Redraw) → EditStep
-  -- the helper is asked, and gives an answer or fails
-  Helped : (value : Value) (fails : Bool) → EditStep
-  -- the helper is asked for an edit of line and record, and makes it or fails
+  -- the helper is asked, and gives an answer or fails; it may take memory
+  Helped : (value : Value) (fails takes : Bool) → EditStep
+  -- the helper is asked for an edit of line and record, which takes memory, and makes it or fails
   Updates : (value : Value) (fails : Bool) → EditStep
   -- this edit of line and record is made, which takes memory
   Edits : (value : Value) (edit : WriteSteps ⊤) → EditStep
@@ -158,7 +158,7 @@ update_reply start text s v = option_map (λ h. h.updates v.line start text) s.h
 -- a hook is asked, if there is a helper
 abbrev pub helped : {A : Type 0} → Value → Option (Reply A) → List EditStep
 helped v None = []
-helped v (Some reply) = Helped v (fails reply) ∷ []
+helped v (Some reply) = Helped v (fails reply) reply.takes ∷ []
 
 -- a hook fails at something
 pub record IsFailing (hooks : Option Hooks) : Type 0 where

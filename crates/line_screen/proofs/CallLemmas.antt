@@ -57,7 +57,7 @@ module _ {D : Type 0} (held waits : D → List ℕ) (failed : D → Bool) where
   -- and so do a step that is refused, steps that stop, and whatever goes
   step_stays : (r : Ruler) (step : EditStep) (e : Refusal) (a b : Surface (ScreenRenderer D)) → StepCut (canvas_of held waits failed) r a step e b → screen_of b.out ≡ screen_of a.out
   step_stays r (Draws v marks x) e a b h = broken_stays (asked_by r marks a.layout x).calls a.out b.out h.1
-  step_stays r (Helped v fails) e a b h = ap (λ s. screen_of s.out) h.1
+  step_stays r (Helped v fails takes) e a b h = ap (λ s. screen_of s.out) h.1
   step_stays r (Updates v fails) e a b h = ap (λ s. screen_of s.out) h.1
   step_stays r (Edits v edit) e a b h = ap (λ s. screen_of s.out) h.1
   step_stays r (TakesBack v) e a b h = ap (λ s. screen_of s.out) h.1

@@ -55,7 +55,7 @@ module _ {D : Type 0} (held waits : D → List ℕ) (failed : D → Bool) where
 
   step_rests : (r : Ruler) (step : EditStep) (e : Refusal) (a b : Surface (ScreenRenderer D)) → RestsAt a → StepCut all r a step e b → RestsAt b
   step_rests r (Draws v marks x) e a b none h = broken_rest (asked_by r marks a.layout x).calls a.out b.out none h.1
-  step_rests r (Helped v fails) e a b none h = subst RestsAt (sym h.1) none
+  step_rests r (Helped v fails takes) e a b none h = subst RestsAt (sym h.1) none
   step_rests r (Updates v fails) e a b none h = subst RestsAt (sym h.1) none
   step_rests r (Edits v edit) e a b none h = subst RestsAt (sym h.1) none
   step_rests r (TakesBack v) e a b none h = subst RestsAt (sym h.1) none
