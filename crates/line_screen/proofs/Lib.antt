@@ -36,5 +36,6 @@ pub mod ShortLemmas
 pub mod Standing
 pub mod Steps
 pub mod Stopping
+pub mod TextStops
 pub mod WaitingLemmas
 pub mod WideLemmas
