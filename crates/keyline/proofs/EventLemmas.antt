@@ -23,7 +23,7 @@ use Rattle.line_editor.specs.Redraws.{asked_by}
 use Rattle.line_editor.specs.States.{reason_of}
 use Rattle.line_editor.specs.Steps.{one, Surface, Refusal, Unhelped, StepCut, Stops as StepsStop}
 use Rattle.line_editor.specs.Values.{Value, Setting, EditStep}
-use Rattle.line_editor.specs.Values.EditStep.{Draws as DrawStep, Helped as HelpStep, Updates as UpdateStep, Edits as EditingStep, TakesBack as BackStep, Takes as TakingStep}
+use Rattle.line_editor.specs.Values.EditStep.{Draws as DrawStep, Helped as HelpStep, Edits as EditingStep, TakesBack as BackStep, Takes as TakingStep}
 use Rattle.line_editor.proofs.ToldLemmas.{stopped_cause}
 use Rattle.line_screen.specs.Calls.{Screen, bytes_of, canvas_of, ruler_of, screen_of, sink_of}
 use Rattle.line_screen.specs.declared.renderer.ScreenRenderer.{ScreenRenderer}
@@ -224,7 +224,6 @@ module _ {D L : Type 0} (shown : D → List ℕ) (written_in : L → List ℕ) (
         let calls = (asked_by (ruler_of s) marks a.layout x).calls in
         subst (λ why. GoesIn (calls_then s calls later) (on a.out c) (Err why) (on b.out c)) (sym h.0) (calls_break calls later c a.out b.out is h.1)
     stopped_step (HelpStep v fails takes) later wants c e a b is h = unhelped e.fault fails takes later c a.out b.out h.0 (ap (λ x. x.out) h.1)
-    stopped_step (UpdateStep v fails) later wants c e a b is h = unhelped e.fault fails true later c a.out b.out h.0 (ap (λ x. x.out) h.1)
     stopped_step (EditingStep v edit) later wants c e a b is h = stands e.fault later c a.out b.out h.0 wants (ap (λ x. x.out) h.1)
     stopped_step (BackStep v) later wants c e a b is h = stands e.fault later c a.out b.out h.0 wants (ap (λ x. x.out) h.1)
     stopped_step (TakingStep v) later wants c e a b is h = stands e.fault later c a.out b.out h.0 wants (ap (λ x. x.out) h.1)

@@ -21,7 +21,7 @@ use Rattle.line_editor.specs.Redraws.Redraw.{Drawn, Moved, Typed, Taken, Bared, 
 use Rattle.line_editor.specs.Sights.{Sight, sight, Fits}
 use Rattle.line_editor.specs.Steps.{one}
 use Rattle.line_editor.specs.Values.{Value, Setting, Effect, EditStep, helped, hint_reply, unchanged}
-use Rattle.line_editor.specs.Values.EditStep.{Draws, Helped, Updates, Edits, TakesBack, Takes}
+use Rattle.line_editor.specs.Values.EditStep.{Draws, Helped, Edits, TakesBack, Takes}
 use Rattle.line_editor.specs.declared.commands.Status.{Status}
 use Rattle.line_editor.proofs.StopsLemmas.{asked_both}
 use Rattle.line_editor.proofs.ToldLemmas.{PlayedOf, follows, joined_on, played_then, rest_along, steps_both}
@@ -64,7 +64,6 @@ one_tells s own l x (Draws v m ToEnd) h fits =
     record { info_is = t.info_is; given_is = t.given_is }
 one_tells s own l x (Draws v m Beeped) h fits = h
 one_tells s own l x (Helped v fails takes) h fits = h
-one_tells s own l x (Updates v fails) h fits = h
 one_tells s own l x (Edits v edit) h fits = h
 one_tells s own l x (TakesBack v) h fits = h
 one_tells s own l x (Takes v) h fits = h

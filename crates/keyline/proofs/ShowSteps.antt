@@ -15,7 +15,7 @@ use Rattle.line_editor.specs.Redraws.Redraw.{Drawn, Moved, Typed, Taken, Bared, 
 use Rattle.line_editor.specs.Sights.{Sight, sight_with, sight_as, no_sight, sight, ended_sight, TypedFits, TakenFits, Fits}
 use Rattle.line_editor.specs.Steps.{one}
 use Rattle.line_editor.specs.Values.{EditStep}
-use Rattle.line_editor.specs.Values.EditStep.{Draws, Helped, Updates, Edits, TakesBack, Takes}
+use Rattle.line_editor.specs.Values.EditStep.{Draws, Helped, Edits, TakesBack, Takes}
 use Rattle.line_screen.specs.Calls.{Screen, bytes_of, ruler_of}
 use Rattle.line_screen.specs.Chain.{View, Good, Inside, LeadsView, empty_view, Types, Picture, finish_of, cursor_of, above}
 use Rattle.line_screen.specs.Display.{Placed}
@@ -309,7 +309,6 @@ module _ (s : Screen) (low : 2 ≤ s.columns) (high : s.columns ≤ 1000) where
   step own bytes over top l x (Draws v m Beeped) h fits rows = same_holds bytes over top l x Beep h refl (λ e. cc)
   step own bytes over top l x (Draws v m Cleared) h fits rows = fresh_holds (bytes ++ flat_map (bytes_of s) (ClearScreen ∷ [])) [] 0 l (cleared_led bytes over (view_in s top x) h.good)
   step own bytes over top l x (Helped v fails takes) h fits rows = same_holds bytes over top l x (Help fails) h refl (λ e. cc)
-  step own bytes over top l x (Updates v fails) h fits rows = same_holds bytes over top l x (Help fails) h refl (λ e. cc)
   step own bytes over top l x (Edits v edit) h fits rows = still_holds bytes over top l x h
   step own bytes over top l x (TakesBack v) h fits rows = still_holds bytes over top l x h
   step own bytes over top l x (Takes v) h fits rows = still_holds bytes over top l x h

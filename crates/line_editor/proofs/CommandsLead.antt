@@ -227,7 +227,7 @@ hint_leads (Some hint) s v = completion_leads hint.completion s v (at_row_end v)
 
 updating_leads : (reply : Option (Reply ⊤)) (s : Setting) (v : Value) (e : Effect) → Leads s v e → Leads s v (record { value = e.value; steps = updates reply v ++ e.steps })
 updating_leads None s v e h = h
-updating_leads (Some reply) s v e h = λ info. record { fits = (tt, (h info).fits); leads = (h info).leads }
+updating_leads (Some reply) s v e h = λ info. record { fits = (tt, (tt, (h info).fits)); leads = (h info).leads }
 
 elected_leads : (start : ℕ) (o : Option (List ℕ)) (s : Setting) (v : Value) → Leads s v (completed_with start o s v)
 elected_leads start None s v = beep_leads s v v refl

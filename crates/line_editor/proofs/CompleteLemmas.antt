@@ -1,5 +1,5 @@
 -- What is put in place of a word, and what a state makes of completing one.
-use Rattle.std.specs.Prelude.{⊤, Option, Some, None, is_some, option_map, Result, Ok, Err, IsErrAnd, IsFalse, IsTrue, IsUtf8}
+use Rattle.std.specs.Prelude.{⊤, Option, Some, None, is_some, option_map, Result, Ok, Err, OnErr, IfErr, IsErrAnd, IsFalse, IsUtf8}
 use Rattle.std.proofs.Common.{◌≡◌, ◌⊎◌, inl, inr, ℕ, true, true≢false, List, map, refl, sym, ap, subst, ◌∙◌}
 use Rattle.std.proofs.lemmas.Simd.{map-map}
 use Rattle.line_buffer.specs.Line.{Line}
@@ -8,7 +8,7 @@ use Rattle.line_config.specs.declared.errors.ReadlineError.{ReadlineError}
 use Rattle.line_config.specs.declared.errors.ReadlineError.TheVariants.{Helper, Memory}
 use Rattle.line_config.specs.declared.errors.HookFault.{HookFault}
 use Rattle.line_config.specs.declared.errors.HookFault.TheVariants.{Failed as HookFailed, Memory as HookMemory}
-use Rattle.line_edits.specs.Written.{Writes}
+use Rattle.line_edits.specs.Written.{Written, Writes, group_opened, written, written_in}
 use Rattle.line_edits.proofs.WrittenLemmas.{recorded_one}
 use Rattle.line_help.specs.Completion.{Offered, Completion, Updates}
 use Rattle.line_help.specs.declared.completion as completions
@@ -16,15 +16,14 @@ use Rattle.line_help.specs.declared.hint as hints
 use Rattle.line_help.specs.declared.highlight as highlights
 use Rattle.line_help.specs.declared.validate as verdicts
 use Rattle.line_help.specs.declared.history as histories
-use Rattle.line_keys.specs.Replies.{Reply, fails}
-use Rattle.line_record.specs.Items.{Items, ItemsStand, RecordedIn, record_refuses, held_on}
-use Rattle.line_editor.specs.Completing.{elected, word_put, word_updated, completed_with, completed, candidates_given, candidates_asked, complete_if, complete}
+use Rattle.line_keys.specs.Replies.{Reply, IsFaultOf}
+use Rattle.line_record.specs.Items.{Items, ItemsStand, RecordedIn, record_refuses, held_on, opened}
+use Rattle.line_editor.specs.Completing.{elected, word_put, LeavesWord, word_updated, completed_with, completed, candidates_given, candidates_asked, complete_if, complete}
 use Rattle.line_editor.specs.States.{hooks_of, value_of, setting_of, fails_by, IsHelpFault, surface_of, Stays, Does}
-use Rattle.line_editor.specs.Steps.{Unhelped, Stops}
 use Rattle.line_editor.specs.Values.{Value, Setting, Hooks, then_do, completion_reply, update_reply}
 use Rattle.line_editor.specs.declared.renderer as renderers
 use Rattle.line_editor.specs.declared.state.State.{State}
-use Rattle.line_editor.proofs.StopsLemmas.{help_made, help_layout, stops_asking, stops_updating}
+use Rattle.line_editor.proofs.StopsLemmas.{help_made, help_layout, stops_asking, stops_marking, stops_updating}
 use Rattle.line_editor.proofs.DoesLemmas.{does_as, does_both, does_cut_by, does_refused, stays_same}
 use Rattle.line_editor.proofs.HelpedLemmas.{completion_reason, update_reason}
 
@@ -53,11 +52,26 @@ put_writes start text before after old new (Err e) utf8 stand u = record {
   stand = subst (λ (l : Line). ItemsStand new l.text) (sym u.stays) (subst (λ (x : Items). ItemsStand x before.text) (sym (stays_by old new u.refused)) stand);
 }
 
--- ---- with a helper
+-- what was refused left line and record
+pub put_left : {E : Type 0} (start : ℕ) (text : List ℕ) (before after : Line) (old new : Items) (result : Result ⊤ E)
+    → Updates RecordedIn record_refuses start text old new before after result → OnErr result ((after ≡ before) × (new ≡ old))
+put_left start text before after old new (Ok a) u = tt
+put_left start text before after old new (Err e) u = (u.stays, stays_by old new u.refused)
 
-help_fails : {A : Type 0} (reply : Option (Reply A)) → IsHelpFault reply Helper → IsTrue (fails_by reply)
-help_fails None why = absurd why
-help_fails (Some reply) why = why
+-- memory for the mark was wanting
+pub mark_wanting : {A : Type 0} (reply : Reply ⊤) (line : Line) (old new : Items) (result : Result A HookFault) → IsErrAnd result (λ e. e ≡ HookMemory) → new ≡ old
+    → IfErr result (LeavesWord reply (written line old) (written line new))
+mark_wanting reply line old new (Ok x) is same = tt
+mark_wanting reply line old new (Err e) is same = inl (is, ap (written line) same)
+
+-- the completer has refused
+pub put_refused : {A : Type 0} (reply : Reply ⊤) (before after : Line) (old marked new : Items) (fault : HookFault) (result : Result A HookFault) → IsErrAnd result (λ e. e ≡ fault) → IsFaultOf reply fault
+    → marked ≡ opened old → (after ≡ before) × (new ≡ marked) → IfErr result (LeavesWord reply (written before old) (written after new))
+put_refused reply before after old marked new fault (Ok x) is why mark left = tt
+put_refused reply before after old marked new fault (Err e) is why mark left =
+    inr (subst (IsFaultOf reply) (sym is) why, ap (λ (l : Line). written l new) left.0 ∙ ap (written before) (left.1 ∙ mark))
+
+-- ---- with a helper
 
 some_mapped : {A B C : Type 0} (f : B → C) (g : A → B) (o : Option A) → is_some (option_map f (option_map g o)) ≡ is_some o
 some_mapped f g None = refl
@@ -74,37 +88,54 @@ module _ {Out H Hi K T : Type 0} {renderer : renderers.Renderer.Ghosts Out} {com
     {hinter : hints.Hinter.Ghosts H T} {hint : hints.Hint.Ghosts T} {highlighter : highlights.Highlighter.Ghosts H} {validator : verdicts.Validator.Ghosts H} {history : histories.History.Ghosts Hi} where
   -- ---- the update
 
-  pub update_fails : (s : State Out H Hi K T renderer completer candidate hinter hint highlighter validator history) (h : H) (start : ℕ) (text : List ℕ) → s.helper ≡ Some h
-      → IsTrue (fails (completer.update_of h s.recorded.line start text)) → IsHelpFault (update_reply start text (setting_of s) (value_of s)) Helper
-  update_fails s h start text is why =
-      subst (λ (o : Option H). IsHelpFault (option_map (λ (k : Hooks). k.updates s.recorded.line start text) (option_map (hooks_of completer hinter validator) o)) Helper) (sym is) why
+  update_faults : (s : State Out H Hi K T renderer completer candidate hinter hint highlighter validator history) (h : H) (start : ℕ) (text : List ℕ) (e : ReadlineError) → s.helper ≡ Some h
+      → IsHelpFault (Some (completer.update_of h s.recorded.line start text)) e → IsHelpFault (update_reply start text (setting_of s) (value_of s)) e
+  update_faults s h start text e is why =
+      subst (λ (o : Option H). IsHelpFault (option_map (λ (k : Hooks). k.updates s.recorded.line start text) (option_map (hooks_of completer hinter validator) o)) e) (sym is) why
 
   -- line and record alone are another
   abbrev Touches : (State Out H Hi K T renderer completer candidate hinter hint highlighter validator history)
       → (State Out H Hi K T renderer completer candidate hinter hint highlighter validator history) → Type 0
   Touches s t = value_of t ≡ record (value_of s) { line = t.recorded.line; held = held_on t.recorded.changes t.recorded.line.text }
 
-  updating_stops : (start : ℕ) (text : List ℕ) (s t : State Out H Hi K T renderer completer candidate hinter hint highlighter validator history) (e : ReadlineError)
-      → is_some s.helper ≡ true → Unhelped (fails_by (update_reply start text (setting_of s) (value_of s))) true e → surface_of t ≡ surface_of s → Touches s t
-      → Stops renderer.canvas (renderer.canvas.ruler s.out) (word_updated start text (setting_of s) (value_of s)).steps (surface_of s) e (value_of t) (surface_of t)
-  updating_stops start text s t e some why same touches =
-      stops_updating renderer.canvas (renderer.canvas.ruler s.out) (value_of s) (update_reply start text (setting_of s) (value_of s)) (surface_of s) (surface_of t) e (value_of t)
-      (some_mapped (λ (h : Hooks). h.updates s.recorded.line start text) (hooks_of completer hinter validator) s.helper ∙ some) why same touches
+  touched : (s t : State Out H Hi K T renderer completer candidate hinter hint highlighter validator history) (w : Written) → Touches s t → written_in t.recorded ≡ w
+      → value_of t ≡ record (value_of s) { line = w.line; held = w.held }
+  touched s t w touches is = touches ∙ ap (λ (x : Written). record (value_of s) { line = x.line; held = x.held }) is
 
-  -- a fault of the update that isn't want of memory
-  pub updating_failed : {A : Type 0} (start : ℕ) (text : List ℕ) (s t : State Out H Hi K T renderer completer candidate hinter hint highlighter validator history) (h : H) (fault : HookFault) → s.helper ≡ Some h
-      → fault ≡ HookFailed → (fault ≡ HookMemory) ⊎ ((fault ≡ HookFailed) × IsTrue (fails (completer.update_of h s.recorded.line start text))) → surface_of t ≡ surface_of s → Stays s t → Touches s t
-      → Does {A = A} (word_updated start text) s t (Err Helper)
-  updating_failed start text s t h fault is failed (inl memory) same stays touches = let never : HookFailed ≡ HookMemory = sym failed ∙ memory in absurd (cc)
-  updating_failed start text s t h fault is failed (inr why) same stays touches =
+  -- the completer has refused, behind the mark
+  refused_behind : {A : Type 0} (start : ℕ) (text : List ℕ) (s t : State Out H Hi K T renderer completer candidate hinter hint highlighter validator history) (h : H) (e : ReadlineError) → s.helper ≡ Some h
+      → IsHelpFault (Some (completer.update_of h s.recorded.line start text)) e → written_in t.recorded ≡ group_opened (written_in s.recorded) → surface_of t ≡ surface_of s → Stays s t → Touches s t
+      → Does {A = A} (word_updated start text) s t (Err e)
+  refused_behind start text s t h e is why marked same stays touches =
       let reply = update_reply start text (setting_of s) (value_of s) in
-      let fails : IsHelpFault reply Helper = update_fails s h start text is why.1 in
-      does_refused (word_updated start text) s t Helper stays (update_reason (setting_of s).hooks s.recorded.line start text (renderer.canvas.failed t.out) Helper fails)
-      (updating_stops start text s t Helper (ap is_some is) (help_fails reply fails) same touches)
+      let fault : IsHelpFault reply e = update_faults s h start text e is why in
+      does_refused (word_updated start text) s t e stays (update_reason (setting_of s).hooks s.recorded.line start text (renderer.canvas.failed t.out) e fault)
+      (stops_updating renderer.canvas (renderer.canvas.ruler s.out) (value_of s) reply (surface_of s) (surface_of t) e (value_of t) fault same
+      (touched s t (group_opened (written_in s.recorded)) touches marked))
 
-  pub updating_wants : {A : Type 0} (start : ℕ) (text : List ℕ) (s t : State Out H Hi K T renderer completer candidate hinter hint highlighter validator history)
-      → is_some s.helper ≡ true → surface_of t ≡ surface_of s → Stays s t → Touches s t → Does {A = A} (word_updated start text) s t (Err Memory)
-  updating_wants start text s t some same stays touches = does_refused (word_updated start text) s t Memory stays tt (updating_stops start text s t Memory some refl same touches)
+  -- memory was wanting for the mark
+  unmarked : {A : Type 0} (start : ℕ) (text : List ℕ) (s t : State Out H Hi K T renderer completer candidate hinter hint highlighter validator history) (h : H) → s.helper ≡ Some h
+      → written_in t.recorded ≡ written_in s.recorded → surface_of t ≡ surface_of s → Stays s t → Touches s t → Does {A = A} (word_updated start text) s t (Err Memory)
+  unmarked start text s t h is stood same stays touches =
+      let reply = update_reply start text (setting_of s) (value_of s) in
+      does_refused (word_updated start text) s t Memory stays tt
+      (stops_marking renderer.canvas (renderer.canvas.ruler s.out) (value_of s) reply (surface_of s) (surface_of t) Memory (value_of t)
+      (some_mapped (λ (k : Hooks). k.updates s.recorded.line start text) (hooks_of completer hinter validator) s.helper ∙ ap is_some is) refl same (touched s t (written_in s.recorded) touches stood))
+
+  -- the same of what the call has told
+  pub updating_failed : {A : Type 0} (start : ℕ) (text : List ℕ) (s t : State Out H Hi K T renderer completer candidate hinter hint highlighter validator history) (h : H) (fault : HookFault) → s.helper ≡ Some h
+      → fault ≡ HookFailed → LeavesWord (completer.update_of h s.recorded.line start text) (written_in s.recorded) (written_in t.recorded) fault → surface_of t ≡ surface_of s → Stays s t → Touches s t
+      → Does {A = A} (word_updated start text) s t (Err Helper)
+  updating_failed start text s t h fault is failed (inl memory) same stays touches = let never : HookFailed ≡ HookMemory = sym failed ∙ memory.0 in absurd (cc)
+  updating_failed start text s t h fault is failed (inr left) same stays touches =
+      refused_behind start text s t h Helper is (subst (IsFaultOf (completer.update_of h s.recorded.line start text)) failed left.0) left.1 same stays touches
+
+  pub updating_wants : {A : Type 0} (start : ℕ) (text : List ℕ) (s t : State Out H Hi K T renderer completer candidate hinter hint highlighter validator history) (h : H) (fault : HookFault) → s.helper ≡ Some h
+      → fault ≡ HookMemory → LeavesWord (completer.update_of h s.recorded.line start text) (written_in s.recorded) (written_in t.recorded) fault → surface_of t ≡ surface_of s → Stays s t → Touches s t
+      → Does {A = A} (word_updated start text) s t (Err Memory)
+  updating_wants start text s t h fault is memory (inl left) same stays touches = unmarked start text s t h is left.1 same stays touches
+  updating_wants start text s t h fault is memory (inr left) same stays touches =
+      refused_behind start text s t h Memory is (subst (IsFaultOf (completer.update_of h s.recorded.line start text)) memory left.0) left.1 same stays touches
 
   -- ---- the candidates
 

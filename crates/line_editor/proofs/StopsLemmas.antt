@@ -6,6 +6,7 @@ use Rattle.line_buffer.specs.declared.layout.Layout.{Layout}
 use Rattle.line_config.specs.declared.errors.ReadlineError.{ReadlineError}
 use Rattle.line_config.specs.declared.errors.ReadlineError.TheVariants.{Display, Helper, Memory}
 use Rattle.line_edits.specs.Steps.{WriteSteps, StopsIn}
+use Rattle.line_edits.specs.Written.{group_opened}
 use Rattle.line_keys.specs.Replies.{Reply, fails}
 use Rattle.line_editor.specs.Calls.{Call, Canvas, Marks, Ruler, MadeIn, RefusedIn, BrokenOff}
 use Rattle.line_editor.specs.Calls.Call.{Help}
@@ -13,7 +14,7 @@ use Rattle.line_editor.specs.Completing.{updates}
 use Rattle.line_editor.specs.Redraws.{Redraw, Asked, asked_by, then_asked}
 use Rattle.line_editor.specs.States.{fails_by, IsHelpFault}
 use Rattle.line_editor.specs.Steps.{one, asked, Surface, surface, refusal, SameBeside, Unhelped, StepMade, Stops}
-use Rattle.line_editor.specs.Values.{Value, EditStep, written_of, helped}
+use Rattle.line_editor.specs.Values.{Value, EditStep, written_of, rewritten, helped}
 use Rattle.line_editor.specs.Values.EditStep.{Draws, Edits, TakesBack, Takes}
 
 -- ---- calls
@@ -115,18 +116,25 @@ module _ {R : Type 0} (canvas : Canvas R) (r : Ruler) where
   stops_asking stands None old new fault v why same value = absurd why
   stops_asking stands (Some reply) old new fault v why same value = inr (refusal fault v, (unhelped_by reply fault why, same, value), refl)
 
-  -- it was asked to make an edit of the line
-  pub stops_updating : (stands : Value) (reply : Option (Reply ⊤)) (old new : Surface R) (fault : ReadlineError) (v : Value)
-      → is_some reply ≡ true → Unhelped (fails_by reply) true fault → new ≡ old → SameBeside stands v → Stops canvas r (updates reply stands) old fault v new
-  unfolding Stops
-  stops_updating stands None old new fault v some why same value = absurd (true≢false (sym some))
-  stops_updating stands (Some reply) old new fault v some why same value = inr (refusal fault v, (why, same, value), refl)
-
   -- behind a step that was made
   pub stops_after : (step : EditStep) (more : List EditStep) (old between new : Surface R) (fault : ReadlineError) (v : Value)
       → StepMade canvas r old step between → Stops canvas r more between fault v new → Stops canvas r (step ∷ more) old fault v new
   unfolding Stops
   stops_after step more old between new fault v made h = inl (tt, between, made, h)
+
+  -- memory for a mark was wanting, before a hook was asked for an edit
+  pub stops_marking : (stands : Value) (reply : Option (Reply ⊤)) (old new : Surface R) (fault : ReadlineError) (v : Value)
+      → is_some reply ≡ true → fault ≡ Memory → new ≡ old → v ≡ stands → Stops canvas r (updates reply stands) old fault v new
+  stops_marking stands None old new fault v some is same value = absurd (true≢false (sym some))
+  stops_marking stands (Some reply) old new fault v some is same value = stops_taking stands (helped (rewritten group_opened stands) (Some reply)) old new fault v is same value
+
+  -- it was asked, behind that mark
+  pub stops_updating : (stands : Value) (reply : Option (Reply ⊤)) (old new : Surface R) (fault : ReadlineError) (v : Value)
+      → IsHelpFault reply fault → new ≡ old → v ≡ rewritten group_opened stands → Stops canvas r (updates reply stands) old fault v new
+  stops_updating stands None old new fault v why same value = absurd why
+  stops_updating stands (Some reply) old new fault v why same value =
+      let marked : Value = rewritten group_opened stands in
+      stops_after (Takes stands) (helped marked (Some reply)) old old new fault v (refl, refl) (stops_asking marked (Some reply) old new fault v why same value)
 
   -- behind an edit of the line
   pub stops_edited : {A : Type 0} (stands : Value) (edit : WriteSteps ⊤) (more : List EditStep) (old new : Surface R) (v : Value) (result : Result A ReadlineError)

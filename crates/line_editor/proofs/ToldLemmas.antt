@@ -23,7 +23,7 @@ use Rattle.line_editor.specs.Sights.{Sight, sight_of, info_after}
 use Rattle.line_editor.specs.States.{reason_of}
 use Rattle.line_editor.specs.Steps.{asked, Surface, surface, Refusal, Unhelped, StepCut, Stops}
 use Rattle.line_editor.specs.Values.{Value, Setting, EditStep}
-use Rattle.line_editor.specs.Values.EditStep.{Draws, Helped, Updates, Edits, TakesBack, Takes}
+use Rattle.line_editor.specs.Values.EditStep.{Draws, Helped, Edits, TakesBack, Takes}
 use Rattle.line_config.proofs.ScriptLaws.{fault_or}
 use Rattle.line_editor.proofs.StopsLemmas.{asked_both, folds_both}
 
@@ -218,7 +218,6 @@ module _ {R : Type 0} (canvas : Canvas R) (r : Ruler) where
   step_cause : (step : EditStep) (e : Refusal) (x y : Surface R) → StepCut canvas r x step e y → reason_of true ⊤ e.fault
   step_cause (Draws v marks redraw) e x y h = caused_by e.fault Display h.0 refl
   step_cause (Helped v fails takes) e x y h = unhelped_cause fails takes e.fault h.0
-  step_cause (Updates v fails) e x y h = unhelped_cause fails true e.fault h.0
   step_cause (Edits v edit) e x y h = caused_by e.fault Memory h.0 tt
   step_cause (TakesBack v) e x y h = caused_by e.fault Memory h.0 tt
   step_cause (Takes v) e x y h = caused_by e.fault Memory h.0 tt

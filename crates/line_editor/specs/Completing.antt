@@ -1,14 +1,16 @@
 -- Completion: the word before the cursor exchanged for what its candidates begin with.
-use Rattle.std.specs.Prelude.{⊤, ℕ, Bool, ◌-◌, ◌==◌, ◌&&◌, ◌||◌, not, nat_le, nat_lt, if◌then◌else◌, List, [], ◌∷◌, map, length, Option, Some, None}
+use Rattle.std.specs.Prelude.{◌≡◌, ◌⊎◌, ⊤, ℕ, Bool, ◌-◌, ◌==◌, ◌&&◌, ◌||◌, not, nat_le, nat_lt, if◌then◌else◌, List, [], ◌∷◌, map, length, Option, Some, None}
 use Rattle.std.specs.Option.{option_map_or}
 use Rattle.line_buffer.specs.Insertions.{is_inside_char}
 use Rattle.line_buffer.specs.Line.{Line, replaced}
 use Rattle.line_buffer.specs.Replay.{replacement}
-use Rattle.line_edits.specs.Written.{Written, edited, in_group}
+use Rattle.line_config.specs.declared.errors.HookFault.{HookFault}
+use Rattle.line_config.specs.declared.errors.HookFault.TheVariants.{Memory}
+use Rattle.line_edits.specs.Written.{Written, edited, group_opened, in_group}
 use Rattle.line_help.specs.Completion.{longest_common_prefix, Completion, nothing_offered}
-use Rattle.line_keys.specs.Replies.{Reply, fails}
+use Rattle.line_keys.specs.Replies.{Reply, IsFaultOf}
 use Rattle.line_editor.specs.Drawing.{beeped, refreshed}
-use Rattle.line_editor.specs.Values.EditStep.{Updates}
+use Rattle.line_editor.specs.Values.EditStep.{Takes}
 use Rattle.line_editor.specs.Values.{Value, EditStep, Transition, unchanged, then_do, rewritten, helped, completion_reply, update_reply}
 
 -- ---- what is put in place of the word
@@ -43,9 +45,16 @@ word_put start text w =
 abbrev pub word_replaced : ℕ → List ℕ → Written → Written
 word_replaced start text = in_group (word_put start text)
 
+-- a refused exchange: for want of memory for the mark all is as it was; or the mark is set, and the
+-- completer has refused
+abbrev pub LeavesWord : Reply ⊤ → Written → Written → HookFault → Type 0
+LeavesWord reply old new fault =
+    ((fault ≡ Memory) × (new ≡ old)) ⊎ (IsFaultOf reply fault × (new ≡ group_opened old))
+
+-- a mark is set, for which memory is taken, and the helper is asked for the exchange
 abbrev pub updates : Option (Reply ⊤) → Value → List EditStep
 updates None v = []
-updates (Some reply) v = Updates v (fails reply) ∷ []
+updates (Some reply) v = Takes v ∷ helped (rewritten group_opened v) (Some reply)
 
 -- by the helper, undone as one
 abbrev pub word_updated : ℕ → List ℕ → Transition

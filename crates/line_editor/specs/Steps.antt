@@ -1,5 +1,5 @@
 -- What the steps of an edit ask of a renderer, and where a fault stops them.
-use Rattle.std.specs.Prelude.{◌≡◌, ⊤, Bool, true, List, [], ◌∷◌, Err, IsTrue}
+use Rattle.std.specs.Prelude.{◌≡◌, ⊤, Bool, List, [], ◌∷◌, Err, IsTrue}
 use Rattle.std.specs.List.{FoldsTo}
 use Rattle.line_buffer.specs.declared.layout.Layout.{Layout}
 use Rattle.line_config.specs.Scripts.{Script, Ends, Asks, World, Goes}
@@ -10,7 +10,7 @@ use Rattle.line_editor.specs.Calls.{Canvas, Ruler, MadeIn, BrokenOff}
 use Rattle.line_editor.specs.Calls.Call.{Help}
 use Rattle.line_editor.specs.Redraws.{Asked, asked_by, nothing_asked, then_asked}
 use Rattle.line_editor.specs.Values.{Value, EditStep, written_of}
-use Rattle.line_editor.specs.Values.EditStep.{Draws, Helped, Updates, Edits, TakesBack, Takes}
+use Rattle.line_editor.specs.Values.EditStep.{Draws, Helped, Edits, TakesBack, Takes}
 
 -- ---- the calls of steps that are made
 
@@ -20,7 +20,6 @@ help_asked l fails = record { calls = Help fails ∷ []; layout = l }
 abbrev pub one : Ruler → Layout → EditStep → Asked
 one r l (Draws v marks x) = asked_by r marks l x
 one r l (Helped v fails takes) = help_asked l fails
-one r l (Updates v fails) = help_asked l fails
 one r l (Edits v edit) = nothing_asked l
 one r l (TakesBack v) = nothing_asked l
 one r l (Takes v) = nothing_asked l
@@ -73,8 +72,6 @@ StepCut canvas r s (Draws v marks x) e t =
     × (t.layout ≡ s.layout) × (e.value ≡ v)
 StepCut canvas r s (Helped v fails takes) e t =
     Unhelped fails takes e.fault × (t ≡ s) × (e.value ≡ v)
-StepCut canvas r s (Updates v fails) e t =
-    Unhelped fails true e.fault × (t ≡ s) × SameBeside v e.value
 StepCut canvas r s (Edits v edit) e t =
     (e.fault ≡ Memory) × (t ≡ s) × SameBeside v e.value
     × StopsIn edit (written_of v) (written_of e.value)

@@ -79,8 +79,6 @@ pub data EditStep : Type 0 where
   Draws : (value : Value) (marks : Option Marks) (redraw : Redraw) → EditStep
   -- the helper is asked, and gives an answer or fails; it may take memory
   Helped : (value : Value) (fails takes : Bool) → EditStep
-  -- the helper is asked for an edit of line and record, which takes memory, and makes it or fails
-  Updates : (value : Value) (fails : Bool) → EditStep
   -- this edit of line and record is made, which takes memory
   Edits : (value : Value) (edit : WriteSteps ⊤) → EditStep
   -- changes are taken back from line and record

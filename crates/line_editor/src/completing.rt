@@ -1,11 +1,10 @@
 //! Completion of the word before the cursor.
-ghost use Rattle.std.specs.Prelude.{◌≡◌, ◌≤◌, ◌⊎◌, false, true, is_some, map, IfErr, IfOk, IfSome, OnOk, IsCharBoundary, IsTrue, option_copied};
-ghost use Rattle.line_config.specs.declared.errors.HookFault.TheVariants.{Failed, Memory};
-ghost use Rattle.line_edits.specs.Written.{Writes};
+ghost use Rattle.std.specs.Prelude.{◌≡◌, ◌≤◌, false, true, is_some, map, IfErr, IfOk, IfSome, OnOk, OnErr, IsCharBoundary, IsTrue, option_copied};
+ghost use Rattle.line_edits.specs.Written.{Writes, written, written_in};
 ghost use Rattle.line_help.specs.Completion.{completion_by};
 ghost use Rattle.line_keys.specs.Replies.{Replies, fails, itself};
 ghost use Rattle.line_record.specs.Items.{ItemsStand};
-ghost use Rattle.line_editor.specs.Completing.{elected, elected_among, begins_word, word_put, word_replaced};
+ghost use Rattle.line_editor.specs.Completing.{elected, elected_among, begins_word, word_put, word_replaced, LeavesWord};
 
 use crate::renderer::Renderer;
 use crate::state::State;
@@ -71,6 +70,8 @@ fn put<C: Completer>(
     requires stand { ItemsStand changes.old line.old.text }
     ensures writes { Writes (word_put start text.now) tt
         line.old line.new changes.old changes.new result }
+    ensures left { OnErr result
+        ((line.new ≡ line.old) × (changes.new ≡ changes.old)) }
     ensures reply { Replies (C.update_of completer.now line.old start text.now) itself result }
 {
     let _text = line.as_str();
@@ -93,8 +94,8 @@ fn put_in_group<C: Completer>(
         line.old line.new changes.old changes.new result }
     ensures works { OnOk result
         (fails (C.update_of completer.now line.old start text.now) ≡ false) }
-    ensures fault { IfErr result (λ e. (e ≡ Memory)
-        ⊎ ((e ≡ Failed) × IsTrue (fails (C.update_of completer.now line.old start text.now)))) }
+    ensures refused { IfErr result (LeavesWord (C.update_of completer.now line.old start text.now)
+        (written line.old changes.old) (written line.new changes.new)) }
 {
     changes.begin(alloc)?;
     put(alloc, completer, line, changes, start, text)?;
@@ -116,9 +117,9 @@ fn update<C: Completer>(
         recorded.old.changes recorded.new.changes result }
     ensures works { OnOk result
         (fails (C.update_of completer.now recorded.old.line start text.now) ≡ false) }
-    ensures fault { IfErr result (λ e. (e ≡ Memory)
-        ⊎ ((e ≡ Failed)
-        × IsTrue (fails (C.update_of completer.now recorded.old.line start text.now)))) }
+    ensures refused { IfErr result
+        (LeavesWord (C.update_of completer.now recorded.old.line start text.now)
+        (written_in recorded.old) (written_in recorded.new)) }
 {
     let line = &mut recorded.line;
     let done = put_in_group(alloc, completer, line, &mut recorded.changes, start, text);
