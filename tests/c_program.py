@@ -117,11 +117,13 @@ def under_valgrind():
 
 
 def without_room():
-    """A line whose display has no room in the console: it tells that by its status, and sends nothing of the line."""
+    """A line whose display has no room in the console: it tells that by its status, and sends nothing of the line, nor of
+    what stands behind its array."""
     console = run([CONSOLE], b"x" * 1500 + b"\x01" + b"y" * 1500)
     same("the status", console.returncode, 1)
-    same("the last words", console.stderr[-len(NO_ROOM) :], NO_ROOM)
-    same("what is sent of the line", console.stderr.count(b"x"), 0)
+    drawn, words, rest = console.stderr.partition(NO_ROOM)
+    same("the last words", (words, rest), (NO_ROOM, b""))
+    same("whether no more than a prompt is sent", len(drawn) < 100, True)
 
 
 def refused_growths():
