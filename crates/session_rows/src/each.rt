@@ -37,11 +37,11 @@ fn turns_of(alloc: Global, words: &str) -> Result<String, AllocError> {
 }
 
 /// What a session over a reader with these keys and turns leaves.
-fn left_of_reads(
+fn left_of_reads<'r>(
     alloc: Global,
     setting: &Setting<'_>,
-    keys: &[u8],
-    turns: &str,
+    keys: &'r [u8],
+    turns: &'r str,
 ) -> Result<Left, ReadlineError> {
     let calls = Cell::new(0);
     let reader = Pieces {
