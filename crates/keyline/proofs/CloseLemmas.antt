@@ -47,26 +47,30 @@ module _ {D L : Type 0} (shown : D → List ℕ) (show_failed : D → Bool) (wri
         stays = stays_not outcome (work d l h) (work d' l h) result breaks;
         reason = λ coming. let P : Result (List ℕ) ReadlineError → Type 0 = λ r. IfErr r (CloseReason adds h outcome (show_failed d) (show_failed d') (write_failed l)) in
             subst P (sym now) (inr (inl (refl, failed)));
+        display_is = λ coming. inl now;
+        lines_are = λ coming. inr refl;
       }
 
   -- the history could take no line
   pub closes_unkept : (adds : Bool) (text : List ℕ) (d d' : D) (l : L) (h h' : Filed) (result : Result (List ℕ) ReadlineError) (e : ReadlineError)
-      → Takes shown d d' row_break → result ≡ Err e → e ≡ Memory → IsTrue (adds && takes h text) → h' ≡ h → Ends adds (Ok text) (work d l h) (work d' l h') result
-  closes_unkept adds text d d' l h h' result e drawn is memory adding kept =
+      → Takes shown d d' row_break → show_failed d' ≡ show_failed d → result ≡ Err e → e ≡ Memory → IsTrue (adds && takes h text) → h' ≡ h → Ends adds (Ok text) (work d l h) (work d' l h') result
+  closes_unkept adds text d d' l h h' result e drawn works is memory adding kept =
       let now : result ≡ Err Memory = is ∙ ap (λ e. Err e) memory in
       record {
         goes = λ coming. inr (Memory, inl (tt, work d' l h coming, (drawn, refl), inr (Memory, (adding, ap (λ h. work d' l h coming) kept), refl)), now);
         stays = tt;
         reason = λ coming. let P : Result (List ℕ) ReadlineError → Type 0 = λ r. IfErr r (CloseReason adds h (Ok text) (show_failed d) (show_failed d') (write_failed l)) in
             subst P (sym now) (inr (inr (inr (refl, adding))));
+        display_is = λ coming. inr works;
+        lines_are = λ coming. inr refl;
       }
 
   -- the line's text and newline were written, or torn
   pub closes_written : (adds : Bool) (text : List ℕ) (d d' : D) (l l' : L) (h h' : Filed) (written : Result (Unit {0}) ReadlineError)
-      → Takes shown d d' row_break → h' ≡ remembered adds (text ∷ []) h
+      → Takes shown d d' row_break → show_failed d' ≡ show_failed d → h' ≡ remembered adds (text ∷ []) h
       → Sends written_in write_failed (line_text text) l l' written → IfErr written (λ e. e ≡ Lines)
       → Ends adds (Ok text) (work d l h) (work d' l' h') (made_of (λ u. text) written)
-  closes_written adds text d d' l l' h h' (Ok u) drawn kept wrote named = record {
+  closes_written adds text d d' l l' h h' (Ok u) drawn works kept wrote named = record {
     goes = λ coming. inl (inl (
       tt,
       work d' l h coming,
@@ -80,26 +84,30 @@ module _ {D L : Type 0} (shown : D → List ℕ) (show_failed : D → Bool) (wri
     ));
     stays = tt;
     reason = λ coming. tt;
+    display_is = λ coming. inr works;
+    lines_are = λ coming. inr wrote.works;
   }
-  closes_written adds text d d' l l' h h' (Err e) drawn kept wrote named =
+  closes_written adds text d d' l l' h h' (Err e) drawn works kept wrote named =
       let P : Coming → ReadlineError → Type 0 = λ coming e. IsStopped shown written_in adds (work d' l h' coming) (Writes text) e (work d' l' h' coming) in
       record {
         goes = λ coming. inr (e, inl (tt, work d' l h coming, (drawn, refl), inl (tt, work d' l h' coming, ap (λ h. work d' l h coming) kept, inr (e, subst (P coming) (sym named) (wrote.begins, refl), refl))), refl);
         stays = tt;
         reason = λ coming. inr (inr (inl (named, wrote.err)));
+        display_is = λ coming. inr works;
+        lines_are = λ coming. inl (ap (λ e. Err e) named);
       }
 
   -- the same, where the line is handed back
   pub closes_handed : (adds : Bool) (text kept_text written_text : List ℕ) (d d' : D) (l l' : L) (h h' : Filed) (written : Result (Unit {0}) ReadlineError) (result : Result (List ℕ) ReadlineError)
       → kept_text ≡ text → written_text ≡ text → made_of (λ u. text) written ≡ result
-      → Takes shown d d' row_break → h' ≡ remembered adds (kept_text ∷ []) h
+      → Takes shown d d' row_break → show_failed d' ≡ show_failed d → h' ≡ remembered adds (kept_text ∷ []) h
       → Sends written_in write_failed (line_text written_text) l l' written → IfErr written (λ e. e ≡ Lines)
       → Ends adds (Ok text) (work d l h) (work d' l' h') result
-  closes_handed adds text kept_text written_text d d' l l' h h' written result kept_is written_is is drawn kept wrote named =
+  closes_handed adds text kept_text written_text d d' l l' h h' written result kept_is written_is is drawn works kept wrote named =
       let K : List ℕ → Type 0 = λ t. h' ≡ remembered adds (t ∷ []) h in
       let W : List ℕ → Type 0 = λ t. Sends written_in write_failed (line_text t) l l' written in
       let E : Result (List ℕ) ReadlineError → Type 0 = Ends adds (Ok text) (work d l h) (work d' l' h') in
-      subst E is (closes_written adds text d d' l l' h h' written drawn (subst K kept_is kept) (subst W written_is wrote) named)
+      subst E is (closes_written adds text d d' l l' h h' written drawn works (subst K kept_is kept) (subst W written_is wrote) named)
 
   -- no line was accepted
   pub closes_other : (adds : Bool) (e : ReadlineError) (d d' : D) (l : L) (h : Filed)
@@ -109,4 +117,6 @@ module _ {D L : Type 0} (shown : D → List ℕ) (show_failed : D → Bool) (wri
     goes = λ coming. inl (inl (tt, work d' l h coming, (drawn, refl), (refl, refl)));
     stays = λ other. (ap (λ d. work d l h) (still other), refl);
     reason = λ coming. inl (refl, works);
+    display_is = λ coming. inr works;
+    lines_are = λ coming. inr refl;
   }

@@ -1,3 +1,4 @@
+pub mod Builders
 pub mod Desks
 pub mod Editors
 pub mod Endings

@@ -133,6 +133,11 @@ pub record Closes {D L : Type 0} (shown : D → List ℕ) (show_failed : D → B
   pub reason : (coming : Coming) → IfErr result (CloseReason adds (old coming).history outcome
       (show_failed (old coming).display) (show_failed (new coming).display)
       (write_failed (new coming).lines))
+  -- a device that fails here is the fault
+  pub display_is : (coming : Coming) → (result ≡ Err Display)
+      ⊎ (show_failed (new coming).display ≡ show_failed (old coming).display)
+  pub lines_are : (coming : Coming) → (result ≡ Err Lines)
+      ⊎ (write_failed (new coming).lines ≡ write_failed (old coming).lines)
 
 -- ---- the end of a session
 

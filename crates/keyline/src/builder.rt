@@ -1,9 +1,8 @@
 //! A session from what is wanted of it, and the program's defaults for the rest.
 
-ghost use Rattle.std.specs.Prelude.{◌≡◌, ◌≤◌, IfErr, IfOk, None, Some, [], codes, false};
+ghost use Rattle.std.specs.Prelude.{◌≡◌, ◌≤◌, IfErr, IfOk, Some, [], false};
 ghost use Rattle.line_config.specs.Adapters.{gave, taken};
-ghost use Rattle.line_config.specs.Feed.{fresh_feed};
-ghost use Rattle.line_config.specs.declared.device.Last.TheVariants.{End};
+ghost use Rattle.keyline.specs.Builders.{HasDefaults};
 ghost use Rattle.keyline.specs.Program.{standard_config};
 ghost use Rattle.keyline.specs.Opened.{HasGiven, desk_of};
 ghost use Rattle.keyline.specs.Plays.{Opens, Unopens};
@@ -66,15 +65,9 @@ pub fn session_builder<'p, S: Source + Drop, D: Sink + Drop>(
     source: S,
     display: D,
 ) -> DefaultBuilder<'p, S, D>
-    ensures config { result.config ≡ standard_config }
-    ensures bindings { result.bindings ≡ [] }
-    ensures helper { result.helper ≡ None }
-    ensures prompt { result.prompt.now ≡ codes "> " }
-    ensures columns { result.columns ≡ 80 }
+    ensures defaults { HasDefaults ⟦<SliceSource<'static> as Source>⟧.feed
+        ⟦<Nowhere as Sink>⟧.has_failed ⟦<Nowhere as Sink>⟧.has_failed result }
     ensures devices { (result.source ≡ source) × (result.display ≡ display) }
-    ensures history { ⟦<SliceSource<'static> as Source>⟧.feed result.history ≡ fresh_feed [] End }
-    ensures lines { ⟦<Nowhere as Sink>⟧.has_failed result.lines ≡ false }
-    ensures text { ⟦<Nowhere as Sink>⟧.has_failed result.text ≡ false }
 {
     SessionBuilder {
         alloc,
@@ -93,18 +86,12 @@ pub fn session_builder<'p, S: Source + Drop, D: Sink + Drop>(
 
 /// Keys from standard input, and the display on standard error.
 pub fn standard_builder<'p>(rt: &HostRuntime) -> StandardBuilder<'p>
-    ensures config { result.config ≡ standard_config }
-    ensures bindings { result.bindings ≡ [] }
-    ensures helper { result.helper ≡ None }
-    ensures prompt { result.prompt.now ≡ codes "> " }
-    ensures columns { result.columns ≡ 80 }
+    ensures defaults { HasDefaults ⟦<SliceSource<'static> as Source>⟧.feed
+        ⟦<Nowhere as Sink>⟧.has_failed ⟦<Nowhere as Sink>⟧.has_failed result }
     ensures nothing_read { gave result.source ≡ [] }
     ensures nothing_written { taken result.display ≡ [] }
     ensures keys { (⟦<StandardKeys as Source>⟧.feed result.source).failed ≡ false }
     ensures display { ⟦<WriteSink<Stderr> as Sink>⟧.has_failed result.display ≡ false }
-    ensures lines { ⟦<Nowhere as Sink>⟧.has_failed result.lines ≡ false }
-    ensures text { ⟦<Nowhere as Sink>⟧.has_failed result.text ≡ false }
-    ensures history { ⟦<SliceSource<'static> as Source>⟧.feed result.history ≡ fresh_feed [] End }
 {
     session_builder(
         rt.alloc(),

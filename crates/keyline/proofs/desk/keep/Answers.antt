@@ -18,7 +18,7 @@ pub returns-in_err-remember-clause-closes : goal.returns-in_err-remember-clause-
 returns-in_err-remember-clause-closes g c =
     let p = err_from_is_err_and c.from_residual-in_err-remember.result c.from_residual-in_err-remember.ensures.1 in
     closes_unkept g.D.Sink.held g.D.Sink.has_failed g.L.Sink.held g.L.Sink.has_failed
-    c.args.adds _ _ _ _ _ _ _ p.0 c.in_ok-write_and_flush.ensures.made.takes (ap (made_of string_bytes) p.1) (p.2 ∙ c.in_err-remember.ensures.fault.0)
+    c.args.adds _ _ _ _ _ _ _ p.0 c.in_ok-write_and_flush.ensures.made.takes c.in_ok-write_and_flush.ensures.made.works (ap (made_of string_bytes) p.1) (p.2 ∙ c.in_err-remember.ensures.fault.0)
     (subst (λ (t : List ℕ). IsTrue (c.args.adds && takes c.args.history.now t)) c.as_str.ensures.value c.in_err-remember.ensures.fault.1) c.in_err-remember.ensures.kept
 
 pub returns-in-Ok-clause-closes : goal.returns-in-Ok-clause-closes
@@ -27,7 +27,7 @@ returns-in-Ok-clause-closes g c =
     closes_handed g.D.Sink.held g.D.Sink.has_failed g.L.Sink.held g.L.Sink.has_failed
     c.args.adds text c.as_str.result.now c.as_str-2.result.now _ _ _ _ _ _ c.write_line.result (Ok text)
     c.as_str.ensures.value c.as_str-2.ensures.value (ap (made_of (λ u. text)) c.in-Ok.is)
-    c.in_ok-write_and_flush.ensures.made.takes c.in_ok-remember.ensures.added c.write_line.ensures.sends c.write_line.ensures.fault
+    c.in_ok-write_and_flush.ensures.made.takes c.in_ok-write_and_flush.ensures.made.works c.in_ok-remember.ensures.added c.write_line.ensures.sends c.write_line.ensures.fault
 
 pub returns-in-Err-clause-closes : goal.returns-in-Err-clause-closes
 returns-in-Err-clause-closes g c =
@@ -35,7 +35,7 @@ returns-in-Err-clause-closes g c =
     closes_handed g.D.Sink.held g.D.Sink.has_failed g.L.Sink.held g.L.Sink.has_failed
     c.args.adds text c.as_str.result.now c.as_str-2.result.now _ _ _ _ _ _ c.write_line.result (Err c.in-Err.why)
     c.as_str.ensures.value c.as_str-2.ensures.value (ap (made_of (λ u. text)) c.in-Err.is)
-    c.in_ok-write_and_flush.ensures.made.takes c.in_ok-remember.ensures.added c.write_line.ensures.sends c.write_line.ensures.fault
+    c.in_ok-write_and_flush.ensures.made.takes c.in_ok-write_and_flush.ensures.made.works c.in_ok-remember.ensures.added c.write_line.ensures.sends c.write_line.ensures.fault
 
 -- ---- nothing waits after the new row
 
