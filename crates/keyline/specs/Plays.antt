@@ -5,7 +5,7 @@ use Rattle.line_config.specs.declared.config.Config.{Config}
 use Rattle.line_config.specs.declared.errors.ReadlineError.{ReadlineError}
 use Rattle.line_config.specs.declared.errors.ReadlineError.TheVariants.{Reader, HistoryText, Memory}
 use Rattle.line_help.specs.History.{Filed, settings_of, nothing_filed}
-use Rattle.line_help.specs.HistoryText.{ReadsGood, text_rows, load_answer, load_leaves}
+use Rattle.line_help.specs.HistoryText.{ReadsGood, left_by_load, load_answer, load_leaves, text_rows}
 use Rattle.line_record.specs.Ring.{new_ring}
 use Rattle.line_screen.specs.Calls.{screen_of, sink_of}
 use Rattle.line_screen.specs.Reader.{coming_in, kept_of, source_of}
@@ -31,13 +31,18 @@ abbrev pub loaded_from : Config → Feed → Filed
 loaded_from config text =
     load_leaves text.last (text_rows text.last text.coming) (nothing_filed (settings_of config))
 
+-- a text is refused so, and this is left of it
+pub record RefusesText (config : Config) (text left : Feed) (why : ReadlineError) : Type 0 where
+  pub answer : loads config text ≡ Err why
+  pub behind : left.coming ≡ left_by_load text.last text.coming
+
 -- why no history is loaded of a source's text, where this is left of the source: it has failed, a
 -- row isn't UTF-8, or memory is wanting, and each row that was read is UTF-8
 abbrev pub LoadRefused : Config → Feed → Feed → ReadlineError → Type 0
 LoadRefused config text left Reader = IsTrue left.failed
-    × (IsTrue left.told → loads config text ≡ Err Reader)
+    × (IsTrue left.told → RefusesText config text left Reader)
 LoadRefused config text left HistoryText = (left.failed ≡ false)
-    × (IsTrue left.told → loads config text ≡ Err HistoryText)
+    × (IsTrue left.told → RefusesText config text left HistoryText)
 LoadRefused config text left Memory = (left.failed ≡ false)
     × (IsTrue left.told → ReadsGood text.coming left.coming)
 LoadRefused config text left why = ⊥
