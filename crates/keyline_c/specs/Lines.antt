@@ -1,15 +1,19 @@
 -- A line of the keys so far: what is handed in for it, and what it leaves.
-use Rattle.std.specs.Prelude.{◌≡◌, ◌⊎◌, ℕ, ◌<◌, ◌++◌, Bool, true, if◌then◌else◌, List, Option, Result, IsErrAnd, string_bytes}
+use Rattle.std.specs.Prelude.{◌≡◌, ◌⊎◌, ℕ, ◌<◌, ◌++◌, Bool, true, if◌then◌else◌, List, Option, Result, IsErrAnd, length, string_bytes}
 use Rattle.line_config.specs.Config.{default_config}
+use Rattle.line_config.specs.Feed.{Feed}
 use Rattle.line_config.specs.declared.device.Last.{Last}
 use Rattle.line_config.specs.declared.device.Last.TheVariants.{End, Failed}
 use Rattle.line_config.specs.declared.errors.ReadlineError.{ReadlineError}
 use Rattle.line_config.specs.declared.errors.ReadlineError.TheVariants.{Display, Helper, Memory}
+use Rattle.line_config.specs.declared.memory.SliceSource.{SliceSource}
 use Rattle.line_config.specs.declared.memory.VecSink.{VecSink}
 use Rattle.line_editor.specs.Courses.{LineReport}
 use Rattle.line_help.specs.History.{Filed}
 use Rattle.line_keys.specs.Coming.{made_of}
 use Rattle.line_screen.specs.Drawing.{break_if}
+use Rattle.line_screen.specs.Reader.{coming_in, left_in}
+use Rattle.line_screen.specs.declared.reading.reader.KeyReader.{KeyReader}
 use Rattle.keyline.specs.Program.{config_of, helper_of, edit_helping, nothing_bound}
 use Rattle.keyline.specs.Sessions.{Given, SessionState, breaks, given_of, history_after, line_bytes, line_in}
 use Rattle.keyline.specs.declared.options.Options.{Options}
@@ -34,19 +38,23 @@ last_of ended = if ended then End else Failed
 abbrev pub IsWant : ReadlineError → Type 0
 IsWant e = (e ≡ Memory) ⊎ ((e ≡ Display) ⊎ (e ≡ Helper))
 
--- where memory was not wanting, all is left as the line says
-pub record LeftBy (held : VecSink → List ℕ) (g : Given) (t : LineReport) (old : Filed) (left : Left)
-    : Type 0 where
+-- where memory was not wanting, all is left as the line says: so many bytes are left for a reader
+-- that goes on with what stands after the line
+pub record LeftBy (held : VecSink → List ℕ) (feed : SliceSource → Feed) (g : Given)
+    (t : LineReport) (old : Filed) (left : Left) : Type 0 where
+  pub reader : KeyReader SliceSource
   pub outcome_is : made_of string_bytes left.outcome ≡ t.outcome
   pub drawn : held left.display ≡ line_bytes g.screen t
   pub ring_is : left.ring ≡ t.ring
   pub history_is : left.history ≡ history_after g.config.auto_add_history t.outcome old
+  pub rest_is : left.rest ≡ length (left_in feed reader)
+  pub goes_on : coming_in feed reader ≡ t.rest
 
 -- THE relation of a line. More fuel than the source has bytes is enough
-pub record ReadsLine (held : VecSink → List ℕ) (g : Given) (x : SessionState) (bound : ℕ)
-    (left : Left) : Type 0 where
-  pub goes : (n : ℕ) → bound < n
-      → LeftBy held g (line_in n g x) x.history left ⊎ IsErrAnd left.outcome IsWant
+pub record ReadsLine (held : VecSink → List ℕ) (feed : SliceSource → Feed) (g : Given)
+    (x : SessionState) (bound : ℕ) (left : Left) : Type 0 where
+  pub goes : (n : ℕ) → bound < n → LeftBy held feed g (line_in n g x) x.history left
+      ⊎ IsErrAnd left.outcome IsWant
 
 -- the end of a line: a new row where it says so, and an accepted one in the history
 pub record Ends (held : VecSink → List ℕ) (outcome : Result (List ℕ) ReadlineError)

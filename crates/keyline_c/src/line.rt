@@ -5,6 +5,7 @@ ghost use Rattle.line_config.specs.Feed.{fresh_feed};
 ghost use Rattle.line_config.specs.Sending.{Takes};
 ghost use Rattle.line_keys.specs.Coming.{made_of};
 ghost use Rattle.line_screen.specs.Calls.{screen_of, sink_of};
+ghost use Rattle.line_screen.specs.Reader.{left_in};
 ghost use Rattle.line_screen.specs.Drawing.{row_break};
 ghost use Rattle.keyline.specs.Program.{word_texts};
 ghost use Rattle.keyline.specs.Sessions.{breaks, history_after, state_over};
@@ -61,15 +62,16 @@ fn screen(alloc: Global, options: &Options, config: &Config) -> ScreenRenderer<V
     )
 }
 
-/// How many bytes a source still gives, of so many at most.
-fn count_rest(source: SliceSource<'_>, most: usize) -> usize {
-    let mut source = source;
-    for count in 0..most {
-        let Ok(Some(_)) = source.next_byte() else {
-            return count;
-        };
+/// How many bytes a reader has left: those of its source, and the one that it keeps.
+fn count_rest<'k>(reader: KeyReader<SliceSource<'k>>) -> usize
+    ensures { result ≡ length (left_in ⟦<SliceSource<'k> as Source>⟧.feed reader.entry) }
+{
+    let (source, ahead) = reader.into_parts();
+    let rest = source.buffer().len();
+    match ahead {
+        Some(_) => rest + 1,
+        None => rest,
     }
-    most
 }
 
 /// Whether the display gets a new row where a line ends so.
@@ -136,8 +138,8 @@ pub(crate) fn read_line<'k>(
     requires { (2 ≤ options.now.columns) × (options.now.columns ≤ 1000) }
     ensures { let given = given_by_options options.now (word_texts words) in
         let state = state_over ring history options.now.mode keys.entry.now (last_of ended) in
-        MatchResult result (ReadsLine ⟦<VecSink as Sink>⟧.held given state
-        (length keys.entry.now)) IsWant }
+        MatchResult result (ReadsLine ⟦<VecSink as Sink>⟧.held
+        ⟦<SliceSource<'k> as Source>⟧.feed given state (length keys.entry.now)) IsWant }
 {
     let config = config_of(options);
     let bindings = Bindings::new(alloc).unwrap();
@@ -163,18 +165,11 @@ pub(crate) fn read_line<'k>(
         &mut ring,
     );
     close(alloc, &outcome, &mut out, &mut history)?;
-    let (source, ahead) = reader.into_parts();
-    let rest = count_rest(source, keys.len());
-    let rest = if ahead.is_some() {
-        rest.saturating_add(1)
-    } else {
-        rest
-    };
     Ok(Left {
         outcome,
         display: out.into_sink(),
         history,
         ring,
-        rest,
+        rest: count_rest(reader),
     })
 }
