@@ -2,15 +2,7 @@
 #![tactic(auto)]
 
 #[cfg(test)]
-mod by_options;
-#[cfg(test)]
-mod command_lines;
-#[cfg(test)]
 mod completing;
-#[cfg(test)]
-mod editors;
-#[cfg(test)]
-mod endings;
 #[cfg(test)]
 mod faults;
 #[cfg(test)]

@@ -1,0 +1,11 @@
+//! The calls of `keyline` by themselves: command lines, sessions by options, editors of one line a call, endings.
+#![tactic(auto)]
+
+#[cfg(test)]
+mod by_options;
+#[cfg(test)]
+mod command_lines;
+#[cfg(test)]
+mod editors;
+#[cfg(test)]
+mod endings;
