@@ -72,7 +72,7 @@ def noted_keys(keys):
 
 @dataclasses.dataclass(frozen=True)
 class Session:
-    """Keys, and the words of a setting as `session_rows` reads them."""
+    """Keys, and the words of a setting as `session_words` reads them."""
 
     keys: bytes
     words: tuple = ()

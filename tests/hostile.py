@@ -2,8 +2,8 @@
 """A hunt through the built program with inputs that nobody writes by hand. Run it by ./test, or alone once `rt ci` or
 ./keyline has built the program.
 
-    tests/hostile.py                           two minutes, from a seed that is the program's sum
-    tests/hostile.py --seconds N --seed S      as long as one likes, from any seed
+    tests/hostile.py                           six thousand sessions, from a seed that is the program's sum
+    tests/hostile.py --sessions N --seed S     as many as one likes, from any seed
 
 Each session is played twice, the second time one byte a read, with tests/one_byte.c preloaded: it must end by a name,
 with the status and the words that go with it, write whole lines alone, leave the history file that those lines make of
@@ -190,12 +190,12 @@ def session_of(seed):
 
 def main(words):
     parser = argparse.ArgumentParser()
-    parser.add_argument("--seconds", type=float, default=120)
+    parser.add_argument("--sessions", type=int, default=6000)
     parser.add_argument("--seed", default=hashlib.sha256(read(PROGRAM)).hexdigest()[:16])
     given = parser.parse_args(words)
     print(f"seed {given.seed}", flush=True)
     shim("one_byte")
-    hunts = hunted(Player, session_of(given.seed), given.seconds)
+    hunts = hunted(Player, session_of(given.seed), given.sessions)
     run_all([rows_pass(Player, ROWS), *(test_of(kind, hunts) for kind in [*KINDS, large_pastes]), most_judged(hunts)])
 
 

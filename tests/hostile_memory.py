@@ -2,8 +2,8 @@
 """A hunt through sessions over memory, for what the program has no argument for: bindings, handlers and helpers of every
 answer. Run it by ./test, or alone once `rt ci` has built crates/sessions_program.
 
-    tests/hostile_memory.py                           half a minute, from a seed that is the program's sum
-    tests/hostile_memory.py --seconds N --seed S      as long as one likes, from any seed
+    tests/hostile_memory.py                           three thousand sessions, from a seed that is the program's sum
+    tests/hostile_memory.py --sessions N --seed S     as many as one likes, from any seed
 
 The program reads sessions as rows and tells in hexadecimal what each leaves. Each is played with its keys in one read, and
 then as its own word cuts them: both must leave the same. It must end by a name that its words and keys have a reason for,
@@ -231,11 +231,11 @@ def main():
     with open(PROGRAM, "rb") as program:
         own = hashlib.sha256(program.read()).hexdigest()[:16]
     parser = argparse.ArgumentParser()
-    parser.add_argument("--seconds", type=float, default=30)
+    parser.add_argument("--sessions", type=int, default=3000)
     parser.add_argument("--seed", default=own)
     given = parser.parse_args()
     print(f"seed {given.seed}", flush=True)
-    hunts = hunted(Player, session_of(given.seed), given.seconds)
+    hunts = hunted(Player, session_of(given.seed), given.sessions)
     run_all([rows_pass(Player, list(rows_of(ROWS))), *(test_of(kind, hunts) for kind in KINDS), most_judged(hunts)])
 
 

@@ -197,13 +197,13 @@ class Hunt:
     def __init__(self):
         self.played, self.unjudged, self.faults = collections.Counter(), collections.Counter(), []
 
-    def play(self, player, session_at, numbers, end):
-        """Plays the sessions of these numbers, as a player takes them, until the end."""
+    def play(self, player, session_at, numbers):
+        """Plays the sessions of these numbers, as a player takes them, until enough have failed."""
         names = collections.deque()
 
         def sessions():
             for number in numbers:
-                if time.monotonic() > end or len(self.faults) == ENOUGH:
+                if len(self.faults) == ENOUGH:
                     return
                 kind, session = session_at(number)
                 names.append((kind.__name__, number))
@@ -219,15 +219,15 @@ class Hunt:
         return self
 
 
-def hunted(player, session_at, seconds):
-    """The hunts of as many processes as there are processors; each has a player of its own."""
-    count, end, reports = len(os.sched_getaffinity(0)), time.monotonic() + seconds, []
+def hunted(player, session_at, sessions):
+    """The hunts through so many sessions by as many processes as there are processors; each has a player of its own."""
+    count, reports = len(os.sched_getaffinity(0)), []
     for number in range(count):
         report, told = os.pipe()
         if os.fork() == 0:
             try:
                 with player() as plays:
-                    found = pickle.dumps(Hunt().play(plays, session_at, itertools.count(number, count), end))
+                    found = pickle.dumps(Hunt().play(plays, session_at, range(number, sessions, count)))
                 with open(told, "wb") as out:
                     out.write(found)
             except BaseException:

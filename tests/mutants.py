@@ -3,8 +3,9 @@
 
 Such a file is written as those of must-fail/ are: a line `file: src/lib.rt` and pairs of lines `old: TEXT` and
 `new: TEXT`, each text once in the file. Many share a check of their crate, over the libraries that `rt ci` left in
-crates/*/out: each stands beside the right one, as a function of another name. The right one is taken at its word there,
-as its contract has it: a check proves no right body, since `rt ci` has, and needs nothing that an earlier one kept.
+crates/*/out: each stands beside the right one, as a function of another name, and ensures no more there than the clause
+that its case in tests/mutants-by-hand.txt begins with. The right one is taken at its word there, as its contract has it:
+a check proves no right body, since `rt ci` has, and needs nothing that an earlier one kept.
 
 A wrong body passes where each function that it changes is refused for its own sake, and rattle knows values at which
 an open goal of it is false, or tests/mutants-by-hand.txt has a case at which a clause is: an open goal alone may be one
@@ -308,7 +309,7 @@ def main(words):
     uses = crates_of(TOP)
     by_hand = noted(BY_HAND)
     unasked = {} if "--all-goals" in words else {name: it.split(", ") for name, it in noted(UNASKED).items()}
-    crates = [Crate(TOP, name, unasked) for name in uses if not names or name in names]
+    crates = [Crate(TOP, name, unasked, by_hand) for name in uses if not names or name in names]
     crates = [it for it in crates if it.sources]
     known = {f"{it.name}/{name}" for it in crates for name in [*it.unfit, *(edit.name for edit in it.edits)]}
     passed = failed = 0

@@ -5,6 +5,7 @@
     tests/mutants_tests.py --prover    where it is rattle itself
 """
 import os
+import re
 import sys
 import tempfile
 import time
@@ -117,8 +118,8 @@ class Small:
         with open(path, "w", encoding="utf-8") as it:
             it.write(text)
 
-    def crate(self, unasked=None):
-        return wrong_bodies.Crate(self.folder.name, "small", unasked)
+    def crate(self, unasked=None, cases=None):
+        return wrong_bodies.Crate(self.folder.name, "small", unasked, cases)
 
     def uses(self):
         return wrong_bodies.crates_of(self.folder.name)
@@ -344,7 +345,7 @@ def wrong_bodies_that_share_a_check():
          [["added-once", "half-of-it", "nothing-said", "same-sum"]])
     small = Small("from-one", "from-none", "from-other", "nothing-said")
     same("a body of a trait's impl has the right one's place, and may be called there", named(groups_of(small.crate())),
-         [["from-none", "nothing-said"], ["from-one"], ["from-other"]])
+         [["from-none", "from-other", "nothing-said"], ["from-one"]])
     same("groups of one size", wrong_bodies.parts([1, 2, 3, 4, 5], 3), [[1, 3, 5], [2, 4]])
 
 
@@ -372,6 +373,24 @@ def what_is_not_changed_is_taken_at_its_word():
     with open(os.path.join(room, "proofs/Pair/first/Proof.antt"), encoding="utf-8") as it:
         same("a hole", it.read(), "use Rattle.small.proofs.Pair.first.Statement.{statement}\n\n"
              "pub first_spec : {M : Type 1} \u2192 statement M\nfirst_spec = ?\n")
+
+
+def a_body_ensures_what_its_case_is_of():
+    small = Small("neither", "one-of-two")
+    answers = [f"pub returns-clause-{it} : goal.returns-clause-{it}\nreturns-clause-{it} g c = {it}_is g\n\n"
+               for it in ("one", "other")]
+    lemma = "one_is : (g : Ghosts) \u2192 g.one \u2261 g.one\none_is g = refl\n\n"
+    small.write("crates/small/proofs/twice/Answers.antt", lemma + "".join(answers))
+    cases = {"small/neither": "other: of 1 it answers 0", "small/one-of-two": "its one clause: of 1 it answers 0"}
+    crate, room = small.crate(cases=cases), os.path.join(small.folder.name, "room")
+    crate.furnish(room, crate.edits)
+    heads = re.findall(r"fn (twice_\w+)[^\n]*\n(.*?)\n\{", wrong_bodies.read(os.path.join(room, "src/lib.rt")), re.DOTALL)
+    one, other = (f"    ensures {it} {{ result.{at} \u2261 n }}" for at, it in enumerate(("one", "other")))
+    same("what each ensures", dict(heads), {"twice_neither": other, "twice_one_of_two": f"{one}\n{other}"})
+    for name, kept in (("neither", lemma + answers[1]), ("one_of_two", lemma + "".join(answers))):
+        same(f"the answers of {name}", wrong_bodies.read(os.path.join(room, f"proofs/twice_{name}/Answers.antt")), kept)
+    sums = [{it.name: its.sum_of(it) for it in its.edits} for its in (crate, small.crate())]
+    same("whose sum its case is of", [it for it in sums[0] if sums[0][it] != sums[1][it]], ["neither"])
 
 
 def a_caller_is_not_blamed_for_its_callee():
@@ -580,6 +599,7 @@ STAND_INS = [
     edits_that_no_longer_fit,
     wrong_bodies_that_share_a_check,
     what_is_not_changed_is_taken_at_its_word,
+    a_body_ensures_what_its_case_is_of,
     a_caller_is_not_blamed_for_its_callee,
     a_refused_lemma_is_told_of,
     a_function_told_of_in_brief,

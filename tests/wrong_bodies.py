@@ -5,10 +5,13 @@ import re
 import shutil
 from collections import Counter
 
-from functions import Sources, blanked, functions
+from functions import Sources, blanked, closing, functions
 
 # What stands before the word `fn` of a function: attributes, and who may call it.
 ATTRIBUTES = re.compile(r"(?:#\[(?:[^][]|\[[^][]*\])*\]\s*)*(?:pub(?:\([^)]*\))?\s+)?(?:(?:const|unsafe)\s+)*\Z")
+# What a function ensures: a clause, with its name where it has one; and what a stored proof has for one.
+ENSURES = re.compile(r"\bensures\b\*?\s*(\w*)\s*(?=\{)")
+ANSWER = re.compile(r"(?ms)^pub (returns\S*?(?:-clause-(\w+))?) : goal\.\1\n.*?(?=^pub |\Z)")
 # The files of a function's proof, and the proof that is taken at its word.
 PROOF_FILES = ("Proof.antt", "Answers.antt", "Invariants.antt")
 HOLE = """use {module}.Statement.{{statement}}
@@ -30,22 +33,24 @@ class Edit:
     """A wrong body: its name and, by file, the functions that it changes with their new bodies.
 
     In a check it stands beside the right one, as a function of another name with the same head, so that what calls the
-    right one isn't touched by it. A body of a trait's impl, where no other function may stand, has the right one's
+    right one isn't touched by it, and ensures no more there than the clause that its case is of, where it has one: so
+    that clause alone refuses it. A body of a trait's impl, where no other function may stand, has the right one's
     place, and so have those of an edit that changes several functions. Of its goals some may go unasked, since another
     one shows that it is refused.
     """
 
-    def __init__(self, path, sources, unasked=()):
+    def __init__(self, path, sources, unasked=(), case=""):
         self.name, self.unasked = os.path.basename(path).removesuffix(".edit"), unasked
-        self.bodies, self.right, self.words = {}, {}, set()
+        self.clause = None
+        self.bodies, self.right = {}, {}
         changes = [(file, *it) for file, text in changed(read(path), sources).items()
                    for it in bodies_changed(sources, file, text)]
         for file, old, new in changes:
             own = right = sources.path(old)
             if len(changes) == 1 and old.may_have_others_beside():
                 own = f"{right}_{self.name.replace('-', '_')}"
+                self.clause = clause_of(case, sources.texts[file][old.begun : old.body[0]])
             self.bodies[file, own], self.right[own] = (old.body, new), right
-            self.words.update(re.findall(r"\w+", blanked(new)))
         if not self.bodies:
             raise Unfit("it changes nothing")
 
@@ -58,12 +63,9 @@ class Edit:
         return [path for path in self.paths() if self.right[path] == path]
 
     def stands_beside(self, other):
-        """Whether the two may share a check: neither takes the place of a function that the other changes or names."""
+        """Whether the two may share a check: neither takes the place of a function that the other changes."""
         clash = lambda one, its: {*one.replaced()} & {*its.right.values()}
-        if {*self.paths()} & {*other.paths()} or clash(self, other) or clash(other, self):
-            return False
-        names = lambda one, its: any(path.rpartition("::")[2] in one.words for path in its.replaced())
-        return not names(self, other) and not names(other, self)
+        return not ({*self.paths()} & {*other.paths()} or clash(self, other) or clash(other, self))
 
 
 def changed(text, sources):
@@ -134,11 +136,30 @@ def parts(group, most):
     return [group[at::count] for at in range(count)]
 
 
-def named_so(text, function, path):
-    """A function's head, from its attributes to its body, under the name that a path ends in."""
-    name = path.rpartition("::")[2]
-    own = re.sub(rf"\Afn(\s+){function.name}\b", rf"fn\g<1>{name}", text[function.begun : function.body[0]])
+def named_so(text, function, path, clause):
+    """A function's head, from its attributes to its body, under the name that a path ends in, with one of its clauses."""
+    name, own = path.rpartition("::")[2], text[function.begun : function.body[0]]
+    for first, last in reversed([span for it, span in clauses(own) if clause and it != clause]):
+        own = own[:first].rstrip() + own[last:]
+    own = re.sub(rf"\Afn(\s+){function.name}\b", rf"fn\g<1>{name}", own)
     return text[head(text, function)[0] : function.begun] + own
+
+
+def clauses(own):
+    """The clauses that a function's head ensures: the name of each, and its two ends."""
+    bare = blanked(own)
+    return [(it[1], (it.start(), closing(bare, it.end()))) for it in ENSURES.finditer(bare)]
+
+
+def clause_of(case, own):
+    """The clause of a function's head that a case begins with the name of."""
+    word = re.match(r"\w*", case)[0]
+    return word if word and word in [name for name, _ in clauses(own)] else None
+
+
+def of_clause(text, clause):
+    """A stored proof's text less the answers of goals of other clauses."""
+    return ANSWER.sub(lambda it: it[0] if clause in (None, it[2]) else "", text)
 
 
 class Crate:
@@ -147,7 +168,7 @@ class Crate:
     # As many share a check at most, for the memory that it takes and for other checks beside it.
     MOST = 60
 
-    def __init__(self, top, name, unasked=None):
+    def __init__(self, top, name, unasked=None, cases=None):
         self.name, self.folder = name, os.path.join(top, "crates", name)
         self.checks, self.taken = [], []
         self.edits, self.unfit = [], {}
@@ -157,8 +178,8 @@ class Crate:
         for file in files:
             edit = file.removesuffix(".edit")
             try:
-                goals = (unasked or {}).get(f"{name}/{edit}", ())
-                self.edits.append(Edit(os.path.join(room, file), self.sources, goals))
+                goals, case = (unasked or {}).get(f"{name}/{edit}", ()), (cases or {}).get(f"{name}/{edit}", "")
+                self.edits.append(Edit(os.path.join(room, file), self.sources, goals, case))
             except Unfit as why:
                 self.unfit[edit] = str(why)
 
@@ -205,18 +226,18 @@ class Crate:
         bodies = {}
         for edit in group:
             for (file, path), (old, new) in edit.bodies.items():
-                bodies.setdefault((file, old), []).append((path, new))
+                bodies.setdefault((file, old), []).append((path, new, edit.clause))
         made = {}
         for file, text in self.sources.texts.items():
             for it in sorted(self.sources.found[file], key=lambda it: it.body, reverse=True):
                 body = text[slice(*it.body)]
                 # (a constant's value may be what a `const fn` answers)
                 own = body if "const" in head(text, it)[1].split() else stand_in(body)
-                for path, new in bodies.get((file, it.body), ()):
+                for path, new, clause in bodies.get((file, it.body), ()):
                     if path == self.sources.path(it):
                         own = new
                     else:
-                        own += f"\n\n{named_so(text, it, path)}{new}"
+                        own += f"\n\n{named_so(text, it, path, clause)}{new}"
                 text = text[: it.body[0]] + own + text[it.body[1] :]
             made[file] = text
         return made
@@ -227,7 +248,7 @@ class Crate:
             self.taken = [*texts_under(self.folder, "specs"), *lemmas(self.folder), *self.outlines()]
         bodies = [(file, path, edit.right[path], new) for (file, path), (_, new) in edit.bodies.items()]
         stored = [(name, read(file)) for path in edit.paths() for name, file in sorted(self.stored(path).items())]
-        return sum_of(self.name, self.taken, edit.name, bodies, stored, sorted(edit.unasked))
+        return sum_of(self.name, self.taken, edit.name, edit.clause, bodies, stored, sorted(edit.unasked))
 
     def outlines(self):
         """The crate's files with no line of a body that is taken at its word."""
@@ -241,21 +262,21 @@ class Crate:
                 shutil.copytree(os.path.join(self.folder, part), os.path.join(room, part))
         for file, text in self.texts(group).items():
             write(os.path.join(room, file), text)
-        paths = {path for edit in group for path in edit.paths()}
+        paths = {path: edit.clause for edit in group for path in edit.paths()}
         for it in (it for found in self.sources.found.values() for it in found):
             if self.sources.path(it) not in paths:
                 self.take_at_its_word(room, self.sources.path(it))
-        for path in paths:
-            self.prove_as_the_right_one(room, path)
+        for path, clause in paths.items():
+            self.prove_as_the_right_one(room, path, clause)
 
-    def prove_as_the_right_one(self, room, path):
-        """Gives a body that stands beside the right one its proof, under its own name."""
+    def prove_as_the_right_one(self, room, path, clause):
+        """Gives a body that stands beside the right one its proof, under its own name, as far as it is of a clause."""
         right = self.right_of(path)
         if path == right:
             return
         old, new = self.module(right), self.module(path)
         for name, file in self.stored(path).items():
-            text = re.sub(rf"\b{re.escape(old)}\.", f"{new}.", read(file))
+            text = re.sub(rf"\b{re.escape(old)}\.", f"{new}.", of_clause(read(file), clause))
             text = re.sub(rf"\b{right.rpartition('::')[2]}_spec\b", f"{path.rpartition('::')[2]}_spec", text)
             write(os.path.join(room, self.answers(path), name), text)
 

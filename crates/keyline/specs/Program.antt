@@ -6,9 +6,8 @@ use Rattle.line_config.specs.Config.{default_config, timeout_of}
 use Rattle.line_config.specs.Feed.{Feed, fresh_feed}
 use Rattle.line_config.specs.declared.config.Config.{Config}
 use Rattle.line_keys.specs.Replies.{gives, gives_at_once}
-use Rattle.line_help.specs.Completion.{nothing_offered}
+use Rattle.line_help.specs.Completion.{nothing_offered, word_reply}
 use Rattle.line_help.specs.Validation.{bracket_reply}
-use Rattle.line_help.specs.Completion.{word_reply}
 use Rattle.line_help.specs.declared.bracket_validator.MatchingBracketValidator.{MatchingBracketValidator}
 use Rattle.line_help.specs.declared.helper_parts.HelperParts.{HelperParts}
 use Rattle.line_help.specs.declared.validate.ValidationResult.TheVariants.{Valid}
@@ -43,12 +42,11 @@ use Rattle.keyline.specs.Playing.{Reads, SessionReason, ending_after, work}
 abbrev pub standard_config : Config
 standard_config = record default_config { auto_add_history = true }
 
--- each accepted line is kept
+-- and in the mode that the options choose
 abbrev pub config_of : Options → Config
-config_of options = record default_config {
+config_of options = record standard_config {
   edit_mode = options.mode;
   keyseq_timeout = timeout_of options.mode;
-  auto_add_history = true;
 }
 
 -- completes by words and validates brackets, each where it is wanted

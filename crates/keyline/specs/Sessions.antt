@@ -28,13 +28,8 @@ pub record Given : Type 0 where
   pub helping : Helping
 
 abbrev pub given_of : Config → Custom → List ℕ → Screen → Helping → Given
-given_of config custom prompt screen helping = record {
-  config = config;
-  custom = custom;
-  prompt = prompt;
-  screen = screen;
-  helping = helping;
-}
+given_of config custom prompt screen helping =
+    record { config = config; custom = custom; prompt = prompt; screen = screen; helping = helping }
 
 abbrev pub screen_by : Config → ℕ → Screen
 screen_by config columns =

@@ -2,9 +2,9 @@
 
 ghost use Rattle.std.specs.Prelude.{◌≡◌, false};
 
-use crate::notation::{Setting, row_of, setting_of, typed};
 use crate::play::{Left, left_of};
 use keyline::{ReadSource, ReadlineError};
+use session_words::notation::{Setting, row_of, setting_of, typed};
 use stand_ins::devices::{Pieces, Turns};
 use std::alloc::{AllocError, Global};
 use std::cell::Cell;

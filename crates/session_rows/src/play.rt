@@ -2,17 +2,17 @@
 
 ghost use Rattle.std.specs.Prelude.{◌≡◌, false};
 
-use crate::advice::texts_of;
-use crate::aide::aide_of;
-use crate::bound::{Action, Bound, bound_by};
-use crate::faults::{Faults, faults_of, sink_of};
-use crate::notation::{
-    Asking, Row, Setting, display_meant, field, lines_meant, number_after, row_of, setting_of,
-    text_meant, typed,
-};
 use keyline::{
     Bindings, Config, Decides, Ended, Ending, EventHandler, Helper, LineRead, ReadSource,
     ReadlineError, Session, Sink, SliceSource, Source, VecSink,
+};
+use session_words::advice::texts_of;
+use session_words::aide::aide_of;
+use session_words::bound::{Action, Bound, bound_by};
+use session_words::faults::{Faults, faults_of, sink_of};
+use session_words::notation::{
+    Asking, Row, Setting, display_meant, field, lines_meant, number_after, row_of, setting_of,
+    text_meant, typed,
 };
 use stand_ins::devices::{Pieces, Turns};
 use stand_ins::tables::{meant_bytes, pictured_bytes};

@@ -4,10 +4,10 @@
 
 ghost use Rattle.std.specs.Prelude.{◌≡◌, false};
 
-use crate::faults::{Faults, sink_of};
-use crate::notation::{Setting, row_of, setting_of, typed};
 use crate::play::{Played, ended};
 use keyline::{Ended, Ending, FileHistory, History, ReadlineError, Sink, Source};
+use session_words::faults::{Faults, sink_of};
+use session_words::notation::{Setting, row_of, setting_of, typed};
 use stand_ins::sources::Faltering;
 use stand_ins::tray::Tray;
 use std::alloc::Global;

@@ -6,8 +6,8 @@ use crate::fixtures::{plain, told};
 use keyline::{
     Bindings, Config, Ending, ReadlineError, Session, Sink, SliceSource, Source, VecSink,
 };
-use session_rows::notation::{display_meant, field, setting_of};
 use session_rows::play::{Left, ended, left_of};
+use session_words::notation::{display_meant, field, setting_of};
 use stand_ins::rows::{Player, rows_hold};
 use stand_ins::sources::Faltering;
 use stand_ins::tables::{meant, word_and_rest};

@@ -1,8 +1,8 @@
 //! What the tests share: what a session left, in words.
 
 use keyline::Ending;
-use session_rows::notation::{Setting, display_meant, setting_of};
 use session_rows::play::Left;
+use session_words::notation::{Setting, display_meant, setting_of};
 use stand_ins::tables::{or_nothing, pictured_bytes};
 use std::alloc::{AllocError, Global};
 

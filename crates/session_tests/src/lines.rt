@@ -5,7 +5,7 @@ use keyline::prompter::Prompter;
 use keyline::{
     Bindings, Config, History, LineRead, ReadlineError, Session, SliceSource, VecSink, laws,
 };
-use session_rows::notation::{display_meant, typed};
+use session_words::notation::{display_meant, typed};
 use stand_ins::rows::{Player, rows_hold};
 use stand_ins::tables::{meant_bytes, pictured_bytes};
 use std::alloc::{AllocError, Global};

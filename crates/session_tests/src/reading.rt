@@ -5,8 +5,8 @@ use keyline::{
     Bindings, Cmd, Config, EditMode, Ending, Event, EventHandler, KeyEvent, ReadSource,
     ReadlineError, SliceSource, Source, VecSink, WriteSink, session_builder,
 };
-use session_rows::notation::display_meant;
 use session_rows::play::{ended, left_of};
+use session_words::notation::display_meant;
 use stand_ins::devices::{Log, LoggedReader, LoggedWriter, Pieces, Turns};
 use stand_ins::rows::{Player, raised, rows_hold};
 use std::alloc::Global;

@@ -2,8 +2,8 @@
 
 use crate::fixtures::plain;
 use keyline::{Sink, SliceSource, Source, VecSink};
-use session_rows::notation::display_meant;
 use session_rows::play::ended;
+use session_words::notation::display_meant;
 use std::test::Fail;
 
 #[test]

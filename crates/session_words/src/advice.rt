@@ -10,11 +10,13 @@ ghost use Rattle.line_keys.specs.Replies.{gives_at_once, gives_unless};
 ghost use Rattle.line_config.specs.declared.errors.HookFault.TheVariants.{Memory};
 
 use crate::notation::{after, number_after, text_meant};
-use keyline::{
-    ChangeListener, CmdKind, Completer, CompletionType, Context, Helper, Highlighter, Hint, Hinter,
-    History, HookFault, LineBuffer, Text, ValidationContext, ValidationResult, Validator,
-    update_line,
+use line_buffer::{ChangeListener, LineBuffer};
+use line_config::{CompletionType, HookFault};
+use line_help::{
+    Completer, Context, Helper, Highlighter, Hint, Hinter, History, ValidationContext,
+    ValidationResult, Validator, update_line,
 };
+use line_keys::{CmdKind, Text};
 use std::alloc::{AllocError, Global};
 use std::borrow::CowStr;
 
@@ -101,7 +103,7 @@ impl Adviser<'_> {
 
 impl Completer for Adviser<'_> {
     ghost use Rattle.std.specs.Prelude.{◌∷◌, []};
-    ghost use Rattle.session_rows.specs.declared.advice.Offer.TheVariants.{Nothing, One, Two};
+    ghost use Rattle.session_words.specs.declared.advice.Offer.TheVariants.{Nothing, One, Two};
 
     type Candidate = String;
 
@@ -223,7 +225,7 @@ impl Highlighter for Adviser<'_> {
 
 impl Validator for Adviser<'_> {
     ghost use Rattle.line_help.specs.declared.validate.ValidationResult.TheVariants as results;
-    ghost use Rattle.session_rows.specs.declared.advice.Verdict.TheVariants.{Incomplete, Invalid, InvalidTold, Valid, ValidTold};
+    ghost use Rattle.session_words.specs.declared.advice.Verdict.TheVariants.{Incomplete, Invalid, InvalidTold, Valid, ValidTold};
 
     ghost verdict_of = { λ self text. gives_unless (nat_le self.verdict_fails_from (length text))
         (elim (if nat_le self.later_from (length text) then self.later else self.verdict) [
@@ -279,7 +281,7 @@ impl<'a> Helper for Adviser<'a> {
 
 /// The texts of an adviser, in memory of their own.
 #[derive(Drop)]
-pub(crate) struct Texts {
+pub struct Texts {
     hint: Option<String>,
     taken: Option<String>,
     message: String,
@@ -294,7 +296,7 @@ fn text_after(alloc: Global, words: &str, beginning: &str) -> Result<Option<Stri
 }
 
 /// The texts that a setting has for an adviser.
-pub(crate) fn texts_of(alloc: Global, words: &str) -> Result<Texts, AllocError> {
+pub fn texts_of(alloc: Global, words: &str) -> Result<Texts, AllocError> {
     Ok(Texts {
         hint: text_after(alloc, words, "hint:")?,
         taken: text_after(alloc, words, "taken:")?,
@@ -335,7 +337,7 @@ impl Texts {
     }
 
     /// The adviser that a setting asks for.
-    pub(crate) fn adviser(&self, words: &str) -> Adviser<'_> {
+    pub fn adviser(&self, words: &str) -> Adviser<'_> {
         Adviser {
             hint: self.hint(),
             hint_from: number_after(words, "hint-from:", 0),

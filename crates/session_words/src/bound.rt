@@ -4,10 +4,9 @@
 ghost use Rattle.std.specs.Prelude.{◌≡◌};
 
 use crate::notation::number_after;
-use keyline::{
-    Cmd, ConditionalEventHandler, Event, EventContext, HookFault, KeyEvent, Keys, ReadlineError,
-    RepeatCount, Text,
-};
+use line_buffer::RepeatCount;
+use line_config::{HookFault, ReadlineError};
+use line_keys::{Cmd, ConditionalEventHandler, Event, EventContext, KeyEvent, Keys, Text};
 use stand_ins::commands::command_named;
 use stand_ins::handlers::{HintOrKill, OneWay};
 use stand_ins::key_names::key_named;
@@ -26,7 +25,7 @@ pub enum Answering {
 impl ConditionalEventHandler for Answering {
     ghost use Rattle.std.specs.Prelude.{Some};
     ghost use Rattle.line_keys.specs.Replies.{gives};
-    ghost use Rattle.session_rows.specs.declared.bound.Answering.TheVariants as kinds;
+    ghost use Rattle.session_words.specs.declared.bound.Answering.TheVariants as kinds;
     ghost use Rattle.stand_ins.specs.Handlers.{hint_or_kill, one_way};
 
     ghost meaning = { λ h s. elim h [
@@ -56,16 +55,16 @@ impl ConditionalEventHandler for Answering {
 
 /// What is bound: a command, or a handler.
 #[derive(Drop)]
-pub(crate) enum Action {
+pub enum Action {
     Command(Cmd),
     Handler(Answering),
 }
 
 /// An event, and what is bound to it.
 #[derive(Drop)]
-pub(crate) struct Bound {
-    pub(crate) event: Event,
-    pub(crate) action: Action,
+pub struct Bound {
+    pub event: Event,
+    pub action: Action,
 }
 
 /// The keys with these names, with an arrow between two.
@@ -134,7 +133,7 @@ fn put_many(alloc: Global, all: &mut Vec<Bound>, count: usize) -> Result<(), Rea
 }
 
 /// All that the words of a setting bind.
-pub(crate) fn bound_by(alloc: Global, words: &str) -> Result<Vec<Bound>, ReadlineError> {
+pub fn bound_by(alloc: Global, words: &str) -> Result<Vec<Bound>, ReadlineError> {
     let mut all = Vec::new(alloc);
     put_many(alloc, &mut all, number_after(words, "many:", 0))?;
     for word in words.split_whitespace() {

@@ -6,7 +6,8 @@
 //! character stands as its picture, a blank as `␠`. Where lines aren't added to the history, nothing is to be saved. A line
 //! without ` = ` is a comment, and so is one that begins with `#`. Settings are words, as `vi`, `columns:4` or `words:al,alp`.
 
-use keyline::{EditMode, GraphemeClusterMode};
+use line_buffer::GraphemeClusterMode;
+use line_config::EditMode;
 use stand_ins::tables::meant_bytes;
 use std::alloc::{AllocError, Global};
 
@@ -47,7 +48,7 @@ fn has(words: &str, wanted: &str) -> bool {
 }
 
 /// What stands after a beginning, in the first word that has it.
-pub(crate) fn after<'a>(words: &'a str, beginning: &str) -> Option<&'a str> {
+pub fn after<'a>(words: &'a str, beginning: &str) -> Option<&'a str> {
     for word in words.split_whitespace() {
         if let Some(rest) = word.strip_prefix(beginning) {
             return Some(rest);
@@ -57,7 +58,7 @@ pub(crate) fn after<'a>(words: &'a str, beginning: &str) -> Option<&'a str> {
 }
 
 /// The number after a beginning, where a word has it.
-pub(crate) fn number_after(words: &str, beginning: &str, otherwise: usize) -> usize {
+pub fn number_after(words: &str, beginning: &str, otherwise: usize) -> usize {
     match after(words, beginning) {
         Some(digits) => digits.parse().unwrap_or(otherwise),
         None => otherwise,
@@ -65,7 +66,7 @@ pub(crate) fn number_after(words: &str, beginning: &str, otherwise: usize) -> us
 }
 
 /// The text that is meant by one with pictures and numbers of bytes; none where the bytes are no text.
-pub(crate) fn text_meant(alloc: Global, shown: &str) -> Result<String, AllocError> {
+pub fn text_meant(alloc: Global, shown: &str) -> Result<String, AllocError> {
     match String::from_utf8(meant_bytes(alloc, shown)?) {
         Ok(text) => Ok(text),
         Err(_) => Ok(String::new(alloc)),

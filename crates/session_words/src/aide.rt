@@ -1,7 +1,7 @@
 //! A helper of sessions.
 
 use crate::notation::{Setting, text_meant};
-use keyline::{HelperParts, HistoryHinter, MatchingBracketValidator, WordCompleter};
+use line_help::{HelperParts, HistoryHinter, MatchingBracketValidator, WordCompleter};
 use std::alloc::{AllocError, Global};
 
 /// Completion by words, hints of the history, and lines whose brackets are balanced.
@@ -24,7 +24,7 @@ fn completer_of(alloc: Global, listed: &str) -> Result<Option<WordCompleter>, Al
 }
 
 /// The helper that a setting asks for.
-pub(crate) fn aide_of(alloc: Global, setting: &Setting<'_>) -> Result<Option<Aide>, AllocError> {
+pub fn aide_of(alloc: Global, setting: &Setting<'_>) -> Result<Option<Aide>, AllocError> {
     let completer = completer_of(alloc, setting.words)?;
     if completer.is_none() && !setting.helped {
         return Ok(None);

@@ -5,7 +5,7 @@
 ghost use Rattle.std.specs.Prelude.{◌≡◌, false};
 
 use crate::notation::after;
-use keyline::Sink;
+use line_config::Sink;
 use stand_ins::tray::Tray;
 
 /// A sink that takes nothing, and a source that fails after its last byte.
@@ -13,17 +13,17 @@ const AT_ONCE: usize = usize::MAX;
 
 /// At which call each device fails, counted from 0.
 #[derive(Clone, Copy)]
-pub(crate) struct Faults {
-    pub(crate) keys: Option<usize>,
-    pub(crate) display: Option<usize>,
-    pub(crate) lines: Option<usize>,
+pub struct Faults {
+    pub keys: Option<usize>,
+    pub display: Option<usize>,
+    pub lines: Option<usize>,
     /// The sink of the history's text.
-    pub(crate) text: Option<usize>,
+    pub text: Option<usize>,
 }
 
 impl Faults {
     /// No device fails.
-    pub(crate) const NONE: Faults = Faults {
+    pub const NONE: Faults = Faults {
         keys: None,
         display: None,
         lines: None,
@@ -31,7 +31,7 @@ impl Faults {
     };
 
     /// Whether a sink fails.
-    pub(crate) fn are_of_a_sink(&self) -> bool {
+    pub fn are_of_a_sink(&self) -> bool {
         self.display.is_some() || self.lines.is_some() || self.text.is_some()
     }
 }
@@ -42,7 +42,7 @@ fn fault_after(words: &str, beginning: &str) -> Option<usize> {
 }
 
 /// The faults that the words of a setting name.
-pub(crate) fn faults_of(words: &str) -> Faults {
+pub fn faults_of(words: &str) -> Faults {
     Faults {
         keys: fault_after(words, "keys@"),
         display: fault_after(words, "display@"),
@@ -52,7 +52,7 @@ pub(crate) fn faults_of(words: &str) -> Faults {
 }
 
 /// A sink that fails at this call, or never.
-pub(crate) fn sink_of(fault: Option<usize>) -> Tray
+pub fn sink_of(fault: Option<usize>) -> Tray
     ensures { ⟦<Tray as Sink>⟧.has_failed result ≡ false }
 {
     match fault {
