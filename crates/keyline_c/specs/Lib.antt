@@ -1,1 +1,6 @@
 pub mod Lines
+pub mod Meant
+pub mod Rooms
+pub mod Slots
+pub mod Statuses
+pub mod Steps

@@ -15,9 +15,13 @@ use Rattle.line_screen.specs.Drawing.{break_if}
 use Rattle.line_screen.specs.Reader.{coming_in, left_in}
 use Rattle.line_screen.specs.declared.reading.reader.KeyReader.{KeyReader}
 use Rattle.keyline.specs.Program.{config_of, helper_of, edit_helping, nothing_bound}
-use Rattle.keyline.specs.Sessions.{Given, SessionState, breaks, given_of, history_after, line_bytes, line_in}
+use Rattle.keyline.specs.Plays.{loaded_from}
+use Rattle.keyline.specs.Sessions.{Given, SessionState, breaks, given_of, history_after, line_bytes, line_in, state_over}
 use Rattle.keyline.specs.declared.options.Options.{Options}
+use Rattle.keyline_c.specs.Meant.{AreMeant, whole, words_in}
+use Rattle.keyline_c.specs.declared.export.KeylineOptions.{KeylineOptions}
 use Rattle.keyline_c.specs.declared.line.Left.{Left}
+use Rattle.line_record.specs.Ring.{Ring}
 
 -- what is handed in for a line by these options and words
 abbrev pub given_by_options : Options → Option (List (List ℕ)) → Given
@@ -61,3 +65,14 @@ pub record Ends (held : VecSink → List ℕ) (outcome : Result (List ℕ) Readl
     (old new : VecSink) (history history' : Filed) : Type 0 where
   pub drawn : held new ≡ held old ++ break_if (breaks outcome)
   pub kept : history' ≡ history_after true outcome history
+
+-- THE relation of a line by what C hands in: the options are meant, and it is the line of these
+-- keys, by these words and over this history, with a ring that was handed in
+pub record ReadsKeys (held : VecSink → List ℕ) (feed : SliceSource → Feed)
+    (options : KeylineOptions) (keys prompt words history : List ℕ) (left : Left) : Type 0 where
+  pub chosen : Options
+  pub ring : Ring
+  pub meant : AreMeant options prompt chosen
+  pub reads : ReadsLine held feed (given_by_options chosen (words_in words))
+      (state_over ring (loaded_from (config_of chosen) (whole history)) chosen.mode keys
+      (last_of options.ended)) (length keys) left

@@ -1,13 +1,22 @@
 //! The call that C makes.
 
-ghost use Rattle.std.specs.Prelude.{◌≡◌, ◌≤◌, IfOk, length};
+ghost use Rattle.std.specs.Prelude.{[], ◌≡◌, ◌⊎◌, ◌≤◌, MatchResult, length, string_bytes};
+ghost use Rattle.std.specs.Result.{result_unwrap_or};
+ghost use Rattle.line_help.specs.HistoryText.{text_to_save};
+ghost use Rattle.line_keys.specs.Coming.{made_of};
+ghost use Rattle.keyline_c.specs.declared.status.Status.TheVariants.{Argument, Memory};
+ghost use Rattle.keyline_c.specs.Lines.{ReadsKeys};
+ghost use Rattle.keyline_c.specs.Meant.{HistoryMeans, OptionsMean, WordsMean, mode_of};
+ghost use Rattle.keyline_c.specs.Rooms.{GivesDisplay};
+ghost use Rattle.keyline_c.specs.Steps.{EndIsGiven, Gives, GivesRest};
 
 use crate::line::{Left, read_line};
 use crate::ring::{Slots, ring_of, slots_of};
 use crate::room::put;
 use crate::status::{Status, status_of};
 use keyline::{
-    EditMode, FileHistory, Options, ReadlineError, SliceSource, VecSink, config_of, load_words,
+    EditMode, FileHistory, Options, ReadlineError, Sink, SliceSource, Source, VecSink, config_of,
+    load_words,
 };
 use std::alloc::Global;
 
@@ -75,7 +84,9 @@ struct Rooms<'r> {
     ends: &'r mut [usize],
 }
 
-fn mode_of(code: u8) -> Option<EditMode> {
+fn mode_of(code: u8) -> Option<EditMode>
+    ensures { result ≡ mode_of code }
+{
     match code {
         0 => Some(EditMode::Emacs),
         1 => Some(EditMode::Vi),
@@ -85,7 +96,7 @@ fn mode_of(code: u8) -> Option<EditMode> {
 
 /// The options of a line, where they can be meant.
 fn options_of(alloc: Global, options: &KeylineOptions, prompt: &[u8]) -> Result<Options, Status>
-    ensures { IfOk result (λ o. (2 ≤ o.columns) × (o.columns ≤ 1000)) }
+    ensures { OptionsMean options.now prompt.now result }
 {
     let mode = mode_of(options.mode).ok_or(Status::Argument)?;
     if options.columns < 2 || options.columns > 1000 {
@@ -102,7 +113,9 @@ fn options_of(alloc: Global, options: &KeylineOptions, prompt: &[u8]) -> Result<
 }
 
 /// The words of a text, one a row; without a text nothing completes.
-fn words_of(alloc: Global, text: &[u8]) -> Result<Option<Vec<String>>, Status> {
+fn words_of(alloc: Global, text: &[u8]) -> Result<Option<Vec<String>>, Status>
+    ensures { WordsMean text.now result }
+{
     if text.is_empty() {
         return Ok(None);
     }
@@ -110,14 +123,20 @@ fn words_of(alloc: Global, text: &[u8]) -> Result<Option<Vec<String>>, Status> {
 }
 
 /// The history of a text.
-fn history_of(alloc: Global, options: &Options, text: &[u8]) -> Result<FileHistory, Status> {
+fn history_of(alloc: Global, options: &Options, text: &[u8]) -> Result<FileHistory, Status>
+    ensures { HistoryMeans options.now text.now result }
+{
     let mut history = FileHistory::with_config(alloc, &config_of(options));
     history.load_from(alloc, &mut SliceSource::new(text))?;
     Ok(history)
 }
 
 /// Reads the line of these keys.
-fn play(alloc: Global, options: &KeylineOptions, handed: &Handed<'_>) -> Result<Left, Status> {
+fn play<'k>(alloc: Global, options: &KeylineOptions, handed: &Handed<'k>) -> Result<Left, Status>
+    ensures { MatchResult result (ReadsKeys ⟦<VecSink as Sink>⟧.held
+        ⟦<SliceSource<'k> as Source>⟧.feed options.now handed.now.keys.now handed.now.prompt.now
+        handed.now.words.now handed.now.history.now) (λ e. (e ≡ Argument) ⊎ (e ≡ Memory)) }
+{
     let chosen = options_of(alloc, options, handed.prompt)?;
     let words = words_of(alloc, handed.words)?;
     let history = history_of(alloc, &chosen, handed.history)?;
@@ -133,7 +152,7 @@ fn give_display(
     room: &mut [u8],
     step: &mut KeylineStep,
 ) -> Result<(), Status>
-    ensures { length room.new ≡ length room.old }
+    ensures { GivesDisplay bytes.now sent room.old room.new step.old step.new result }
 {
     let fresh = bytes.get(sent..).ok_or(Status::Argument)?;
     step.display = fresh.len();
@@ -147,7 +166,9 @@ fn give_rest(
     history: &[u8],
     slots: &Slots,
     rooms: &mut Rooms<'_>,
-) -> Result<(), Status> {
+) -> Result<(), Status>
+    ensures { GivesRest text.now history.now slots.now rooms.old rooms.new result }
+{
     put(text, rooms.line).ok_or(Status::Room)?;
     put(history, rooms.history).ok_or(Status::Room)?;
     put(&slots.texts, rooms.kills).ok_or(Status::Room)?;
@@ -155,7 +176,9 @@ fn give_rest(
 }
 
 /// The text of a line; empty where there is none.
-fn text_of(outcome: &Result<String, ReadlineError>) -> &str {
+fn text_of(outcome: &Result<String, ReadlineError>) -> &str
+    ensures { result.now ≡ result_unwrap_or (made_of string_bytes outcome.now) [] }
+{
     match outcome {
         Ok(text) => text.as_str(),
         Err(_) => "",
@@ -163,13 +186,48 @@ fn text_of(outcome: &Result<String, ReadlineError>) -> &str {
 }
 
 /// The text of a history, where an entry is new.
-fn saved(alloc: Global, history: FileHistory) -> Result<Vec<u8>, Status> {
+fn saved(alloc: Global, history: FileHistory) -> Result<Vec<u8>, Status>
+    ensures { MatchResult result (λ text. text.items ≡ text_to_save history) (λ e. e ≡ Memory) }
+{
     let mut history = history;
     let mut text = VecSink::new(alloc);
     match history.save_to(&mut text) {
         Ok(()) => Ok(text.into_bytes()),
         Err(_) => Err(Status::Memory),
     }
+}
+
+/// Gives what is left of a line that has ended.
+fn give_end(
+    alloc: Global,
+    sent: usize,
+    keys: usize,
+    left: Left,
+    rooms: &mut Rooms<'_>,
+    step: &mut KeylineStep,
+) -> Result<(), Status>
+    requires { sent ≤ length (⟦<VecSink as Sink>⟧.held left.display) }
+    ensures { EndIsGiven ⟦<VecSink as Sink>⟧.held sent keys left rooms.old rooms.new
+        step.old step.new result }
+{
+    let Left {
+        outcome,
+        display,
+        history,
+        ring,
+        rest,
+    } = left;
+    let history = saved(alloc, history)?;
+    let slots = slots_of(alloc, &ring)?;
+    let text = text_of(&outcome);
+    step.line = text.len();
+    step.keys = keys.saturating_sub(rest);
+    step.history = history.len();
+    step.kills = slots.texts.len();
+    step.slots = slots.ends.len();
+    step.place = slots.place;
+    give_display(display.bytes(), sent, rooms.display, step)?;
+    give_rest(text.as_bytes(), &history, &slots, rooms)
 }
 
 /// Gives what a line left, and answers how it ended.
@@ -180,34 +238,22 @@ fn give(
     left: Left,
     rooms: &mut Rooms<'_>,
     step: &mut KeylineStep,
-) -> Result<Status, Status> {
-    let Left {
-        outcome,
-        display,
-        history,
-        ring,
-        rest,
-    } = left;
-    let status = status_of(&outcome);
-    match status {
-        Status::Memory => return Err(status),
-        Status::More => {
-            give_display(display.bytes(), options.sent, rooms.display, step)?;
-            return Ok(status);
-        }
-        _ => {}
+) -> Result<Status, Status>
+    ensures { Gives ⟦<VecSink as Sink>⟧.held options.now.sent keys left rooms.old rooms.new
+        step.old step.new result }
+{
+    let status = status_of(&left.outcome);
+    if status == Status::Memory {
+        return Err(status);
     }
-    let history = saved(alloc, history)?;
-    let slots = slots_of(alloc, &ring)?;
-    let text = text_of(&outcome);
-    step.line = text.len();
-    step.keys = keys.saturating_sub(rest);
-    step.history = history.len();
-    step.kills = slots.texts.len();
-    step.slots = slots.ends.len();
-    step.place = slots.place;
-    give_display(display.bytes(), options.sent, rooms.display, step)?;
-    give_rest(text.as_bytes(), &history, &slots, rooms)?;
+    if left.display.bytes().len() < options.sent {
+        return Err(Status::Argument);
+    }
+    if status == Status::More {
+        give_display(left.display.bytes(), options.sent, rooms.display, step)?;
+    } else {
+        give_end(alloc, options.sent, keys, left, rooms, step)?;
+    }
     Ok(status)
 }
 

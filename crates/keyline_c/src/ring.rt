@@ -1,5 +1,9 @@
 //! A kill ring as texts one after the other, with the place at which each ends.
 
+ghost use Rattle.std.specs.Prelude.{◌≡◌, ◌⊎◌, IfErr, MatchResult};
+ghost use Rattle.keyline_c.specs.Slots.{AreSlots};
+ghost use Rattle.keyline_c.specs.declared.status.Status.TheVariants.{Argument, Memory};
+
 use crate::status::Status;
 use line_buffer::Mode;
 use line_record::KillRing;
@@ -17,12 +21,15 @@ pub(crate) struct Slots {
 }
 
 /// The slots of a ring.
-pub(crate) fn slots_of(alloc: Global, ring: &KillRing) -> Result<Slots, Status> {
+pub(crate) fn slots_of(alloc: Global, ring: &KillRing) -> Result<Slots, Status>
+    ensures { MatchResult result (AreSlots ring.now) (λ e. e ≡ Memory) }
+{
+    let slots = ring.texts();
     let mut texts = Vec::new(alloc);
     let mut ends = Vec::new(alloc);
-    for text in ring.texts() {
+    for text in slots {
         texts.extend_from_slice(text.as_bytes())?;
-        ends.push(texts.len()).map_err(|_| Status::Memory)?;
+        ends.push(texts.len())?;
     }
     Ok(Slots {
         texts,
@@ -37,7 +44,9 @@ pub(crate) fn ring_of(
     texts: &[u8],
     ends: &[usize],
     place: usize,
-) -> Result<KillRing, Status> {
+) -> Result<KillRing, Status>
+    ensures { IfErr result (λ e. (e ≡ Argument) ⊎ (e ≡ Memory)) }
+{
     let mut ring = KillRing::new(alloc, SLOTS)?;
     if ends.len() > SLOTS || (place > 0 && place >= ends.len()) {
         return Err(Status::Argument);

@@ -1,10 +1,10 @@
 //! Room that a caller hands in.
 
-ghost use Rattle.std.specs.Prelude.{◌≡◌, length};
+ghost use Rattle.keyline_c.specs.Rooms.{Puts};
 
 /// Puts what is given at the front of the room, where it fits.
 pub(crate) fn put<T: Copy>(given: &[T], room: &mut [T]) -> Option<()>
-    ensures length { length room.new ≡ length room.old }
+    ensures { Puts given.now room.old room.new result }
 {
     if given.len() > room.len() {
         return None;

@@ -1,8 +1,12 @@
 //! How a call ends.
 
+ghost use Rattle.std.specs.Prelude.{◌≡◌};
+ghost use Rattle.keyline_c.specs.Statuses.{code_of, ended_as, refused_as};
+ghost use Rattle.keyline_c.specs.declared.status.Status.TheVariants.{Argument, Memory};
+
 use keyline::ReadlineError;
 use line_buffer::OutOfMemory;
-use std::alloc::AllocError;
+use std::alloc::{AllocError, AllocFailed};
 use std::str::Utf8Error;
 
 /// What a call answers. In `keyline.h` each has its number.
@@ -29,7 +33,9 @@ pub(crate) enum Status {
 }
 
 impl Status {
-    pub(crate) fn code(self) -> u8 {
+    pub(crate) fn code(self) -> u8
+        ensures { result ≡ code_of self }
+    {
         match self {
             Status::Line => 0,
             Status::More => 1,
@@ -46,7 +52,9 @@ impl Status {
 
 /// How a line ends. Devices are memory and no handler is bound, so that what fails of them is a
 /// growth that was refused.
-pub(crate) fn status_of<T>(outcome: &Result<T, ReadlineError>) -> Status {
+pub(crate) fn status_of<T>(outcome: &Result<T, ReadlineError>) -> Status
+    ensures { result ≡ ended_as outcome.now }
+{
     match outcome {
         Ok(_) => Status::Line,
         Err(ReadlineError::Reader) => Status::More,
@@ -60,6 +68,8 @@ pub(crate) fn status_of<T>(outcome: &Result<T, ReadlineError>) -> Status {
 
 /// A text that was handed in is no UTF-8, or there was no memory.
 impl From<ReadlineError> for Status {
+    ghost from_gives = { λ why status. status ≡ refused_as why };
+
     fn from(why: ReadlineError) -> Status {
         match why {
             ReadlineError::HistoryText | ReadlineError::NotUtf8 => Status::Argument,
@@ -69,18 +79,32 @@ impl From<ReadlineError> for Status {
 }
 
 impl From<AllocError> for Status {
+    ghost from_gives = { λ _ status. status ≡ Memory };
+
     fn from(_: AllocError) -> Status {
         Status::Memory
     }
 }
 
+impl<T: Drop> From<AllocFailed<T>> for Status {
+    ghost from_gives = { λ _ status. status ≡ Memory };
+
+    fn from(_: AllocFailed<T>) -> Status {
+        Status::Memory
+    }
+}
+
 impl From<OutOfMemory> for Status {
+    ghost from_gives = { λ _ status. status ≡ Memory };
+
     fn from(_: OutOfMemory) -> Status {
         Status::Memory
     }
 }
 
 impl From<Utf8Error> for Status {
+    ghost from_gives = { λ _ status. status ≡ Argument };
+
     fn from(_: Utf8Error) -> Status {
         Status::Argument
     }

@@ -1,0 +1,32 @@
+-- Texts that are put into rooms, and what is told of them.
+use Rattle.std.specs.Prelude.{◌≡◌, ◌≤◌, ◌<◌, ◌-◌, ℕ, List, ◌++◌, Option, Some, None, Result, Ok, Err, drop, length}
+use Rattle.keyline_c.specs.declared.export.KeylineStep.{KeylineStep}
+use Rattle.keyline_c.specs.declared.status.Status.{Status}
+use Rattle.keyline_c.specs.declared.status.Status.TheVariants.{Argument, Room}
+
+-- what is given stands at the front of the room, and what stood behind it stays
+pub record IsPut {T : Type 0} (given old new : List T) : Type 0 where
+  pub fits : length given ≤ length old
+  pub room_is : new ≡ given ++ drop (length given) old
+
+-- it is put there; or it doesn't fit, and the room is as it was
+abbrev pub Puts : {T A : Type 0} → List T → List T → List T → Option A → Type 0
+Puts given old new (Some done) = IsPut given old new
+Puts given old new None = (length old < length given) × (new ≡ old)
+
+-- the step tells of the display bytes that are new, behind those that were sent before
+abbrev pub with_display : List ℕ → ℕ → KeylineStep → KeylineStep
+with_display bytes sent step =
+    record step { display = length bytes - sent; sent = length bytes }
+
+-- display bytes that are new are given: all that were sent before are among them, or that can't be
+-- meant and nothing is done; and they fit, or the step alone tells their lengths
+abbrev pub GivesDisplay : {A : Type 0} → List ℕ → ℕ → List ℕ → List ℕ → KeylineStep → KeylineStep
+    → Result A Status → Type 0
+GivesDisplay bytes sent old new step step' (Ok done) = (sent ≤ length bytes)
+    × (step' ≡ with_display bytes sent step) × IsPut (drop sent bytes) old new
+GivesDisplay bytes sent old new step step' (Err Argument) =
+    (length bytes < sent) × (step' ≡ step) × (new ≡ old)
+GivesDisplay bytes sent old new step step' (Err Room) = (sent ≤ length bytes)
+    × (step' ≡ with_display bytes sent step) × (length old < length (drop sent bytes)) × (new ≡ old)
+GivesDisplay bytes sent old new step step' (Err why) = ⊥

@@ -1,0 +1,35 @@
+-- How a call ends: its number, and what a line's end and what is refused of an argument are for it.
+use Rattle.std.specs.Prelude.{ℕ, Result, Ok, Err}
+use Rattle.line_config.specs.declared.errors.ReadlineError.{ReadlineError}
+use Rattle.line_config.specs.declared.errors.ReadlineError.TheVariants as Refusal
+use Rattle.keyline_c.specs.declared.status.Status.{Status}
+use Rattle.keyline_c.specs.declared.status.Status.TheVariants.{Line, More, End, Interrupted, NotUtf8, PasteOutOfPlace, Argument, Room, Memory}
+
+-- as `keyline.h` numbers them
+abbrev pub code_of : Status → ℕ
+code_of Line = 0
+code_of More = 1
+code_of End = 2
+code_of Interrupted = 3
+code_of NotUtf8 = 4
+code_of PasteOutOfPlace = 5
+code_of Argument = 6
+code_of Room = 7
+code_of Memory = 8
+
+-- a line's end: where the source fails more keys are wanted; and since devices are memory and no
+-- handler is bound, what else fails is a growth that was refused
+abbrev pub ended_as : {T : Type 0} → Result T ReadlineError → Status
+ended_as (Ok text) = Line
+ended_as (Err Refusal.Reader) = More
+ended_as (Err Refusal.Eof) = End
+ended_as (Err Refusal.Interrupted) = Interrupted
+ended_as (Err Refusal.NotUtf8) = NotUtf8
+ended_as (Err Refusal.PasteOutOfPlace) = PasteOutOfPlace
+ended_as (Err why) = Memory
+
+-- a text that is handed in, or a line that isn't ended
+abbrev pub refused_as : ReadlineError → Status
+refused_as Refusal.HistoryText = Argument
+refused_as Refusal.NotUtf8 = Argument
+refused_as why = Memory
