@@ -3,7 +3,7 @@
 crates/keyline_c/c/console.c: on pipes, against the program `keyline` by the same keys, on tmux and under valgrind.
 
 `rt ci` proves the crate and leaves the libraries that it stands on. Of them the archive is built here, since `rt lib` would
-prove them all again. `--built` takes the archive as it is.
+prove them all again. `--archive` builds it and no more, and `--built` takes it as it is.
 """
 import os
 import pathlib
@@ -211,6 +211,8 @@ def on_a_terminal():
 
 def main():
     os.environ["LC_ALL"] = "C.UTF-8"
+    if "--archive" in sys.argv:
+        return build_archive()
     made()
     return run_all([calls, on_pipes, after_ctrl_c, without_room, refused_growths, on_a_terminal, under_valgrind])
 

@@ -2,7 +2,7 @@
 """A hunt through the built program with inputs that nobody writes by hand. Run it by ./test, or alone once `rt ci` or
 ./keyline has built the program.
 
-    tests/hostile.py                           twenty thousand sessions, from a seed that is the program's sum
+    tests/hostile.py                           ten thousand sessions, from a seed that is the program's sum
     tests/hostile.py --sessions N --seed S     as many as one likes, from any seed
 
 Each session is played twice, the second time one byte a read, with tests/one_byte.c preloaded: it must end by a name,
@@ -190,7 +190,7 @@ def session_of(seed):
 
 def main(words):
     parser = argparse.ArgumentParser()
-    parser.add_argument("--sessions", type=int, default=20000)
+    parser.add_argument("--sessions", type=int, default=10000)
     parser.add_argument("--seed", default=hashlib.sha256(read(PROGRAM)).hexdigest()[:16])
     given = parser.parse_args(words)
     print(f"seed {given.seed}", flush=True)

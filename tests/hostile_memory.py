@@ -2,7 +2,7 @@
 """A hunt through sessions over memory, for what the program has no argument for: bindings, handlers and helpers of every
 answer. Run it by ./test, or alone once `rt ci` has built crates/sessions_program.
 
-    tests/hostile_memory.py                           ten thousand sessions, from a seed that is the program's sum
+    tests/hostile_memory.py                           five thousand sessions, from a seed that is the program's sum
     tests/hostile_memory.py --sessions N --seed S     as many as one likes, from any seed
 
 The program reads sessions as rows and tells in hexadecimal what each leaves. Each is played with its keys in one read, and
@@ -231,7 +231,7 @@ def main():
     with open(PROGRAM, "rb") as program:
         own = hashlib.sha256(program.read()).hexdigest()[:16]
     parser = argparse.ArgumentParser()
-    parser.add_argument("--sessions", type=int, default=10000)
+    parser.add_argument("--sessions", type=int, default=5000)
     parser.add_argument("--seed", default=own)
     given = parser.parse_args()
     print(f"seed {given.seed}", flush=True)
