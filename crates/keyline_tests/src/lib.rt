@@ -1,4 +1,5 @@
-//! The calls of `keyline` by themselves: command lines, sessions by options, editors of one line a call, endings.
+//! The calls of `keyline` by themselves: command lines, sessions by options, editors of one line a call, lines
+//! that are handed back one by one, endings.
 #![tactic(auto)]
 
 #[cfg(test)]
@@ -9,3 +10,5 @@ mod command_lines;
 mod editors;
 #[cfg(test)]
 mod endings;
+#[cfg(test)]
+mod lines;

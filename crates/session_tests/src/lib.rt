@@ -8,8 +8,6 @@ mod faults;
 #[cfg(test)]
 mod fixtures;
 #[cfg(test)]
-mod lines;
-#[cfg(test)]
 mod reading;
 #[cfg(test)]
 mod sessions;
