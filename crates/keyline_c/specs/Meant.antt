@@ -1,5 +1,5 @@
 -- What the arguments of a call mean.
-use Rattle.std.specs.Prelude.{◌≡◌, ◌≤◌, ◌==◌, ⊤, ℕ, true, false, if◌then◌else◌, List, [], ◌∷◌, Option, Some, None, Result, Ok, Err, String, string_bytes}
+use Rattle.std.specs.Prelude.{◌≡◌, ◌≢◌, ◌≤◌, ◌==◌, ⊤, ℕ, true, false, if◌then◌else◌, List, [], ◌∷◌, Option, Some, None, Result, Ok, Err, String, string_bytes}
 use Rattle.std.specs.Global.{Global, Vec}
 use Rattle.std.specs.Str.{IsUtf8}
 use Rattle.line_config.specs.Feed.{Feed, fresh_feed}
@@ -31,11 +31,12 @@ pub record AreMeant (options : KeylineOptions) (prompt : List ℕ) (o : Options)
   pub no_words : o.words ≡ None
   pub brackets_are : o.brackets ≡ options.brackets
 
--- they are meant, or none can be; or memory was wanting for a prompt that is UTF-8
+-- they are meant, or none can be; or memory was wanting for a prompt where they can be
 abbrev pub OptionsMean : KeylineOptions → List ℕ → Result Options Status → Type 0
 OptionsMean options prompt (Ok o) = AreMeant options prompt o
 OptionsMean options prompt (Err Argument) = (o : Options) → AreMeant options prompt o → ⊥
-OptionsMean options prompt (Err Memory) = IsUtf8 prompt
+OptionsMean options prompt (Err Memory) = (mode_of options.mode ≢ None)
+    × (2 ≤ options.columns) × (options.columns ≤ 1000) × IsUtf8 prompt
 OptionsMean options prompt (Err status) = ⊥
 
 -- a text that is all there

@@ -80,7 +80,7 @@ abbrev pub EndIsGiven : {A : Type 0} → (VecSink → List ℕ) → ℕ → ℕ 
     → KeylineStep → KeylineStep → Result A Status → Type 0
 EndIsGiven held sent keys left old new step step' (Ok done) =
     GivesEnd held sent keys left old new step step'
-EndIsGiven held sent keys left old new step step' (Err Memory) = step' ≡ step
+EndIsGiven held sent keys left old new step step' (Err Memory) = (step' ≡ step) × (new ≡ old)
 EndIsGiven held sent keys left old new step step' (Err Room) =
     TellsRoom held sent keys left old step step'
 EndIsGiven held sent keys left old new step step' (Err why) = ⊥
@@ -107,9 +107,9 @@ Gives held sent keys left old new step step' (Ok More) =
     (ended_as left.outcome ≡ More) × GivesMore held sent left old new step step'
 Gives held sent keys left old new step step' (Ok status) =
     (ended_as left.outcome ≡ status) × GivesEnd held sent keys left old new step step'
-Gives held sent keys left old new step step' (Err Memory) = step' ≡ step
+Gives held sent keys left old new step step' (Err Memory) = (step' ≡ step) × (new ≡ old)
 Gives held sent keys left old new step step' (Err Argument) =
-    (length (held left.display) < sent) × (step' ≡ step)
+    (length (held left.display) < sent) × (step' ≡ step) × (new ≡ old)
 Gives held sent keys left old new step step' (Err Room) =
     TellsRoomForMore held sent left old step step' ⊎ TellsRoom held sent keys left old step step'
 Gives held sent keys left old new step step' (Err status) = ⊥
