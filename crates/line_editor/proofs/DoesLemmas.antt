@@ -1,6 +1,6 @@
 -- One edit, then another.
-use Rattle.std.proofs.Common.{◌≡◌, Bool, List, ◌++◌, refl, sym, ap, subst, ◌∙◌, if◌then◌else◌, Option, None, option_map}
-use Rattle.std.specs.Prelude.{ℕ, Result, Ok, Err, OnOk, IfErr, IsErrAnd}
+use Rattle.std.proofs.Common.{◌≡◌, Bool, List, [], ◌∷◌, ◌++◌, refl, sym, ap, subst, ◌∙◌, if◌then◌else◌, Option, None, option_map}
+use Rattle.std.specs.Prelude.{⊤, ℕ, Result, Ok, Err, OnOk, IfErr, IsErrAnd}
 use Rattle.std.proofs.lemmas.Result.{on_ok_weaker}
 use Rattle.line_buffer.specs.Cells.{origin}
 use Rattle.line_keys.specs.declared.command.CmdKind.{CmdKind}
@@ -12,11 +12,13 @@ use Rattle.line_help.specs.declared.hint as hints
 use Rattle.line_help.specs.declared.highlight as highlights
 use Rattle.line_help.specs.declared.validate as verdicts
 use Rattle.line_help.specs.declared.history as histories
+use Rattle.line_edits.specs.Steps.{WriteSteps}
 use Rattle.line_editor.specs.Calls.{Ruler, MadeIn}
 use Rattle.line_editor.specs.Redraws.{Asked, then_asked}
 use Rattle.line_editor.specs.Steps.{asked, Surface, surface, Stops}
 use Rattle.line_editor.specs.States.{hooks_of, value_of, setting_of, reason_of, surface_of, Stays, Does, Renders}
-use Rattle.line_editor.specs.Values.{Setting, Hooks, Effect, Transition, IsFailing, then_do}
+use Rattle.line_editor.specs.Values.{Value, Setting, Hooks, Effect, Transition, IsFailing, then_do}
+use Rattle.line_editor.specs.Values.EditStep.{Edits}
 use Rattle.line_editor.specs.declared.renderer as renderers
 use Rattle.line_editor.specs.declared.state.State.{State}
 use Rattle.line_editor.proofs.StopsLemmas.{asked_both, folds_both, stops_before, stops_behind}
@@ -167,6 +169,18 @@ module _ {Out H Hi K T : Type 0} {renderer : renderers.Renderer.Ghosts Out} {com
     stays = h.stays;
     reason = h.reason;
     stops = subst (λ (x : Effect). IfErr result (λ fault. Stops renderer.canvas (renderer.canvas.ruler s.out) x.steps (surface_of s) fault (value_of t) (surface_of t))) is h.stops;
+  }
+
+  -- an edit of the line was made, and nothing is drawn
+  pub edit_made : {A : Type 0} (edit : Transition) (stands : Value) (steps : WriteSteps ⊤) (s m : State Out H Hi K T renderer completer candidate hinter hint highlighter validator history) (x : A)
+      → edit (setting_of s) (value_of s) ≡ record { value = value_of m; steps = Edits stands steps ∷ [] } → surface_of m ≡ surface_of s → Stays s m → Does edit s m (Ok x)
+  edit_made edit stands steps s m x is same stays = record {
+    value = sym (ap (λ (e : Effect). e.value) is);
+    calls = subst (λ (e : Effect). FoldsTo (MadeIn renderer.canvas) s.out (asked (renderer.canvas.ruler s.out) s.layout e.steps).calls m.out) (sym is) (sym (ap (λ (u : Surface Out). u.out) same));
+    layout = ap (λ (u : Surface Out). u.layout) same ∙ ap (λ (e : Effect). (asked (renderer.canvas.ruler s.out) s.layout e.steps).layout) (sym is);
+    stays = stays;
+    reason = tt;
+    stops = tt;
   }
 
   -- one that does so from a state that looks the same

@@ -5,11 +5,13 @@ pub mod DoesLemmas
 pub mod DrawnLemmas
 pub mod GrowthLemmas
 pub mod HelpedLemmas
+pub mod HintLemmas
 pub mod KillLemmas
 pub mod KnownLemmas
 pub mod LeadLemmas
 pub mod LineLeads
 pub mod CarriesLemmas
+pub mod ObeyLemmas
 pub mod PhraseGoes
 pub mod ReachLemmas
 pub mod RecallLemmas
@@ -24,4 +26,5 @@ pub mod ToldLemmas
 pub mod TurnLemmas
 pub mod UndoAllLemmas
 pub mod UndoLemmas
+pub mod YankLemmas
 pub mod CommandedLemmas

@@ -75,8 +75,6 @@ impl<'p, 'h, Out: Renderer, H: Helper + Drop, Hi: History> State<'p, 'h, Out, H,
         requires { is_obeyed cmd.now ≡ true }
         ensures does { Does (effect (means_of (input_of input_state.now) indent ring.old) cmd.now)
             self.old self.new result }
-        ensures outcome { outcome (means_of (input_of input_state.now) indent ring.old) cmd.now
-            (setting_of self.old) (value_of self.old) ≡ Ok Proceed }
         ensures ring { ring.new ≡ ring_after_command cmd.now (value_of self.old) ring.old }
     {
         match cmd {
@@ -127,6 +125,7 @@ impl<'p, 'h, Out: Renderer, H: Helper + Drop, Hi: History> State<'p, 'h, Out, H,
     }
 
     /// Does what a command says.
+    #[tactic(auto, using(crate::proofs::StopsLemmas::stops_taking, crate::proofs::ObeyLemmas::obeyed_proceeds))]
     fn perform<D: Decides>(
         &mut self,
         cmd: &Cmd,

@@ -1,9 +1,13 @@
--- Validation by brackets: the two steps at which a closing bracket doesn't fit.
+-- Validation by brackets: the two steps at which a closing bracket doesn't fit, and a text with a bracket.
 use Rattle.std.proofs.Common.{◌≡◌, ℕ, ◌<◌, true, false, List, [], ◌∷◌, ◌++◌, length, drop, reverse, refl, sym, ap, ◌∙◌, ◌≢◌, Some, slice_index_or}
-use Rattle.std.specs.Prelude.{◌==◌}
+use Rattle.std.specs.Prelude.{◌==◌, ◌||◌, Result, Ok, Err, IsErrAnd, IfErr}
+use Rattle.std.specs.List.{list_any}
+use Rattle.std.proofs.lemmas.List.Folds.{list_any_at}
 use Rattle.std.proofs.lemmas.List.{drop_more, reverse-append, nil_from_length}
 use Rattle.std.proofs.lemmas.Bool.{ne_eqb}
-use Rattle.line_help.specs.Brackets.{is_opening, is_closing, partner}
+use Rattle.line_config.specs.declared.errors.HookFault.{HookFault}
+use Rattle.line_config.specs.declared.errors.HookFault.TheVariants.{Memory}
+use Rattle.line_help.specs.Brackets.{is_opening, is_closing, is_bracket, partner}
 use Rattle.line_help.specs.Validation.{verdict_from, bracket_verdict, not_closed, unpaired}
 use Rattle.line_help.specs.declared.validate.ValidationResult.TheVariants.{Invalid}
 
@@ -23,3 +27,16 @@ unpaired_found input bytes items message i same so_far within none not_opening c
     let step : verdict_from (reverse items) (drop i bytes) ≡ Invalid (Some (unpaired (slice_index_or bytes i 0))) =
     rw (nil_from_length items none, drop_more bytes i 0 within, ← not_opening, ← closing) refl in
     ap (λ text. Invalid (Some text)) told ∙ sym (ap (λ text. verdict_from [] text) (sym same) ∙ so_far ∙ step)
+
+-- memory was wanting for it
+pub wants_for : {A X : Type 0} (result : Result A HookFault) → IsErrAnd result (λ e. e ≡ Memory) → X → IfErr result (λ e. (e ≡ Memory) × X)
+wants_for (Ok x) is h = tt
+wants_for (Err e) is h = (is, h)
+
+pub opening_stands : (input bytes : List ℕ) (i : ℕ) → bytes ≡ input → i < length bytes → true ≡ is_opening (slice_index_or bytes i 0) → list_any is_bracket input ≡ true
+opening_stands input bytes i same within opens =
+    ap (list_any is_bracket) (sym same) ∙ list_any_at is_bracket bytes i 0 within (ap (λ b. b || is_closing (slice_index_or bytes i 0)) (sym opens))
+
+pub closing_stands : (input bytes : List ℕ) (i : ℕ) → bytes ≡ input → i < length bytes → false ≡ is_opening (slice_index_or bytes i 0) → true ≡ is_closing (slice_index_or bytes i 0) → list_any is_bracket input ≡ true
+closing_stands input bytes i same within not_opening closes =
+    ap (list_any is_bracket) (sym same) ∙ list_any_at is_bracket bytes i 0 within (ap (λ b. b || is_closing (slice_index_or bytes i 0)) (sym not_opening) ∙ sym closes)

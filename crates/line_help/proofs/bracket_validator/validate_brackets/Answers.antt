@@ -1,5 +1,5 @@
 use Rattle.std.proofs.Common.{rules}
-use Rattle.line_help.proofs.ValidationLemmas.{not_closed_found, unpaired_found}
+use Rattle.line_help.proofs.ValidationLemmas.{not_closed_found, unpaired_found, wants_for, opening_stands, closing_stands}
 use Rattle.line_help.proofs.bracket_validator.validate_brackets.Goals as goal
 
 pub returns-then-partner-byte-clause-verdict : goal.returns-then-partner-byte-clause-verdict
@@ -11,3 +11,14 @@ pub returns-in-None-clause-verdict : goal.returns-in-None-clause-verdict
 returns-in-None-clause-verdict c =
     unpaired_found _ _ c.loop-byte.unclosed.items _ _ c.as_bytes-bytes.ensures.value c.loop-byte.invariant c.loop-byte-test.true (search (rules, c.in-None.ensures.cases))
     c.if-is_opening.ensures c.if-is_closing.ensures c.in_ok-message-in-None.ensures
+
+pub returns-in_err-push-clause-fault : goal.returns-in_err-push-clause-fault
+returns-in_err-push-clause-fault c = wants_for _ c.from_residual.ensures.1 (opening_stands _ _ _ c.as_bytes-bytes.ensures.value c.loop-byte-test.true c.if-is_opening.ensures)
+
+pub returns-in_err-message-in-Some-clause-fault : goal.returns-in_err-message-in-Some-clause-fault
+returns-in_err-message-in-Some-clause-fault c =
+    wants_for _ c.from_residual-in_err-message-in-Some.ensures.1 (closing_stands _ _ _ c.as_bytes-bytes.ensures.value c.loop-byte-test.true c.if-is_opening.ensures c.if-is_closing.ensures)
+
+pub returns-in_err-message-in-None-clause-fault : goal.returns-in_err-message-in-None-clause-fault
+returns-in_err-message-in-None-clause-fault c =
+    wants_for _ c.from_residual-in_err-message-in-None.ensures.1 (closing_stands _ _ _ c.as_bytes-bytes.ensures.value c.loop-byte-test.true c.if-is_opening.ensures c.if-is_closing.ensures)
