@@ -1,3 +1,4 @@
+pub mod Call
 pub mod Lines
 pub mod Meant
 pub mod Rooms

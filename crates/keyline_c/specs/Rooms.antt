@@ -1,8 +1,40 @@
 -- Texts that are put into rooms, and what is told of them.
 use Rattle.std.specs.Prelude.{◌≡◌, ◌≤◌, ◌<◌, ◌-◌, ℕ, List, ◌++◌, Option, Some, None, Result, Ok, Err, drop, length}
 use Rattle.keyline_c.specs.declared.export.KeylineStep.{KeylineStep}
+use Rattle.keyline_c.specs.declared.export.Rooms.{Rooms}
 use Rattle.keyline_c.specs.declared.status.Status.{Status}
 use Rattle.keyline_c.specs.declared.status.Status.TheVariants.{Argument, Room}
+
+-- what stands in each room
+pub record RoomTexts : Type 0 where
+  pub display : List ℕ
+  pub line : List ℕ
+  pub history : List ℕ
+  pub kills : List ℕ
+  pub ends : List ℕ
+
+abbrev pub room_texts : List ℕ → List ℕ → List ℕ → List ℕ → List ℕ → RoomTexts
+room_texts display line history kills ends = record {
+  display = display;
+  line = line;
+  history = history;
+  kills = kills;
+  ends = ends;
+}
+
+abbrev pub texts_in : Rooms → RoomTexts
+texts_in rooms = room_texts rooms.display.now rooms.line.now rooms.history.now rooms.kills.now
+    rooms.ends.now
+
+-- these are the same rooms, whatever stands in them by now
+abbrev pub SameRooms : Rooms → Rooms → Type 0
+SameRooms old new = new ≡ record {
+  display = record old.display { now = new.display.now };
+  line = record old.line { now = new.line.now };
+  history = record old.history { now = new.history.now };
+  kills = record old.kills { now = new.kills.now };
+  ends = record old.ends { now = new.ends.now };
+}
 
 -- what is given stands at the front of the room, and what stood behind it stays
 pub record IsPut {T : Type 0} (given old new : List T) : Type 0 where

@@ -5,9 +5,10 @@ ghost use Rattle.std.specs.Result.{result_unwrap_or};
 ghost use Rattle.line_help.specs.HistoryText.{text_to_save};
 ghost use Rattle.line_keys.specs.Coming.{made_of};
 ghost use Rattle.keyline_c.specs.declared.status.Status.TheVariants.{Argument, Memory};
+ghost use Rattle.keyline_c.specs.Call.{Answers, Calls, status_in};
 ghost use Rattle.keyline_c.specs.Lines.{ReadsKeys};
 ghost use Rattle.keyline_c.specs.Meant.{HistoryMeans, OptionsMean, WordsMean, mode_of};
-ghost use Rattle.keyline_c.specs.Rooms.{GivesDisplay};
+ghost use Rattle.keyline_c.specs.Rooms.{GivesDisplay, SameRooms, room_texts, texts_in};
 ghost use Rattle.keyline_c.specs.Steps.{EndIsGiven, Gives, GivesRest};
 
 use crate::line::{Left, read_line};
@@ -167,7 +168,9 @@ fn give_rest(
     slots: &Slots,
     rooms: &mut Rooms<'_>,
 ) -> Result<(), Status>
-    ensures { GivesRest text.now history.now slots.now rooms.old rooms.new result }
+    ensures gives { GivesRest text.now history.now slots.now
+        (texts_in rooms.old) (texts_in rooms.new) result }
+    ensures same { SameRooms rooms.old rooms.new }
 {
     put(text, rooms.line).ok_or(Status::Room)?;
     put(history, rooms.history).ok_or(Status::Room)?;
@@ -207,8 +210,9 @@ fn give_end(
     step: &mut KeylineStep,
 ) -> Result<(), Status>
     requires { sent ≤ length (⟦<VecSink as Sink>⟧.held left.display) }
-    ensures { EndIsGiven ⟦<VecSink as Sink>⟧.held sent keys left rooms.old rooms.new
-        step.old step.new result }
+    ensures gives { EndIsGiven ⟦<VecSink as Sink>⟧.held sent keys left
+        (texts_in rooms.old) (texts_in rooms.new) step.old step.new result }
+    ensures same { SameRooms rooms.old rooms.new }
 {
     let Left {
         outcome,
@@ -239,8 +243,9 @@ fn give(
     rooms: &mut Rooms<'_>,
     step: &mut KeylineStep,
 ) -> Result<Status, Status>
-    ensures { Gives ⟦<VecSink as Sink>⟧.held options.now.sent keys left rooms.old rooms.new
-        step.old step.new result }
+    ensures gives { Gives ⟦<VecSink as Sink>⟧.held options.now.sent keys left
+        (texts_in rooms.old) (texts_in rooms.new) step.old step.new result }
+    ensures same { SameRooms rooms.old rooms.new }
 {
     let status = status_of(&left.outcome);
     if status == Status::Memory {
@@ -251,10 +256,37 @@ fn give(
     }
     if status == Status::More {
         give_display(left.display.bytes(), options.sent, rooms.display, step)?;
-    } else {
-        give_end(alloc, options.sent, keys, left, rooms, step)?;
+        return Ok(status);
     }
+    give_end(alloc, options.sent, keys, left, rooms, step)?;
     Ok(status)
+}
+
+/// Reads the line of these keys, and gives what it left.
+fn answer<'k>(
+    alloc: Global,
+    options: &KeylineOptions,
+    handed: &Handed<'k>,
+    rooms: &mut Rooms<'_>,
+    step: &mut KeylineStep,
+) -> Result<Status, Status>
+    ensures answers { Answers ⟦<VecSink as Sink>⟧.held ⟦<SliceSource<'k> as Source>⟧.feed
+        options.now handed.now.keys.now handed.now.prompt.now handed.now.words.now
+        handed.now.history.now (texts_in rooms.old) (texts_in rooms.new)
+        step.old step.new result }
+    ensures same { SameRooms rooms.old rooms.new }
+{
+    let left = play(alloc, options, handed)?;
+    give(alloc, options, handed.keys.len(), left, rooms, step)
+}
+
+/// How a call ended, whether it answered or was refused.
+fn status_in(ended: Result<Status, Status>) -> Status
+    ensures { result ≡ status_in ended }
+{
+    match ended {
+        Ok(status) | Err(status) => status,
+    }
 }
 
 /// The line of these keys, as far as they go. `words` has a word in each row, for Tab; `history` is
@@ -262,22 +294,28 @@ fn give(
 ///
 /// The numbers of a status, and what a caller does at each, are in `keyline.h`.
 #[unsafe(no_mangle)]
-pub extern "C" fn keyline_line_checked(
+pub extern "C" fn keyline_line_checked<'k>(
     alloc: Global,
     options: &KeylineOptions,
-    keys: &[u8],
-    prompt: &[u8],
-    words: &[u8],
-    history: &[u8],
-    kills: &[u8],
-    ends: &[usize],
+    keys: &'k [u8],
+    prompt: &'k [u8],
+    words: &'k [u8],
+    history: &'k [u8],
+    kills: &'k [u8],
+    ends: &'k [usize],
     display_room: &mut [u8],
     line_room: &mut [u8],
     history_room: &mut [u8],
     kills_room: &mut [u8],
     ends_room: &mut [usize],
     step: &mut KeylineStep,
-) {
+)
+    ensures { Calls ⟦<VecSink as Sink>⟧.held ⟦<SliceSource<'k> as Source>⟧.feed options.now
+        keys.entry.now prompt.entry.now words.entry.now history.entry.now
+        (room_texts display_room.old line_room.old history_room.old kills_room.old ends_room.old)
+        (room_texts display_room.new line_room.new history_room.new kills_room.new ends_room.new)
+        step.new }
+{
     *step = KeylineStep {
         status: 0,
         display: 0,
@@ -304,11 +342,6 @@ pub extern "C" fn keyline_line_checked(
         kills: kills_room,
         ends: ends_room,
     };
-    let status = match play(alloc, options, &handed) {
-        Ok(left) => match give(alloc, options, keys.len(), left, &mut rooms, step) {
-            Ok(status) | Err(status) => status,
-        },
-        Err(status) => status,
-    };
+    let status = status_in(answer(alloc, options, &handed, &mut rooms, step));
     step.status = status.code();
 }

@@ -8,9 +8,9 @@ use Rattle.line_config.specs.declared.errors.ReadlineError.{ReadlineError}
 use Rattle.line_config.specs.declared.errors.ReadlineError.TheVariants.{Memory}
 use Rattle.line_edits.specs.Edits.{yanking, by}
 use Rattle.line_edits.specs.Steps.{WriteSteps, answering, StopsIn, Edits as EditsRecorded}
-use Rattle.line_edits.specs.Written.{Written, written_in}
+use Rattle.line_edits.specs.Written.{Written, written, written_in}
 use Rattle.line_edits.specs.declared.recorded_line.RecordedLine.{RecordedLine}
-use Rattle.line_record.specs.Items.{Items, held_on}
+use Rattle.line_record.specs.Items.{held_on}
 use Rattle.line_help.specs.declared.completion as completions
 use Rattle.line_help.specs.declared.hint as hints
 use Rattle.line_help.specs.declared.highlight as highlights
@@ -90,16 +90,12 @@ yanked_is vi false text n v w old new put same wrote found rest moved kept =
     put_is text n v w old new put same wrote (rest ∙ ap (λ l. record v { line = l; held = held_on new.changes w.line.text }) moved ∙ ap (λ t. record v { line = new.line; held = held_on new.changes t }) kept)
     ∙ ap (λ b. if b then at_line (behind_yank vi u.line) u else u) (sym (is_put false text n v old new put same wrote found))
 
-abbrev written_by : Line → Items → List ℕ → Written
-written_by line changes text = record { line = line; held = held_on changes text }
-
 module _ {Out H Hi K T : Type 0} {renderer : renderers.Renderer.Ghosts Out} {completer : completions.Completer.Ghosts H K} {candidate : completions.Candidate.Ghosts K}
     {hinter : hints.Hinter.Ghosts H T} {hint : hints.Hint.Ghosts T} {highlighter : highlights.Highlighter.Ghosts H} {validator : verdicts.Validator.Ghosts H} {history : histories.History.Ghosts Hi} where
-  pub at_anchor : (anchor : Anchor) (s : State Out H Hi K T renderer completer candidate hinter hint highlighter validator history) (old : RecordedLine)
-      → old.line ≡ anchored anchor s.recorded.line → old.line.text ≡ s.recorded.line.text → old.changes ≡ s.recorded.changes → written_in old ≡ written_of (there anchor (value_of s))
-  at_anchor anchor s old line text changes =
-      ap (λ l. written_by l old.changes old.line.text) line ∙ ap (written_by (anchored anchor s.recorded.line) old.changes) text
-      ∙ ap (λ c. written_by (anchored anchor s.recorded.line) c s.recorded.line.text) changes
+  pub at_anchor : (anchor : Anchor) (s : State Out H Hi K T renderer completer candidate hinter hint highlighter validator history) (l : Line) → l ≡ anchored anchor s.recorded.line → l.text ≡ s.recorded.line.text
+      → written l s.recorded.changes ≡ written_of (there anchor (value_of s))
+  at_anchor anchor s l line text =
+      ap (λ x. record { line = x; held = held_on s.recorded.changes l.text }) line ∙ ap (λ t. record { line = anchored anchor s.recorded.line; held = held_on s.recorded.changes t }) text
 
   -- it was put in, or the cursor went over a cluster: the line is drawn
   pub yank_shown : {A E : Type 0} (mode vi b : Bool) (text : List ℕ) (anchor : Anchor) (n : ℕ) (s m t : State Out H Hi K T renderer completer candidate hinter hint highlighter validator history) (old new : RecordedLine) (put : Option Bool)

@@ -1,24 +1,23 @@
 use Rattle.std.proofs.Common.{rules, ◌≡◌, refl}
 use Rattle.std.specs.Prelude.{⊤}
-use borrow.Rule.Slice.Mut.{set_vals}
 use Rattle.line_help.specs.HistoryText.{text_to_save}
-use Rattle.keyline_c.specs.Rooms.{with_display}
+use Rattle.keyline_c.specs.Rooms.{texts_in, with_display}
 use Rattle.keyline_c.specs.Steps.{line_text, with_end}
 use Rattle.keyline_c.proofs.StepLemmas.{display_lacks, end_given}
 use Rattle.keyline_c.proofs.export.give_end.Goals as goal
 
-pub returns-in_err-give_display : goal.returns-in_err-give_display
-returns-in_err-give_display c =
-    display_lacks _ c.args.sent c.args.keys c.args.left c.in_ok-slots.slots c.args.rooms.now c.args.step.now _ c.give_display.new.step c.bytes.result.now
+pub returns-in_err-give_display-clause-gives : goal.returns-in_err-give_display-clause-gives
+returns-in_err-give_display-clause-gives c =
+    display_lacks _ c.args.sent c.args.keys c.args.left c.in_ok-slots.slots (texts_in c.args.rooms.now) c.args.step.now _ c.give_display.new.step c.bytes.result.now
     c.in_ok-slots.ensures c.bytes.ensures (search rules) ⊤ _ _ c.in_err-give_display.field-0.0 _ c.requires c.in_err-give_display.ensures c.from_residual-in_err-give_display.ensures.1
 
-pub returns : goal.returns
-returns c =
+pub returns-clause-gives : goal.returns-clause-gives
+returns-clause-gives c =
     let slots = c.in_ok-slots.slots in
     let told = with_end c.args.keys c.args.left slots c.args.step.now in
     let text : c.as_bytes.result.now ≡ line_text c.args.left = search rules in
     let history : c.deref.result.now ≡ text_to_save c.args.left.history = search rules in
     let step : c.give_display.new.step ≡ with_display c.bytes.result.now c.args.sent told = search rules in
-    end_given _ c.args.sent c.args.keys c.args.left slots c.args.rooms.now c.args.step.now told c.give_display.new.step c.bytes.result.now
-    c.in_ok-slots.ensures c.bytes.ensures refl (record c.args.rooms.now { display = set_vals c.give_display.new.room c.args.rooms.now.display }) c.give_rest.new.rooms
-    _ _ c.give_rest.result text history refl step c.in_ok-give_display.ensures.2 c.give_rest.ensures
+    end_given _ c.args.sent c.args.keys c.args.left slots (texts_in c.args.rooms.now) c.args.step.now told c.give_display.new.step c.bytes.result.now
+    c.in_ok-slots.ensures c.bytes.ensures refl (record (texts_in c.args.rooms.now) { display = c.give_display.new.room }) (texts_in c.give_rest.new.rooms)
+    _ _ c.give_rest.result text history refl step c.in_ok-give_display.ensures.2 c.give_rest.ensures.gives
