@@ -110,8 +110,11 @@ static void bad_arguments(void)
     STATUS("a kill in mid-character", "", (c.given.kills = text("\u00e9"), c.given.ends = inside, c.given.slots = 2), KEYLINE_ARGUMENT);
     STATUS("a kill past the texts", "", (c.given.kills = text("abc"), c.given.ends = past, c.given.slots = 1), KEYLINE_ARGUMENT);
     STATUS("kills that go back", "", (c.given.kills = text("abc"), c.given.ends = back, c.given.slots = 2), KEYLINE_ARGUMENT);
+    STATUS("a text behind the last kill", "", (c.given.kills = text("abc"), c.given.ends = inside, c.given.slots = 2), KEYLINE_ARGUMENT);
+    STATUS("kills without a slot", "", c.given.kills = text("abc"), KEYLINE_ARGUMENT);
+    STATUS("the first of two slots", "", (c.given.kills = text("ab"), c.given.ends = inside, c.given.slots = 2), KEYLINE_MORE);
     STATUS("a place without a slot", "", c.options.place = 1, KEYLINE_ARGUMENT);
-    STATUS("a place past the slots", "", (c.given.kills = text("abc"), c.given.ends = inside, c.given.slots = 2, c.options.place = 2), KEYLINE_ARGUMENT);
+    STATUS("a place past the slots", "", (c.given.kills = text("ab"), c.given.ends = inside, c.given.slots = 2, c.options.place = 2), KEYLINE_ARGUMENT);
     STATUS("more slots than there are", "", (c.given.ends = c.room.ends, c.given.slots = KEYLINE_SLOTS + 1), KEYLINE_ARGUMENT);
     STATUS("slots without ends", "", c.given.slots = 1, KEYLINE_ARGUMENT);
     STATUS("keys without a pointer", "", c.given.keys = ((struct keyline_text){NULL, 1}), KEYLINE_ARGUMENT);

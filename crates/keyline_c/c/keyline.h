@@ -53,7 +53,7 @@ struct keyline_given {
     struct keyline_text words;   /* those that Tab completes, one a row */
     struct keyline_text history; /* a history's text */
     struct keyline_text kills;   /* the kill ring's texts, one after the other */
-    const size_t *ends;          /* where each of them ends */
+    const size_t *ends;          /* where each of them ends, the last where the texts do */
     size_t slots;                /* how many there are: at most KEYLINE_SLOTS */
 };
 

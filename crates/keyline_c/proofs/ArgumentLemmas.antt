@@ -1,23 +1,26 @@
 -- Arguments that can't be meant, and a line of those that can.
-use Rattle.std.proofs.Common.{◌≡◌, List, ℕ, length, sym, subst}
+use Rattle.std.proofs.Common.{◌≡◌, List, ℕ, length, inl, inr, sym, subst}
 use Rattle.std.proofs.lemmas.Str.{IsUtf8-string_bytes}
-use Rattle.std.specs.Prelude.{Option, Result, Ok, Err, IsErrAnd}
+use Rattle.std.specs.Prelude.{Option, Result, Ok, Err, IsErrAnd, MatchResult}
 use Rattle.std.specs.Str.{IsUtf8}
 use Rattle.line_config.specs.Feed.{Feed}
 use Rattle.line_config.specs.declared.memory.SliceSource.{SliceSource}
 use Rattle.line_config.specs.declared.memory.VecSink.{VecSink}
+use Rattle.line_config.specs.declared.errors.ReadlineError.{ReadlineError}
 use Rattle.line_help.specs.History.{Filed}
 use Rattle.line_record.specs.Ring.{Ring}
 use Rattle.keyline.specs.Plays.{loaded_from}
 use Rattle.keyline.specs.Program.{config_of}
 use Rattle.keyline.specs.Sessions.{state_over}
 use Rattle.keyline.specs.declared.options.Options.{Options}
-use Rattle.keyline_c.specs.Lines.{ReadsKeys, ReadsLine, given_by_options, last_of}
-use Rattle.keyline_c.specs.Meant.{AreMeant, OptionsMean, whole, words_in}
+use Rattle.keyline_c.specs.Lines.{IsRefused, IsWant, ReadsKeys, ReadsLine, given_by_options, last_of}
+use Rattle.keyline_c.specs.Meant.{AreMeant, HistoryMeans, OptionsMean, WordsMean, whole, words_in}
+use Rattle.keyline_c.specs.Slots.{IsRingOf, RingMeans}
+use Rattle.keyline_c.specs.Statuses.{refused_as}
 use Rattle.keyline_c.specs.declared.export.KeylineOptions.{KeylineOptions}
 use Rattle.keyline_c.specs.declared.line.Left.{Left}
 use Rattle.keyline_c.specs.declared.status.Status.{Status}
-use Rattle.keyline_c.specs.declared.status.Status.TheVariants.{Argument}
+use Rattle.keyline_c.specs.declared.status.Status.TheVariants.{Argument, Memory}
 
 -- a prompt that isn't UTF-8
 pub bad_prompt : (options : KeylineOptions) (prompt : List ℕ) (result : Result Options Status) → IsErrAnd result (λ s. s ≡ Argument) → (IsUtf8 prompt → ⊥) → OptionsMean options prompt result
@@ -26,14 +29,47 @@ bad_prompt options prompt (Err s) is bad =
     subst (λ (x : Status). OptionsMean options prompt (Err x)) (sym is) (λ o h. bad (subst IsUtf8 h.prompt_is (IsUtf8-string_bytes o.prompt)))
 
 -- a line of what words and history are meant
-pub keys_read : (held : VecSink → List ℕ) (feed : SliceSource → Feed) (options : KeylineOptions) (keys prompt words history : List ℕ) (left : Left) (chosen : Options) (ring : Ring)
-    (given : Option (List (List ℕ))) (filed : Filed) → AreMeant options prompt chosen → given ≡ words_in words → filed ≡ loaded_from (config_of chosen) (whole history)
+pub keys_read : (held : VecSink → List ℕ) (feed : SliceSource → Feed) (options : KeylineOptions) (keys prompt words history kills ends : List ℕ) (left : Left) (chosen : Options) (ring : Ring)
+    (given : Option (List (List ℕ))) (filed : Filed) → AreMeant options prompt chosen → IsRingOf kills ends options.place ring → given ≡ words_in words → filed ≡ loaded_from (config_of chosen) (whole history)
     → ReadsLine held feed (given_by_options chosen given) (state_over ring filed chosen.mode keys (last_of options.ended)) (length keys) left
-    → ReadsKeys held feed options keys prompt words history left
-keys_read held feed options keys prompt words history left chosen ring given filed meant is_given is_filed reads = record {
+    → ReadsKeys held feed options keys prompt words history kills ends left
+keys_read held feed options keys prompt words history kills ends left chosen ring given filed meant held_by is_given is_filed reads = record {
   chosen = chosen;
   ring = ring;
   meant = meant;
+  ring_is = held_by;
   reads = subst (λ w. ReadsLine held feed (given_by_options chosen w) (state_over ring (loaded_from (config_of chosen) (whole history)) chosen.mode keys (last_of options.ended)) (length keys) left) is_given
       (subst (λ (f : Filed). ReadsLine held feed (given_by_options chosen given) (state_over ring f chosen.mode keys (last_of options.ended)) (length keys) left) is_filed reads);
 }
+
+-- ---- why it isn't read
+
+pub line_refused : {A : Type 0} (Q : A → Type 0) (R : Status → Type 0) (result : Result A Status) (e : Status) → IsErrAnd result (λ x. x ≡ e) → R e → MatchResult result Q R
+line_refused Q R (Ok left) e is why = absurd is
+line_refused Q R (Err x) e is why = subst R (sym is) why
+
+module _ (options : KeylineOptions) (prompt words history kills ends : List ℕ) where
+  pub options_refused : (e : Status) → OptionsMean options prompt (Err e) → IsRefused options prompt words history kills ends e
+  options_refused Argument h = inl h
+  options_refused Memory h = tt
+  options_refused _ h = absurd h
+
+  pub words_refused : (e : Status) → WordsMean words (Err e) → IsRefused options prompt words history kills ends e
+  words_refused Argument h = inr (inl h)
+  words_refused Memory h = tt
+  words_refused _ h = absurd h
+
+  pub history_refused : (o : Options) (e : Status) → AreMeant options prompt o → HistoryMeans o history (Err e) → IsRefused options prompt words history kills ends e
+  history_refused o Argument meant h = inr (inr (inl (o, meant, h)))
+  history_refused o Memory meant h = tt
+  history_refused o _ meant h = absurd h
+
+  pub ring_refused : (e : Status) → RingMeans kills ends options.place (Err e) → IsRefused options prompt words history kills ends e
+  ring_refused Argument h = inr (inr (inr h))
+  ring_refused Memory h = tt
+  ring_refused _ h = absurd h
+
+  pub want_refused : (e : ReadlineError) → IsWant e → IsRefused options prompt words history kills ends (refused_as e)
+  want_refused e (inl is) = subst (λ x. IsRefused options prompt words history kills ends (refused_as x)) (sym is) tt
+  want_refused e (inr (inl is)) = subst (λ x. IsRefused options prompt words history kills ends (refused_as x)) (sym is) tt
+  want_refused e (inr (inr is)) = subst (λ x. IsRefused options prompt words history kills ends (refused_as x)) (sym is) tt

@@ -1,9 +1,12 @@
 -- Texts that are laid out one after the other.
-use Rattle.std.proofs.Common.{◌≡◌, ◌∙◌, ℕ, ◌+◌, ◌<◌, List, [], ◌∷◌, ◌++◌, length, take, get_or, map, refl, sym, ap, subst, arith}
-use Rattle.std.specs.List.{flat_map}
+use Rattle.std.proofs.Common.{◌≡◌, ◌∙◌, ℕ, zero, suc, ◌+◌, ◌-◌, ◌<◌, ◌≤◌, List, [], ◌∷◌, ◌++◌, length, take, drop, get_or, map, refl, sym, ap, subst, slice_index_or, append_assoc, arith}
+use Rattle.std.specs.List.{All, flat_map, slice_range}
+use Rattle.std.specs.Str.{IsUtf8}
+use Rattle.std.proofs.Math.Seq.{take-add, take-length}
 use Rattle.std.proofs.lemmas.Grind.{flat_map-append}
-use Rattle.std.proofs.lemmas.List.{take_more, map-append, append-nil, length-append}
-use Rattle.keyline_c.specs.Slots.{AreLaidOut, ends_behind}
+use Rattle.std.proofs.lemmas.List.{take_more, map-append, append-nil, length-append, length-take-le, drop_at, take_at}
+use Rattle.line_record.specs.Ring.{Ring}
+use Rattle.keyline_c.specs.Slots.{AreLaidOut, IsSlot, IsRingOf, ends_behind, ring_by}
 
 abbrev own : List ℕ → List ℕ
 own text = text
@@ -28,6 +31,20 @@ more slots text texts ends h =
           ∙ sym (ends_more 0 slots text ∙ ap (λ (x : ℕ). ends_behind 0 slots ++ x ∷ []) (omega arith)));
     }
 
+-- the one of them that ends next
+pub laid_to : (texts ends : List ℕ) (slots : List (List ℕ)) (start i : ℕ) (text : List ℕ) → i < length ends → start ≤ slice_index_or ends i 0 → slice_index_or ends i 0 ≤ length texts
+    → text ≡ slice_range texts start (slice_index_or ends i 0) → AreLaidOut slots (take start texts) (take i ends)
+    → AreLaidOut (slots ++ text ∷ []) (take (slice_index_or ends i 0) texts) (take (i + 1) ends)
+laid_to texts ends slots start i text inside from to is h =
+    let end = slice_index_or ends i 0 in
+    let at : start + (end - start) ≡ end = omega (arith, from) in
+    let all : take start texts ++ text ≡ take end texts =
+    ap (λ (x : List ℕ). take start texts ++ x) is ∙ (sym (take-add start (end - start) texts) ∙ ap (λ n. take n texts) at) in
+    let ended : take i ends ++ length (take start texts ++ text) ∷ [] ≡ take (i + 1) ends =
+    ap (λ (x : List ℕ). take i ends ++ length x ∷ []) all ∙ (ap (λ n. take i ends ++ n ∷ []) (length-take-le end texts to) ∙ sym (take_more ends i 0 inside)) in
+    subst (λ (x : List ℕ). AreLaidOut (slots ++ text ∷ []) x (take (i + 1) ends)) all
+    (subst (λ (x : List ℕ). AreLaidOut (slots ++ text ∷ []) (take start texts ++ text) x) ended (more slots text (take start texts) (take i ends) h))
+
 -- the next one of them
 pub laid_more : {X : Type 0} (bytes : X → List ℕ) (all : List X) (i : ℕ) (one : X) (texts ends : List ℕ) → i < length all → one ≡ get_or all i one
     → AreLaidOut (map bytes (take i all)) texts ends → AreLaidOut (map bytes (take (i + 1) all)) (texts ++ bytes one) (ends ++ length (texts ++ bytes one) ∷ [])
@@ -35,3 +52,78 @@ laid_more bytes all i one texts ends inside is h =
     subst (λ (x : List (List ℕ)). AreLaidOut x (texts ++ bytes one) (ends ++ length (texts ++ bytes one) ∷ []))
     (sym (ap (map bytes) (take_more all i one inside ∙ ap (λ x. take i all ++ x ∷ []) (sym is)) ∙ map-append bytes (take i all) (one ∷ [])))
     (more (map bytes (take i all)) (bytes one) texts ends h)
+
+-- ---- slots that a ring has
+
+-- where it stands
+record StandsAt (texts : List ℕ) (from to : ℕ) (slot : List ℕ) : Type 0 where
+  on : from ≤ to
+  inside : to ≤ length texts
+  slot_is : slice_range texts from to ≡ slot
+
+slot_behind : (before : List ℕ) (slots : List (List ℕ)) (i : ℕ) → i < length slots
+    → StandsAt (before ++ flat_map own slots) (slice_index_or (length before ∷ ends_behind (length before) slots) i 0) (slice_index_or (ends_behind (length before) slots) i 0) (slice_index_or slots i [])
+slot_behind before [] i inside = absurd (omega (arith, inside))
+slot_behind before (slot ∷ slots) zero inside =
+    let rest = flat_map own slots in
+    let count : length before + length slot - length before ≡ length slot = omega arith in
+    record {
+      on = omega arith;
+      inside = omega (arith, length-append before (slot ++ rest), length-append slot rest);
+      slot_is = ap (λ n. take n (drop (length before) (before ++ (slot ++ rest)))) count ∙ (ap (take (length slot)) (drop_at before (slot ++ rest) (length before) refl) ∙ take_at slot rest (length slot) refl);
+    }
+slot_behind before (slot ∷ slots) (suc i) inside =
+    let rest = flat_map own slots in
+    subst (λ (x : List ℕ). StandsAt x (slice_index_or ((length before + length slot) ∷ ends_behind (length before + length slot) slots) i 0) (slice_index_or (ends_behind (length before + length slot) slots) i 0) (slice_index_or slots i []))
+    (append_assoc before slot rest)
+    (subst (λ (n : ℕ). StandsAt ((before ++ slot) ++ rest) (slice_index_or (n ∷ ends_behind n slots) i 0) (slice_index_or (ends_behind n slots) i 0) (slice_index_or slots i [])) (length-append before slot)
+    (slot_behind (before ++ slot) slots i (omega (arith, inside))))
+
+ends_at : (start : ℕ) (slots : List (List ℕ)) → slice_index_or (start ∷ ends_behind start slots) (length slots) 0 ≡ start + length (flat_map own slots)
+ends_at start [] = omega arith
+ends_at start (slot ∷ slots) = ends_at (start + length slot) slots ∙ omega (arith, length-append slot (flat_map own slots))
+
+ends_count : (start : ℕ) (slots : List (List ℕ)) → length (ends_behind start slots) ≡ length slots
+ends_count start [] = refl
+ends_count start (slot ∷ slots) = ap suc (ends_count (start + length slot) slots)
+
+pub slots_count : (slots : List (List ℕ)) (texts ends : List ℕ) → AreLaidOut slots texts ends → length ends ≡ length slots
+slots_count slots texts ends h = ap (λ (x : List ℕ). length x) h.ends_are ∙ ends_count 0 slots
+
+-- each of them, and where the last one ends
+slot_stands : (slots : List (List ℕ)) (texts ends : List ℕ) (i : ℕ) → AreLaidOut slots texts ends → i < length ends → StandsAt texts (slice_index_or (0 ∷ ends) i 0) (slice_index_or ends i 0) (slice_index_or slots i [])
+slot_stands slots texts ends i h inside =
+    subst (λ (x : List ℕ). StandsAt x (slice_index_or (0 ∷ ends) i 0) (slice_index_or ends i 0) (slice_index_or slots i [])) (sym h.texts_are)
+    (subst (λ (x : List ℕ). StandsAt (flat_map own slots) (slice_index_or (0 ∷ x) i 0) (slice_index_or x i 0) (slice_index_or slots i [])) (sym h.ends_are)
+    (slot_behind [] slots i (omega (arith, inside, slots_count slots texts ends h))))
+
+pub slots_end : (slots : List (List ℕ)) (texts ends : List ℕ) → AreLaidOut slots texts ends → slice_index_or (0 ∷ ends) (length ends) 0 ≡ length texts
+slots_end slots texts ends h =
+    let last : slice_index_or (0 ∷ ends_behind 0 slots) (length slots) 0 ≡ length (flat_map own slots) = ends_at 0 slots ∙ omega arith in
+    ap (λ n. slice_index_or (0 ∷ ends) n 0) (slots_count slots texts ends h)
+    ∙ (ap (λ (x : List ℕ). slice_index_or (0 ∷ x) (length slots) 0) h.ends_are ∙ (last ∙ ap (λ (x : List ℕ). length x) (sym h.texts_are)))
+
+-- what a ring has at a place
+pub slot_of : (texts ends : List ℕ) (place i start : ℕ) (ring : Ring) → IsRingOf texts ends place ring → i < length ends → start ≡ slice_index_or (0 ∷ ends) i 0
+    → IsSlot texts start (slice_index_or ends i 0) (slice_index_or ring.slots i [])
+slot_of texts ends place i start ring h inside at =
+    let s = subst (λ (n : ℕ). StandsAt texts n (slice_index_or ends i 0) (slice_index_or ring.slots i [])) (sym at) (slot_stands ring.slots texts ends i h.laid_out inside) in
+    record {
+      on = s.on;
+      inside = s.inside;
+      slot_is = sym s.slot_is;
+      utf8 = h.utf8 i [] (omega (arith, inside, slots_count ring.slots texts ends h.laid_out));
+    }
+
+-- the ring of all of them, turned to a place
+pub ring_stands : (texts ends : List ℕ) (place start i : ℕ) (old new : Ring) → AreLaidOut old.slots (take start texts) (take i ends) → start ≡ length texts → i ≡ length ends
+    → length old.slots ≡ i → All IsUtf8 old.slots → length ends ≤ 60 → place ≤ length ends - 1 → new ≡ ring_by old.slots place → IsRingOf texts ends place new
+ring_stands texts ends place start i old new h all_texts all_ends count utf8 few inside is =
+    subst (IsRingOf texts ends place) (sym is) (record {
+      laid_out = subst (AreLaidOut old.slots texts) (ap (λ n. take n ends) all_ends ∙ take-length ends)
+          (subst (λ (x : List ℕ). AreLaidOut old.slots x (take i ends)) (ap (λ n. take n texts) all_texts ∙ take-length texts) h);
+      ring_is = refl;
+      few = omega (arith, count, all_ends, few);
+      inside = omega (arith, count, all_ends, inside);
+      utf8 = utf8;
+    })

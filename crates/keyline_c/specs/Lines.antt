@@ -1,26 +1,31 @@
 -- A line of the keys so far: what is handed in for it, and what it leaves.
-use Rattle.std.specs.Prelude.{◌≡◌, ◌⊎◌, ℕ, ◌<◌, ◌++◌, Bool, true, if◌then◌else◌, List, Option, Result, IsErrAnd, length, string_bytes}
+use Rattle.std.specs.Prelude.{◌≡◌, ◌⊎◌, ⊤, ℕ, ◌<◌, ◌++◌, Bool, true, if◌then◌else◌, List, Option, Result, Err, IsErrAnd, length, string_bytes}
 use Rattle.line_config.specs.Config.{default_config}
 use Rattle.line_config.specs.Feed.{Feed}
 use Rattle.line_config.specs.declared.device.Last.{Last}
 use Rattle.line_config.specs.declared.device.Last.TheVariants.{End, Failed}
 use Rattle.line_config.specs.declared.errors.ReadlineError.{ReadlineError}
-use Rattle.line_config.specs.declared.errors.ReadlineError.TheVariants.{Display, Helper, Memory}
+use Rattle.line_config.specs.declared.errors.ReadlineError.TheVariants.{Display, Helper, HistoryText, Memory}
 use Rattle.line_config.specs.declared.memory.SliceSource.{SliceSource}
 use Rattle.line_config.specs.declared.memory.VecSink.{VecSink}
 use Rattle.line_editor.specs.Courses.{LineReport}
 use Rattle.line_help.specs.History.{Filed}
+use Rattle.line_help.specs.HistoryText.{has_bad_row}
+use Rattle.line_help.specs.WordList.{rows_to_come}
 use Rattle.line_keys.specs.Coming.{made_of}
 use Rattle.line_screen.specs.Drawing.{break_if}
 use Rattle.line_screen.specs.Reader.{coming_in, left_in}
 use Rattle.line_screen.specs.declared.reading.reader.KeyReader.{KeyReader}
 use Rattle.keyline.specs.Program.{config_of, helper_of, edit_helping, nothing_bound}
-use Rattle.keyline.specs.Plays.{loaded_from}
+use Rattle.keyline.specs.Plays.{loaded_from, loads}
 use Rattle.keyline.specs.Sessions.{Given, SessionState, breaks, given_of, history_after, line_bytes, line_in, state_over}
 use Rattle.keyline.specs.declared.options.Options.{Options}
 use Rattle.keyline_c.specs.Meant.{AreMeant, whole, words_in}
+use Rattle.keyline_c.specs.Slots.{IsRingOf}
 use Rattle.keyline_c.specs.declared.export.KeylineOptions.{KeylineOptions}
 use Rattle.keyline_c.specs.declared.line.Left.{Left}
+use Rattle.keyline_c.specs.declared.status.Status.{Status}
+use Rattle.keyline_c.specs.declared.status.Status.TheVariants as Refusal
 use Rattle.line_record.specs.Ring.{Ring}
 
 -- what is handed in for a line by these options and words
@@ -67,12 +72,30 @@ pub record Ends (held : VecSink → List ℕ) (outcome : Result (List ℕ) Readl
   pub kept : history' ≡ history_after true outcome history
 
 -- THE relation of a line by what C hands in: the options are meant, and it is the line of these
--- keys, by these words and over this history, with a ring that was handed in
+-- keys, by these words, over this history and with the ring of these slots
 pub record ReadsKeys (held : VecSink → List ℕ) (feed : SliceSource → Feed)
-    (options : KeylineOptions) (keys prompt words history : List ℕ) (left : Left) : Type 0 where
+    (options : KeylineOptions) (keys prompt words history kills ends : List ℕ) (left : Left)
+    : Type 0 where
   pub chosen : Options
   pub ring : Ring
   pub meant : AreMeant options prompt chosen
+  pub ring_is : IsRingOf kills ends options.place ring
   pub reads : ReadsLine held feed (given_by_options chosen (words_in words))
       (state_over ring (loaded_from (config_of chosen) (whole history)) chosen.mode keys
       (last_of options.ended)) (length keys) left
+
+-- what is handed in can't be meant: the options, a row of the words, the history or the kill ring
+abbrev pub CantBeMeant : KeylineOptions → List ℕ → List ℕ → List ℕ → List ℕ → List ℕ → Type 0
+CantBeMeant options prompt words history kills ends =
+    ((o : Options) → AreMeant options prompt o → ⊥)
+    ⊎ ((has_bad_row (rows_to_come (whole words)) ≡ true)
+    ⊎ (((o : Options) × AreMeant options prompt o
+    × (loads (config_of o) (whole history) ≡ Err HistoryText))
+    ⊎ ((ring : Ring) → IsRingOf kills ends options.place ring → ⊥)))
+
+-- why a line isn't read: that, or memory was wanting
+abbrev pub IsRefused : KeylineOptions → List ℕ → List ℕ → List ℕ → List ℕ → List ℕ → Status → Type 0
+IsRefused options prompt words history kills ends Refusal.Argument =
+    CantBeMeant options prompt words history kills ends
+IsRefused options prompt words history kills ends Refusal.Memory = ⊤
+IsRefused options prompt words history kills ends why = ⊥

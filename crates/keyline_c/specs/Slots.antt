@@ -1,8 +1,12 @@
 -- A kill ring as texts one after the other, with the place at which each ends.
-use Rattle.std.specs.Prelude.{◌≡◌, ◌+◌, ℕ, List, [], ◌∷◌, length}
-use Rattle.std.specs.List.{flat_map}
+use Rattle.std.specs.Prelude.{◌≡◌, ◌≤◌, ◌+◌, ◌-◌, ⊤, ℕ, false, List, [], ◌∷◌, Option, Some, None, Result, Ok, Err, length}
+use Rattle.std.specs.List.{All, flat_map, slice_range}
+use Rattle.std.specs.Str.{IsUtf8}
 use Rattle.line_record.specs.Ring.{Ring}
+use Rattle.line_record.specs.declared.kill_ring.Action.TheVariants.{Other}
 use Rattle.keyline_c.specs.declared.ring.Slots.{Slots}
+use Rattle.keyline_c.specs.declared.status.Status.{Status}
+use Rattle.keyline_c.specs.declared.status.Status.TheVariants.{Argument, Memory}
 
 -- where each of these texts ends, the first of which begins behind so many bytes
 abbrev pub ends_behind : ℕ → List (List ℕ) → List ℕ
@@ -19,3 +23,41 @@ pub record AreLaidOut (slots : List (List ℕ)) (texts ends : List ℕ) : Type 0
 pub record AreSlots (ring : Ring) (slots : Slots) : Type 0 where
   pub laid_out : AreLaidOut ring.slots slots.texts.items slots.ends.items
   pub place_is : slots.place ≡ ring.place
+
+-- a slot stands there
+pub record IsSlot (texts : List ℕ) (from to : ℕ) (slot : List ℕ) : Type 0 where
+  pub on : from ≤ to
+  pub inside : to ≤ length texts
+  pub slot_is : slot ≡ slice_range texts from to
+  pub utf8 : IsUtf8 slot
+
+-- it is that slot, or there is none
+abbrev pub SlotMeans : List ℕ → ℕ → ℕ → Option (List ℕ) → Type 0
+SlotMeans texts from to (Some slot) = IsSlot texts from to slot
+SlotMeans texts from to None = (slot : List ℕ) → IsSlot texts from to slot → ⊥
+
+-- a ring of these slots, after no kill
+abbrev pub ring_by : List (List ℕ) → ℕ → Ring
+ring_by slots place = record {
+  slots = slots;
+  size = 60;
+  place = place;
+  last = Other;
+  killing = false;
+}
+
+-- it is the one of these texts, with that slot present; 0 where there is none
+pub record IsRingOf (texts ends : List ℕ) (place : ℕ) (ring : Ring) : Type 0 where
+  pub laid_out : AreLaidOut ring.slots texts ends
+  pub ring_is : ring ≡ ring_by ring.slots place
+  pub few : length ring.slots ≤ 60
+  pub inside : place ≤ length ring.slots - 1
+  pub utf8 : All IsUtf8 ring.slots
+
+-- it is that ring, or there is none; or memory was wanting
+abbrev pub RingMeans : List ℕ → List ℕ → ℕ → Result Ring Status → Type 0
+RingMeans texts ends place (Ok ring) = IsRingOf texts ends place ring
+RingMeans texts ends place (Err Argument) =
+    (ring : Ring) → IsRingOf texts ends place ring → ⊥
+RingMeans texts ends place (Err Memory) = ⊤
+RingMeans texts ends place (Err status) = ⊥

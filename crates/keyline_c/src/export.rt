@@ -1,12 +1,12 @@
 //! The call that C makes.
 
-ghost use Rattle.std.specs.Prelude.{[], ◌≡◌, ◌⊎◌, ◌≤◌, MatchResult, length, string_bytes};
+ghost use Rattle.std.specs.Prelude.{[], ◌≡◌, ◌≤◌, MatchResult, length, string_bytes};
 ghost use Rattle.std.specs.Result.{result_unwrap_or};
 ghost use Rattle.line_help.specs.HistoryText.{text_to_save};
 ghost use Rattle.line_keys.specs.Coming.{made_of};
-ghost use Rattle.keyline_c.specs.declared.status.Status.TheVariants.{Argument, Memory};
+ghost use Rattle.keyline_c.specs.declared.status.Status.TheVariants.{Memory};
 ghost use Rattle.keyline_c.specs.Call.{Answers, Calls, status_in};
-ghost use Rattle.keyline_c.specs.Lines.{ReadsKeys};
+ghost use Rattle.keyline_c.specs.Lines.{IsRefused, ReadsKeys};
 ghost use Rattle.keyline_c.specs.Meant.{HistoryMeans, OptionsMean, WordsMean, mode_of};
 ghost use Rattle.keyline_c.specs.Rooms.{GivesDisplay, SameRooms, room_texts, texts_in};
 ghost use Rattle.keyline_c.specs.Steps.{EndIsGiven, Gives, GivesRest};
@@ -136,7 +136,9 @@ fn history_of(alloc: Global, options: &Options, text: &[u8]) -> Result<FileHisto
 fn play<'k>(alloc: Global, options: &KeylineOptions, handed: &Handed<'k>) -> Result<Left, Status>
     ensures { MatchResult result (ReadsKeys ⟦<VecSink as Sink>⟧.held
         ⟦<SliceSource<'k> as Source>⟧.feed options.now handed.now.keys.now handed.now.prompt.now
-        handed.now.words.now handed.now.history.now) (λ e. (e ≡ Argument) ⊎ (e ≡ Memory)) }
+        handed.now.words.now handed.now.history.now handed.now.kills.now handed.now.ends.now)
+        (IsRefused options.now handed.now.prompt.now handed.now.words.now handed.now.history.now
+        handed.now.kills.now handed.now.ends.now) }
 {
     let chosen = options_of(alloc, options, handed.prompt)?;
     let words = words_of(alloc, handed.words)?;
@@ -272,8 +274,8 @@ fn answer<'k>(
 ) -> Result<Status, Status>
     ensures answers { Answers ⟦<VecSink as Sink>⟧.held ⟦<SliceSource<'k> as Source>⟧.feed
         options.now handed.now.keys.now handed.now.prompt.now handed.now.words.now
-        handed.now.history.now (texts_in rooms.old) (texts_in rooms.new)
-        step.old step.new result }
+        handed.now.history.now handed.now.kills.now handed.now.ends.now
+        (texts_in rooms.old) (texts_in rooms.new) step.old step.new result }
     ensures same { SameRooms rooms.old rooms.new }
 {
     let left = play(alloc, options, handed)?;
@@ -311,7 +313,8 @@ pub extern "C" fn keyline_line_checked<'k>(
     step: &mut KeylineStep,
 )
     ensures { Calls ⟦<VecSink as Sink>⟧.held ⟦<SliceSource<'k> as Source>⟧.feed options.now
-        keys.entry.now prompt.entry.now words.entry.now history.entry.now
+        keys.entry.now prompt.entry.now words.entry.now history.entry.now kills.entry.now
+        ends.entry.now
         (room_texts display_room.old line_room.old history_room.old kills_room.old ends_room.old)
         (room_texts display_room.new line_room.new history_room.new kills_room.new ends_room.new)
         step.new }

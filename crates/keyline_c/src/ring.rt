@@ -1,11 +1,11 @@
 //! A kill ring as texts one after the other, with the place at which each ends.
 
-ghost use Rattle.std.specs.Prelude.{◌≡◌, ◌⊎◌, IfErr, MatchResult};
-ghost use Rattle.keyline_c.specs.Slots.{AreSlots};
-ghost use Rattle.keyline_c.specs.declared.status.Status.TheVariants.{Argument, Memory};
+ghost use Rattle.std.specs.Prelude.{[], ◌∷◌, ◌++◌, ◌≡◌, ◌<◌, ◌≤◌, ◌-◌, MatchResult, OnOk, length, option_copied};
+ghost use Rattle.keyline_c.specs.Slots.{AreSlots, RingMeans, SlotMeans, ring_by};
+ghost use Rattle.keyline_c.specs.declared.status.Status.TheVariants.{Memory};
 
 use crate::status::Status;
-use line_buffer::Mode;
+use line_buffer::{Mode, OutOfMemory};
 use line_record::KillRing;
 use std::alloc::Global;
 
@@ -38,35 +38,71 @@ pub(crate) fn slots_of(alloc: Global, ring: &KillRing) -> Result<Slots, Status>
     })
 }
 
-/// A ring of these slots, after no kill.
+/// The text of a slot, where one stands there.
+fn slot_text<'t>(texts: &'t [u8], start: usize, end: usize) -> Option<&'t str>
+    ensures { SlotMeans texts.entry.now start end (option_copied result) }
+{
+    str::from_utf8(texts.get(start..end)?).ok()
+}
+
+/// Adds a slot behind the last one. It is present then.
+fn add_slot(alloc: Global, ring: &mut KillRing, text: &str) -> Result<(), OutOfMemory>
+    requires last { ring.old ≡ ring_by ring.old.slots (length ring.old.slots - 1) }
+    requires few { length ring.old.slots < 60 }
+    ensures { OnOk result (ring.new
+        ≡ ring_by (ring.old.slots ++ text.now ∷ []) (length ring.old.slots)) }
+{
+    ring.kill(alloc, text, Mode::Append)?;
+    ring.reset();
+    Ok(())
+}
+
+/// Turns a ring of so many slots, of which the last is present, to a place.
+fn turn_to(ring: &mut KillRing, place: usize, count: usize)
+    requires count { count ≡ length ring.old.slots }
+    requires last { ring.old ≡ ring_by ring.old.slots (count - 1) }
+    requires inside { place ≤ count - 1 }
+    ensures { ring.new ≡ ring_by ring.old.slots place }
+{
+    if count == 0 {
+        return;
+    }
+    let _ = ring.yank();
+    let mut at = count - 1;
+    while at > place {
+        let _ = ring.yank_pop();
+        at -= 1;
+    }
+    ring.reset();
+}
+
+/// The ring of these slots, after no kill.
 pub(crate) fn ring_of(
     alloc: Global,
     texts: &[u8],
     ends: &[usize],
     place: usize,
 ) -> Result<KillRing, Status>
-    ensures { IfErr result (λ e. (e ≡ Argument) ⊎ (e ≡ Memory)) }
+    ensures { RingMeans texts.now ends.now place result }
 {
-    let mut ring = KillRing::new(alloc, SLOTS)?;
-    if ends.len() > SLOTS || (place > 0 && place >= ends.len()) {
+    if ends.len() > SLOTS {
         return Err(Status::Argument);
     }
+    if place > ends.len().saturating_sub(1) {
+        return Err(Status::Argument);
+    }
+    let mut ring = KillRing::new(alloc, SLOTS)?;
     let mut start = 0;
     for &end in ends {
-        let text = texts.get(start..end).ok_or(Status::Argument)?;
-        ring.kill(alloc, str::from_utf8(text)?, Mode::Append)?;
-        ring.reset();
+        let Some(text) = slot_text(texts, start, end) else {
+            return Err(Status::Argument);
+        };
+        add_slot(alloc, &mut ring, text)?;
         start = end;
+    }
+    if start != texts.len() {
+        return Err(Status::Argument);
     }
     turn_to(&mut ring, place, ends.len());
     Ok(ring)
-}
-
-/// Turns a ring of so many slots, of which the last is present, to a place.
-fn turn_to(ring: &mut KillRing, place: usize, count: usize) {
-    let _ = ring.yank();
-    for _ in place..count.saturating_sub(1) {
-        let _ = ring.yank_pop();
-    }
-    ring.reset();
 }
