@@ -10,10 +10,10 @@ use Rattle.line_config.specs.declared.errors.ReadlineError.{ReadlineError}
 use Rattle.line_help.specs.History.{Filed}
 use Rattle.line_record.specs.Ring.{Ring}
 use Rattle.keyline.specs.Plays.{loaded_from}
-use Rattle.keyline.specs.Program.{config_of}
+use Rattle.keyline.specs.Program.{config_of, program_given}
 use Rattle.keyline.specs.Sessions.{state_over}
 use Rattle.keyline.specs.declared.options.Options.{Options}
-use Rattle.keyline_c.specs.Lines.{IsRefused, IsWant, ReadsKeys, ReadsLine, given_by_options, last_of}
+use Rattle.keyline_c.specs.Lines.{IsRefused, IsWant, ReadsKeys, ReadsLine, last_of}
 use Rattle.keyline_c.specs.Meant.{AreMeant, HistoryMeans, OptionsMean, WordsMean, whole, words_in}
 use Rattle.keyline_c.specs.Slots.{IsRingOf, RingMeans}
 use Rattle.keyline_c.specs.Statuses.{refused_as}
@@ -31,15 +31,15 @@ bad_prompt options prompt (Err s) is bad =
 -- a line of what words and history are meant
 pub keys_read : (held : VecSink → List ℕ) (feed : SliceSource → Feed) (options : KeylineOptions) (keys prompt words history kills ends : List ℕ) (left : Left) (chosen : Options) (ring : Ring)
     (given : Option (List (List ℕ))) (filed : Filed) → AreMeant options prompt chosen → IsRingOf kills ends options.place ring → given ≡ words_in words → filed ≡ loaded_from (config_of chosen) (whole history)
-    → ReadsLine held feed (given_by_options chosen given) (state_over ring filed chosen.mode keys (last_of options.ended)) (length keys) left
+    → ReadsLine held feed (program_given chosen given) (state_over ring filed chosen.mode keys (last_of options.ended)) (length keys) left
     → ReadsKeys held feed options keys prompt words history kills ends left
 keys_read held feed options keys prompt words history kills ends left chosen ring given filed meant held_by is_given is_filed reads = record {
   chosen = chosen;
   ring = ring;
   meant = meant;
   ring_is = held_by;
-  reads = subst (λ w. ReadsLine held feed (given_by_options chosen w) (state_over ring (loaded_from (config_of chosen) (whole history)) chosen.mode keys (last_of options.ended)) (length keys) left) is_given
-      (subst (λ (f : Filed). ReadsLine held feed (given_by_options chosen given) (state_over ring f chosen.mode keys (last_of options.ended)) (length keys) left) is_filed reads);
+  reads = subst (λ w. ReadsLine held feed (program_given chosen w) (state_over ring (loaded_from (config_of chosen) (whole history)) chosen.mode keys (last_of options.ended)) (length keys) left) is_given
+      (subst (λ (f : Filed). ReadsLine held feed (program_given chosen given) (state_over ring f chosen.mode keys (last_of options.ended)) (length keys) left) is_filed reads);
 }
 
 -- ---- why it isn't read

@@ -25,10 +25,10 @@ use Rattle.line_screen.specs.Drawing.{break_if}
 use Rattle.line_screen.specs.declared.reading.reader.KeyReader.{KeyReader}
 use Rattle.line_screen.specs.declared.renderer.ScreenRenderer.{ScreenRenderer}
 use Rattle.line_screen.proofs.CallLemmas.{sent_in_all}
-use Rattle.keyline.specs.Program.{EditHelper, config_of, edit_helping, helper_of, nothing_bound}
+use Rattle.keyline.specs.Program.{EditHelper, config_of, edit_helping, helper_of, nothing_bound, program_given}
 use Rattle.keyline.specs.declared.options.Options.{Options}
 use Rattle.keyline.specs.Sessions.{coming_from, Given, SessionState, breaks, given_of, history_after, line_in, setting_in, state_over}
-use Rattle.keyline_c.specs.Lines.{Ends, IsWant, LeftBy, ReadsLine, given_by_options}
+use Rattle.keyline_c.specs.Lines.{Ends, IsWant, LeftBy, ReadsLine}
 use Rattle.keyline_c.specs.declared.line.Left.{Left}
 
 wanting : (failed : Bool) (hook : Type 0) (e : ReadlineError) → reason_of failed hook e → IsWant e
@@ -99,12 +99,12 @@ pub line_read : {K T : Type 0} (held waits : VecSink → List ℕ) (failed : Vec
     → feed.coming ≡ coming_from options.mode keys last → feed.bound ≡ length keys
     → left.outcome ≡ ran.outcome → left.display ≡ display → left.ring ≡ ring' → left.history ≡ history'
     → left.rest ≡ length (left_in F reader) → coming_in F reader ≡ feed'.coming
-    → ReadsLine held F (given_by_options options words) (state_over ring history options.mode keys last) (length keys) left
+    → ReadsLine held F (program_given options words) (state_over ring history options.mode keys last) (length keys) left
 line_read held waits failed options words keys last config custom prompt helper old display ring ring' history history' feed feed' ran F reader left runs told ends fresh config_is custom_is prompt_is helper_is screen_is coming_is bound_is a b d e rest_is left_is =
     let adds : config.auto_add_history ≡ true = ap (λ (x : Config). x.auto_add_history) config_is in
     let read = reads_line held waits failed edit_helping config custom prompt helper old display ring ring' history history' feed feed' ran F reader left ends fresh adds a b d e rest_is left_is runs told in
     let columns : Config → Screen = λ x. record { columns = options.columns; mode = x.grapheme_cluster_mode; bell = x.bell_style } in
-    let given_is : given_of config custom prompt (screen_of old) (edit_helping helper) ≡ given_by_options options words =
+    let given_is : given_of config custom prompt (screen_of old) (edit_helping helper) ≡ program_given options words =
     ap (λ (x : Screen). given_of config custom prompt x (edit_helping helper)) screen_is
     ∙ (ap (λ (x : Config). given_of x custom prompt (columns x) (edit_helping helper)) config_is
     ∙ (ap (λ (x : Custom). given_of (config_of options) x prompt (columns (config_of options)) (edit_helping helper)) custom_is

@@ -109,7 +109,7 @@ pub slot_of : (texts ends : List ℕ) (place i start : ℕ) (ring : Ring) → Is
 slot_of texts ends place i start ring h inside at =
     let s = subst (λ (n : ℕ). StandsAt texts n (slice_index_or ends i 0) (slice_index_or ring.slots i [])) (sym at) (slot_stands ring.slots texts ends i h.laid_out inside) in
     record {
-      on = s.on;
+      in_order = s.on;
       inside = s.inside;
       slot_is = sym s.slot_is;
       utf8 = h.utf8 i [] (omega (arith, inside, slots_count ring.slots texts ends h.laid_out));

@@ -1,6 +1,5 @@
 -- A line of the keys so far: what is handed in for it, and what it leaves.
-use Rattle.std.specs.Prelude.{◌≡◌, ◌⊎◌, ⊤, ℕ, ◌<◌, ◌++◌, Bool, true, if◌then◌else◌, List, Option, Result, Err, IsErrAnd, length, string_bytes}
-use Rattle.line_config.specs.Config.{default_config}
+use Rattle.std.specs.Prelude.{◌≡◌, ◌⊎◌, ⊤, ℕ, ◌<◌, ◌++◌, Bool, true, if◌then◌else◌, List, Result, Err, IsErrAnd, length, string_bytes}
 use Rattle.line_config.specs.Feed.{Feed}
 use Rattle.line_config.specs.declared.device.Last.{Last}
 use Rattle.line_config.specs.declared.device.Last.TheVariants.{End, Failed}
@@ -16,9 +15,9 @@ use Rattle.line_keys.specs.Coming.{made_of}
 use Rattle.line_screen.specs.Drawing.{break_if}
 use Rattle.line_screen.specs.Reader.{coming_in, left_in}
 use Rattle.line_screen.specs.declared.reading.reader.KeyReader.{KeyReader}
-use Rattle.keyline.specs.Program.{config_of, helper_of, edit_helping, nothing_bound}
+use Rattle.keyline.specs.Program.{config_of, program_given}
 use Rattle.keyline.specs.Plays.{loaded_from, loads}
-use Rattle.keyline.specs.Sessions.{Given, SessionState, breaks, given_of, history_after, line_bytes, line_in, state_over}
+use Rattle.keyline.specs.Sessions.{Given, SessionState, breaks, history_after, line_bytes, line_in, state_over}
 use Rattle.keyline.specs.declared.options.Options.{Options}
 use Rattle.keyline_c.specs.Meant.{AreMeant, whole, words_in}
 use Rattle.keyline_c.specs.Slots.{IsRingOf}
@@ -27,17 +26,6 @@ use Rattle.keyline_c.specs.declared.line.Left.{Left}
 use Rattle.keyline_c.specs.declared.status.Status.{Status}
 use Rattle.keyline_c.specs.declared.status.Status.TheVariants as Refusal
 use Rattle.line_record.specs.Ring.{Ring}
-
--- what is handed in for a line by these options and words
-abbrev pub given_by_options : Options → Option (List (List ℕ)) → Given
-given_by_options options words =
-    given_of (config_of options) nothing_bound (string_bytes options.prompt)
-    (record {
-      columns = options.columns;
-      mode = default_config.grapheme_cluster_mode;
-      bell = default_config.bell_style;
-    })
-    (edit_helping (helper_of options words))
 
 -- what stands after the keys: their end, or the failure that says that more are wanted
 abbrev pub last_of : Bool → Last
@@ -80,22 +68,22 @@ pub record ReadsKeys (held : VecSink → List ℕ) (feed : SliceSource → Feed)
   pub ring : Ring
   pub meant : AreMeant options prompt chosen
   pub ring_is : IsRingOf kills ends options.place ring
-  pub reads : ReadsLine held feed (given_by_options chosen (words_in words))
+  pub reads : ReadsLine held feed (program_given chosen (words_in words))
       (state_over ring (loaded_from (config_of chosen) (whole history)) chosen.mode keys
       (last_of options.ended)) (length keys) left
 
--- what is handed in can't be meant: the options, a row of the words, the history or the kill ring
-abbrev pub CantBeMeant : KeylineOptions → List ℕ → List ℕ → List ℕ → List ℕ → List ℕ → Type 0
-CantBeMeant options prompt words history kills ends =
-    ((o : Options) → AreMeant options prompt o → ⊥)
-    ⊎ ((has_bad_row (rows_to_come (whole words)) ≡ true)
-    ⊎ (((o : Options) × AreMeant options prompt o
-    × (loads (config_of o) (whole history) ≡ Err HistoryText))
-    ⊎ ((ring : Ring) → IsRingOf kills ends options.place ring → ⊥)))
+module _ (options : KeylineOptions) (prompt words history kills ends : List ℕ) where
+  -- what is handed in can't be meant: the options, a row of the words or of the history, or the
+  -- kill ring
+  abbrev pub CantBeMeant : Type 0
+  CantBeMeant = ((o : Options) → AreMeant options prompt o → ⊥)
+      ⊎ ((has_bad_row (rows_to_come (whole words)) ≡ true)
+      ⊎ (((o : Options) × AreMeant options prompt o
+      × (loads (config_of o) (whole history) ≡ Err HistoryText))
+      ⊎ ((ring : Ring) → IsRingOf kills ends options.place ring → ⊥)))
 
--- why a line isn't read: that, or memory was wanting
-abbrev pub IsRefused : KeylineOptions → List ℕ → List ℕ → List ℕ → List ℕ → List ℕ → Status → Type 0
-IsRefused options prompt words history kills ends Refusal.Argument =
-    CantBeMeant options prompt words history kills ends
-IsRefused options prompt words history kills ends Refusal.Memory = ⊤
-IsRefused options prompt words history kills ends why = ⊥
+  -- why a line isn't read: that, or memory was wanting
+  abbrev pub IsRefused : Status → Type 0
+  IsRefused Refusal.Argument = CantBeMeant
+  IsRefused Refusal.Memory = ⊤
+  IsRefused why = ⊥

@@ -52,7 +52,7 @@ words_in (byte ∷ bytes) = Some (entries_of false (rows_to_come (whole (byte �
 abbrev pub WordsMean : List ℕ → Result (Option (Vec (String Global))) Status → Type 0
 WordsMean text (Ok words) = word_texts words ≡ words_in text
 WordsMean text (Err Argument) = has_bad_row (rows_to_come (whole text)) ≡ true
-WordsMean text (Err Memory) = ⊤
+WordsMean text (Err Memory) = text ≢ []
 WordsMean text (Err status) = ⊥
 
 -- a text's history; or one of its rows isn't UTF-8, or memory was wanting

@@ -1,5 +1,5 @@
 -- Texts that are put into rooms, and what is told of them.
-use Rattle.std.specs.Prelude.{◌≡◌, ◌≤◌, ◌<◌, ◌-◌, ℕ, List, ◌++◌, Option, Some, None, Result, Ok, Err, drop, length}
+use Rattle.std.specs.Prelude.{◌≡◌, ◌⊎◌, ◌≤◌, ◌<◌, ◌-◌, ℕ, List, ◌++◌, Option, Some, None, Result, Ok, Err, drop, length}
 use Rattle.keyline_c.specs.declared.export.KeylineStep.{KeylineStep}
 use Rattle.keyline_c.specs.declared.export.Rooms.{Rooms}
 use Rattle.keyline_c.specs.declared.status.Status.{Status}
@@ -14,13 +14,8 @@ pub record RoomTexts : Type 0 where
   pub ends : List ℕ
 
 abbrev pub room_texts : List ℕ → List ℕ → List ℕ → List ℕ → List ℕ → RoomTexts
-room_texts display line history kills ends = record {
-  display = display;
-  line = line;
-  history = history;
-  kills = kills;
-  ends = ends;
-}
+room_texts display line history kills ends =
+    record { display = display; line = line; history = history; kills = kills; ends = ends }
 
 abbrev pub texts_in : Rooms → RoomTexts
 texts_in rooms = room_texts rooms.display.now rooms.line.now rooms.history.now rooms.kills.now
@@ -41,10 +36,39 @@ pub record IsPut {T : Type 0} (given old new : List T) : Type 0 where
   pub fits : length given ≤ length old
   pub room_is : new ≡ given ++ drop (length given) old
 
+-- it stands there, or the room is as it was
+abbrev pub MayBePut : {T : Type 0} → List T → List T → List T → Type 0
+MayBePut given old new = IsPut given old new ⊎ (new ≡ old)
+
 -- it is put there; or it doesn't fit, and the room is as it was
 abbrev pub Puts : {T A : Type 0} → List T → List T → List T → Option A → Type 0
 Puts given old new (Some done) = IsPut given old new
 Puts given old new None = (length old < length given) × (new ≡ old)
+
+-- each of these stands in its room
+pub record ArePut (given old new : RoomTexts) : Type 0 where
+  pub display : IsPut given.display old.display new.display
+  pub line : IsPut given.line old.line new.line
+  pub history_is : IsPut given.history old.history new.history
+  pub kills : IsPut given.kills old.kills new.kills
+  pub ends : IsPut given.ends old.ends new.ends
+
+-- one has no room; each stands in its own, or that is as it was
+pub record LackRoom (given old new : RoomTexts) : Type 0 where
+  pub small : (length old.display < length given.display)
+      ⊎ ((length old.line < length given.line)
+      ⊎ ((length old.history < length given.history)
+      ⊎ ((length old.kills < length given.kills) ⊎ (length old.ends < length given.ends))))
+  pub display : MayBePut given.display old.display new.display
+  pub line : MayBePut given.line old.line new.line
+  pub history_is : MayBePut given.history old.history new.history
+  pub kills : MayBePut given.kills old.kills new.kills
+  pub ends : MayBePut given.ends old.ends new.ends
+
+abbrev pub GivesTexts : {A : Type 0} → RoomTexts → RoomTexts → RoomTexts → Result A Status → Type 0
+GivesTexts given old new (Ok done) = ArePut given old new
+GivesTexts given old new (Err Room) = LackRoom given old new
+GivesTexts given old new (Err why) = ⊥
 
 -- the step tells of the display bytes that are new, behind those that were sent before
 abbrev pub with_display : List ℕ → ℕ → KeylineStep → KeylineStep

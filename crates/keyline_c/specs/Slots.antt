@@ -1,5 +1,5 @@
 -- A kill ring as texts one after the other, with the place at which each ends.
-use Rattle.std.specs.Prelude.{◌≡◌, ◌≤◌, ◌+◌, ◌-◌, ⊤, ℕ, false, List, [], ◌∷◌, Option, Some, None, Result, Ok, Err, length}
+use Rattle.std.specs.Prelude.{◌≡◌, ◌≤◌, ◌+◌, ◌-◌, ℕ, false, List, [], ◌∷◌, Option, Some, None, Result, Ok, Err, length}
 use Rattle.std.specs.List.{All, flat_map, slice_range}
 use Rattle.std.specs.Str.{IsUtf8}
 use Rattle.line_record.specs.Ring.{Ring}
@@ -26,7 +26,7 @@ pub record AreSlots (ring : Ring) (slots : Slots) : Type 0 where
 
 -- a slot stands there
 pub record IsSlot (texts : List ℕ) (from to : ℕ) (slot : List ℕ) : Type 0 where
-  pub on : from ≤ to
+  pub in_order : from ≤ to
   pub inside : to ≤ length texts
   pub slot_is : slot ≡ slice_range texts from to
   pub utf8 : IsUtf8 slot
@@ -54,10 +54,10 @@ pub record IsRingOf (texts ends : List ℕ) (place : ℕ) (ring : Ring) : Type 0
   pub inside : place ≤ length ring.slots - 1
   pub utf8 : All IsUtf8 ring.slots
 
--- it is that ring, or there is none; or memory was wanting
+-- it is that ring, or there is none; or memory was wanting, of so few slots and a place among them
 abbrev pub RingMeans : List ℕ → List ℕ → ℕ → Result Ring Status → Type 0
 RingMeans texts ends place (Ok ring) = IsRingOf texts ends place ring
 RingMeans texts ends place (Err Argument) =
     (ring : Ring) → IsRingOf texts ends place ring → ⊥
-RingMeans texts ends place (Err Memory) = ⊤
+RingMeans texts ends place (Err Memory) = (length ends ≤ 60) × (place ≤ length ends - 1)
 RingMeans texts ends place (Err status) = ⊥

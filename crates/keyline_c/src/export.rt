@@ -1,6 +1,6 @@
 //! The call that C makes.
 
-ghost use Rattle.std.specs.Prelude.{[], ◌≡◌, ◌≤◌, MatchResult, length, string_bytes};
+ghost use Rattle.std.specs.Prelude.{[], ◌≡◌, ◌≢◌, ◌≤◌, MatchResult, length, string_bytes};
 ghost use Rattle.std.specs.Result.{result_unwrap_or};
 ghost use Rattle.line_help.specs.HistoryText.{text_to_save};
 ghost use Rattle.line_keys.specs.Coming.{made_of};
@@ -8,8 +8,8 @@ ghost use Rattle.keyline_c.specs.declared.status.Status.TheVariants.{Memory};
 ghost use Rattle.keyline_c.specs.Call.{Answers, Calls, status_in};
 ghost use Rattle.keyline_c.specs.Lines.{IsRefused, ReadsKeys};
 ghost use Rattle.keyline_c.specs.Meant.{HistoryMeans, OptionsMean, WordsMean, mode_of};
-ghost use Rattle.keyline_c.specs.Rooms.{GivesDisplay, SameRooms, room_texts, texts_in};
-ghost use Rattle.keyline_c.specs.Steps.{EndIsGiven, Gives, GivesRest};
+ghost use Rattle.keyline_c.specs.Rooms.{GivesDisplay, GivesTexts, SameRooms, room_texts, texts_in};
+ghost use Rattle.keyline_c.specs.Steps.{Gives, GivesEnd};
 
 use crate::line::{Left, read_line};
 use crate::ring::{Slots, ring_of, slots_of};
@@ -170,7 +170,8 @@ fn give_rest(
     slots: &Slots,
     rooms: &mut Rooms<'_>,
 ) -> Result<(), Status>
-    ensures gives { GivesRest text.now history.now slots.now
+    ensures gives { GivesTexts
+        (room_texts [] text.now history.now slots.now.texts.items slots.now.ends.items)
         (texts_in rooms.old) (texts_in rooms.new) result }
     ensures same { SameRooms rooms.old rooms.new }
 {
@@ -192,7 +193,8 @@ fn text_of(outcome: &Result<String, ReadlineError>) -> &str
 
 /// The text of a history, where an entry is new.
 fn saved(alloc: Global, history: FileHistory) -> Result<Vec<u8>, Status>
-    ensures { MatchResult result (λ text. text.items ≡ text_to_save history) (λ e. e ≡ Memory) }
+    ensures { MatchResult result (λ text. text.items ≡ text_to_save history)
+        (λ e. (e ≡ Memory) × (history.unsaved ≢ 0)) }
 {
     let mut history = history;
     let mut text = VecSink::new(alloc);
@@ -212,7 +214,7 @@ fn give_end(
     step: &mut KeylineStep,
 ) -> Result<(), Status>
     requires { sent ≤ length (⟦<VecSink as Sink>⟧.held left.display) }
-    ensures gives { EndIsGiven ⟦<VecSink as Sink>⟧.held sent keys left
+    ensures gives { GivesEnd ⟦<VecSink as Sink>⟧.held sent keys left
         (texts_in rooms.old) (texts_in rooms.new) step.old step.new result }
     ensures same { SameRooms rooms.old rooms.new }
 {

@@ -7,9 +7,9 @@ ghost use Rattle.line_keys.specs.Coming.{made_of};
 ghost use Rattle.line_screen.specs.Calls.{screen_of, sink_of};
 ghost use Rattle.line_screen.specs.Reader.{left_in};
 ghost use Rattle.line_screen.specs.Drawing.{row_break};
-ghost use Rattle.keyline.specs.Program.{word_texts};
-ghost use Rattle.keyline.specs.Sessions.{breaks, history_after, state_over};
-ghost use Rattle.keyline_c.specs.Lines.{Ends, IsWant, ReadsLine, given_by_options, last_of};
+ghost use Rattle.keyline.specs.Program.{program_given, word_texts};
+ghost use Rattle.keyline.specs.Sessions.{breaks, history_after, screen_by, state_over};
+ghost use Rattle.keyline_c.specs.Lines.{Ends, IsWant, ReadsLine, last_of};
 
 use keyline::{
     Bindings, Config, FileHistory, History, Options, ReadlineError, Sink, SliceSource, Source,
@@ -48,11 +48,7 @@ fn source_of<'k>(keys: &'k [u8], ended: bool) -> SliceSource<'k>
 fn screen(alloc: Global, options: &Options, config: &Config) -> ScreenRenderer<VecSink>
     requires { (2 ≤ options.now.columns) × (options.now.columns ≤ 1000) }
     ensures empty { ⟦<VecSink as Sink>⟧.held (sink_of result) ≡ [] }
-    ensures screen { screen_of result ≡ record {
-      columns = options.now.columns;
-      mode = config.now.grapheme_cluster_mode;
-      bell = config.now.bell_style;
-    } }
+    ensures screen { screen_of result ≡ screen_by config.now options.now.columns }
 {
     ScreenRenderer::new(
         VecSink::new(alloc),
@@ -136,7 +132,7 @@ pub(crate) fn read_line<'k>(
     ended: bool,
 ) -> Result<Left, ReadlineError>
     requires { (2 ≤ options.now.columns) × (options.now.columns ≤ 1000) }
-    ensures { let given = given_by_options options.now (word_texts words) in
+    ensures { let given = program_given options.now (word_texts words) in
         let state = state_over ring history options.now.mode keys.entry.now (last_of ended) in
         MatchResult result (ReadsLine ⟦<VecSink as Sink>⟧.held
         ⟦<SliceSource<'k> as Source>⟧.feed given state (length keys.entry.now)) IsWant }

@@ -1,6 +1,6 @@
 //! A kill ring as texts one after the other, with the place at which each ends.
 
-ghost use Rattle.std.specs.Prelude.{[], ◌∷◌, ◌++◌, ◌≡◌, ◌<◌, ◌≤◌, ◌-◌, MatchResult, OnOk, length, option_copied};
+ghost use Rattle.std.specs.Prelude.{[], ◌∷◌, ◌++◌, ◌≡◌, ◌≢◌, ◌<◌, ◌≤◌, ◌-◌, MatchResult, OnOk, length, option_copied};
 ghost use Rattle.keyline_c.specs.Slots.{AreSlots, RingMeans, SlotMeans, ring_by};
 ghost use Rattle.keyline_c.specs.declared.status.Status.TheVariants.{Memory};
 
@@ -22,7 +22,8 @@ pub(crate) struct Slots {
 
 /// The slots of a ring.
 pub(crate) fn slots_of(alloc: Global, ring: &KillRing) -> Result<Slots, Status>
-    ensures { MatchResult result (AreSlots ring.now) (λ e. e ≡ Memory) }
+    ensures { MatchResult result (AreSlots ring.now)
+        (λ e. (e ≡ Memory) × (ring.now.slots ≢ [])) }
 {
     let slots = ring.texts();
     let mut texts = Vec::new(alloc);

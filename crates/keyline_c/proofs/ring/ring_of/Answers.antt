@@ -1,4 +1,4 @@
-use Rattle.std.proofs.Common.{rules, ◌≡◌, ◌≤◌, ◌∙◌, ◌+◌, ◌-◌, ℕ, List, ◌∷◌, [], ◌++◌, length, take, slice_index_or, sym, ap, subst, refl, arith, suc}
+use Rattle.std.proofs.Common.{rules, ◌≡◌, ◌≤◌, ◌∙◌, ◌+◌, ◌-◌, ◌∷◌, [], length, take, slice_index_or, sym, ap, subst, arith, suc}
 use Rattle.line_record.specs.Ring.{Ring}
 use Rattle.keyline_c.specs.Slots.{AreLaidOut, IsSlot}
 use Rattle.keyline_c.proofs.SlotLemmas.{laid_to, slot_of, slots_count, slots_end, ring_stands}
@@ -17,7 +17,7 @@ loop-end-preserved c =
     let added = c.in_ok-add_slot.ensures in
     record {
       laid_out = subst (λ (r : Ring). AreLaidOut r.slots (take end texts) (take (l.end-index + 1) ends)) (sym added)
-          (laid_to texts ends l.ring.slots l.start l.end-index text c.loop-end-test.true slot.on slot.inside slot.slot_is l.invariant.laid_out);
+          (laid_to texts ends l.ring.slots l.start l.end-index text c.loop-end-test.true slot.in_order slot.inside slot.slot_is l.invariant.laid_out);
       ring_is = filled l.ring.slots text c.add_slot.new.ring added;
       count = one_more l.ring.slots text c.add_slot.new.ring l.end-index added l.invariant.count;
       utf8 = texts_more l.ring.slots text c.add_slot.new.ring added l.invariant.utf8 slot.utf8;
