@@ -1,6 +1,6 @@
 //! Devices in boxes, so that a session is moved without them.
 
-ghost use Rattle.std.specs.Prelude.{◌≡◌, IfErr, IfOk};
+ghost use Rattle.std.specs.Prelude.{◌≡◌, IfErr, IfOk, MatchResult};
 
 use line_config::{DeviceFailed, Sink, Source};
 use std::alloc::Global;
@@ -91,10 +91,9 @@ impl<S, D, L> Devices<S, D, L> {
     /// Where there is no memory for the boxes the devices come back.
     #[inline(never)]
     pub(crate) fn new(alloc: Global, source: S, display: D, lines: L) -> Result<Self, (S, D, L)>
-        ensures source { IfOk result (λ devices. devices.source ≡ source) }
-        ensures display { IfOk result (λ devices. devices.display ≡ display) }
-        ensures lines { IfOk result (λ devices. devices.lines ≡ lines) }
-        ensures back { IfErr result (λ back. back ≡ (source, display, lines)) }
+        ensures { MatchResult result
+            (λ it. (it.source ≡ source) × (it.display ≡ display) × (it.lines ≡ lines))
+            (λ back. back ≡ (source, display, lines)) }
     {
         let source = match Boxed::new(alloc, source) {
             Ok(source) => source,

@@ -10,7 +10,7 @@ use Rattle.keyline.proofs.session.Session.open.Goals as goal
 
 pub returns-in-Err-clause-refused : goal.returns-in-Err-clause-refused
 returns-in-Err-clause-refused g c =
-    let back = c.in-Err.ensures.back in
+    let back = c.in-Err.ensures in
     subst (Unopens g.F.Source.feed c.args.config c.args.history c.args.source c.args.display c.args.lines c.args.text) (sym c.new-in-Err.ensures)
     (record {
       fault = (c.requires.history, λ t. none_read _);
@@ -31,11 +31,11 @@ returns-clause-desk g c =
     record {
       loaded = loaded_where _ _ _ (λ always. always c.begin.new.source) c.in-Ok-begin.ensures.ok.history;
       ring = c.in-Ok-begin.ensures.ok.ring;
-      coming = subst Comes devices.source c.new-2.ensures.coming c.requires.source ∙ mode;
-      source_is = c.new-2.ensures.source ∙ devices.source;
+      coming = subst Comes devices.0 c.new-2.ensures.coming c.requires.source ∙ mode;
+      source_is = c.new-2.ensures.source ∙ devices.0;
       kept = c.new-2.ensures.kept;
       screen = search rules;
-      display_is = c.new-3.ensures.sink ∙ devices.display;
+      display_is = c.new-3.ensures.sink ∙ devices.1;
       helper_is = refl;
-      lines_are = devices.lines;
+      lines_are = devices.2;
     }
