@@ -387,8 +387,10 @@ def a_body_ensures_what_its_case_is_of():
     heads = re.findall(r"fn (twice_\w+)[^\n]*\n(.*?)\n\{", wrong_bodies.read(os.path.join(room, "src/lib.rt")), re.DOTALL)
     one, other = (f"    ensures {it} {{ result.{at} \u2261 n }}" for at, it in enumerate(("one", "other")))
     same("what each ensures", dict(heads), {"twice_neither": other, "twice_one_of_two": f"{one}\n{other}"})
-    for name, kept in (("neither", lemma + answers[1]), ("one_of_two", lemma + "".join(answers))):
+    alone = answers[1].replace("returns-clause-other", "returns")
+    for name, kept in (("neither", lemma + alone), ("one_of_two", lemma + "".join(answers))):
         same(f"the answers of {name}", wrong_bodies.read(os.path.join(room, f"proofs/twice_{name}/Answers.antt")), kept)
+    same("which goals of its clause have answers", crate.answered("small::twice_neither"), {"returns"})
     sums = [{it.name: its.sum_of(it) for it in its.edits} for its in (crate, small.crate())]
     same("whose sum its case is of", [it for it in sums[0] if sums[0][it] != sums[1][it]], ["neither"])
 

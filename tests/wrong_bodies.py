@@ -158,8 +158,11 @@ def clause_of(case, own):
 
 
 def of_clause(text, clause):
-    """A stored proof's text less the answers of goals of other clauses."""
-    return ANSWER.sub(lambda it: it[0] if clause in (None, it[2]) else "", text)
+    """A stored proof's text less the answers of goals of other clauses than one: a function that ensures that one alone
+    has no goal with a clause's name."""
+    if clause is None:
+        return text
+    return re.sub(rf"-clause-{clause}\b", "", ANSWER.sub(lambda it: it[0] if it[2] == clause else "", text))
 
 
 class Crate:
@@ -214,12 +217,16 @@ class Crate:
         paths = {path for edit in group for path in edit.paths()}
         return {it for it in paths if PROOF_FILES[0] not in self.stored(it)}
 
+    def ensured_by(self, path):
+        """The clause that a function ensures alone in a check; None where it ensures what the right one does."""
+        return next((it.clause for it in self.edits if path in it.right), None)
+
     def answered(self, path):
         """The goals that the function's proof files have answers for; None where it has no such file."""
-        files = self.stored(path).values()
+        files, clause = self.stored(path).values(), self.ensured_by(path)
         if not files:
             return None
-        return {goal for file in files for goal in re.findall(r"\bgoal\.([\w-]+)", read(file))}
+        return {goal for file in files for goal in re.findall(r"\bgoal\.([\w-]+)", of_clause(read(file), clause))}
 
     def texts(self, group):
         """The crate's files with a group's bodies, and stand-ins for all right ones."""

@@ -2,7 +2,7 @@
 
 use crate::table;
 use keyline::ReadlineError;
-use sqlite::{Connection, Error, MemStore, Row};
+use sqlite::{Connection, Error, MemStore, Row, Statement};
 use sqlite_value::value::ValueRef;
 use std::alloc::{AllocError, Global};
 
@@ -52,16 +52,30 @@ fn run(alloc: Global, conn: &mut Connection<MemStore>, sql: &str) -> Result<Answ
     if statement.column_count() == 0 {
         return Ok(Answer::Changed(statement.execute(conn, &[])?));
     }
+    let mut rows = Vec::new(alloc);
+    rows.push(head_of(alloc, &statement)?)?;
+    add_rows(alloc, conn, &statement, &mut rows)?;
+    Ok(Answer::Rows(rows))
+}
+
+fn head_of(alloc: Global, statement: &Statement) -> Result<Vec<String>, AllocError> {
     let mut head = Vec::new(alloc);
     for name in statement.column_names() {
         head.push(text_of(alloc, name.as_slice())?)?;
     }
-    let mut rows = Vec::new(alloc);
-    rows.push(head)?;
+    Ok(head)
+}
+
+fn add_rows(
+    alloc: Global,
+    conn: &mut Connection<MemStore>,
+    statement: &Statement,
+    rows: &mut Vec<Vec<String>>,
+) -> Result<(), Error> {
     for row in statement.query_all(conn, &[])? {
         rows.push(cells_of(alloc, &row)?)?;
     }
-    Ok(Answer::Rows(rows))
+    Ok(())
 }
 
 fn cells_of(alloc: Global, row: &Row) -> Result<Vec<String>, Error> {
