@@ -6,7 +6,7 @@ use Rattle.line_help.specs.HistoryText.{text_to_save}
 use Rattle.keyline_c.specs.Rooms.{RoomTexts, GivesDisplay, GivesTexts, IsPut, MayBePut, room_texts, with_display}
 use Rattle.keyline_c.specs.Slots.{AreSlots}
 use Rattle.keyline_c.specs.Statuses.{ended_as}
-use Rattle.keyline_c.specs.Steps.{Gives, GivesBy, GivesEnd, TakesMemory, line_text, texts_left, with_end}
+use Rattle.keyline_c.specs.Steps.{Gives, GivesBy, GivesEnd, TakesMemory, accepted_text, texts_left, with_end}
 use Rattle.keyline_c.specs.declared.export.KeylineStep.{KeylineStep}
 use Rattle.keyline_c.specs.declared.line.Left.{Left}
 use Rattle.keyline_c.specs.declared.ring.Slots.{Slots}
@@ -86,7 +86,7 @@ module _ (held : VecSink → List ℕ) (sent keys : ℕ) (left : Left) (old : Ro
     texts_told new (Err _) told h = absurd h
 
     -- the others were put behind it, or one of them had no room
-    pub end_given : {A : Type 0} (mid new : RoomTexts) (text history : List ℕ) (result : Result A Status) → text ≡ line_text left → history ≡ text_to_save left.history
+    pub end_given : {A : Type 0} (mid new : RoomTexts) (text history : List ℕ) (result : Result A Status) → text ≡ accepted_text left → history ≡ text_to_save left.history
         → mid ≡ record old { display = mid.display } → step' ≡ with_display bytes sent between → IsPut (drop sent bytes) old.display mid.display
         → GivesTexts (room_texts [] text history slots.texts.items slots.ends.items) mid new result → GivesEnd held sent keys left old new step step' result
     end_given mid new text history result is_text is_history same told put h =

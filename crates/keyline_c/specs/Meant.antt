@@ -18,12 +18,12 @@ use Rattle.keyline_c.specs.declared.status.Status.{Status}
 use Rattle.keyline_c.specs.declared.status.Status.TheVariants.{Argument, Memory}
 
 -- as `keyline.h` numbers the keymaps
-abbrev pub mode_of : ℕ → Option EditMode
-mode_of code = if code == 0 then Some Emacs else if code == 1 then Some Vi else None
+abbrev pub mode_numbered : ℕ → Option EditMode
+mode_numbered code = if code == 0 then Some Emacs else if code == 1 then Some Vi else None
 
 -- these are the options of a line behind this prompt
 pub record AreMeant (options : KeylineOptions) (prompt : List ℕ) (o : Options) : Type 0 where
-  pub mode_is : mode_of options.mode ≡ Some o.mode
+  pub mode_is : mode_numbered options.mode ≡ Some o.mode
   pub columns_are : o.columns ≡ options.columns
   pub few : (2 ≤ o.columns) × (o.columns ≤ 1000)
   pub prompt_is : string_bytes o.prompt ≡ prompt
@@ -35,7 +35,7 @@ pub record AreMeant (options : KeylineOptions) (prompt : List ℕ) (o : Options)
 abbrev pub OptionsMean : KeylineOptions → List ℕ → Result Options Status → Type 0
 OptionsMean options prompt (Ok o) = AreMeant options prompt o
 OptionsMean options prompt (Err Argument) = (o : Options) → AreMeant options prompt o → ⊥
-OptionsMean options prompt (Err Memory) = (mode_of options.mode ≢ None)
+OptionsMean options prompt (Err Memory) = (mode_numbered options.mode ≢ None)
     × (2 ≤ options.columns) × (options.columns ≤ 1000) × IsUtf8 prompt
 OptionsMean options prompt (Err status) = ⊥
 

@@ -13,18 +13,18 @@ use Rattle.keyline_c.specs.declared.ring.Slots.{Slots}
 use Rattle.keyline_c.specs.declared.status.Status.{Status}
 use Rattle.keyline_c.specs.declared.status.Status.TheVariants.{More, Argument, Memory}
 
-abbrev pub line_text : Left → List ℕ
-line_text left = result_unwrap_or (made_of string_bytes left.outcome) []
+abbrev pub accepted_text : Left → List ℕ
+accepted_text left = result_unwrap_or (made_of string_bytes left.outcome) []
 
 -- the texts of a line that has ended: its display bytes are those that are new
 abbrev pub texts_left : (VecSink → List ℕ) → ℕ → Left → Slots → RoomTexts
-texts_left held sent left slots = room_texts (drop sent (held left.display)) (line_text left)
+texts_left held sent left slots = room_texts (drop sent (held left.display)) (accepted_text left)
     (text_to_save left.history) slots.texts.items slots.ends.items
 
 -- their lengths, of so many key bytes
 abbrev pub with_end : ℕ → Left → Slots → KeylineStep → KeylineStep
 with_end keys left slots step = record step {
-  line = length (line_text left);
+  line = length (accepted_text left);
   keys = keys - left.rest;
   history = length (text_to_save left.history);
   kills = length slots.texts.items;

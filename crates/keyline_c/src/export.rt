@@ -7,7 +7,7 @@ ghost use Rattle.line_keys.specs.Coming.{made_of};
 ghost use Rattle.keyline_c.specs.declared.status.Status.TheVariants.{Memory};
 ghost use Rattle.keyline_c.specs.Call.{Answers, Calls, status_in};
 ghost use Rattle.keyline_c.specs.Lines.{IsRefused, ReadsKeys};
-ghost use Rattle.keyline_c.specs.Meant.{HistoryMeans, OptionsMean, WordsMean, mode_of};
+ghost use Rattle.keyline_c.specs.Meant.{HistoryMeans, OptionsMean, WordsMean, mode_numbered};
 ghost use Rattle.keyline_c.specs.Rooms.{GivesDisplay, GivesTexts, SameRooms, room_texts, texts_in};
 ghost use Rattle.keyline_c.specs.Steps.{Gives, GivesEnd};
 
@@ -85,8 +85,8 @@ struct Rooms<'r> {
     ends: &'r mut [usize],
 }
 
-fn mode_of(code: u8) -> Option<EditMode>
-    ensures { result ≡ mode_of code }
+fn mode_numbered(code: u8) -> Option<EditMode>
+    ensures { result ≡ mode_numbered code }
 {
     match code {
         0 => Some(EditMode::Emacs),
@@ -99,7 +99,7 @@ fn mode_of(code: u8) -> Option<EditMode>
 fn options_of(alloc: Global, options: &KeylineOptions, prompt: &[u8]) -> Result<Options, Status>
     ensures { OptionsMean options.now prompt.now result }
 {
-    let mode = mode_of(options.mode).ok_or(Status::Argument)?;
+    let mode = mode_numbered(options.mode).ok_or(Status::Argument)?;
     if options.columns < 2 || options.columns > 1000 {
         return Err(Status::Argument);
     }

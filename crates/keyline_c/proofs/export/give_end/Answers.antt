@@ -2,7 +2,7 @@ use Rattle.std.proofs.Common.{rules, ◌≡◌, inl, inr, refl}
 use Rattle.std.specs.Prelude.{⊤}
 use Rattle.line_help.specs.HistoryText.{text_to_save}
 use Rattle.keyline_c.specs.Rooms.{texts_in, with_display}
-use Rattle.keyline_c.specs.Steps.{line_text, with_end}
+use Rattle.keyline_c.specs.Steps.{accepted_text, with_end}
 use Rattle.keyline_c.proofs.StepLemmas.{display_lacks, end_given, memory_lacks}
 use Rattle.keyline_c.proofs.export.give_end.Goals as goal
 
@@ -23,7 +23,7 @@ pub returns-clause-gives : goal.returns-clause-gives
 returns-clause-gives c =
     let slots = c.in_ok-slots.slots in
     let told = with_end c.args.keys c.args.left slots c.args.step.now in
-    let text : c.as_bytes.result.now ≡ line_text c.args.left = search rules in
+    let text : c.as_bytes.result.now ≡ accepted_text c.args.left = search rules in
     let history : c.deref.result.now ≡ text_to_save c.args.left.history = search rules in
     let step : c.give_display.new.step ≡ with_display c.bytes.result.now c.args.sent told = search rules in
     end_given _ c.args.sent c.args.keys c.args.left (texts_in c.args.rooms.now) c.args.step.now slots told c.give_display.new.step c.bytes.result.now
