@@ -1,7 +1,7 @@
 -- Arguments that can't be meant, and a line of those that can.
-use Rattle.std.proofs.Common.{◌≡◌, List, ℕ, length, inl, inr, sym, subst}
+use Rattle.std.proofs.Common.{◌≡◌, ◌≤◌, List, ℕ, length, inl, inr, sym, subst}
 use Rattle.std.proofs.lemmas.Str.{IsUtf8-string_bytes}
-use Rattle.std.specs.Prelude.{Option, Result, Ok, Err, IsErrAnd, MatchResult}
+use Rattle.std.specs.Prelude.{Option, Some, Result, Ok, Err, IsErrAnd, MatchResult}
 use Rattle.std.specs.Str.{IsUtf8}
 use Rattle.line_config.specs.Feed.{Feed}
 use Rattle.line_config.specs.declared.memory.SliceSource.{SliceSource}
@@ -14,7 +14,7 @@ use Rattle.keyline.specs.Program.{config_of, program_given}
 use Rattle.keyline.specs.Sessions.{state_over}
 use Rattle.keyline.specs.declared.options.Options.{Options}
 use Rattle.keyline_c.specs.Lines.{IsRefused, IsWant, ReadsKeys, ReadsLine, last_of}
-use Rattle.keyline_c.specs.Meant.{AreMeant, HistoryMeans, OptionsMean, WordsMean, whole, words_in}
+use Rattle.keyline_c.specs.Meant.{AreMeant, HistoryMeans, OptionsMean, WordsMean, mode_numbered, whole, words_in}
 use Rattle.keyline_c.specs.Slots.{IsRingOf, RingMeans}
 use Rattle.keyline_c.specs.Statuses.{refused_as}
 use Rattle.keyline_c.specs.declared.export.KeylineOptions.{KeylineOptions}
@@ -48,28 +48,34 @@ pub line_refused : {A : Type 0} (Q : A → Type 0) (R : Status → Type 0) (resu
 line_refused Q R (Ok left) e is why = absurd is
 line_refused Q R (Err x) e is why = subst R (sym is) why
 
+-- where they are meant, they can be
+can_be_meant : (options : KeylineOptions) (prompt : List ℕ) (o : Options) → AreMeant options prompt o → OptionsMean options prompt (Err Memory)
+can_be_meant options prompt o h =
+    let mode : mode_numbered options.mode ≡ Some o.mode = h.mode_is in
+    (λ none. cc, subst (λ n. 2 ≤ n) h.columns_are h.few.0, subst (λ n. n ≤ 1000) h.columns_are h.few.1, subst IsUtf8 h.prompt_is (IsUtf8-string_bytes o.prompt))
+
 module _ (options : KeylineOptions) (prompt words history kills ends : List ℕ) where
   pub options_refused : (e : Status) → OptionsMean options prompt (Err e) → IsRefused options prompt words history kills ends e
   options_refused Argument h = inl h
-  options_refused Memory h = tt
+  options_refused Memory h = h
   options_refused _ h = absurd h
 
-  pub words_refused : (e : Status) → WordsMean words (Err e) → IsRefused options prompt words history kills ends e
-  words_refused Argument h = inr (inl h)
-  words_refused Memory h = tt
-  words_refused _ h = absurd h
+  pub words_refused : (o : Options) (e : Status) → AreMeant options prompt o → WordsMean words (Err e) → IsRefused options prompt words history kills ends e
+  words_refused o Argument meant h = inr (inl h)
+  words_refused o Memory meant h = can_be_meant options prompt o meant
+  words_refused o _ meant h = absurd h
 
   pub history_refused : (o : Options) (e : Status) → AreMeant options prompt o → HistoryMeans o history (Err e) → IsRefused options prompt words history kills ends e
   history_refused o Argument meant h = inr (inr (inl (o, meant, h)))
-  history_refused o Memory meant h = tt
+  history_refused o Memory meant h = can_be_meant options prompt o meant
   history_refused o _ meant h = absurd h
 
-  pub ring_refused : (e : Status) → RingMeans kills ends options.place (Err e) → IsRefused options prompt words history kills ends e
-  ring_refused Argument h = inr (inr (inr h))
-  ring_refused Memory h = tt
-  ring_refused _ h = absurd h
+  pub ring_refused : (o : Options) (e : Status) → AreMeant options prompt o → RingMeans kills ends options.place (Err e) → IsRefused options prompt words history kills ends e
+  ring_refused o Argument meant h = inr (inr (inr h))
+  ring_refused o Memory meant h = can_be_meant options prompt o meant
+  ring_refused o _ meant h = absurd h
 
-  pub want_refused : (e : ReadlineError) → IsWant e → IsRefused options prompt words history kills ends (refused_as e)
-  want_refused e (inl is) = subst (λ x. IsRefused options prompt words history kills ends (refused_as x)) (sym is) tt
-  want_refused e (inr (inl is)) = subst (λ x. IsRefused options prompt words history kills ends (refused_as x)) (sym is) tt
-  want_refused e (inr (inr is)) = subst (λ x. IsRefused options prompt words history kills ends (refused_as x)) (sym is) tt
+  pub want_refused : (o : Options) (e : ReadlineError) → AreMeant options prompt o → IsWant e → IsRefused options prompt words history kills ends (refused_as e)
+  want_refused o e meant (inl is) = subst (λ x. IsRefused options prompt words history kills ends (refused_as x)) (sym is) (can_be_meant options prompt o meant)
+  want_refused o e meant (inr (inl is)) = subst (λ x. IsRefused options prompt words history kills ends (refused_as x)) (sym is) (can_be_meant options prompt o meant)
+  want_refused o e meant (inr (inr is)) = subst (λ x. IsRefused options prompt words history kills ends (refused_as x)) (sym is) (can_be_meant options prompt o meant)

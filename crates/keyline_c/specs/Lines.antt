@@ -1,5 +1,5 @@
 -- A line of the keys so far: what is handed in for it, and what it leaves.
-use Rattle.std.specs.Prelude.{◌≡◌, ◌⊎◌, ⊤, ℕ, ◌<◌, ◌++◌, Bool, true, if◌then◌else◌, List, Result, Err, IsErrAnd, length, string_bytes}
+use Rattle.std.specs.Prelude.{◌≡◌, ◌⊎◌, ℕ, ◌<◌, ◌++◌, Bool, true, if◌then◌else◌, List, Result, Err, IsErrAnd, length, string_bytes}
 use Rattle.line_config.specs.Feed.{Feed}
 use Rattle.line_config.specs.declared.device.Last.{Last}
 use Rattle.line_config.specs.declared.device.Last.TheVariants.{End, Failed}
@@ -19,7 +19,7 @@ use Rattle.keyline.specs.Program.{config_of, program_given}
 use Rattle.keyline.specs.Plays.{loaded_from, loads}
 use Rattle.keyline.specs.Sessions.{Given, SessionState, breaks, history_after, line_bytes, line_in, state_over}
 use Rattle.keyline.specs.declared.options.Options.{Options}
-use Rattle.keyline_c.specs.Meant.{AreMeant, whole, words_in}
+use Rattle.keyline_c.specs.Meant.{AreMeant, OptionsMean, whole, words_in}
 use Rattle.keyline_c.specs.Slots.{IsRingOf}
 use Rattle.keyline_c.specs.declared.export.KeylineOptions.{KeylineOptions}
 use Rattle.keyline_c.specs.declared.line.Left.{Left}
@@ -82,8 +82,8 @@ module _ (options : KeylineOptions) (prompt words history kills ends : List ℕ)
       × (loads (config_of o) (whole history) ≡ Err HistoryText))
       ⊎ ((ring : Ring) → IsRingOf kills ends options.place ring → ⊥)))
 
-  -- why a line isn't read: that, or memory was wanting
+  -- why a line isn't read: that, or memory was wanting, and then its options can be meant
   abbrev pub IsRefused : Status → Type 0
   IsRefused Refusal.Argument = CantBeMeant
-  IsRefused Refusal.Memory = ⊤
+  IsRefused Refusal.Memory = OptionsMean options prompt (Err Refusal.Memory)
   IsRefused why = ⊥

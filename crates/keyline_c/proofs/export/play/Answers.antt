@@ -14,7 +14,7 @@ returns-in_err-chosen c =
 pub returns-in_err-words : goal.returns-in_err-words
 returns-in_err-words c =
     line_refused _ _ _ _ c.from_residual-in_err-words.ensures.1
-    (words_refused c.args.options.now c.args.handed.now.prompt.now c.args.handed.now.words.now c.args.handed.now.history.now c.args.handed.now.kills.now c.args.handed.now.ends.now _ c.in_err-words.ensures)
+    (words_refused c.args.options.now c.args.handed.now.prompt.now c.args.handed.now.words.now c.args.handed.now.history.now c.args.handed.now.kills.now c.args.handed.now.ends.now _ _ c.in_ok-chosen.ensures c.in_err-words.ensures)
 
 pub returns-in_err-history : goal.returns-in_err-history
 returns-in_err-history c =
@@ -24,9 +24,9 @@ returns-in_err-history c =
 pub returns-in_err-ring : goal.returns-in_err-ring
 returns-in_err-ring c =
     line_refused _ _ _ _ c.from_residual-in_err-ring.ensures.1
-    (ring_refused c.args.options.now c.args.handed.now.prompt.now c.args.handed.now.words.now c.args.handed.now.history.now c.args.handed.now.kills.now c.args.handed.now.ends.now _ c.in_err-ring.ensures)
+    (ring_refused c.args.options.now c.args.handed.now.prompt.now c.args.handed.now.words.now c.args.handed.now.history.now c.args.handed.now.kills.now c.args.handed.now.ends.now _ _ c.in_ok-chosen.ensures c.in_err-ring.ensures)
 
 pub returns-in_err-read_line : goal.returns-in_err-read_line
 returns-in_err-read_line c =
     line_refused _ _ _ _ c.from_residual-in_err-read_line.ensures.1
-    (want_refused c.args.options.now c.args.handed.now.prompt.now c.args.handed.now.words.now c.args.handed.now.history.now c.args.handed.now.kills.now c.args.handed.now.ends.now _ c.in_err-read_line.ensures)
+    (want_refused c.args.options.now c.args.handed.now.prompt.now c.args.handed.now.words.now c.args.handed.now.history.now c.args.handed.now.kills.now c.args.handed.now.ends.now _ _ c.in_ok-chosen.ensures c.in_err-read_line.ensures)
