@@ -1,12 +1,12 @@
 -- The hint taken into the line.
-use Rattle.std.proofs.Common.{◌≡◌, ℕ, Bool, true, false, List, refl, sym, ap, ◌∙◌, if◌then◌else◌}
-use Rattle.std.specs.Prelude.{Option, Some, None, is_some, option_map, Result, Ok, Err, IsErrAnd}
+use Rattle.std.proofs.Common.{◌≡◌, ℕ, Bool, true, false, List, sym, ap, ◌∙◌, if◌then◌else◌}
+use Rattle.std.specs.Prelude.{Option, Some, is_some, option_map, Result, Ok, Err, IsErrAnd}
 use Rattle.line_buffer.specs.Insertions.{yank as yanked_in}
 use Rattle.line_buffer.specs.Line.{Line}
 use Rattle.line_config.specs.declared.errors.ReadlineError.{ReadlineError}
 use Rattle.line_config.specs.declared.errors.ReadlineError.TheVariants.{Memory}
 use Rattle.line_edits.specs.Edits.{yanking, by}
-use Rattle.line_edits.specs.Steps.{answering, Edits as EditsRecorded}
+use Rattle.line_edits.specs.Steps.{Edits as EditsRecorded}
 use Rattle.line_edits.specs.Written.{Written, written, written_in}
 use Rattle.line_edits.specs.declared.recorded_line.RecordedLine.{RecordedLine}
 use Rattle.line_record.specs.Items.{held_on}
@@ -23,7 +23,8 @@ use Rattle.line_editor.specs.Values.{Value, Setting, then_do, rewritten, rewriti
 use Rattle.line_editor.specs.declared.renderer as renderers
 use Rattle.line_editor.specs.declared.state.State.{State}
 use Rattle.line_editor.proofs.DoesLemmas.{does_from, setting_stays}
-use Rattle.line_editor.proofs.YankLemmas.{put_is, is_put, drawn_behind_edit, put_drawn, put_refused}
+use Rattle.line_editor.proofs.EditLemmas.{edit_is, edit_then, edit_refused}
+use Rattle.line_editor.proofs.YankLemmas.{is_put}
 
 completed_is : (hint : Hinted) (completion : Option (List ℕ)) (s : Setting) (v : Value) → v.hint ≡ Some hint → hint.completion ≡ completion → completed_by completion s (at_row_end v) ≡ complete_hint s v
 completed_is hint completion s v shown is = sym (ap (λ x. complete_by x s v) shown ∙ ap (λ x. completed_by x s (at_row_end v)) is)
@@ -57,7 +58,7 @@ module _ {Out H Hi K T : Type 0} {renderer : renderers.Renderer.Ghosts Out} {com
       let v = at_row_end (value_of s) in
       beeps (rewritten (by (yanking text 1)) v) s m t result
       (taken_is false (hint.says x) text (setting_of s) (value_of s) (ap (option_map hint.says) shown) is (is_put false text 1 v old m.recorded put same wrote none))
-      (put_is text 1 v (value_of m) old m.recorded put same wrote rest) surface stays done
+      (edit_is (yanking text 1) v (value_of m) old m.recorded put same wrote rest) surface stays done
 
   -- it is
   pub hint_taken : {A E : Type 0} (x : T) (text : List ℕ) (s m t : State Out H Hi K T renderer completer candidate hinter hint highlighter validator history) (old : RecordedLine) (put : Option Bool)
@@ -66,11 +67,9 @@ module _ {Out H Hi K T : Type 0} {renderer : renderers.Renderer.Ghosts Out} {com
       → surface_of m ≡ surface_of s → Stays s m → Does refreshed m t result → Does complete_hint s t result
   hint_taken x text s m t old put result shown is same wrote some rest surface stays done =
       let v = at_row_end (value_of s) in
-      let edit = answering tt (yanking text 1 v.line) in
-      put_drawn complete_hint v edit s m t result
-      (ap (λ w. drawn_behind_edit v edit w (setting_of s)) (put_is text 1 v (value_of m) old m.recorded put same wrote rest)
-      ∙ taken_is true (hint.says x) text (setting_of s) (value_of s) (ap (option_map hint.says) shown) is (is_put true text 1 v old m.recorded put same wrote some))
-      surface stays done
+      edit_then complete_hint refreshed (yanking text 1) v s m t old m.recorded put result
+      (taken_is true (hint.says x) text (setting_of s) (value_of s) (ap (option_map hint.says) shown) is (is_put true text 1 v old m.recorded put same wrote some))
+      same wrote rest surface stays done
 
   -- memory was wanting for it
   pub hint_refused : {A E : Type 0} (x : T) (text : List ℕ) (s t : State Out H Hi K T renderer completer candidate hinter hint highlighter validator history) (old : RecordedLine)
@@ -80,6 +79,6 @@ module _ {Out H Hi K T : Type 0} {renderer : renderers.Renderer.Ghosts Out} {com
       → surface_of t ≡ surface_of s → Stays s t → Does complete_hint s t result
   hint_refused x text s t old result fault failed shown is same wrote some rest surface stays =
       let v = at_row_end (value_of s) in
-      put_refused complete_hint text 1 v (rewritten (by (yanking text 1)) v) s t old result fault failed
+      edit_refused complete_hint refreshed (yanking text 1) v s t old result fault failed
       (taken_is true (hint.says x) text (setting_of s) (value_of s) (ap (option_map hint.says) shown) is (ap (λ (w : Written). is_some (yanked_in text 1 w.line).answer) (sym same) ∙ some))
       same wrote rest surface stays

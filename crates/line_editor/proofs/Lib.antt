@@ -3,6 +3,7 @@ pub mod CommandsLead
 pub mod CompleteLemmas
 pub mod DoesLemmas
 pub mod DrawnLemmas
+pub mod EditLemmas
 pub mod GrowthLemmas
 pub mod HelpedLemmas
 pub mod HintLemmas

@@ -1,7 +1,11 @@
 -- An entry in place of the line, or the line that was left.
-use Rattle.std.proofs.Common.{◌≡◌, ℕ, true, take, refl, sym, ap, ◌∙◌}
-use Rattle.std.specs.Prelude.{Option, Some, length, Result, Err, Ok, IsErrAnd}
+use Rattle.std.proofs.Common.{◌≡◌, ℕ, true, List, take, refl, sym, ap, ◌∙◌}
+use Rattle.std.specs.Prelude.{⊤, Option, Some, length, Result, Err, Ok, IsErrAnd}
 use Rattle.line_config.specs.declared.errors.ReadlineError.{ReadlineError}
+use Rattle.line_config.specs.declared.errors.ReadlineError.TheVariants.{Memory}
+use Rattle.line_edits.specs.Edits.{updating_in_group}
+use Rattle.line_edits.specs.Steps.{Edits as EditsRecorded}
+use Rattle.line_record.specs.Items.{held_on}
 use Rattle.line_help.specs.Search.{Hit, entry_at, searched}
 use Rattle.line_help.specs.declared.completion as completions
 use Rattle.line_help.specs.declared.hint as hints
@@ -16,6 +20,7 @@ use Rattle.line_editor.specs.Values.{Transition, then_do}
 use Rattle.line_editor.specs.declared.renderer as renderers
 use Rattle.line_editor.specs.declared.state.State.{State}
 use Rattle.line_editor.proofs.DoesLemmas.{does_as, does_both, does_cut_by, does_from, setting_stays}
+use Rattle.line_editor.proofs.EditLemmas.{edit_then, edit_refused}
 
 module _ {Out H Hi K T : Type 0} {renderer : renderers.Renderer.Ghosts Out} {completer : completions.Completer.Ghosts H K} {candidate : completions.Candidate.Ghosts K}
     {hinter : hints.Hinter.Ghosts H T} {hint : hints.Hint.Ghosts T} {highlighter : highlights.Highlighter.Ghosts H} {validator : verdicts.Validator.Ghosts H} {history : histories.History.Ghosts Hi} where
@@ -53,3 +58,22 @@ module _ {Out H Hi K T : Type 0} {renderer : renderers.Renderer.Ghosts Out} {com
       let shown : Transition = entry_shown hit.idx hit.entry hit.pos in
       does_from shown (search_from dir place) s m t result
       (from_place shown place s m value stays ∙ sym (ap (λ (o : Option Hit). hit_shown o (setting_of s) (at_place place (value_of s))) found)) same stays h
+
+  -- ---- an entry put in place of the line
+
+  pub entry_put : {A E : Type 0} (index : ℕ) (entry : List ℕ) (pos : ℕ) (s m t : State Out H Hi K T renderer completer candidate hinter hint highlighter validator history) (answer : ⊤) (result : Result A ReadlineError)
+      → m.ctx.place ≡ index → EditsRecorded {E = E} (updating_in_group entry pos s.recorded.line) s.recorded m.recorded (Ok answer)
+      → value_of m ≡ record (value_of s) { line = m.recorded.line; held = held_on m.recorded.changes m.recorded.line.text; history = m.ctx.place }
+      → surface_of m ≡ surface_of s → Stays s m → Does refreshed m t result → Does (entry_shown index entry pos) s t result
+  entry_put index entry pos s m t answer result place wrote rest same stays h =
+      edit_then (entry_shown index entry pos) refreshed (updating_in_group entry pos) (at_place index (value_of s)) s m t s.recorded m.recorded answer result refl refl wrote
+      (rest ∙ ap (λ at. record (value_of s) { line = m.recorded.line; held = held_on m.recorded.changes m.recorded.line.text; history = at }) place) same stays h
+
+  -- memory was wanting for it
+  pub entry_refused : {A E : Type 0} (index : ℕ) (entry : List ℕ) (pos : ℕ) (s t : State Out H Hi K T renderer completer candidate hinter hint highlighter validator history) (result : Result A ReadlineError) (fault : E)
+      → IsErrAnd result (λ x. x ≡ Memory) → t.ctx.place ≡ index → EditsRecorded {A = ⊤} (updating_in_group entry pos s.recorded.line) s.recorded t.recorded (Err fault)
+      → value_of t ≡ record (value_of s) { line = t.recorded.line; held = held_on t.recorded.changes t.recorded.line.text; history = t.ctx.place }
+      → surface_of t ≡ surface_of s → Stays s t → Does (entry_shown index entry pos) s t result
+  entry_refused index entry pos s t result fault failed place wrote rest same stays =
+      edit_refused (entry_shown index entry pos) refreshed (updating_in_group entry pos) (at_place index (value_of s)) s t s.recorded result fault failed refl refl wrote
+      (rest ∙ ap (λ at. record (value_of s) { line = t.recorded.line; held = held_on t.recorded.changes t.recorded.line.text; history = at }) place) same stays

@@ -1,5 +1,5 @@
 -- A text put in, and what is drawn then.
-use Rattle.std.proofs.Common.{◌≡◌, ℕ, ◌||◌, Bool, true, false, List, [], ◌∷◌, refl, sym, ap, subst, ◌∙◌, if◌then◌else◌}
+use Rattle.std.proofs.Common.{◌≡◌, ℕ, ◌||◌, Bool, true, false, List, [], ◌∷◌, refl, sym, ap, ◌∙◌, if◌then◌else◌}
 use Rattle.std.specs.Prelude.{⊤, Option, is_some, Result, Ok, Err, IsErrAnd}
 use Rattle.line_buffer.specs.Insertions.{yank as yanked_in}
 use Rattle.line_buffer.specs.Line.{Line}
@@ -7,7 +7,7 @@ use Rattle.line_buffer.specs.declared.types.Anchor.{Anchor}
 use Rattle.line_config.specs.declared.errors.ReadlineError.{ReadlineError}
 use Rattle.line_config.specs.declared.errors.ReadlineError.TheVariants.{Memory}
 use Rattle.line_edits.specs.Edits.{yanking, by}
-use Rattle.line_edits.specs.Steps.{WriteSteps, answering, StopsIn, Edits as EditsRecorded}
+use Rattle.line_edits.specs.Steps.{WriteSteps, answering, Edits as EditsRecorded}
 use Rattle.line_edits.specs.Written.{Written, written, written_in}
 use Rattle.line_edits.specs.declared.recorded_line.RecordedLine.{RecordedLine}
 use Rattle.line_record.specs.Items.{held_on}
@@ -18,23 +18,16 @@ use Rattle.line_help.specs.declared.validate as verdicts
 use Rattle.line_help.specs.declared.history as histories
 use Rattle.line_editor.specs.Drawing.{refreshed}
 use Rattle.line_editor.specs.States.{value_of, setting_of, surface_of, Stays, Does}
-use Rattle.line_editor.specs.Steps.{Stops, SameBeside}
-use Rattle.line_editor.specs.Values.{Value, Setting, Effect, EditStep, Transition, then_do, unchanged, rewritten, written_of, at_line}
+use Rattle.line_editor.specs.Steps.{SameBeside}
+use Rattle.line_editor.specs.Values.{Value, Setting, Effect, Transition, then_do, unchanged, rewritten, written_of, at_line}
 use Rattle.line_editor.specs.Values.EditStep.{Edits}
 use Rattle.line_editor.specs.Yanking.{anchored, steps_over, behind_yank, yanked_by, put_yanked, yank_text}
 use Rattle.line_editor.specs.declared.renderer as renderers
 use Rattle.line_editor.specs.declared.state.State.{State}
-use Rattle.line_editor.proofs.DoesLemmas.{does_as, does_both, does_refused, edit_made, is_err}
-use Rattle.line_editor.proofs.StopsLemmas.{stops_editing}
+use Rattle.line_editor.proofs.DoesLemmas.{does_as, does_both, edit_made}
+use Rattle.line_editor.proofs.EditLemmas.{edit_is, edit_refused}
 
 -- ---- a text put into a line
-
--- what it makes of a value
-pub put_is : {E : Type 0} (text : List ℕ) (n : ℕ) (v w : Value) (old new : RecordedLine) (put : Option Bool) → written_in old ≡ written_of v
-    → EditsRecorded {E = E} (yanking text n old.line) old new (Ok put) → w ≡ record v { line = new.line; held = held_on new.changes new.line.text } → w ≡ rewritten (by (yanking text n)) v
-put_is text n v w old new put same wrote rest =
-    rest ∙ ap (λ l. record v { line = l; held = held_on new.changes new.line.text }) (wrote.writes.line ∙ ap (λ (x : Written). (by (yanking text n) x).line) same)
-    ∙ ap (λ x. record v { line = (by (yanking text n) (written_of v)).line; held = x }) (wrote.writes.held ∙ ap (λ (x : Written). (by (yanking text n) x).held) same)
 
 -- whether it was put in
 pub is_put : {E : Type 0} (b : Bool) (text : List ℕ) (n : ℕ) (v : Value) (old new : RecordedLine) (put : Option Bool) → written_in old ≡ written_of v
@@ -42,30 +35,16 @@ pub is_put : {E : Type 0} (b : Bool) (text : List ℕ) (n : ℕ) (v : Value) (ol
 is_put b text n v old new put same wrote found = ap (λ (w : Written). is_some (yanked_in text n w.line).answer) (sym same) ∙ ap is_some (sym wrote.writes.answers) ∙ found
 
 -- the line is drawn behind an edit of it
-abbrev pub drawn_behind_edit : Value → WriteSteps ⊤ → Value → Setting → Effect
+abbrev drawn_behind_edit : Value → WriteSteps ⊤ → Value → Setting → Effect
 drawn_behind_edit stands edit w s = record { value = (refreshed s w).value; steps = Edits stands edit ∷ (refreshed s w).steps }
 
 module _ {Out H Hi K T : Type 0} {renderer : renderers.Renderer.Ghosts Out} {completer : completions.Completer.Ghosts H K} {candidate : completions.Candidate.Ghosts K}
     {hinter : hints.Hinter.Ghosts H T} {hint : hints.Hint.Ghosts T} {highlighter : highlights.Highlighter.Ghosts H} {validator : verdicts.Validator.Ghosts H} {history : histories.History.Ghosts Hi} where
-  pub put_drawn : {A : Type 0} (whole : Transition) (stands : Value) (edit : WriteSteps ⊤) (s m t : State Out H Hi K T renderer completer candidate hinter hint highlighter validator history) (result : Result A ReadlineError)
+  put_drawn : {A : Type 0} (whole : Transition) (stands : Value) (edit : WriteSteps ⊤) (s m t : State Out H Hi K T renderer completer candidate hinter hint highlighter validator history) (result : Result A ReadlineError)
       → drawn_behind_edit stands edit (value_of m) (setting_of s) ≡ whole (setting_of s) (value_of s) → surface_of m ≡ surface_of s → Stays s m → Does refreshed m t result → Does whole s t result
   put_drawn whole stands edit s m t result is surface stays done =
       let first : Transition = λ a v. record { value = value_of m; steps = Edits stands edit ∷ [] } in
       does_as (then_do first refreshed) whole s t result is (does_both first refreshed s m t (tt {0}) result (edit_made first stands edit s m (tt {0}) refl surface stays) done)
-
-  -- memory was wanting for it
-  pub put_refused : {A E : Type 0} (whole : Transition) (text : List ℕ) (n : ℕ) (stands w : Value) (s t : State Out H Hi K T renderer completer candidate hinter hint highlighter validator history) (old : RecordedLine)
-      (result : Result A ReadlineError) (fault : E) → IsErrAnd result (λ x. x ≡ Memory) → drawn_behind_edit stands (answering tt (yanking text n stands.line)) w (setting_of s) ≡ whole (setting_of s) (value_of s)
-      → written_in old ≡ written_of stands → EditsRecorded {A = Option Bool} (yanking text n old.line) old t.recorded (Err fault) → SameBeside stands (value_of t)
-      → surface_of t ≡ surface_of s → Stays s t → Does whole s t result
-  put_refused {A} whole text n stands w s t old result fault failed is same wrote rest surface stays =
-      let canvas = renderer.canvas in
-      let edit = answering tt (yanking text n stands.line) in
-      subst (λ r. Does {A = A} whole s t r) (sym (is_err Memory result failed))
-      (does_refused whole s t Memory stays tt
-      (subst (λ (e : Effect). Stops canvas (canvas.ruler s.out) e.steps (surface_of s) Memory (value_of t) (surface_of t)) is
-      (stops_editing canvas (canvas.ruler s.out) stands edit (refreshed (setting_of s) w).steps (surface_of s) (surface_of t) Memory (value_of t) refl surface rest
-      (subst (λ (x : Written). StopsIn (answering tt (yanking text n x.line)) x (written_of (value_of t))) same wrote.left))))
 
 -- ---- a yank
 
@@ -83,11 +62,11 @@ yanked_is : {E : Type 0} (vi b : Bool) (text : List ℕ) (n : ℕ) (v w : Value)
 yanked_is vi true text n v w old new put same wrote found rest moved kept =
     let u = rewritten (by (yanking text n)) v in
     rest ∙ ap (λ l. record v { line = l; held = held_on new.changes w.line.text }) moved ∙ ap (λ t. record v { line = behind_yank vi new.line; held = held_on new.changes t }) kept
-    ∙ ap (λ (x : Value). at_line (behind_yank vi x.line) x) (put_is text n v _ old new put same wrote refl)
+    ∙ ap (λ (x : Value). at_line (behind_yank vi x.line) x) (edit_is (yanking text n) v _ old new put same wrote refl)
     ∙ ap (λ b. if b then at_line (behind_yank vi u.line) u else u) (sym (is_put true text n v old new put same wrote found))
 yanked_is vi false text n v w old new put same wrote found rest moved kept =
     let u = rewritten (by (yanking text n)) v in
-    put_is text n v w old new put same wrote (rest ∙ ap (λ l. record v { line = l; held = held_on new.changes w.line.text }) moved ∙ ap (λ t. record v { line = new.line; held = held_on new.changes t }) kept)
+    edit_is (yanking text n) v w old new put same wrote (rest ∙ ap (λ l. record v { line = l; held = held_on new.changes w.line.text }) moved ∙ ap (λ t. record v { line = new.line; held = held_on new.changes t }) kept)
     ∙ ap (λ b. if b then at_line (behind_yank vi u.line) u else u) (sym (is_put false text n v old new put same wrote found))
 
 module _ {Out H Hi K T : Type 0} {renderer : renderers.Renderer.Ghosts Out} {completer : completions.Completer.Ghosts H K} {candidate : completions.Candidate.Ghosts K}
@@ -128,7 +107,7 @@ module _ {Out H Hi K T : Type 0} {renderer : renderers.Renderer.Ghosts Out} {com
       → SameBeside (there anchor (value_of s)) (value_of t) → surface_of t ≡ surface_of s → Stays s t → Does (yank_text vi text anchor n) s t result
   yank_refused vi text anchor n s t old result fault failed same wrote put rest surface stays =
       let v = there anchor (value_of s) in
-      put_refused (yank_text vi text anchor n) text n v (yanked_by vi text n v) s t old result fault failed
+      edit_refused (yank_text vi text anchor n) (λ a u. refreshed a (yanked_by vi text n v)) (yanking text n) v s t old result fault failed
       (yank_is true vi text anchor n (setting_of s) (value_of s)
       (ap (λ x. x || steps_over anchor s.recorded.line) (ap (λ (w : Written). is_some (yanked_in text n w.line).answer) (sym same) ∙ put)))
       same wrote rest surface stays

@@ -1,5 +1,10 @@
-use Rattle.std.proofs.Common.{ap, ◌∙◌}
+use Rattle.std.proofs.Common.{refl, sym, ap, ◌∙◌}
+use Rattle.std.specs.Prelude.{is_some, not}
+use Rattle.line_edits.specs.Edits.{typing}
+use Rattle.line_editor.specs.Inserting.{may_be_typed, inserted_shown, insert_char}
+use Rattle.line_editor.specs.States.{value_of, setting_of}
 use Rattle.line_editor.specs.Known.{known_within}
+use Rattle.line_editor.proofs.EditLemmas.{char_put, char_put_by, nothing_typed, edit_then, edit_refused}
 use Rattle.line_editor.proofs.KnownLemmas.{typed_known}
 use Rattle.line_editor.proofs.state.State.edit_insert.Goals as goal
 
@@ -9,4 +14,38 @@ invariant_of-self-2 g c =
     record {
       is_known = typed_known (g.Out.Renderer.canvas.ruler s.out).measure s.layout.prompt_size c.args.ch c.args.n s.recorded.line _ s.known _
           c.in_ok-inserted.ensures.writes.writes.line (c.known_within-known.ensures ∙ ap (λ place. known_within place s.known) c.pos.ensures.value) s.is_known;
+    }
+
+pub returns-in_err-inserted : goal.returns-in_err-inserted
+returns-in_err-inserted g c =
+    let s = c.args.self.now in
+    let shown = inserted_shown c.args.ch (may_be_typed c.args.ch c.args.n (value_of s)) in
+    record {
+      does = edit_refused (insert_char c.args.ch c.args.n) shown (typing c.args.ch c.args.n)
+          (value_of s) s _ _ _ _ c.from_residual.ensures.1
+          (char_put c.args.ch c.args.n (setting_of s) (value_of s) c.in_err-inserted.ensures.refused)
+          refl c.in_err-inserted.ensures.writes refl refl
+          (record { ruler = refl; prompt = refl; history_is = refl; hooks_are = refl; marks_are = refl });
+    }
+
+pub returns-then-is_none : goal.returns-then-is_none
+returns-then-is_none g c = record {
+  does = nothing_typed c.args.ch c.args.n c.args.self.now _ _ _
+      (c.is_none.ensures ∙ ap not c.if-is_none.true) c.in_ok-inserted.ensures.writes refl refl
+      (record { ruler = refl; prompt = refl; history_is = refl; hooks_are = refl; marks_are = refl });
+}
+
+pub returns : goal.returns
+returns g c =
+    let s = c.args.self.now in
+    record {
+      does = edit_then (insert_char c.args.ch c.args.n)
+          (inserted_shown c.args.ch c.may_be_typed-alone.result) (typing c.args.ch c.args.n)
+          (value_of s) s _ _ _ _ _ _
+          (char_put_by c.args.ch c.args.n c.may_be_typed-alone.result (setting_of s) (value_of s)
+              (ap is_some (sym c.in_ok-inserted.ensures.writes.writes.answers)
+              ∙ c.is_none.ensures ∙ ap not c.if-is_none.false) c.may_be_typed-alone.ensures)
+          refl c.in_ok-inserted.ensures.writes refl refl
+          (record { ruler = refl; prompt = refl; history_is = refl; hooks_are = refl; marks_are = refl })
+          c.show_inserted.ensures.does;
     }
