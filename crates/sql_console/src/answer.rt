@@ -8,18 +8,18 @@ use std::alloc::{AllocError, Global};
 
 /// The names of the tables; none where they can't be read.
 pub(crate) fn tables(alloc: Global, conn: &mut Connection<MemStore>) -> Vec<String> {
-    match try_tables(alloc, conn) {
-        Ok(names) => names,
-        Err(_) => Vec::new(alloc),
+    let mut names = Vec::new(alloc);
+    if add_tables(conn, &mut names).is_err() {
+        names.clear();
     }
+    names
 }
 
-fn try_tables(alloc: Global, conn: &mut Connection<MemStore>) -> Result<Vec<String>, Error> {
-    let mut names = Vec::new(alloc);
-    for row in conn.query_all("SELECT name FROM sqlite_schema WHERE type = 'table'", &[])? {
+fn add_tables(conn: &mut Connection<MemStore>, names: &mut Vec<String>) -> Result<(), Error> {
+    for row in &conn.query_all("SELECT name FROM sqlite_schema WHERE type = 'table'", &[])? {
         names.push(row.get(0)?)?;
     }
-    Ok(names)
+    Ok(())
 }
 
 /// Runs a statement and prints its rows, how many it changed, or why it was refused.
@@ -49,13 +49,34 @@ enum Answer {
 
 fn run(alloc: Global, conn: &mut Connection<MemStore>, sql: &str) -> Result<Answer, Error> {
     let statement = conn.prepare(sql)?;
+    answer_of(alloc, conn, &statement)
+}
+
+fn answer_of(
+    alloc: Global,
+    conn: &mut Connection<MemStore>,
+    statement: &Statement,
+) -> Result<Answer, Error> {
     if statement.column_count() == 0 {
         return Ok(Answer::Changed(statement.execute(conn, &[])?));
     }
     let mut rows = Vec::new(alloc);
-    rows.push(head_of(alloc, &statement)?)?;
-    add_rows(alloc, conn, &statement, &mut rows)?;
+    add_rows(alloc, conn, statement, &mut rows)?;
     Ok(Answer::Rows(rows))
+}
+
+/// Adds the names of the columns, and then the rows.
+fn add_rows(
+    alloc: Global,
+    conn: &mut Connection<MemStore>,
+    statement: &Statement,
+    rows: &mut Vec<Vec<String>>,
+) -> Result<(), Error> {
+    rows.push(head_of(alloc, statement)?)?;
+    for row in &statement.query_all(conn, &[])? {
+        rows.push(cells_of(alloc, row)?)?;
+    }
+    Ok(())
 }
 
 fn head_of(alloc: Global, statement: &Statement) -> Result<Vec<String>, AllocError> {
@@ -64,18 +85,6 @@ fn head_of(alloc: Global, statement: &Statement) -> Result<Vec<String>, AllocErr
         head.push(text_of(alloc, name.as_slice())?)?;
     }
     Ok(head)
-}
-
-fn add_rows(
-    alloc: Global,
-    conn: &mut Connection<MemStore>,
-    statement: &Statement,
-    rows: &mut Vec<Vec<String>>,
-) -> Result<(), Error> {
-    for row in statement.query_all(conn, &[])? {
-        rows.push(cells_of(alloc, &row)?)?;
-    }
-    Ok(())
 }
 
 fn cells_of(alloc: Global, row: &Row) -> Result<Vec<String>, Error> {

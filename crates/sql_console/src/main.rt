@@ -7,12 +7,20 @@ mod statements;
 mod table;
 
 use crate::statements::Statements;
-use keyline::{Ending, HelperParts, LineEditor, ReadlineError, WordCompleter, standard_builder};
+use keyline::{
+    Ending, HelperParts, LineEditor, Nowhere, ReadlineError, StandardKeys, WordCompleter,
+    WriteSink, standard_builder,
+};
 use sqlite::Connection;
+use std::io::Stderr;
 use std::process::ExitCode;
 
+type Help = HelperParts<WordCompleter, (), (), Statements>;
+
+type Editor = LineEditor<StandardKeys, Help, WriteSink<Stderr>, Nowhere, Nowhere>;
+
 /// Completes the names of tables, and waits for the end of a statement.
-fn helper(tables: Vec<String>) -> HelperParts<WordCompleter, (), (), Statements> {
+fn helper(tables: Vec<String>) -> Help {
     HelperParts {
         completer: WordCompleter::new(tables),
         hinter: (),
@@ -22,15 +30,9 @@ fn helper(tables: Vec<String>) -> HelperParts<WordCompleter, (), (), Statements>
 }
 
 /// Reads statements and answers them, until `.quit` or the end of the input.
-fn console(rt: &HostRuntime) -> Result<Ending, ReadlineError> {
-    let alloc = rt.alloc();
-    let mut conn = Connection::open_in_memory(alloc)?;
-    let session = standard_builder(rt)
-        .bindings(keys::bindings(alloc)?)
-        .helper(helper(Vec::new(alloc)))
-        .open()?;
-    let mut editor = LineEditor::new(session);
-    let mut statement = String::new(alloc);
+fn converse(rt: &HostRuntime, editor: &mut Editor) -> Result<(), ReadlineError> {
+    let mut conn = Connection::open_in_memory(rt.alloc())?;
+    let mut statement = String::new(rt.alloc());
     for _ in 0..u64::MAX {
         let prompt = if statement.is_empty() {
             "sql> "
@@ -46,19 +48,29 @@ fn console(rt: &HostRuntime) -> Result<Ending, ReadlineError> {
             ".quit" => break,
             text if text.starts_with('.') || text.ends_with(';') => {
                 answer::print(rt, &mut conn, text)?;
-                editor.set_helper(Some(helper(answer::tables(alloc, &mut conn))));
+                editor.set_helper(Some(helper(answer::tables(rt.alloc(), &mut conn))));
                 statement.clear();
             }
             _ => {}
         }
     }
-    Ok(editor.finish().ending)
+    Ok(())
+}
+
+fn console(rt: &HostRuntime) -> Result<Ending, ReadlineError> {
+    let bindings = keys::bindings(rt.alloc())?;
+    let session = standard_builder(rt)
+        .bindings(bindings)
+        .helper(helper(Vec::new(rt.alloc())))
+        .open()?;
+    let mut editor = LineEditor::new(session);
+    let answered = converse(rt, &mut editor);
+    let ending = editor.finish().ending;
+    answered?;
+    Ok(ending)
 }
 
 fn main(rt: HostRuntime) -> ExitCode {
-    let ending = match console(&rt) {
-        Ok(ending) => ending,
-        Err(refusal) => Ending::from(refusal),
-    };
+    let ending = console(&rt).unwrap_or_else(Ending::from);
     ExitCode::from(ending.status())
 }
