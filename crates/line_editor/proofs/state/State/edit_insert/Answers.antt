@@ -43,8 +43,8 @@ returns g c =
           (inserted_shown c.args.ch c.may_be_typed-alone.result) (typing c.args.ch c.args.n)
           (value_of s) s _ _ _ _ _ _
           (char_put_by c.args.ch c.args.n c.may_be_typed-alone.result (setting_of s) (value_of s)
-              (ap is_some (sym c.in_ok-inserted.ensures.writes.writes.answers)
-              ∙ c.is_none.ensures ∙ ap not c.if-is_none.false) c.may_be_typed-alone.ensures)
+          (ap is_some (sym c.in_ok-inserted.ensures.writes.writes.answers)
+          ∙ c.is_none.ensures ∙ ap not c.if-is_none.false) c.may_be_typed-alone.ensures)
           refl c.in_ok-inserted.ensures.writes refl refl
           (record { ruler = refl; prompt = refl; history_is = refl; hooks_are = refl; marks_are = refl })
           c.show_inserted.ensures.does;

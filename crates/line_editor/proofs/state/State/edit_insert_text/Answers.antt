@@ -13,7 +13,7 @@ returns-in_err-insert_text g c =
       does = edit_refused (insert_text c.args.text.now) refreshed (putting_behind c.args.text.now)
           (value_of s) s _ _ _ _ c.from_residual.ensures.1
           (text_put c.args.text.now (setting_of s) (value_of s)
-              (sym c.is_empty.ensures ∙ c.if-is_empty.false)) refl c.in_err-insert_text.ensures refl
+          (sym c.is_empty.ensures ∙ c.if-is_empty.false)) refl c.in_err-insert_text.ensures refl
           refl
           (record { ruler = refl; prompt = refl; history_is = refl; hooks_are = refl; marks_are = refl });
     }
@@ -25,7 +25,7 @@ returns g c =
       does = edit_then (insert_text c.args.text.now) refreshed (putting_behind c.args.text.now)
           (value_of s) s _ _ _ _ _ _
           (text_put c.args.text.now (setting_of s) (value_of s)
-              (sym c.is_empty.ensures ∙ c.if-is_empty.false)) refl c.in_ok-insert_text.ensures refl
+          (sym c.is_empty.ensures ∙ c.if-is_empty.false)) refl c.in_ok-insert_text.ensures refl
           refl
           (record { ruler = refl; prompt = refl; history_is = refl; hooks_are = refl; marks_are = refl })
           c.refresh.ensures.does;

@@ -22,10 +22,10 @@ returns-clause-does g c =
     edit_then (kill_effect c.args.movement.now) (show_taken (value_of s))
     (killing c.args.movement.now) (value_of s) s _ _ _ _ _ _
     (part_killed c.args.movement.now (setting_of s) (value_of s)
-        (sym c.in_ok-killed.ensures.writes.writes.answers ∙ c.if-not-killed.false)) refl
+    (sym c.in_ok-killed.ensures.writes.writes.answers ∙ c.if-not-killed.false)) refl
     c.in_ok-killed.ensures.writes refl refl
     (record { ruler = refl; prompt = refl; history_is = refl; hooks_are = refl; marks_are = refl })
     (taken_by _ _ (value_of s) (kill_line c.args.movement.now s.recorded.line) _ _ _
     (ap (λ n. n - c.len.result) c.len-before.ensures ∙ ap (λ n. length s.recorded.line.text - n)
-        c.len.ensures) c.may_be_taken-alone.ensures c.in_ok-killed.ensures.writes.writes.line
+    c.len.ensures) c.may_be_taken-alone.ensures c.in_ok-killed.ensures.writes.writes.line
     c.show_killed.ensures.does)

@@ -28,8 +28,8 @@ returns-then-written g c =
           (value_of s) s _ _ _ _ _ _ refl refl c.in_ok-written.ensures refl refl
           (record { ruler = refl; prompt = refl; history_is = refl; hooks_are = refl; marks_are = refl })
           (drawn_if (is_some (place_forward 1 s.recorded.line)) _ _ _
-              (overwrites_if c.args.ch s.recorded.line _ c.in_ok-written.ensures.writes.answers
-                  ∙ c.if-written.true) c.refresh.ensures.does);
+          (overwrites_if c.args.ch s.recorded.line _ c.in_ok-written.ensures.writes.answers
+          ∙ c.if-written.true) c.refresh.ensures.does);
     }
 
 pub returns-else-written : goal.returns-else-written
@@ -41,6 +41,6 @@ returns-else-written g c =
           (value_of s) s _ _ _ _ _ _ refl refl c.in_ok-written.ensures refl refl
           (record { ruler = refl; prompt = refl; history_is = refl; hooks_are = refl; marks_are = refl })
           (undrawn_if (is_some (place_forward 1 s.recorded.line)) _ _
-              (overwrites_if c.args.ch s.recorded.line _ c.in_ok-written.ensures.writes.answers
-                  ∙ c.if-written.false));
+          (overwrites_if c.args.ch s.recorded.line _ c.in_ok-written.ensures.writes.answers
+          ∙ c.if-written.false));
     }

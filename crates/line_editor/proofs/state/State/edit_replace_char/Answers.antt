@@ -29,9 +29,9 @@ returns-then-replaced g c =
           c.in_ok-replaced.ensures refl refl
           (record { ruler = refl; prompt = refl; history_is = refl; hooks_are = refl; marks_are = refl })
           (drawn_if (is_some (place_forward c.args.n s.recorded.line)) _ _ _
-              (replaces_if c.args.ch c.args.n s.recorded.line _
-                  c.in_ok-replaced.ensures.writes.answers ∙ c.if-replaced.true)
-              c.refresh.ensures.does);
+          (replaces_if c.args.ch c.args.n s.recorded.line _
+          c.in_ok-replaced.ensures.writes.answers ∙ c.if-replaced.true)
+          c.refresh.ensures.does);
     }
 
 pub returns-else-replaced : goal.returns-else-replaced
@@ -44,6 +44,6 @@ returns-else-replaced g c =
           c.in_ok-replaced.ensures refl refl
           (record { ruler = refl; prompt = refl; history_is = refl; hooks_are = refl; marks_are = refl })
           (undrawn_if (is_some (place_forward c.args.n s.recorded.line)) _ _
-              (replaces_if c.args.ch c.args.n s.recorded.line _
-                  c.in_ok-replaced.ensures.writes.answers ∙ c.if-replaced.false));
+          (replaces_if c.args.ch c.args.n s.recorded.line _
+          c.in_ok-replaced.ensures.writes.answers ∙ c.if-replaced.false));
     }

@@ -26,7 +26,7 @@ returns-then-done g c =
           refl
           (record { ruler = refl; prompt = refl; history_is = refl; hooks_are = refl; marks_are = refl })
           (drawn_if (transposes_chars s.recorded.line) _ _ _
-              (sym c.in_ok-done.ensures.writes.answers ∙ c.if-done.true) c.refresh.ensures.does);
+          (sym c.in_ok-done.ensures.writes.answers ∙ c.if-done.true) c.refresh.ensures.does);
     }
 
 pub returns-else-done : goal.returns-else-done
@@ -38,5 +38,5 @@ returns-else-done g c =
           refl
           (record { ruler = refl; prompt = refl; history_is = refl; hooks_are = refl; marks_are = refl })
           (undrawn_if (transposes_chars s.recorded.line) _ _
-              (sym c.in_ok-done.ensures.writes.answers ∙ c.if-done.false));
+          (sym c.in_ok-done.ensures.writes.answers ∙ c.if-done.false));
     }

@@ -29,7 +29,7 @@ returns-then-done g c =
           c.in_ok-done.ensures refl refl
           (record { ruler = refl; prompt = refl; history_is = refl; hooks_are = refl; marks_are = refl })
           (drawn_if (is_some (word_to_edit s.recorded.line)) _ _ _
-              (sym c.in_ok-done.ensures.writes.answers ∙ c.if-done.true) c.refresh.ensures.does);
+          (sym c.in_ok-done.ensures.writes.answers ∙ c.if-done.true) c.refresh.ensures.does);
     }
 
 pub returns-else-done : goal.returns-else-done
@@ -42,5 +42,5 @@ returns-else-done g c =
           c.in_ok-done.ensures refl refl
           (record { ruler = refl; prompt = refl; history_is = refl; hooks_are = refl; marks_are = refl })
           (undrawn_if (is_some (word_to_edit s.recorded.line)) _ _
-              (sym c.in_ok-done.ensures.writes.answers ∙ c.if-done.false));
+          (sym c.in_ok-done.ensures.writes.answers ∙ c.if-done.false));
     }

@@ -14,7 +14,7 @@ returns-in_err-yank_pop g c =
       does = edit_refused (pop_text c.args.yank_size c.args.text.now) refreshed edit (value_of s) s
           _ _ _ _ c.from_residual.ensures.1
           (text_popped c.args.yank_size c.args.text.now (setting_of s) (value_of s)
-              (sym c.can_take_before.ensures.value ∙ c.if-not-can_take_before.false)) refl
+          (sym c.can_take_before.ensures.value ∙ c.if-not-can_take_before.false)) refl
           c.in_err-yank_pop.ensures refl refl
           (record { ruler = refl; prompt = refl; history_is = refl; hooks_are = refl; marks_are = refl });
     }
@@ -27,7 +27,7 @@ returns g c =
       does = edit_then (pop_text c.args.yank_size c.args.text.now) refreshed edit (value_of s) s _ _
           _ _ _ _
           (text_popped c.args.yank_size c.args.text.now (setting_of s) (value_of s)
-              (sym c.can_take_before.ensures.value ∙ c.if-not-can_take_before.false)) refl
+          (sym c.can_take_before.ensures.value ∙ c.if-not-can_take_before.false)) refl
           c.in_ok-yank_pop.ensures refl refl
           (record { ruler = refl; prompt = refl; history_is = refl; hooks_are = refl; marks_are = refl })
           c.refresh.ensures.does;
