@@ -7,6 +7,7 @@ ghost use Rattle.keyline.specs.Program.{standard_config};
 ghost use Rattle.keyline.specs.Opened.{HasGiven, desk_of};
 ghost use Rattle.keyline.specs.Plays.{Opens, Unopens};
 
+use crate::editor::LineEditor;
 use crate::session::{Session, Unopened};
 use line_config::{Config, ReadSource, Sink, SliceSource, Source, WriteSink};
 use line_help::Helper;
@@ -51,6 +52,9 @@ pub type StandardKeys = ReadSource<StdinLock<'static>>;
 
 /// A builder over the standard streams.
 pub type StandardBuilder<'p> = DefaultBuilder<'p, StandardKeys, WriteSink<Stderr>>;
+
+/// An editor over them, helped by `H`.
+pub type StandardEditor<H> = LineEditor<StandardKeys, H, WriteSink<Stderr>, Nowhere, Nowhere>;
 
 /// The settings: each accepted line is kept in the history.
 fn standard_config() -> Config

@@ -22,8 +22,8 @@ pub mod prompter;
 pub mod session;
 
 pub use builder::{
-    DefaultBuilder, Nowhere, SessionBuilder, StandardBuilder, StandardKeys, session_builder,
-    standard_builder,
+    DefaultBuilder, Nowhere, SessionBuilder, StandardBuilder, StandardEditor, StandardKeys,
+    session_builder, standard_builder,
 };
 pub use desk::Desk;
 pub use edit_helper::EditHelper;

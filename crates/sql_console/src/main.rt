@@ -8,16 +8,12 @@ mod table;
 
 use crate::statements::Statements;
 use keyline::{
-    Ending, HelperParts, LineEditor, Nowhere, ReadlineError, StandardKeys, WordCompleter,
-    WriteSink, standard_builder,
+    Ending, HelperParts, LineEditor, ReadlineError, StandardEditor, WordCompleter, standard_builder,
 };
 use sqlite::Connection;
-use std::io::Stderr;
 use std::process::ExitCode;
 
 type Help = HelperParts<WordCompleter, (), (), Statements>;
-
-type Editor = LineEditor<StandardKeys, Help, WriteSink<Stderr>, Nowhere, Nowhere>;
 
 /// Completes the names of tables, and waits for the end of a statement.
 fn helper(tables: Vec<String>) -> Help {
@@ -30,7 +26,7 @@ fn helper(tables: Vec<String>) -> Help {
 }
 
 /// Reads statements and answers them, until `.quit` or the end of the input.
-fn converse(rt: &HostRuntime, editor: &mut Editor) -> Result<(), ReadlineError> {
+fn converse(rt: &HostRuntime, editor: &mut StandardEditor<Help>) -> Result<(), ReadlineError> {
     let mut conn = Connection::open_in_memory(rt.alloc())?;
     let mut statement = String::new(rt.alloc());
     for _ in 0..u64::MAX {
@@ -57,6 +53,7 @@ fn converse(rt: &HostRuntime, editor: &mut Editor) -> Result<(), ReadlineError> 
     Ok(())
 }
 
+/// Opens the editor, and ends it when all is answered.
 fn console(rt: &HostRuntime) -> Result<Ending, ReadlineError> {
     let bindings = keys::bindings(rt.alloc())?;
     let session = standard_builder(rt)
