@@ -16,7 +16,9 @@ class Said:
     # A call of what is not proved, or a block handed on, is no fault of the function that makes it.
     CALLS = re.compile(r"\bit (?:calls|passes the block) .*?, which (?:is|are) not proved")
     UNPROVED = re.compile(r"(?s).*?did not prove (.*?)(?:; it calls.*|\Z)")
-    OPEN = re.compile(r"(?m)^note: (src/\S+?):(\d+):\d+: it is not proved that .*?\(`([^`]+)`\)(.*)$")
+    OPEN = re.compile(
+        r"(?m)^note: (src/\S+?):(\d+):\d+: (?:it is not proved that .*?|`search` found no proof )\(`([^`]+)`\)(.*)$"
+    )
     WAITS = re.compile(r"(?m)^note: `search` has not tried the goals of `([^`]+)`, which wait for a callee's proof")
     ANTT = re.compile(r"(?m)^(?:\./)?((?:specs|proofs)/[^\s:]+):\d+:\d+: (?:error|`\S+` is not admitted: (?!has-h))")
     FRONT = re.compile(r"(?m)^(?:\./)?(src/[^\s:]+):(\d+):\d+: error\S* (.*)$")

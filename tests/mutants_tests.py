@@ -424,6 +424,7 @@ def a_function_told_of_in_brief():
     answers = "./proofs/doubled_added_once/Answers.antt:2:1: error: `"
     for text, silent in (
         (OPEN + refused, False),
+        ("note: src/lib.rt:27:1: `search` found no proof (`invariant_of-result`); it gave up\n" + refused, False),
         (refused, True),
         (OPEN.replace(":27:", ":33:") + refused, True),
         (f"{answers}{wrong_bodies.UNREAD}`: `NoLinesWanted` is not in scope\n{refused}", True),
