@@ -3,7 +3,7 @@
 ghost use Rattle.std.specs.Prelude.{◌≤◌};
 
 use keyline::{Ending, Options, Parsed, ReadlineError, SliceSource, VecSink, edit, parse};
-use stand_ins::rows::{Player, rows_hold};
+use stand_ins::rows::{Player, raised, rows_hold};
 use stand_ins::tables::{meant_bytes, pictured_bytes};
 use std::alloc::{AllocError, Global};
 use std::test::Fail;
@@ -18,10 +18,14 @@ impl Player for Optioned {
         let (line, devices) = call.split_once(" : ").unwrap_or((call, ""));
         let (history, keys) = devices.split_once(" : ").unwrap_or((devices, ""));
         let words: Vec<&str> = line.split_whitespace().collect(alloc)?;
-        match parse(alloc, words.as_slice()) {
-            Parsed::Run(options) => Ok(told(alloc, played(alloc, &options, history, keys))?),
-            _ => Ok(String::from_str(alloc, "no options")?),
-        }
+        raised(answer(alloc, words.as_slice(), history, keys))
+    }
+}
+
+fn answer(alloc: Global, words: &[&str], history: &str, keys: &str) -> Result<String, AllocError> {
+    match parse(alloc, words) {
+        Parsed::Run(options) => told(alloc, played(alloc, &options, history, keys)),
+        _ => String::from_str(alloc, "no options"),
     }
 }
 
@@ -43,7 +47,19 @@ fn played(
 {
     let loaded = meant_bytes(alloc, history)?;
     let typed = meant_bytes(alloc, keys)?;
-    let (history, keys) = (SliceSource::new(&loaded), SliceSource::new(&typed));
+    kept_of(alloc, options, &loaded, &typed)
+}
+
+/// What a session leaves that loads this text, and in which these keys are typed.
+fn kept_of(
+    alloc: Global,
+    options: &Options,
+    loaded: &[u8],
+    typed: &[u8],
+) -> Result<Kept, ReadlineError>
+    requires { (2 ≤ options.now.columns) × (options.now.columns ≤ 1000) }
+{
+    let (history, keys) = (SliceSource::new(loaded), SliceSource::new(typed));
     let (display, lines, text) = (
         VecSink::new(alloc),
         VecSink::new(alloc),

@@ -1,7 +1,7 @@
 //! Editors that are asked for one line at each call.
 
-use keyline::{Ending, LineEditor, SliceSource, Source, VecSink, session_builder};
-use stand_ins::rows::{Player, rows_hold, trimmed};
+use keyline::{Ending, LineEditor, ReadlineError, SliceSource, Source, VecSink, session_builder};
+use stand_ins::rows::{Player, raised, rows_hold, trimmed};
 use std::alloc::{AllocError, Global};
 use std::test::Fail;
 
@@ -22,6 +22,16 @@ impl Asking {
         }
     }
 
+    fn add(&mut self, alloc: Global, line: &str) -> Result<String, ReadlineError> {
+        let added = self.editor.add_history_entry(line)?;
+        raised(format!(in alloc; "{added}"))
+    }
+
+    fn entries_told(&self, alloc: Global) -> Result<String, Fail> {
+        let entries = self.entries(alloc)?;
+        trimmed(alloc, entries.as_str())
+    }
+
     fn entries(&self, alloc: Global) -> Result<String, AllocError> {
         let mut entries = String::new(alloc);
         for entry in self.editor.history().iter() {
@@ -36,9 +46,9 @@ impl Player for Asking {
     fn play(&mut self, alloc: Global, call: &str) -> Result<String, Fail> {
         let (call, word) = call.split_once(" ").unwrap_or((call, ""));
         match call {
-            "read" => Ok(self.line(alloc, word)?),
-            "add" => Ok(format!(in alloc; "{}", self.editor.add_history_entry(word)?)?),
-            _ => trimmed(alloc, self.entries(alloc)?.as_str()),
+            "read" => raised(self.line(alloc, word)),
+            "add" => raised(self.add(alloc, word)),
+            _ => self.entries_told(alloc),
         }
     }
 }
@@ -70,10 +80,14 @@ fn lines_one_by_one(rt: HostRuntime) -> Result<(), Fail> {
         editor: editor_of(alloc, b"ab\rx\x03\x10\r\x04c\r")?,
     };
     rows_hold(alloc, &mut asking, rows)?;
-    let mut ended = asking.editor.finish();
-    assert_eq!(&rt; ended.ending, Ending::Eof);
-    assert_eq!(&rt; ended.lines.bytes(), b"ab\none\n".as_slice());
-    assert_eq!(&rt; ended.text.bytes(), b"#V2\nab\none\ntwo\n".as_slice());
-    assert!(&rt; ended.source.next_byte() == Ok(Some(b'c')));
+    assert!(&rt; leaves_one_key(asking.editor));
     Ok(())
+}
+
+fn leaves_one_key(editor: Editor) -> bool {
+    let mut ended = editor.finish();
+    ended.ending == Ending::Eof
+        && ended.lines.bytes() == b"ab\none\n".as_slice()
+        && ended.text.bytes() == b"#V2\nab\none\ntwo\n".as_slice()
+        && ended.source.next_byte() == Ok(Some(b'c'))
 }

@@ -6,13 +6,13 @@ use keyline::{
     Bindings, Config, History, LineRead, ReadlineError, Session, SliceSource, VecSink, laws,
 };
 use session_words::notation::{display_meant, typed};
-use stand_ins::rows::{Player, rows_hold};
+use stand_ins::rows::{Player, raised, rows_hold, trimmed};
 use stand_ins::tables::{meant_bytes, pictured_bytes};
 use std::alloc::{AllocError, Global};
 use std::test::Fail;
 
 /// Tells a line, or why there is none.
-fn tell(said: &mut String, line: &Result<String, ReadlineError>) -> Result<(), AllocError> {
+fn tell(said: &mut String, line: Result<String, ReadlineError>) -> Result<(), AllocError> {
     match line {
         Ok(line) => write!(said, " {line}"),
         Err(why) => write!(said, " {why:?}"),
@@ -29,6 +29,50 @@ fn asked_by(alloc: Global, word: &str) -> Result<(u16, String), AllocError> {
     }
 }
 
+/// A session over memory.
+type InMemory<'k> = Session<SliceSource<'k>, (), VecSink, VecSink, VecSink>;
+
+/// A session over these keys, with what it loads as its history.
+fn opened<'k>(
+    alloc: Global,
+    config: Config,
+    loaded: &'static [u8],
+    keys: &'k [u8],
+) -> Result<InMemory<'k>, ReadlineError> {
+    let bindings = Bindings::new(alloc)?;
+    raised(Session::open(
+        alloc,
+        config,
+        bindings,
+        SliceSource::new(loaded),
+        None,
+        "the session's own ",
+        SliceSource::new(keys),
+        80,
+        VecSink::new(alloc),
+        VecSink::new(alloc),
+        VecSink::new(alloc),
+    ))
+}
+
+/// Asks for a line as a word says, and tells what is answered; the session then.
+fn ask<'k>(
+    alloc: Global,
+    session: InMemory<'k>,
+    word: &str,
+    said: &mut String,
+) -> Result<InMemory<'k>, AllocError> {
+    let (columns, prompt) = asked_by(alloc, word)?;
+    let mut session = session;
+    session.set_columns(columns.max(2).min(1000));
+    let LineRead {
+        session: next,
+        line,
+    } = session.read_line(prompt.as_str());
+    tell(said, line)?;
+    Ok(next)
+}
+
 /// Asks for a line for each of these words, tells what is answered, and then ends the session; the display's bytes.
 fn ask_for(
     alloc: Global,
@@ -36,28 +80,10 @@ fn ask_for(
     keys: &[u8],
     said: &mut String,
 ) -> Result<Vec<u8>, ReadlineError> {
-    let mut session = Session::open(
-        alloc,
-        Config::builder().auto_add_history(true).build(),
-        Bindings::new(alloc)?,
-        SliceSource::new(b""),
-        None::<()>,
-        "the session's own ",
-        SliceSource::new(keys),
-        80,
-        VecSink::new(alloc),
-        VecSink::new(alloc),
-        VecSink::new(alloc),
-    )?;
+    let config = Config::builder().auto_add_history(true).build();
+    let mut session = opened(alloc, config, b"", keys)?;
     for word in words.split_whitespace() {
-        let (columns, prompt) = asked_by(alloc, word)?;
-        session.set_columns(columns.max(2).min(1000));
-        let LineRead {
-            session: next,
-            line,
-        } = session.read_line(prompt.as_str());
-        session = next;
-        tell(said, &line)?;
+        session = ask(alloc, session, word, said)?;
     }
     let end = session.finish(ReadlineError::Eof);
     Ok(end.display.into_bytes())
@@ -72,13 +98,37 @@ impl Player for Asked {
         let (words, rest) = call.split_once(" | ").unwrap_or((call, ""));
         let (keys, shown) = rest.split_once(" | ").unwrap_or((rest, ""));
         let mut said = String::new(alloc);
-        let display = ask_for(alloc, words, &typed(alloc, keys)?, &mut said)?;
-        if !shown.is_empty() && display != display_meant(alloc, shown)? {
-            said.push_str(" shows ")?;
-            said.push_str(pictured_bytes(alloc, &display)?.as_str())?;
-        }
-        Ok(String::from_str(alloc, said.as_str().trim())?)
+        tell_lines(alloc, words, keys, shown, &mut said)?;
+        trimmed(alloc, said.as_str())
     }
+}
+
+fn tell_lines(
+    alloc: Global,
+    words: &str,
+    keys: &str,
+    shown: &str,
+    said: &mut String,
+) -> Result<(), ReadlineError> {
+    let keys = typed(alloc, keys)?;
+    let display = ask_for(alloc, words, &keys, said)?;
+    raised(tell_display(alloc, &display, shown, said))
+}
+
+/// Tells the display's bytes, where they are looked at and others than these.
+fn tell_display(
+    alloc: Global,
+    display: &[u8],
+    shown: &str,
+    said: &mut String,
+) -> Result<(), AllocError> {
+    let wanted = display_meant(alloc, shown)?;
+    if shown.is_empty() || wanted.as_slice() == display {
+        return Ok(());
+    }
+    let found = pictured_bytes(alloc, display)?;
+    said.push_str(" shows ")?;
+    said.push_str(found.as_str())
 }
 
 #[test]
@@ -103,28 +153,31 @@ fn lines_asked_for(rt: HostRuntime) -> Result<(), Fail> {
     rows_hold(rt.alloc(), &mut Asked, rows)
 }
 
+fn adds_once(session: &mut InMemory<'_>) -> bool {
+    session.add_history_entry("b") == Ok(true)
+        && session.add_history_entry("b") == Ok(false)
+        && session.history().len() == 2
+}
+
+fn reads(session: InMemory<'_>, wanted: &str) -> bool {
+    let read = session.read_line("> ");
+    is_line(&read.line, wanted)
+}
+
+fn is_line(line: &Result<String, ReadlineError>, wanted: &str) -> bool {
+    match line {
+        Ok(line) => line.as_str() == wanted,
+        Err(_) => false,
+    }
+}
+
 /// What a history holds that a session is given by hand, and what each call answers.
 #[test]
 fn entries_given_by_hand(rt: HostRuntime) -> Result<(), Fail> {
-    let alloc = rt.alloc();
-    let mut session = Session::open(
-        alloc,
-        Config::builder().build(),
-        Bindings::new(alloc)?,
-        SliceSource::new(b"a\n"),
-        None::<()>,
-        "> ",
-        SliceSource::new(b"\x10\x10\r"),
-        80,
-        VecSink::new(alloc),
-        VecSink::new(alloc),
-        VecSink::new(alloc),
-    )?;
-    assert_eq!(rt; session.add_history_entry("b"), Ok(true));
-    assert_eq!(rt; session.add_history_entry("b"), Ok(false));
-    assert_eq!(rt; session.history().len(), 2);
-    let read = session.read_line("> ");
-    assert!(rt; read.line == Ok(String::from_str(alloc, "a")?));
+    let config = Config::builder().build();
+    let mut session = opened(rt.alloc(), config, b"a\n", b"\x10\x10\r")?;
+    assert!(rt; adds_once(&mut session));
+    assert!(rt; reads(session, "a"));
     Ok(())
 }
 
@@ -148,26 +201,16 @@ impl Prompter for Arrow {
     fn advance(&mut self) {}
 }
 
+fn reads_two_lines(session: InMemory<'_>) -> bool {
+    let (session, why) = laws::lines(session, Arrow);
+    let end = session.finish(why);
+    why == ReadlineError::Eof && end.lines.bytes() == b"abc\nd\n".as_slice()
+}
+
 /// The law of lines, over a prompter.
 #[test]
 fn lines_until_one_is_refused(rt: HostRuntime) -> Result<(), Fail> {
-    let alloc = rt.alloc();
-    let session = Session::open(
-        alloc,
-        Config::builder().build(),
-        Bindings::new(alloc)?,
-        SliceSource::new(b""),
-        None::<()>,
-        "> ",
-        SliceSource::new(b"abc\rd\r"),
-        80,
-        VecSink::new(alloc),
-        VecSink::new(alloc),
-        VecSink::new(alloc),
-    )?;
-    let (session, why) = laws::lines(session, Arrow);
-    assert_eq!(rt; why, ReadlineError::Eof);
-    let end = session.finish(why);
-    assert!(rt; end.lines.bytes() == b"abc\nd\n".as_slice());
+    let session = opened(rt.alloc(), Config::builder().build(), b"", b"abc\rd\r")?;
+    assert!(rt; reads_two_lines(session));
     Ok(())
 }

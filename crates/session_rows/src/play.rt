@@ -6,8 +6,8 @@ use keyline::{
     Bindings, Config, Decides, Ended, Ending, EventHandler, Helper, LineRead, ReadSource,
     ReadlineError, Session, Sink, SliceSource, Source, VecSink,
 };
-use session_words::advice::texts_of;
-use session_words::aide::aide_of;
+use session_words::advice::{Texts, texts_of};
+use session_words::aide::{Aide, aide_of};
 use session_words::bound::{Action, Bound, bound_by};
 use session_words::faults::{Faults, faults_of, sink_of};
 use session_words::notation::{
@@ -15,7 +15,9 @@ use session_words::notation::{
     text_meant, typed,
 };
 use stand_ins::devices::{Pieces, Turns};
+use stand_ins::rows::raised;
 use stand_ins::tables::{meant_bytes, pictured_bytes};
+use stand_ins::tray::Tray;
 use std::alloc::{AllocError, Global};
 use std::cell::Cell;
 
@@ -38,6 +40,81 @@ fn config_of(setting: &Setting<'_>) -> Result<Config, ReadlineError> {
     Ok(config)
 }
 
+/// The texts that a session is opened with.
+#[derive(Drop)]
+struct Opening {
+    loaded: Vec<u8>,
+    prompt: String,
+}
+
+fn opening_of(alloc: Global, setting: &Setting<'_>) -> Result<Opening, ReadlineError> {
+    let loaded = meant_bytes(alloc, setting.loaded)?;
+    Ok(Opening {
+        loaded,
+        prompt: text_meant(alloc, setting.prompt)?,
+    })
+}
+
+fn handler_of(alloc: Global, action: Action) -> Result<EventHandler, AllocError> {
+    match action {
+        Action::Command(cmd) => Ok(EventHandler::Simple(cmd)),
+        Action::Handler(answering) => {
+            let boxed = Box::new(alloc, answering)?;
+            Ok(EventHandler::Conditional(boxed))
+        }
+    }
+}
+
+fn bind(alloc: Global, bindings: &mut Bindings, bound: Bound) -> Result<(), ReadlineError> {
+    let Bound { event, action } = bound;
+    let handler = handler_of(alloc, action)?;
+    let _ = bindings.bind_sequence(event, handler)?;
+    Ok(())
+}
+
+fn bind_all(alloc: Global, bindings: &mut Bindings, all: Vec<Bound>) -> Result<(), ReadlineError> {
+    for bound in all {
+        bind(alloc, bindings, bound)?;
+    }
+    Ok(())
+}
+
+/// How a session takes keys.
+#[derive(Drop)]
+struct Keyed {
+    config: Config,
+    bindings: Bindings,
+}
+
+fn keyed_by(alloc: Global, setting: &Setting<'_>) -> Result<Keyed, ReadlineError> {
+    let config = config_of(setting)?;
+    let all = bound_by(alloc, setting.all)?;
+    let mut bindings = Bindings::new(alloc)?;
+    bind_all(alloc, &mut bindings, all)?;
+    Ok(Keyed { config, bindings })
+}
+
+/// What a session is begun with, besides its devices.
+#[derive(Drop)]
+struct Begun {
+    opening: Opening,
+    keyed: Keyed,
+    advice: Texts,
+    aide: Option<Aide>,
+}
+
+fn begun_with(alloc: Global, setting: &Setting<'_>) -> Result<Begun, ReadlineError> {
+    let opening = opening_of(alloc, setting)?;
+    let keyed = keyed_by(alloc, setting)?;
+    let advice = texts_of(alloc, setting.all)?;
+    Ok(Begun {
+        opening,
+        keyed,
+        advice,
+        aide: aide_of(alloc, setting)?,
+    })
+}
+
 /// A session to its ending, by `read_line` and `finish`. Each line that is handed back is put into `handed`.
 fn asked<H: Helper, S: Source + Drop, D: Sink + Drop, L: Sink + Drop, T: Sink + Drop, B: Decides>(
     session: Session<S, H, D, L, T, B>,
@@ -53,24 +130,37 @@ where
             session: next,
             line,
         } = session.read_line(prompt);
-        match line {
-            Ok(line) => put_line(handed, line.as_str())?,
-            Err(why) => return Ok(next.finish(why)),
+        if let Some(why) = put_read(handed, line)? {
+            return Ok(next.finish(why));
         }
         session = next;
     }
     Ok(session.finish(ReadlineError::Eof))
 }
 
-fn put_line(lines: &mut Vec<u8>, line: &str) -> Result<(), AllocError> {
+/// Puts a line, or answers why there is none.
+fn put_read(
+    lines: &mut Vec<u8>,
+    read: Result<String, ReadlineError>,
+) -> Result<Option<ReadlineError>, AllocError> {
+    match read {
+        Ok(line) => put_line(lines, line.as_str()),
+        Err(why) => Ok(Some(why)),
+    }
+}
+
+fn put_line(lines: &mut Vec<u8>, line: &str) -> Result<Option<ReadlineError>, AllocError> {
     lines.extend_from_slice(line.as_bytes())?;
-    lines.extend_from_slice(b"\n")
+    lines.extend_from_slice(b"\n")?;
+    Ok(None)
 }
 
 /// A session with a helper over these devices, run to its ending; or why none was opened.
 fn ended_with<H: Helper, S: Source + Drop, D: Sink + Drop, L: Sink + Drop, T: Sink + Drop>(
     alloc: Global,
     setting: &Setting<'_>,
+    opening: Opening,
+    keyed: Keyed,
     helper: Option<H>,
     source: S,
     display: D,
@@ -85,25 +175,14 @@ where
     requires lines { L.has_failed lines ≡ false }
     requires text { T.has_failed text ≡ false }
 {
-    // Handlers are boxed here: a function that handed them out could promise nothing of them.
-    let mut bindings = Bindings::new(alloc)?;
-    for bound in bound_by(alloc, setting.all)? {
-        let Bound { event, action } = bound;
-        let handler = match action {
-            Action::Command(cmd) => EventHandler::Simple(cmd),
-            Action::Handler(answering) => EventHandler::Conditional(Box::new(alloc, answering)?),
-        };
-        let _ = bindings.bind_sequence(event, handler)?;
-    }
-    let loaded = meant_bytes(alloc, setting.loaded)?;
-    let prompt = text_meant(alloc, setting.prompt)?;
+    let prompt = opening.prompt.as_str();
     let session = Session::open(
         alloc,
-        config_of(setting)?,
-        bindings,
-        SliceSource::new(&loaded),
+        keyed.config,
+        keyed.bindings,
+        SliceSource::new(&opening.loaded),
         helper,
-        prompt.as_str(),
+        prompt,
         source,
         setting.columns.max(2).min(1000),
         display,
@@ -112,7 +191,7 @@ where
     )?;
     match setting.asking {
         Asking::Run => Ok(session.run()),
-        Asking::ReadLine => Ok(asked(session, prompt.as_str(), handed)?),
+        Asking::ReadLine => raised(asked(session, prompt, handed)),
     }
 }
 
@@ -131,13 +210,21 @@ fn handed_back<S: Source + Drop, D: Sink + Drop, L: Sink + Drop, T: Sink + Drop>
     requires lines { L.has_failed lines ≡ false }
     requires text { T.has_failed text ≡ false }
 {
+    let Begun {
+        opening,
+        keyed,
+        advice,
+        aide,
+    } = begun_with(alloc, setting)?;
     if setting.advised {
-        let texts = texts_of(alloc, setting.all)?;
-        let aide = Some(texts.adviser(setting.all));
-        return ended_with(alloc, setting, aide, source, display, lines, text, handed);
+        let aide = Some(advice.adviser(setting.all));
+        return ended_with(
+            alloc, setting, opening, keyed, aide, source, display, lines, text, handed,
+        );
     }
-    let aide = aide_of(alloc, setting)?;
-    ended_with(alloc, setting, aide, source, display, lines, text, handed)
+    ended_with(
+        alloc, setting, opening, keyed, aide, source, display, lines, text, handed,
+    )
 }
 
 /// A session over these devices, to its ending; or why none was opened.
@@ -186,14 +273,20 @@ fn left_in_trays<S: Source + Drop>(
     );
     let mut handed = Vec::new(alloc);
     let end = handed_back(alloc, setting, source, display, lines, text, &mut handed)?;
-    let mut left = Left {
-        ending: end.ending,
-        lines: Vec::from_slice(alloc, end.lines.bytes())?,
-        saved: Vec::from_slice(alloc, end.text.bytes())?,
-        shown: Vec::from_slice(alloc, end.display.bytes())?,
-    };
+    let mut left = copied(alloc, &end)?;
     tell_handed(setting, &mut left, &handed)?;
     Ok(left)
+}
+
+fn copied<S>(alloc: Global, end: &Ended<S, Tray, Tray, Tray>) -> Result<Left, AllocError> {
+    let lines = Vec::from_slice(alloc, end.lines.bytes())?;
+    let saved = Vec::from_slice(alloc, end.text.bytes())?;
+    Ok(Left {
+        ending: end.ending,
+        lines,
+        saved,
+        shown: Vec::from_slice(alloc, end.display.bytes())?,
+    })
 }
 
 /// What a session over a source of keys left. Over sinks that don't fail nothing of it is copied: of a session that is run,

@@ -175,7 +175,7 @@ fn sound(sink: Tray) -> Tray
 }
 
 /// What of the keys is left to come, with what was read ahead.
-fn to_come<'a>(keys: &'a [u8], left: &Left<'a>) -> &'a [u8] {
+fn to_come<'a>(keys: &'a [u8], left: &Left<'_>) -> &'a [u8] {
     let count = left
         .source
         .left()
@@ -192,44 +192,63 @@ fn keeps_a_line(alloc: Global, history: &mut FileHistory) -> Result<bool, Readli
     Ok(added && rows_in(text.bytes()) == history.len().saturating_add(1))
 }
 
-/// Whether a next session over the devices that came back does as one over new devices.
-fn goes_on<'a>(
+/// A session over these keys and the devices that came back.
+fn next_over<'a>(
     alloc: Global,
     setting: &Setting<'_>,
     keys: &'a [u8],
-    left: Left<'a>,
-) -> Result<bool, ReadlineError> {
-    let keys = to_come(keys, &left);
-    let alone = tried(alloc, setting, keys, Faults::NONE)?;
+    left: Left<'_>,
+) -> Result<Left<'a>, ReadlineError> {
     let (display, lines, text) = (sound(left.display), sound(left.lines), sound(left.text));
     let source = Faltering::failing_at(keys, usize::MAX);
-    let next = ended(alloc, setting, source, display, lines, text)?;
-    Ok(
-        next.ending == alone.ending
-            && next.display.bytes().ends_with(alone.display.bytes())
-            && next.lines.bytes().ends_with(alone.lines.bytes())
-            && next.text.bytes().ends_with(alone.text.bytes()),
-    )
+    ended(alloc, setting, source, display, lines, text)
 }
 
-/// What is wrong after a session that a fault cut short, if anything.
-fn wrong_after<'a>(
+fn ends_as(next: &Left<'_>, alone: &Left<'_>) -> bool {
+    next.ending == alone.ending
+        && next.display.bytes().ends_with(alone.display.bytes())
+        && next.lines.bytes().ends_with(alone.lines.bytes())
+        && next.text.bytes().ends_with(alone.text.bytes())
+}
+
+/// Whether a session did as one over new devices.
+fn did_as_new(
     alloc: Global,
     setting: &Setting<'_>,
-    keys: &'a [u8],
+    keys: &[u8],
+    next: &Left<'_>,
+) -> Result<bool, ReadlineError> {
+    let alone = tried(alloc, setting, keys, Faults::NONE)?;
+    Ok(ends_as(next, &alone))
+}
+
+/// Whether a next session over the devices that came back does as one over new devices.
+fn goes_on(
+    alloc: Global,
+    setting: &Setting<'_>,
+    keys: &[u8],
+    left: Left<'_>,
+) -> Result<bool, ReadlineError> {
+    let keys = to_come(keys, &left);
+    let next = next_over(alloc, setting, keys, left)?;
+    did_as_new(alloc, setting, keys, &next)
+}
+
+/// What is wrong with what such a session left, and with its history as it goes on.
+fn wrong_before_the_next(
+    alloc: Global,
+    setting: &Setting<'_>,
     whole: &Left<'_>,
-    mut cut: Left<'a>,
+    cut: &mut Left<'_>,
 ) -> Result<Option<&'static str>, ReadlineError> {
-    if let Some(wrong) = wrong_in(setting, whole, &cut) {
+    if let Some(wrong) = wrong_in(setting, whole, cut) {
         return Ok(Some(wrong));
     }
-    if !keeps_a_line(alloc, &mut cut.history)? {
-        return Ok(Some("a history that keeps no more lines"));
+    if keeps_a_line(alloc, &mut cut.history)? {
+        Ok(None)
+    } else {
+        Ok(Some("a history that keeps no more lines"))
     }
-    if !goes_on(alloc, setting, keys, cut)? {
-        return Ok(Some("another next session"));
-    }
-    Ok(None)
 }
 
 /// What came of a session with a fault in it.
@@ -238,6 +257,24 @@ enum Came {
     Whole,
     Right,
     Wrong(&'static str),
+}
+
+/// What comes after a session that a fault cut short.
+fn came_after(
+    alloc: Global,
+    setting: &Setting<'_>,
+    keys: &[u8],
+    whole: &Left<'_>,
+    mut cut: Left<'_>,
+) -> Result<Came, ReadlineError> {
+    if let Some(wrong) = wrong_before_the_next(alloc, setting, whole, &mut cut)? {
+        return Ok(Came::Wrong(wrong));
+    }
+    if goes_on(alloc, setting, keys, cut)? {
+        Ok(Came::Right)
+    } else {
+        Ok(Came::Wrong("another next session"))
+    }
 }
 
 /// What came of a session that ended as the whole one.
@@ -268,10 +305,7 @@ fn play_failing(
     if cut.ending != device.ending() {
         return Ok(Came::Wrong("another ending"));
     }
-    match wrong_after(alloc, setting, keys, whole, cut)? {
-        Some(wrong) => Ok(Came::Wrong(wrong)),
-        None => Ok(Came::Right),
-    }
+    came_after(alloc, setting, keys, whole, cut)
 }
 
 /// Has each call of a device fail in turn, until none does; and tells of the first that isn't right. It answers how many
@@ -307,12 +341,37 @@ fn play_row(
     told: &mut String,
 ) -> Result<usize, ReadlineError> {
     let whole = tried(alloc, setting, keys, Faults::NONE)?;
+    play_devices(alloc, setting, keys, &whole, told)
+}
+
+fn play_devices(
+    alloc: Global,
+    setting: &Setting<'_>,
+    keys: &[u8],
+    whole: &Left<'_>,
+    told: &mut String,
+) -> Result<usize, ReadlineError> {
     let mut count: usize = 0;
     for device in DEVICES {
-        let failed = play_each(alloc, setting, keys, &whole, device, told)?;
+        let failed = play_each(alloc, setting, keys, whole, device, told)?;
         count = count.saturating_add(failed);
     }
     Ok(count)
+}
+
+fn play_text(
+    alloc: Global,
+    setting: &Setting<'_>,
+    text: &str,
+    played: &mut Played,
+) -> Result<(), ReadlineError> {
+    let Some(row) = row_of(text) else {
+        return Ok(());
+    };
+    let keys = typed(alloc, row.keys)?;
+    let failed = play_row(alloc, setting, &keys, &mut played.told)?;
+    played.count = played.count.saturating_add(failed);
+    Ok(())
 }
 
 /// Plays the sessions of rows with these settings, each call of each device failing in turn. They are counted by calls.
@@ -323,11 +382,7 @@ pub fn play_refused(alloc: Global, settings: &str, rows: &str) -> Result<Played,
         told: String::new(alloc),
     };
     for text in rows.lines() {
-        if let Some(row) = row_of(text) {
-            let keys = typed(alloc, row.keys)?;
-            let failed = play_row(alloc, &setting, &keys, &mut played.told)?;
-            played.count = played.count.saturating_add(failed);
-        }
+        play_text(alloc, &setting, text, &mut played)?;
     }
     Ok(played)
 }
@@ -349,16 +404,28 @@ fn grown(alloc: Global, setting: &Setting<'_>, row: &str) -> Result<Came, Readli
         return Ok(Came::Whole);
     };
     let keys = typed(alloc, row.keys)?;
-    let whole = tried(alloc, setting, &keys, Faults::NONE)?;
-    let cut = tried(alloc, setting, &keys, Faults::NONE)?;
+    grown_over(alloc, setting, &keys)
+}
+
+fn grown_over(alloc: Global, setting: &Setting<'_>, keys: &[u8]) -> Result<Came, ReadlineError> {
+    let whole = tried(alloc, setting, keys, Faults::NONE)?;
     if whole.ending == Ending::Memory {
         return Err(ReadlineError::Memory);
     }
-    if cut.ending != Ending::Memory {
-        return Ok(came_whole(&whole, &cut));
-    }
-    match wrong_after(alloc, setting, &keys, &whole, cut)? {
-        Some(wrong) => Ok(Came::Wrong(wrong)),
-        None => Ok(Came::Right),
+    grown_again(alloc, setting, keys, &whole)
+}
+
+/// Plays the session again, as the whole one or cut short by a growth.
+fn grown_again(
+    alloc: Global,
+    setting: &Setting<'_>,
+    keys: &[u8],
+    whole: &Left<'_>,
+) -> Result<Came, ReadlineError> {
+    let cut = tried(alloc, setting, keys, Faults::NONE)?;
+    if cut.ending == Ending::Memory {
+        came_after(alloc, setting, keys, whole, cut)
+    } else {
+        Ok(came_whole(whole, &cut))
     }
 }

@@ -4,15 +4,16 @@ ghost use Rattle.std.specs.Prelude.{◌≡◌, false};
 
 use crate::fixtures::{plain, told};
 use keyline::{
-    Bindings, Config, Ending, ReadlineError, Session, Sink, SliceSource, Source, VecSink,
+    Bindings, Config, Ended, Ending, ReadlineError, Session, Sink, SliceSource, Source, Unopened,
+    VecSink,
 };
 use session_rows::play::{Left, ended, left_of};
 use session_words::notation::{display_meant, field, setting_of};
-use stand_ins::rows::{Player, rows_hold};
+use stand_ins::rows::{Player, raised, rows_hold};
 use stand_ins::sources::Faltering;
 use stand_ins::tables::{meant, word_and_rest};
 use stand_ins::tray::Tray;
-use std::alloc::Global;
+use std::alloc::{AllocError, Global};
 use std::process::Abort;
 use std::test::Fail;
 
@@ -24,6 +25,14 @@ struct Cut {
 }
 
 impl Cut {
+    /// Types a row's key: what it draws stands after the bar.
+    fn type_key(&mut self, alloc: Global, row: &str) -> Result<(), AllocError> {
+        let (key, drawn) = row.split_once(" | ").unwrap_or((row, ""));
+        let key = meant(alloc, field(key))?;
+        self.keys.push_str(key.as_str())?;
+        self.shown.push_str(field(drawn))
+    }
+
     /// What a session leaves over a source that says where it fails.
     fn steady(&self, alloc: Global) -> Result<String, Fail> {
         let source = SliceSource::failing_after(self.keys.as_bytes());
@@ -42,15 +51,19 @@ impl Cut {
 
 impl Player for Cut {
     fn play(&mut self, alloc: Global, call: &str) -> Result<String, Fail> {
-        let (key, drawn) = call.split_once(" | ").unwrap_or((call, ""));
-        self.keys.push_str(meant(alloc, field(key))?.as_str())?;
-        self.shown.push_str(field(drawn))?;
+        self.type_key(alloc, call)?;
         let steady = self.steady(alloc)?;
         let faltering = self.faltering(alloc)?;
-        if steady == faltering {
-            return Ok(steady);
-        }
-        Ok(format!(in alloc; "{steady}, but {faltering}")?)
+        raised(both_told(alloc, steady.as_str(), faltering.as_str()))
+    }
+}
+
+/// What both sources lead to, where they lead to the same.
+fn both_told(alloc: Global, steady: &str, faltering: &str) -> Result<String, AllocError> {
+    if steady == faltering {
+        String::from_str(alloc, steady)
+    } else {
+        format!(in alloc; "{steady}, but {faltering}")
     }
 }
 
@@ -82,19 +95,25 @@ const TWO_LINES: &[u8] = b"ab\rcd\r";
 const TWO_LINES_SHOWN: &str = "{} a b ␍␊ {} c d ␍␊ {} ␍␊";
 
 /// What a session over two lines leaves in these sinks, and whether its display failed in a flush.
-fn two_lines_into(alloc: Global, display: Tray, lines: Tray) -> Result<(Left, bool), Fail>
+fn two_lines_into(alloc: Global, display: Tray, lines: Tray) -> Result<(Left, bool), ReadlineError>
     requires display { ⟦<Tray as Sink>⟧.has_failed display ≡ false }
     requires lines { ⟦<Tray as Sink>⟧.has_failed lines ≡ false }
 {
     let source = SliceSource::new(TWO_LINES);
     let end = ended(alloc, &plain(), source, display, lines, VecSink::new(alloc))?;
-    let left = Left {
-        ending: end.ending,
-        lines: Vec::from_slice(alloc, end.lines.bytes())?,
-        saved: end.text.into_bytes(),
-        shown: Vec::from_slice(alloc, end.display.bytes())?,
-    };
+    let left = copied(alloc, &end)?;
     Ok((left, end.display.failed_in_flush()))
+}
+
+fn copied<S>(alloc: Global, end: &Ended<S, Tray, Tray, VecSink>) -> Result<Left, AllocError> {
+    let lines = Vec::from_slice(alloc, end.lines.bytes())?;
+    let saved = Vec::from_slice(alloc, end.text.bytes())?;
+    Ok(Left {
+        ending: end.ending,
+        lines,
+        saved,
+        shown: Vec::from_slice(alloc, end.display.bytes())?,
+    })
 }
 
 /// A sink with room for all.
@@ -105,7 +124,7 @@ fn roomy() -> Tray
 }
 
 /// The first pieces of `TWO_LINES_SHOWN`, one after the other.
-fn first_pieces(alloc: Global, count: usize) -> Result<Vec<u8>, Fail> {
+fn first_pieces(alloc: Global, count: usize) -> Result<Vec<u8>, AllocError> {
     let mut bytes = Vec::new(alloc);
     for piece in TWO_LINES_SHOWN.split_whitespace().take(count) {
         bytes.extend_from_slice(display_meant(alloc, piece)?.as_slice())?;
@@ -114,7 +133,7 @@ fn first_pieces(alloc: Global, count: usize) -> Result<Vec<u8>, Fail> {
 }
 
 /// The lines that stand where so many display bytes have passed: a line stands where its row's end has.
-fn lines_after(alloc: Global, passed: usize) -> Result<&'static [u8], Fail> {
+fn lines_after(alloc: Global, passed: usize) -> Result<&'static [u8], AllocError> {
     if passed < first_pieces(alloc, 4)?.len() {
         return Ok(b"");
     }
@@ -124,33 +143,54 @@ fn lines_after(alloc: Global, passed: usize) -> Result<&'static [u8], Fail> {
     Ok(b"ab\ncd\n")
 }
 
-/// Sees that a session whose display failed has drawn the first bytes, and written the lines for them. A line stands where
+/// Whether a session whose display failed has drawn the first bytes, and written the lines for them. A line stands where
 /// the flush after its drawing's end has passed.
+fn is_cut(alloc: Global, left: &Left, in_flush: bool) -> Result<bool, AllocError> {
+    let taken = left.shown.as_slice();
+    let passed = taken.len().saturating_sub(usize::from(in_flush));
+    let lines = lines_after(alloc, passed)?;
+    let whole = first_pieces(alloc, 10)?;
+    Ok(
+        left.ending == Ending::Display
+            && whole.as_slice().starts_with(taken)
+            && left.lines.as_slice() == lines,
+    )
+}
+
 fn cut_display(
     rt: &(impl AllocGlobal + Abort),
     left: &Left,
     in_flush: bool,
     at: usize,
 ) -> Result<(), Fail> {
-    let taken = left.shown.as_slice();
-    assert_eq!(rt; left.ending, Ending::Display, "at {at}");
-    assert!(rt; first_pieces(rt.alloc(), 10)?.starts_with(taken), "at {at}");
-    let passed = taken.len().saturating_sub(usize::from(in_flush));
-    let lines = lines_after(rt.alloc(), passed)?;
-    assert_eq!(rt; left.lines.as_slice(), lines, "at {at}");
+    assert!(rt; is_cut(rt.alloc(), left, in_flush)?, "at {at}");
     Ok(())
+}
+
+fn is_whole(alloc: Global, left: &Left) -> Result<bool, AllocError> {
+    let all = first_pieces(alloc, 10)?;
+    Ok(left.shown == all && left.lines.as_slice() == b"ab\ncd\n".as_slice())
+}
+
+/// Sees that a session has drawn and written all, or what it may have where its display failed at a call.
+fn whole_or_cut(
+    rt: &(impl AllocGlobal + Abort),
+    left: &Left,
+    in_flush: bool,
+    call: usize,
+) -> Result<Option<bool>, Fail> {
+    if left.ending == Ending::Eof {
+        assert!(rt; is_whole(rt.alloc(), left)?);
+        return Ok(None);
+    }
+    cut_display(rt, left, in_flush, call)?;
+    Ok(Some(in_flush))
 }
 
 /// A session whose display fails at a call: whether that was a flush, or `None` where the session ends before it.
 fn display_failing_at(rt: &(impl AllocGlobal + Abort), call: usize) -> Result<Option<bool>, Fail> {
     let (left, in_flush) = two_lines_into(rt.alloc(), Tray::failing_at(call), roomy())?;
-    if left.ending == Ending::Eof {
-        assert_eq!(rt; left.shown, first_pieces(rt.alloc(), 10)?);
-        assert_eq!(rt; left.lines.as_slice(), b"ab\ncd\n".as_slice());
-        return Ok(None);
-    }
-    cut_display(rt, &left, in_flush, call)?;
-    Ok(Some(in_flush))
+    whole_or_cut(rt, &left, in_flush, call)
 }
 
 #[test]
@@ -240,14 +280,16 @@ fn history_that_is_no_text(rt: HostRuntime) -> Result<(), Fail> {
     Ok(())
 }
 
-/// All that was not read comes back.
-#[test]
-fn devices_of_a_session_that_is_not_opened(rt: HostRuntime) -> Result<(), Fail> {
-    let alloc = rt.alloc();
+/// The devices of a session that is not opened.
+type Back = Unopened<SliceSource<'static>, SliceSource<'static>, VecSink, VecSink, VecSink>;
+
+/// What comes back where the history is no text.
+fn not_opened(alloc: Global) -> Result<Back, Fail> {
+    let bindings = Bindings::new(alloc)?;
     let opened = Session::open(
         alloc,
         Config::default(),
-        Bindings::new(alloc)?,
+        bindings,
         SliceSource::new(b"a\n\xFF\nb\n"),
         None::<()>,
         "> ",
@@ -257,11 +299,19 @@ fn devices_of_a_session_that_is_not_opened(rt: HostRuntime) -> Result<(), Fail> 
         VecSink::new(alloc),
         VecSink::new(alloc),
     );
-    let Err(mut unopened) = opened else {
-        return Err(Fail::new("it is opened"));
-    };
-    assert!(&rt; unopened.why == ReadlineError::HistoryText);
-    assert!(&rt; unopened.history.next_byte() == Ok(Some(b'b')));
-    assert!(&rt; unopened.source.next_byte() == Ok(Some(b'x')));
+    raised(opened.err().ok_or("it is opened"))
+}
+
+fn goes_on_unread(back: &mut Back) -> bool {
+    back.why == ReadlineError::HistoryText
+        && back.history.next_byte() == Ok(Some(b'b'))
+        && back.source.next_byte() == Ok(Some(b'x'))
+}
+
+/// All that was not read comes back.
+#[test]
+fn devices_of_a_session_that_is_not_opened(rt: HostRuntime) -> Result<(), Fail> {
+    let mut back = not_opened(rt.alloc())?;
+    assert!(rt; goes_on_unread(&mut back));
     Ok(())
 }

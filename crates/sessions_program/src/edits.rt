@@ -129,22 +129,31 @@ fn start(alloc: Global) -> Result<LineBuffer, OutOfMemory> {
     Ok(line)
 }
 
-fn check(rt: &impl Print, alloc: Global, edit: Edit, name: &str) -> io::Result<()> {
-    let (Ok(mut line), Ok(mut shadow)) = (start(alloc), Shadow::new(alloc, TEXT)) else {
-        return println!(rt; "{name}: not begun");
-    };
-    let word = if change(alloc, edit, &mut line, &mut shadow) {
-        "done"
-    } else {
-        "refused"
-    };
+/// How an edit ended, and a mark where what it left is wrong.
+fn judged(
+    alloc: Global,
+    edit: Edit,
+    line: &mut LineBuffer,
+    shadow: &mut Shadow,
+) -> (&'static str, &'static str) {
+    let done = change(alloc, edit, line, shadow);
     let cursor = line.as_str().is_char_boundary(line.pos());
-    let verdict = if shadow.agrees(line.as_str()) && cursor {
-        ""
-    } else {
-        ", WRONG"
-    };
-    println!(rt; "{name}: {word}{verdict}")
+    let right = shadow.agrees(line.as_str()) && cursor;
+    (
+        if done { "done" } else { "refused" },
+        if right { "" } else { ", WRONG" },
+    )
+}
+
+fn made(alloc: Global, edit: Edit) -> Result<(&'static str, &'static str), OutOfMemory> {
+    let mut line = start(alloc)?;
+    let mut shadow = Shadow::new(alloc, TEXT)?;
+    Ok(judged(alloc, edit, &mut line, &mut shadow))
+}
+
+fn check(rt: &impl Print, alloc: Global, edit: Edit, name: &str) -> io::Result<()> {
+    let (word, mark) = made(alloc, edit).unwrap_or(("not begun", ""));
+    println!(rt; "{name}: {word}{mark}")
 }
 
 /// Makes all these calls, and tells of each.

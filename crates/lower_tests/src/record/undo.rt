@@ -300,47 +300,91 @@ const EACH_KIND_MADE_ANEW: &str = "
     undo 65535 = false one| two
     ";
 
+/// A line, and what hears of its changes: a ring, and a record beside it.
+#[derive(Drop)]
+struct Heard {
+    line: LineBuffer,
+    ring: KillRing,
+    changes: Changeset,
+}
+
+impl Heard {
+    /// A line that a table shows, of which nothing was heard.
+    fn new(alloc: Global, shown: &str) -> Result<Self, OutOfMemory> {
+        let line = line_of(alloc, shown)?;
+        let ring = KillRing::new(alloc, 2)?;
+        Ok(Heard {
+            line,
+            ring,
+            changes: Changeset::new(alloc)?,
+        })
+    }
+}
+
+/// Kills what stands behind the cursor, first at the line's end and then at its start; whether that was nothing, and all.
+fn killed_whole(
+    alloc: Global,
+    line: &mut LineBuffer,
+    both: &mut Joined<'_, KillRing, Changeset>,
+) -> Result<bool, OutOfMemory> {
+    both.start_killing();
+    let behind = line.kill_buffer(alloc, both)?;
+    line.move_buffer_start();
+    let all = line.kill_buffer(alloc, both)?;
+    both.stop_killing();
+    Ok(all && !behind)
+}
+
+/// Whether the whole line is killed, and the ring has it.
+fn hears_one_kill(alloc: Global, heard: &mut Heard) -> Result<bool, OutOfMemory> {
+    let mut both = Joined {
+        first: &mut heard.ring,
+        second: &mut heard.changes,
+    };
+    let killed = killed_whole(alloc, &mut heard.line, &mut both)?;
+    Ok(killed && heard.line.as_str().is_empty() && heard.ring.yank() == Some("one two"))
+}
+
 #[test]
 fn ring_and_record_told_together(rt: HostRuntime) -> Result<(), Fail> {
-    let alloc = rt.alloc();
-    let mut ring = KillRing::new(alloc, 2)?;
-    let mut changes = Changeset::new(alloc)?;
-    let mut line = line_of(alloc, "one two|")?;
-    {
-        let mut both = Joined {
-            first: &mut ring,
-            second: &mut changes,
-        };
-        both.start_killing();
-        assert!(rt; !line.kill_buffer(alloc, &mut both)?);
-        line.move_buffer_start();
-        assert!(rt; line.kill_buffer(alloc, &mut both)?);
-        both.stop_killing();
-    }
-    assert_eq!(rt; line.as_str(), "");
-    assert_eq!(rt; ring.yank(), Some("one two"));
+    let mut heard = Heard::new(rt.alloc(), "one two|")?;
+    assert!(rt; hears_one_kill(rt.alloc(), &mut heard)?);
     Ok(())
+}
+
+/// Makes a change of each kind, one of them a kill.
+fn changed_in_turn(
+    alloc: Global,
+    line: &mut LineBuffer,
+    both: &mut Joined<'_, KillRing, Changeset>,
+) -> Result<(), OutOfMemory> {
+    line.insert(alloc, 'a', 1, both)?;
+    line.yank(alloc, " bc", 1, both)?;
+    line.edit_word(alloc, WordAction::Uppercase, both)?;
+    line.kill(alloc, &Movement::BackwardWord(1, Word::Emacs), both)?;
+    line.insert(alloc, 'd', 1, both)?;
+    Ok(())
+}
+
+/// Whether the ring has what was killed, and the record what was put in last.
+fn each_hears_its_own(alloc: Global, heard: &mut Heard) -> Result<bool, OutOfMemory> {
+    let mut both = Joined {
+        first: &mut heard.ring,
+        second: &mut heard.changes,
+    };
+    changed_in_turn(alloc, &mut heard.line, &mut both)?;
+    Ok(
+        heard.line.as_str() == "a d"
+            && heard.ring.yank() == Some("bc")
+            && heard.changes.last_insert_text() == Some("d"),
+    )
 }
 
 /// A ring hears of every change of a line beside its record, and keeps what is killed alone.
 #[test]
 fn ring_beside_the_record(rt: HostRuntime) -> Result<(), Fail> {
-    let alloc = rt.alloc();
-    let mut line = LineBuffer::with_capacity(alloc, 8)?.can_growth(true);
-    let mut ring = KillRing::new(alloc, 2)?;
-    let mut changes = Changeset::new(alloc)?;
-    let mut both = Joined {
-        first: &mut ring,
-        second: &mut changes,
-    };
-    line.insert(alloc, 'a', 1, &mut both)?;
-    line.yank(alloc, " bc", 1, &mut both)?;
-    line.edit_word(alloc, WordAction::Uppercase, &mut both)?;
-    line.kill(alloc, &Movement::BackwardWord(1, Word::Emacs), &mut both)?;
-    line.insert(alloc, 'd', 1, &mut both)?;
-    assert_eq!(rt; line.as_str(), "a d");
-    assert_eq!(rt; ring.yank(), Some("bc"));
-    assert_eq!(rt; changes.last_insert_text(), Some("d"));
+    let mut heard = Heard::new(rt.alloc(), "")?;
+    assert!(rt; each_hears_its_own(rt.alloc(), &mut heard)?);
     Ok(())
 }
 

@@ -146,25 +146,42 @@ fn play_on(
     Ok(())
 }
 
-fn play_over(
+fn play_with(
     rt: &HostRuntime,
-    history: &MemHistory,
-    helper: Option<Aide>,
+    state: &mut Edited<'_>,
     steps: &[String],
 ) -> Result<io::Result<()>, ReadlineError> {
-    let alloc = rt.alloc();
+    let config = Config::builder().build();
+    let bindings = Bindings::new(rt.alloc())?;
+    let input = InputState::new(rt.alloc(), &config, &bindings)?;
+    let mut ring = KillRing::new(rt.alloc(), 2)?;
+    Ok(play_on(rt, state, &input, &mut ring, &config, steps))
+}
+
+fn edited<'h>(
+    rt: &HostRuntime,
+    history: &'h MemHistory,
+    helper: Option<Aide>,
+) -> Result<Edited<'h>, ReadlineError> {
     let screen = ScreenRenderer::new(
         WriteSink::new(rt.stderr()),
         COLUMNS,
         GraphemeClusterMode::Unicode,
         BellStyle::Audible,
     );
-    let config = Config::builder().build();
-    let bindings = Bindings::new(alloc)?;
-    let input = InputState::new(alloc, &config, &bindings)?;
-    let mut ring = KillRing::new(alloc, 2)?;
-    let mut state = State::new(alloc, screen, "> ", helper, Context::new(history))?;
-    Ok(play_on(rt, &mut state, &input, &mut ring, &config, steps))
+    State::new(rt.alloc(), screen, "> ", helper, Context::new(history))
+}
+
+fn play_over(
+    rt: &HostRuntime,
+    entries: &str,
+    words: &str,
+    steps: &[String],
+) -> Result<io::Result<()>, ReadlineError> {
+    let history = history_of(rt.alloc(), entries)?;
+    let helper = helper_of(rt.alloc(), words)?;
+    let mut state = edited(rt, &history, helper)?;
+    play_with(rt, &mut state, steps)
 }
 
 /// Makes the steps on a line over a history with these entries and a helper with these words, and tells after each of them
@@ -175,12 +192,7 @@ pub(crate) fn play(
     words: &str,
     steps: &[String],
 ) -> io::Result<()> {
-    let history = history_of(rt.alloc(), entries);
-    let helper = helper_of(rt.alloc(), words);
-    let (Ok(history), Ok(helper)) = (history, helper) else {
-        return eprintln!(rt; "not begun");
-    };
-    match play_over(rt, &history, helper, steps) {
+    match play_over(rt, entries, words, steps) {
         Ok(told) => told,
         Err(_) => eprintln!(rt; "not begun"),
     }

@@ -23,24 +23,38 @@ pub struct Desk {
 }
 
 impl Desk {
+    /// A line on which `START` was typed, and what was killed behind it.
     pub(crate) fn new(alloc: Global) -> Result<Self, OutOfMemory> {
+        let mut desk = Desk::empty(alloc)?;
+        desk.type_group()?;
+        desk.kill_last()?;
+        Ok(desk)
+    }
+
+    fn empty(alloc: Global) -> Result<Self, OutOfMemory> {
         let line = LineBuffer::with_capacity(alloc, 0)?.can_growth(true);
         let changes = Changeset::new(alloc)?;
-        let ring = KillRing::new(alloc, 2)?;
-        let mut desk = Desk {
+        Ok(Desk {
             line,
             changes,
-            ring,
+            ring: KillRing::new(alloc, 2)?,
             alloc,
-        };
-        desk.type_text("one two")?;
-        desk.begin()?;
-        desk.paste(" three")?;
-        desk.type_text(" fou")?;
-        desk.end()?;
-        desk.type_text("r")?;
-        desk.kill_word_back()?;
-        Ok(desk)
+        })
+    }
+
+    /// Types two words, and more in a group.
+    fn type_group(&mut self) -> Result<(), OutOfMemory> {
+        self.type_text("one two")?;
+        self.begin()?;
+        self.paste(" three")?;
+        self.type_text(" fou")
+    }
+
+    /// Ends the group, and kills a word with the letter after it.
+    fn kill_last(&mut self) -> Result<(), OutOfMemory> {
+        self.end()?;
+        self.type_text("r")?;
+        self.kill_word_back()
     }
 
     /// Takes away the room that the line has beyond its text.

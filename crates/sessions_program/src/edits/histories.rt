@@ -88,34 +88,40 @@ fn has_new(history: &mut FileHistory, rows: &[&str]) -> bool {
     history.append_to(&mut sink).is_ok() && sink.are_taken()
 }
 
-/// Adds the lines, each once, up to a refusal. Those before it are the entries, as far as there is room, and all of them
-/// are new.
+fn add(
+    alloc: Global,
+    history: &mut FileHistory,
+    line: &str,
+    owned: bool,
+) -> Result<bool, ReadlineError> {
+    if !owned {
+        return history.add(alloc, line);
+    }
+    let text = String::from_str(alloc, line)?;
+    history.add_owned(alloc, text)
+}
+
+/// Adds the lines, each once, up to a refusal: how many, and whether each answer is right.
+fn add_lines(alloc: Global, history: &mut FileHistory, owned: bool) -> (usize, bool) {
+    let mut count = 0usize;
+    for line in &LINES {
+        match add(alloc, history, line, owned) {
+            Ok(true) => count = count.saturating_add(1),
+            Ok(false) => return (count, false),
+            Err(error) => return (count, error == ReadlineError::Memory),
+        }
+    }
+    (count, true)
+}
+
+/// Adds the lines up to a refusal. Those before it are the entries, as far as there is room, and all of them are new.
 fn add_all(alloc: Global, size: usize, owned: bool) -> Came {
     let mut history = FileHistory::new(alloc);
     history.set_max_len(size);
-    let mut count = 0usize;
-    let mut stands = true;
-    for line in &LINES {
-        let answer = if owned {
-            match String::from_str(alloc, line) {
-                Ok(text) => history.add_owned(alloc, text),
-                Err(_) => Err(ReadlineError::Memory),
-            }
-        } else {
-            history.add(alloc, line)
-        };
-        match answer {
-            Ok(added) => stands = stands && added,
-            Err(error) => {
-                stands = stands && error == ReadlineError::Memory;
-                break;
-            }
-        }
-        count = count.saturating_add(1);
-    }
+    let (count, right) = add_lines(alloc, &mut history, owned);
     let added = &LINES[..count.min(LINES.len())];
     let kept = &added[added.len().saturating_sub(size)..];
-    stands = stands && has_entries(&history, kept) && has_new(&mut history, kept);
+    let stands = right && has_entries(&history, kept) && has_new(&mut history, kept);
     Came {
         done: count == LINES.len(),
         stands,

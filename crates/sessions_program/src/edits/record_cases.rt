@@ -181,20 +181,34 @@ fn is_known(text: &str) -> bool {
     TEXTS.iter().any(|known| *known == text)
 }
 
-/// Whether undoing item by item leaves nothing but known texts and ends at the empty one, and making all anew gives the
-/// present text back, or after an undo the one before it.
-fn comes_back(case: Case, desk: &mut Desk) -> Result<bool, OutOfMemory> {
-    let now = desk.copy_of_line()?;
-    let last = if case.rewinds() { START } else { now.as_str() };
+/// Whether undoing item by item leaves nothing but known texts and ends at the empty one.
+fn is_undone(desk: &mut Desk) -> Result<bool, OutOfMemory> {
     let mut known = true;
     for _ in 0..ALL {
         desk.undo(1)?;
         known &= is_known(desk.text()) && desk.has_cursor();
     }
-    known &= desk.text().is_empty();
+    Ok(known && desk.text().is_empty())
+}
+
+fn make_anew(desk: &mut Desk) -> Result<(), OutOfMemory> {
     for _ in 0..ALL {
         desk.redo()?;
     }
+    Ok(())
+}
+
+fn undone_and_anew(desk: &mut Desk) -> Result<bool, OutOfMemory> {
+    let known = is_undone(desk)?;
+    make_anew(desk)?;
+    Ok(known)
+}
+
+/// Whether all can be undone, and making all anew gives the present text back, or after an undo the one before it.
+fn comes_back(case: Case, desk: &mut Desk) -> Result<bool, OutOfMemory> {
+    let now = desk.copy_of_line()?;
+    let last = if case.rewinds() { START } else { now.as_str() };
+    let known = undone_and_anew(desk)?;
     Ok(known && desk.text() == last)
 }
 
@@ -214,32 +228,48 @@ fn begun(case: Case, alloc: Global) -> Result<(Desk, LineBuffer), OutOfMemory> {
     Ok((desk, before))
 }
 
-fn check(rt: &impl Print, alloc: Global, case: Case, name: &str) -> io::Result<()> {
-    let Ok((mut desk, before)) = begun(case, alloc) else {
-        return println!(rt; "{name}: not begun");
-    };
+/// Whether what a call left is right that was done.
+fn is_done(case: Case, desk: &mut Desk) -> Result<bool, OutOfMemory> {
+    let (_, new) = case.slots();
+    let right = desk.yanks(new);
+    Ok(comes_back(case, desk)? && right)
+}
+
+/// Whether what a call left is right that was refused.
+fn is_refused(case: Case, desk: &mut Desk, before: &LineBuffer) -> Result<bool, OutOfMemory> {
     let (old, new) = case.slots();
-    let (word, right) = match case.call(&mut desk) {
-        Ok(answer) => {
-            let right = answer && desk.yanks(new);
-            (
-                "done",
-                comes_back(case, &mut desk).map(|back| back && right),
-            )
-        }
-        Err(OutOfMemory) => {
-            let right = desk.yanks(old) || desk.yanks(new);
-            (
-                "refused",
-                is_left(case, &mut desk, &before).map(|left| left && right),
-            )
-        }
-    };
-    match right {
-        Ok(true) => println!(rt; "{name}: {word}"),
-        Ok(false) => println!(rt; "{name}: {word}, WRONG"),
-        Err(OutOfMemory) => println!(rt; "{name}: not judged"),
+    let right = desk.yanks(old) || desk.yanks(new);
+    Ok(is_left(case, desk, before)? && right)
+}
+
+/// How the call ended, and whether what it left is right.
+fn judged(
+    case: Case,
+    desk: &mut Desk,
+    before: &LineBuffer,
+) -> (&'static str, Result<bool, OutOfMemory>) {
+    match case.call(desk) {
+        Ok(true) => ("done", is_done(case, desk)),
+        Ok(false) => ("done", Ok(false)),
+        Err(OutOfMemory) => ("refused", is_refused(case, desk, before)),
     }
+}
+
+fn verdict(case: Case, alloc: Global) -> (&'static str, &'static str) {
+    let Ok((mut desk, before)) = begun(case, alloc) else {
+        return ("not begun", "");
+    };
+    let (word, right) = judged(case, &mut desk, &before);
+    match right {
+        Ok(true) => (word, ""),
+        Ok(false) => (word, ", WRONG"),
+        Err(OutOfMemory) => ("not judged", ""),
+    }
+}
+
+fn check(rt: &impl Print, alloc: Global, case: Case, name: &str) -> io::Result<()> {
+    let (word, mark) = verdict(case, alloc);
+    println!(rt; "{name}: {word}{mark}")
 }
 
 pub(crate) fn check_all(rt: &impl Print, alloc: Global) -> io::Result<()> {
