@@ -7,7 +7,7 @@ use crate::desk::{Desk, Stage, empty_desk, history_of, lent_by, line_shown, make
 use line_config::{Config, ReadlineError};
 use line_editor::commands::Status;
 use line_editor::run;
-use line_help::Helper;
+use line_help::{Helper, MemHistory};
 use line_keys::{Bindings, Cmd, CmdKind, Decides, Event, EventHandler, InputState, Text};
 use line_record::KillRing;
 use stand_ins::commands::command_named;
@@ -66,6 +66,12 @@ fn bind(alloc: Global, bindings: &mut Bindings, bound: &str) -> Result<(), Fail>
     }
 }
 
+fn bound(alloc: Global, words: &str) -> Result<Bindings, Fail> {
+    let mut bindings = Bindings::new(alloc)?;
+    bind(alloc, &mut bindings, words)?;
+    Ok(bindings)
+}
+
 // One turn: the next command, and what it does.
 fn turn<H: Helper + Drop, D: Decides>(
     desk: &mut Desk<'_, H>,
@@ -113,27 +119,45 @@ fn line<H: Helper + Drop, D: Decides>(
 /// What a row's keys lead to.
 #[derive(Drop)]
 struct Ended {
-    /// `Submit`, or the name of a refusal.
-    status: String,
-    line: String,
-    /// All calls, from the first drawing on.
-    calls: String,
-    /// What a yank would give.
-    ring: String,
+    /// What `run` is to leave of the same line.
+    whole: String,
+    /// The line, with all calls from the first drawing on, or with what a yank would give.
+    told: String,
+}
+
+// `Submit` or the name of a refusal, the line, all calls, and what a yank would give, as they are told.
+fn ended_as(
+    alloc: Global,
+    tells_ring: bool,
+    status: &str,
+    line: &str,
+    calls: &str,
+    ring: &str,
+) -> Result<Ended, AllocError> {
+    let text = match status {
+        "Submit " => line.trim_end_matches('|'),
+        refusal => refusal.trim(),
+    };
+    let last = if tells_ring { ring } else { calls };
+    let whole = format!(in alloc; "{text} / {calls} / {ring}")?;
+    Ok(Ended {
+        whole,
+        told: format!(in alloc; "{status}{line} / {last}")?,
+    })
 }
 
 fn end_of<H: Helper + Drop>(
     alloc: Global,
+    tells_ring: bool,
     desk: &Desk<'_, H>,
     ring: &mut KillRing,
     answer: Result<Status, ReadlineError>,
 ) -> Result<Ended, Fail> {
-    Ok(Ended {
-        status: status_of(alloc, answer)?,
-        line: line_shown(alloc, desk)?,
-        calls: String::from_str(alloc, desk.out.calls())?,
-        ring: lent_by(alloc, ring)?,
-    })
+    let status = status_of(alloc, answer)?;
+    let line = line_shown(alloc, desk)?;
+    let lent = lent_by(alloc, ring)?;
+    let (status, line, calls) = (status.as_str(), line.as_str(), desk.out.calls());
+    raised(ended_as(alloc, tells_ring, status, line, calls, lent.as_str()))
 }
 
 // Types a row's keys on a desk.
@@ -149,7 +173,7 @@ fn typed_on<H: Helper + Drop>(
     let mut ring = KillRing::new(alloc, 60)?;
     let mut reader = KeyList::new(&keys.typed, false, keys.after);
     let answer = line(desk, &mut input, &mut reader, &mut ring, &config);
-    end_of(alloc, desk, &mut ring, answer)
+    end_of(alloc, stage.tells_ring, desk, &mut ring, answer)
 }
 
 // Types a row's keys, over a helper.
@@ -177,8 +201,19 @@ pub(crate) fn run_over<H: Helper + Drop>(
     keys: &Input,
 ) -> Result<String, Fail> {
     let history = history_of(alloc, stage.history.as_str())?;
-    let config = Config::builder().edit_mode(stage.mode).build();
+    run_with(alloc, stage, helper, &history, bindings, keys)
+}
+
+fn run_with<H: Helper + Drop>(
+    alloc: Global,
+    stage: &Stage,
+    helper: Option<H>,
+    history: &MemHistory,
+    bindings: &Bindings,
+    keys: &Input,
+) -> Result<String, Fail> {
     let mut ring = KillRing::new(alloc, 60)?;
+    let config = Config::builder().edit_mode(stage.mode).build();
     let mut reader = KeyList::new(&keys.typed, false, keys.after);
     let mut out = CallList::new(alloc, stage.columns, stage.colours);
     out.log.answer(stage.answered);
@@ -188,7 +223,7 @@ pub(crate) fn run_over<H: Helper + Drop>(
         out,
         "> ",
         helper,
-        &history,
+        history,
         &config,
         bindings,
         &mut ring,
@@ -220,19 +255,13 @@ fn outcome_shown(
 }
 
 impl Ended {
-    // What `run` is to leave of this line.
-    fn whole(&self, alloc: Global) -> Result<String, AllocError> {
-        let text = match self.status.as_str() {
-            "Submit " => self.line.as_str().trim_end_matches('|'),
-            refusal => refusal.trim(),
-        };
-        format!(in alloc; "{text} / {} / {}", self.calls, self.ring)
-    }
-
-    // What is told of this line: the calls, or the ring.
-    fn told(&self, alloc: Global, ring: bool) -> Result<String, Fail> {
-        let last = if ring { &self.ring } else { &self.calls };
-        raised(format!(in alloc; "{}{} / {last}", self.status, self.line))
+    // What is told of this line, where `run` leaves the same.
+    fn told_if(self, whole: &str, keys: &str) -> Result<String, Fail> {
+        if whole == self.whole.as_str() {
+            Ok(self.told)
+        } else {
+            Err(Fail::new(format_args!("run leaves of {keys}: {whole}")))
+        }
     }
 }
 
@@ -245,16 +274,12 @@ struct Typist {
 impl Typist {
     // What `run` is to leave of the same line, and what the keys lead to, turn by turn.
     fn types(&self, alloc: Global, keys: &str) -> Result<String, Fail> {
-        let mut bindings = Bindings::new(alloc)?;
-        bind(alloc, &mut bindings, self.stage.bound.as_str())?;
+        let bindings = bound(alloc, self.stage.bound.as_str())?;
         let input = typed(alloc, keys)?;
         let stage = &self.stage;
-        let found = typed_over(alloc, stage, stage.helper(), &bindings, &input)?;
         let whole = run_over(alloc, stage, stage.helper(), &bindings, &input)?;
-        if whole.as_str() != found.whole(alloc)?.as_str() {
-            return Err(Fail::new(format_args!("run leaves of {keys}: {whole}")));
-        }
-        found.told(alloc, stage.tells_ring)
+        let found = typed_over(alloc, stage, stage.helper(), &bindings, &input)?;
+        found.told_if(whole.as_str(), keys)
     }
 }
 
