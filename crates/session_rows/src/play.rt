@@ -273,19 +273,28 @@ fn left_in_trays<S: Source + Drop>(
     );
     let mut handed = Vec::new(alloc);
     let end = handed_back(alloc, setting, source, display, lines, text, &mut handed)?;
-    let mut left = copied(alloc, &end)?;
+    let (shown, lines) = (end.display.bytes(), end.lines.bytes());
+    let mut left = copied(alloc, end.ending, shown, lines, end.text.bytes())?;
     tell_handed(setting, &mut left, &handed)?;
     Ok(left)
 }
 
-fn copied<S>(alloc: Global, end: &Ended<S, Tray, Tray, Tray>) -> Result<Left, AllocError> {
-    let lines = Vec::from_slice(alloc, end.lines.bytes())?;
-    let saved = Vec::from_slice(alloc, end.text.bytes())?;
+/// What stands after a session, copied.
+pub fn copied(
+    alloc: Global,
+    ending: Ending,
+    shown: &[u8],
+    lines: &[u8],
+    saved: &[u8],
+) -> Result<Left, AllocError> {
+    let lines = Vec::from_slice(alloc, lines)?;
+    let saved = Vec::from_slice(alloc, saved)?;
+    let shown = Vec::from_slice(alloc, shown)?;
     Ok(Left {
-        ending: end.ending,
+        ending,
         lines,
         saved,
-        shown: Vec::from_slice(alloc, end.display.bytes())?,
+        shown,
     })
 }
 

@@ -365,12 +365,11 @@ fn play_text(
     text: &str,
     played: &mut Played,
 ) -> Result<(), ReadlineError> {
-    let Some(row) = row_of(text) else {
-        return Ok(());
-    };
-    let keys = typed(alloc, row.keys)?;
-    let failed = play_row(alloc, setting, &keys, &mut played.told)?;
-    played.count = played.count.saturating_add(failed);
+    if let Some(row) = row_of(text) {
+        let keys = typed(alloc, row.keys)?;
+        let failed = play_row(alloc, setting, &keys, &mut played.told)?;
+        played.count = played.count.saturating_add(failed);
+    }
     Ok(())
 }
 

@@ -4,10 +4,9 @@ ghost use Rattle.std.specs.Prelude.{◌≡◌, false};
 
 use crate::fixtures::{plain, told};
 use keyline::{
-    Bindings, Config, Ended, Ending, ReadlineError, Session, Sink, SliceSource, Source, Unopened,
-    VecSink,
+    Bindings, Config, Ending, ReadlineError, Session, Sink, SliceSource, Source, Unopened, VecSink,
 };
-use session_rows::play::{Left, ended, left_of};
+use session_rows::play::{Left, copied, ended, left_of};
 use session_words::notation::{display_meant, field, setting_of};
 use stand_ins::rows::{Player, raised, rows_hold};
 use stand_ins::sources::Faltering;
@@ -101,19 +100,9 @@ fn two_lines_into(alloc: Global, display: Tray, lines: Tray) -> Result<(Left, bo
 {
     let source = SliceSource::new(TWO_LINES);
     let end = ended(alloc, &plain(), source, display, lines, VecSink::new(alloc))?;
-    let left = copied(alloc, &end)?;
+    let (shown, written) = (end.display.bytes(), end.lines.bytes());
+    let left = copied(alloc, end.ending, shown, written, end.text.bytes())?;
     Ok((left, end.display.failed_in_flush()))
-}
-
-fn copied<S>(alloc: Global, end: &Ended<S, Tray, Tray, VecSink>) -> Result<Left, AllocError> {
-    let lines = Vec::from_slice(alloc, end.lines.bytes())?;
-    let saved = Vec::from_slice(alloc, end.text.bytes())?;
-    Ok(Left {
-        ending: end.ending,
-        lines,
-        saved,
-        shown: Vec::from_slice(alloc, end.display.bytes())?,
-    })
 }
 
 /// A sink with room for all.
