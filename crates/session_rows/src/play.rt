@@ -55,43 +55,19 @@ fn opening_of(alloc: Global, setting: &Setting<'_>) -> Result<Opening, ReadlineE
     })
 }
 
-fn handler_of(alloc: Global, action: Action) -> Result<EventHandler, AllocError> {
-    match action {
-        Action::Command(cmd) => Ok(EventHandler::Simple(cmd)),
-        Action::Handler(answering) => {
-            let boxed = Box::new(alloc, answering)?;
-            Ok(EventHandler::Conditional(boxed))
-        }
-    }
-}
-
-fn bind(alloc: Global, bindings: &mut Bindings, bound: Bound) -> Result<(), ReadlineError> {
-    let Bound { event, action } = bound;
-    let handler = handler_of(alloc, action)?;
-    let _ = bindings.bind_sequence(event, handler)?;
-    Ok(())
-}
-
-fn bind_all(alloc: Global, bindings: &mut Bindings, all: Vec<Bound>) -> Result<(), ReadlineError> {
-    for bound in all {
-        bind(alloc, bindings, bound)?;
-    }
-    Ok(())
-}
-
 /// How a session takes keys.
 #[derive(Drop)]
 struct Keyed {
     config: Config,
-    bindings: Bindings,
+    bound: Vec<Bound>,
 }
 
 fn keyed_by(alloc: Global, setting: &Setting<'_>) -> Result<Keyed, ReadlineError> {
     let config = config_of(setting)?;
-    let all = bound_by(alloc, setting.all)?;
-    let mut bindings = Bindings::new(alloc)?;
-    bind_all(alloc, &mut bindings, all)?;
-    Ok(Keyed { config, bindings })
+    Ok(Keyed {
+        config,
+        bound: bound_by(alloc, setting.all)?,
+    })
 }
 
 /// What a session is begun with, besides its devices.
@@ -175,11 +151,21 @@ where
     requires lines { L.has_failed lines ≡ false }
     requires text { T.has_failed text ≡ false }
 {
+    // Handlers are boxed here: a function that handed them out could promise nothing of them.
+    let mut bindings = Bindings::new(alloc)?;
+    for bound in keyed.bound {
+        let Bound { event, action } = bound;
+        let handler = match action {
+            Action::Command(cmd) => EventHandler::Simple(cmd),
+            Action::Handler(answering) => EventHandler::Conditional(Box::new(alloc, answering)?),
+        };
+        let _ = bindings.bind_sequence(event, handler)?;
+    }
     let prompt = opening.prompt.as_str();
     let session = Session::open(
         alloc,
         keyed.config,
-        keyed.bindings,
+        bindings,
         SliceSource::new(&opening.loaded),
         helper,
         prompt,
