@@ -76,6 +76,12 @@ fn turns<H: Helper + Drop, D: Decides>(
     Ok(Status::Proceed)
 }
 
+// Sends the cursor to the line's end.
+fn left_at_the_end<H: Helper + Drop>(desk: &mut Desk<'_, H>) -> Result<(), ReadlineError> {
+    desk.edit_move_buffer_end(CmdKind::ForcedRefresh)?;
+    desk.move_cursor_to_end()
+}
+
 // A line from its first drawing to its end.
 fn line<H: Helper + Drop, D: Decides>(
     desk: &mut Desk<'_, H>,
@@ -86,8 +92,7 @@ fn line<H: Helper + Drop, D: Decides>(
 ) -> Result<Status, ReadlineError> {
     make(desk, input, ring, config, Cmd::Repaint)?;
     let status = turns(desk, input, keys, ring, config)?;
-    desk.edit_move_buffer_end(CmdKind::ForcedRefresh)?;
-    desk.move_cursor_to_end()?;
+    left_at_the_end(desk)?;
     Ok(status)
 }
 
