@@ -102,6 +102,12 @@ impl CallList {
     }
 }
 
+// What stands after a line, in braces.
+fn tell_hint(alloc: Global, text: &mut String, hint: &str) -> Result<(), AllocError> {
+    let hint = pictured(alloc, hint)?;
+    write!(text, "{{{hint}}}")
+}
+
 // The text that is drawn: prompt, line and what stands after it.
 fn drawn(
     alloc: Global,
@@ -112,9 +118,22 @@ fn drawn(
     let mut text = pictured(alloc, prompt)?;
     text.push_str(marked(alloc, line.as_str(), line.pos())?.as_str())?;
     if let Some(hint) = hint {
-        write!(text, "{{{}}}", pictured(alloc, hint)?)?;
+        tell_hint(alloc, &mut text, hint)?;
     }
     Ok(text)
+}
+
+// What stands after the places of a drawing.
+fn tell_rest(call: &mut String, old: Option<Layout>, lit: bool) -> Result<(), AllocError> {
+    match old {
+        None => call.push_str(" fresh")?,
+        Some(old) if old.cursor.row == 0 => {}
+        Some(old) => write!(call, " below {}", old.cursor.row)?,
+    }
+    if lit {
+        call.push_str(" lit")?;
+    }
+    Ok(())
 }
 
 // A drawing in words.
@@ -129,14 +148,7 @@ fn drawing(
         "draw '{text}' at {},{} to {},{}",
         new.cursor.row, new.cursor.col, new.end.row, new.end.col
     )?;
-    match old {
-        None => call.push_str(" fresh")?,
-        Some(old) if old.cursor.row == 0 => {}
-        Some(old) => write!(call, " below {}", old.cursor.row)?,
-    }
-    if lit {
-        call.push_str(" lit")?;
-    }
+    tell_rest(&mut call, old, lit)?;
     Ok(call)
 }
 

@@ -13,7 +13,7 @@ use line_help::{
     Completer, Context, Helper, Highlighter, Hinter, History, ValidationContext, ValidationResult,
     Validator, update_line,
 };
-use line_keys::{Bindings, CmdKind};
+use line_keys::CmdKind;
 use stand_ins::rows::{Player, raised, rows_hold};
 use std::alloc::Global;
 use std::borrow::CowStr;
@@ -159,18 +159,16 @@ struct Counter {
 
 impl Counter {
     // Types a row's keys, or makes its commands.
-    fn led(&self, alloc: Global, helper: Counting<'_>, row: &str) -> Result<(), Fail> {
+    fn led(&self, alloc: Global, helper: Counting<'_>, row: &str) -> Result<String, Fail> {
         let Some((shown, rest)) = row.split_once(": ") else {
             return Err(Fail::new(format_args!("no row: {row}")));
         };
         if shown == "keys" {
-            let bindings = Bindings::new(alloc)?;
             let keys = typed(alloc, rest)?;
-            let _ = run_over(alloc, &self.stage, Some(helper), &bindings, &keys)?;
+            run_over(alloc, &self.stage, Some(helper), &keys)
         } else {
-            let _ = led_over(alloc, &self.stage, Some(helper), shown, rest)?;
+            led_over(alloc, &self.stage, Some(helper), shown, rest)
         }
-        Ok(())
     }
 }
 
@@ -185,7 +183,7 @@ impl Player for Counter {
             hints: &hints,
             verdicts: &verdicts,
         };
-        self.led(alloc, helper, row)?;
+        let _ = self.led(alloc, helper, row)?;
         raised(format!(in alloc; "{} {}", hints.get(), verdicts.get()))
     }
 }
@@ -223,6 +221,6 @@ const COUNTS: &str = "
 
 #[test]
 fn each_hook_is_asked_once(rt: HostRuntime) -> Result<(), Fail> {
-    let stage = Stage::new(rt.alloc());
+    let stage = Stage::new(rt.alloc())?;
     rows_hold(rt.alloc(), &mut Counter { stage }, COUNTS)
 }

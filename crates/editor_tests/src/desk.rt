@@ -10,14 +10,15 @@
 
 use crate::calls::CallList;
 use crate::helpers::{Adviser, Offer, Verdict};
-use line_buffer::Unit;
+use line_buffer::{LineBuffer, Unit};
 use line_config::{Config, EditMode, ReadlineError};
 use line_editor::commands::{Status, execute};
 use line_editor::{RefreshKind, State};
 use line_help::{Context, Helper, History, MemHistory};
-use line_keys::{Bindings, Cmd, CmdKind, Decides, InputState};
+use line_keys::{Bindings, Cmd, CmdKind, Decides, Event, EventHandler, InputState, KeyEvent};
 use line_record::{Changeset, KillRing};
 use stand_ins::commands::command_named;
+use stand_ins::key_names::key_named;
 use stand_ins::rows::{Player, raised, rows_hold, trimmed};
 use stand_ins::tables::{marked, meant, pictured, word_and_rest};
 use std::alloc::{AllocError, Global};
@@ -28,8 +29,7 @@ use std::test::Fail;
 pub(crate) struct Stage {
     pub columns: Unit,
     pub colours: bool,
-    /// The entries of the history, oldest first, parted by commas.
-    pub history: String,
+    pub history: MemHistory,
     /// Whether there is a helper.
     helped: bool,
     helper: Adviser,
@@ -38,8 +38,7 @@ pub(crate) struct Stage {
     pub mode: EditMode,
     /// The commands that are made before each row's own, with `; ` after each.
     first: String,
-    /// A key and the command that it is bound to, or nothing.
-    pub bound: String,
+    pub bindings: Bindings,
     /// Whether the ring is told of, and not the calls.
     pub tells_ring: bool,
 }
@@ -87,19 +86,20 @@ fn offer_of(words: &str) -> Offer {
 
 impl Stage {
     /// A display of 80 columns without colours, no history and no helper.
-    pub(crate) fn new(alloc: Global) -> Self {
-        Stage {
+    pub(crate) fn new(alloc: Global) -> Result<Self, ReadlineError> {
+        let bindings = Bindings::new(alloc)?;
+        Ok(Stage {
             columns: 80,
             colours: false,
-            history: String::new(alloc),
+            history: MemHistory::new(alloc),
             helped: false,
             helper: Adviser::new(Verdict::Valid, ""),
             answered: None,
             mode: EditMode::Emacs,
             first: String::new(alloc),
-            bound: String::new(alloc),
+            bindings,
             tells_ring: false,
-        }
+        })
     }
 
     pub(crate) fn helper(&self) -> Option<Adviser> {
@@ -110,9 +110,9 @@ impl Stage {
     pub(crate) fn sets(&mut self, alloc: Global, row: &str) -> Result<bool, Fail> {
         let (word, rest) = word_and_rest(row);
         match word {
-            "bind:" => self.bound = String::from_str(alloc, rest)?,
+            "bind:" => self.bindings = bound(alloc, rest)?,
             "first:" => self.first = format!(in alloc; "{rest}; ")?,
-            "history:" => self.history = String::from_str(alloc, rest)?,
+            "history:" => self.history = history_of(alloc, rest)?,
             _ => return Ok(self.sets_display(word, rest)),
         }
         Ok(true)
@@ -168,13 +168,38 @@ impl Stage {
 /// the checker of borrows finds no only answer to what a hint is.
 pub(crate) type Desk<'h, H> = State<'static, 'h, CallList, H, MemHistory>;
 
-pub(crate) fn history_of(alloc: Global, entries: &str) -> Result<MemHistory, ReadlineError> {
+// A history with these entries, oldest first, parted by commas.
+fn history_of(alloc: Global, entries: &str) -> Result<MemHistory, ReadlineError> {
     let mut history = MemHistory::new(alloc);
     for entry in entries.split(',') {
         let text = meant(alloc, entry)?;
         let _ = history.add(alloc, text.as_str())?;
     }
     Ok(history)
+}
+
+/// The key with this name.
+pub(crate) fn key_of(name: &str) -> Result<KeyEvent, Fail> {
+    match key_named(name) {
+        Some(key) => Ok(key),
+        None => Err(Fail::new(format_args!("no key: {name}"))),
+    }
+}
+
+// Binds a key to a command.
+fn bind(alloc: Global, bindings: &mut Bindings, name: &str, words: &str) -> Result<(), Fail> {
+    let event = Event::from_key(alloc, key_of(name)?)?;
+    let cmd = command_of(alloc, words)?;
+    let _ = bindings.bind_sequence(event, EventHandler::Simple(cmd))?;
+    Ok(())
+}
+
+// The bindings that a row `C-O: HistorySearchBackward` makes.
+fn bound(alloc: Global, row: &str) -> Result<Bindings, Fail> {
+    let (name, words) = row.split_once(": ").unwrap_or((row, ""));
+    let mut bindings = Bindings::new(alloc)?;
+    bind(alloc, &mut bindings, name, words)?;
+    Ok(bindings)
 }
 
 // Puts a text behind the cursor.
@@ -186,6 +211,18 @@ fn put<H: Helper + Drop>(
     desk.edit_insert_text(meant(alloc, shown)?.as_str())
 }
 
+// Puts texts before the cursor and behind it.
+fn put_around<H: Helper + Drop>(
+    alloc: Global,
+    desk: &mut Desk<'_, H>,
+    before: &str,
+    after: &str,
+) -> Result<(), ReadlineError> {
+    put(alloc, desk, before)?;
+    desk.edit_move_buffer_end(CmdKind::Other)?;
+    put(alloc, desk, after)
+}
+
 // Puts the line there that a table shows, with nothing in its record.
 fn set_line<H: Helper + Drop>(
     alloc: Global,
@@ -193,22 +230,20 @@ fn set_line<H: Helper + Drop>(
     shown: &str,
 ) -> Result<(), ReadlineError> {
     let (before, after) = shown.split_once('|').unwrap_or((shown, ""));
-    put(alloc, desk, before)?;
-    desk.edit_move_buffer_end(CmdKind::Other)?;
-    put(alloc, desk, after)?;
+    let changes = Changeset::new(alloc)?;
+    put_around(alloc, desk, before, after)?;
     let recorded = &mut desk.recorded;
-    recorded.changes = Changeset::new(alloc)?;
+    recorded.changes = changes;
     desk.repaint(RefreshKind::All)
 }
 
-/// A state over these entries, with nothing typed and nothing drawn.
-pub(crate) fn empty_desk<'h, H: Helper + Drop>(
+// A state with nothing typed and nothing drawn.
+fn empty_desk<'h, H: Helper + Drop>(
     alloc: Global,
-    stage: &Stage,
-    history: &'h MemHistory,
+    stage: &'h Stage,
 ) -> Result<Desk<'h, H>, ReadlineError> {
     let out = CallList::new(alloc, stage.columns, stage.colours);
-    State::new(alloc, out, "> ", None, Context::new(history))
+    State::new(alloc, out, "> ", None, Context::new(&stage.history))
 }
 
 /// Makes a command, as a turn of a line does.
@@ -237,11 +272,8 @@ pub(crate) fn status_of(
 }
 
 /// A line as tables show it: a blank at its start as its picture.
-pub(crate) fn line_shown<H: Helper + Drop>(
-    alloc: Global,
-    desk: &Desk<'_, H>,
-) -> Result<String, AllocError> {
-    let shown = marked(alloc, desk.recorded.line.as_str(), desk.recorded.line.pos())?;
+pub(crate) fn line_shown(alloc: Global, line: &LineBuffer) -> Result<String, AllocError> {
+    let shown = marked(alloc, line.as_str(), line.pos())?;
     match shown.as_str().strip_prefix(' ') {
         Some(rest) => format!(in alloc; "␠{rest}"),
         None => Ok(shown),
@@ -256,22 +288,32 @@ pub(crate) fn lent_by(alloc: Global, ring: &mut KillRing) -> Result<String, Allo
     }
 }
 
-// Makes a command by its words; how it ended.
+/// The command with these words.
+pub(crate) fn command_of(alloc: Global, words: &str) -> Result<Cmd, Fail> {
+    match command_named(alloc, words) {
+        Some(cmd) => Ok(cmd),
+        None => Err(Fail::new(format_args!("no command: {words}"))),
+    }
+}
+
+// Makes a command by its words, its calls alone kept; how it ended.
 fn make_named<H: Helper + Drop>(
     alloc: Global,
     desk: &mut Desk<'_, H>,
     input: &InputState<'_>,
     ring: &mut KillRing,
     config: &Config,
+    answered: Option<u32>,
     words: &str,
 ) -> Result<String, Fail> {
-    let Some(cmd) = command_named(alloc, words) else {
-        return Err(Fail::new(format_args!("no command: {words}")));
-    };
+    let cmd = command_of(alloc, words)?;
+    let out = &mut desk.out;
+    out.log.forget();
+    out.log.answer(answered);
     status_of(alloc, make(desk, input, ring, config, cmd))
 }
 
-// Makes commands one after the other, the calls of the last of them kept; how that one ended.
+// Makes commands one after the other; how the last of them ended.
 fn make_all<H: Helper + Drop>(
     alloc: Global,
     desk: &mut Desk<'_, H>,
@@ -283,10 +325,7 @@ fn make_all<H: Helper + Drop>(
 ) -> Result<String, Fail> {
     let mut status = String::new(alloc);
     for words in commands.split("; ") {
-        let out = &mut desk.out;
-        out.log.forget();
-        out.log.answer(answered);
-        status = make_named(alloc, desk, input, ring, config, words.trim())?;
+        status = make_named(alloc, desk, input, ring, config, answered, words.trim())?;
     }
     Ok(status)
 }
@@ -304,8 +343,40 @@ fn told<H: Helper + Drop>(
     if stage.tells_ring {
         return ring_told(alloc, desk, input, ring, config);
     }
-    let line = line_shown(alloc, desk)?;
-    raised(format!(in alloc; "{status}{line} / {}", desk.out.calls()))
+    let (recorded, out) = (&desk.recorded, &desk.out);
+    raised(calls_told(alloc, &recorded.line, out.calls(), status))
+}
+
+// How the last command ended, the line, and the calls.
+fn calls_told(
+    alloc: Global,
+    line: &LineBuffer,
+    calls: &str,
+    status: &str,
+) -> Result<String, AllocError> {
+    let line = line_shown(alloc, line)?;
+    format!(in alloc; "{status}{line} / {calls}")
+}
+
+// The line, and what a yank would give.
+fn kept_told(alloc: Global, line: &LineBuffer, ring: &mut KillRing) -> Result<String, AllocError> {
+    let line = line_shown(alloc, line)?;
+    let lent = lent_by(alloc, ring)?;
+    format!(in alloc; "{line} / {lent}")
+}
+
+// The line when one change is taken back.
+fn undone<H: Helper + Drop>(
+    alloc: Global,
+    desk: &mut Desk<'_, H>,
+    input: &InputState<'_>,
+    ring: &mut KillRing,
+    config: &Config,
+) -> Result<String, AllocError> {
+    let out = &mut desk.out;
+    out.log.answer(None);
+    let _ = make(desk, input, ring, config, Cmd::Undo(1));
+    line_shown(alloc, &desk.recorded.line)
 }
 
 // The line, what a yank would give, and the line when one change is taken back.
@@ -316,55 +387,113 @@ fn ring_told<H: Helper + Drop>(
     ring: &mut KillRing,
     config: &Config,
 ) -> Result<String, Fail> {
-    let line = line_shown(alloc, desk)?;
-    let lent = lent_by(alloc, ring)?;
-    let out = &mut desk.out;
-    out.log.answer(None);
-    let _ = make(desk, input, ring, config, Cmd::Undo(1));
-    let undone = line_shown(alloc, desk)?;
-    raised(format!(in alloc; "{line} / {lent} / {undone}"))
+    let kept = kept_told(alloc, &desk.recorded.line, ring)?;
+    let undone = undone(alloc, desk, input, ring, config)?;
+    raised(format!(in alloc; "{kept} / {undone}"))
 }
 
-// Makes the commands of a row, and tells what they led to.
-fn led<H: Helper + Drop>(
+/// What is done on a desk.
+pub(crate) trait Work {
+    /// What there is before the helper comes.
+    fn begin<H: Helper + Drop>(
+        &self,
+        alloc: Global,
+        desk: &mut Desk<'_, H>,
+    ) -> Result<(), ReadlineError>;
+
+    /// What it leads to.
+    fn done<H: Helper + Drop>(
+        &self,
+        alloc: Global,
+        stage: &Stage,
+        desk: &mut Desk<'_, H>,
+        input: &mut InputState<'_>,
+        ring: &mut KillRing,
+        config: &Config,
+    ) -> Result<String, Fail>;
+}
+
+/// The commands of a row, and the line that it shows.
+#[derive(Drop)]
+struct Commands<'r> {
+    shown: &'r str,
+    commands: &'r str,
+}
+
+impl Work for Commands<'_> {
+    fn begin<H: Helper + Drop>(
+        &self,
+        alloc: Global,
+        desk: &mut Desk<'_, H>,
+    ) -> Result<(), ReadlineError> {
+        set_line(alloc, desk, self.shown)
+    }
+
+    fn done<H: Helper + Drop>(
+        &self,
+        alloc: Global,
+        stage: &Stage,
+        desk: &mut Desk<'_, H>,
+        input: &mut InputState<'_>,
+        ring: &mut KillRing,
+        config: &Config,
+    ) -> Result<String, Fail> {
+        let status = make_all(
+            alloc,
+            desk,
+            input,
+            ring,
+            config,
+            stage.answered,
+            self.commands,
+        )?;
+        told(alloc, stage, desk, input, ring, config, status.as_str())
+    }
+}
+
+fn done_with<H: Helper + Drop, W: Work>(
     alloc: Global,
     stage: &Stage,
     desk: &mut Desk<'_, H>,
-    input: &InputState<'_>,
     ring: &mut KillRing,
-    config: &Config,
-    commands: &str,
+    work: &W,
 ) -> Result<String, Fail> {
-    let status = make_all(alloc, desk, input, ring, config, stage.answered, commands)?;
-    told(alloc, stage, desk, input, ring, config, status.as_str())
+    let config = Config::builder().edit_mode(stage.mode).build();
+    let mut input = InputState::new(alloc, &config, &stage.bindings)?;
+    work.done(alloc, stage, desk, &mut input, ring, &config)
 }
 
-// Makes the commands of a row on a desk.
-fn led_on<H: Helper + Drop>(
+fn done_on<H: Helper + Drop, W: Work>(
     alloc: Global,
     stage: &Stage,
     desk: &mut Desk<'_, H>,
-    commands: &str,
+    work: &W,
 ) -> Result<String, Fail> {
-    let bindings = Bindings::new(alloc)?;
-    let config = Config::builder().edit_mode(stage.mode).build();
-    let input = InputState::new(alloc, &config, &bindings)?;
     let mut ring = KillRing::new(alloc, 60)?;
-    led(alloc, stage, desk, &input, &mut ring, &config, commands)
+    done_with(alloc, stage, desk, &mut ring, work)
 }
 
-// Makes the commands of a row with the line that it shows drawn; the helper comes after that.
-fn led_from<H: Helper + Drop>(
+fn done_from<H: Helper + Drop, W: Work>(
     alloc: Global,
     stage: &Stage,
     desk: &mut Desk<'_, H>,
     helper: Option<H>,
-    shown: &str,
-    commands: &str,
+    work: &W,
 ) -> Result<String, Fail> {
-    set_line(alloc, desk, shown)?;
+    work.begin(alloc, desk)?;
     desk.helper = helper;
-    led_on(alloc, stage, desk, commands)
+    done_on(alloc, stage, desk, work)
+}
+
+/// Does work over a helper.
+pub(crate) fn done_over<H: Helper + Drop, W: Work>(
+    alloc: Global,
+    stage: &Stage,
+    helper: Option<H>,
+    work: &W,
+) -> Result<String, Fail> {
+    let mut desk = empty_desk(alloc, stage)?;
+    done_from(alloc, stage, &mut desk, helper, work)
 }
 
 /// Makes the commands of a row, over a helper.
@@ -375,9 +504,18 @@ pub(crate) fn led_over<H: Helper + Drop>(
     shown: &str,
     commands: &str,
 ) -> Result<String, Fail> {
-    let history = history_of(alloc, stage.history.as_str())?;
-    let mut desk = empty_desk(alloc, stage, &history)?;
-    led_from(alloc, stage, &mut desk, helper, shown, commands)
+    done_over(alloc, stage, helper, &Commands { shown, commands })
+}
+
+impl Stage {
+    // What the commands of a row lead to.
+    fn led_by(&self, alloc: Global, row: &str) -> Result<String, Fail> {
+        let Some((shown, commands)) = row.split_once(": ") else {
+            return Err(Fail::new(format_args!("no row: {row}")));
+        };
+        let commands = format!(in alloc; "{}{commands}", self.first)?;
+        led_over(alloc, self, self.helper(), shown, commands.as_str())
+    }
 }
 
 impl Player for Stage {
@@ -385,11 +523,7 @@ impl Player for Stage {
         if self.sets(alloc, row)? {
             return Ok(String::new(alloc));
         }
-        let Some((shown, commands)) = row.split_once(": ") else {
-            return Err(Fail::new(format_args!("no row: {row}")));
-        };
-        let commands = format!(in alloc; "{}{commands}", self.first)?;
-        let said = led_over(alloc, self, self.helper(), shown, commands.as_str())?;
+        let said = self.led_by(alloc, row)?;
         trimmed(alloc, said.as_str())
     }
 }
@@ -405,6 +539,6 @@ pub(crate) fn holds(rt: &impl AllocGlobal, tables: &[&str]) -> Result<(), Fail> 
 }
 
 fn stage_holds(alloc: Global, table: &str) -> Result<(), Fail> {
-    let mut stage = Stage::new(alloc);
+    let mut stage = Stage::new(alloc)?;
     rows_hold(alloc, &mut stage, table)
 }

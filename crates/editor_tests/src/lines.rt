@@ -3,15 +3,14 @@
 //! after it is as in tables of commands, and `bind: C-O: Noop` is the only key that is bound to a command.
 
 use crate::calls::CallList;
-use crate::desk::{Desk, Stage, empty_desk, history_of, lent_by, line_shown, make, status_of};
+use crate::desk::{Desk, Stage, Work, done_over, key_of, lent_by, line_shown, make, status_of};
+use line_buffer::LineBuffer;
 use line_config::{Config, ReadlineError};
 use line_editor::commands::Status;
 use line_editor::run;
-use line_help::{Helper, MemHistory};
-use line_keys::{Bindings, Cmd, CmdKind, Decides, Event, EventHandler, InputState, Text};
+use line_help::Helper;
+use line_keys::{Cmd, CmdKind, Decides, InputState, Text};
 use line_record::KillRing;
-use stand_ins::commands::command_named;
-use stand_ins::key_names::key_named;
 use stand_ins::readers::{After, KeyList, Typed};
 use stand_ins::rows::{Player, raised, rows_hold, trimmed};
 use stand_ins::tables::{meant, pictured};
@@ -29,10 +28,7 @@ fn item(alloc: Global, word: &str) -> Result<Typed, Fail> {
     if let Some(text) = word.strip_prefix("text:") {
         return Ok(Typed::Paste(Text::from(meant(alloc, text)?)));
     }
-    match key_named(word) {
-        Some(key) => Ok(Typed::Key(key)),
-        None => Err(Fail::new(format_args!("no key: {word}"))),
-    }
+    Ok(Typed::Key(key_of(word)?))
 }
 
 /// Keys and pasted texts by a row's words.
@@ -49,27 +45,6 @@ pub(crate) fn typed(alloc: Global, words: &str) -> Result<Input, Fail> {
         }
     }
     Ok(input)
-}
-
-// Binds as a row `C-O: HistorySearchBackward` says, or nothing.
-fn bind(alloc: Global, bindings: &mut Bindings, bound: &str) -> Result<(), Fail> {
-    let Some((name, words)) = bound.split_once(": ") else {
-        return Ok(());
-    };
-    match (key_named(name), command_named(alloc, words)) {
-        (Some(key), Some(cmd)) => {
-            let event = Event::from_key(alloc, key)?;
-            let _ = bindings.bind_sequence(event, EventHandler::Simple(cmd))?;
-            Ok(())
-        }
-        _ => Err(Fail::new(format_args!("no binding: {bound}"))),
-    }
-}
-
-fn bound(alloc: Global, words: &str) -> Result<Bindings, Fail> {
-    let mut bindings = Bindings::new(alloc)?;
-    bind(alloc, &mut bindings, words)?;
-    Ok(bindings)
 }
 
 // One turn: the next command, and what it does.
@@ -101,6 +76,12 @@ fn turns<H: Helper + Drop, D: Decides>(
     Ok(Status::Proceed)
 }
 
+// Sends the cursor to the line's end.
+fn left_at_the_end<H: Helper + Drop>(desk: &mut Desk<'_, H>) -> Result<(), ReadlineError> {
+    desk.edit_move_buffer_end(CmdKind::ForcedRefresh)?;
+    desk.move_cursor_to_end()
+}
+
 // A line from its first drawing to its end.
 fn line<H: Helper + Drop, D: Decides>(
     desk: &mut Desk<'_, H>,
@@ -111,85 +92,96 @@ fn line<H: Helper + Drop, D: Decides>(
 ) -> Result<Status, ReadlineError> {
     make(desk, input, ring, config, Cmd::Repaint)?;
     let status = turns(desk, input, keys, ring, config)?;
-    desk.edit_move_buffer_end(CmdKind::ForcedRefresh)?;
-    desk.move_cursor_to_end()?;
+    left_at_the_end(desk)?;
     Ok(status)
 }
 
-/// What a row's keys lead to.
-#[derive(Drop)]
-struct Ended {
-    /// What `run` is to leave of the same line.
-    whole: String,
-    /// The line, with all calls from the first drawing on, or with what a yank would give.
-    told: String,
-}
-
-// `Submit` or the name of a refusal, the line, all calls, and what a yank would give, as they are told.
-fn ended_as(
+// Whether `run` left what the same line leaves, turn by turn.
+fn left_alike(
     alloc: Global,
-    tells_ring: bool,
+    left: &str,
     status: &str,
     line: &str,
     calls: &str,
     ring: &str,
-) -> Result<Ended, AllocError> {
+) -> Result<bool, AllocError> {
     let text = match status {
         "Submit " => line.trim_end_matches('|'),
         refusal => refusal.trim(),
     };
-    let last = if tells_ring { ring } else { calls };
-    let whole = format!(in alloc; "{text} / {calls} / {ring}")?;
-    Ok(Ended {
-        whole,
-        told: format!(in alloc; "{status}{line} / {last}")?,
-    })
+    let found = format!(in alloc; "{text} / {calls} / {ring}")?;
+    Ok(found.as_str() == left)
 }
 
-fn end_of<H: Helper + Drop>(
-    alloc: Global,
-    tells_ring: bool,
-    desk: &Desk<'_, H>,
-    ring: &mut KillRing,
-    answer: Result<Status, ReadlineError>,
-) -> Result<Ended, Fail> {
-    let status = status_of(alloc, answer)?;
-    let line = line_shown(alloc, desk)?;
-    let lent = lent_by(alloc, ring)?;
-    let (status, line, calls) = (status.as_str(), line.as_str(), desk.out.calls());
-    raised(ended_as(alloc, tells_ring, status, line, calls, lent.as_str()))
+/// Keys that are typed turn by turn.
+#[derive(Drop)]
+struct Keys<'r> {
+    input: &'r Input,
+    /// What `run` left of the same line.
+    left: &'r str,
 }
 
-// Types a row's keys on a desk.
-fn typed_on<H: Helper + Drop>(
-    alloc: Global,
-    stage: &Stage,
-    desk: &mut Desk<'_, H>,
-    bindings: &Bindings,
-    keys: &Input,
-) -> Result<Ended, Fail> {
-    let config = Config::builder().edit_mode(stage.mode).build();
-    let mut input = InputState::new(alloc, &config, bindings)?;
-    let mut ring = KillRing::new(alloc, 60)?;
-    let mut reader = KeyList::new(&keys.typed, false, keys.after);
-    let answer = line(desk, &mut input, &mut reader, &mut ring, &config);
-    end_of(alloc, stage.tells_ring, desk, &mut ring, answer)
+impl Keys<'_> {
+    // `Submit` or the name of a refusal, the line, and all calls or what a yank would give.
+    fn told(
+        &self,
+        alloc: Global,
+        tells_ring: bool,
+        status: &str,
+        line: &str,
+        calls: &str,
+        ring: &str,
+    ) -> Result<String, AllocError> {
+        if !left_alike(alloc, self.left, status, line, calls, ring)? {
+            return format!(in alloc; "another end than run's: {}", self.left);
+        }
+        let last = if tells_ring { ring } else { calls };
+        format!(in alloc; "{status}{line} / {last}")
+    }
+
+    fn ended(
+        &self,
+        alloc: Global,
+        tells_ring: bool,
+        line: &LineBuffer,
+        calls: &str,
+        ring: &mut KillRing,
+        answer: Result<Status, ReadlineError>,
+    ) -> Result<String, Fail> {
+        let status = status_of(alloc, answer)?;
+        let line = line_shown(alloc, line)?;
+        let lent = lent_by(alloc, ring)?;
+        let (status, line, ring) = (status.as_str(), line.as_str(), lent.as_str());
+        raised(self.told(alloc, tells_ring, status, line, calls, ring))
+    }
 }
 
-// Types a row's keys, over a helper.
-fn typed_over<H: Helper + Drop>(
-    alloc: Global,
-    stage: &Stage,
-    helper: Option<H>,
-    bindings: &Bindings,
-    keys: &Input,
-) -> Result<Ended, Fail> {
-    let history = history_of(alloc, stage.history.as_str())?;
-    let mut desk = empty_desk(alloc, stage, &history)?;
-    desk.helper = helper;
-    let out = &mut desk.out;
-    out.log.answer(stage.answered);
-    typed_on(alloc, stage, &mut desk, bindings, keys)
+impl Work for Keys<'_> {
+    fn begin<H: Helper + Drop>(
+        &self,
+        _alloc: Global,
+        _desk: &mut Desk<'_, H>,
+    ) -> Result<(), ReadlineError> {
+        Ok(())
+    }
+
+    fn done<H: Helper + Drop>(
+        &self,
+        alloc: Global,
+        stage: &Stage,
+        desk: &mut Desk<'_, H>,
+        input: &mut InputState<'_>,
+        ring: &mut KillRing,
+        config: &Config,
+    ) -> Result<String, Fail> {
+        let out = &mut desk.out;
+        out.log.answer(stage.answered);
+        let mut reader = KeyList::new(&self.input.typed, false, self.input.after);
+        let answer = line(desk, input, &mut reader, ring, config);
+        let (recorded, out) = (&desk.recorded, &desk.out);
+        let (line, calls) = (&recorded.line, out.calls());
+        self.ended(alloc, stage.tells_ring, line, calls, ring, answer)
+    }
 }
 
 /// What `run` leaves of the same line: its text, or why there is none, all calls, and what a yank would give.
@@ -197,22 +189,19 @@ pub(crate) fn run_over<H: Helper + Drop>(
     alloc: Global,
     stage: &Stage,
     helper: Option<H>,
-    bindings: &Bindings,
     keys: &Input,
 ) -> Result<String, Fail> {
-    let history = history_of(alloc, stage.history.as_str())?;
-    run_with(alloc, stage, helper, &history, bindings, keys)
+    let mut ring = KillRing::new(alloc, 60)?;
+    run_with(alloc, stage, helper, &mut ring, keys)
 }
 
 fn run_with<H: Helper + Drop>(
     alloc: Global,
     stage: &Stage,
     helper: Option<H>,
-    history: &MemHistory,
-    bindings: &Bindings,
+    ring: &mut KillRing,
     keys: &Input,
 ) -> Result<String, Fail> {
-    let mut ring = KillRing::new(alloc, 60)?;
     let config = Config::builder().edit_mode(stage.mode).build();
     let mut reader = KeyList::new(&keys.typed, false, keys.after);
     let mut out = CallList::new(alloc, stage.columns, stage.colours);
@@ -223,45 +212,34 @@ fn run_with<H: Helper + Drop>(
         out,
         "> ",
         helper,
-        history,
+        &stage.history,
         &config,
-        bindings,
-        &mut ring,
+        &stage.bindings,
+        ring,
     );
-    left_by(alloc, ran.outcome, ran.out.calls(), &mut ring)
+    raised(left_by(alloc, &ran.outcome, ran.out.calls(), ring))
 }
 
 // What is left of a line, in words.
 fn left_by(
     alloc: Global,
-    outcome: Result<String, ReadlineError>,
+    outcome: &Result<String, ReadlineError>,
     calls: &str,
     ring: &mut KillRing,
-) -> Result<String, Fail> {
+) -> Result<String, AllocError> {
     let text = outcome_shown(alloc, outcome)?;
     let lent = lent_by(alloc, ring)?;
-    raised(format!(in alloc; "{text} / {calls} / {lent}"))
+    format!(in alloc; "{text} / {calls} / {lent}")
 }
 
 // The text of a line, with pictures, or why there is none.
 fn outcome_shown(
     alloc: Global,
-    outcome: Result<String, ReadlineError>,
+    outcome: &Result<String, ReadlineError>,
 ) -> Result<String, AllocError> {
     match outcome {
         Ok(text) => pictured(alloc, text.as_str()),
         Err(refusal) => format!(in alloc; "{refusal:?}"),
-    }
-}
-
-impl Ended {
-    // What is told of this line, where `run` leaves the same.
-    fn told_if(self, whole: &str, keys: &str) -> Result<String, Fail> {
-        if whole == self.whole.as_str() {
-            Ok(self.told)
-        } else {
-            Err(Fail::new(format_args!("run leaves of {keys}: {whole}")))
-        }
     }
 }
 
@@ -272,14 +250,21 @@ struct Typist {
 }
 
 impl Typist {
-    // What `run` is to leave of the same line, and what the keys lead to, turn by turn.
+    // What the keys lead to turn by turn, where `run` leaves the same.
     fn types(&self, alloc: Global, keys: &str) -> Result<String, Fail> {
-        let bindings = bound(alloc, self.stage.bound.as_str())?;
         let input = typed(alloc, keys)?;
         let stage = &self.stage;
-        let whole = run_over(alloc, stage, stage.helper(), &bindings, &input)?;
-        let found = typed_over(alloc, stage, stage.helper(), &bindings, &input)?;
-        found.told_if(whole.as_str(), keys)
+        let left = run_over(alloc, stage, stage.helper(), &input)?;
+        let left = left.as_str();
+        done_over(
+            alloc,
+            stage,
+            stage.helper(),
+            &Keys {
+                input: &input,
+                left,
+            },
+        )
     }
 }
 
@@ -296,7 +281,7 @@ impl Player for Typist {
 /// Each row has, after ` / `, all calls from the first drawing on; where the ring is told of, what a yank would give, in
 /// quotes or `-`.
 fn types(alloc: Global, table: &str) -> Result<(), Fail> {
-    let stage = Stage::new(alloc);
+    let stage = Stage::new(alloc)?;
     rows_hold(alloc, &mut Typist { stage }, table)
 }
 

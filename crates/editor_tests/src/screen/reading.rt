@@ -2,7 +2,7 @@
 
 use crate::screen::sources::OneByOne;
 use line_config::{EditMode, ReadSource, ReadlineError, SliceSource, Source};
-use line_keys::{KeyCode, KeyEvent, Modifiers, RawReader};
+use line_keys::{Cmd, KeyCode, KeyEvent, Modifiers, RawReader};
 use line_screen::KeyReader;
 use stand_ins::key_names::write_key;
 use stand_ins::reader_calls::tell_call;
@@ -467,17 +467,22 @@ fn calls_one_after_the_other(rt: HostRuntime) -> Result<(), Fail> {
     rows_hold(rt.alloc(), &mut Ask::Calls, CALLS)
 }
 
+// A key and its command.
+fn tell_command(key: KeyEvent, cmd: &Cmd, said: &mut String) -> Result<(), AllocError> {
+    write_key(said, key)?;
+    write!(said, " {cmd:?}, ")
+}
+
 // Tells the command of a key, where it is one of the reader's own.
 fn tell_binding<R: RawReader>(
     reader: &R,
     key: KeyEvent,
     said: &mut String,
 ) -> Result<(), AllocError> {
-    if let Some(cmd) = reader.find_binding(&key) {
-        write_key(said, key)?;
-        write!(said, " {cmd:?}, ")?;
+    match reader.find_binding(&key) {
+        Some(cmd) => tell_command(key, &cmd, said),
+        None => Ok(()),
     }
-    Ok(())
 }
 
 const HELD: [Modifiers; 5] = [
