@@ -1,13 +1,15 @@
 //! Brackets: their matches, the line that shows one, and what validation says of them. A bar marks a place in a line.
 
+use crate::asks::Ask;
+use crate::helpers::shown_told;
 use line_config::{CompletionType, HookFault};
 use line_help::{
     Highlighter, MatchingBracketHighlighter, MatchingBracketValidator, ValidationContext,
     ValidationResult, Validator, check_bracket, find_matching_bracket, validate_brackets,
 };
 use line_keys::CmdKind;
-use stand_ins::rows::{Player, raised, rows_hold, trimmed};
-use stand_ins::tables::{line_and_place, marked, meant, pictured, word_and_rest};
+use stand_ins::rows::{Player, rows_hold, trimmed};
+use stand_ins::tables::{line_and_place, marked, meant, named, word_and_rest};
 use std::alloc::{AllocError, Global};
 use std::borrow::CowStr;
 use std::test::Fail;
@@ -63,29 +65,8 @@ fn place_told(alloc: Global, line: &str, found: Option<(u8, usize)>) -> Result<S
     format!(in alloc; "{bracket} {place}")
 }
 
-/// What the rows of a table ask.
-#[derive(Drop)]
-enum Ask {
-    Match,
-    AtTheCursor,
-    Brackets,
-    Validator,
-    NoValidator,
-}
-
-impl Player for Ask {
-    fn play(&mut self, alloc: Global, call: &str) -> Result<String, Fail> {
-        let said = match self {
-            Ask::Match => match_told(alloc, call),
-            Ask::AtTheCursor => bracket_at_the_cursor(alloc, call),
-            _ => validated(alloc, self, call),
-        };
-        raised(said)
-    }
-}
-
-// The bracket that matches a row's.
-fn match_told(alloc: Global, call: &str) -> Result<String, AllocError> {
+/// The bracket that matches a row's.
+pub(crate) fn match_told(alloc: Global, call: &str) -> Result<String, AllocError> {
     let (bracket, line) = word_and_rest(call);
     let bracket = bracket.bytes().next().unwrap_or(b' ');
     let (line, place) = line_and_place(alloc, line)?;
@@ -93,8 +74,8 @@ fn match_told(alloc: Global, call: &str) -> Result<String, AllocError> {
     place_told(alloc, line.as_str(), found)
 }
 
-// The bracket at the cursor of a row's line, or before it.
-fn bracket_at_the_cursor(alloc: Global, line: &str) -> Result<String, AllocError> {
+/// The bracket at the cursor of a row's line, or before it.
+pub(crate) fn bracket_at_the_cursor(alloc: Global, line: &str) -> Result<String, AllocError> {
     let (line, place) = line_and_place(alloc, line)?;
     place_told(alloc, line.as_str(), check_bracket(line.as_str(), place))
 }
@@ -111,36 +92,36 @@ fn brackets_at_the_cursor(rt: HostRuntime) -> Result<(), Fail> {
 
 // What a highlighter is told of a line before it is drawn, whether it marks something in it, and the line as it is drawn:
 // first a bracket that was found in one line and other lines drawn, then texts that are left as they are.
-const HIGHLIGHTED: &str = "
-    drawn  |()     = ()
-    told   (ab|)   = marks
-    drawn  (|)     = ()
-    drawn  (|cd)   = ␛[1;34m(␛[0mcd)
-    denied (ab|)   = leaves
-    drawn  (ab|)   = (ab)
-    prompt    (>)  = (>)
-    hint      (>)  = (>)
-    candidate (>)  = (>)
-    move   |(a)    = marks (a␛[1;34m)␛[0m
-    other  (a)|    = marks ␛[1;34m(␛[0ma)
-    other  x|[é]y  = marks x[é␛[1;34m]␛[0my
-    forced |(a)    = leaves (a)
-    move   |(a     = marks (a
-    move   a|b     = leaves ab
-    other  )|      = marks )
-    other  |       = leaves
-";
+const HIGHLIGHTED: &str = r#"
+    drawn  |()     = "()"
+    told   (ab|)   = marks ""
+    drawn  (|)     = "()"
+    drawn  (|cd)   = "␛[1;34m(␛[0mcd)"
+    denied (ab|)   = leaves ""
+    drawn  (ab|)   = "(ab)"
+    prompt     (>) = "(>)"
+    hint_shown (>) = "(>)"
+    listed     (>) = "(>)"
+    move   |(a)    = marks "(a␛[1;34m)␛[0m"
+    other  (a)|    = marks "␛[1;34m(␛[0ma)"
+    other  x|[é]y  = marks "x[é␛[1;34m]␛[0my"
+    forced |(a)    = leaves "(a)"
+    move   |(a     = marks "(a"
+    move   a|b     = leaves "ab"
+    other  )|      = marks ")"
+    other  |       = leaves ""
+"#;
 
 // What a helper that highlights nothing leaves.
-const NOTHING_HIGHLIGHTED: &str = "
-    other     |(a) = leaves (a)
-    prompt    (>)  = (>)
-    hint      (>)  = (>)
-    candidate (>)  = (>)
-";
+const NOTHING_HIGHLIGHTED: &str = r#"
+    other     |(a) = leaves "(a)"
+    prompt     (>) = "(>)"
+    hint_shown (>) = "(>)"
+    listed     (>) = "(>)"
+"#;
 
-// What a highlighter makes of a text: nothing where it is only told of a line.
-fn shown<'t, H: Highlighter>(
+/// What a highlighter makes of a text: nothing where it is only told of a line.
+pub(crate) fn shown<'t, H: Highlighter>(
     alloc: Global,
     highlighter: &H,
     call: &str,
@@ -150,34 +131,20 @@ fn shown<'t, H: Highlighter>(
     match call {
         "told" | "denied" => Ok(CowStr::Borrowed("")),
         "prompt" => highlighter.highlight_prompt(alloc, text, true),
-        "hint" => highlighter.highlight_hint(alloc, text),
-        "candidate" => highlighter.highlight_candidate(alloc, text, CompletionType::List),
+        "hint_shown" => highlighter.highlight_hint(alloc, text),
+        "listed" => highlighter.highlight_candidate(alloc, text, CompletionType::List),
         _ => highlighter.highlight(alloc, text, place),
     }
 }
 
-// Whether something is marked, in words, and what is shown.
-fn marks_told(
-    alloc: Global,
-    marks: &str,
-    shown: Result<CowStr<'_>, HookFault>,
-) -> Result<String, AllocError> {
-    let shown = match shown {
-        Ok(shown) => pictured(alloc, shown.as_str())?,
-        Err(_) => return String::from_str(alloc, "a fault"),
-    };
-    format!(in alloc; "{marks}{shown}")
-}
-
 // Why the line is to be drawn, where a call tells of it.
-fn kind_of(call: &str) -> Option<CmdKind> {
-    match call {
-        "move" | "told" => Some(CmdKind::MoveCursor),
-        "other" => Some(CmdKind::Other),
-        "forced" | "denied" => Some(CmdKind::ForcedRefresh),
-        _ => None,
-    }
-}
+const KINDS: [(&str, CmdKind); 5] = [
+    ("move", CmdKind::MoveCursor),
+    ("told", CmdKind::MoveCursor),
+    ("other", CmdKind::Other),
+    ("forced", CmdKind::ForcedRefresh),
+    ("denied", CmdKind::ForcedRefresh),
+];
 
 /// A highlighter on which each row's calls are made.
 #[derive(Drop)]
@@ -188,7 +155,7 @@ struct Asked<H> {
 impl<H: Highlighter> Asked<H> {
     // Whether the highlighter says that it marks something, where the call tells it of a line.
     fn marks(&mut self, call: &str, line: &str, place: usize) -> &'static str {
-        let Some(kind) = kind_of(call) else {
+        let Some(kind) = named(&KINDS, call) else {
             return "";
         };
         if self.highlighter.highlight_char(line, place, kind) {
@@ -202,11 +169,8 @@ impl<H: Highlighter> Asked<H> {
         let (line, place) = line_and_place(alloc, line)?;
         let line = line.as_str();
         let marks = self.marks(call, line, place);
-        marks_told(
-            alloc,
-            marks,
-            shown(alloc, &self.highlighter, call, line, place),
-        )
+        let shown = shown(alloc, &self.highlighter, call, line, place);
+        shown_told(alloc, marks, shown)
     }
 }
 
@@ -275,27 +239,36 @@ fn verdict_told(
     format!(in alloc; "{word}{mark}{message}")
 }
 
-// What is found of a text, by a validator or by the function alone.
-fn found_of(alloc: Global, ask: &Ask, text: &str) -> Result<ValidationResult, HookFault> {
+/// What finds brackets in a text: a validator, none, or the function alone.
+#[derive(Drop)]
+pub(crate) enum Judge {
+    Function,
+    Validator,
+    NoValidator,
+}
+
+// What is found of a text.
+fn found_of(alloc: Global, judge: &Judge, text: &str) -> Result<ValidationResult, HookFault> {
     let context = ValidationContext::new(text);
-    match ask {
-        Ask::Validator => MatchingBracketValidator::new().validate(alloc, &context),
-        Ask::NoValidator => ().validate(alloc, &context),
-        _ => validate_brackets(alloc, text),
+    match judge {
+        Judge::Validator => MatchingBracketValidator::new().validate(alloc, &context),
+        Judge::NoValidator => ().validate(alloc, &context),
+        Judge::Function => validate_brackets(alloc, text),
     }
 }
 
-// What is said of a row's text, by a validator or by the function alone.
-fn validated(alloc: Global, ask: &Ask, text: &str) -> Result<String, AllocError> {
+/// What is said of a row's text.
+pub(crate) fn validated(alloc: Global, judge: &Judge, text: &str) -> Result<String, AllocError> {
     let text = meant(alloc, text)?;
-    verdict_told(alloc, found_of(alloc, ask, text.as_str()))
+    verdict_told(alloc, found_of(alloc, judge, text.as_str()))
 }
 
 #[test]
 fn texts_validated(rt: HostRuntime) -> Result<(), Fail> {
-    rows_hold(rt.alloc(), &mut Ask::Brackets, VERDICTS)?;
-    rows_hold(rt.alloc(), &mut Ask::Validator, VERDICTS)?;
-    rows_hold(rt.alloc(), &mut Ask::NoValidator, "    ( = valid")
+    rows_hold(rt.alloc(), &mut Ask::Verdict(Judge::Function), VERDICTS)?;
+    rows_hold(rt.alloc(), &mut Ask::Verdict(Judge::Validator), VERDICTS)?;
+    let mut none = Ask::Verdict(Judge::NoValidator);
+    rows_hold(rt.alloc(), &mut none, "    ( = valid")
 }
 
 #[test]

@@ -4,6 +4,7 @@ ghost use Rattle.line_config.specs.declared.errors.HookFault.TheVariants.{Memory
 ghost use Rattle.line_help.specs.FileNames.{Named};
 ghost use Rattle.line_keys.specs.Replies.{gives, gives_unless};
 
+use crate::asks::Ask;
 use crate::words::completer_of;
 use line_buffer::{LineBuffer, NoListener};
 use line_config::HookFault;
@@ -12,7 +13,7 @@ use line_help::{
     Pair, Quote, WordCompleter, escape, extract_word, longest_common_prefix, unescape,
 };
 use stand_ins::lines::{line_of, shown_of};
-use stand_ins::rows::{Player, raised, rows_hold, same, trimmed};
+use stand_ins::rows::{Player, raised, rows_hold, same};
 use stand_ins::tables::{line_and_place, marked, meant, word_and_rest};
 use std::alloc::{AllocError, Global};
 use std::test::Fail;
@@ -163,24 +164,26 @@ const IN_ORDER: &str = "
     unsorted                        = |; b→b; a→a/; B→B; a→a; →/
 ";
 
+const USR: [(&str, bool); 5] = [
+    ("local", true),
+    ("log", false),
+    ("my file", false),
+    ("été", true),
+    ("a\"$b`\\'", false),
+];
+
+const HERE: [(&str, bool); 5] = [
+    ("b", false),
+    ("a", true),
+    ("B", false),
+    ("a", false),
+    ("", true),
+];
+
 #[test]
 fn paths(rt: HostRuntime) -> Result<(), Fail> {
-    let in_usr: &'static [(&'static str, bool)] = &[
-        ("local", true),
-        ("log", false),
-        ("my file", false),
-        ("été", true),
-        ("a\"$b`\\'", false),
-    ];
-    completes_paths(rt.alloc(), "/usr/", in_usr, IN_USR)?;
-    let here: &'static [(&'static str, bool)] = &[
-        ("b", false),
-        ("a", true),
-        ("B", false),
-        ("a", false),
-        ("", true),
-    ];
-    completes_paths(rt.alloc(), "", here, IN_ORDER)?;
+    completes_paths(rt.alloc(), "/usr/", &USR, IN_USR)?;
+    completes_paths(rt.alloc(), "", &HERE, IN_ORDER)?;
     completes_paths(rt.alloc(), "~/", &[], "    sorted ~/ = |~/")
 }
 
@@ -241,19 +244,13 @@ const COMPLETERS: &str = "
     none ca|t lo        = |cat lo
 ";
 
-/// A completer by its name: one whose lister fails, one in a box, and the one that has nothing.
-#[derive(Drop)]
-struct ByName;
-
-impl Player for ByName {
-    fn play(&mut self, alloc: Global, call: &str) -> Result<String, Fail> {
-        let (name, line) = word_and_rest(call);
-        let said = match name {
-            "broken" => completed(alloc, &FilenameCompleter::new(Broken), line),
-            "boxed" => boxed_completed(alloc, line),
-            _ => completed(alloc, &(), line),
-        };
-        raised(said)
+/// What a completer by its name answers: one whose lister fails, one in a box, or the one that has nothing.
+pub(crate) fn completed_by(alloc: Global, call: &str) -> Result<String, AllocError> {
+    let (name, line) = word_and_rest(call);
+    match name {
+        "broken" => completed(alloc, &FilenameCompleter::new(Broken), line),
+        "boxed" => boxed_completed(alloc, line),
+        _ => completed(alloc, &(), line),
     }
 }
 
@@ -269,7 +266,7 @@ fn boxed_completed(alloc: Global, line: &str) -> Result<String, AllocError> {
 
 #[test]
 fn completers(rt: HostRuntime) -> Result<(), Fail> {
-    rows_hold(rt.alloc(), &mut ByName, COMPLETERS)
+    rows_hold(rt.alloc(), &mut Ask::CompletedBy, COMPLETERS)
 }
 
 fn copied(alloc: Global, pairs: &[Pair]) -> Result<Vec<Pair>, HookFault> {
@@ -346,23 +343,14 @@ impl<C: Completer> Player for Updater<C> {
 
 #[test]
 fn updates(rt: HostRuntime) -> Result<(), Fail> {
-    let completer = Box::new(rt.alloc(), ())?;
-    rows_hold(rt.alloc(), &mut Updater { completer }, UPDATES)?;
-    let completer = completer_of(rt.alloc(), "log")?;
-    rows_hold(
-        rt.alloc(),
-        &mut Updater {
-            completer: in_parts(Some(completer)),
-        },
-        UPDATES,
-    )?;
-    rows_hold(
-        rt.alloc(),
-        &mut Updater {
-            completer: in_parts(None),
-        },
-        UPDATES,
-    )
+    updates_by(rt.alloc(), Box::new(rt.alloc(), ())?)?;
+    let words = completer_of(rt.alloc(), "log")?;
+    updates_by(rt.alloc(), in_parts(Some(words)))?;
+    updates_by(rt.alloc(), in_parts(None))
+}
+
+fn updates_by<C: Completer + Drop>(alloc: Global, completer: C) -> Result<(), Fail> {
+    rows_hold(alloc, &mut Updater { completer }, UPDATES)
 }
 
 // A helper that completes words, where they are there.
@@ -437,22 +425,6 @@ fn made(alloc: Global, call: &str, esc: Option<char>, text: &str) -> Result<Stri
     }
 }
 
-/// What the rows of a table ask.
-#[derive(Drop)]
-enum Ask {
-    Words,
-    CommonPrefixes,
-}
-
-impl Player for Ask {
-    fn play(&mut self, alloc: Global, call: &str) -> Result<String, Fail> {
-        match self {
-            Ask::Words => trimmed(alloc, made_of_row(alloc, call)?.as_str()),
-            Ask::CommonPrefixes => raised(common_prefix(alloc, call)),
-        }
-    }
-}
-
 // The character that escapes, if there is one.
 fn escape_named(word: &str) -> Option<char> {
     match word {
@@ -461,8 +433,8 @@ fn escape_named(word: &str) -> Option<char> {
     }
 }
 
-// What a row's call makes of its text.
-fn made_of_row(alloc: Global, call: &str) -> Result<String, HookFault> {
+/// What a row's call makes of its text.
+pub(crate) fn made_of_row(alloc: Global, call: &str) -> Result<String, HookFault> {
     let (call, rest) = word_and_rest(call);
     let (esc, text) = word_and_rest(rest);
     let text = meant(alloc, text)?;
@@ -486,8 +458,8 @@ const COMMON_PREFIXES: &str = "
     漢字b;漢字ab;漢字a;        = 漢字
 ";
 
-// What a row's candidates begin with.
-fn common_prefix(alloc: Global, texts: &str) -> Result<String, AllocError> {
+/// What a row's candidates begin with.
+pub(crate) fn common_prefix(alloc: Global, texts: &str) -> Result<String, AllocError> {
     let candidates: Vec<&str> = texts.split_terminator(';').collect(alloc)?;
     let prefix = longest_common_prefix(&candidates).unwrap_or("none");
     String::from_str(alloc, prefix)
@@ -495,6 +467,6 @@ fn common_prefix(alloc: Global, texts: &str) -> Result<String, AllocError> {
 
 #[test]
 fn common_prefixes(rt: HostRuntime) -> Result<(), Fail> {
-    assert_eq!(rt; "text".display(), "text");
+    same("text".display(), "text")?;
     rows_hold(rt.alloc(), &mut Ask::CommonPrefixes, COMMON_PREFIXES)
 }

@@ -1,6 +1,7 @@
 //! Devices that fail at each byte in turn, and what a history is then.
 
-use crate::history::{add_line, add_lines, answer_told, entries, with_lines};
+use crate::asks::Ask;
+use crate::history::{add_lines, load_told, told_with_entries, with_lines};
 use line_config::{Config, DeviceFailed, Log, ReadlineError, Sink, SliceSource, Source, VecSink};
 use line_help::{FileHistory, History};
 use stand_ins::rows::{Player, raised, rows_hold, same};
@@ -91,14 +92,11 @@ fn refused(
     history: &mut FileHistory,
     source: &mut SliceSource<'_>,
 ) -> Result<String, AllocError> {
-    let answer = answer_told(history.load_from(alloc, source));
-    let entries = entries(alloc, history)?;
-    let failed = if source.failed() {
-        ""
-    } else {
-        " at no failure"
-    };
-    format!(in alloc; "{answer}{failed} {entries}")
+    let said = load_told(alloc, history, source)?;
+    if source.failed() {
+        return Ok(said);
+    }
+    format!(in alloc; "{said}, at no failure")
 }
 
 // What a history answers twice to a source that fails after these bytes.
@@ -135,17 +133,8 @@ fn after_failing_source(
     format!(in alloc; "{said}{mark}{new}")
 }
 
-/// Sources that fail after each row's bytes.
-#[derive(Drop)]
-struct CutTexts;
-
-impl Player for CutTexts {
-    fn play(&mut self, alloc: Global, text: &str) -> Result<String, Fail> {
-        raised(cut_text_told(alloc, text))
-    }
-}
-
-fn cut_text_told(alloc: Global, text: &str) -> Result<String, ReadlineError> {
+/// The same answers to a source that fails after a row's bytes.
+pub(crate) fn cut_text_told(alloc: Global, text: &str) -> Result<String, ReadlineError> {
     let bytes = meant_bytes(alloc, text)?;
     let mut history = saved_with(alloc, "old|")?;
     raised(after_failing_source(alloc, &mut history, &bytes))
@@ -160,7 +149,7 @@ fn saved_with(alloc: Global, lines: &str) -> Result<FileHistory, ReadlineError> 
 
 #[test]
 fn sources_that_fail_at_each_byte(rt: HostRuntime) -> Result<(), Fail> {
-    rows_hold(rt.alloc(), &mut CutTexts, CUT_TEXTS)
+    rows_hold(rt.alloc(), &mut Ask::CutTexts, CUT_TEXTS)
 }
 
 // What a new history answers to a row that isn't UTF-8 before a failure.
@@ -173,7 +162,7 @@ fn bad_row_told(alloc: Global) -> Result<String, AllocError> {
 #[test]
 fn bad_rows_before_a_failure(rt: HostRuntime) -> Result<(), Fail> {
     let said = bad_row_told(rt.alloc())?;
-    same(said.as_str(), "HistoryText at no failure a|")
+    same(said.as_str(), "HistoryText a|, at no failure")
 }
 
 // A save to a sink with room for so many bytes: what it answers twice, the entries then, and what a further save writes.
@@ -208,7 +197,7 @@ const ADDITIONS: &str = r"
 
 /// Where the text of a history goes.
 #[derive(Drop)]
-enum Way {
+pub(crate) enum Way {
     Save,
     Append,
 }
@@ -241,15 +230,7 @@ fn answers(
     (first, write_to(way, history, &mut sink))
 }
 
-// The entries of a history, and what of them is still to be written.
-fn left_told(alloc: Global, way: &Way, history: &mut FileHistory) -> Result<String, AllocError> {
-    let entries = entries(alloc, history)?;
-    let rest = written(alloc, way, history)?;
-    let rest = or_nothing(rest.as_str());
-    format!(in alloc; "{entries}, {rest}")
-}
-
-// What happens with so much room.
+// What happens with so much room: both answers, the entries then, and what of them is still to be written.
 fn with_room(
     alloc: Global,
     way: &Way,
@@ -257,8 +238,10 @@ fn with_room(
     room: usize,
 ) -> Result<String, AllocError> {
     let (first, second) = answers(alloc, way, history, room);
-    let left = left_told(alloc, way, history)?;
-    format!(in alloc; "{first}, {second}, {left}")
+    let entries = told_with_entries(alloc, history, "")?;
+    let rest = written(alloc, way, history)?;
+    let rest = or_nothing(rest.as_str());
+    format!(in alloc; "{first}, {second}, {entries}, {rest}")
 }
 
 // A history with a text that is saved, and entries that are to be added to it.
@@ -276,36 +259,30 @@ fn to_be_written(alloc: Global, way: &Way) -> Result<FileHistory, ReadlineError>
     }
 }
 
-// What happens to such a history with so much room.
-fn room_told(alloc: Global, way: &Way, room: usize) -> Result<String, ReadlineError> {
+/// What happens to such a history with a row's room.
+pub(crate) fn room_told(alloc: Global, way: &Way, room: &str) -> Result<String, ReadlineError> {
+    let room = room.parse().unwrap_or(usize::MAX);
     let mut history = to_be_written(alloc, way)?;
     raised(with_room(alloc, way, &mut history, room))
 }
 
-impl Player for Way {
-    fn play(&mut self, alloc: Global, room: &str) -> Result<String, Fail> {
-        Ok(room_told(alloc, self, room.parse()?)?)
-    }
-}
-
 #[test]
 fn sinks_that_fail_at_each_byte(rt: HostRuntime) -> Result<(), Fail> {
-    rows_hold(rt.alloc(), &mut Way::Save, SAVES)?;
-    rows_hold(rt.alloc(), &mut Way::Append, ADDITIONS)
+    rows_hold(rt.alloc(), &mut Ask::Room(Way::Save), SAVES)?;
+    rows_hold(rt.alloc(), &mut Ask::Room(Way::Append), ADDITIONS)
 }
 
 // Whether a history with no entries has nothing to write to a sink.
 fn writes_nothing(alloc: Global, sink: &mut Narrow) -> bool {
     let mut history = FileHistory::with_config(alloc, &Config::default());
-    history.save_to(sink) == Ok(()) && history.append_to(sink) == Ok(())
+    history.save_to(sink).is_ok() && history.append_to(sink).is_ok()
 }
 
 /// A sink that has failed isn't asked where nothing is new.
 #[test]
 fn nothing_new_for_a_failed_sink(rt: HostRuntime) {
     let mut sink = Narrow::new(rt.alloc(), 0);
-    assert!(rt; sink.flush().is_err());
-    assert!(rt; writes_nothing(rt.alloc(), &mut sink));
+    assert!(rt; sink.flush().is_err() && writes_nothing(rt.alloc(), &mut sink));
 }
 
 // Calls of one history, and what they write to one sink.
@@ -338,7 +315,7 @@ impl Desk {
         match call {
             "save" => self.history.save_to(&mut self.sink),
             "append" => self.history.append_to(&mut self.sink),
-            "add" => add_line(alloc, &mut self.history, line),
+            "add" => add_lines(alloc, &mut self.history, line),
             _ => Err(ReadlineError::Helper),
         }
     }

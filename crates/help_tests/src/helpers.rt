@@ -6,11 +6,14 @@ ghost use Rattle.line_keys.specs.Replies.{Replies, gives, gives_at_once, gives_u
 ghost use Rattle.line_config.specs.declared.errors.HookFault.{HookFault};
 ghost use Rattle.line_help.specs.declared.validate.ValidationResult.TheVariants.{Valid};
 
+use crate::asks::Ask;
+use crate::brackets::shown;
+use crate::history::hint_told;
 use crate::words::completer_of;
 use line_buffer::{ChangeListener, LineBuffer};
 use line_config::{CompletionType, HookFault};
 use line_help::{
-    Completer, Context, Helper, HelperParts, Highlighter, Hint, Hinter, History, HistoryHinter,
+    Completer, Context, Helper, HelperParts, Highlighter, Hinter, History, HistoryHinter,
     MatchingBracketHighlighter, MatchingBracketValidator, MemHistory, Prompt, ValidationContext,
     ValidationResult, Validator, WordCompleter,
 };
@@ -19,6 +22,7 @@ use stand_ins::rows::{Player, raised, rows_hold};
 use stand_ins::tables::{meant, pictured, word_and_rest};
 use std::alloc::{AllocError, Global};
 use std::borrow::CowStr;
+use std::fmt::Debug;
 use std::test::Fail;
 
 /// Words, hints from the history, and brackets shown and validated.
@@ -176,25 +180,10 @@ fn verdict_after_drawing<H: Helper>(
     helper.validate(alloc, &ValidationContext::new(line))
 }
 
-// A text with pictures, in quotes.
-fn quoted(alloc: Global, text: &str) -> Result<String, AllocError> {
+// What a helper says, and a text with pictures, in quotes.
+fn quoted(alloc: Global, said: &str, text: &str) -> Result<String, AllocError> {
     let shown = pictured(alloc, text)?;
-    format!(in alloc; "\"{shown}\"")
-}
-
-// What a helper shows of a text.
-fn shown<'t, H: Helper>(
-    alloc: Global,
-    helper: &H,
-    call: &str,
-    text: &'t str,
-) -> Result<CowStr<'t>, HookFault> {
-    match call {
-        "prompt" => helper.highlight_prompt(alloc, text, true),
-        "hint_shown" => helper.highlight_hint(alloc, text),
-        "listed" => helper.highlight_candidate(alloc, text, CompletionType::List),
-        _ => helper.highlight(alloc, text, text.len()),
-    }
+    format!(in alloc; "{said}\"{shown}\"")
 }
 
 // How many candidates it has for a line with the cursor at its end.
@@ -204,45 +193,30 @@ fn candidates<H: Helper>(
     line: &str,
     context: &Context<'_, MemHistory>,
 ) -> Result<usize, HookFault> {
-    Ok(helper.complete(alloc, line, line.len(), context)?.1.len())
-}
-
-// An answer, or the fault in its place.
-fn shown_told(alloc: Global, answer: Result<CowStr<'_>, HookFault>) -> Result<String, AllocError> {
-    match answer {
-        Ok(shown) => quoted(alloc, shown.as_str()),
-        Err(fault) => format!(in alloc; "{fault:?}"),
+    match helper.complete(alloc, line, line.len(), context) {
+        Ok((_, found)) => Ok(found.len()),
+        Err(fault) => Err(fault),
     }
 }
 
-fn hint_told<T: Hint>(
+/// What a helper says and shows, or the fault in its place.
+pub(crate) fn shown_told(
     alloc: Global,
-    answer: Result<Option<T>, HookFault>,
+    said: &str,
+    answer: Result<CowStr<'_>, HookFault>,
 ) -> Result<String, AllocError> {
     match answer {
-        Ok(Some(hint)) => String::from_str(alloc, hint.display()),
-        Ok(None) => String::from_str(alloc, "none"),
+        Ok(shown) => quoted(alloc, said, shown.as_str()),
         Err(fault) => format!(in alloc; "{fault:?}"),
     }
 }
 
-fn count_told(alloc: Global, answer: Result<usize, HookFault>) -> Result<String, AllocError> {
-    match answer {
-        Ok(count) => format!(in alloc; "{count}"),
-        Err(fault) => format!(in alloc; "{fault:?}"),
-    }
-}
-
-fn bool_told(alloc: Global, answer: bool) -> Result<String, AllocError> {
-    format!(in alloc; "{answer}")
-}
-
-fn verdict_told(
+fn value_told<T: Debug + Drop>(
     alloc: Global,
-    answer: Result<ValidationResult, HookFault>,
+    answer: Result<T, HookFault>,
 ) -> Result<String, AllocError> {
     match answer {
-        Ok(found) => format!(in alloc; "{found:?}"),
+        Ok(value) => format!(in alloc; "{value:?}"),
         Err(fault) => format!(in alloc; "{fault:?}"),
     }
 }
@@ -256,11 +230,11 @@ fn asked<H: Helper>(
     context: &Context<'_, MemHistory>,
 ) -> Result<String, AllocError> {
     match call {
-        "verdict" => verdict_told(alloc, verdict_after_drawing(alloc, helper, text)),
+        "verdict" => value_told(alloc, verdict_after_drawing(alloc, helper, text)),
         "hint" => hint_told(alloc, helper.hint(alloc, text, text.len(), context)),
-        "candidates" => count_told(alloc, candidates(alloc, helper, text, context)),
-        "while_typing" => bool_told(alloc, helper.validate_while_typing()),
-        _ => shown_told(alloc, shown(alloc, helper, call, text)),
+        "candidates" => value_told(alloc, candidates(alloc, helper, text, context)),
+        "while_typing" => value_told(alloc, Ok(helper.validate_while_typing())),
+        _ => shown_told(alloc, "", shown(alloc, helper, call, text, text.len())),
     }
 }
 
@@ -320,7 +294,7 @@ const EVERYTHING: &str = r#"
     listed (a)          = "(a)"
     verdict (a          = Incomplete
     while_typing        = false
-    hint (he            = llo)
+    hint (he            = "llo)", takes "llo)"
     candidates (he      = 2
 "#;
 
@@ -394,14 +368,10 @@ fn what_helpers_answer(rt: HostRuntime) -> Result<(), Fail> {
 
 #[test]
 fn helpers_of_parts(rt: HostRuntime) -> Result<(), Fail> {
-    let words = completer_of(rt.alloc(), "help hello")?;
     answers(rt.alloc(), make_refusing(), "a", REFUSED_BY_PARTS)?;
-    answers(
-        rt.alloc(),
-        make_wanted(None, Some(MatchingBracketValidator::new())),
-        "",
-        BRACKETS_ALONE,
-    )?;
+    let brackets = make_wanted(None, Some(MatchingBracketValidator::new()));
+    answers(rt.alloc(), brackets, "", BRACKETS_ALONE)?;
+    let words = completer_of(rt.alloc(), "help hello")?;
     answers(rt.alloc(), make_wanted(Some(words), None), "", WORDS_ALONE)
 }
 
@@ -418,18 +388,12 @@ const PROMPTS: &str = r#"
     pair    = "> " "␛[1m> ␛[m"
 "#;
 
-/// A prompt of each type.
-#[derive(Drop)]
-struct Prompts;
-
-impl Player for Prompts {
-    fn play(&mut self, alloc: Global, call: &str) -> Result<String, Fail> {
-        let said = match call {
-            "str" => both_texts(alloc, &"> "),
-            "String" => string_told(alloc),
-            _ => both_texts(alloc, &("> ", "\x1b[1m> \x1b[m")),
-        };
-        raised(said)
+/// A prompt of a type.
+pub(crate) fn prompt_told(alloc: Global, call: &str) -> Result<String, AllocError> {
+    match call {
+        "str" => both_texts(alloc, &"> "),
+        "String" => string_told(alloc),
+        _ => both_texts(alloc, &("> ", "\x1b[1m> \x1b[m")),
     }
 }
 
@@ -440,5 +404,5 @@ fn string_told(alloc: Global) -> Result<String, AllocError> {
 
 #[test]
 fn prompts_in_both_versions(rt: HostRuntime) -> Result<(), Fail> {
-    rows_hold(rt.alloc(), &mut Prompts, PROMPTS)
+    rows_hold(rt.alloc(), &mut Ask::Prompts, PROMPTS)
 }

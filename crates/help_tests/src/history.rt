@@ -1,6 +1,7 @@
 //! Histories, call by call. An entry has a bar after it.
 
-use line_config::{Config, Configurer, HookFault, ReadlineError, SliceSource, VecSink};
+use crate::asks::Ask;
+use line_config::{Config, Configurer, HookFault, ReadlineError, SliceSource, Source, VecSink};
 use line_help::{
     Context, FileHistory, Hint, Hinter, History, HistoryHinter, MemHistory, SearchDirection,
     SearchResult,
@@ -12,27 +13,53 @@ use stand_ins::tables::{
 use std::alloc::{AllocError, Global};
 use std::test::Fail;
 
-/// The entries of a history, a bar after each.
-pub(crate) fn entries<H: History>(alloc: Global, history: &H) -> Result<String, AllocError> {
-    let mut text = String::new(alloc);
-    for index in 0..history.len() {
-        if let Some(found) = history.get(index, SearchDirection::Forward) {
-            text.push_str(pictured(alloc, found.entry)?.as_str())?;
-            text.push('|')?;
-        }
-    }
+/// An answer, and the entries of a history, a bar after each.
+pub(crate) fn told_with_entries<H: History>(
+    alloc: Global,
+    history: &H,
+    answer: &str,
+) -> Result<String, AllocError> {
+    let mut text = String::from_str(alloc, answer)?;
+    write_entries(alloc, history, &mut text)?;
     Ok(text)
 }
 
-/// Adds a line.
-pub(crate) fn add_line(
+fn write_entries<H: History>(
     alloc: Global,
-    history: &mut FileHistory,
-    line: &str,
-) -> Result<(), ReadlineError> {
-    let line = meant(alloc, line)?;
-    history.add(alloc, line.as_str())?;
+    history: &H,
+    text: &mut String,
+) -> Result<(), AllocError> {
+    for index in 0..history.len() {
+        if let Some(found) = history.get(index, SearchDirection::Forward) {
+            write_entry(alloc, text, found.entry)?;
+        }
+    }
     Ok(())
+}
+
+/// An entry, and a bar after it.
+pub(crate) fn write_entry(alloc: Global, text: &mut String, entry: &str) -> Result<(), AllocError> {
+    let entry = pictured(alloc, entry)?;
+    write!(text, "{entry}|")
+}
+
+/// Adds a line.
+pub(crate) fn add_line<H: History>(
+    alloc: Global,
+    history: &mut H,
+    line: &str,
+) -> Result<bool, ReadlineError> {
+    let line = meant(alloc, line)?;
+    history.add(alloc, line.as_str())
+}
+
+fn add_owned<H: History>(
+    alloc: Global,
+    history: &mut H,
+    line: &str,
+) -> Result<bool, ReadlineError> {
+    let line = meant(alloc, line)?;
+    history.add_owned(alloc, line)
 }
 
 /// Adds lines, each of which ends with a bar.
@@ -42,7 +69,7 @@ pub(crate) fn add_lines(
     lines: &str,
 ) -> Result<(), ReadlineError> {
     for line in lines.split_terminator('|') {
-        add_line(alloc, history, line)?;
+        let _ = add_line(alloc, history, line)?;
     }
     Ok(())
 }
@@ -61,14 +88,14 @@ fn saved(alloc: Global, history: &mut FileHistory) -> Result<String, ReadlineErr
     raised(pictured_bytes(alloc, sink.bytes()))
 }
 
-/// What loading a text answers: whether the text was whole, or why it was refused.
-pub(crate) fn answer_told(answer: Result<bool, ReadlineError>) -> &'static str {
+// What loading a text answers: whether the text was whole, or why it was refused.
+fn answer_told(answer: Result<bool, ReadlineError>) -> &'static str {
     match answer {
-        Ok(true) => "whole",
-        Ok(false) => "part",
-        Err(ReadlineError::HistoryText) => "HistoryText",
-        Err(ReadlineError::Reader) => "Reader",
-        Err(_) => "another",
+        Ok(true) => "whole ",
+        Ok(false) => "part ",
+        Err(ReadlineError::HistoryText) => "HistoryText ",
+        Err(ReadlineError::Reader) => "Reader ",
+        Err(_) => "another ",
     }
 }
 
@@ -91,40 +118,26 @@ const LOADED: &str = r"
     #V2␊a␊b␊‹e2 82›           = HistoryText a|b|, new #V2␊a␊b␊
 ";
 
-// What a history answers to a text that it loads, and its entries then.
-fn load_told(alloc: Global, history: &mut FileHistory, text: &[u8]) -> Result<String, AllocError> {
-    let answer = answer_told(history.load_from(alloc, &mut SliceSource::new(text)));
-    let entries = entries(alloc, history)?;
-    format!(in alloc; "{answer} {entries}")
+/// What a history answers to a source that it loads, and its entries then.
+pub(crate) fn load_told<S: Source>(
+    alloc: Global,
+    history: &mut FileHistory,
+    source: &mut S,
+) -> Result<String, AllocError> {
+    let answer = answer_told(history.load_from(alloc, source));
+    told_with_entries(alloc, history, answer)
 }
 
 // The same, and what of the entries is new.
 fn loaded(alloc: Global, history: &mut FileHistory, text: &[u8]) -> Result<String, ReadlineError> {
-    let said = load_told(alloc, history, text)?;
+    let said = load_told(alloc, history, &mut SliceSource::new(text))?;
     let new = saved(alloc, history)?;
     let mark = if new.is_empty() { "" } else { ", new " };
     raised(format!(in alloc; "{said}{mark}{new}"))
 }
 
-/// What the rows of a table ask.
-#[derive(Drop)]
-enum Ask {
-    Loaded,
-    Settings,
-}
-
-impl Player for Ask {
-    fn play(&mut self, alloc: Global, call: &str) -> Result<String, Fail> {
-        let said = match self {
-            Ask::Loaded => loaded_anew(alloc, call)?,
-            Ask::Settings => loaded_under(alloc, call)?,
-        };
-        trimmed(alloc, said.as_str())
-    }
-}
-
-// What a new history answers to a row's text.
-fn loaded_anew(alloc: Global, text: &str) -> Result<String, ReadlineError> {
+/// What a new history answers to a row's text.
+pub(crate) fn loaded_anew(alloc: Global, text: &str) -> Result<String, ReadlineError> {
     let text = meant_bytes(alloc, text)?;
     loaded(alloc, &mut FileHistory::new(alloc), &text)
 }
@@ -135,7 +148,7 @@ fn texts_that_are_loaded(rt: HostRuntime) -> Result<(), Fail> {
 }
 
 // A text that is loaded by histories with these settings: the most entries, and what is ignored.
-const SETTINGS_TEXT: &str = "#V2␊a␊a␊ b␊\u{3000}c␊d␊";
+const SETTINGS_TEXT: &str = "#V2\na\na\n b\n\u{3000}c\nd\n";
 
 const SETTINGS: &str = "
     100                 = whole a|a| b|\u{3000}c|d|
@@ -148,20 +161,15 @@ const SETTINGS: &str = "
     0                   = part
 ";
 
-// What a history answers to the text, and its entries then.
-fn settings_text_told(alloc: Global, history: &mut FileHistory) -> Result<String, AllocError> {
-    let text = meant_bytes(alloc, SETTINGS_TEXT)?;
-    load_told(alloc, history, &text)
-}
-
-// The same of a history with a row's settings.
-fn loaded_under(alloc: Global, settings: &str) -> Result<String, AllocError> {
+/// What a history with a row's settings answers to the text, and its entries then.
+pub(crate) fn loaded_under(alloc: Global, settings: &str) -> Result<String, AllocError> {
     let (size, ignored) = word_and_rest(settings);
     let mut history = FileHistory::new(alloc);
     history.set_max_len(size.parse().unwrap_or(0));
     history.ignore_space(ignored.contains("spaces"));
     history.ignore_dups(ignored.contains("repeated"));
-    settings_text_told(alloc, &mut history)
+    let mut source = SliceSource::new(SETTINGS_TEXT.as_bytes());
+    load_told(alloc, &mut history, &mut source)
 }
 
 /// Loading goes by the history's own settings, as adding does.
@@ -183,7 +191,7 @@ fn unlike_the_default() -> Config {
 fn kept_of(alloc: Global, config: &Config, lines: &str) -> Result<String, ReadlineError> {
     let mut history = FileHistory::with_config(alloc, config);
     add_lines(alloc, &mut history, lines)?;
-    raised(entries(alloc, &history))
+    raised(told_with_entries(alloc, &history, ""))
 }
 
 /// The settings of a configuration are those of a history made with it.
@@ -211,34 +219,24 @@ fn added<H: History>(
     call: &str,
     text: &str,
 ) -> Result<&'static str, ReadlineError> {
-    let line = meant(alloc, text)?;
     let added = match call {
-        "add" => history.add(alloc, line.as_str()),
-        _ => history.add_owned(alloc, line),
+        "add" => add_line(alloc, history, text),
+        _ => add_owned(alloc, history, text),
     };
     Ok(if added? { "added " } else { "ignored " })
 }
 
 // Sets what is kept and what ignored; there is nothing to tell then.
 fn set<H: History>(history: &mut H, call: &str, text: &str) -> &'static str {
+    let (size, yes) = (text.parse().unwrap_or(0), text == "yes");
     match call {
-        "max_len" => history.set_max_len(text.parse().unwrap_or(0)),
-        "ignore_dups" => history.ignore_dups(text == "yes"),
-        "ignore_space" => history.ignore_space(text == "yes"),
+        "max_len" => history.set_max_len(size),
+        "ignore_dups" => history.ignore_dups(yes),
+        "ignore_space" => history.ignore_space(yes),
         "clear" => history.clear(),
         _ => return "no call ",
     }
     ""
-}
-
-// An answer, and the entries of a history.
-fn told_with_entries<H: History>(
-    alloc: Global,
-    history: &H,
-    answer: &str,
-) -> Result<String, AllocError> {
-    let entries = entries(alloc, history)?;
-    format!(in alloc; "{answer}{entries}")
 }
 
 // Changes a history, and tells what it answers and the entries then.
@@ -358,21 +356,15 @@ struct Memory {
 }
 
 impl Memory {
-    // The number of its lines, also counted one by one, and whether there are none.
-    fn counts_told(&self, alloc: Global) -> Result<String, AllocError> {
+    // The number of its lines, also counted one by one, whether there are none, and the line at a place.
+    fn told(&self, alloc: Global, place: usize) -> Result<String, AllocError> {
         let (count, counted) = (self.history.len(), self.history.iter().count());
         let empty = self.history.is_empty();
-        format!(in alloc; "{count}, {counted}, {empty}")
-    }
-
-    // The same, and the line at a place.
-    fn told(&self, alloc: Global, place: usize) -> Result<String, AllocError> {
-        let counts = self.counts_told(alloc)?;
-        if place >= self.history.len() {
-            return Ok(counts);
+        if place >= count {
+            return format!(in alloc; "{count}, {counted}, {empty}");
         }
         let line = self.history[place].as_str();
-        format!(in alloc; "{counts}, {line:?}")
+        format!(in alloc; "{count}, {counted}, {empty}, {line:?}")
     }
 
     fn answer(&mut self, alloc: Global, call: &str, text: &str) -> Result<String, ReadlineError> {
@@ -485,8 +477,8 @@ const HINTS: &str = r#"
     help|           = none
 "#;
 
-// A hint, as it is shown and as it is taken.
-fn hint_told<T: Hint>(
+/// A hint, as it is shown and as it is taken.
+pub(crate) fn hint_told<T: Hint>(
     alloc: Global,
     answer: Result<Option<T>, HookFault>,
 ) -> Result<String, AllocError> {
@@ -515,9 +507,8 @@ impl Hinted {
             return String::from_str(alloc, "a cursor beyond the line");
         }
         let context = Context::new(&self.history);
-        let other = hint_told(alloc, ().hint(alloc, line, pos, &context))?;
-        if other.as_str() != "none" {
-            return format!(in alloc; "without a hinter {other}");
+        if !matches!(().hint(alloc, line, pos, &context), Ok(None)) {
+            return String::from_str(alloc, "a hint without a hinter");
         }
         hint_told(alloc, HistoryHinter::new().hint(alloc, line, pos, &context))
     }
@@ -541,6 +532,8 @@ fn first_and_set_place<H: History>(history: &H) -> (usize, usize) {
 #[test]
 fn hints(rt: HostRuntime) -> Result<(), Fail> {
     let history = with_lines(rt.alloc(), "hello world|")?;
-    assert_eq!(rt; first_and_set_place(&history), (1, 0));
+    if first_and_set_place(&history) != (1, 0) {
+        return Err(Fail::new(format_args!("a place is not as it is set")));
+    }
     rows_hold(rt.alloc(), &mut Hinted { history }, HINTS)
 }

@@ -1,10 +1,12 @@
 //! Words: what is completed by them, and how they are read from a text.
 
+use crate::asks::Ask;
 use crate::completion::completed;
+use crate::history::write_entry;
 use line_config::{ReadlineError, SliceSource};
 use line_help::{WordCompleter, load_words};
 use stand_ins::rows::{Player, raised, rows_hold};
-use stand_ins::tables::{meant_bytes, pictured, word_and_rest};
+use stand_ins::tables::{meant_bytes, word_and_rest};
 use std::alloc::{AllocError, Global};
 use std::test::Fail;
 
@@ -37,27 +39,22 @@ const BY_WORDS: &str = "
     x |             = x |; alpha→alpha; alpine→alpine; twin→twin; twin→twin; été→été; étoile→étoile; e\u{301}a→e\u{301}a; eb→eb; 漢字→漢字; al→al
 ";
 
-/// What the rows of a table ask: a completer, or for the words of a text.
+/// A completer that is asked each row's line.
 #[derive(Drop)]
-enum Ask {
-    Completed(WordCompleter),
-    Loaded,
+struct Asked {
+    completer: WordCompleter,
 }
 
-impl Player for Ask {
-    fn play(&mut self, alloc: Global, call: &str) -> Result<String, Fail> {
-        let said = match self {
-            Ask::Completed(completer) => completed(alloc, completer, call),
-            Ask::Loaded => loaded_told(alloc, call),
-        };
-        raised(said)
+impl Player for Asked {
+    fn play(&mut self, alloc: Global, line: &str) -> Result<String, Fail> {
+        raised(completed(alloc, &self.completer, line))
     }
 }
 
 #[test]
 fn words_complete(rt: HostRuntime) -> Result<(), Fail> {
     let completer = completer_of(rt.alloc(), LISTED)?;
-    rows_hold(rt.alloc(), &mut Ask::Completed(completer), BY_WORDS)
+    rows_hold(rt.alloc(), &mut Asked { completer }, BY_WORDS)
 }
 
 // The same for 100,000 words.
@@ -79,7 +76,7 @@ fn numbered(alloc: Global, count: u32) -> Result<WordCompleter, AllocError> {
 #[test]
 fn many_words(rt: HostRuntime) -> Result<(), Fail> {
     let completer = numbered(rt.alloc(), 100_000)?;
-    rows_hold(rt.alloc(), &mut Ask::Completed(completer), AMONG_MANY)
+    rows_hold(rt.alloc(), &mut Asked { completer }, AMONG_MANY)
 }
 
 // The words of a text, with a bar after each; the second text ends in a failure of its source.
@@ -113,13 +110,13 @@ fn words_told(
 fn bars_behind(alloc: Global, words: &[String]) -> Result<String, AllocError> {
     let mut said = String::new(alloc);
     for word in words {
-        let word = pictured(alloc, word.as_str())?;
-        write!(said, "{word}|")?;
+        write_entry(alloc, &mut said, word.as_str())?;
     }
     Ok(said)
 }
 
-fn loaded_told(alloc: Global, call: &str) -> Result<String, AllocError> {
+/// The words that a row's text has.
+pub(crate) fn words_of_text(alloc: Global, call: &str) -> Result<String, AllocError> {
     let (end, text) = word_and_rest(call);
     let bytes = meant_bytes(alloc, text)?;
     let mut source = match end {
@@ -132,5 +129,5 @@ fn loaded_told(alloc: Global, call: &str) -> Result<String, AllocError> {
 
 #[test]
 fn words_of_texts(rt: HostRuntime) -> Result<(), Fail> {
-    rows_hold(rt.alloc(), &mut Ask::Loaded, TEXTS)
+    rows_hold(rt.alloc(), &mut Ask::WordsOfTexts, TEXTS)
 }

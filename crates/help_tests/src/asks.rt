@@ -1,0 +1,64 @@
+//! Tables whose rows ask of nothing but what stands in them: one player for all.
+
+use crate::brackets::{Judge, bracket_at_the_cursor, match_told, validated};
+use crate::completion::{common_prefix, completed_by, made_of_row};
+use crate::failing::{Way, cut_text_told, room_told};
+use crate::helpers::prompt_told;
+use crate::history::{loaded_anew, loaded_under};
+use crate::resuming::ends_told;
+use crate::words::words_of_text;
+use stand_ins::rows::{Player, raised, trimmed};
+use std::alloc::{AllocError, Global};
+use std::test::Fail;
+
+/// What the rows of a table ask.
+#[derive(Drop)]
+pub(crate) enum Ask {
+    Match,
+    AtTheCursor,
+    Verdict(Judge),
+    CompletedBy,
+    CommonPrefixes,
+    Words,
+    Prompts,
+    Loaded,
+    Settings,
+    Ends,
+    WordsOfTexts,
+    CutTexts,
+    Room(Way),
+}
+
+impl Ask {
+    // What is refused for want of memory alone.
+    fn text(&self, alloc: Global, call: &str) -> Result<String, AllocError> {
+        match self {
+            Ask::Match => match_told(alloc, call),
+            Ask::AtTheCursor => bracket_at_the_cursor(alloc, call),
+            Ask::Verdict(judge) => validated(alloc, judge, call),
+            Ask::CompletedBy => completed_by(alloc, call),
+            Ask::CommonPrefixes => common_prefix(alloc, call),
+            Ask::Prompts => prompt_told(alloc, call),
+            Ask::Settings => loaded_under(alloc, call),
+            Ask::Ends => ends_told(alloc, call),
+            _ => words_of_text(alloc, call),
+        }
+    }
+
+    fn answer(&self, alloc: Global, call: &str) -> Result<String, Fail> {
+        match self {
+            Ask::Words => raised(made_of_row(alloc, call)),
+            Ask::Loaded => raised(loaded_anew(alloc, call)),
+            Ask::CutTexts => raised(cut_text_told(alloc, call)),
+            Ask::Room(way) => raised(room_told(alloc, way, call)),
+            _ => raised(self.text(alloc, call)),
+        }
+    }
+}
+
+impl Player for Ask {
+    fn play(&mut self, alloc: Global, call: &str) -> Result<String, Fail> {
+        let said = self.answer(alloc, call)?;
+        trimmed(alloc, said.as_str())
+    }
+}
