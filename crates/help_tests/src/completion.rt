@@ -97,7 +97,7 @@ fn told<C: Candidate>(
     candidates: &[C],
 ) -> Result<String, AllocError> {
     let mut said = marked(alloc, line, start)?;
-    for candidate in candidates.iter().take(TOLD) {
+    for candidate in candidates.get(..TOLD).unwrap_or(candidates) {
         let (display, replacement) = (candidate.display(), candidate.replacement());
         write!(said, "; {display}→{replacement}")?;
     }
