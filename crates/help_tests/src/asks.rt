@@ -44,21 +44,17 @@ impl Ask {
             _ => words_of_text(alloc, call),
         }
     }
+}
 
-    fn answer(&self, alloc: Global, call: &str) -> Result<String, Fail> {
-        match self {
+impl Player for Ask {
+    fn play(&mut self, alloc: Global, call: &str) -> Result<String, Fail> {
+        let said: Result<String, Fail> = match self {
             Ask::Words => raised(made_of_row(alloc, call)),
             Ask::Loaded => raised(loaded_anew(alloc, call)),
             Ask::CutTexts => raised(cut_text_told(alloc, call)),
             Ask::Room(way) => raised(room_told(alloc, way, call)),
             _ => raised(self.text(alloc, call)),
-        }
-    }
-}
-
-impl Player for Ask {
-    fn play(&mut self, alloc: Global, call: &str) -> Result<String, Fail> {
-        let said = self.answer(alloc, call)?;
-        trimmed(alloc, said.as_str())
+        };
+        trimmed(alloc, said?.as_str())
     }
 }

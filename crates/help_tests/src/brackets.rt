@@ -8,7 +8,7 @@ use line_help::{
     ValidationResult, Validator, check_bracket, find_matching_bracket, validate_brackets,
 };
 use line_keys::CmdKind;
-use stand_ins::rows::{Player, rows_hold, trimmed};
+use stand_ins::rows::{Player, raised, rows_hold};
 use stand_ins::tables::{line_and_place, marked, meant, named, word_and_rest};
 use std::alloc::{AllocError, Global};
 use std::borrow::CowStr;
@@ -177,8 +177,7 @@ impl<H: Highlighter> Asked<H> {
 impl<H: Highlighter> Player for Asked<H> {
     fn play(&mut self, alloc: Global, call: &str) -> Result<String, Fail> {
         let (call, line) = word_and_rest(call);
-        let said = self.answer(alloc, call, line)?;
-        trimmed(alloc, said.as_str())
+        raised(self.answer(alloc, call, line))
     }
 }
 

@@ -97,7 +97,7 @@ fn told<C: Candidate>(
     candidates: &[C],
 ) -> Result<String, AllocError> {
     let mut said = marked(alloc, line, start)?;
-    for candidate in candidates.iter().take(TOLD) {
+    for candidate in candidates.get(..TOLD).unwrap_or(candidates) {
         let (display, replacement) = (candidate.display(), candidate.replacement());
         write!(said, "; {display}→{replacement}")?;
     }
@@ -345,22 +345,23 @@ impl<C: Completer> Player for Updater<C> {
 fn updates(rt: HostRuntime) -> Result<(), Fail> {
     updates_by(rt.alloc(), Box::new(rt.alloc(), ())?)?;
     let words = completer_of(rt.alloc(), "log")?;
-    updates_by(rt.alloc(), in_parts(Some(words)))?;
-    updates_by(rt.alloc(), in_parts(None))
+    updates_in_parts(rt.alloc(), Some(words))?;
+    updates_in_parts(rt.alloc(), None)
 }
 
 fn updates_by<C: Completer + Drop>(alloc: Global, completer: C) -> Result<(), Fail> {
     rows_hold(alloc, &mut Updater { completer }, UPDATES)
 }
 
-// A helper that completes words, where they are there.
-fn in_parts(completer: Option<WordCompleter>) -> HelperParts<Option<WordCompleter>, (), (), ()> {
-    HelperParts {
+// The same by a helper that completes words, where they are there.
+fn updates_in_parts(alloc: Global, completer: Option<WordCompleter>) -> Result<(), Fail> {
+    let helper = HelperParts {
         completer,
         hinter: (),
         highlighter: (),
         validator: (),
-    }
+    };
+    updates_by(alloc, helper)
 }
 
 // Where the last word of a line begins, and the word; a text escaped, bare or in quotes; and unescaped. The character that

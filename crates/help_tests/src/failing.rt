@@ -99,15 +99,14 @@ fn refused(
     format!(in alloc; "{said}, at no failure")
 }
 
-// What a history answers twice to a source that fails after these bytes.
+// What a history answers twice to such a source.
 fn twice_refused(
     alloc: Global,
     history: &mut FileHistory,
-    bytes: &[u8],
+    source: &mut SliceSource<'_>,
 ) -> Result<String, AllocError> {
-    let mut source = SliceSource::failing_after(bytes);
-    let first = refused(alloc, history, &mut source)?;
-    let second = refused(alloc, history, &mut source)?;
+    let first = refused(alloc, history, source)?;
+    let second = refused(alloc, history, source)?;
     if first == second {
         return Ok(first);
     }
@@ -125,9 +124,9 @@ fn written(alloc: Global, way: &Way, history: &mut FileHistory) -> Result<String
 fn after_failing_source(
     alloc: Global,
     history: &mut FileHistory,
-    bytes: &[u8],
+    source: &mut SliceSource<'_>,
 ) -> Result<String, AllocError> {
-    let said = twice_refused(alloc, history, bytes)?;
+    let said = twice_refused(alloc, history, source)?;
     let new = written(alloc, &Way::Append, history)?;
     let mark = if new.is_empty() { "" } else { ", new " };
     format!(in alloc; "{said}{mark}{new}")
@@ -137,7 +136,8 @@ fn after_failing_source(
 pub(crate) fn cut_text_told(alloc: Global, text: &str) -> Result<String, ReadlineError> {
     let bytes = meant_bytes(alloc, text)?;
     let mut history = saved_with(alloc, "old|")?;
-    raised(after_failing_source(alloc, &mut history, &bytes))
+    let mut source = SliceSource::failing_after(&bytes);
+    raised(after_failing_source(alloc, &mut history, &mut source))
 }
 
 // A history with these lines, the text of which is saved.

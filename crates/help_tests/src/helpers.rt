@@ -323,16 +323,19 @@ const WORDS_ALONE: &str = "
 /// Words and brackets, each where it is wanted.
 type Wanted = HelperParts<Option<WordCompleter>, (), (), Option<MatchingBracketValidator>>;
 
-fn make_wanted(
+fn wanted_answers(
+    alloc: Global,
     completer: Option<WordCompleter>,
     validator: Option<MatchingBracketValidator>,
-) -> Wanted {
-    HelperParts {
+    table: &str,
+) -> Result<(), Fail> {
+    let wanted: Wanted = HelperParts {
         completer,
         hinter: (),
         highlighter: (),
         validator,
-    }
+    };
+    answers(alloc, wanted, "", table)
 }
 
 const NOTHING: &str = "
@@ -369,10 +372,10 @@ fn what_helpers_answer(rt: HostRuntime) -> Result<(), Fail> {
 #[test]
 fn helpers_of_parts(rt: HostRuntime) -> Result<(), Fail> {
     answers(rt.alloc(), make_refusing(), "a", REFUSED_BY_PARTS)?;
-    let brackets = make_wanted(None, Some(MatchingBracketValidator::new()));
-    answers(rt.alloc(), brackets, "", BRACKETS_ALONE)?;
+    let brackets = MatchingBracketValidator::new();
+    wanted_answers(rt.alloc(), None, Some(brackets), BRACKETS_ALONE)?;
     let words = completer_of(rt.alloc(), "help hello")?;
-    answers(rt.alloc(), make_wanted(Some(words), None), "", WORDS_ALONE)
+    wanted_answers(rt.alloc(), Some(words), None, WORDS_ALONE)
 }
 
 // A prompt in both versions.

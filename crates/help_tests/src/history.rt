@@ -239,14 +239,15 @@ fn set<H: History>(history: &mut H, call: &str, text: &str) -> &'static str {
     ""
 }
 
-// Changes a history, and tells what it answers and the entries then.
-fn changed<H: History>(
+// Looks an entry up; or changes the history, and tells what it answers and the entries then.
+fn answered<H: History>(
     alloc: Global,
     history: &mut H,
     call: &str,
     text: &str,
 ) -> Result<String, ReadlineError> {
     let answer = match call {
+        "search" | "starts_with" | "get" => return raised(looked_up(alloc, history, call, text)),
         "add" | "add_owned" => added(alloc, history, call, text)?,
         _ => set(history, call, text),
     };
@@ -267,19 +268,6 @@ fn looked_up<H: History>(
         _ => history.get(place, dir),
     };
     hit_told(alloc, found)
-}
-
-// Looks an entry up, or changes the history.
-fn answered<H: History>(
-    alloc: Global,
-    history: &mut H,
-    call: &str,
-    text: &str,
-) -> Result<String, ReadlineError> {
-    match call {
-        "search" | "starts_with" | "get" => raised(looked_up(alloc, history, call, text)),
-        _ => changed(alloc, history, call, text),
-    }
 }
 
 // The direction in which is searched, the place from which, and what for.
@@ -366,19 +354,15 @@ impl Memory {
         let line = self.history[place].as_str();
         format!(in alloc; "{count}, {counted}, {empty}, {line:?}")
     }
-
-    fn answer(&mut self, alloc: Global, call: &str, text: &str) -> Result<String, ReadlineError> {
-        match call {
-            "lines" => raised(self.told(alloc, text.parse().unwrap_or(0))),
-            _ => answered(alloc, &mut self.history, call, text),
-        }
-    }
 }
 
 impl Player for Memory {
     fn play(&mut self, alloc: Global, call: &str) -> Result<String, Fail> {
         let (call, text) = word_and_rest(call);
-        let said = self.answer(alloc, call, text)?;
+        let said = match call {
+            "lines" => self.told(alloc, text.parse().unwrap_or(0))?,
+            _ => answered(alloc, &mut self.history, call, text)?,
+        };
         trimmed(alloc, said.as_str())
     }
 }
@@ -521,18 +505,18 @@ impl Player for Hinted {
     }
 }
 
-// The place in a history at first, and after it is set to 0.
-fn first_and_set_place<H: History>(history: &H) -> (usize, usize) {
+// Whether the place in a history of one entry is 1 at first, and 0 after it is set to that.
+fn place_is_set<H: History>(history: &H) -> bool {
     let mut context = Context::new(history);
     let first = context.history_index();
     context.set_history_index(0);
-    (first, context.history_index())
+    first == 1 && context.history_index() == 0
 }
 
 #[test]
 fn hints(rt: HostRuntime) -> Result<(), Fail> {
     let history = with_lines(rt.alloc(), "hello world|")?;
-    if first_and_set_place(&history) != (1, 0) {
+    if !place_is_set(&history) {
         return Err(Fail::new(format_args!("a place is not as it is set")));
     }
     rows_hold(rt.alloc(), &mut Hinted { history }, HINTS)

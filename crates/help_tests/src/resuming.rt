@@ -68,13 +68,16 @@ pub(crate) fn ends_told(alloc: Global, text: &str) -> Result<String, AllocError>
         bytes: &bytes,
         more: b"c",
     };
-    loaded_twice(alloc, &mut source)
+    loaded_twice(alloc, &mut FileHistory::new(alloc), &mut source)
 }
 
-fn loaded_twice(alloc: Global, source: &mut Resuming<'_>) -> Result<String, AllocError> {
-    let mut history = FileHistory::new(alloc);
-    let first = load_told(alloc, &mut history, source)?;
-    let second = load_told(alloc, &mut history, source)?;
+fn loaded_twice(
+    alloc: Global,
+    history: &mut FileHistory,
+    source: &mut Resuming<'_>,
+) -> Result<String, AllocError> {
+    let first = load_told(alloc, history, source)?;
+    let second = load_told(alloc, history, source)?;
     format!(in alloc; "{first}, then {second}")
 }
 
