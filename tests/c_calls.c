@@ -177,6 +177,29 @@ static void beginnings(const char *keys, uint8_t mode)
     drop(&all);
 }
 
+/* Fills a room of four texts and its ends. */
+static void fill(struct keyline_room *room)
+{
+    struct keyline_space spaces[] = {room->display, room->line, room->history, room->kills};
+    for (int which = 0; which < 4; which++) memset(spaces[which].bytes, '#', spaces[which].size);
+    memset(room->ends, '#', KEYLINE_SLOTS * sizeof(size_t));
+}
+
+static bool is_filled(const uint8_t *bytes, size_t size)
+{
+    for (size_t n = 0; n < size; n++)
+        if (bytes[n] != '#') return false;
+    return true;
+}
+
+/* Whether it is as `fill` left it. */
+static bool is_untouched(const struct keyline_room *room)
+{
+    return is_filled(room->display.bytes, room->display.size) && is_filled(room->line.bytes, room->line.size) &&
+           is_filled(room->history.bytes, room->history.size) && is_filled(room->kills.bytes, room->kills.size) &&
+           is_filled((const uint8_t *)room->ends, KEYLINE_SLOTS * sizeof(size_t));
+}
+
 /* A room that is too small, and then one of just the size. */
 static void rooms(void)
 {
@@ -189,7 +212,8 @@ static void rooms(void)
         size_t size = which == 0 ? all.display : which == 1 ? all.line : which == 2 ? all.history : all.kills;
         free(it->bytes);
         *it = space(size - 1);
-        hold(made(&small) == KEYLINE_ROOM, "a room of a byte too few");
+        fill(&small.room);
+        hold(made(&small) == KEYLINE_ROOM && is_untouched(&small.room), "a room of a byte too few, and all as they were");
         hold(small.step.display == all.display && small.step.line == all.line && small.step.history == all.history && small.step.kills == all.kills, "the lengths that are needed");
         free(it->bytes);
         *it = space(size);

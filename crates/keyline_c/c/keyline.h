@@ -22,7 +22,7 @@ enum keyline_status {
     KEYLINE_NOT_UTF8,           /* a character was to be read where the keys are no UTF-8 */
     KEYLINE_PASTE_OUT_OF_PLACE, /* pasted text came where no command asks for it */
     KEYLINE_ARGUMENT,           /* an argument is none that can be meant; nothing was done */
-    KEYLINE_ROOM,               /* a room is too small: the step has all lengths, and the same call may be made again */
+    KEYLINE_ROOM,               /* a room is too small: none was written, the step has all lengths, and the same call may be made again */
     KEYLINE_MEMORY              /* memory was refused; the same call may be made again */
 };
 

@@ -1,7 +1,8 @@
 -- Texts that are put into rooms, and what is told of them.
-use Rattle.std.specs.Prelude.{◌≡◌, ◌⊎◌, ◌≤◌, ◌<◌, ◌-◌, ℕ, List, ◌++◌, Option, Some, None, Result, Ok, Err, drop, length}
+use Rattle.std.specs.Prelude.{◌≡◌, ◌⊎◌, ◌≤◌, ◌<◌, ◌-◌, ℕ, Bool, true, false, List, ◌++◌, Result, Ok, Err, drop, length}
 use Rattle.keyline_c.specs.declared.export.KeylineStep.{KeylineStep}
 use Rattle.keyline_c.specs.declared.export.Rooms.{Rooms}
+use Rattle.keyline_c.specs.declared.export.Texts.{Texts}
 use Rattle.keyline_c.specs.declared.status.Status.{Status}
 use Rattle.keyline_c.specs.declared.status.Status.TheVariants.{Argument, Room}
 
@@ -21,6 +22,10 @@ abbrev pub texts_in : Rooms → RoomTexts
 texts_in rooms = room_texts rooms.display.now rooms.line.now rooms.history.now rooms.kills.now
     rooms.ends.now
 
+abbrev pub texts_of : Texts → RoomTexts
+texts_of texts = room_texts texts.display.now texts.line.now texts.history.now texts.kills.now
+    texts.ends.now
+
 -- these are the same rooms, whatever stands in them by now
 abbrev pub SameRooms : Rooms → Rooms → Type 0
 SameRooms old new = new ≡ record {
@@ -36,15 +41,6 @@ pub record IsPut {T : Type 0} (given old new : List T) : Type 0 where
   pub fits : length given ≤ length old
   pub room_is : new ≡ given ++ drop (length given) old
 
--- it stands there, or the room is as it was
-abbrev pub MayBePut : {T : Type 0} → List T → List T → List T → Type 0
-MayBePut given old new = IsPut given old new ⊎ (new ≡ old)
-
--- it is put there; or it doesn't fit, and the room is as it was
-abbrev pub Puts : {T A : Type 0} → List T → List T → List T → Option A → Type 0
-Puts given old new (Some done) = IsPut given old new
-Puts given old new None = (length old < length given) × (new ≡ old)
-
 -- each of these stands in its room
 pub record ArePut (given old new : RoomTexts) : Type 0 where
   pub display : IsPut given.display old.display new.display
@@ -53,22 +49,40 @@ pub record ArePut (given old new : RoomTexts) : Type 0 where
   pub kills : IsPut given.kills old.kills new.kills
   pub ends : IsPut given.ends old.ends new.ends
 
--- one has no room; each stands in its own, or that is as it was
-pub record LackRoom (given old new : RoomTexts) : Type 0 where
-  pub small : (length old.display < length given.display)
-      ⊎ ((length old.line < length given.line)
-      ⊎ ((length old.history < length given.history)
-      ⊎ ((length old.kills < length given.kills) ⊎ (length old.ends < length given.ends))))
-  pub display : MayBePut given.display old.display new.display
-  pub line : MayBePut given.line old.line new.line
-  pub history_is : MayBePut given.history old.history new.history
-  pub kills : MayBePut given.kills old.kills new.kills
-  pub ends : MayBePut given.ends old.ends new.ends
+-- each has room
+pub record HaveRoom (given old : RoomTexts) : Type 0 where
+  pub display : length given.display ≤ length old.display
+  pub line : length given.line ≤ length old.line
+  pub history_is : length given.history ≤ length old.history
+  pub kills : length given.kills ≤ length old.kills
+  pub ends : length given.ends ≤ length old.ends
 
+-- one has none
+abbrev pub LackRoom : RoomTexts → RoomTexts → Type 0
+LackRoom given old = (length old.display < length given.display)
+    ⊎ ((length old.line < length given.line)
+    ⊎ ((length old.history < length given.history)
+    ⊎ ((length old.kills < length given.kills) ⊎ (length old.ends < length given.ends))))
+
+abbrev pub FitsRooms : RoomTexts → RoomTexts → Bool → Type 0
+FitsRooms given old true = HaveRoom given old
+FitsRooms given old false = LackRoom given old
+
+-- each is put into its room; or one has none, and all rooms are as they were
 abbrev pub GivesTexts : {A : Type 0} → RoomTexts → RoomTexts → RoomTexts → Result A Status → Type 0
 GivesTexts given old new (Ok done) = ArePut given old new
-GivesTexts given old new (Err Room) = LackRoom given old new
+GivesTexts given old new (Err Room) = LackRoom given old × (new ≡ old)
 GivesTexts given old new (Err why) = ⊥
+
+-- the step tells their lengths
+abbrev pub with_lengths : RoomTexts → KeylineStep → KeylineStep
+with_lengths given step = record step {
+  display = length given.display;
+  line = length given.line;
+  history = length given.history;
+  kills = length given.kills;
+  slots = length given.ends;
+}
 
 -- the step tells of the display bytes that are new, behind those that were sent before
 abbrev pub with_display : List ℕ → ℕ → KeylineStep → KeylineStep

@@ -4,7 +4,7 @@ use Rattle.std.specs.Result.{IfOk, result_unwrap_or}
 use Rattle.line_config.specs.declared.memory.VecSink.{VecSink}
 use Rattle.line_help.specs.HistoryText.{text_to_save}
 use Rattle.line_keys.specs.Coming.{made_of}
-use Rattle.keyline_c.specs.Rooms.{RoomTexts, GivesDisplay, GivesTexts, room_texts, with_display}
+use Rattle.keyline_c.specs.Rooms.{RoomTexts, GivesDisplay, GivesTexts, room_texts, with_lengths}
 use Rattle.keyline_c.specs.Slots.{AreSlots}
 use Rattle.keyline_c.specs.Statuses.{ended_as}
 use Rattle.keyline_c.specs.declared.export.KeylineStep.{KeylineStep}
@@ -21,14 +21,11 @@ abbrev pub texts_left : (VecSink → List ℕ) → ℕ → Left → Slots → Ro
 texts_left held sent left slots = room_texts (drop sent (held left.display)) (accepted_text left)
     (text_to_save left.history) slots.texts.items slots.ends.items
 
--- their lengths, of so many key bytes
-abbrev pub with_end : ℕ → Left → Slots → KeylineStep → KeylineStep
-with_end keys left slots step = record step {
-  line = length (accepted_text left);
+-- what is told of it beside their lengths, of so many key bytes
+abbrev pub with_end : (VecSink → List ℕ) → ℕ → Left → Slots → KeylineStep → KeylineStep
+with_end held keys left slots step = record step {
+  sent = length (held left.display);
   keys = keys - left.rest;
-  history = length (text_to_save left.history);
-  kills = length slots.texts.items;
-  slots = length slots.ends.items;
   place = slots.place;
 }
 
@@ -45,7 +42,8 @@ module _ (held : VecSink → List ℕ) (sent keys : ℕ) (left : Left) (old new 
   pub record TellsEnd {A : Type 0} (result : Result A Status) : Type 0 where
     pub slots : Slots
     pub are_slots : AreSlots left.ring slots
-    pub step_is : step' ≡ with_display (held left.display) sent (with_end keys left slots step)
+    pub step_is : step' ≡ with_lengths (texts_left held sent left slots)
+        (with_end held keys left slots step)
     pub texts : GivesTexts (texts_left held sent left slots) old new result
 
   -- or memory is wanting for that, or more was sent than there is

@@ -8,11 +8,11 @@ ghost use Rattle.keyline_c.specs.declared.status.Status.TheVariants.{Memory};
 ghost use Rattle.keyline_c.specs.Call.{Answers, Calls, status_in};
 ghost use Rattle.keyline_c.specs.Lines.{IsRefused, ReadsKeys};
 ghost use Rattle.keyline_c.specs.Meant.{HistoryMeans, OptionsMean, WordsMean, mode_numbered};
-ghost use Rattle.keyline_c.specs.Rooms.{GivesDisplay, GivesTexts, SameRooms, room_texts, texts_in};
+ghost use Rattle.keyline_c.specs.Rooms.{FitsRooms, GivesDisplay, GivesTexts, SameRooms, room_texts, texts_in, texts_of, with_lengths};
 ghost use Rattle.keyline_c.specs.Steps.{Gives, GivesEnd};
 
 use crate::line::{Left, read_line};
-use crate::ring::{Slots, ring_of, slots_of};
+use crate::ring::{ring_of, slots_of};
 use crate::room::put;
 use crate::status::{Status, status_of};
 use keyline::{
@@ -73,6 +73,16 @@ struct Handed<'k> {
     history: &'k [u8],
     kills: &'k [u8],
     ends: &'k [usize],
+}
+
+/// What is put into rooms.
+#[derive(Drop)]
+struct Texts<'t> {
+    display: &'t [u8],
+    line: &'t [u8],
+    history: &'t [u8],
+    kills: &'t [u8],
+    ends: &'t [usize],
 }
 
 /// Where texts are put.
@@ -160,25 +170,49 @@ fn give_display(
     let fresh = bytes.get(sent..).ok_or(Status::Argument)?;
     step.display = fresh.len();
     step.sent = bytes.len();
-    put(fresh, room).ok_or(Status::Room)
+    if fresh.len() > room.len() {
+        return Err(Status::Room);
+    }
+    put(fresh, room);
+    Ok(())
 }
 
-/// Gives what is left of a line that has ended.
-fn give_rest(
-    text: &[u8],
-    history: &[u8],
-    slots: &Slots,
-    rooms: &mut Rooms<'_>,
-) -> Result<(), Status>
-    ensures gives { GivesTexts
-        (room_texts [] text.now history.now slots.now.texts.items slots.now.ends.items)
-        (texts_in rooms.old) (texts_in rooms.new) result }
+/// Tells how long each text is.
+fn tell_lengths(texts: &Texts<'_>, step: &mut KeylineStep)
+    ensures { step.new ≡ with_lengths (texts_of texts.now) step.old }
+{
+    step.display = texts.display.len();
+    step.line = texts.line.len();
+    step.history = texts.history.len();
+    step.kills = texts.kills.len();
+    step.slots = texts.ends.len();
+}
+
+/// Whether each text fits into its room.
+fn fit(texts: &Texts<'_>, rooms: &Rooms<'_>) -> bool
+    ensures { FitsRooms (texts_of texts.now) (texts_in rooms.now) result }
+{
+    texts.display.len() <= rooms.display.len()
+        && texts.line.len() <= rooms.line.len()
+        && texts.history.len() <= rooms.history.len()
+        && texts.kills.len() <= rooms.kills.len()
+        && texts.ends.len() <= rooms.ends.len()
+}
+
+/// Puts each text into its room; none where one doesn't fit.
+fn put_all(texts: &Texts<'_>, rooms: &mut Rooms<'_>) -> Result<(), Status>
+    ensures gives { GivesTexts (texts_of texts.now) (texts_in rooms.old) (texts_in rooms.new) result }
     ensures same { SameRooms rooms.old rooms.new }
 {
-    put(text, rooms.line).ok_or(Status::Room)?;
-    put(history, rooms.history).ok_or(Status::Room)?;
-    put(&slots.texts, rooms.kills).ok_or(Status::Room)?;
-    put(&slots.ends, rooms.ends).ok_or(Status::Room)
+    if !fit(texts, rooms) {
+        return Err(Status::Room);
+    }
+    put(texts.display, rooms.display);
+    put(texts.line, rooms.line);
+    put(texts.history, rooms.history);
+    put(texts.kills, rooms.kills);
+    put(texts.ends, rooms.ends);
+    Ok(())
 }
 
 /// The text of a line; empty where there is none.
@@ -227,15 +261,18 @@ fn give_end(
     } = left;
     let history = saved(alloc, history)?;
     let slots = slots_of(alloc, &ring)?;
-    let text = text_of(&outcome);
-    step.line = text.len();
+    let texts = Texts {
+        display: &display.bytes()[sent..],
+        line: text_of(&outcome).as_bytes(),
+        history: &history,
+        kills: &slots.texts,
+        ends: &slots.ends,
+    };
+    step.sent = display.bytes().len();
     step.keys = keys.saturating_sub(rest);
-    step.history = history.len();
-    step.kills = slots.texts.len();
-    step.slots = slots.ends.len();
     step.place = slots.place;
-    give_display(display.bytes(), sent, rooms.display, step)?;
-    give_rest(text.as_bytes(), &history, &slots, rooms)
+    tell_lengths(&texts, step);
+    put_all(&texts, rooms)
 }
 
 /// Gives what a line left, and answers how it ended.

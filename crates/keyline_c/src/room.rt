@@ -1,15 +1,13 @@
 //! Room that a caller hands in.
 
-ghost use Rattle.keyline_c.specs.Rooms.{Puts};
+ghost use Rattle.std.specs.Prelude.{◌≤◌, length};
+ghost use Rattle.keyline_c.specs.Rooms.{IsPut};
 
-/// Puts what is given at the front of the room, where it fits.
-pub(crate) fn put<T: Copy>(given: &[T], room: &mut [T]) -> Option<()>
-    ensures { Puts given.now room.old room.new result }
+/// Puts what is given at the front of a room in which it fits.
+pub(crate) fn put<T: Copy>(given: &[T], room: &mut [T])
+    requires { length given.now ≤ length room.old }
+    ensures { IsPut given.now room.old room.new }
 {
-    if given.len() > room.len() {
-        return None;
-    }
     let (front, _) = room.split_at_mut(given.len());
     front.copy_from_slice(given);
-    Some(())
 }
