@@ -1,5 +1,5 @@
 -- What the arguments of a call mean.
-use Rattle.std.specs.Prelude.{◌≡◌, ◌≢◌, ◌≤◌, ◌==◌, ⊤, ℕ, true, false, if◌then◌else◌, List, [], ◌∷◌, Option, Some, None, Result, Ok, Err, String, string_bytes}
+use Rattle.std.specs.Prelude.{◌≡◌, ◌≢◌, ◌≤◌, ◌==◌, ℕ, true, false, if◌then◌else◌, List, [], ◌∷◌, Option, Some, None, Result, Ok, Err, String, string_bytes}
 use Rattle.std.specs.Global.{Global, Vec}
 use Rattle.std.specs.Str.{IsUtf8}
 use Rattle.line_config.specs.Feed.{Feed, fresh_feed}
@@ -59,5 +59,5 @@ WordsMean text (Err status) = ⊥
 abbrev pub HistoryMeans : Options → List ℕ → Result Filed Status → Type 0
 HistoryMeans o text (Ok history) = history ≡ loaded_from (config_of o) (whole text)
 HistoryMeans o text (Err Argument) = loads (config_of o) (whole text) ≡ Err HistoryText
-HistoryMeans o text (Err Memory) = ⊤
+HistoryMeans o text (Err Memory) = text ≢ []
 HistoryMeans o text (Err status) = ⊥

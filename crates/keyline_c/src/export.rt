@@ -138,7 +138,9 @@ fn history_of(alloc: Global, options: &Options, text: &[u8]) -> Result<FileHisto
     ensures { HistoryMeans options.now text.now result }
 {
     let mut history = FileHistory::with_config(alloc, &config_of(options));
-    history.load_from(alloc, &mut SliceSource::new(text))?;
+    if !text.is_empty() {
+        history.load_from(alloc, &mut SliceSource::new(text))?;
+    }
     Ok(history)
 }
 
@@ -201,7 +203,8 @@ fn fit(texts: &Texts<'_>, rooms: &Rooms<'_>) -> bool
 
 /// Puts each text into its room; none where one doesn't fit.
 fn put_all(texts: &Texts<'_>, rooms: &mut Rooms<'_>) -> Result<(), Status>
-    ensures gives { GivesTexts (texts_of texts.now) (texts_in rooms.old) (texts_in rooms.new) result }
+    ensures gives { GivesTexts (texts_of texts.now)
+        (texts_in rooms.old) (texts_in rooms.new) result }
     ensures same { SameRooms rooms.old rooms.new }
 {
     if !fit(texts, rooms) {
