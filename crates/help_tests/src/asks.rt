@@ -1,4 +1,4 @@
-//! Tables whose rows ask of nothing but what stands in them: one player for all.
+//! Tables whose rows ask of nothing but what stands in them: two players for all.
 
 use crate::brackets::{Judge, bracket_at_the_cursor, match_told, validated};
 use crate::completion::{common_prefix, completed_by, made_of_row};
@@ -11,7 +11,7 @@ use stand_ins::rows::{Player, raised, trimmed};
 use std::alloc::{AllocError, Global};
 use std::test::Fail;
 
-/// What the rows of a table ask.
+/// What the rows of a table ask, which is refused for want of memory alone.
 #[derive(Drop)]
 pub(crate) enum Ask {
     Match,
@@ -19,19 +19,14 @@ pub(crate) enum Ask {
     Verdict(Judge),
     CompletedBy,
     CommonPrefixes,
-    Words,
     Prompts,
-    Loaded,
     Settings,
     Ends,
     WordsOfTexts,
-    CutTexts,
-    Room(Way),
 }
 
 impl Ask {
-    // What is refused for want of memory alone.
-    fn text(&self, alloc: Global, call: &str) -> Result<String, AllocError> {
+    fn answer(&self, alloc: Global, call: &str) -> Result<String, AllocError> {
         match self {
             Ask::Match => match_told(alloc, call),
             Ask::AtTheCursor => bracket_at_the_cursor(alloc, call),
@@ -41,19 +36,34 @@ impl Ask {
             Ask::Prompts => prompt_told(alloc, call),
             Ask::Settings => loaded_under(alloc, call),
             Ask::Ends => ends_told(alloc, call),
-            _ => words_of_text(alloc, call),
+            Ask::WordsOfTexts => words_of_text(alloc, call),
         }
     }
 }
 
 impl Player for Ask {
     fn play(&mut self, alloc: Global, call: &str) -> Result<String, Fail> {
+        let said = self.answer(alloc, call)?;
+        trimmed(alloc, said.as_str())
+    }
+}
+
+/// What the rows of a table try, which more than want of memory refuses.
+#[derive(Drop)]
+pub(crate) enum Try {
+    Words,
+    Loaded,
+    CutTexts,
+    Room(Way),
+}
+
+impl Player for Try {
+    fn play(&mut self, alloc: Global, call: &str) -> Result<String, Fail> {
         let said: Result<String, Fail> = match self {
-            Ask::Words => raised(made_of_row(alloc, call)),
-            Ask::Loaded => raised(loaded_anew(alloc, call)),
-            Ask::CutTexts => raised(cut_text_told(alloc, call)),
-            Ask::Room(way) => raised(room_told(alloc, way, call)),
-            _ => raised(self.text(alloc, call)),
+            Try::Words => raised(made_of_row(alloc, call)),
+            Try::Loaded => raised(loaded_anew(alloc, call)),
+            Try::CutTexts => raised(cut_text_told(alloc, call)),
+            Try::Room(way) => room_told(alloc, way, call),
         };
         trimmed(alloc, said?.as_str())
     }

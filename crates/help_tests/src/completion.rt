@@ -4,7 +4,7 @@ ghost use Rattle.line_config.specs.declared.errors.HookFault.TheVariants.{Memory
 ghost use Rattle.line_help.specs.FileNames.{Named};
 ghost use Rattle.line_keys.specs.Replies.{gives, gives_unless};
 
-use crate::asks::Ask;
+use crate::asks::{Ask, Try};
 use crate::words::completer_of;
 use line_buffer::{LineBuffer, NoListener};
 use line_config::HookFault;
@@ -444,7 +444,7 @@ pub(crate) fn made_of_row(alloc: Global, call: &str) -> Result<String, HookFault
 
 #[test]
 fn words_and_escapes(rt: HostRuntime) -> Result<(), Fail> {
-    rows_hold(rt.alloc(), &mut Ask::Words, WORDS)
+    rows_hold(rt.alloc(), &mut Try::Words, WORDS)
 }
 
 // Candidates, with a semicolon after each, and what all of them begin with.

@@ -1,6 +1,6 @@
 //! Devices that fail at each byte in turn, and what a history is then.
 
-use crate::asks::Ask;
+use crate::asks::Try;
 use crate::history::{add_lines, load_told, told_with_entries, with_lines};
 use line_config::{Config, DeviceFailed, Log, ReadlineError, Sink, SliceSource, Source, VecSink};
 use line_help::{FileHistory, History};
@@ -149,7 +149,7 @@ fn saved_with(alloc: Global, lines: &str) -> Result<FileHistory, ReadlineError> 
 
 #[test]
 fn sources_that_fail_at_each_byte(rt: HostRuntime) -> Result<(), Fail> {
-    rows_hold(rt.alloc(), &mut Ask::CutTexts, CUT_TEXTS)
+    rows_hold(rt.alloc(), &mut Try::CutTexts, CUT_TEXTS)
 }
 
 // What a new history answers to a row that isn't UTF-8 before a failure.
@@ -260,16 +260,16 @@ fn to_be_written(alloc: Global, way: &Way) -> Result<FileHistory, ReadlineError>
 }
 
 /// What happens to such a history with a row's room.
-pub(crate) fn room_told(alloc: Global, way: &Way, room: &str) -> Result<String, ReadlineError> {
-    let room = room.parse().unwrap_or(usize::MAX);
+pub(crate) fn room_told(alloc: Global, way: &Way, room: &str) -> Result<String, Fail> {
+    let room = room.parse()?;
     let mut history = to_be_written(alloc, way)?;
     raised(with_room(alloc, way, &mut history, room))
 }
 
 #[test]
 fn sinks_that_fail_at_each_byte(rt: HostRuntime) -> Result<(), Fail> {
-    rows_hold(rt.alloc(), &mut Ask::Room(Way::Save), SAVES)?;
-    rows_hold(rt.alloc(), &mut Ask::Room(Way::Append), ADDITIONS)
+    rows_hold(rt.alloc(), &mut Try::Room(Way::Save), SAVES)?;
+    rows_hold(rt.alloc(), &mut Try::Room(Way::Append), ADDITIONS)
 }
 
 // Whether a history with no entries has nothing to write to a sink.

@@ -1,6 +1,6 @@
 //! Histories, call by call. An entry has a bar after it.
 
-use crate::asks::Ask;
+use crate::asks::{Ask, Try};
 use line_config::{Config, Configurer, HookFault, ReadlineError, SliceSource, Source, VecSink};
 use line_help::{
     Context, FileHistory, Hint, Hinter, History, HistoryHinter, MemHistory, SearchDirection,
@@ -144,7 +144,7 @@ pub(crate) fn loaded_anew(alloc: Global, text: &str) -> Result<String, ReadlineE
 
 #[test]
 fn texts_that_are_loaded(rt: HostRuntime) -> Result<(), Fail> {
-    rows_hold(rt.alloc(), &mut Ask::Loaded, LOADED)
+    rows_hold(rt.alloc(), &mut Try::Loaded, LOADED)
 }
 
 // A text that is loaded by histories with these settings: the most entries, and what is ignored.
