@@ -6,7 +6,7 @@ from names import TOP, files_under, lines_of
 
 # The pages that a script makes: no rule of style is for them.
 GENERATED = ("docs/API.md",)
-AT_TOP = ("README.md", "CONTRIBUTING.md", "CHANGELOG.md", "bench/README.md")
+AT_TOP = ("README.md", "bench/README.md")
 
 CODE = re.compile(r"(`+)(?!`).*?(?<!`)\1(?!`)")
 LINK = re.compile(r"\[([^\]\n]+)\]\(([^)#\s]*)(?:#([\w-]+))?\)")
@@ -17,7 +17,7 @@ ITEM = re.compile(r"\s*(?:[-*]|\d+\.) ")
 
 def documents():
     """Each document, by its path from the top."""
-    yield from (it for it in AT_TOP if os.path.isfile(os.path.join(TOP, it)))
+    yield from AT_TOP
     yield from files_under("docs", ".md")
 
 
