@@ -10,6 +10,9 @@ AT_TOP = ("README.md", "bench/README.md")
 
 CODE = re.compile(r"(`+)(?!`).*?(?<!`)\1(?!`)")
 LINK = re.compile(r"\[([^\]\n]+)\]\(([^)#\s]*)(?:#([\w-]+))?\)")
+# A link that names its target, which a line of the document gives.
+NAMING = re.compile(r"\[([^\]\n]+)\]\[([\w-]+)\]")
+TARGET = re.compile(r"\[([\w-]+)\]: (\S+)")
 ANCHOR = re.compile(r"<a id=\"([\w-]+)\"></a>")
 SOURCE = re.compile(r"`(crates/[\w/]+\.\w+)`")
 ITEM = re.compile(r"\s*(?:[-*]|\d+\.) ")
@@ -102,14 +105,25 @@ def texts(path):
             words = []
         if line.startswith("|"):
             yield from ((number, cell) for cell in cells_of(line) if not is_rule(line))
-        elif line.strip():
+        elif line.strip() and not TARGET.fullmatch(line):
             begun = begun if words else number
             words.append(line.strip().lstrip("#> "))
 
 
+def links(path):
+    """The links of a document, each as its words, its target and the place in it."""
+    lines = [line for _, line in prose(path)]
+    targets = dict(found.groups() for found in map(TARGET.fullmatch, lines) if found)
+    for line in lines:
+        yield from (link.groups() for link in LINK.finditer(line))
+        yield from ((link[1], targets.get(link[2], link[2]), None) for link in NAMING.finditer(line))
+
+
 def plain(text):
     """A text without its links' targets, each piece of code as one word."""
-    return CODE.sub("`code`", LINK.sub(lambda link: link[1], text)).replace("*", "")
+    for kind in (LINK, NAMING):
+        text = kind.sub(lambda link: link[1], text)
+    return CODE.sub("`code`", text).replace("*", "")
 
 
 def sentences(path):

@@ -25,7 +25,7 @@ import api
 import words
 from names import CRATES, LIBRARIES, TOP, Crate, files_under, line_of, lines_of
 from pages import (
-    LINK, anchors, calls_of, cells_of, count_words, documents, is_row, listings, prose, section, sentences, tables, written,
+    LINK, anchors, calls_of, cells_of, count_words, documents, is_row, links, listings, section, sentences, tables, written,
 )
 
 WORD = re.compile(r"`([^`]+)`|[()]")
@@ -129,13 +129,12 @@ def check_decisions(checks):
 
 
 def check_crates(checks):
-    """docs/ARCHITECTURE.md: what each crate stands on is what crates.txt says."""
-    wanted = {name: set(on) for name, on in CRATES.items()}
-    for cells in tables(section(lines_of("docs", "ARCHITECTURE.md"), "## Crates")):
-        for name in re.findall(r"`([^`]+)`", cells[0]):
-            on = set(re.findall(r"`([^`]+)`", cells[-1]))
-            checks.expect(wanted.pop(name, None) == on, f"ARCHITECTURE: {name} stands on other crates in crates.txt")
-    checks.expect(not wanted, f"ARCHITECTURE: no row for {', '.join(sorted(wanted))}")
+    """docs/ARCHITECTURE.md: a row for each crate."""
+    rows = tables(section(lines_of("docs", "ARCHITECTURE.md"), "## Crates"))
+    named = [name for cells in rows for name in re.findall(r"`([^`]+)`", cells[0])]
+    for name in sorted({*named} ^ {*CRATES}):
+        checks.expect(False, f"ARCHITECTURE: {'no row for' if name in CRATES else 'a row, and no crate:'} {name}")
+    checks.expect(len(named) == len({*named}), "ARCHITECTURE: a crate has two rows")
 
 
 def check_definitions(checks, crates):
@@ -155,12 +154,6 @@ def place_of(name, path):
     """The line of a linked source that the link's words name. The words may also name the file itself."""
     name = name.strip("`")
     return 1 if name.startswith("specs/") else line_of(path, name)
-
-
-def links(document):
-    """The links of a document, each as its words, its target and the place in it."""
-    for _, line in prose(document):
-        yield from (link.groups() for link in LINK.finditer(line))
 
 
 def check_links(checks):
