@@ -25,7 +25,7 @@ import api
 import words
 from names import CRATES, LIBRARIES, TOP, Crate, files_under, line_of, lines_of
 from pages import (
-    LINK, anchors, calls_of, cells_of, count_words, documents, is_row, links, listings, section, sentences, tables, written,
+    GENERATED, LINK, anchors, calls_of, cells_of, count_words, documents, is_row, links, listings, section, sentences, tables, written,
 )
 
 WORD = re.compile(r"`([^`]+)`|[()]")
@@ -34,9 +34,10 @@ MERGED = re.compile(r"(<{7}|={7}|>{7})( |$)")
 WEB = re.compile(r"\w+:")
 LEFT_OUT = re.compile(r"\n[ ]*// \.\.\n")
 
-# The longest sentence of a document, and the longest promise, in words; and what all documents that people write may have.
+# The longest sentence of a document, and the longest promise, in words; and the most bytes of docs/.
 LONGEST_SENTENCE, LONGEST_PROMISE = 40, 30
 MOST_BYTES = 200 * 1024
+NAMED_MUTANTS = "tests/mutants-named.txt"
 
 
 class Checks:
@@ -205,8 +206,8 @@ def check_style(checks):
             checks.expect(is_short, f"{document}:{at}: more than {LONGEST_SENTENCE} words: {sentence[:60]}")
     for place, instead in words.standing(written()):
         checks.expect(False, f"{place}: write {instead}")
-    size = sum(os.path.getsize(os.path.join(TOP, it)) for it in written() if it.startswith("docs/"))
-    checks.expect(size <= MOST_BYTES, f"docs/ has {size} bytes without what scripts make, and is to have {MOST_BYTES} at most")
+    size = sum(os.path.getsize(os.path.join(TOP, it)) for it in files_under("docs", "") if it not in GENERATED)
+    checks.expect(size <= MOST_BYTES, f"docs/ has {size} bytes without {', '.join(GENERATED)}, and is to have {MOST_BYTES} at most")
 
 
 def check_api(checks):
@@ -234,14 +235,14 @@ def with_line(document, link):
 
 
 def check_mutants(checks):
-    """Each mutant that a document names by a rule is there, and each of must-fail/ stands for one."""
+    """Each mutant that is named by a rule is there, and each of must-fail/ stands for one."""
     named = set()
     for rule, crate, mutant in named_mutants():
         of, name = crate.strip("` |"), mutant.strip("` |")
         named.add(f"{of}/{name}")
         files = [os.path.join(TOP, "crates", of, folder, f"{name}.edit") for folder in ("mutants", "must-fail")]
         checks.expect(any(map(os.path.isfile, files)), f"{of} has no mutant {name}, of the rule: {rule.strip('| ')}")
-    checks.expect(named, "no document has the section 'Named mutants'")
+    checks.expect(named, "no mutant is named by a rule")
     for crate in CRATES:
         for file in files_under(f"crates/{crate}/must-fail", ".edit"):
             name = os.path.basename(file).removesuffix(".edit")
@@ -249,11 +250,13 @@ def check_mutants(checks):
 
 
 def named_mutants():
-    """The rows of the documents' sections of named mutants."""
+    """The mutants that stand for a rule, each as the rule, the crate and its name: those that documents name, and NAMED_MUTANTS."""
     for document in written():
         lines = lines_of(document)
         for head in (it for it in lines if re.match(r"##+ Named (mutants|wrong bodies)$", it)):
             yield from tables(section(lines, head))
+    if os.path.isfile(os.path.join(TOP, NAMED_MUTANTS)):
+        yield from (line.split(" | ") for line in lines_of(NAMED_MUTANTS) if line and not line.startswith("#"))
 
 
 def check_parts(checks):
