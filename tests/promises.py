@@ -107,9 +107,8 @@ def check_errors(checks, crates):
     lines = lines_of("docs", "ERRORS.md")
     for crate in (crates[name] for name in LIBRARIES if name in crates):
         failing, named = set(crate.failing_calls()), set()
-        if not failing:
-            continue
-        for cells in tables(section(lines, f"## `{crate.name}`")):
+        head = f"## `{crate.name}`"
+        for cells in tables(section(lines, head)) if head in lines else ():
             clauses = re.findall(r"`([^`]+)`", cells[-1])
             for owner, call in calls_of(cells[0]):
                 name = next((it for it in (f"{owner}::{call}", call) if it in failing), None)
@@ -171,7 +170,8 @@ def check_links(checks):
                 checks.expect(part in places_in[path], f"{document}: {path} has no heading or anchor {part}, which is linked")
             elif path.endswith((".antt", ".rt")) and os.path.exists(os.path.join(TOP, path)) and " " not in name:
                 at = place_of(name, path)
-                checks.expect(at and part in (None, f"L{at}"), f"{document}: {name} stands in line {at} of {path}, not {part}")
+                found = f"in line {at}" if at else "nowhere"
+                checks.expect(at and part in (None, f"L{at}"), f"{document}: {name} stands {found} in {path}, and not in {part}")
 
 
 def check_listings(checks):
