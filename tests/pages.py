@@ -4,9 +4,9 @@ import re
 
 from names import TOP, files_under, lines_of
 
-# The pages that a script makes: no rule of style is for them.
-GENERATED = ("docs/API.md",)
-AT_TOP = ("README.md", "bench/README.md")
+# What scripts make in docs/: no rule of style or size is for it.
+GENERATED = ("docs/API.md", "docs/session.svg")
+AT_TOP = ("README.md", "CONTRIBUTING.md", "CHANGELOG.md", "bench/README.md")
 
 CODE = re.compile(r"(`+)(?!`).*?(?<!`)\1(?!`)")
 LINK = re.compile(r"\[([^\]\n]+)\]\(([^)#\s]*)(?:#([\w-]+))?\)")
@@ -20,7 +20,7 @@ ITEM = re.compile(r"\s*(?:[-*]|\d+\.) ")
 
 def documents():
     """Each document, by its path from the top."""
-    yield from AT_TOP
+    yield from (it for it in AT_TOP if os.path.isfile(os.path.join(TOP, it)))
     yield from files_under("docs", ".md")
 
 
