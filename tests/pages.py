@@ -139,7 +139,7 @@ def count_words(sentence):
 
 
 def listings(path):
-    """Each listing in Rust, with its line and the source that was named last above it, if one was."""
+    """Each listing of code or definitions, with its line and the source that was named last above it, if one was."""
     file, begun, listed = None, 0, []
     for number, line in enumerate(lines_of(path), 1):
         if begun and line == "```":
@@ -147,7 +147,7 @@ def listings(path):
             begun, listed = 0, []
         elif begun:
             listed.append(line)
-        elif line.startswith("```rust"):
+        elif line in ("```rust", "```antt"):
             begun = number
         else:
             file = ([file] + SOURCE.findall(line))[-1]

@@ -12,8 +12,8 @@ docs/PROMISES.md: a promise is an item of a list under a line `Place: ..`, or a 
 place is written `crate` and then its calls: `Type::call`, `Trait::call`, `Type`, `call` or `laws::law`, each followed by the
 names of its clauses in parentheses if only some of them carry the promise. A crate in a heading is that of the places below it.
 
-Listings: a listing in Rust follows a line that names its file, as `crates/first_program/src/main.rt`. It stands in that file; a
-line `// ..` stands for lines that are left out, and the listing may be indented less than the file.
+Listings: a listing of `rust` or `antt` follows a line that names its file, as `crates/first_program/src/main.rt`. It stands in that
+file; a line `// ..` or `-- ..` stands for lines that are left out, and the listing may be indented less than the file.
 """
 import os
 import re
@@ -32,7 +32,7 @@ WORD = re.compile(r"`([^`]+)`|[()]")
 LINE = re.compile(r"L\d+")
 MERGED = re.compile(r"(<{7}|={7}|>{7})( |$)")
 WEB = re.compile(r"\w+:")
-LEFT_OUT = re.compile(r"\n[ ]*// \.\.\n")
+LEFT_OUT = re.compile(r"\n[ ]*(?://|--) \.\.\n")
 
 # The longest sentence of a document, and the longest promise, in words; and the most bytes of docs/.
 LONGEST_SENTENCE, LONGEST_PROMISE = 40, 30
@@ -175,7 +175,7 @@ def check_links(checks):
 
 
 def check_listings(checks):
-    """Each listing in Rust stands in the file that is named above it."""
+    """Each listing stands in the file that is named above it."""
     for document in written():
         for at, file, listed in listings(document):
             is_there = file and os.path.isfile(os.path.join(TOP, file))
