@@ -86,8 +86,8 @@ abbrev pub stops_back : Word → List ℕ → List ℕ
 stops_back word text = reverse (text_start text ++ starts_of (kinds word (clusters text)))
 
 -- where a motion over a text can stop inside it: at each start of a word, after its end, or at its
--- last cluster, but never at the text's first one. With Emacs words the place after the end counts
--- as the last cluster
+-- last cluster (never at the text's first one). With Emacs words the place after the end counts as
+-- the last cluster
 abbrev pub inner_stops : At → Word → List ℕ → List ℕ
 inner_stops BeforeEnd Emacs text = ends_of (kinds Emacs (clusters text))
 inner_stops BeforeEnd word text = lasts_of (kinds word (drop 1 (clusters text)))

@@ -9,7 +9,7 @@ use Rattle.line_buffer.specs.Words.{is_alphanumeric_cluster}
 use Rattle.line_record.specs.Change.{Change, undo_place, redo_place}
 use Rattle.line_record.specs.Change.Change.{Inserted, Deleted, Replaced}
 
--- an open mark keeps the text at which it was set; a step keeps the text before it, the place that
+-- an open mark keeps the text at which it was set. A step keeps the text before it, the place that
 -- an undo restores, its newest change, and whether a change may be joined to that one
 pub data Held : Type 0 where
   Opened : (text : List ℕ) → Held

@@ -1,5 +1,5 @@
--- The record's value: the changes done and undone, each side nearest first; the texts that they
--- stand for on a line's text; and the effect of undo and redo on the record and its line.
+-- The record's value: the changes done and undone, each side nearest first, and the texts that they
+-- stand for on a line's text. Also the effect of undo and redo on the record and its line.
 use Rattle.std.specs.Prelude.{◌≡◌, ◌<◌, ◌≤◌, ℕ, Bool, true, false, List, [], ◌∷◌, ◌++◌, drop, length, ◌-◌, Option, Some, None, is_some, IsUtf8, zero, suc, take, reverse, Result, IfOk, OnOk, OnErr}
 use Rattle.line_buffer.specs.Event.{Event}
 use Rattle.line_buffer.specs.Event.Event.{StartKilling, StopKilling}
