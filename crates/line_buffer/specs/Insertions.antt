@@ -18,7 +18,7 @@ unfoldable pub last_cut : List ℕ → ℕ → ℕ
 last_cut text zero = 0
 last_cut text (suc n) = if is_inside_char text (suc n) then last_cut text n else suc n
 
--- so many more bytes fit, for the calls that respect the limit
+-- `count` more bytes fit, for the calls that respect the limit
 abbrev pub has_room : ℕ → Line → Bool
 has_room count l = l.growth || nat_le (length l.text + count) l.limit
 
@@ -76,15 +76,15 @@ insert c n l =
 abbrev pub yank : List ℕ → ℕ → Line → Insertion
 yank text n l = if length text == 0 then no_insertion l else insertion_of text n l
 
--- so many bytes precede the cursor, and begin at a character boundary
+-- `count` bytes precede the cursor, and begin at a character boundary
 abbrev pub can_take_before : ℕ → Line → Bool
 can_take_before count l = nat_le count l.place && not (is_inside_char l.text (l.place - count))
 
--- the line without so many bytes before the cursor
+-- the line without the `size` bytes before the cursor
 abbrev pub without_before : ℕ → Line → Line
 without_before size l = cut_out (l.place - size) l.place l
 
--- a text in place of so many bytes before the cursor
+-- a text in place of the `size` bytes before the cursor
 abbrev pub yank_pop : ℕ → List ℕ → Line → Insertion
 yank_pop size text l =
     let put = yank text 1 (without_before size l) in

@@ -10,7 +10,7 @@ use Rattle.line_buffer.specs.Line.{Line}
 use Rattle.line_buffer.specs.Range.{range_of, copied_range, span_text, kill_events}
 use Rattle.line_buffer.specs.Replay.{replayed_all}
 
--- not by a row and not to an end of one, where a kill takes the newline and a copy doesn't
+-- neither a row nor an end of a row: there a kill takes the newline and a copy doesn't
 abbrev pub leaves_rows_whole : Movement → Bool
 leaves_rows_whole WholeLine = false
 leaves_rows_whole BeginningOfLine = false

@@ -6,7 +6,7 @@ use Rattle.unicode_width.specs.Width.{str_width, char_width}
 use Rattle.line_buffer.specs.declared.layout.GraphemeClusterMode.{GraphemeClusterMode}
 use Rattle.line_buffer.specs.declared.layout.GraphemeClusterMode.TheVariants.{Unicode, WcWidth, NoZwj}
 
--- a character by itself, 0 where it has no width
+-- a character by itself, 0 if it has no width
 abbrev pub char_columns_of : ℕ → ℕ
 char_columns_of c = unwrap_or (char_width false c) 0
 

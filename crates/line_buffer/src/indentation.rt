@@ -114,7 +114,7 @@ impl<'a> GapBuffer<'a> {
             (change_rows margin.now dedent self.old.1 upto self.old.0)
             cl.old cl.new self.old.0 self.new.0 result }
     {
-        // Its contract says that it stands between characters.
+        // Its contract says that it is a character boundary.
         let _gap = self.gap();
         let mut last = upto;
         'rows: loop {

@@ -126,7 +126,7 @@ impl LineBuffer {
         ensures { EditsLine C.takes (wants_or C.refuses) [] (update text.now pos self.old)
             cl.old cl.new self.old self.new result }
     {
-        // Its contract says that it stands between characters.
+        // Its contract says that it is a character boundary.
         let _place = self.pos();
         let kept = self.kept(text);
         self.delete_all(alloc, cl)?;
@@ -283,7 +283,7 @@ impl LineBuffer {
         ensures { EditsLine C.takes (wants_or C.refuses) []
             (yank_pop yank_size text.now self.old) cl.old cl.new self.old self.new result }
     {
-        // Its contract says that it stands between characters.
+        // Its contract says that it is a character boundary.
         let _place = self.pos();
         self.delete_before(alloc, yank_size, cl)?;
         let answer = self.yank(alloc, text, 1, cl)?;

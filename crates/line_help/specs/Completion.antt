@@ -34,7 +34,7 @@ nothing_offered = record { start = 0; candidates = [] }
 abbrev pub completion_by : {C : Type 0} → (C → Offered) → ℕ × Vec C → Completion
 completion_by offers found = record { start = found.0; candidates = map offers found.1.items }
 
--- a text replaced the line from a place to the cursor, after the listener was notified; or the line
+-- a text replaced the line from a place to the cursor, after the listener was notified. Or the line
 -- stays, and so does the listener, unless it failed on the change
 pub record Updates {L A E : Type 0} (takes refuses : L → Event → L → Type 0)
     (start : ℕ) (elected : List ℕ) (listener listener' : L)

@@ -17,7 +17,7 @@ abbrev pub style_sequence : List ℕ → List ℕ
 style_sequence parameters = 27 ∷ (91 ∷ (parameters ++ (109 ∷ [])))
 
 -- the part of the display in which a text is shown: the line, with the cursor's place in it; the
--- prompt, and whether it is the line's own; the hint; or a candidate, and the completion type
+-- prompt, and whether it is the line's own; the hint; or a candidate, with the completion type
 pub data DisplayPart : Type 0 where
   OfLine : (place : ℕ) → DisplayPart
   OfPrompt : (own : Bool) → DisplayPart

@@ -75,7 +75,7 @@ pub fn check_bracket(line: &str, pos: usize) -> Option<(u8, usize)>
     if has_room { Some((byte, place)) } else { None }
 }
 
-/// The bracket that matches `bracket` at `pos`, and its place: the first one after an opening
+/// The bracket that matches `bracket` at `pos`, and its place. It is the first one after an opening
 /// bracket, or the nearest one before a closing bracket, that leaves none of that kind open.
 /// Brackets of other kinds don't count. A byte that is no bracket has no match. The byte at `pos`
 /// itself isn't read.

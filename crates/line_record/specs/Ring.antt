@@ -38,7 +38,7 @@ joined_text Prepend text slot = text ++ slot
 abbrev pub slot_after : ℕ → ℕ → ℕ → ℕ
 slot_after count size place = if count == 0 then 0 else if place + 1 == size then 0 else place + 1
 
--- a text put in a slot, or after the last one
+-- a text stored in a slot, or after the last one
 abbrev pub put_text : ℕ → List ℕ → List (List ℕ) → List (List ℕ)
 put_text place text slots =
     if nat_lt place (length slots) then slice_set slots place text else slots ++ text ∷ []
