@@ -30,8 +30,8 @@ pub data Call : Type 0 where
   -- a call of the helper, which answers or fails; nothing is drawn
   Help : (fails : Bool) → Call
 
--- a renderer's measures: where the drawing of a text from a place on ends, the columns of a row,
--- the number of rows, whether it draws in colours, and how it counts a cluster's columns
+-- a renderer's measures: where the drawing of a text from a place on ends, the numbers of columns
+-- and of rows, whether it draws in colours, and how it counts a cluster's columns
 pub record Ruler : Type 0 where
   pub measure : List ℕ → Position → Position
   pub columns : ℕ

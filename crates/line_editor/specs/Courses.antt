@@ -8,7 +8,7 @@ use Rattle.line_editor.specs.Sights.{Sight, no_sight, ended_sight, Turns, FitsAl
 use Rattle.line_editor.specs.Values.{EditStep}
 
 -- a first drawing, or a phrase and a command that leave the line open, with what is shown after
--- them; a phrase and a command that accept the line; or the end of the session, and whether a line
+-- them. A phrase and a command that accept the line. The end of the session, and whether a line
 -- break is written after it
 pub data Turn : Type 0 where
   Open : (steps : List EditStep) (value : Sight) → Turn

@@ -17,8 +17,8 @@ use Rattle.line_editor.specs.Values.{Value, Transition, unchanged, taking_memory
 abbrev pub may_be_taken : List ℕ → Value → Bool
 may_be_taken killed v = is_bare v && list_all is_printable killed
 
--- the drawing after a deletion of `count` bytes: an erasure, if that may show it, and if the line
--- is still bare, with the cursor at the end of a plain text
+-- the drawing after a deletion of `count` bytes: an erasure, if that may show it and the line is
+-- still bare, with the cursor at the end of a plain text
 abbrev pub taken_shown : ℕ → Bool → Transition
 taken_shown count alone s v =
     redrawn (if alone && (is_bare v && at_plain_end v.line.text v.line.place)

@@ -67,8 +67,8 @@ abbrev pub BegunSound : Setting → List ValueStep → Value → Type 0
 BegunSound s [] v = ⊤
 BegunSound s (step ∷ steps) v = Sound v × BegunSound s steps (value_after s step v)
 
--- whatever changes a line after its record was empty, an undo by as many items as are held, or
--- more, restores the text of that time; for a new line it is empty
+-- whatever changes a line after its record was empty: an undo by as many items as are held, or
+-- more, restores the text of that time. For a new line it is empty
 abbrev pub UndoesAll : Type 0
 UndoesAll =
     (s : Setting) (steps : List ValueStep) (v : Value) (m : Means) (n : ℕ)

@@ -32,8 +32,8 @@ pub fn lines_lead()
     ensures { LinesLead }
 {}
 
-/// If a step back or to the first entry leaves the history's end, and the line later comes back to
-/// that end without a search, then line and cursor are as they were.
+/// If a step back or to the first entry leaves the history's end, and the line comes back to it
+/// without a search, then line and cursor are as they were.
 pub fn come_back()
     ensures { ComesBack }
 {}
