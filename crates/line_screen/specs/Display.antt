@@ -121,7 +121,7 @@ after_control columns d byte =
 abbrev pub stays_in_row : Position → Placed → Bool
 stays_in_row at p = not (p.row == at.row) || nat_le (p.col + p.width) at.col
 
--- what an erasure leaves at a place, if the place is inside no cluster
+-- the display after an erasure, if the cursor is inside no cluster
 abbrev pub erased : (Position → Placed → Bool) → Display → DisplayReading
 erased stays d =
     if list_all (λ p. not (is_cut d.cursor p)) d.placed
