@@ -60,7 +60,7 @@ pub record Ends (held : VecSink → List ℕ) (outcome : Result (List ℕ) Readl
   pub kept : history' ≡ history_after true outcome history
 
 -- the relation of a line and its arguments: the options are valid, and it is the line of these
--- keys, with these words, this history and the ring of these slots
+-- keys, with these words, this history and these slots
 pub record ReadsKeys (held : VecSink → List ℕ) (feed : SliceSource → Feed)
     (options : KeylineOptions) (keys prompt words history kills ends : List ℕ) (left : Left)
     : Type 0 where

@@ -89,8 +89,8 @@ abbrev pub with_display : List ℕ → ℕ → KeylineStep → KeylineStep
 with_display bytes sent step =
     record step { display = length bytes - sent; sent = length bytes }
 
--- the new display bytes are returned: all bytes sent before are among them, or the argument is
--- invalid and nothing is done; and they fit, or the step reports only their lengths
+-- the new display bytes are returned, or the step reports only their lengths if they don't fit. If
+-- more was sent before than there is, the argument is invalid and nothing is done
 abbrev pub GivesDisplay : {A : Type 0} → List ℕ → ℕ → List ℕ → List ℕ → KeylineStep → KeylineStep
     → Result A Status → Type 0
 GivesDisplay bytes sent old new step step' (Ok done) = (sent ≤ length bytes)
