@@ -33,8 +33,8 @@ pub enum Ending {
 }
 
 impl Ending {
-    /// The exit status of a program that ends with its session: 0 for the end of input, 130 for an
-    /// interruption, as in a shell, 3 and 4 for invalid input, and 1 for a fault.
+    /// The exit status of a program that ends with its session. It is 0 for the end of input, 130
+    /// for an interruption (as in a shell), 3 and 4 for invalid input, and 1 for a fault.
     pub fn status(self) -> u8
         ensures { result ≡ status_of self }
     {

@@ -44,7 +44,7 @@ pub fn always_told<
     session.run()
 }
 
-/// `read_line`, called until it fails, with a prompt and columns for each line: the lines, the
+/// `read_line`, called until it fails, with a prompt and columns for each line. The lines, the
 /// history and the display bytes are those of the session with these prompts and columns. `run` is
 /// the case of one prompt and one screen.
 pub fn lines<
@@ -143,9 +143,9 @@ pub fn cutting()
     ensures { CutsAreFree }
 {}
 
-/// If nothing is bound and there is no helper, a text that is pasted at an empty line between two
-/// phrases and then entered is accepted as it is, in every mode. The same holds at the beginning of
-/// a session's line.
+/// If nothing is bound and there is no helper, a text pasted at an empty line between two phrases
+/// and then entered is accepted as it is, in every mode. The same holds at the beginning of a
+/// session's line.
 pub fn paste()
     ensures phrases { PastesAreAccepted }
     ensures lines { PastedLinesAreAccepted }
