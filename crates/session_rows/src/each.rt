@@ -67,9 +67,9 @@ fn tell_row(
 }
 
 /// The results of each session of rows with these settings, one line each. A line has the ending,
-/// and then in hexadecimal, separated by points, the lines, the text of the history and the bytes
-/// of the display; or why the session wasn't opened. If memory runs out for a row's keys or for the
-/// results, that is no error of a session but the call's own.
+/// the lines, the text of the history and the bytes of the display, separated by points and all but
+/// the ending in hexadecimal. Or it says why the session wasn't opened. If memory runs out for a
+/// row's keys or for the results, that is no error of a session but the call's own.
 pub fn told_of_each(alloc: Global, settings: &str, rows: &str) -> Result<String, AllocError> {
     let setting = setting_of(settings);
     let mut said = String::new(alloc);

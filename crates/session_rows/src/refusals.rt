@@ -388,9 +388,9 @@ pub fn play_refused(alloc: Global, settings: &str, rows: &str) -> Result<Played,
     Ok(played)
 }
 
-/// Plays a session in which an allocation may fail, and returns the result in a word: `done` if
-/// none failed, `refused` if one did, `not judged` if one failed before or after it, or else what
-/// is wrong.
+/// Plays a session in which an allocation may fail, and returns the result in a word. It is `done`
+/// if none failed, `refused` if one did, `not judged` if one failed before or after it, or else
+/// what is wrong.
 pub fn play_grown(alloc: Global, settings: &str, row: &str) -> &'static str {
     match grown(alloc, &setting_of(settings), row) {
         Ok(Came::Whole) => "done",

@@ -1,8 +1,9 @@
 //! A helper for sessions that answers as its words say, right or wrong.
 //!
-//! The word `advised` asks for it. Its words are `hint:`, `taken:` (what the hint adds to the
-//! line), `hint-from:`, `verdict:`, `later:`, `later-from:`, `message:`, `offers:` (a candidate, or
-//! two with a comma between them), `start:`, `marked:`, `hint-fails:`, `verdict-fails:`,
+//! The word `advised` asks for it. Its words for hints are `hint:`, `taken:` (what the hint adds to
+//! the line), `hint-from:` and `marked:`. Those for verdicts are `verdict:`, `later:`,
+//! `later-from:` and `message:`. Those for completion are `offers:` (a candidate, or two with a
+//! comma between them) and `start:`. Those for faults are `hint-fails:`, `verdict-fails:`,
 //! `completion-fails:`, `update-fails:` and `wants-memory`.
 
 ghost use Rattle.std.specs.Prelude.{◌≡◌, ◌==◌, nat_le, option_copied, option_map, length, None, Some, false, if◌then◌else◌, IfErr};

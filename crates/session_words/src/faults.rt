@@ -1,4 +1,4 @@
-//! Devices that fail as the words of a setting say: `lines@3` is the fourth call of the sink of
+//! Devices that fail as the words of a setting say. `lines@3` is the fourth call of the sink of
 //! lines, counted over writes and flushes, which takes half of its bytes. With `lines@once` it
 //! takes nothing at all. The same holds for `display`, and for `text`, which is the history's.
 //! `keys@3` fails after three bytes, and `keys@end` after all.

@@ -1,6 +1,6 @@
 //! The notation of sessions.
 //!
-//! A row has keys, ` = `, and the lines that are written; then, after ` | `, what else is checked:
+//! A row has keys, ` = `, and the lines that are written. After ` | ` comes what else is checked:
 //! `ends`, unless it is the end of the input, `saves` and `shows`. Keys are separated by blanks:
 //! `C-a` is Ctrl, `M-b` is Esc and then `b`, `Left` is what a terminal sends, and any other word is
 //! itself. Lines are separated by blanks too; `""` is an empty one. A control character is written
