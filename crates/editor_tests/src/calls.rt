@@ -69,10 +69,12 @@ impl CallLog {
 }
 
 /// Logs each call in words, separated by `; `. Places are rows and columns: `1,4` is the fifth
-/// column of the second row. `draw '> a|b{c}' at 0,3 to 0,5` is prompt, line with a bar at the
-/// cursor, and hint or message in braces, then the place of the cursor and the end. It is followed
-/// by `below 2` if the older drawing's cursor is in row 2, by `fresh` if there is no older one, and
-/// by `lit` if a highlighter is passed in.
+/// column of the second row.
+///
+/// A drawing is `draw '> a|b{c}' at 0,3 to 0,5`. It has prompt, line with a bar at the cursor, and
+/// hint or message in braces, then the place of the cursor and the end. `below 2` follows if the
+/// older drawing's cursor is in row 2, `fresh` if there is no older one, and `lit` if a highlighter
+/// is passed in.
 #[derive(Drop)]
 pub struct CallList {
     pub log: CallLog,

@@ -1,5 +1,5 @@
 //! A helper that counts the calls of its hooks. A row has the commands of a line, or after `keys: `
-//! the keys typed into an empty one; after ` = ` it has the number of calls of the hinter and of
+//! the keys typed into an empty one. After ` = ` it has the number of calls of the hinter and of
 //! the validator.
 
 ghost use Rattle.std.specs.Prelude.{◌≡◌, None, false, refl};

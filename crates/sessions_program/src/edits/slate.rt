@@ -1,5 +1,5 @@
-//! Edits of a line with its record, a kill ring and the mark of a plain text, by the names of their
-//! calls, a number and a text: `insert_char 2 x`, `update 1 abc`, `edit_word 0 Uppercase`, `kill 0
+//! Edits of a line with its record, a kill ring and the mark of a plain text. A step is the name of
+//! a call, a number and a text: `insert_char 2 x`, `update 1 abc`, `edit_word 0 Uppercase`, `kill 0
 //! WholeLine`.
 
 use crate::edits::words::{first_char, parts, tell_ring, word_of};
