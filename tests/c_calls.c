@@ -217,7 +217,7 @@ static void rooms(void)
         hold(small.step.display == all.display && small.step.line == all.line && small.step.history == all.history && small.step.kills == all.kills, "the lengths that are needed");
         free(it->bytes);
         *it = space(size);
-        hold(made(&small) == KEYLINE_LINE && is_line(&small, "two"), "a room of just the size");
+        hold(made(&small) == KEYLINE_LINE && is_line(&small, "two"), "a buffer of exactly the needed size");
         drop(&small);
     }
     drop(&c);

@@ -78,7 +78,7 @@ def each_growth_refused():
         else:
             raise Failed(f"{MOST} allocations, and no end")
     print(f"allocations that failed in turn: {number - 1}; calls that failed at least once: {', '.join(sorted(refused))}", flush=True)
-    same("rows of calls that grow and were never refused", sorted(GROWING - refused), [])
+    same("rows of calls that allocate and never failed", sorted(GROWING - refused), [])
 
 
 def pictured(text):
@@ -236,7 +236,7 @@ class Judge:
             if ran.states[-1].word == "refused":
                 self.judge(ran, number)
             else:
-                same("what stands after a refusal that it gets over", ran.states[-1].shown(), self.shown)
+                same("the state after a failure that it gets over", ran.states[-1].shown(), self.shown)
         raise Failed(f"{MOST} calls, and no end")
 
     def judge(self, ran, number):
@@ -268,10 +268,10 @@ class Judge:
         undone = [state.line for state in back.states[self.row.at + 1:self.row.at + 1 + ALL]]
         if self.row.is_undo() and set(undone) == {left.line}:
             return
-        same("a text that never stood", sorted(set(undone) - self.texts - {left.line}), [])
-        same("the text when all is taken back", undone[-1], "")
+        same("texts that the line never had", sorted(set(undone) - self.texts - {left.line}), [])
+        same("the text after undoing everything", undone[-1], "")
         if self.row.kind == "edits":
-            same("the text when all is made anew", back.states[-1].line, left.line)
+            same("the text after redoing everything", back.states[-1].line, left.line)
 
     def compare(self):
         is_named = self.seen <= set(self.row.left) and bool(self.seen) == bool(self.row.left)

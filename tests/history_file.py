@@ -50,7 +50,7 @@ def little_room():
     size of files is limited instead."""
     with tempfile.TemporaryDirectory() as folder:
         mounted = is_mounted(folder)
-        print(f"room: {'a small disk' if mounted else 'a limit of a file'}")
+        print(f"space: {'a small disk' if mounted else 'a limit of a file'}")
         try:
             yield folder, {} if mounted else {"preexec_fn": limit_files, "restore_signals": False}
         finally:
@@ -118,7 +118,7 @@ def a_link_to_nothing():
 
 
 def a_name_as_long_as_names_are():
-    """A name of 255 bytes leaves no room for another suffix, nor does one with letters of two bytes."""
+    """A name of 255 bytes leaves no space for another suffix, nor does one with letters of two bytes."""
     for name in ("h" * 255, "é" * 127):
         with folder_with(name) as (folder, path):
             played(path, b"a\r")

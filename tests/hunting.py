@@ -15,7 +15,7 @@ COUNT = re.compile(r"\(arg: -?\d+\) ")
 # The most lines that a history stores.
 KEPT = 100
 # Why a session that is too large isn't judged.
-MUCH = "more than there is room for"
+MUCH = "more than there is space for"
 # How many faults end a hunt, for how many seconds one is made smaller, and of how many sessions at most one isn't judged.
 ENOUGH, CUTTING, FEW = 3, 60, 50
 # In how many ways the written bytes may be split into lines that look alike.

@@ -219,7 +219,7 @@ def keys_cut_anywhere(rng):
 
 
 def pastes(rng):
-    """Pastes one after the other, nested, cut off, and where none is expected."""
+    """Pastes one after the other, nested, cut off, and at unexpected places."""
     given, keys = settings(rng), b""
     for _ in range(some(rng, 1, 6)):
         some_keys = keys_of(rng, given["mode"], 3)

@@ -62,7 +62,7 @@ def over_devices_that_take_no_memory():
         refused.update(row for row, word in said.items() if word == "refused")
 
     print(f"allocations that failed in turn: {refused_in_turn(play)}", flush=True)
-    same("sessions of which no growth was refused", sorted(all_rows - refused), [])
+    same("sessions of which no allocation failed", sorted(all_rows - refused), [])
     same("whether all sessions were played", len(all_rows), len(list(rows_of(SESSIONS))))
 
 

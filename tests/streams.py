@@ -175,9 +175,9 @@ def a_display_that_fills_up():
     ends = [SHOWN.find(NEW_ROW + FIRST) + len(NEW_ROW), SHOWN.rfind(NEW_ROW + FIRST) + len(NEW_ROW)]
     for room in range(len(SHOWN) + 1):
         ran, shown = ran_with_room(room, "stderr")
-        same(f"display with room for {room} bytes", shown, SHOWN[:room])
-        same(f"lines beside a display with room for {room} bytes", ran.stdout, written(LINES[:sum(end <= room for end in ends)]))
-        same(f"status of a display with room for {room} bytes", ran.returncode, 0 if room == len(SHOWN) else 1)
+        same(f"display with space for {room} bytes", shown, SHOWN[:room])
+        same(f"lines beside a display with space for {room} bytes", ran.stdout, written(LINES[:sum(end <= room for end in ends)]))
+        same(f"status of a display with space for {room} bytes", ran.returncode, 0 if room == len(SHOWN) else 1)
 
 
 def lines_that_fill_up():
@@ -185,11 +185,11 @@ def lines_that_fill_up():
     whole = written(LINES)
     for room in range(len(whole) + 1):
         ran, lines = ran_with_room(room, "stdout")
-        same(f"lines with room for {room} bytes", lines, whole[:room])
+        same(f"lines with space for {room} bytes", lines, whole[:room])
         end = (SHOWN.find if room <= len(LINES[0]) else SHOWN.rfind)(NEW_ROW + FIRST) + len(NEW_ROW)
         shown = SHOWN if room == len(whole) else SHOWN[:end] + LINES_FAILED
-        same(f"display beside lines with room for {room} bytes", ran.stderr, shown)
-        same(f"status of lines with room for {room} bytes", ran.returncode, 0 if room == len(whole) else 1)
+        same(f"display beside lines with space for {room} bytes", ran.stderr, shown)
+        same(f"status of lines with space for {room} bytes", ran.returncode, 0 if room == len(whole) else 1)
 
 
 def full_devices():
@@ -228,7 +228,7 @@ def streams_closed_from_the_start():
 
 
 def words_that_cannot_be_said():
-    """The status is right even if its message has no room, or no reader."""
+    """The status is right even if its message has no space, or no reader."""
     with tempfile.TemporaryDirectory() as folder, open("/dev/full", "wb") as full:
         path = os.path.join(folder, "history")
         with open(path, "wb") as file:

@@ -9,7 +9,7 @@ use stand_ins::tables::{meant_bytes, or_nothing, pictured_bytes, word_and_rest};
 use std::alloc::{AllocError, Global};
 use std::test::Fail;
 
-/// A sink with room for so many bytes, which writes a bar for each flush.
+/// A sink with space for so many bytes, which writes a bar for each flush.
 #[derive(Drop)]
 struct Narrow {
     room: usize,
@@ -166,7 +166,7 @@ fn bad_rows_before_a_failure(rt: HostRuntime) -> Result<(), Fail> {
     same(said.as_str(), "HistoryText a|, at no failure")
 }
 
-// A save to a sink with room for so many bytes: its two answers, the entries then, and what a
+// A save to a sink with space for so many bytes: its two answers, the entries then, and what a
 // further save writes.
 const SAVES: &str = r"
     0       = HistoryText, HistoryText, a\|b␊|, #V2␊a\\␊b\n␊
@@ -217,7 +217,7 @@ fn write_to<S: Sink>(way: &Way, history: &mut FileHistory, sink: &mut S) -> &'st
     }
 }
 
-// The two answers of a sink with so much room.
+// The two answers of a sink with so much space.
 fn answers(
     alloc: Global,
     way: &Way,
@@ -232,7 +232,7 @@ fn answers(
     (first, write_to(way, history, &mut sink))
 }
 
-// The result with so much room: both answers, the entries then, and which of them are still to be
+// The result with so much space: both answers, the entries then, and which of them are still to be
 // written.
 fn with_room(
     alloc: Global,
@@ -262,7 +262,7 @@ fn to_be_written(alloc: Global, way: &Way) -> Result<FileHistory, ReadlineError>
     }
 }
 
-/// The result for such a history with a row's room.
+/// The result for such a history with a row's space.
 pub(crate) fn room_told(alloc: Global, way: &Way, room: &str) -> Result<String, Fail> {
     let room = room.parse()?;
     let mut history = to_be_written(alloc, way)?;

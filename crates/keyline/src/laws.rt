@@ -98,7 +98,7 @@ pub fn turns_show()
 {}
 
 /// A printable ASCII character, read alone, sends only its one byte. It must be typed at the end of
-/// a line of such characters and newlines that has room in its row, with no information before or
+/// a line of such characters and newlines that has space in its row, with no information before or
 /// after. The stored layout says exactly whether information is shown.
 pub fn one_byte()
     ensures tells { LayoutsTell }

@@ -63,7 +63,7 @@ abbrev pub line_meant : ℕ → Setting → Custom → Config → Ring → Comin
 line_meant n s custom config ring c =
     reported_from s config.indent_size (line_script n custom) (kept_first s config ring c)
 
--- the calls of its turns, on a display where nothing is drawn
+-- the calls of its turns, on a blank display
 abbrev pub line_calls : Ruler → List Turn → List Call
 line_calls r turns = (asked r (fresh r.mode) (flat_map steps_in turns)).calls
 

@@ -106,7 +106,7 @@ fn two_lines_into(alloc: Global, display: Tray, lines: Tray) -> Result<(Left, bo
     Ok((left, end.display.failed_in_flush()))
 }
 
-/// A sink with enough room.
+/// A sink with enough space.
 fn roomy() -> Tray
     ensures { ⟦<Tray as Sink>⟧.has_failed result ≡ false }
 {
@@ -202,7 +202,7 @@ fn display_that_fails_at_each_call(rt: HostRuntime) -> Result<(), Fail> {
     panic!(rt; "a session over so few keys has ended by now")
 }
 
-/// A session whose display has room for so many bytes.
+/// A session whose display has space for so many bytes.
 fn display_with_room(rt: &(impl AllocGlobal + Abort), room: usize) -> Result<(), Fail> {
     let (left, _) = two_lines_into(rt.alloc(), Tray::with_room(room), roomy())?;
     assert_eq!(rt; left.shown.len(), room);
@@ -217,7 +217,7 @@ fn display_that_is_full(rt: HostRuntime) -> Result<(), Fail> {
     Ok(())
 }
 
-/// Sessions over a sink of lines that fails at a call, or has room for so many bytes.
+/// Sessions over a sink of lines that fails at a call, or has space for so many bytes.
 #[derive(Drop)]
 struct Lines;
 

@@ -7,7 +7,7 @@ use line_config::{DeviceFailed, Sink};
 
 const SIZE: usize = 2048;
 
-/// A sink in a fixed array. It fails when the array or its room is full, after taking what fits. At
+/// A sink in a fixed array. It fails when the array or its space is full, after taking what fits. At
 /// the call with the number `failing_call` it fails after taking half.
 #[derive(Drop)]
 pub struct Tray {
@@ -23,7 +23,7 @@ pub struct Tray {
 }
 
 impl Tray {
-    /// A sink with room for so many bytes, at most those of its array.
+    /// A sink with space for so many bytes, at most those of its array.
     pub fn with_room(room: usize) -> Tray
         ensures { ⟦<Tray as Sink>⟧.has_failed result ≡ false }
     {
