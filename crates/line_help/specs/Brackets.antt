@@ -70,7 +70,7 @@ match_has_room line found =
     if is_closing found.0 then not (found.1 == 0) else not (found.1 == length line - 1)
 
 -- the bracket whose match is to be shown. With the cursor after the line it is the last byte, if
--- that closes; else the bracket near the cursor, if its match has room
+-- that closes; else the bracket near the cursor, if its match has space
 abbrev pub bracket_to_match : List ℕ → ℕ → Option (ℕ × ℕ)
 bracket_to_match line pos =
     if nat_le (length line) pos then where_it_is (λ found. is_closing found.0)
