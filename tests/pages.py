@@ -4,12 +4,15 @@ import re
 
 from names import TOP, files_under, lines_of
 
-# The pages that a script makes: no rule of style is for them.
-GENERATED = ("docs/API.md",)
-AT_TOP = ("README.md", "bench/README.md")
+# What scripts make in docs/: no rule of style or size is for it.
+GENERATED = ("docs/API.md", "docs/session.svg")
+AT_TOP = ("README.md", "CONTRIBUTING.md", "CHANGELOG.md", "bench/README.md")
 
 CODE = re.compile(r"(`+)(?!`).*?(?<!`)\1(?!`)")
 LINK = re.compile(r"\[([^\]\n]+)\]\(([^)#\s]*)(?:#([\w-]+))?\)")
+# A link that names its target, which a line of the document gives.
+NAMING = re.compile(r"\[([^\]\n]+)\]\[([\w-]+)\]")
+TARGET = re.compile(r"\[([\w-]+)\]: (\S+)")
 ANCHOR = re.compile(r"<a id=\"([\w-]+)\"></a>")
 SOURCE = re.compile(r"`(crates/[\w/]+\.\w+)`")
 ITEM = re.compile(r"\s*(?:[-*]|\d+\.) ")
@@ -17,7 +20,7 @@ ITEM = re.compile(r"\s*(?:[-*]|\d+\.) ")
 
 def documents():
     """Each document, by its path from the top."""
-    yield from AT_TOP
+    yield from (it for it in AT_TOP if os.path.isfile(os.path.join(TOP, it)))
     yield from files_under("docs", ".md")
 
 
@@ -102,14 +105,25 @@ def texts(path):
             words = []
         if line.startswith("|"):
             yield from ((number, cell) for cell in cells_of(line) if not is_rule(line))
-        elif line.strip():
+        elif line.strip() and not TARGET.fullmatch(line):
             begun = begun if words else number
             words.append(line.strip().lstrip("#> "))
 
 
+def links(path):
+    """The links of a document, each as its words, its target and the place in it."""
+    lines = [line for _, line in prose(path)]
+    targets = dict(found.groups() for found in map(TARGET.fullmatch, lines) if found)
+    for line in lines:
+        yield from (link.groups() for link in LINK.finditer(line))
+        yield from ((link[1], targets.get(link[2], link[2]), None) for link in NAMING.finditer(line))
+
+
 def plain(text):
     """A text without its links' targets, each piece of code as one word."""
-    return CODE.sub("`code`", LINK.sub(lambda link: link[1], text)).replace("*", "")
+    for kind in (LINK, NAMING):
+        text = kind.sub(lambda link: link[1], text)
+    return CODE.sub("`code`", text).replace("*", "")
 
 
 def sentences(path):
@@ -125,7 +139,7 @@ def count_words(sentence):
 
 
 def listings(path):
-    """Each listing in Rust, with its line and the source that was named last above it, if one was."""
+    """Each listing of code or definitions, with its line and the source that was named last above it, if one was."""
     file, begun, listed = None, 0, []
     for number, line in enumerate(lines_of(path), 1):
         if begun and line == "```":
@@ -133,7 +147,7 @@ def listings(path):
             begun, listed = 0, []
         elif begun:
             listed.append(line)
-        elif line.startswith("```rust"):
+        elif line in ("```rust", "```antt"):
             begun = number
         else:
             file = ([file] + SOURCE.findall(line))[-1]

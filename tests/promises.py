@@ -12,8 +12,8 @@ docs/PROMISES.md: a promise is an item of a list under a line `Place: ..`, or a 
 place is written `crate` and then its calls: `Type::call`, `Trait::call`, `Type`, `call` or `laws::law`, each followed by the
 names of its clauses in parentheses if only some of them carry the promise. A crate in a heading is that of the places below it.
 
-Listings: a listing in Rust follows a line that names its file, as `crates/first_program/src/main.rt`. It stands in that file; a
-line `// ..` stands for lines that are left out, and the listing may be indented less than the file.
+Listings: a listing of `rust` or `antt` follows a line that names its file, as `crates/first_program/src/main.rt`. It stands in that
+file; a line `// ..` or `-- ..` stands for lines that are left out, and the listing may be indented less than the file.
 """
 import os
 import re
@@ -24,19 +24,20 @@ import textwrap
 import api
 import words
 from names import CRATES, LIBRARIES, TOP, Crate, files_under, line_of, lines_of
-from pages import (
-    LINK, anchors, calls_of, cells_of, count_words, documents, is_row, listings, prose, section, sentences, tables, written,
-)
+from pages import GENERATED, LINK, anchors, calls_of, cells_of, count_words, documents, is_row, links, listings, prose, section
+from pages import sentences, tables, written
 
 WORD = re.compile(r"`([^`]+)`|[()]")
 LINE = re.compile(r"L\d+")
 MERGED = re.compile(r"(<{7}|={7}|>{7})( |$)")
 WEB = re.compile(r"\w+:")
-LEFT_OUT = re.compile(r"\n[ ]*// \.\.\n")
+FILE = re.compile(r"`((?:answers|bench|crates|docs|tests)/[\w./-]+\.\w+)`")
+LEFT_OUT = re.compile(r"\n[ ]*(?://|--) \.\.\n")
 
-# The longest sentence of a document, and the longest promise, in words; and what all documents that people write may have.
+# The longest sentence of a document, and the longest promise, in words; and the most bytes of docs/.
 LONGEST_SENTENCE, LONGEST_PROMISE = 40, 30
 MOST_BYTES = 200 * 1024
+NAMED_MUTANTS = "tests/mutants-named.txt"
 
 
 class Checks:
@@ -106,9 +107,8 @@ def check_errors(checks, crates):
     lines = lines_of("docs", "ERRORS.md")
     for crate in (crates[name] for name in LIBRARIES if name in crates):
         failing, named = set(crate.failing_calls()), set()
-        if not failing:
-            continue
-        for cells in tables(section(lines, f"## `{crate.name}`")):
+        head = f"## `{crate.name}`"
+        for cells in tables(section(lines, head)) if head in lines else ():
             clauses = re.findall(r"`([^`]+)`", cells[-1])
             for owner, call in calls_of(cells[0]):
                 name = next((it for it in (f"{owner}::{call}", call) if it in failing), None)
@@ -129,13 +129,12 @@ def check_decisions(checks):
 
 
 def check_crates(checks):
-    """docs/ARCHITECTURE.md: what each crate stands on is what crates.txt says."""
-    wanted = {name: set(on) for name, on in CRATES.items()}
-    for cells in tables(section(lines_of("docs", "ARCHITECTURE.md"), "## Crates")):
-        for name in re.findall(r"`([^`]+)`", cells[0]):
-            on = set(re.findall(r"`([^`]+)`", cells[-1]))
-            checks.expect(wanted.pop(name, None) == on, f"ARCHITECTURE: {name} stands on other crates in crates.txt")
-    checks.expect(not wanted, f"ARCHITECTURE: no row for {', '.join(sorted(wanted))}")
+    """docs/ARCHITECTURE.md: a row for each crate."""
+    rows = tables(section(lines_of("docs", "ARCHITECTURE.md"), "## Crates"))
+    named = [name for cells in rows for name in re.findall(r"`([^`]+)`", cells[0])]
+    for name in sorted({*named} ^ {*CRATES}):
+        checks.expect(False, f"ARCHITECTURE: {'no row for' if name in CRATES else 'a row, and no crate:'} {name}")
+    checks.expect(len(named) == len({*named}), "ARCHITECTURE: a crate has two rows")
 
 
 def check_definitions(checks, crates):
@@ -157,12 +156,6 @@ def place_of(name, path):
     return 1 if name.startswith("specs/") else line_of(path, name)
 
 
-def links(document):
-    """The links of a document, each as its words, its target and the place in it."""
-    for _, line in prose(document):
-        yield from (link.groups() for link in LINK.finditer(line))
-
-
 def check_links(checks):
     """Each link of a document leads to a file, and to a heading or an anchor of it, or to the line of the definition that its
     words name."""
@@ -177,11 +170,23 @@ def check_links(checks):
                 checks.expect(part in places_in[path], f"{document}: {path} has no heading or anchor {part}, which is linked")
             elif path.endswith((".antt", ".rt")) and os.path.exists(os.path.join(TOP, path)) and " " not in name:
                 at = place_of(name, path)
-                checks.expect(at and part in (None, f"L{at}"), f"{document}: {name} stands in line {at} of {path}, not {part}")
+                found = f"in line {at}" if at else "nowhere"
+                checks.expect(at and part in (None, f"L{at}"), f"{document}: {name} stands {found} in {path}, and not in {part}")
+
+
+def check_codes(checks, crates):
+    """Each law and each file that a document has in backquotes is there."""
+    laws = {f"laws::{law}" for crate in crates.values() for law in crate.laws}
+    for document in written():
+        for at, line in prose(document):
+            for law in re.findall(r"`(laws::\w+)`", line):
+                checks.expect(law in laws, f"{document}:{at}: there is no {law}")
+            for file in (it for it in FILE.findall(line) if "NAME" not in it):
+                checks.expect(os.path.isfile(os.path.join(TOP, file)), f"{document}:{at}: there is no {file}")
 
 
 def check_listings(checks):
-    """Each listing in Rust stands in the file that is named above it."""
+    """Each listing stands in the file that is named above it."""
     for document in written():
         for at, file, listed in listings(document):
             is_there = file and os.path.isfile(os.path.join(TOP, file))
@@ -212,8 +217,9 @@ def check_style(checks):
             checks.expect(is_short, f"{document}:{at}: more than {LONGEST_SENTENCE} words: {sentence[:60]}")
     for place, instead in words.standing(written()):
         checks.expect(False, f"{place}: write {instead}")
-    size = sum(os.path.getsize(os.path.join(TOP, it)) for it in written() if it.startswith("docs/"))
-    checks.expect(size <= MOST_BYTES, f"docs/ has {size} bytes without what scripts make, and is to have {MOST_BYTES} at most")
+    size = sum(os.path.getsize(os.path.join(TOP, it)) for it in files_under("docs", "") if it not in GENERATED)
+    made = ", ".join(GENERATED)
+    checks.expect(size <= MOST_BYTES, f"docs/ has {size} bytes without {made}, and is to have {MOST_BYTES} at most")
 
 
 def check_api(checks):
@@ -241,14 +247,14 @@ def with_line(document, link):
 
 
 def check_mutants(checks):
-    """Each mutant that a document names by a rule is there, and each of must-fail/ stands for one."""
+    """Each mutant that is named by a rule is there, and each of must-fail/ stands for one."""
     named = set()
     for rule, crate, mutant in named_mutants():
         of, name = crate.strip("` |"), mutant.strip("` |")
         named.add(f"{of}/{name}")
         files = [os.path.join(TOP, "crates", of, folder, f"{name}.edit") for folder in ("mutants", "must-fail")]
         checks.expect(any(map(os.path.isfile, files)), f"{of} has no mutant {name}, of the rule: {rule.strip('| ')}")
-    checks.expect(named, "no document has the section 'Named mutants'")
+    checks.expect(named, "no mutant is named by a rule")
     for crate in CRATES:
         for file in files_under(f"crates/{crate}/must-fail", ".edit"):
             name = os.path.basename(file).removesuffix(".edit")
@@ -256,11 +262,13 @@ def check_mutants(checks):
 
 
 def named_mutants():
-    """The rows of the documents' sections of named mutants."""
+    """The mutants that stand for a rule, each as the rule, the crate and its name: those that documents name, and NAMED_MUTANTS."""
     for document in written():
         lines = lines_of(document)
         for head in (it for it in lines if re.match(r"##+ Named (mutants|wrong bodies)$", it)):
             yield from tables(section(lines, head))
+    if os.path.isfile(os.path.join(TOP, NAMED_MUTANTS)):
+        yield from (line.split(" | ") for line in lines_of(NAMED_MUTANTS) if line and not line.startswith("#"))
 
 
 def check_parts(checks):
@@ -308,6 +316,7 @@ def main(arguments):
     check_crates(checks)
     check_definitions(checks, crates)
     check_links(checks)
+    check_codes(checks, crates)
     check_listings(checks)
     check_style(checks)
     check_api(checks)
