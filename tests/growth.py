@@ -1,5 +1,5 @@
 #!/usr/bin/env python3
-"""The program with its growths refused in turn. Run it by ./test, or alone once `rt ci` or ./keyline has built it.
+"""The program with its growths refused in turn. Run it by ./test, or alone once `rt ci` or ./keyline --prove has built it.
 
 A session is run once for each call that asks the C library for memory, and that call is refused. Such a run ends with
 status 1 and the words for it; what it wrote before is the beginning of what a run with ample memory writes. A refusal
