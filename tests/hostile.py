@@ -1,6 +1,6 @@
 #!/usr/bin/env python3
 """A hunt through the built program with inputs that nobody writes by hand. Run it by ./test, or alone once `rt ci` or
-./keyline has built the program.
+./keyline --prove has built the program.
 
     tests/hostile.py                           ten thousand sessions, from a seed that is the program's sum
     tests/hostile.py --sessions N --seed S     as many as one likes, from any seed
