@@ -57,7 +57,7 @@ def shim(name):
 
 
 def placed_script():
-    """A copy of ./keyline in its own folder, whose build returns the program that `rt ci` left."""
+    """A copy of ./keyline in its own folder, whose proof hands out the program that `rt ci` left."""
     folder = tempfile.TemporaryDirectory(prefix="keyline-gate-")
     atexit.register(folder.cleanup)
     script = shutil.copy(SCRIPT, folder.name)
@@ -72,7 +72,7 @@ def placed_script():
     with open(os.path.join(folder.name, "crates.txt"), "w", encoding="utf-8") as it:
         it.write("keyline_program:\n")
     os.environ["PATH"] = f"{folder.name}/bin:{os.environ['PATH']}"
-    subprocess.run([script], stdin=subprocess.DEVNULL, capture_output=True, timeout=HUNG, check=True)
+    subprocess.run([script, "--prove"], stdin=subprocess.DEVNULL, capture_output=True, timeout=HUNG, check=True)
     return script
 
 

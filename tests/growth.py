@@ -1,5 +1,5 @@
 #!/usr/bin/env python3
-"""The program with each of its allocations failing in turn. Run it by ./test, or alone once `rt ci` or ./keyline has built it.
+"""The program with each of its allocations failing in turn. Run it by ./test, or alone once `rt ci` or ./keyline --prove has built it.
 
 A session is run once for each call that allocates in the C library, and that call fails. Such a run ends with status 1 and
 the message for it; what it wrote before is a prefix of what a run with enough memory writes. A failure that the program

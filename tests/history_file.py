@@ -1,6 +1,6 @@
 #!/usr/bin/env python3
 """The history file in odd places: where it can't be written whole, and where a save must not change more than its text.
-Run it by ./test, or alone once `rt ci` or ./keyline has built the program.
+Run it by ./test, or alone once `rt ci` or ./keyline --prove has built the program.
 """
 import contextlib
 import os

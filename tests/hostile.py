@@ -1,6 +1,6 @@
 #!/usr/bin/env python3
 """Random sessions with inputs that nobody writes by hand, run through the built program. Run it by ./test, or alone once
-`rt ci` or ./keyline has built the program.
+`rt ci` or ./keyline --prove has built the program.
 
     tests/hostile.py                           ten thousand sessions, from a seed that is the program's checksum
     tests/hostile.py --sessions N --seed S     any number of them, from any seed

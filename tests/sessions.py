@@ -1,6 +1,6 @@
 #!/usr/bin/env python3
 """The sessions of `crates/sessions_program/data/` through the built program. Run it by ./test, or alone once `rt ci` or
-./keyline has built the program.
+./keyline --prove has built the program.
 
 Each row is played twice: its bytes in one piece, and one byte per read. Only rows that the program's arguments allow are
 played; those with a bound key, or with a hint, are for `sessions_program` alone.

@@ -1,6 +1,6 @@
 #!/usr/bin/env python3
 """Streams that end, fail or fill up at each stage of a session: what was done then, and how it ends. Run it by ./test, or
-alone once `rt ci` or ./keyline has built the program.
+alone once `rt ci` or ./keyline --prove has built the program.
 """
 import os
 import resource

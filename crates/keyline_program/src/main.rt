@@ -22,6 +22,9 @@ use std::io::{ErrorKind, IsTerminal, Stderr, StdinLock, Stdout};
 use std::marker::Brand;
 use std::process::ExitCode;
 
+/// What `--version` prints, also ./keyline before it has built the program.
+const VERSION: &str = "keyline 0.2.0";
+
 /// The status where words are no command line.
 const USAGE: u8 = 2;
 
@@ -44,6 +47,12 @@ fn main(rt: HostRuntime) -> ExitCode {
             return ExitCode::from(USAGE);
         }
     };
+    if let [_, word] = words.as_slice()
+        && word.as_str() == "--version"
+    {
+        let _ = println!(rt; "{VERSION}");
+        return ExitCode::SUCCESS;
+    }
     match parse(rt.alloc(), words.as_slice()) {
         Parsed::Run(options) => run(&rt, &options),
         Parsed::Help(text) => {
