@@ -59,8 +59,13 @@ pub type StandardKeys = ReadSource<StdinLock<'static>>;
 pub type StandardBuilder<'p> = DefaultBuilder<'p, StandardKeys, WriteSink<Stderr>>;
 
 /// An editor over them, helped by `H`, whose history is saved to `T`.
-pub type StandardEditor<H, T = Nowhere> =
-    LineEditor<StandardKeys, H, WriteSink<Stderr>, Nowhere, T>;
+pub type StandardEditor<H, T = Nowhere> = LineEditor<
+    StandardKeys,
+    H,
+    WriteSink<Stderr>,
+    Nowhere,
+    T,
+>;
 
 /// The settings: each accepted line is kept in the history.
 fn standard_config() -> Config

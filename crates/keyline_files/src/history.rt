@@ -1,5 +1,7 @@
 //! The file that keeps a history.
 
+ghost use Rattle.std.specs.Prelude.{◌≡◌, [], IsOk};
+
 use crate::whole::read_file;
 use std::fs::{File, Metadata, OpenOptions, Permissions};
 use std::io::{Error, ErrorKind, Write};
@@ -28,7 +30,9 @@ pub fn load_history(rt: &HostRuntime, path: &str) -> io::Result<Vec<u8>> {
 /// program may give them, its owner and group. So the old text stays until the new one is there,
 /// after an error too. A link stays, and a missing file that it names is made, for its owner alone.
 /// A file that its permissions protect is not replaced. What is no regular file is written to.
-pub fn save_history(rt: &HostRuntime, path: &str, text: &[u8]) -> io::Result<()> {
+pub fn save_history(rt: &HostRuntime, path: &str, text: &[u8]) -> io::Result<()>
+    ensures empty { text.now ≡ [] → IsOk result }
+{
     if text.is_empty() {
         return Ok(());
     }

@@ -129,7 +129,10 @@ fn kept<K: Foretold>(rt: &HostRuntime, options: &Options, played: &Played<K>) ->
     let Some(path) = &options.history else {
         return played.ending;
     };
-    match (save_history(rt, path.as_str(), played.text_to_save()), played.ending) {
+    match (
+        save_history(rt, path.as_str(), played.text_to_save()),
+        played.ending,
+    ) {
         (Err(_), Ending::Eof | Ending::Interrupted | Ending::NotUtf8 | Ending::PasteOutOfPlace) =>
             Ending::HistoryText,
         (_, ending) => ending,
