@@ -37,7 +37,6 @@ LEFT_OUT = re.compile(r"\n[ ]*(?://|--) \.\.\n")
 # The longest sentence of a document, and the longest promise, in words; and the most bytes of docs/.
 LONGEST_SENTENCE, LONGEST_PROMISE = 40, 30
 MOST_BYTES = 200 * 1024
-NAMED_MUTANTS = "tests/mutants-named.txt"
 
 
 class Checks:
@@ -247,28 +246,18 @@ def with_line(document, link):
 
 
 def check_mutants(checks):
-    """Each mutant that is named by a rule is there, and each of must-fail/ stands for one."""
+    """Each mutant of tests/mutants-named.txt is there, and each of must-fail/ stands for a rule."""
     named = set()
-    for rule, crate, mutant in named_mutants():
-        of, name = crate.strip("` |"), mutant.strip("` |")
-        named.add(f"{of}/{name}")
-        files = [os.path.join(TOP, "crates", of, folder, f"{name}.edit") for folder in ("mutants", "must-fail")]
-        checks.expect(any(map(os.path.isfile, files)), f"{of} has no mutant {name}, of the rule: {rule.strip('| ')}")
-    checks.expect(named, "no mutant is named by a rule")
+    for line in lines_of("tests", "mutants-named.txt"):
+        if line and not line.startswith("#"):
+            rule, crate, name = line.split(" | ")
+            named.add(f"{crate}/{name}")
+            files = [os.path.join(TOP, "crates", crate, folder, f"{name}.edit") for folder in ("mutants", "must-fail")]
+            checks.expect(any(map(os.path.isfile, files)), f"{crate} has no mutant {name}, of the rule: {rule}")
     for crate in CRATES:
         for file in files_under(f"crates/{crate}/must-fail", ".edit"):
             name = os.path.basename(file).removesuffix(".edit")
             checks.expect(f"{crate}/{name}" in named, f"no rule is named of {file}")
-
-
-def named_mutants():
-    """The mutants that stand for a rule, each as the rule, the crate and its name: those that documents name, and NAMED_MUTANTS."""
-    for document in written():
-        lines = lines_of(document)
-        for head in (it for it in lines if re.match(r"##+ Named (mutants|wrong bodies)$", it)):
-            yield from tables(section(lines, head))
-    if os.path.isfile(os.path.join(TOP, NAMED_MUTANTS)):
-        yield from (line.split(" | ") for line in lines_of(NAMED_MUTANTS) if line and not line.startswith("#"))
 
 
 def check_parts(checks):
