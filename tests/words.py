@@ -19,12 +19,12 @@ LISTED = ("tests", "words.txt")
 READ = {
     ".rt": re.compile(r"(//.*)|\"((?:[^\"\\]|\\.)*)\""),
     ".antt": re.compile(r"(--.*)"),
-    ".c": re.compile(r"(//.*|/?\*.*)|\"((?:[^\"\\]|\\.)*)\""),
+    ".c": re.compile(r"(//.*|/\*.*|^\s*\* .*)|\"((?:[^\"\\]|\\.)*)\""),
     ".txt": re.compile(r"\A(#.*)"),
     "": re.compile(r"(#.*)|'([^']*)'|\"([^\"]*)\""),
 }
 READ[".h"] = READ[".c"]
-PLACEHOLDER = re.compile(r"\{[^}]*\}")
+PLACEHOLDER = re.compile(r"\{[^}]*\}|\$\w+")
 SCRIPTS = ("keyline", "test", "bench/run")
 # Those that quote the words.
 QUOTING = ("tests/words.txt", "tests/words.py")
