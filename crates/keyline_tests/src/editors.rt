@@ -1,4 +1,4 @@
-//! Editors that are asked for one line at each call.
+//! Editors that return one line per call.
 
 use keyline::{Ending, LineEditor, ReadlineError, SliceSource, Source, VecSink, session_builder};
 use stand_ins::rows::{Player, raised, rows_hold, trimmed};
@@ -8,7 +8,7 @@ use std::test::Fail;
 /// One over memory.
 type Editor = LineEditor<SliceSource<'static>, (), VecSink, VecSink, VecSink>;
 
-/// Asks an editor by the words of a row.
+/// Calls an editor with the words of a row.
 #[derive(Drop)]
 struct Asking {
     editor: Editor,
@@ -61,7 +61,7 @@ fn editor_of(alloc: Global, keys: &'static [u8]) -> Result<Editor, Fail> {
     Ok(LineEditor::new(session))
 }
 
-/// After Ctrl-C the history goes on; behind the end of the input nothing is read.
+/// After Ctrl-C the history continues; after the end of the input nothing is read.
 #[test]
 fn lines_one_by_one(rt: HostRuntime) -> Result<(), Fail> {
     let alloc = rt.alloc();
