@@ -194,7 +194,7 @@ def check_listings(checks):
 
 
 def stands_in(listed, file):
-    """Whether a file has these lines, in one piece but for what a line `// ..` leaves out."""
+    """Whether a file has these lines, in one piece except for what a line `// ..` leaves out."""
     text, at = "\n".join(lines_of(file)), 0
     for piece in LEFT_OUT.split("\n".join(["", *listed, ""])):
         lines = textwrap.dedent(piece).strip("\n").split("\n")
@@ -207,14 +207,15 @@ def stands_in(listed, file):
 
 
 def check_style(checks):
-    """How the documents are written: short sentences, no word that went, no mark of a broken merge, and not too much in all."""
+    """How the documents are written: short sentences, no word that went (nor in comments and messages), no mark of a broken merge,
+    and not too much in all."""
     for document in written():
         left = [at for at, line in enumerate(lines_of(document), 1) if MERGED.match(line)]
         checks.expect(not left, f"{document}: a broken merge left its marks in lines {left}")
         for at, sentence in sentences(document):
             is_short = count_words(sentence) <= LONGEST_SENTENCE
             checks.expect(is_short, f"{document}:{at}: more than {LONGEST_SENTENCE} words: {sentence[:60]}")
-    for place, instead in words.standing(written()):
+    for place, instead in words.standing([*written(), *words.swept()]):
         checks.expect(False, f"{place}: write {instead}")
     size = sum(os.path.getsize(os.path.join(TOP, it)) for it in files_under("docs", "") if it not in GENERATED)
     made = ", ".join(GENERATED)
