@@ -3,7 +3,7 @@
 or alone once `rt ci` has built the programs.
 
 `sessions_program` plays each of them twice, over devices that take no memory. It compares a session that a failed
-allocation cut short with the other one, and checks that a next one continues from the returned devices: "refused". If an
+allocation cut short with the other one, and checks that a next one continues from the returned devices: `refused`. If an
 allocation fails in the other one, or before or after both, the result is "not judged". The program plays those that its
 arguments allow, over the streams and the file of a process: lines, display and history are then a prefix of those of a
 whole run.

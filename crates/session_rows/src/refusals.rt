@@ -397,7 +397,7 @@ pub fn play_grown(alloc: Global, settings: &str, row: &str) -> &'static str {
         Ok(Came::Right) => "refused",
         Ok(Came::Wrong(wrong)) => wrong,
         Err(ReadlineError::Memory) => "not judged",
-        Err(_) => "a refusal by another name",
+        Err(_) => "an error by another name",
     }
 }
 

@@ -271,7 +271,7 @@ fn is_named(alloc: Global, refusal: ReadlineError, name: &str) -> Result<bool, A
 
 impl Player for Refusals {
     fn play(&mut self, alloc: Global, name: &str) -> Result<String, Fail> {
-        let (refusal, left) = self.left.split_first().ok_or("no refusal is left")?;
+        let (refusal, left) = self.left.split_first().ok_or("no error is left")?;
         self.left = left;
         if is_named(alloc, *refusal, name)? {
             raised(format!(in alloc; "{refusal}"))
