@@ -22,7 +22,6 @@ import time
 from checks import (CTRL_D, ENTER, HUNG, LEFT, NEW_ROW, ON_TERMINAL, PROGRAM, Failed, Incoming, drawing, placed_script,
                     run_all, same, wait_until)
 
-SCRIPT = placed_script()
 # Pastes come between marks from here on, or no more.
 MARKED, UNMARKED = b"\x1b[?2004h", b"\x1b[?2004l"
 # Where a job that is stopped goes on: with the terminal, or without it.
@@ -686,6 +685,7 @@ def any_program_without_a_terminal():
 
 
 if __name__ == "__main__":
+    SCRIPT = placed_script()
     run_all([
         a_line_typed_edited_and_accepted,
         bytes_that_a_terminal_would_keep,
