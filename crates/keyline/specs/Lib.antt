@@ -2,6 +2,7 @@ pub mod Builders
 pub mod Desks
 pub mod Editors
 pub mod Endings
+pub mod Events
 pub mod Known
 pub mod OneByte
 pub mod Opened
@@ -11,6 +12,5 @@ pub mod Playing
 pub mod Plays
 pub mod Program
 pub mod SessionLaws
-pub mod SessionScripts
 pub mod Sessions
 pub mod Shows

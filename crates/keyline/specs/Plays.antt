@@ -9,11 +9,10 @@ use Rattle.line_help.specs.HistoryText.{ReadsGood, left_by_load, load_answer, lo
 use Rattle.line_record.specs.Ring.{new_ring}
 use Rattle.line_screen.specs.Calls.{screen_of, sink_of}
 use Rattle.line_screen.specs.Reader.{coming_in, kept_of, source_of}
-use Rattle.keyline.specs.Desks.{TakesLines, session_state_of}
+use Rattle.keyline.specs.Desks.{TakesLines}
 use Rattle.keyline.specs.Known.{Known}
 use Rattle.keyline.specs.Endings.{ending_of}
 use Rattle.keyline.specs.Playing.{Saves, ending_after}
-use Rattle.keyline.specs.Shows.{Displays}
 use Rattle.keyline.specs.Sessions.{Given, coming_from, each, screen_by}
 use Rattle.keyline.specs.declared.desk.Desk.{Desk}
 use Rattle.keyline.specs.declared.session.Beginning.{Beginning}
@@ -105,8 +104,9 @@ pub record Finishes {S H D L T : Type 0} (held : T → List ℕ) (failed : T →
   pub display_is : ended.display ≡ sink_of desk.out
   pub lines_are : ended.lines ≡ desk.lines
 
--- THE relation of a session: lines until one is refused, and then its end
-pub record PlaysSession {S H D L T : Type 0} (k : Known S D L) (held : T → List ℕ)
+-- THE relation of `run`: lines until one is refused, and then the session's end. Display, lines and
+-- history have what the session's events make of them, and each moment is shown
+pub record RunsSession {S H D L T : Type 0} (k : Known S D L) (held : T → List ℕ)
     (failed : T → Bool) (g : Given) (desk : Desk S H D L) (text : T) (ended : Ended S D L T)
     : Type 0 where
   -- the desk as the lines left it, and why there was no further line
@@ -114,10 +114,3 @@ pub record PlaysSession {S H D L T : Type 0} (k : Known S D L) (held : T → Lis
   pub why : ReadlineError
   pub takes : TakesLines k g (each g) desk last why
   pub finishes : Finishes held failed last text why ended
-
--- THE relation of `run`: a session is played, and its display shows it
-pub record RunsSession {S H D L T : Type 0} (k : Known S D L) (held : T → List ℕ)
-    (failed : T → Bool) (g : Given) (desk : Desk S H D L) (text : T) (ended : Ended S D L T)
-    : Type 0 where
-  pub plays : PlaysSession k held failed g desk text ended
-  pub shows : Displays g (session_state_of k desk)

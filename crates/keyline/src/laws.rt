@@ -9,11 +9,10 @@ ghost use Rattle.keyline.specs.Desks.{TakesLines};
 ghost use Rattle.keyline.specs.Known.{known_by};
 ghost use Rattle.keyline.specs.OneByte.{LayoutsTell, OneByte};
 ghost use Rattle.keyline.specs.Pasting.{PastesAreAccepted, PastedLinesAreAccepted};
-ghost use Rattle.keyline.specs.Playing.{SessionsCome};
-ghost use Rattle.keyline.specs.Plays.{PlaysSession};
-ghost use Rattle.keyline.specs.SessionScripts.{EventsTell, LinesTell};
+ghost use Rattle.keyline.specs.Plays.{RunsSession};
+ghost use Rattle.keyline.specs.Events.{LinesInOrder};
 ghost use Rattle.keyline.specs.Opened.{desk_of, given_in, prompt_of, text_sink};
-ghost use Rattle.keyline.specs.Shows.{DrawingsShow, SessionsShow, CommandsShow, TurnsShow};
+ghost use Rattle.keyline.specs.Shows.{BlankIsAtRest, SessionsShow, CommandsShow, TurnsShow};
 
 use crate::prompter::Prompter;
 use crate::session::{Ended, LineRead, Session};
@@ -37,7 +36,7 @@ pub fn always_told<
     ensures plays { let helps =
         helping_by H.hint_of H.verdict_of H.completion_of H.update_of H.marks in
         let known = known_by S.feed D.held D.waits D.has_failed L.held L.has_failed in
-        PlaysSession known T.held T.has_failed
+        RunsSession known T.held T.has_failed
         (given_in B.decides helps (prompt_of session) session)
         (desk_of session) (text_sink session) result }
 {
@@ -78,12 +77,6 @@ pub fn lines<
     }
 }
 
-/// The bytes up to each moment of a session show its value at its top, as one drawing from nothing,
-/// and all that was sent has a meaning. The rows above keep their cells until a screen is cleared.
-pub fn drawings_show()
-    ensures { DrawingsShow }
-{}
-
 /// From any display that shows a value, the bytes of a command lead to one that shows the value
 /// after it; an interruption leaves the cursor at the drawing's end.
 pub fn commands_show()
@@ -104,10 +97,13 @@ pub fn one_byte()
     ensures sends { OneByte }
 {}
 
-/// A session's display bytes are parts, one for each moment and one for each line's close, and up
-/// to each moment they show its value at its top.
+/// At each moment of a session's events the bytes so far show prompt and line at its top, as one
+/// drawing from nothing, and after each drawing they have a meaning; the rows above keep their cells
+/// until a screen is cleared. So from any display between two lines, as a blank one is, with a
+/// prompt and columns for each line.
 pub fn sessions_show()
-    ensures { SessionsShow }
+    ensures blank { BlankIsAtRest }
+    ensures sessions { SessionsShow }
 {}
 
 /// Two sessions that differ in columns alone accept the same lines and save the same text, where
@@ -116,19 +112,10 @@ pub fn columns()
     ensures { ColumnsAreFree }
 {}
 
-/// What a session does, event after event, comes to its report: its ending, the bytes drawn, what
-/// is left to come, the lines kept and the lines written. Any first events of it have written the
-/// first lines, and kept those and at most the next one. A line's events come to the line that is
-/// meant.
-pub fn events()
-    ensures sessions { EventsTell }
-    ensures lines { LinesTell }
-{}
-
-/// A session that goes as its script says has done all its events, or a fault stopped one of them,
-/// with those before it done: what display, sources and sinks have then is known.
-pub fn sessions_come<D: Sink, L: Sink>()
-    ensures { SessionsCome D.held L.held }
+/// Any first events of a session have written the first of its lines, and kept those and at most the
+/// next one.
+pub fn lines_in_order()
+    ensures { LinesInOrder }
 {}
 
 /// A history that began empty holds, under fixed settings, the last of the accepted lines that

@@ -15,11 +15,8 @@ use Rattle.line_keys.specs.Phrases.{Input, steps, Reads}
 use Rattle.line_record.specs.Ring.{Ring}
 use Rattle.line_editor.specs.Calls.{Canvas, Ruler, MadeIn}
 use Rattle.line_editor.specs.Commands.{outcome}
-use Rattle.line_editor.specs.Courses.{last_turn, steps_in, LineReport}
-use Rattle.line_editor.specs.LineScripts.{LineAsk, LineAnswer, LineScript, Begins, Keys, line_script, LineState, kept, effect_at, answer_at, left_at, line_plan, steps_along, played_from, turns_along, reported_from, LineStage, line_stage, DrawnBy, Stopped, line_world}
+use Rattle.line_editor.specs.LineScripts.{LineAsk, LineAnswer, LineScript, Begins, Keys, line_script, LineState, kept, effect_at, answer_at, left_at, line_plan, steps_along, played_from, LineStage, line_stage, DrawnBy, Stopped, line_world}
 use Rattle.line_editor.specs.Redraws.{Asked, fresh}
-use Rattle.line_editor.specs.Running.{kept_first, line_calls, line_meant, line_played, stage_first}
-use Rattle.line_editor.specs.Sights.{Sight, sight_of, info_after}
 use Rattle.line_editor.specs.States.{reason_of}
 use Rattle.line_editor.specs.Steps.{asked, Surface, surface, Refusal, Unhelped, StepCut, Stops}
 use Rattle.line_editor.specs.Values.{Value, Setting, EditStep}
@@ -84,32 +81,6 @@ module _ (a : Setting) (indent : ℕ) where
   rest_along {X} (Asks ask later) k =
       let left = left_at a indent k ask in
       played_each (λ (p : PlayedOf X). left_along k p.asks ≡ p.rest) (λ x. played_from a indent (later x) left) ask left (λ x. rest_along (later x) left) (λ e. refl) (answer_at a indent k ask)
-
-  last_steps : (outcome : Result (List ℕ) ReadlineError) (steps : List EditStep) (x : Sight) → steps_in (last_turn outcome steps x) ++ [] ≡ steps ++ []
-  last_steps (Ok text) steps x = refl
-  last_steps (Err e) steps x = refl
-
-  -- the turns have all of the steps
-  pub turns_steps : (outcome : Result (List ℕ) ReadlineError) (k : LineState) (steps : List EditStep) (info : Option (List ℕ)) (asks : List LineAsk)
-      → flat_map steps_in (turns_along a indent outcome k steps info asks) ≡ steps ++ steps_along a indent k asks
-  turns_steps outcome k steps info [] = last_steps outcome steps (sight_of a k.value (info_after steps info))
-  turns_steps outcome k steps info (Begins ∷ asks) = ap (λ zs. steps ++ zs) (turns_steps outcome k [] (info_after steps info) asks)
-  turns_steps outcome k steps info (ask ∷ asks) =
-      let made = (effect_at a indent k ask).steps in
-      turns_steps outcome (left_at a indent k ask) (steps ++ made) info asks ∙ append_assoc steps made (steps_along a indent (left_at a indent k ask) asks)
-
-  pub record Comes (k : LineState) (p : PlayedOf (List ℕ)) (told : LineReport) : Type 0 where
-    pub steps_are : steps_along a indent k p.asks ≡ flat_map steps_in told.turns
-    pub left_is : left_along k p.asks ≡ p.rest
-
-  pub script_comes : (script : LineScript (List ℕ)) (k : LineState) → Comes k (played_from a indent script k) (reported_from a indent script k)
-  script_comes script k =
-      let p = played_from a indent script k in
-      record { steps_are = sym (turns_steps p.answer k [] None p.asks); left_is = rest_along script k }
-
-pub line_comes : (n : ℕ) (s : Setting) (custom : Custom) (config : Config) (r : Ring) (c : Coming)
-    → Comes s config.indent_size (kept_first s config r c) (line_played n s custom config r c) (line_meant n s custom config r c)
-line_comes n s custom config r c = script_comes s config.indent_size (line_script n custom) (kept_first s config r c)
 
 -- ---- what goes is all of it, or a fault stopped a beginning of it
 
@@ -236,46 +207,3 @@ module _ {R : Type 0} (canvas : Canvas R) (r : Ruler) where
   stopped_cause a indent ask x y e (inl (stops, leaves)) = steps_cause (effect_at a indent x.kept ask).steps e y.kept.value x.drawn y.drawn stops
   stopped_cause a indent (Keys (Reads item)) x y e (inr (unread, same)) = unread_cause item e unread
   stopped_cause a indent _ x y e (inr (unread, same)) = absurd unread
-
-module _ {R : Type 0} (canvas : Canvas R) (r : Ruler) (s : Setting) (n : ℕ) (custom : Custom) (config : Config) (out new : R) (ring ring' : Ring) (c c' : Coming) (result : Result (List ℕ) ReadlineError) where
-  abbrev told : LineReport
-  told = line_meant n s custom config ring c
-
-  abbrev first : LineStage R
-  first = stage_first out r s config ring c
-
-  abbrev last : Value → Input → Layout → LineStage R
-  last value input layout = line_stage (surface new layout) (kept value input ring' c')
-
-  -- it was read and drawn whole, or a fault stopped it
-  pub record WholeLine : Type 0 where
-    pub outcome_is : result ≡ told.outcome
-    pub ring_is : ring' ≡ told.ring
-    pub rest_is : c' ≡ told.rest
-    pub calls : FoldsTo (MadeIn canvas) out (line_calls r told.turns) new
-
-  pub record CutLine : Type 0 where
-    pub value : Value
-    pub input : Input
-    pub layout : Layout
-    pub stopped : StoppedIn canvas r s config.indent_size (line_played n s custom config ring c) first (last value input layout) result
-    pub cause : reason_of true ⊤ stopped.fault
-
-  pub line_went : (value : Value) (input : Input) (layout : Layout) → Goes (line_world canvas r s config.indent_size) (line_script n custom) first result (last value input layout) → WholeLine ⊎ CutLine
-  line_went value input layout goes = by (went canvas r s config.indent_size (line_script n custom) first (last value input layout) result goes)
-    where
-      by : Went canvas r s config.indent_size (line_played n s custom config ring c) first (last value input layout) result → WholeLine ⊎ CutLine
-      by (inl h) =
-          inl (record {
-            outcome_is = sym h.answer_is;
-            ring_is = ap (λ (k : LineState). k.ring) (sym h.rest_is);
-            rest_is = ap (λ (k : LineState). k.coming) (sym h.rest_is);
-            calls = subst (λ (steps : List EditStep). FoldsTo (MadeIn canvas) out (asked r (fresh r.mode) steps).calls new) (line_comes n s custom config ring c).steps_are h.drawn.0;
-          })
-      by (inr h) = inr (record {
-        value = value;
-        input = input;
-        layout = layout;
-        stopped = h;
-        cause = stopped_cause canvas r s config.indent_size h.ask h.at (last value input layout) h.fault h.stopped;
-      })
