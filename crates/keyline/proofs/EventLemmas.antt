@@ -8,7 +8,6 @@ use Rattle.line_config.specs.Scripts.{Goes as GoesOn}
 use Rattle.line_config.specs.Sending.{Takes as TakesAll, TakesSome}
 use Rattle.line_config.specs.declared.errors.ReadlineError.{ReadlineError}
 use Rattle.line_config.specs.declared.errors.ReadlineError.TheVariants.{Display, Helper, Memory}
-use Rattle.line_config.proofs.ScriptLaws.{fault_or}
 use Rattle.line_config.proofs.Taking.{takes_none, takes_then, some_of_more, some_then}
 use Rattle.line_help.specs.History.{Filed, filed_with, filed_with_all}
 use Rattle.line_keys.specs.Coming.{Coming, behind, left, left_by}
@@ -19,7 +18,7 @@ use Rattle.line_editor.specs.Calls.Call.{Help}
 use Rattle.line_editor.specs.LineScripts.{Begins as TurnBegins, DrawnBy, FaultLeaves, Keys, LineAsk, LineScript, LineStage, LineState, Obeys, Stopped, effect_at, left_at, line_world, line_stage, played_from, steps_along}
 use Rattle.line_editor.specs.Redraws.{Asked, asked_by}
 use Rattle.line_editor.specs.States.{reason_of}
-use Rattle.line_editor.specs.Steps.{one, Surface, Refusal, StepCut, Unhelped, Stops as StepsStop}
+use Rattle.line_editor.specs.Steps.{one, Surface, StepCut, Unhelped, Stops as StepsStop}
 use Rattle.line_editor.specs.Values.{Value, Setting, EditStep}
 use Rattle.line_editor.specs.Values.EditStep.{Draws as DrawStep, Helped as HelpStep, Edits as EditingStep, TakesBack as BackStep, Takes as TakingStep}
 use Rattle.line_editor.proofs.StopsLemmas.{asked_both}
@@ -318,10 +317,10 @@ module _ {D L : Type 0} (shown : D → List ℕ) (written_in : L → List ℕ) (
         }
 
     -- a step that was refused
-    step_stopped : (step : EditStep) (c : Coming) (e : Refusal) (a b : Surface (ScreenRenderer D)) → screen_of a.out ≡ s → StepCut canvas (ruler_of s) a step e b
-        → IsStopped shown written_in adds (on a.out c) (step_event s a.layout step) e.fault (on b.out c)
+    step_stopped : (step : EditStep) (c : Coming) (e : ReadlineError) (v : Value) (a b : Surface (ScreenRenderer D)) → screen_of a.out ≡ s → StepCut canvas (ruler_of s) a step e v b
+        → IsStopped shown written_in adds (on a.out c) (step_event s a.layout step) e (on b.out c)
     unfolding BrokenOff
-    step_stopped (DrawStep v marks redraw) c e a b is h =
+    step_stopped (DrawStep v marks redraw) c e left a b is h =
         subst (λ why. IsStopped shown written_in adds (on a.out c) (Draws redraw (map (bytes_of s) (asked_by (ruler_of s) marks a.layout redraw).calls)) why (on b.out c)) (sym h.0)
         (by (asked_by (ruler_of s) marks a.layout redraw).calls h.1)
       where
@@ -329,7 +328,7 @@ module _ {D L : Type 0} (shown : D → List ℕ) (written_in : L → List ℕ) (
         by [] broken = absurd broken
         by (call ∷ calls) broken =
             (subst (TakesSome shown (sink_of a.out) (sink_of b.out)) (sym (all_of_map (bytes_of s) (call ∷ calls))) (calls_break (call ∷ calls) a.out b.out is broken), refl)
-    step_stopped (HelpStep v fails takes) c e a b is h = by e.fault h.0
+    step_stopped (HelpStep v fails takes) c e left a b is h = by e h.0
       where
         same : on b.out c ≡ on a.out c
         same = ap (λ (x : Surface (ScreenRenderer D)). on x.out c) h.1
@@ -338,11 +337,11 @@ module _ {D L : Type 0} (shown : D → List ℕ) (written_in : L → List ℕ) (
         by Helper p = (p, same)
         by Memory p = (p, same)
         by _ p = absurd p
-    step_stopped (EditingStep v edit) c e a b is h =
+    step_stopped (EditingStep v edit) c e left a b is h =
         subst (λ why. IsStopped shown written_in adds (on a.out c) Takes why (on b.out c)) (sym h.0) (ap (λ (x : Surface (ScreenRenderer D)). on x.out c) h.1)
-    step_stopped (BackStep v) c e a b is h =
+    step_stopped (BackStep v) c e left a b is h =
         subst (λ why. IsStopped shown written_in adds (on a.out c) Takes why (on b.out c)) (sym h.0) (ap (λ (x : Surface (ScreenRenderer D)). on x.out c) h.1)
-    step_stopped (TakingStep v) c e a b is h =
+    step_stopped (TakingStep v) c e left a b is h =
         subst (λ why. IsStopped shown written_in adds (on a.out c) Takes why (on b.out c)) (sym h.0) (ap (λ (x : Surface (ScreenRenderer D)). on x.out c) h.1)
 
     step_one : (step : EditStep) (a : Surface (ScreenRenderer D)) (rs : List EditStep) → step_events s a.layout (step ∷ rs) ≡ step_events s a.layout (step ∷ []) ++ step_events s (one (ruler_of s) a.layout step).layout rs
@@ -354,17 +353,16 @@ module _ {D L : Type 0} (shown : D → List ℕ) (written_in : L → List ℕ) (
     steps_stopped : (rs : List EditStep) (c : Coming) (why : ReadlineError) (v : Value) (a b : Surface (ScreenRenderer D)) → screen_of a.out ≡ s
         → StepsStop canvas (ruler_of s) rs a why v b → Broken (step_events s a.layout rs) (on a.out c) why (on b.out c)
     unfolding StepsStop
-    steps_stopped [] c why v a b is h = absurd (cc)
-    steps_stopped (step ∷ rs) c why v a b is (inl (none, m, made, h)) =
+    steps_stopped [] c why v a b is h = absurd h
+    steps_stopped (step ∷ rs) c why v a b is (inl (m, made, h)) =
         let calls = (one (ruler_of s) a.layout step).calls in
         let rest : Broken (step_events s (one (ruler_of s) a.layout step).layout rs) (on m.out c) why (on b.out c) =
         subst (λ l. Broken (step_events s l rs) (on m.out c) why (on b.out c)) made.1 (steps_stopped rs c why v m b (screen_kept calls a.out m.out is made.0) h) in
         went_behind ⊥ (λ e. e ≡ why) (step_events s a.layout (step ∷ [])) (step_events s (one (ruler_of s) a.layout step).layout rs) (on a.out c) (on m.out c) (on b.out c)
         (steps_done (step ∷ []) c a m is (subst (λ calls. Drawn calls a.out m.out) (sym (one_calls step a.layout)) made.0)) rest
-    steps_stopped (step ∷ rs) c why v a b is (inr (e, h, same)) =
-        let why_is : e.fault ≡ why = sym (ap (λ (r : Result ⊤ Refusal). (fault_or e r).fault) same) in
-        went_stopped ⊥ (λ e. e ≡ why) [] (step_event s a.layout step) (step_events s (one (ruler_of s) a.layout step).layout rs) (on a.out c) (on a.out c) (on b.out c) e.fault (none_done (on a.out c))
-        (step_stopped step c e a b is h) why_is
+    steps_stopped (step ∷ rs) c why v a b is (inr h) =
+        went_stopped ⊥ (λ e. e ≡ why) [] (step_event s a.layout step) (step_events s (one (ruler_of s) a.layout step).layout rs) (on a.out c) (on a.out c) (on b.out c) why (none_done (on a.out c))
+        (step_stopped step c why v a b is h) refl
 
     -- ---- a line's asks
 

@@ -1,5 +1,5 @@
 -- The display over a session's events.
-use Rattle.std.proofs.Common.{◌≡◌, ℕ, zero, suc, ◌≤◌, Bool, true, false, List, [], ◌∷◌, ◌++◌, map, Option, Some, None, Result, Ok, Err, refl, sym, ap, ◌∙◌, subst, append_assoc, append-nil, arith, if◌then◌else◌}
+use Rattle.std.proofs.Common.{◌≡◌, ℕ, zero, suc, ◌≤◌, Bool, true, false, List, [], ◌∷◌, ◌++◌, map, Some, Result, Ok, Err, refl, sym, ap, ◌∙◌, subst, append_assoc, append-nil, arith, if◌then◌else◌}
 use Rattle.std.specs.List.{filter, flat_map}
 use Rattle.std.specs.Prelude.{⊤}
 use Rattle.line_buffer.specs.declared.layout.Layout.{Layout}
@@ -9,7 +9,7 @@ use Rattle.line_editor.specs.Leads.{BeginShows, EndShows, LeadsAlong}
 use Rattle.line_editor.specs.LineScripts.{Begins as TurnBegins, Keys, LineAsk, LineState, effect_at, left_at}
 use Rattle.line_editor.specs.Redraws.{asked_by, fresh}
 use Rattle.line_editor.specs.Running.{kept_first}
-use Rattle.line_editor.specs.Sights.{Sight, no_sight, sight, sight_all, sight_drawn, sight_as, sight_of, info_after, FitsAll}
+use Rattle.line_editor.specs.Sights.{Sight, no_sight, sight, sight_all, sight_drawn, sight_as, FitsAll}
 use Rattle.line_editor.specs.Steps.{one}
 use Rattle.line_editor.specs.Values.{EditStep, Setting}
 use Rattle.line_editor.specs.Values.EditStep.{Draws as DrawStep, Helped as HelpStep}

@@ -26,7 +26,7 @@ use Rattle.line_keys.specs.Feeds.{KeyFeed}
 use Rattle.line_keys.specs.Phrases.{Input}
 use Rattle.line_buffer.specs.declared.layout.Layout.{Layout}
 use Rattle.line_record.specs.Ring.{Ring}
-use Rattle.line_screen.specs.Calls.{Screen, bytes_of, canvas_of, screen_of, sink_of, ruler_of}
+use Rattle.line_screen.specs.Calls.{Screen, canvas_of, screen_of, sink_of, ruler_of}
 use Rattle.line_screen.specs.Reader.{coming_in, left_in}
 use Rattle.line_screen.specs.Reading.{kept_count}
 use Rattle.line_screen.specs.Drawing.{break_if}

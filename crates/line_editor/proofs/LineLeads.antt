@@ -1,5 +1,5 @@
 -- What a line wants to be seen leads from turn to turn.
-use Rattle.std.proofs.Common.{◌≡◌, ℕ, zero, suc, Bool, true, false, List, [], ◌∷◌, ◌++◌, append_assoc, append-nil, Option, None, Result, Ok, Err, refl, sym, ap, ◌∙◌, subst, true≢false, if◌then◌else◌}
+use Rattle.std.proofs.Common.{◌≡◌, ℕ, zero, suc, Bool, true, false, List, [], ◌∷◌, ◌++◌, append-nil, Option, None, Result, Ok, Err, refl, sym, ap, ◌∙◌, subst, true≢false, if◌then◌else◌}
 use Rattle.line_config.specs.declared.errors.ReadlineError.{ReadlineError}
 use Rattle.line_keys.specs.Answers.{Custom}
 use Rattle.line_config.specs.Scripts.{Ends, Asks, then}
@@ -20,13 +20,13 @@ use Rattle.line_editor.specs.Drawing.{drawn_behind, asked_anew}
 use Rattle.line_editor.specs.Leads.{Leads, CommandLeads, EachTurnLeads, LeadsAlong, LinesLead}
 use Rattle.line_editor.specs.NextCommand.{begins_group, with_group_begun, line_phrase}
 use Rattle.line_editor.specs.LineScripts.{line_begun, LineAsk, LineScript, Keys, Obeys, Makes, LineState, kept, keyed, obeying, turn_script, turned_on, turns_script, line_script, means_at, effect_at, answer_at, left_at, line_plan, steps_along, played_from}
-use Rattle.line_editor.specs.Sights.{Sight, no_sight, sight_with, sight_of, ended_sight, sight, sight_all, FitsAll, Turns, info_after}
+use Rattle.line_editor.specs.Sights.{Sight, no_sight, sight_with, sight_of, sight, sight_all, FitsAll, info_after}
 use Rattle.line_editor.specs.Values.{Value, Setting, EditStep, Effect, first_value, taking_memory, hint_reply, helped, shown_hint}
 use Rattle.line_editor.specs.declared.commands.Status.{Status}
 use Rattle.line_editor.specs.declared.commands.Status.TheVariants.{Proceed, Submit}
 use Rattle.line_editor.proofs.CommandsLead.{asks_lead, commands_lead, submitting_leads}
 use Rattle.line_editor.proofs.ToldLemmas.{PlayedOf, played_each, joined_on, follows, played_then}
-use Rattle.line_editor.proofs.LeadLemmas.{fits_both, sight_both, info_both, turns_both, help_info}
+use Rattle.line_editor.proofs.LeadLemmas.{fits_both, sight_both, info_both, help_info}
 
 -- ---- a phrase
 

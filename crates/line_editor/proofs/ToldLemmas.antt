@@ -1,27 +1,22 @@
 -- What a line's script comes to: where no fault comes it is the line that is meant, and a fault stops a beginning of it.
 use Rattle.std.proofs.Common.{◌≡◌, ◌⊎◌, inl, inr, ℕ, Bool, true, List, [], ◌∷◌, ◌++◌, refl, sym, ap, subst, ◌∙◌, append_assoc, append-nil}
-use Rattle.std.specs.Prelude.{⊤, Option, None, Result, Ok, Err, flat_map}
+use Rattle.std.specs.Prelude.{⊤, Result, Ok, Err}
 use Rattle.std.specs.List.{FoldsTo}
 use Rattle.line_buffer.specs.declared.layout.Layout.{Layout}
 use Rattle.line_config.specs.Played.{Plan, Played, asked_first, played_on, played}
 use Rattle.line_config.specs.Scripts.{Script, Ends, Asks, Goes, then}
-use Rattle.line_config.specs.declared.config.Config.{Config}
 use Rattle.line_config.specs.declared.errors.ReadlineError.{ReadlineError}
 use Rattle.line_config.specs.declared.errors.ReadlineError.TheVariants.{Display, Helper, Memory}
-use Rattle.line_keys.specs.Answers.{Custom}
-use Rattle.line_keys.specs.Coming.{Coming, left}
+use Rattle.line_keys.specs.Coming.{left}
 use Rattle.line_keys.specs.Feeds.{InputItem, Paste, IsReadFault}
-use Rattle.line_keys.specs.Phrases.{Input, steps, Reads}
-use Rattle.line_record.specs.Ring.{Ring}
+use Rattle.line_keys.specs.Phrases.{steps, Reads}
 use Rattle.line_editor.specs.Calls.{Canvas, Ruler, MadeIn}
-use Rattle.line_editor.specs.Commands.{outcome}
-use Rattle.line_editor.specs.LineScripts.{LineAsk, LineAnswer, LineScript, Begins, Keys, line_script, LineState, kept, effect_at, answer_at, left_at, line_plan, steps_along, played_from, LineStage, line_stage, DrawnBy, Stopped, line_world}
-use Rattle.line_editor.specs.Redraws.{Asked, fresh}
+use Rattle.line_editor.specs.LineScripts.{LineAsk, LineAnswer, LineScript, Keys, LineState, kept, effect_at, answer_at, left_at, line_plan, steps_along, played_from, LineStage, DrawnBy, Stopped, line_world}
+use Rattle.line_editor.specs.Redraws.{Asked}
 use Rattle.line_editor.specs.States.{reason_of}
-use Rattle.line_editor.specs.Steps.{asked, Surface, surface, Refusal, Unhelped, StepCut, Stops}
+use Rattle.line_editor.specs.Steps.{asked, Surface, Unhelped, StepCut, Stops}
 use Rattle.line_editor.specs.Values.{Value, Setting, EditStep}
 use Rattle.line_editor.specs.Values.EditStep.{Draws, Helped, Edits, TakesBack, Takes}
-use Rattle.line_config.proofs.ScriptLaws.{fault_or}
 use Rattle.line_editor.proofs.StopsLemmas.{asked_both, folds_both}
 
 -- by the answer to an ask, and by its refusal
@@ -186,18 +181,18 @@ module _ {R : Type 0} (canvas : Canvas R) (r : Ruler) where
   caused_by : (e f : ReadlineError) → e ≡ f → reason_of true ⊤ f → reason_of true ⊤ e
   caused_by e f is why = subst (reason_of true ⊤) (sym is) why
 
-  step_cause : (step : EditStep) (e : Refusal) (x y : Surface R) → StepCut canvas r x step e y → reason_of true ⊤ e.fault
-  step_cause (Draws v marks redraw) e x y h = caused_by e.fault Display h.0 refl
-  step_cause (Helped v fails takes) e x y h = unhelped_cause fails takes e.fault h.0
-  step_cause (Edits v edit) e x y h = caused_by e.fault Memory h.0 tt
-  step_cause (TakesBack v) e x y h = caused_by e.fault Memory h.0 tt
-  step_cause (Takes v) e x y h = caused_by e.fault Memory h.0 tt
+  step_cause : (step : EditStep) (e : ReadlineError) (left : Value) (x y : Surface R) → StepCut canvas r x step e left y → reason_of true ⊤ e
+  step_cause (Draws v marks redraw) e left x y h = caused_by e Display h.0 refl
+  step_cause (Helped v fails takes) e left x y h = unhelped_cause fails takes e h.0
+  step_cause (Edits v edit) e left x y h = caused_by e Memory h.0 tt
+  step_cause (TakesBack v) e left x y h = caused_by e Memory h.0 tt
+  step_cause (Takes v) e left x y h = caused_by e Memory h.0 tt
 
   steps_cause : (steps : List EditStep) (e : ReadlineError) (v : Value) (x y : Surface R) → Stops canvas r steps x e v y → reason_of true ⊤ e
   unfolding Stops
-  steps_cause [] e v x y h = absurd (cc)
-  steps_cause (step ∷ steps) e v x y (inl (none, between, made, h)) = steps_cause steps e v between y h
-  steps_cause (step ∷ steps) e v x y (inr (f, h, is)) = caused_by e f.fault (ap (λ (q : Result ⊤ Refusal). (fault_or f q).fault) is) (step_cause step f x y h)
+  steps_cause [] e v x y h = absurd h
+  steps_cause (step ∷ steps) e v x y (inl (between, made, h)) = steps_cause steps e v between y h
+  steps_cause (step ∷ steps) e v x y (inr h) = step_cause step e v x y h
 
   unread_cause : (item : InputItem) (e : ReadlineError) → IsReadFault item e → reason_of true ⊤ e
   unread_cause Paste Memory h = tt

@@ -1,5 +1,5 @@
 -- A line as a script: what is asked in order, by whatever comes, and where a fault stops it.
-use Rattle.std.specs.Prelude.{◌≡◌, ◌⊎◌, ℕ, zero, suc, List, [], ◌∷◌, ◌++◌, Option, None, Result, Ok, Err}
+use Rattle.std.specs.Prelude.{◌≡◌, ◌⊎◌, ℕ, zero, suc, List, [], ◌∷◌, ◌++◌, Result, Ok, Err}
 use Rattle.std.specs.List.{FoldsTo}
 use Rattle.line_config.specs.Played.{Plan, Played, played}
 use Rattle.line_config.specs.Scripts.{Script, Ends, Asks, World, then}
