@@ -3,6 +3,7 @@ pub mod CuttingLemmas
 pub mod DeskLemmas
 pub mod EditLemmas
 pub mod EventLemmas
+mod FaultRows
 pub mod HeardBytes
 pub mod HeardLines
 pub mod LinesLemmas

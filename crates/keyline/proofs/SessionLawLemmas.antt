@@ -3,7 +3,7 @@ use Rattle.std.proofs.Common.{◌≡◌, ℕ, zero, suc, ◌≤◌, Bool, true, 
 use Rattle.std.specs.List.{flat_map}
 use Rattle.line_buffer.specs.declared.layout.Layout.{Layout}
 use Rattle.line_config.specs.declared.errors.ReadlineError.{ReadlineError}
-use Rattle.line_editor.specs.LineScripts.{LineAsk, LineState, effect_at, left_at}
+use Rattle.line_editor.specs.LineScripts.{LineAsk, LineState, effect_at, left_at, steps_along}
 use Rattle.line_editor.specs.Redraws.{fresh}
 use Rattle.line_editor.specs.Running.{kept_first, line_played}
 use Rattle.line_editor.specs.Steps.{one}
@@ -13,7 +13,7 @@ use Rattle.line_help.specs.History.{Filed, nothing_filed, ignored, filed_with_al
 use Rattle.line_help.proofs.NewestLemmas.{all_new, length-newest, newest_behind}
 use Rattle.line_screen.specs.Calls.{Screen, ruler_of}
 use Rattle.keyline.specs.Events.{Course, Begins, Takes, Helped, Draws, asks_events, end_events, events_first, going_on, line_course, lines_kept, own_events, session, step_events}
-use Rattle.keyline.specs.SessionLaws.{at_columns, prompt_column, unmeasured, ColumnsAreFree, taken_of, LastAreKept}
+use Rattle.keyline.specs.SessionLaws.{at_columns, prompt_column, unmeasured, ColumnsAreFree, LineColumnsAreFree, taken_of, LastAreKept}
 use Rattle.keyline.specs.Sessions.{Given, SessionState, each, setting_in, state_after}
 use Rattle.keyline.specs.Shows.{drawn_by}
 
@@ -115,6 +115,16 @@ sessions_alike (suc n) g columns e x =
 
 pub columns_are_free : ColumnsAreFree
 columns_are_free n g x columns e = let h = sessions_alike n g columns e x in (h.events, h.answer)
+
+pub line_columns_are_free : LineColumnsAreFree
+unfolding setting_at
+line_columns_are_free n g x columns e =
+    let at : ℕ → Setting = setting_at g x.history.kept.entries in
+    let first : Setting → LineState = λ a. kept_first a g.config x.ring x.coming in
+    let played = λ (a : Setting). line_played n a g.custom g.config x.ring x.coming in (
+      ap (λ column. played (at column)) e,
+      ap (λ column. steps_along (at column) g.config.indent_size (first (at column)) (played (at column)).asks) e,
+    )
 
 -- ---- the history
 

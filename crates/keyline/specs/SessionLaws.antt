@@ -3,10 +3,13 @@
 use Rattle.std.specs.Prelude.{◌≡◌, ℕ, map, true, if◌then◌else◌, List, [], ◌∷◌, ◌++◌, IsTrue}
 use Rattle.std.specs.List.{flat_map}
 use Rattle.line_buffer.specs.Cells.{origin}
+use Rattle.line_editor.specs.LineScripts.{steps_along}
+use Rattle.line_editor.specs.Running.{kept_first}
+use Rattle.line_editor.specs.Values.{EditStep}
 use Rattle.line_help.specs.History.{Settings, Filed, nothing_filed, ignored, filed_with, newest}
 use Rattle.line_screen.specs.Measure.{measure_of}
-use Rattle.keyline.specs.Events.{Event, Begins, Draws, lines_kept, line_course, session}
-use Rattle.keyline.specs.Sessions.{Given, LineGiven, SessionState, each, remembered, state_over, coming_from}
+use Rattle.keyline.specs.Events.{Event, Begins, Draws, lines_kept, line_course, played_in, session}
+use Rattle.keyline.specs.Sessions.{Given, LineGiven, SessionState, each, remembered, setting_in, state_over, coming_from}
 use Rattle.line_config.specs.declared.device.Last.{Last}
 use Rattle.line_config.specs.declared.device.Last.TheVariants.{Failed, End}
 use Rattle.line_config.specs.declared.settings.EditMode.{EditMode}
@@ -37,6 +40,19 @@ ColumnsAreFree =
     let one = session n other (each other) x in let two = session n g (each g) x in
     prompt_column other ≡ prompt_column g
     → (map unmeasured one.events ≡ map unmeasured two.events) × (one.answer ≡ two.answer)
+
+-- the steps that a line asks for where no fault comes, each with the value that stands until then
+abbrev pub steps_in : ℕ → Given → SessionState → List EditStep
+steps_in n g x = let a = setting_in g x.history.kept.entries in
+    steps_along a g.config.indent_size (kept_first a g.config x.ring x.coming)
+    (played_in n g x).asks
+
+-- and so is each line, ask for ask and step for step
+abbrev pub LineColumnsAreFree : Type 0
+LineColumnsAreFree =
+    (n : ℕ) (g : Given) (x : SessionState) (columns : ℕ) → let other = at_columns columns g in
+    prompt_column other ≡ prompt_column g
+    → (played_in n other x ≡ played_in n g x) × (steps_in n other x ≡ steps_in n g x)
 
 -- the lines that become entries, of these, added one after the other
 abbrev pub taken_of : Filed → List (List ℕ) → List (List ℕ)

@@ -4,7 +4,7 @@
 ghost use Rattle.std.specs.Prelude.{IsTrue};
 ghost use Rattle.line_config.specs.Feed.{AlwaysTold};
 ghost use Rattle.line_editor.specs.Running.{helping_by};
-ghost use Rattle.keyline.specs.SessionLaws.{CutsAreFree, LinesBegin, SessionsBegin, ColumnsAreFree, LastAreKept};
+ghost use Rattle.keyline.specs.SessionLaws.{CutsAreFree, LinesBegin, SessionsBegin, ColumnsAreFree, LineColumnsAreFree, LastAreKept};
 ghost use Rattle.keyline.specs.Desks.{TakesLines};
 ghost use Rattle.keyline.specs.Known.{known_by};
 ghost use Rattle.keyline.specs.OneByte.{LayoutsTell, OneByte};
@@ -84,7 +84,7 @@ pub fn commands_show()
 {}
 
 /// From any display that shows a value, the bytes of a turn, whatever is read in it, lead to one
-/// that shows the value after it. A course of turns is one after the other.
+/// that shows the value after it.
 pub fn turns_show()
     ensures { TurnsShow }
 {}
@@ -107,9 +107,11 @@ pub fn sessions_show()
 {}
 
 /// Two sessions that differ in columns alone accept the same lines and save the same text, where
-/// the prompt ends in the same column on both: they are the same, turn for turn.
+/// the prompt ends in the same column on both: but for the bytes that are sent they are the same,
+/// event for event, and each line is, with the values and marks of its steps.
 pub fn columns()
-    ensures { ColumnsAreFree }
+    ensures sessions { ColumnsAreFree }
+    ensures lines { LineColumnsAreFree }
 {}
 
 /// Any first events of a session have written the first of its lines, and kept those and at most the

@@ -25,9 +25,9 @@ pub fn turn_leads()
     ensures { EachTurnLeads }
 {}
 
-/// Whatever comes, the turns of a line lead, drawing after drawing, from a display that shows
-/// nothing of the line to what each turn says is to be seen, and the turn that accepts the line, or
-/// ends the session, is the last.
+/// Whatever comes, what is asked for a line leads, drawing after drawing, from a display that shows
+/// nothing of the line: as each turn begins, its value is shown, and an accepted line leaves the
+/// cursor at the end of its drawing.
 pub fn lines_lead()
     ensures { LinesLead }
 {}
