@@ -19,8 +19,8 @@ use Rattle.keyline.specs.Sessions.{Given, LineGiven, SessionState, setting_in}
 use Rattle.keyline.specs.Shows.{EachShown, Face, IsAtRest}
 use Rattle.keyline.specs.declared.desk.Desk.{Desk}
 
--- events went so on a display and a sink of lines, and at each moment of those that were done the
--- display shows it, whatever stood on it before the first of them
+-- what was done of these events, and that the display shows each moment among those, whatever stood
+-- above the first of them
 pub record GoesShown {D L : Type 0} (shown : D → List ℕ) (written_in : L → List ℕ) (adds : Bool)
     (events : List Event) (old new : Work D L) (Whole : Type 0) (Faulted : ReadlineError → Type 0)
     : Type 0 where
@@ -43,7 +43,7 @@ module _ {S H D L : Type 0} (k : Known S D L) where
       (k.show_failed (sink_of d.out)) (k.write_failed d.lines) e
 
   -- what a line came to before its end was drawn, kept and written, and what its end made of that:
-  -- the ring is the one that the line left, whatever refused its end
+  -- the ring is the one that the line left, whatever error its end met
   pub record EndsLine (g : Given) (old new : Desk S H D L) (result : Result (List ℕ) ReadlineError)
       : Type 0 where
     pub drawn : ScreenRenderer D
@@ -77,7 +77,7 @@ module _ {S H D L : Type 0} (k : Known S D L) where
     pub ends : EndsLine g old new result
     pub reason : IfErr result (DeskReason g new)
 
-  -- THE relation of lines until one is refused, with what is handed in for each
+  -- THE relation of lines until one has an error, with what is passed in for each
   pub record TakesLines (g : Given) (at : ℕ → LineGiven) (old new : Desk S H D L)
       (why : ReadlineError) : Type 0 where
     pub goes : IsTrue (desk_feed new).told → (n : ℕ) → (desk_feed old).bound < n

@@ -1,5 +1,5 @@
--- A session as its events in order, by whatever comes, and what it comes to. Lines, history, bytes,
--- moments, ending and rest are read off it.
+-- A session: its events in order, by whatever comes, and its ending. Lines, history, display bytes,
+-- moments and what is left of the input are read off the events.
 use Rattle.std.specs.Prelude.{◌≡◌, ⊤, ℕ, zero, suc, ◌≤◌, Bool, if◌then◌else◌, IsFalse, List, [], ◌∷◌, ◌++◌, length, map, Result, Ok, Err}
 use Rattle.std.specs.List.{flat_map}
 use Rattle.line_buffer.specs.declared.layout.Layout.{Layout}
@@ -27,8 +27,8 @@ pub data Event : Type 0 where
   Takes : Event
   -- the helper is asked, and gives an answer or fails; it may take memory
   Helped : (fails takes : Bool) → Event
-  -- this is to be seen, for which the display is sent these bytes, call by call; none where it is
-  -- seen already
+  -- this is to be seen, for which the display is sent these bytes, call by call; none if it is seen
+  -- already
   Draws : (redraw : Redraw) (sent : List (List ℕ)) → Event
   -- a key or a paste is read
   Hears : (item : InputItem) → Event
@@ -36,12 +36,12 @@ pub data Event : Type 0 where
   Rests : (prompt text : List ℕ) (place : ℕ) → Event
   -- the display gets a new row, as a line ends
   Breaks : Event
-  -- a line is added to the history, where the settings say so
+  -- a line is added to the history, if the settings say so
   Keeps : (line : List ℕ) → Event
   -- a line is written
   Writes : (line : List ℕ) → Event
 
--- events in order, and what they come to where each is done
+-- events in order, and what they come to if each is done
 pub record Course (X : Type 0) : Type 0 where
   pub events : List Event
   pub answer : X
@@ -79,7 +79,7 @@ abbrev pub end_events : Result (List ℕ) ReadlineError → List Event
 end_events (Ok text) = Breaks ∷ (Keeps text ∷ (Writes text ∷ []))
 end_events (Err e) = if breaks_after e then Breaks ∷ [] else []
 
--- a line's script, where no fault comes. More fuel than the source has keys and pastes is enough
+-- a line's script, if no fault comes. More fuel than the source has keys and pastes is enough
 abbrev pub played_in : ℕ → Given → SessionState
     → Played LineAsk LineState ReadlineError (List ℕ)
 played_in n g x = line_played n (setting_in g x.history.kept.entries) g.custom g.config x.ring x.coming
@@ -98,7 +98,7 @@ line_course n g x =
 
 -- ---- a session: line after line, to what ends it, with what is handed in for each by its number
 
--- what an accepted line leads to, and what a refusal does
+-- what an accepted line leads to, and what an error does
 abbrev pub going_on : (SessionState → Course ReadlineError)
     → Result (List ℕ) ReadlineError × SessionState → Course ReadlineError
 going_on next (Ok text, x) = next x
@@ -138,7 +138,7 @@ left_to_come coming (Hears item ∷ events) =
     left_to_come (left (item_at item coming) (behind coming)) events
 left_to_come coming (event ∷ events) = left_to_come coming events
 
--- the helper gave an answer wherever it was asked
+-- the helper gave an answer each time it was asked
 abbrev pub AllAnswered : List Event → Type 0
 AllAnswered [] = ⊤
 AllAnswered (Helped fails takes ∷ events) = IsFalse fails × AllAnswered events

@@ -37,7 +37,7 @@ pub record Accepts (p : Played LineAsk LineState ReadlineError (List ℕ)) (text
   pub outcome : p.answer ≡ Ok text
   pub rest_is : p.rest.coming ≡ rest
 
--- Where nothing is bound and nothing helps, at an empty line between two phrases, a text that is
+-- If nothing is bound and nothing helps, at an empty line between two phrases, a text that is
 -- sent as a paste and entered is accepted, whatever is kept: the last change and search, in any
 -- input mode, the ring, the record and the history.
 abbrev pub PastesAreAccepted : Type 0

@@ -44,10 +44,10 @@ module _ {D L : Type 0} (shown : D → List ℕ) (written_in : L → List ℕ) (
     pub left_is : new.coming ≡ left_to_come old.coming events
     pub answered : AllAnswered events
 
-  -- a fault stopped an event. The display and the sink of lines have taken a beginning of its
-  -- bytes; the helper fails. Memory is wanting where it is taken: also by the helper, in a paste, of
-  -- which it may be that every read is refused from there on, and for a line that the history is to
-  -- take. No other fault stops
+  -- a fault stopped an event. A display or a sink of lines that failed has taken a prefix of the
+  -- event's bytes. Out of memory is possible only if the event takes memory: an edit, a helper that
+  -- takes some, a paste, after which every read fails, and a line that the history is to take.
+  -- No other fault stops an event
   abbrev pub IsStopped : Work D L → Event → ReadlineError → Work D L → Type 0
   IsStopped x Takes Memory y = y ≡ x
   IsStopped x (Helped fails takes) Helper y = IsTrue fails × (y ≡ x)
@@ -62,7 +62,7 @@ module _ {D L : Type 0} (shown : D → List ℕ) (written_in : L → List ℕ) (
       TakesSome written_in x.lines y.lines (line_text line) × (y ≡ record x { lines = y.lines })
   IsStopped x event why y = ⊥
 
-  -- all were done, or a fault stopped the first of the others, with those before it done
+  -- all were done, or a fault stopped the first of those that weren't
   abbrev pub Stands : List Event → Work D L → Work D L → Type 0 → (ReadlineError → Type 0) → Type 0
   Stands [] at new Whole Faulted = Whole × (new ≡ at)
   Stands (event ∷ others) at new Whole Faulted =
@@ -80,12 +80,12 @@ module _ {D L : Type 0} (shown : D → List ℕ) (written_in : L → List ℕ) (
 
 -- ---- the end of a line
 
--- memory may be wanting for the end of an accepted line that the history is to take
+-- an accepted line that the history is to take may find no memory
 abbrev pub WantsMemory : Bool → Filed → Result (List ℕ) ReadlineError → ReadlineError → Type 0
 WantsMemory adds history outcome e =
     (e ≡ Memory) × IsOkAnd outcome (λ text. IsTrue (adds && takes history text))
 
--- why the end of a line is refused: as the line was, by a device that has failed, or by memory
+-- the error of a line's end: the line's own, that of a device that has failed, or out of memory
 abbrev pub CloseReason : Bool → Filed → Result (List ℕ) ReadlineError → Bool → Bool → Bool
     → ReadlineError → Type 0
 CloseReason adds history outcome was_failed display lines e =
@@ -94,7 +94,7 @@ CloseReason adds history outcome was_failed display lines e =
     ⊎ (((e ≡ Lines) × IsTrue lines) ⊎ WantsMemory adds history outcome e))
 
 -- an accepted line is drawn to its end, kept and written; after the endings that say so a new row
--- is drawn, and after the others nothing is done; whatever comes isn't read
+-- is drawn, and after the others nothing is done; nothing is read
 pub record Closes {D L : Type 0} (shown : D → List ℕ) (show_failed : D → Bool)
     (written_in : L → List ℕ) (write_failed : L → Bool) (adds : Bool)
     (outcome : Result (List ℕ) ReadlineError) (old new : Coming → Work D L)
@@ -114,7 +114,7 @@ pub record Closes {D L : Type 0} (shown : D → List ℕ) (show_failed : D → B
 -- ---- the end of a session
 
 -- the history was saved, so that nothing in it is new; or the sink of its text has failed, and has
--- taken a beginning of the text. Where nothing is new the sink isn't asked
+-- taken a prefix of the text. If nothing is new the sink isn't called
 pub record Saves {T : Type 0} (held : T → List ℕ) (failed : T → Bool)
     (kept history' : Filed) (text text' : T) (saved : Bool) : Type 0 where
   pub done : saved ≡ true → (history' ≡ all_saved kept)

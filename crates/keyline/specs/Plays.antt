@@ -30,13 +30,13 @@ abbrev pub loaded_from : Config → Feed → Filed
 loaded_from config text =
     load_leaves text.last (text_rows text.last text.coming) (nothing_filed (settings_of config))
 
--- a text is refused so, and this is left of it
+-- loading a text fails so, and this is left of it
 pub record RefusesText (config : Config) (text left : Feed) (why : ReadlineError) : Type 0 where
   pub answer : loads config text ≡ Err why
   pub behind : left.coming ≡ left_by_load text.last text.coming
 
--- why no history is loaded of a source's text, where this is left of the source: it has failed, a
--- row isn't UTF-8, or memory is wanting, and each row that was read is UTF-8
+-- why no history is loaded of a source's text, of which this is left: the source has failed, a row
+-- isn't UTF-8, or memory ran out, and each row that was read is UTF-8
 abbrev pub LoadRefused : Config → Feed → Feed → ReadlineError → Type 0
 LoadRefused config text left Reader = IsTrue left.failed
     × (IsTrue left.told → RefusesText config text left Reader)
@@ -104,8 +104,8 @@ pub record Finishes {S H D L T : Type 0} (held : T → List ℕ) (failed : T →
   pub display_is : ended.display ≡ sink_of desk.out
   pub lines_are : ended.lines ≡ desk.lines
 
--- THE relation of `run`: lines until one is refused, and then the session's end. Display, lines and
--- history have what the session's events make of them, and each moment is shown
+-- THE relation of `run`: lines until one has an error, and then the session's end. Display, lines and
+-- history have what the events that were done make of them, and each moment among those is shown
 pub record RunsSession {S H D L T : Type 0} (k : Known S D L) (held : T → List ℕ)
     (failed : T → Bool) (g : Given) (desk : Desk S H D L) (text : T) (ended : Ended S D L T)
     : Type 0 where

@@ -38,7 +38,7 @@ use Rattle.line_record.specs.Ring.{new_ring}
 use Rattle.keyline.specs.Endings.{ending_of}
 use Rattle.keyline.specs.Playing.{SessionReason, ending_after, work}
 
--- where nothing else is said: each accepted line is kept
+-- the default settings: each accepted line is kept
 abbrev pub standard_config : Config
 standard_config = record default_config { auto_add_history = true }
 

@@ -32,8 +32,8 @@ unmeasured (Begins s) = Begins (record s { columns = 0 })
 unmeasured (Draws redraw sent) = Draws redraw []
 unmeasured event = event
 
--- two sessions that differ in columns alone are one, event for event, where the prompt ends in the
--- same column: so they accept the same lines, save the same text, and want the same to be seen
+-- two sessions that differ in columns alone are one, event for event, if the prompt ends in the same
+-- column: so they accept the same lines, save the same text, and want the same to be seen
 abbrev pub ColumnsAreFree : Type 0
 ColumnsAreFree =
     (n : ℕ) (g : Given) (x : SessionState) (columns : ℕ) → let other = at_columns columns g in
@@ -41,7 +41,7 @@ ColumnsAreFree =
     prompt_column other ≡ prompt_column g
     → (map unmeasured one.events ≡ map unmeasured two.events) × (one.answer ≡ two.answer)
 
--- the steps that a line asks for where no fault comes, each with the value that stands until then
+-- the steps that a line asks for if no fault comes, each with the value that stands until then
 abbrev pub steps_in : ℕ → Given → SessionState → List EditStep
 steps_in n g x = let a = setting_in g x.history.kept.entries in
     steps_along a g.config.indent_size (kept_first a g.config x.ring x.coming)
@@ -68,7 +68,7 @@ LastAreKept =
     let lines = flat_map lines_kept (session n g at x).events in let empty = nothing_filed settings in
     (remembered true lines empty).kept.entries ≡ newest settings.max_len (taken_of empty lines)
 
--- the one is a beginning of the other
+-- the one is a prefix of the other
 abbrev pub IsBeginning : {A : Type 0} → List A → List A → Type 0
 IsBeginning {A} xs ys = (later : List A) × (ys ≡ xs ++ later)
 
