@@ -18,7 +18,7 @@ use Rattle.keyline.proofs.EventLemmas.{none_done as nothing_done, remembered_non
 true_not_false : (b : Bool) → b ≡ true → b ≡ false → ⊥
 true_not_false b one other = absurd (cc)
 
--- a line that was refused so gets a new row
+-- a line with such an error gets a new row
 pub breaks_by : {A : Type 0} (f : A → List ℕ) (o : Result A ReadlineError) (e : ReadlineError) (b : Bool) → o ≡ Err e → b ≡ breaks_after e → b ≡ true
     → IfErr (made_of f o) (λ e. breaks_after e ≡ true)
 breaks_by {A} f o e b is same broken =

@@ -105,7 +105,7 @@ module _ {S H D L K T : Type 0} (k : Known S D L) (helps : Option H → Helping)
       let n = suc (desk_feed k old).bound in
       goes_stay k.shown k.waits k.show_failed (ruler_of (screen_of old.out)) setting config.indent_size (line_script n custom) first (last runs) (outcome_of ran) (runs.goes t n (le_refl _))
 
-  -- nothing waits after the line where nothing waited before it
+  -- nothing waits after the line if nothing waited before it
   line_passes : RunsAt → IsTrue (items_of k.feed reader).told → HasPassedOn k (sink_of old.out) → HasPassedOn k (sink_of ran.out)
   line_passes runs t none =
       let n = suc (desk_feed k old).bound in

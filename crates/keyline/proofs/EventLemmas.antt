@@ -316,7 +316,7 @@ module _ {D L : Type 0} (shown : D → List ℕ) (written_in : L → List ℕ) (
           answered = steps_answered a.layout rs a.out b.out made;
         }
 
-    -- a step that was refused
+    -- a step that failed
     step_stopped : (step : EditStep) (c : Coming) (e : ReadlineError) (v : Value) (a b : Surface (ScreenRenderer D)) → screen_of a.out ≡ s → StepCut canvas (ruler_of s) a step e v b
         → IsStopped shown written_in adds (on a.out c) (step_event s a.layout step) e (on b.out c)
     unfolding BrokenOff

@@ -1,4 +1,4 @@
--- Worked cases of where memory isn't the fault.
+-- Worked cases of events and endings at which memory isn't the fault.
 use Rattle.std.proofs.Common.{◌≡◌, ℕ, Bool, false, List, [], ◌∷◌, ◌++◌, Result, Err, subst}
 use Rattle.std.specs.Prelude.{if◌then◌else◌}
 use Rattle.line_config.specs.declared.errors.ReadlineError.{ReadlineError}

@@ -27,7 +27,7 @@ use Rattle.keyline.specs.Shows.{drawn_by}
 use Rattle.keyline.proofs.EventLemmas.{asks_both}
 use Rattle.keyline.proofs.HeardBytes.{NeverEnds, Agrees, Opens, bytes_open}
 
--- ---- a read that is refused
+-- ---- a read that fails
 
 refused_unbroken : (item : InputItem) (h : Coming) → NeverEnds h → IfErr (item_at item h) (λ e. breaks_after e ≡ false)
 refused_unbroken Key (Pressed k rest) never = tt

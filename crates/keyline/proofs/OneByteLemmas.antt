@@ -128,7 +128,7 @@ turned_steps n a custom indent k c alone =
     ∙ ap (λ (v : Value). first ++ ((insert_char c 1 a v).steps ++ [])) alone.value_is
     ∙ ap (λ steps. first ++ steps) (append-nil (insert_char c 1 a k.value).steps)
 
--- behind steps that ask nothing
+-- after steps that call nothing
 unasked_bytes : (s : Screen) (l : Layout) (xs ys : List EditStep) → drawn_by s l xs ≡ nothing_asked l → bytes_for s l (xs ++ ys) ≡ bytes_for s l ys
 unasked_bytes s l xs ys none =
     ap (λ (x : Asked). flat_map (bytes_of s) x.calls) (asked_both (ruler_of s) l xs ys)

@@ -30,7 +30,7 @@ use Rattle.keyline.proofs.PlaysLemmas.{reason_at_end}
 below : (most kept bound n : ℕ) → kept ≡ 0 → bound ≡ most + kept → most < n → bound < n
 below most kept bound n none is low = omega arith
 
--- nothing was read, and all that is said is to come
+-- nothing was read, and all that is said is left
 pub fresh_coming : (bytes unread given : List ℕ) → unread ≡ [] → given ≡ [] → unread ++ unwrap_or (left_of bytes given) [] ≡ bytes
 unfolding left_of
 fresh_coming bytes unread given none bare = rw (none, bare) refl
