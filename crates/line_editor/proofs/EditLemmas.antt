@@ -101,7 +101,7 @@ module _ {Out H Hi K T : Type 0} {renderer : renderers.Renderer.Ghosts Out} {com
       (ap (λ w. behind_edit second stands steps w (setting_of s)) (edit_is edit stands (value_of m) old new answer same wrote rest) ∙ is)
       (does_both first second s m t answer result (edit_made first stands steps s m answer refl surface stays) done)
 
-  -- memory was wanting for it
+  -- memory ran out for it
   pub edit_refused : {A B E : Type 0} (whole second : Transition) (edit : Line → WriteSteps A) (stands : Value) (s t : State Out H Hi K T renderer completer candidate hinter hint highlighter validator history)
       (old : RecordedLine) (result : Result B ReadlineError) (fault : E) → IsErrAnd result (λ x. x ≡ Memory) → then_do (rewriting edit) second (setting_of s) stands ≡ whole (setting_of s) (value_of s)
       → written_in old ≡ written_of stands → EditsRecorded {A = A} (edit old.line) old t.recorded (Err fault) → SameBeside stands (value_of t)

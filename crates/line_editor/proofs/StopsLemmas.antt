@@ -28,7 +28,7 @@ refused_by : {R : Type 0} (canvas : Canvas R) (call : Call) (old new : R) → dr
 refused_by canvas (Help fails) old new is h = absurd (true≢false (sym is))
 refused_by canvas _ old new is h = h
 
--- the first one was refused
+-- the first one failed
 pub broken_refused : {R : Type 0} (canvas : Canvas R) (call : Call) (calls : List Call) (old new : R) → draws call ≡ true → canvas.refused old call new → BrokenOff canvas (call ∷ calls) old new
 unfolding BrokenOff
 broken_refused canvas call calls old new is h = inl (refused_by canvas call old new is h)
@@ -67,7 +67,7 @@ help_layout r l v (Some reply) = refl
 -- ---- where steps stop
 
 module _ {R : Type 0} (canvas : Canvas R) (r : Ruler) where
-  -- nowhere where there are none
+  -- nowhere if there are none
   pub never_stops : {Z : Type 0} (fault : ReadlineError) (v : Value) (old new : Surface R) → Stops canvas r [] old fault v new → Z
   unfolding Stops
   never_stops fault v old new h = absurd h
@@ -93,7 +93,7 @@ module _ {R : Type 0} (canvas : Canvas R) (r : Ruler) where
   unfolding Stops
   stops_editing stands edit more old new fault v is same value left = inr (is, same, value, left)
 
-  -- where changes are taken back
+  -- if changes are undone
   pub stops_taking_back : (stands : Value) (more : List EditStep) (old new : Surface R) (fault : ReadlineError) (v : Value)
       → fault ≡ Memory → new ≡ old → v ≡ record stands { line = v.line; held = [] } → Stops canvas r (TakesBack stands ∷ more) old fault v new
   unfolding Stops
@@ -122,7 +122,7 @@ module _ {R : Type 0} (canvas : Canvas R) (r : Ruler) where
   unfolding Stops
   stops_after step more old between new fault v made h = inl (between, made, h)
 
-  -- memory for a mark was wanting, before a hook was asked for an edit
+  -- memory ran out for a mark, before a hook was called for an edit
   pub stops_marking : (stands : Value) (reply : Option (Reply ⊤)) (old new : Surface R) (fault : ReadlineError) (v : Value)
       → is_some reply ≡ true → fault ≡ Memory → new ≡ old → v ≡ stands → Stops canvas r (updates reply stands) old fault v new
   stops_marking stands None old new fault v some is same value = absurd (true≢false (sym some))
@@ -142,13 +142,13 @@ module _ {R : Type 0} (canvas : Canvas R) (r : Ruler) where
   stops_edited stands edit more old new v (Ok x) h = tt
   stops_edited stands edit more old new v (Err fault) h = stops_after (Edits stands edit) more old old new fault v (refl, refl) h
 
-  -- behind changes that were taken back
+  -- after changes that were undone
   pub stops_taken_back : {A : Type 0} (stands : Value) (more : List EditStep) (old new : Surface R) (v : Value) (result : Result A ReadlineError)
       → IfErr result (λ fault. Stops canvas r more old fault v new) → IfErr result (λ fault. Stops canvas r (TakesBack stands ∷ more) old fault v new)
   stops_taken_back stands more old new v (Ok x) h = tt
   stops_taken_back stands more old new v (Err fault) h = stops_after (TakesBack stands) more old old new fault v (refl, refl) h
 
-  -- more are to come after them
+  -- more follow them
   pub stops_before : (xs ys : List EditStep) (old new : Surface R) (fault : ReadlineError) (v : Value) → Stops canvas r xs old fault v new → Stops canvas r (xs ++ ys) old fault v new
   unfolding Stops
   stops_before [] ys old new fault v h = absurd h
@@ -168,7 +168,7 @@ module _ {R : Type 0} (canvas : Canvas R) (r : Ruler) where
       let between : Surface R = surface parts.0 (one r l x).layout in
       stops_after x (xs ++ ys) (surface old l) between new fault v (parts.1, refl) (stops_behind xs ys (one r l x).layout parts.0 out new fault v parts.2 h)
 
--- ---- what a refused body goes by
+-- ---- what a failed body goes by
 
 pub ruleset drawings_stop = (stops_drawing, broken_refused)
 

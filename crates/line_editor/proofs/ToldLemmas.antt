@@ -19,7 +19,7 @@ use Rattle.line_editor.specs.Values.{Value, Setting, EditStep}
 use Rattle.line_editor.specs.Values.EditStep.{Draws, Helped, Edits, TakesBack, Takes}
 use Rattle.line_editor.proofs.StopsLemmas.{asked_both, folds_both}
 
--- by the answer to an ask, and by its refusal
+-- by the answer to a request, and by its error
 pub played_each : {A B C E X : Type 0} (P : Played A C E X → Type 0) (next : B → Played A C E X) (ask : A) (c : C) → ((x : B) → P (asked_first ask (next x)))
     → ((e : E) → P (record { answer = Err e; asks = ask ∷ []; rest = c })) → (r : Result B E) → P (played_on next ask c r)
 played_each P next ask c answers stops (Ok x) = answers x

@@ -1,4 +1,4 @@
--- Clusters exchanged for characters, where a step is refused.
+-- Clusters replaced by characters, if a step fails.
 use Rattle.std.specs.Prelude.{⊤, Bool, true, false, if◌then◌else◌, is_some, Result, Ok, IsErrAnd}
 use Rattle.std.proofs.Common.{◌≡◌, ℕ, refl, subst, sym}
 use Rattle.line_buffer.specs.Clusters.{place_forward}
@@ -12,13 +12,13 @@ use Rattle.line_edits.specs.Written.{Written, Writes, written, written_in}
 use Rattle.line_edits.specs.declared.recorded_line.RecordedLine.{RecordedLine}
 use Rattle.line_edits.proofs.StepLemmas.{stops_before, stops_behind, unanswered, written_is, edits_refused}
 
--- the clusters stay where that is refused
+-- the clusters stay if that fails
 pub deletion_stopped : (c n count : ℕ) (l : Line) {w v : Written} → StopsIn (deleting n l) w v → StopsIn (exchanging c n count l) w v
 deletion_stopped c n count l stops =
     let bare = (delete n l).line in
     stops_before (deleting n l) (in_turn (typing c count bare) (stepping_back (insert c count bare).line)) stops
 
--- the characters were refused, and the clusters are out
+-- the characters failed, and the clusters are deleted
 pub exchange_stopped : {E : Type 0} (c n count k : ℕ) (l m after : Line) (old mid new : Items) → k ≡ count → Writes {E = E} (made (deleting n l)) (tt {0}) l m old mid (Ok (tt {0}))
     → StopsIn (typing c k m) (written m mid) (written after new) → StopsIn (exchanging c n count l) (written l old) (written after new)
 exchange_stopped c n count k l m after old mid new is out stops =

@@ -1,4 +1,4 @@
--- Edits by their steps: what a call owes that was answered, or refused.
+-- Edits by their steps: what a call owes that succeeded, or failed.
 use Rattle.std.specs.Prelude.{Result, Ok, Err, OnErr, IsErrAnd, IsUtf8}
 use Rattle.std.proofs.Common.{◌≡◌, ℕ, List, [], ◌∷◌, ◌++◌, refl, ap, ◌∙◌, subst, inl, inr}
 use Rattle.std.proofs.lemmas.Result.{on_err_weaker}
@@ -42,7 +42,7 @@ left_unanswered result edit w v = on_err_weaker result (unanswered (tt {0}) edit
 
 -- ---- a call
 
--- one that was refused has made the first of the steps, and the record stands
+-- one that failed has made the first steps, and the record stands
 pub rewrites_refused : {A E : Type 0} {steps : WriteSteps A} {before after : Line} {old new : Items} (e : E) (result : Result A E)
     → IsErrAnd result (λ x. x ≡ e) → ItemsStand new after.text → StopsIn steps (written before old) (written after new) → Rewrites steps before after old new result
 rewrites_refused e (Ok a) is stand stops = absurd is
@@ -96,7 +96,7 @@ told_rewrites a utf8 stand is line told = record {
   left = tt;
 }
 
--- a refused one told it the first of them
+-- a failed one reported the first of them
 pub stopped_rewrites : {A E : Type 0} {events : List Event} {line : Line} {answer : A} {before after : Line} {old new : Items} (e : E) (result : Result A E)
     → IsErrAnd result (λ x. x ≡ e) → IsUtf8 before.text → ItemsStand old before.text → StopsAt RecordedIn (wants_or record_refuses) [] events old new before after
     → Rewrites (doing (Tells events line) answer) before after old new result
@@ -105,7 +105,7 @@ stopped_rewrites e result is utf8 stand call =
 
 -- ---- groups
 
--- the edit was refused behind the mark
+-- the edit failed after the mark
 pub stopped_in_group : {A E : Type 0} (steps : WriteSteps A) (line : Line) (old : Items) {mid new : Items} {after : Line} → mid ≡ opened old → (e : E) (result : Result A E) → IsErrAnd result (λ x. x ≡ e) → ItemsStand new after.text
     → StopsIn steps (written line mid) (written after new) → Rewrites (grouping steps) line after old new result
 stopped_in_group steps line old {mid} {new} {after} marked e result is stand h =
@@ -113,7 +113,7 @@ stopped_in_group steps line old {mid} {new} {after} marked e result is stand h =
 
 -- ---- one change
 
--- it was refused, and the line stayed
+-- it failed, and the line stayed
 pub unchanged_rewrites : {A E : Type 0} {line : Line} {answer : A} (event : Event) {before after : Line} {old new : Items} (e : E) (result : Result A E) → IsErrAnd result (λ x. x ≡ e)
     → TellsOfChange event → IsUtf8 before.text → ItemsStand old before.text → wants_or record_refuses old event new → after ≡ before
     → Rewrites (doing (Tells (event ∷ []) line) answer) before after old new result

@@ -1,4 +1,4 @@
--- What a refused edit leaves: one of a single change, a kill, and a group.
+-- What a failed edit leaves: one of a single change, a kill, and a group.
 use Rattle.std.specs.Prelude.{Bool, true, false, if◌then◌else◌, Option, Some, None}
 use Rattle.std.proofs.Common.{◌≡◌, ◌≤◌, inl, inr, List, [], ◌∷◌, ◌++◌, length, refl, ap, ◌∙◌, arith, length-append}
 use Rattle.line_buffer.specs.Event.{Event}
@@ -50,7 +50,7 @@ refused_changes_leave_all = record {
   killed = λ movement w v h. kill_within (goes_by_clusters movement) (range_of movement w.line) w.line (stopped_step h);
 }
 
--- closing marks is never refused
+-- closing marks never fails
 unclosed : (steps : List WriteStep) (w v : Written) → StopsAlong (steps ++ (Closes ∷ [])) w v → StopsAlong steps w v
 unclosed [] w v (inl h) = h
 unclosed [] w v (inr h) = h
