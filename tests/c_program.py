@@ -13,7 +13,6 @@ import re
 import shlex
 import shutil
 import signal
-import string
 import subprocess
 import sys
 import tempfile
@@ -24,6 +23,7 @@ from checks import CTRL_D, ENTER, HUNG, LEFT, NEW_ROW, PROGRAM, TOP, Failed, dra
 from drawings import Terminal
 from mutants import Checker
 from shown import expect, key, until_taken
+from windows import WIDTHS, edited_in_its_middle, rows_of, type_bytes
 from wrong_bodies import below, crates_of
 
 CRATE = os.path.join(TOP, "crates", "keyline_c")
@@ -272,7 +272,7 @@ def wait_for(what, holds):
 
 
 def type_keys(pane, *words):
-    pane.ask("send-keys", "-H", *(f"{byte:02x}" for word in words for byte in key(word)))
+    type_bytes(pane, b"".join(map(key, words)))
 
 
 def lines_on_tmux():
@@ -289,24 +289,11 @@ def lines_on_tmux():
         expect(pane, "the end", (["c> y", "got: y", "c>", "status 0"], (4, 0)))
 
 
-def rows_of(text, columns):
-    return [text[at : at + columns] for at in range(0, len(text), columns)]
-
-
-def edited_in_its_middle(pane, columns):
-    """Types a line of more than a row, and two letters before its last two."""
-    text = (string.ascii_letters * 5)[: columns + 10]
-    type_keys(pane, text, "Left", "Left", "X", "Y")
-    line = f"{text[:-2]}XY{text[-2:]}"
-    expect(pane, f"a line in {columns} columns", (rows_of(f"c> {line}", columns), divmod(len(line) + 1, columns)))
-    return line
-
-
 def windows():
     """A line is as wide as its window, and after the window changes the next one is as wide as that."""
-    for columns, other in ((30, 60), (60, 80), (80, 200), (200, 30)):
+    for columns, other in zip(WIDTHS, WIDTHS[1:] + WIDTHS[:1]):
         with on_tmux(columns) as (pane, _):
-            line = edited_in_its_middle(pane, columns)
+            line = edited_in_its_middle(pane, "c> ", columns)
             type_keys(pane, "Enter")
             shown = rows_of(f"c> {line}", columns) + rows_of(f"got: {line}", columns)
             expect(pane, "it is accepted", ([*shown, "c>"], (len(shown), 3)))
@@ -315,7 +302,7 @@ def windows():
                 wait_for("the new width", lambda: os.get_terminal_size(tty.fileno()).columns == other)
             type_keys(pane, "Enter", "C-l")
             expect(pane, "a new line", (["c>"], (0, 3)))
-            edited_in_its_middle(pane, other)
+            edited_in_its_middle(pane, "c> ", other)
             type_keys(pane, "C-c", "C-d")
 
 
