@@ -189,13 +189,13 @@ def run(*arguments, keys=b""):
 
 
 def arguments():
-    """`--help` prints how the program is called; arguments that are unknown are refused, and nothing is read."""
+    """`--help` prints the usage; unknown arguments are an error, and nothing is read."""
     helped = run("--help", keys=b"SELECT 1;\r")
     same("--help", (helped.returncode, helped.stdout, helped.stderr), (0, USAGE, b""))
     for words in (["--history"], ["--history", "a", "b"], ["--histor", "a"], ["notes.db"], [""]):
-        refused = run(*words, keys=b"SELECT 1;\r")
+        ran = run(*words, keys=b"SELECT 1;\r")
         wanted = (2, b"", b"sql_console: unknown arguments\n" + USAGE)
-        same(f"{words}", (refused.returncode, refused.stdout, refused.stderr), wanted)
+        same(f"{words}", (ran.returncode, ran.stdout, ran.stderr), wanted)
 
 
 def a_history_that_lasts():
