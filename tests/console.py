@@ -1,8 +1,8 @@
 #!/usr/bin/env python3
-"""The console over a database: tmux types into crates/sql_console, and is asked for its cells and cursor; on pipes, its
-arguments and the history that it keeps. crates/first_program is typed into in the same windows.
+"""The console over a database: tmux types into crates/sql_console, and reports its cells and cursor; on pipes, its arguments
+and the history that it keeps. crates/first_program gets keys in the same windows.
 
-`rt ci` builds the programs first; with another one's name as an argument, that one is the console.
+`rt ci` builds the programs first. If another program is named as an argument, that one is the console.
 """
 import contextlib
 import os
@@ -35,7 +35,7 @@ MADE_ROWS = ["sql> CREATE TABLE note (title, stars);", "0 changed"]
 
 @contextlib.contextmanager
 def in_window(columns, program, prompt):
-    """A program in a window of so many columns, which has nothing but the prompt."""
+    """A program in a window with so many columns, which shows only the prompt."""
     with tempfile.TemporaryDirectory() as folder:
         run = " ".join(map(shlex.quote, [ON_TERMINAL, program]))
         terminal = Terminal(folder, columns, f"{run}; echo ended $?; exec sleep {HUNG}")
@@ -52,7 +52,7 @@ def in_window(columns, program, prompt):
 
 
 def plays(*steps):
-    """Types each step, and compares the rows that are shown then and the cursor's place."""
+    """Types each step, and compares the rows and the cursor's place that are shown then."""
     with in_window(60, PROGRAM, "sql> ") as terminal:
         for keys, rows, cursor in steps:
             type_bytes(terminal, keys)
@@ -214,7 +214,7 @@ def a_history_that_lasts():
 
 
 def histories_that_fail():
-    """What was answered stands, and the cause is told."""
+    """The answers before are printed, and so is the cause."""
     with tempfile.TemporaryDirectory() as folder:
         file = pathlib.Path(folder, "history")
         file.write_bytes(b"\xff\n")
