@@ -25,13 +25,14 @@ import api
 import words
 from names import CRATES, LIBRARIES, TOP, Crate, files_under, line_of, lines_of
 from pages import (
-    GENERATED, LINK, anchors, calls_of, cells_of, count_words, documents, is_row, links, listings, section, sentences, tables, written,
+    GENERATED, LINK, anchors, calls_of, cells_of, count_words, documents, is_row, links, listings, prose, section, sentences, tables, written,
 )
 
 WORD = re.compile(r"`([^`]+)`|[()]")
 LINE = re.compile(r"L\d+")
 MERGED = re.compile(r"(<{7}|={7}|>{7})( |$)")
 WEB = re.compile(r"\w+:")
+FILE = re.compile(r"`((?:answers|bench|crates|docs|tests)/[\w./-]+\.\w+)`")
 LEFT_OUT = re.compile(r"\n[ ]*(?://|--) \.\.\n")
 
 # The longest sentence of a document, and the longest promise, in words; and the most bytes of docs/.
@@ -174,6 +175,17 @@ def check_links(checks):
                 checks.expect(at and part in (None, f"L{at}"), f"{document}: {name} stands {found} in {path}, and not in {part}")
 
 
+def check_codes(checks, crates):
+    """Each law and each file that a document has in backquotes is there."""
+    laws = {f"laws::{law}" for crate in crates.values() for law in crate.laws}
+    for document in written():
+        for at, line in prose(document):
+            for law in re.findall(r"`(laws::\w+)`", line):
+                checks.expect(law in laws, f"{document}:{at}: there is no {law}")
+            for file in (it for it in FILE.findall(line) if "NAME" not in it):
+                checks.expect(os.path.isfile(os.path.join(TOP, file)), f"{document}:{at}: there is no {file}")
+
+
 def check_listings(checks):
     """Each listing stands in the file that is named above it."""
     for document in written():
@@ -304,6 +316,7 @@ def main(arguments):
     check_crates(checks)
     check_definitions(checks, crates)
     check_links(checks)
+    check_codes(checks, crates)
     check_listings(checks)
     check_style(checks)
     check_api(checks)
