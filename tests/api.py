@@ -17,9 +17,9 @@ from pages import calls_of, section, tables
 PAGE = ("docs", "API.md")
 HEAD = """# The calls of the libraries
 
-Each public item, by crate and module: its signature, what it is, and what it fails with. `tests/api.py --write` makes this page from
-the sources. What each call promises exactly is its contract, in the source. [ERRORS.md](ERRORS.md) says what each error leaves,
-and [GUIDE.md](GUIDE.md) where to begin: a program needs the crate [`keyline`](#keyline) alone.
+Each public item, by crate and module: its signature, what it is, and what it fails with. `tests/api.py --write` makes this
+page from the sources. What each call promises exactly is its contract, in the source. [ERRORS.md](ERRORS.md) says what each
+error leaves, and [GUIDE.md](GUIDE.md) where to begin: a program needs the crate [`keyline`](#keyline) alone.
 """
 ITEM = re.compile(r"pub (?:const )?(struct|enum|trait|type|fn|const) (\w+)")
 CALL = re.compile(r"    (pub )?(?:const )?(?:unsafe )?fn (\w+)")

@@ -2,27 +2,30 @@
 """Words that went: none of tests/words.txt stands in the documents, nor in comments and messages of sources and scripts.
 
     tests/words.py              prints each that stands, and what to write instead
-    tests/words.py PATH..       only those in these files
+    tests/words.py PATH..       only those in these files and folders
+
+A text of a program is a message if it has three words or more: shorter ones are names, keys and formats.
 """
 import os
 import re
 import sys
+import tokenize
 
 from names import CRATES, TOP, files_under, lines_of
 from pages import plain, prose, written
 
 LISTED = ("tests", "words.txt")
-# What of a line of a source is read by people: its comment, and its texts.
+# The comments and the texts of a line, by the ending of its file.
 READ = {
-    ".rt": re.compile(r"//.*|\"(?:[^\"\\]|\\.)*\""),
-    ".antt": re.compile(r"--.*"),
-    ".py": re.compile(r"#.*|\"(?:[^\"\\]|\\.)*\""),
-    ".c": re.compile(r"//.*|/?\*.*|\"(?:[^\"\\]|\\.)*\""),
-    ".txt": re.compile(r"\A#.*"),
-    "": re.compile(r"#.*|'[^']*'"),
+    ".rt": re.compile(r"(//.*)|\"((?:[^\"\\]|\\.)*)\""),
+    ".antt": re.compile(r"(--.*)"),
+    ".c": re.compile(r"(//.*|/?\*.*)|\"((?:[^\"\\]|\\.)*)\""),
+    ".txt": re.compile(r"\A(#.*)"),
+    "": re.compile(r"(#.*)|'([^']*)'|\"([^\"]*)\""),
 }
 READ[".h"] = READ[".c"]
-SCRIPTS = ("keyline", "on_terminal", "test", "bench/run")
+PLACEHOLDER = re.compile(r"\{[^}]*\}")
+SCRIPTS = ("keyline", "test", "bench/run")
 # Those that quote the words.
 QUOTING = ("tests/words.txt", "tests/words.py")
 
@@ -37,8 +40,8 @@ def words_listed():
 
 def sources():
     """The sources and scripts that people read."""
-    for folder in ("src", "specs", "proofs", "c"):
-        for crate in CRATES:
+    for crate in CRATES:
+        for folder in ("src", "specs", "proofs", "c"):
             for ending in (".rt", ".antt", ".c", ".h"):
                 yield from files_under(f"crates/{crate}/{folder}", ending)
     for folder in ("tests", "answers", "bench"):
@@ -47,16 +50,32 @@ def sources():
     yield from SCRIPTS
 
 
+def is_message(text):
+    return len(text.split()) > 2
+
+
+def python_read(path):
+    """The numbered lines of comments and messages in a script of Python."""
+    with open(os.path.join(TOP, path), "rb") as file:
+        for token in tokenize.tokenize(file.readline):
+            is_text = token.type == tokenize.STRING or "FSTRING" in tokenize.tok_name[token.type]
+            if token.type == tokenize.COMMENT or is_text and is_message(token.string):
+                for at, line in enumerate(token.string.split("\n"), token.start[0]):
+                    yield at, PLACEHOLDER.sub("", line)
+
+
 def lines_read(path):
     """The numbered lines of a file, each as what people read of it."""
     ending = os.path.splitext(path)[1]
     if ending == ".md":
         yield from ((number, plain(line)) for number, line in prose(path))
-        return
-    for number, line in enumerate(lines_of(path), 1):
-        read = " ".join(READ[ending].findall(line))
-        if read:
-            yield number, plain(read)
+    elif ending == ".py" or path == "on_terminal":
+        yield from ((number, plain(line)) for number, line in python_read(path))
+    else:
+        for number, line in enumerate(lines_of(path), 1):
+            for comment, *texts in (it.groups() for it in READ[ending].finditer(line)):
+                read = [comment or "", *(PLACEHOLDER.sub("", it) for it in texts if it and is_message(it))]
+                yield number, plain(" ".join(read))
 
 
 def standing(paths):
@@ -70,9 +89,16 @@ def standing(paths):
                     yield f"{path}:{number}: '{found[0]}'", instead
 
 
+def files_of(paths):
+    """These files, and of folders those that people read."""
+    for path in (os.path.relpath(os.path.realpath(it), TOP) for it in paths):
+        is_folder = os.path.isdir(os.path.join(TOP, path))
+        yield from (it for it in [*written(), *sources()] if it.startswith(path + "/")) if is_folder else [path]
+
+
 def main(paths):
     count = 0
-    for place, instead in standing(paths or [*written(), *sources()]):
+    for place, instead in standing(files_of(paths) if paths else [*written(), *sources(), "on_terminal"]):
         count += 1
         print(f"{place}: write {instead}")
     print(f"{count} words stand that went")
@@ -80,4 +106,4 @@ def main(paths):
 
 
 if __name__ == "__main__":
-    sys.exit(main([os.path.relpath(os.path.realpath(it), TOP) for it in sys.argv[1:]]))
+    sys.exit(main(sys.argv[1:]))
