@@ -1,5 +1,5 @@
 -- What a session is opened on where nothing else is said.
-use Rattle.std.specs.Prelude.{◌≡◌, ℕ, Bool, false, None, [], codes}
+use Rattle.std.specs.Prelude.{◌≡◌, Bool, false, None, [], codes}
 use Rattle.line_config.specs.Feed.{Feed, fresh_feed}
 use Rattle.line_config.specs.declared.device.Last.TheVariants.{End}
 use Rattle.keyline.specs.Program.{standard_config}

@@ -25,7 +25,7 @@ ending_text Helper = codes "helper failed"
 ending_text Handler = codes "handler failed"
 ending_text Memory = codes "out of memory"
 
--- a refusal that ends a session, as its ending
+-- an error that ends a session, as its ending
 abbrev pub ending_of : ReadlineError → Ending
 ending_of Refusal.Eof = Eof
 ending_of Refusal.Interrupted = Interrupted

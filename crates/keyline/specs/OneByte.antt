@@ -25,7 +25,7 @@ LayoutsTell =
     → TellsSight l x → FitsAll own x steps
     → TellsSight (drawn_by s l steps).layout (sight_all x steps)
 
--- one that its byte alone may show, with room in the text, and in a line that is bare after it too
+-- one that its byte alone may show, that fits into the text, in a line that is bare after it too
 pub record TypedAtEnd (a : Setting) (v : Value) (c : ℕ) : Type 0 where
   pub alone : may_be_typed c 1 v ≡ true
   pub room : is_some (insertion c 1 v.line).answer ≡ true

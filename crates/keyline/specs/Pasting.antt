@@ -2,14 +2,16 @@
 use Rattle.std.specs.Prelude.{◌≡◌, ◌≢◌, ℕ, suc, true, List, [], ◌∷◌, ◌++◌, None, Ok}
 use Rattle.std.specs.Str.{IsUtf8}
 use Rattle.line_config.specs.declared.device.Last.{Last}
+use Rattle.line_config.specs.Played.{Played}
+use Rattle.line_config.specs.declared.errors.ReadlineError.{ReadlineError}
 use Rattle.line_keys.specs.declared.events.Event.{Event}
 use Rattle.line_keys.specs.Answers.{Custom}
 use Rattle.line_keys.specs.Coming.{Coming}
-use Rattle.line_editor.specs.LineScripts.{LineState, reported_from, turns_script}
-use Rattle.line_editor.specs.Courses.{LineReport}
+use Rattle.line_editor.specs.LineScripts.{LineAsk, LineState, played_from, turns_script}
 use Rattle.line_editor.specs.Values.{Setting, Value}
 use Rattle.line_screen.specs.KeyGrammar.{marker, start_marker, HaveNoMarker}
-use Rattle.keyline.specs.Sessions.{Given, SessionState, coming_from, line_in}
+use Rattle.keyline.specs.Events.{played_in}
+use Rattle.keyline.specs.Sessions.{Given, SessionState, coming_from}
 
 -- ESC [ 2 0 0 ~, the text, and ESC [ 2 0 1 ~
 abbrev pub sent_as_paste : List ℕ → List ℕ
@@ -30,11 +32,12 @@ pub record IsEmptyLine (v : Value) : Type 0 where
   pub grows : v.line.growth ≡ true
 
 -- the text is accepted, and this is left to come
-pub record Accepts (t : LineReport) (text : List ℕ) (rest : Coming) : Type 0 where
-  pub outcome : t.outcome ≡ Ok text
-  pub rest_is : t.rest ≡ rest
+pub record Accepts (p : Played LineAsk LineState ReadlineError (List ℕ)) (text : List ℕ)
+    (rest : Coming) : Type 0 where
+  pub outcome : p.answer ≡ Ok text
+  pub rest_is : p.rest.coming ≡ rest
 
--- Where nothing is bound and nothing helps, at an empty line between two phrases, a text that is
+-- If nothing is bound and nothing helps, at an empty line between two phrases, a text that is
 -- sent as a paste and entered is accepted, whatever is kept: the last change and search, in any
 -- input mode, the ring, the record and the history.
 abbrev pub PastesAreAccepted : Type 0
@@ -43,7 +46,7 @@ PastesAreAccepted =
     (last : Last)
     → s.hooks ≡ None → IsUnbound custom → IsEmptyLine k.value → IsPasteable text
     → k.coming ≡ coming_from k.input.mode (sent_as_paste text ++ 0x0D ∷ more) last
-    → Accepts (reported_from s indent (turns_script (suc (suc n)) custom) k) text
+    → Accepts (played_from s indent (turns_script (suc (suc n)) custom) k) text
     (coming_from k.input.mode more last)
 
 -- and so is one that a line of a session begins with
@@ -52,4 +55,4 @@ PastedLinesAreAccepted =
     (n : ℕ) (g : Given) (x : SessionState) (text more : List ℕ) (last : Last)
     → g.helping.hooks ≡ None → IsUnbound g.custom → IsPasteable text
     → x.coming ≡ coming_from g.config.edit_mode (sent_as_paste text ++ 0x0D ∷ more) last
-    → Accepts (line_in (suc (suc n)) g x) text (coming_from g.config.edit_mode more last)
+    → Accepts (played_in (suc (suc n)) g x) text (coming_from g.config.edit_mode more last)

@@ -9,11 +9,10 @@ use Rattle.line_help.specs.HistoryText.{ReadsGood, left_by_load, load_answer, lo
 use Rattle.line_record.specs.Ring.{new_ring}
 use Rattle.line_screen.specs.Calls.{screen_of, sink_of}
 use Rattle.line_screen.specs.Reader.{coming_in, kept_of, source_of}
-use Rattle.keyline.specs.Desks.{TakesLines, session_state_of}
+use Rattle.keyline.specs.Desks.{TakesLines}
 use Rattle.keyline.specs.Known.{Known}
 use Rattle.keyline.specs.Endings.{ending_of}
 use Rattle.keyline.specs.Playing.{Saves, ending_after}
-use Rattle.keyline.specs.Shows.{Displays}
 use Rattle.keyline.specs.Sessions.{Given, coming_from, each, screen_by}
 use Rattle.keyline.specs.declared.desk.Desk.{Desk}
 use Rattle.keyline.specs.declared.session.Beginning.{Beginning}
@@ -31,13 +30,13 @@ abbrev pub loaded_from : Config → Feed → Filed
 loaded_from config text =
     load_leaves text.last (text_rows text.last text.coming) (nothing_filed (settings_of config))
 
--- a text is refused so, and this is left of it
+-- loading a text fails so, and this is left of it
 pub record RefusesText (config : Config) (text left : Feed) (why : ReadlineError) : Type 0 where
   pub answer : loads config text ≡ Err why
   pub behind : left.coming ≡ left_by_load text.last text.coming
 
--- why no history is loaded of a source's text, where this is left of the source: it has failed, a
--- row isn't UTF-8, or memory is wanting, and each row that was read is UTF-8
+-- why no history is loaded of a source's text, of which this is left: the source has failed, a row
+-- isn't UTF-8, or memory ran out, and each row that was read is UTF-8
 abbrev pub LoadRefused : Config → Feed → Feed → ReadlineError → Type 0
 LoadRefused config text left Reader = IsTrue left.failed
     × (IsTrue left.told → RefusesText config text left Reader)
@@ -110,8 +109,9 @@ pub record Finishes {S H D L T : Type 0} (held : T → List ℕ) (failed : T →
 abbrev pub text_to_save : {T : Type 0} → (T → List ℕ) → (T → Bool) → T → List ℕ
 text_to_save held failed text = cond (failed text) [] (held text)
 
--- THE relation of a session: lines until one is refused, and then its end
-pub record PlaysSession {S H D L T : Type 0} (k : Known S D L) (held : T → List ℕ)
+-- THE relation of `run`: lines until one has an error, and then the session's end. Display, lines and
+-- history have the effect of the events that were done, and each moment among those is shown
+pub record RunsSession {S H D L T : Type 0} (k : Known S D L) (held : T → List ℕ)
     (failed : T → Bool) (g : Given) (desk : Desk S H D L) (text : T) (ended : Ended S D L T)
     : Type 0 where
   -- the desk as the lines left it, and why there was no further line
@@ -119,10 +119,3 @@ pub record PlaysSession {S H D L T : Type 0} (k : Known S D L) (held : T → Lis
   pub why : ReadlineError
   pub takes : TakesLines k g (each g) desk last why
   pub finishes : Finishes held failed last text why ended
-
--- THE relation of `run`: a session is played, and its display shows it
-pub record RunsSession {S H D L T : Type 0} (k : Known S D L) (held : T → List ℕ)
-    (failed : T → Bool) (g : Given) (desk : Desk S H D L) (text : T) (ended : Ended S D L T)
-    : Type 0 where
-  pub plays : PlaysSession k held failed g desk text ended
-  pub shows : Displays g (session_state_of k desk)

@@ -16,10 +16,10 @@ use Rattle.line_editor.specs.Running.{Helping, helping_by}
 use Rattle.line_screen.specs.Calls.{screen_of}
 use Rattle.line_screen.specs.Reader.{coming_in, kept_of, source_of}
 use Rattle.line_screen.specs.declared.reading.reader.KeyReader.{KeyReader}
-use Rattle.keyline.specs.Desks.{session_state_of}
+use Rattle.keyline.specs.Desks.{GoesShown}
+use Rattle.keyline.specs.Events.{session}
 use Rattle.keyline.specs.Known.{Known}
-use Rattle.keyline.specs.Plays.{Opens, PlaysSession, loaded_from, loads}
-use Rattle.keyline.specs.Shows.{Displays}
+use Rattle.keyline.specs.Plays.{Opens, RunsSession, loaded_from, loads}
 use Rattle.keyline.specs.Sessions.{Given, SessionState, each, given_of, screen_by, state_over}
 use Rattle.keyline.specs.declared.desk.Desk.{Desk}
 use Rattle.keyline.specs.declared.options.Options.{Options}
@@ -36,9 +36,9 @@ use Rattle.line_help.specs.History.{Filed, all_saved}
 use Rattle.line_help.specs.HistoryText.{text_to_save}
 use Rattle.line_record.specs.Ring.{new_ring}
 use Rattle.keyline.specs.Endings.{ending_of}
-use Rattle.keyline.specs.Playing.{Reads, SessionReason, ending_after, work}
+use Rattle.keyline.specs.Playing.{SessionReason, ending_after, work}
 
--- where nothing else is said: each accepted line is kept
+-- the default settings: each accepted line is kept
 abbrev pub standard_config : Config
 standard_config = record default_config { auto_add_history = true }
 
@@ -95,8 +95,7 @@ pub record EditsByOptions {F S D L T : Type 0} (loads : F → Feed) (k : Known S
   pub desk : Desk S EditHelper D L
   pub opens : Opens loads k.feed (config_of options) history (helper_of options words) source
       options.columns display lines desk
-  pub plays : PlaysSession k held failed (given_to options desk) desk text ended
-  pub shows : Displays (given_to options desk) (session_state_of k desk)
+  pub runs : RunsSession k held failed (given_to options desk) desk text ended
 
 -- ---- by bytes alone: those of its keys, those that its devices took, and its ending
 
@@ -128,11 +127,11 @@ pub record PlaysBytes {S D L T : Type 0} (known : Known S D L) (held : T → Lis
   pub loaded : IsOk (loads (config_of options) (fresh_feed old End))
   pub goes : (n : ℕ) → 2 ^ 63 < n → let g = program_given options words in
       let start = program_start options old bytes last in
-      Reads (λ drawn. drawn) (λ wrote. wrote) n g (each g) start
+      let lines = session n g (each g) start in
+      GoesShown (λ drawn. drawn) (λ wrote. wrote) g.config.auto_add_history lines.events
       (work [] [] start.history start.coming)
       (work (known.shown ended.display) (known.written_in ended.lines) kept
-      (coming_in known.feed reader)) why
-  pub shows : Displays (program_given options words) (program_start options old bytes last)
+      (coming_in known.feed reader)) (why ≡ lines.answer) (λ e. why ≡ e)
   pub done : saved ≡ true → held ended.text ≡ text_to_save kept
   pub refused : saved ≡ false → IsTrue (failed ended.text)
       × AppendsSome [] (text_to_save kept) (held ended.text)
