@@ -1,4 +1,4 @@
--- What goes on from line to line, with its devices, and what a line makes of it.
+-- The state that is passed from line to line, with its devices, and the effect of a line on it.
 use Rattle.std.specs.Prelude.{◌≡◌, ℕ, ◌<◌, Bool, List, Result, Err, IsTrue, IfErr, OnOk}
 use Rattle.line_buffer.specs.declared.layout.Layout.{Layout}
 use Rattle.line_config.specs.Scripts.{Goes}
@@ -19,8 +19,8 @@ use Rattle.keyline.specs.Sessions.{Given, LineGiven, SessionState, setting_in}
 use Rattle.keyline.specs.Shows.{EachShown, Face, IsAtRest}
 use Rattle.keyline.specs.declared.desk.Desk.{Desk}
 
--- what was done of these events, and that the display shows each moment among those, whatever stood
--- above the first of them
+-- events happened so on a display and a sink of lines. At each moment of those that were done the
+-- display shows it, whatever it showed before the first of them
 pub record GoesShown {D L : Type 0} (shown : D → List ℕ) (written_in : L → List ℕ) (adds : Bool)
     (events : List Event) (old new : Work D L) (Whole : Type 0) (Faulted : ReadlineError → Type 0)
     : Type 0 where
@@ -42,8 +42,8 @@ module _ {S H D L : Type 0} (k : Known S D L) where
   DeskReason g d e = SessionReason g (k.feed (source_of d.reader)).failed
       (k.show_failed (sink_of d.out)) (k.write_failed d.lines) e
 
-  -- what a line came to before its end was drawn, kept and written, and what its end made of that:
-  -- the ring is the one that the line left, whatever error its end met
+  -- the result of a line before its end was drawn, added and written, and the effect of its end.
+  -- The ring is the one that the line left, even if its end failed
   pub record EndsLine (g : Given) (old new : Desk S H D L) (result : Result (List ℕ) ReadlineError)
       : Type 0 where
     pub drawn : ScreenRenderer D
@@ -61,7 +61,7 @@ module _ {S H D L : Type 0} (k : Known S D L) where
         g.config.auto_add_history outcome (work (sink_of drawn) old.lines old.history)
         (work (sink_of new.out) new.lines new.history) result
 
-  -- THE relation of a line: it comes to its outcome and what goes on, or to a fault
+  -- the relation of a line: it leads to its outcome and the state after it, or to a fault
   pub record TakesLine (g g' : Given) (old new : Desk S H D L)
       (result : Result (List ℕ) ReadlineError) : Type 0 where
     pub goes : IsTrue (desk_feed new).told → (n : ℕ) → (desk_feed old).bound < n
@@ -77,7 +77,7 @@ module _ {S H D L : Type 0} (k : Known S D L) where
     pub ends : EndsLine g old new result
     pub reason : IfErr result (DeskReason g new)
 
-  -- THE relation of lines until one has an error, with what is passed in for each
+  -- the relation of lines until one fails, with what is passed in for each
   pub record TakesLines (g : Given) (at : ℕ → LineGiven) (old new : Desk S H D L)
       (why : ReadlineError) : Type 0 where
     pub goes : IsTrue (desk_feed new).told → (n : ℕ) → (desk_feed old).bound < n

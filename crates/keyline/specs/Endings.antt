@@ -1,4 +1,4 @@
--- The endings of a session: the status of a program that ends with it, and its words.
+-- The endings of a session: the status of a program that ends with it, and its message.
 use Rattle.std.specs.Prelude.{ℕ, List, Option, Some, None, Result, Ok, Err, codes}
 use Rattle.line_config.specs.declared.errors.ReadlineError.{ReadlineError}
 use Rattle.line_config.specs.declared.errors.ReadlineError.TheVariants as Refusal
@@ -39,7 +39,7 @@ ending_of Refusal.Helper = Helper
 ending_of Refusal.Handler = Handler
 ending_of Refusal.Memory = Memory
 
--- why there is no line after this answer, if there is none: after an interruption there is
+-- why there is no further line after this answer; after an interruption there is one
 abbrev pub ended_by : Result (List ℕ) ReadlineError → Option ReadlineError
 ended_by (Err Refusal.Interrupted) = None
 ended_by (Err why) = Some why

@@ -1,5 +1,5 @@
--- A session: its events in order, by whatever comes, and its ending. Lines, history, display bytes,
--- moments and what is left of the input are read off the events.
+-- A session as its events in order, depending on the input, and its result. Lines, history, bytes,
+-- moments, ending and remaining input are computed from it.
 use Rattle.std.specs.Prelude.{◌≡◌, ⊤, ℕ, zero, suc, ◌≤◌, Bool, if◌then◌else◌, IsFalse, List, [], ◌∷◌, ◌++◌, length, map, Result, Ok, Err}
 use Rattle.std.specs.List.{flat_map}
 use Rattle.line_buffer.specs.declared.layout.Layout.{Layout}
@@ -25,14 +25,14 @@ pub data Event : Type 0 where
   Begins : (screen : Screen) → Event
   -- memory is taken
   Takes : Event
-  -- the helper is asked, and gives an answer or fails; it may take memory
+  -- the helper is called, and answers or fails; it may take memory
   Helped : (fails takes : Bool) → Event
-  -- this is to be seen, for which the display is sent these bytes, call by call; none if it is seen
-  -- already
+  -- this is to be shown; for it the display is sent these bytes, call by call, or none if it is
+  -- shown already
   Draws : (redraw : Redraw) (sent : List (List ℕ)) → Event
   -- a key or a paste is read
   Hears : (item : InputItem) → Event
-  -- a moment: the line is open, with this text and this place behind this prompt; nothing is made
+  -- a moment: the line is open, with this text and this place after this prompt; nothing is made
   Rests : (prompt text : List ℕ) (place : ℕ) → Event
   -- the display gets a new row, as a line ends
   Breaks : Event
@@ -41,14 +41,14 @@ pub data Event : Type 0 where
   -- a line is written
   Writes : (line : List ℕ) → Event
 
--- events in order, and what they come to if each is done
+-- events in order, and their result if each is done
 pub record Course (X : Type 0) : Type 0 where
   pub events : List Event
   pub answer : X
 
 -- ---- a line
 
--- an edit's step, on a screen where this layout is kept
+-- an edit's step, on a screen with this stored layout
 abbrev pub step_event : Screen → Layout → EditStep → Event
 step_event s l (DrawStep value marks redraw) =
     Draws redraw (map (bytes_of s) (asked_by (ruler_of s) marks l redraw).calls)
@@ -66,7 +66,7 @@ own_events a k TurnBegins = Rests a.prompt k.value.line.text k.value.line.place 
 own_events a k (Keys (Reads item)) = Hears item ∷ []
 own_events a k ask = []
 
--- a line's asks in order
+-- a line's requests in order
 abbrev pub asks_events : Screen → Setting → ℕ → Layout → LineState → List LineAsk → List Event
 asks_events s a indent l k [] = []
 asks_events s a indent l k (ask ∷ asks) =
@@ -74,17 +74,17 @@ asks_events s a indent l k (ask ∷ asks) =
     step_events s l steps ++ (own_events a k ask
     ++ asks_events s a indent (asked (ruler_of s) l steps).layout (left_at a indent k ask) asks)
 
--- its end: an accepted line is kept, and then written
+-- its end: an accepted line is added to the history, and then written
 abbrev pub end_events : Result (List ℕ) ReadlineError → List Event
 end_events (Ok text) = Breaks ∷ (Keeps text ∷ (Writes text ∷ []))
 end_events (Err e) = if breaks_after e then Breaks ∷ [] else []
 
--- a line's script, if no fault comes. More fuel than the source has keys and pastes is enough
+-- a line's script, without faults. More fuel than the source has keys and pastes is enough
 abbrev pub played_in : ℕ → Given → SessionState
     → Played LineAsk LineState ReadlineError (List ℕ)
 played_in n g x = line_played n (setting_in g x.history.kept.entries) g.custom g.config x.ring x.coming
 
--- to its outcome and what goes on after it
+-- up to its outcome and the state after it
 abbrev pub line_course : ℕ → Given → SessionState
     → Course (Result (List ℕ) ReadlineError × SessionState)
 line_course n g x =
@@ -96,9 +96,10 @@ line_course n g x =
       answer = (p.answer, state_after g.config.auto_add_history p.answer p.rest.ring p.rest.coming x);
     }
 
--- ---- a session: line after line, to what ends it, with what is handed in for each by its number
+-- ---- a session: line after line, up to what ends it, with what is passed in for each line by its
+-- number
 
--- what an accepted line leads to, and what an error does
+-- what follows an accepted line, and what follows an error
 abbrev pub going_on : (SessionState → Course ReadlineError)
     → Result (List ℕ) ReadlineError × SessionState → Course ReadlineError
 going_on next (Ok text, x) = next x
@@ -113,7 +114,7 @@ session (suc n) g at x =
     let line = line_course (suc n) (for_line g (at 0)) x in
     events_first line.events (going_on (session n g (λ line. at (suc line))) line.answer)
 
--- ---- what is read off events
+-- ---- what is computed from events
 
 abbrev pub all_of : List (List ℕ) → List ℕ
 all_of parts = flat_map (λ part. part) parts
@@ -131,21 +132,21 @@ abbrev pub lines_written : Event → List (List ℕ)
 lines_written (Writes line) = line ∷ []
 lines_written event = []
 
--- what is left to come after some
+-- what remains of the input after some events
 abbrev pub left_to_come : Coming → List Event → Coming
 left_to_come coming [] = coming
 left_to_come coming (Hears item ∷ events) =
     left_to_come (left (item_at item coming) (behind coming)) events
 left_to_come coming (event ∷ events) = left_to_come coming events
 
--- the helper gave an answer each time it was asked
+-- the helper answered whenever it was called
 abbrev pub AllAnswered : List Event → Type 0
 AllAnswered [] = ⊤
 AllAnswered (Helped fails takes ∷ events) = IsFalse fails × AllAnswered events
 AllAnswered (event ∷ events) = AllAnswered events
 
--- after the first of them: the lines that are written, and perhaps the next one, are kept, and are
--- the first of these
+-- after the first of the events: the lines written, and perhaps the next one, were added to the
+-- history, and are the first of these
 pub record AreFirst (done : List Event) (lines : List (List ℕ)) : Type 0 where
   pub in_hand : List (List ℕ)
   pub others : List (List ℕ)
@@ -153,8 +154,8 @@ pub record AreFirst (done : List Event) (lines : List (List ℕ)) : Type 0 where
   pub kept : flat_map lines_kept done ≡ flat_map lines_written done ++ in_hand
   pub first : lines ≡ flat_map lines_kept done ++ others
 
--- each line is written right after it was kept: what is written by any first events of a session
--- are the first of its lines
+-- each line is written right after it was added to the history: the lines written by any first
+-- events of a session are the first of its lines
 abbrev pub LinesInOrder : Type 0
 LinesInOrder =
     (n : ℕ) (g : Given) (at : ℕ → LineGiven) (x : SessionState) (done next : List Event)

@@ -1,4 +1,4 @@
--- A text that is sent as a paste, and then entered.
+-- A text that is pasted and then entered.
 use Rattle.std.specs.Prelude.{◌≡◌, ◌≢◌, ℕ, suc, true, List, [], ◌∷◌, ◌++◌, None, Ok}
 use Rattle.std.specs.Str.{IsUtf8}
 use Rattle.line_config.specs.declared.device.Last.{Last}
@@ -17,7 +17,7 @@ use Rattle.keyline.specs.Sessions.{Given, SessionState, coming_from}
 abbrev pub sent_as_paste : List ℕ → List ℕ
 sent_as_paste text = start_marker ++ text ++ marker
 
--- a text that stays as it is: of characters, without CR, and without the mark that ends it
+-- a text that stays as it is: UTF-8, without CR, and without the mark that ends it
 pub record IsPasteable (text : List ℕ) : Type 0 where
   pub utf8 : IsUtf8 text
   pub no_return : (before after : List ℕ) → text ≢ before ++ 0x0D ∷ after
@@ -31,14 +31,14 @@ pub record IsEmptyLine (v : Value) : Type 0 where
   pub empty : v.line.text ≡ []
   pub grows : v.line.growth ≡ true
 
--- the text is accepted, and this is left to come
+-- the text is accepted, and this remains of the input
 pub record Accepts (p : Played LineAsk LineState ReadlineError (List ℕ)) (text : List ℕ)
     (rest : Coming) : Type 0 where
   pub outcome : p.answer ≡ Ok text
   pub rest_is : p.rest.coming ≡ rest
 
--- If nothing is bound and nothing helps, at an empty line between two phrases, a text that is
--- sent as a paste and entered is accepted, whatever is kept: the last change and search, in any
+-- If nothing is bound and there is no helper, a text pasted at an empty line between two phrases
+-- and then entered is accepted. This holds whatever the state is: the last change and search, any
 -- input mode, the ring, the record and the history.
 abbrev pub PastesAreAccepted : Type 0
 PastesAreAccepted =
@@ -49,7 +49,7 @@ PastesAreAccepted =
     → Accepts (played_from s indent (turns_script (suc (suc n)) custom) k) text
     (coming_from k.input.mode more last)
 
--- and so is one that a line of a session begins with
+-- and so is one with which a line of a session begins
 abbrev pub PastedLinesAreAccepted : Type 0
 PastedLinesAreAccepted =
     (n : ℕ) (g : Given) (x : SessionState) (text more : List ℕ) (last : Last)

@@ -1,4 +1,4 @@
--- What a session makes of its devices and history: all of its events, or the first of them.
+-- The effect of a session on its devices and history: all of its events, or the first of them.
 use Rattle.std.specs.Prelude.{◌≡◌, ◌⊎◌, ⊤, ℕ, Bool, true, false, ◌&&◌, List, [], ◌∷◌, ◌++◌, Result, Err, IsTrue, IfErr, IsOkAnd}
 use Rattle.std.specs.List.{flat_map}
 use Rattle.line_config.specs.declared.errors.ReadlineError.{ReadlineError}
@@ -14,8 +14,8 @@ use Rattle.line_screen.specs.Drawing.{row_break}
 use Rattle.keyline.specs.Events.{Event, Takes, Helped, Draws, Hears, Breaks, Keeps, Writes, AllAnswered, all_of, bytes_drawn, end_events, left_to_come, lines_kept, lines_written}
 use Rattle.keyline.specs.Sessions.{Given, remembered, line_text, lines_text}
 
--- why lines are read no further: what was given, or a device that has failed. Where a helper fails
--- the events say
+-- why no more lines are read: what was given, or a device that has failed. If a helper fails, the
+-- events say so
 abbrev pub SessionReason : Given → Bool → Bool → Bool → ReadlineError → Type 0
 SessionReason g source display lines Reader = IsTrue source
 SessionReason g source display lines Display = IsTrue display
@@ -24,7 +24,7 @@ SessionReason g source display lines HistoryText = ⊥
 SessionReason g source display lines Handler = HandlerFails g.custom
 SessionReason g source display lines why = ⊤
 
--- what lines are drawn on, written to and kept in, and what is left to come
+-- the display, the sink of lines and the history of the lines, and what remains of the input
 pub record Work (D L : Type 0) : Type 0 where
   pub display : D
   pub lines : L
@@ -44,10 +44,10 @@ module _ {D L : Type 0} (shown : D → List ℕ) (written_in : L → List ℕ) (
     pub left_is : new.coming ≡ left_to_come old.coming events
     pub answered : AllAnswered events
 
-  -- a fault stopped an event. A display or a sink of lines that failed has taken a prefix of the
-  -- event's bytes. Out of memory is possible only if the event takes memory: an edit, a helper that
-  -- takes some, a paste, after which every read fails, and a line that the history is to take.
-  -- No other fault stops an event
+  -- a fault stopped an event. The display and the sink of lines have taken a prefix of its bytes;
+  -- the helper fails. Memory runs out only for an event that takes it, which may be a step, a call
+  -- of the helper, a paste, or a line to be added to the history. After a paste every read may
+  -- fail. No other fault stops
   abbrev pub IsStopped : Work D L → Event → ReadlineError → Work D L → Type 0
   IsStopped x Takes Memory y = y ≡ x
   IsStopped x (Helped fails takes) Helper y = IsTrue fails × (y ≡ x)
@@ -62,13 +62,13 @@ module _ {D L : Type 0} (shown : D → List ℕ) (written_in : L → List ℕ) (
       TakesSome written_in x.lines y.lines (line_text line) × (y ≡ record x { lines = y.lines })
   IsStopped x event why y = ⊥
 
-  -- all were done, or a fault stopped the first of those that weren't
+  -- all were done, or a fault stopped the first of the others after those before it were done
   abbrev pub Stands : List Event → Work D L → Work D L → Type 0 → (ReadlineError → Type 0) → Type 0
   Stands [] at new Whole Faulted = Whole × (new ≡ at)
   Stands (event ∷ others) at new Whole Faulted =
       (why : ReadlineError) × IsStopped at event why new × Faulted why
 
-  -- THE relation of what goes on: these events were done, all or the first of them
+  -- the relation of the state: these events were done, all or the first of them
   pub record Went (events : List Event) (old new : Work D L) (Whole : Type 0)
       (Faulted : ReadlineError → Type 0) : Type 0 where
     pub done : List Event
@@ -80,12 +80,13 @@ module _ {D L : Type 0} (shown : D → List ℕ) (written_in : L → List ℕ) (
 
 -- ---- the end of a line
 
--- an accepted line that the history is to take may find no memory
+-- memory may run out at the end of an accepted line that is to be added to the history
 abbrev pub WantsMemory : Bool → Filed → Result (List ℕ) ReadlineError → ReadlineError → Type 0
 WantsMemory adds history outcome e =
     (e ≡ Memory) × IsOkAnd outcome (λ text. IsTrue (adds && takes history text))
 
--- the error of a line's end: the line's own, that of a device that has failed, or out of memory
+-- why the end of a line fails: as the line did, because a device has failed, or because memory ran
+-- out
 abbrev pub CloseReason : Bool → Filed → Result (List ℕ) ReadlineError → Bool → Bool → Bool
     → ReadlineError → Type 0
 CloseReason adds history outcome was_failed display lines e =
@@ -93,8 +94,8 @@ CloseReason adds history outcome was_failed display lines e =
     ⊎ (((e ≡ Display) × IsTrue display)
     ⊎ (((e ≡ Lines) × IsTrue lines) ⊎ WantsMemory adds history outcome e))
 
--- an accepted line is drawn to its end, kept and written; after the endings that say so a new row
--- is drawn, and after the others nothing is done; nothing is read
+-- an accepted line is drawn to its end, added to the history and written. After the endings that
+-- ask for one a new row is drawn, and after the others nothing is done. No input is read
 pub record Closes {D L : Type 0} (shown : D → List ℕ) (show_failed : D → Bool)
     (written_in : L → List ℕ) (write_failed : L → Bool) (adds : Bool)
     (outcome : Result (List ℕ) ReadlineError) (old new : Coming → Work D L)
@@ -113,8 +114,8 @@ pub record Closes {D L : Type 0} (shown : D → List ℕ) (show_failed : D → B
 
 -- ---- the end of a session
 
--- the history was saved, so that nothing in it is new; or the sink of its text has failed, and has
--- taken a prefix of the text. If nothing is new the sink isn't called
+-- the history was saved, so that no entry is new; or the sink of its text has failed, and has taken
+-- a prefix of the text. If no entry is new, the sink isn't called
 pub record Saves {T : Type 0} (held : T → List ℕ) (failed : T → Bool)
     (kept history' : Filed) (text text' : T) (saved : Bool) : Type 0 where
   pub done : saved ≡ true → (history' ≡ all_saved kept)

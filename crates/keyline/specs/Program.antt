@@ -1,4 +1,4 @@
--- The program's session: by its options, and by bytes alone.
+-- The program's session: with its options, and by bytes alone.
 use Rattle.std.specs.Prelude.{ℕ, Bool, true, false, if◌then◌else◌, List, Option, Some, None, is_some, option_map, ◌||◌, ⊤, map, take, String, string_bytes, ◌≡◌, ◌<◌, ◌^◌, [], IsTrue, IsOk}
 use Rattle.std.specs.Global.{Global, Vec}
 use Rattle.std.specs.Option.{option_map_or}
@@ -38,18 +38,18 @@ use Rattle.line_record.specs.Ring.{new_ring}
 use Rattle.keyline.specs.Endings.{ending_of}
 use Rattle.keyline.specs.Playing.{SessionReason, ending_after, work}
 
--- the default settings: each accepted line is kept
+-- the default: each accepted line is added to the history
 abbrev pub standard_config : Config
 standard_config = record default_config { auto_add_history = true }
 
--- and in the mode that the options choose
+-- the same in the mode that the options choose
 abbrev pub config_of : Options → Config
 config_of options = record standard_config {
   edit_mode = options.mode;
   keyseq_timeout = timeout_of options.mode;
 }
 
--- completes by words and validates brackets, each where it is wanted
+-- completes words and validates brackets, if requested
 abbrev pub EditHelper : Type 0
 EditHelper = HelperParts (Option (List (List ℕ))) ⊤ ⊤ (Option MatchingBracketValidator)
 
@@ -69,7 +69,7 @@ helper_of options words = if options.brackets || is_some words
     })
     else None
 
--- what it gives, and it helps with nothing else
+-- its replies; it helps with nothing else
 abbrev pub edit_helping : Option EditHelper → Helping
 edit_helping = helping_by (λ helper line pos entries place. gives_at_once None)
     (λ helper text. option_map_or (λ validator. bracket_reply text) helper.validator
@@ -99,22 +99,22 @@ pub record EditsByOptions {F S D L T : Type 0} (loads : F → Feed) (k : Known S
 
 -- ---- by bytes alone: those of its keys, those that its devices took, and its ending
 
--- what these options and words hand in for a session
+-- what these options and words pass in for a session
 abbrev pub program_given : Options → Option (List (List ℕ)) → Given
 program_given options words =
     let config = config_of options in
     given_of config nothing_bound (string_bytes options.prompt)
     (screen_by config options.columns) (edit_helping (helper_of options words))
 
--- its first line, over this history's text and these keys
+-- the state before its first line, over this history's text and these keys
 abbrev pub program_start : Options → List ℕ → List ℕ → Last → SessionState
 program_start options old bytes last =
     state_over (new_ring 60) (loaded_from (config_of options) (fresh_feed old End)) options.mode
     bytes last
 
--- THE session of these options and words, of a history's text, and of all these bytes with this
--- after them: what is drawn, written and saved are its bytes, its lines and its history, or a
--- beginning of them where a fault cut it
+-- the session of these options and words, of a history's text, and of all these bytes followed by
+-- this. What is drawn, written and saved are its bytes, its lines and its history, or a prefix of
+-- them if a fault cut it
 pub record PlaysBytes {S D L T : Type 0} (known : Known S D L) (held : T → List ℕ)
     (failed : T → Bool) (options : Options) (words : Option (List (List ℕ))) (old bytes : List ℕ)
     (last : Last) (ended : Ended S D L T) : Type 0 where
@@ -142,9 +142,9 @@ pub record PlaysBytes {S D L T : Type 0} (known : Known S D L) (held : T → Lis
   pub reason : SessionReason (program_given options words) (known.feed ended.source).failed
       (known.show_failed ended.display) (known.write_failed ended.lines) why
 
--- THE relation of the program's session, over a reader and two writers: where what the reads gave
--- agrees with the bytes that are said of them, the session is that of these bytes; and a writer
--- that hasn't failed was handed all that its sink took
+-- the relation of the program's session, over a reader and two writers. If what the reads gave
+-- agrees with the assumed bytes, the session is that of these bytes. A writer that hasn't failed
+-- got everything that its sink took
 pub record PlaysOver {R K E W T : Type 0}
     (known : Known (ReadSource R K) (WriteSink E) (WriteSink W)) (held : T → List ℕ)
     (failed : T → Bool) (options : Options) (words : Option (List (List ℕ))) (old bytes : List ℕ)

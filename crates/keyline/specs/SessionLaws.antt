@@ -1,5 +1,5 @@
--- Laws of sessions: what their columns matter to, what their history holds, what fewer keys send,
--- and where an input may be cut.
+-- Laws of sessions: what depends on their columns, the content of their history, what fewer keys
+-- send, and where an input may be cut.
 use Rattle.std.specs.Prelude.{◌≡◌, ℕ, map, true, if◌then◌else◌, List, [], ◌∷◌, ◌++◌, IsTrue}
 use Rattle.std.specs.List.{flat_map}
 use Rattle.line_buffer.specs.Cells.{origin}
@@ -18,7 +18,7 @@ use Rattle.line_keys.specs.Coming.{Coming, Pressed, Pasted, CutOff, Ends, Refuse
 use Rattle.line_screen.specs.KeyGrammar.{are_whole, EndWithoutEsc, readings}
 use Rattle.line_screen.specs.Input.{chars_of}
 
--- the same on rows of so many columns
+-- the same on rows of this many columns
 abbrev pub at_columns : ℕ → Given → Given
 at_columns columns g = record g { screen = record g.screen { columns = columns } }
 
@@ -26,14 +26,14 @@ at_columns columns g = record g { screen = record g.screen { columns = columns }
 abbrev pub prompt_column : Given → ℕ
 prompt_column g = (measure_of g.screen.mode g.screen.columns g.prompt origin).col
 
--- events without what columns matter to: the screen, and the bytes that a redraw takes
+-- events without what depends on columns: the screen, and the bytes of a redraw
 abbrev pub unmeasured : Event → Event
 unmeasured (Begins s) = Begins (record s { columns = 0 })
 unmeasured (Draws redraw sent) = Draws redraw []
 unmeasured event = event
 
--- two sessions that differ in columns alone are one, event for event, if the prompt ends in the same
--- column: so they accept the same lines, save the same text, and want the same to be seen
+-- two sessions that differ only in their columns are the same, event for event, if the prompt ends
+-- in the same column. So they accept the same lines, save the same text and have the same drawings
 abbrev pub ColumnsAreFree : Type 0
 ColumnsAreFree =
     (n : ℕ) (g : Given) (x : SessionState) (columns : ℕ) → let other = at_columns columns g in
@@ -41,13 +41,13 @@ ColumnsAreFree =
     prompt_column other ≡ prompt_column g
     → (map unmeasured one.events ≡ map unmeasured two.events) × (one.answer ≡ two.answer)
 
--- the steps that a line asks for if no fault comes, each with the value that stands until then
+-- the steps of a line without faults, each with the value that is current until then
 abbrev pub steps_in : ℕ → Given → SessionState → List EditStep
 steps_in n g x = let a = setting_in g x.history.kept.entries in
     steps_along a g.config.indent_size (kept_first a g.config x.ring x.coming)
     (played_in n g x).asks
 
--- and so is each line, ask for ask and step for step
+-- and so is each line, request for request and step for step
 abbrev pub LineColumnsAreFree : Type 0
 LineColumnsAreFree =
     (n : ℕ) (g : Given) (x : SessionState) (columns : ℕ) → let other = at_columns columns g in
@@ -72,8 +72,9 @@ LastAreKept =
 abbrev pub IsBeginning : {A : Type 0} → List A → List A → Type 0
 IsBeginning {A} xs ys = (later : List A) × (ys ≡ xs ++ later)
 
--- of a source that fails after its bytes, against one that gives more of them and then does
--- whatever it does: a line's events, and so what is drawn, kept and written
+-- a source that fails after its bytes, compared with one that gives more of them and then does
+-- anything. A line's events with the first are a prefix of those with the second, and so is what is
+-- drawn, added to the history and written
 abbrev pub LinesBegin : Type 0
 LinesBegin =
     (n : ℕ) (g : Given) (ring : Ring) (history : Filed) (mode : EditMode) (bytes more : List ℕ)
@@ -81,7 +82,7 @@ LinesBegin =
     → IsBeginning (line_course n g (state_over ring history mode bytes Failed)).events
     (line_course n g (state_over ring history mode (bytes ++ more) last)).events
 
--- and a session's, whatever prompt and columns each line has
+-- and so are a session's, whatever prompt and columns each line has
 abbrev pub SessionsBegin : Type 0
 SessionsBegin =
     (n : ℕ) (g : Given) (at : ℕ → LineGiven) (ring : Ring) (history : Filed) (mode : EditMode)
@@ -97,12 +98,12 @@ coming_then (CutOff item) more = CutOff item
 coming_then (Ends item) more = more
 coming_then (Refused why) more = Refused why
 
--- the bytes read as whole keys and pastes to their end, where no paste is announced
+-- the bytes are read as whole keys and pastes to their end, if no paste is announced
 abbrev pub AreWhole : EditMode → List ℕ → Type 0
 AreWhole mode bytes = IsTrue (are_whole (readings mode (chars_of bytes End)))
 
--- The keys and pastes of such bytes, of which the last isn't ESC, with others behind them are those
--- of the first, then those of the others.
+-- If the last of such bytes isn't ESC, then with other bytes after them the keys and pastes are
+-- those of the first, then those of the others.
 abbrev pub CutsAreFree : Type 0
 CutsAreFree =
     (mode : EditMode) (bytes more : List ℕ) (last : Last)

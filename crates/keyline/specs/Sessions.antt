@@ -1,4 +1,5 @@
--- What is handed in for a session and for each of its lines, and what goes on from line to line.
+-- What is passed in for a session and for each of its lines, and the state that is passed from line
+-- to line.
 use Rattle.std.specs.Prelude.{ℕ, Bool, if◌then◌else◌, List, [], ◌∷◌, ◌++◌, Result, Ok, Err}
 use Rattle.std.specs.List.{flat_map}
 use Rattle.line_config.specs.declared.config.Config.{Config}
@@ -15,7 +16,7 @@ use Rattle.line_screen.specs.Calls.{Screen, ruler_of}
 use Rattle.line_screen.specs.Input.{chars_of}
 use Rattle.line_screen.specs.KeyGrammar.{readings, coming_of}
 
--- what is handed in for a session: settings, bindings, prompt, screen, and the helper's answers
+-- what is passed in for a session: settings, bindings, prompt, screen, and the helper's replies
 pub record Given : Type 0 where
   pub config : Config
   pub custom : Custom
@@ -31,7 +32,7 @@ abbrev pub screen_by : Config → ℕ → Screen
 screen_by config columns =
     record { columns = columns; mode = config.grapheme_cluster_mode; bell = config.bell_style }
 
--- what is handed in for one of its lines: a prompt, and the columns of the screen's rows
+-- what is passed in for one of its lines: a prompt, and the columns of the screen's rows
 pub record LineGiven : Type 0 where
   pub prompt : List ℕ
   pub columns : ℕ
@@ -44,26 +45,26 @@ for_line g line =
 abbrev pub each : Given → ℕ → LineGiven
 each g line = record { prompt = g.prompt; columns = g.screen.columns }
 
--- what goes on from line to line
+-- the state that is passed from line to line
 pub record SessionState : Type 0 where
   pub ring : Ring
   pub history : Filed
   pub coming : Coming
 
--- what the bytes of a source are to the key tables
+-- what the bytes of a source mean for the key tables
 abbrev pub coming_from : EditMode → List ℕ → Last → Coming
 coming_from mode bytes last = coming_of (readings mode (chars_of bytes last))
 
--- before a line: what comes is what these bytes are, with this after them
+-- the state before a line: the remaining input is that of these bytes, followed by this
 abbrev pub state_over : Ring → Filed → EditMode → List ℕ → Last → SessionState
 state_over ring history mode bytes last =
     record { ring = ring; history = history; coming = coming_from mode bytes last }
 
--- what is handed in for the next line
+-- what is passed in for the next line
 abbrev pub setting_in : Given → List (List ℕ) → Setting
 setting_in g entries = setting_by (ruler_of g.screen) g.prompt g.helping entries
 
--- accepted lines are added to the history where the settings say so
+-- accepted lines are added to the history if the settings say so
 abbrev pub remembered : Bool → List (List ℕ) → Filed → Filed
 remembered adds lines history = if adds then filed_with_all history lines else history
 

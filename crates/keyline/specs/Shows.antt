@@ -1,4 +1,4 @@
--- What a display shows over events: what is to be seen of a line at its top, and what above.
+-- What a display shows during events: the line to be shown at its top, and the rows above.
 use Rattle.std.specs.Prelude.{◌≡◌, ⊤, ℕ, ◌+◌, ◌≤◌, if◌then◌else◌, List, [], ◌∷◌, ◌++◌, Some, is_some, Option, Ok}
 use Rattle.std.specs.List.{filter, flat_map}
 use Rattle.line_buffer.specs.Cells.{origin}
@@ -25,7 +25,7 @@ use Rattle.line_keys.specs.Answers.{Custom}
 use Rattle.line_keys.specs.declared.command.Cmd.{Cmd}
 use Rattle.line_keys.specs.declared.command.Cmd.TheVariants.{Interrupt}
 
--- ---- what is to be seen, as one drawing from nothing
+-- ---- what is to be shown, as one drawing on a blank display
 
 abbrev pub picture : Sight → Picture
 picture x = record { prompt = x.prompt; line = x.line; place = x.place; info = info_text x.info }
@@ -38,8 +38,8 @@ place_in s x = if x.ended then finish_of s.columns (widths s) (picture x)
 abbrev pub view_in : Screen → ℕ → Sight → View
 view_in s top x = record { shown = picture x; top = top; place = place_in s x }
 
--- the bytes so far show what is to be seen, and the layout that is kept tells where its cursor and
--- its end are, whether information stands, and whether its prompt is the session's own
+-- the bytes so far show what is to be shown. The stored layout says where its cursor and its end
+-- are, whether information is shown, and whether its prompt is the session's own
 pub record DisplayHolds (s : Screen) (bytes : List ℕ) (over : List Placed) (top : ℕ) (l : Layout)
     (x : Sight) : Type 0 where
   pub good : Good s.columns (widths s) bytes over (view_in s top x)
@@ -81,7 +81,7 @@ top_after (r ∷ rs) top = top_after rs (top_by r top)
 abbrev pub next_top : Screen → ℕ → Sight → ℕ
 next_top s top x = top + (finish_of s.columns (widths s) (picture x)).row + 1
 
--- what stands in the rows above stays until the screen is cleared
+-- the rows above stay until the screen is cleared
 abbrev pub above_drawn : Redraw → List Placed → List Placed
 above_drawn Cleared over = []
 above_drawn redraw over = over
@@ -102,10 +102,10 @@ drawn_by s l steps = asked (ruler_of s) l steps
 abbrev pub bytes_for : Screen → Layout → List EditStep → List ℕ
 bytes_for s l steps = flat_map (bytes_of s) (drawn_by s l steps).calls
 
--- ---- what these bytes mean
+-- ---- the meaning of these bytes
 
 -- what is known of a display: its screen, the bytes that were sent, the row of the first cell of
--- what is to be seen, what stands in the rows above, and what is to be seen
+-- what is shown, the rows above, and what is shown
 pub record Face : Type 0 where
   pub screen : Screen
   pub bytes : List ℕ
@@ -120,25 +120,25 @@ face s bytes top over seen =
 abbrev pub blank : Screen → Face
 blank s = face s [] 0 [] no_sight
 
--- a redraw for which this was sent
+-- a redraw for which these bytes were sent
 abbrev pub drawn_on : Face → Redraw → List (List ℕ) → Face
 drawn_on f redraw sent =
     face f.screen (f.bytes ++ all_of sent) (top_drawn redraw f.top) (above_drawn redraw f.over)
     (sight_drawn f.seen redraw)
 
--- a new row, and the next line below all that stands
+-- a new row, and the next line below everything
 abbrev pub broken : Face → Face
 broken f = record f { bytes = f.bytes ++ row_break }
 
 abbrev pub below : Face → Display → Face
 below f d = face f.screen f.bytes (next_top f.screen f.top f.seen) d.placed no_sight
 
--- rows that a display's columns may have
+-- columns that a display's rows may have
 pub record IsScreen (s : Screen) : Type 0 where
   pub least : 2 ≤ s.columns
   pub most : s.columns ≤ 1000
 
--- between two lines: from the top on nothing stands, and the cursor is in the first cell
+-- between two lines: from the top on the display is blank, and the cursor is in the first cell
 pub record IsAtRest (f : Face) : Type 0 where
   pub screen : IsScreen f.screen
   pub good : Good f.screen.columns (widths f.screen) f.bytes f.over (empty_view f.top)
@@ -154,8 +154,8 @@ pub record HasMeaning (f : Face) : Type 0 where
   pub means : meaning f.screen.columns (widths f.screen) f.bytes ≡ Some display
   pub over_is : filter (above f.top) display.placed ≡ f.over
 
--- and from the top on they show one drawing from nothing of prompt and line, with the information
--- that stands, and the cursor at its place
+-- and from the top on they show prompt and line like a single drawing on a blank display, with the
+-- current information, and the cursor at its place
 pub record MomentShown (f : Face) (prompt text : List ℕ) (place : ℕ) : Type 0 where
   pub display : Display
   pub means : meaning f.screen.columns (widths f.screen) f.bytes ≡ Some display
@@ -164,9 +164,9 @@ pub record MomentShown (f : Face) (prompt text : List ℕ) (place : ℕ) : Type 
   pub over_is : filter (above f.top) display.placed ≡ f.over
 
 -- event after event: at each moment the bytes so far show prompt and line, and after each drawing
--- they have a meaning, as long as all that is to be seen stays within the rows that can be counted.
--- All that an ended line left stands above the next one. A line on the screen of the one before it
--- goes on below it; and each line shows from a display that was blank
+-- they have a meaning. This holds as long as everything shown is within the rows that can be
+-- counted. Everything that an ended line left stays above the next one. A line on the same screen
+-- as the one before it continues below it; and each line can be shown from a blank display
 abbrev pub EachShown : Face → List Event → Type 0
 EachShown f [] = ⊤
 EachShown f (Begins s ∷ later) =
@@ -199,7 +199,7 @@ abbrev pub sight_behind : Cmd → Sight → Sight
 sight_behind Interrupt x = ended_sight x
 sight_behind cmd x = x
 
--- a command, whatever information stands
+-- a command, with any information
 abbrev pub CommandsShow : Type 0
 CommandsShow =
     (s : Screen) → 2 ≤ s.columns → s.columns ≤ 1000
@@ -208,7 +208,7 @@ CommandsShow =
     Lead s (sight_of a v info) e.steps
     (sight_behind cmd (sight_of a e.value (info_after e.steps info)))
 
--- a phrase and its command, whatever comes
+-- a phrase and its command, whatever the input is
 abbrev pub TurnsShow : Type 0
 TurnsShow =
     (s : Screen) → 2 ≤ s.columns → s.columns ≤ 1000

@@ -97,25 +97,25 @@ pub fn one_byte()
     ensures sends { OneByte }
 {}
 
-/// At each moment of a session the bytes so far show prompt and line at its top, like a single
-/// drawing on a blank display. After each drawing the bytes have a meaning. The rows above keep
+/// At each moment of a session's events the bytes so far show prompt and line at its top, like a
+/// single drawing on a blank display. After each drawing they have a meaning. The rows above keep
 /// their cells until a screen is cleared. This holds from any display between two lines, such as a
-/// blank one, with a prompt and columns for each line.
+/// blank one, and with a prompt and columns for each line.
 pub fn sessions_show()
     ensures blank { BlankIsAtRest }
     ensures sessions { SessionsShow }
 {}
 
-/// Two sessions that differ only in their columns are the same, event for event, except for the
-/// bytes that are sent, if the prompt ends in the same column on both. So they accept the same
-/// lines and save the same text. Each line is the same too, with the values and marks of its steps.
+/// Two sessions that differ only in their columns accept the same lines and save the same text, if
+/// the prompt ends in the same column on both. Except for the bytes sent they are the same, event
+/// for event, and so is each line, with the values and marks of its steps.
 pub fn columns()
     ensures sessions { ColumnsAreFree }
     ensures lines { LineColumnsAreFree }
 {}
 
-/// Any first events of a session have written the first lines, and added these and at most the next
-/// one to the history.
+/// Any first events of a session have written the first of its lines, and added these and at most
+/// the next one to the history.
 pub fn lines_in_order()
     ensures { LinesInOrder }
 {}

@@ -55,12 +55,12 @@ pub record ReadsLine (held : VecSink → List ℕ) (feed : SliceSource → Feed)
   pub goes : (n : ℕ) → bound < n → LeftBy held feed (line_course n g x) left
       ⊎ IsErrAnd left.outcome IsWant
 
--- the display gets a new row after an accepted line, and after some endings
+-- after an accepted line, and after the endings that say so, the display gets a new row
 abbrev pub breaks : Result (List ℕ) ReadlineError → Bool
 breaks (Ok text) = true
 breaks (Err e) = breaks_after e
 
--- the end of a line: a new row if its ending asks for one, and an accepted line in the history
+-- the end of a line: a new row if its ending asks for one, and an accepted one in the history
 pub record Ends (held : VecSink → List ℕ) (outcome : Result (List ℕ) ReadlineError)
     (old new : VecSink) (history history' : Filed) : Type 0 where
   pub drawn : held new ≡ held old ++ break_if (breaks outcome)
