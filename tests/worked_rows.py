@@ -67,12 +67,10 @@ def computing_text():
 
 
 def laid_out(text):
-    """A text as `rt fmt` lays it out, in two steps where it breaks a record's head."""
+    """A text as `rt fmt` lays it out."""
     path = os.path.join(TOP, "build", "laid_out.antt")
     write(path, text)
-    for _ in range(2):
-        subprocess.run([RATTLE, "fmt", path], check=True, capture_output=True)
-    return read(path)
+    return subprocess.run([RATTLE, "fmt", path], check=True, capture_output=True, text=True).stdout
 
 
 def written():

@@ -495,15 +495,15 @@ row_141 = record (row 141 settings_141 (codes "one\r\u{1b}[A\r") (codes "one\non
 abbrev pub row_142 : Row
 row_142 = record (row 142 settings_141 (codes "one\rtwo\r\u{10}\u{10}\u{e}\r")
     (codes "one\ntwo\ntwo\n")) {
-  saves = Some (codes "#V2\none\ntwo\n");
-}
+      saves = Some (codes "#V2\none\ntwo\n");
+    }
 
 -- one Enter two Enter C-p C-p C-p Enter = one two one | saves #V2␊one␊two␊one␊
 abbrev pub row_143 : Row
 row_143 = record (row 143 settings_141 (codes "one\rtwo\r\u{10}\u{10}\u{10}\r")
     (codes "one\ntwo\none\n")) {
-  saves = Some (codes "#V2\none\ntwo\none\n");
-}
+      saves = Some (codes "#V2\none\ntwo\none\n");
+    }
 
 -- one Enter tw C-p C-n o Enter = one two
 abbrev pub row_144 : Row

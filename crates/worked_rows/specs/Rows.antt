@@ -229,8 +229,8 @@ settings_51 = record plain {
 abbrev pub row_51 : Row
 row_51 = record (row 51 settings_51 (codes "first\rsecond\r\u{10}\u{10}\r")
     (codes "first\nsecond\nfirst\n")) {
-  saves = Some (codes "#V2\nfirst\nsecond\nfirst\n");
-}
+      saves = Some (codes "#V2\nfirst\nsecond\nfirst\n");
+    }
 
 -- adding loaded:#V2␊a\nb␊
 abbrev pub settings_55 : Settings

@@ -60,8 +60,11 @@ row_12 = record (row 12 plain (codes "w\u{1}\u{1b}t") []) {
 -- bind:C-X→C-E⇒AcceptLine
 abbrev pub settings_15 : Settings
 settings_15 = record plain {
-  custom = bound ((KeySeq ((key_with (Char 88) ctrl) ∷ (key_with (Char 69) ctrl) ∷ []), command
-      AcceptLine) ∷ []);
+  custom = bound ((
+    KeySeq ((key_with (Char 88) ctrl) ∷ (key_with (Char 69) ctrl) ∷ []),
+    command
+        AcceptLine,
+  ) ∷ []);
 }
 
 -- a C-x z q Enter = aq
@@ -188,12 +191,12 @@ settings_48 = record plain {
 abbrev pub row_48 : Row
 row_48 = record (row 48 settings_48 (codes "cur\u{1b}[A\u{1b}[A\u{1b}[A\u{1b}[B\u{1b}[B\r")
     (codes "cur\n")) {
-  shows = Some
-      (codes "\r\u{1b}[J\u{1b}[m> \u{1b}[m\u{1b}[m\u{1b}[mcur\r\u{1b}[J\u{1b}[m> \u{1b}[mlin" ++
-      codes "e1\u{1b}[m\u{1b}[m\r\u{1b}[J\u{1b}[m> \u{1b}[mline0\u{1b}[m\u{1b}[m\r\u{1b}[J" ++
-      codes "\u{1b}[m> \u{1b}[mline1\u{1b}[m\u{1b}[m\r\u{1b}[J\u{1b}[m> \u{1b}[mcur\u{1b}[m" ++
-      codes "\u{1b}[m\r\n\r\u{1b}[J\u{1b}[m> \u{1b}[m\u{1b}[m\u{1b}[m\r\n");
-}
+      shows = Some
+          (codes "\r\u{1b}[J\u{1b}[m> \u{1b}[m\u{1b}[m\u{1b}[mcur\r\u{1b}[J\u{1b}[m> \u{1b}[mlin" ++
+          codes "e1\u{1b}[m\u{1b}[m\r\u{1b}[J\u{1b}[m> \u{1b}[mline0\u{1b}[m\u{1b}[m\r\u{1b}[J" ++
+          codes "\u{1b}[m> \u{1b}[mline1\u{1b}[m\u{1b}[m\r\u{1b}[J\u{1b}[m> \u{1b}[mcur\u{1b}[m" ++
+          codes "\u{1b}[m\r\n\r\u{1b}[J\u{1b}[m> \u{1b}[m\u{1b}[m\u{1b}[m\r\n");
+    }
 
 -- helped
 abbrev pub settings_51 : Settings
