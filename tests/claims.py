@@ -32,7 +32,7 @@ returns c = {answer}
 
 
 class NotChecked(Exception):
-    """A check ended without a word on each claim."""
+    """A check didn't come to the claims, or ended without a word on each."""
 
 
 class Claim:
@@ -85,6 +85,8 @@ class Kernel:
             spent, said, _ = self.checker.ran(self.checker.words(crate, kept, paths), room)
             write(os.path.join(TOP, "build", "claims.log"), said)
         self.spent += spent
+        if re.search(r"(?m)^\./(specs/|proofs/\w+\.antt).*error", said):
+            raise NotChecked("the definitions are refused; build/claims.log says why")
         return {name: word_on(name, said) for name in claims}
 
 

@@ -3,6 +3,7 @@ as a term.
 """
 import itertools
 import re
+import unicodedata
 
 from sessions import meant
 
@@ -36,6 +37,8 @@ RUN = 40
 LITERAL = 80
 LINE = 100
 WORD = re.compile(r"[^\s(){};,]+")
+# Letters that nothing is drawn for.
+FILLERS = "\u115f\u1160\u3164\uffa0"
 
 
 class Unfit(Exception):
@@ -44,8 +47,13 @@ class Unfit(Exception):
 
 def literal(text):
     escapes = {"\n": "\\n", "\r": "\\r", "\t": "\\t", "\\": "\\\\", '"': '\\"'}
-    shown = [escapes.get(c) or (c if c.isprintable() else f"\\u{{{ord(c):x}}}") for c in text]
-    return '"' + "".join(shown) + '"'
+    return '"' + "".join(escapes.get(c) or (c if is_seen(c) else f"\\u{{{ord(c):x}}}") for c in text) + '"'
+
+
+def is_seen(char):
+    """Whether a character is one that is seen by itself, from left to right."""
+    own = char == " " or unicodedata.category(char)[0] in "LNPS" and char not in FILLERS
+    return own and unicodedata.bidirectional(char) not in ("R", "AL", "AN")
 
 
 def pieces(text):

@@ -14,6 +14,7 @@ The same files are played by `sessions_program` and by the program (tests/sessio
 import os
 import subprocess
 import sys
+import tempfile
 
 from claims import Kernel, agrees, differs
 from formatted import RATTLE
@@ -68,9 +69,10 @@ def computing_text():
 
 def laid_out(text):
     """A text as `rt fmt` lays it out."""
-    path = os.path.join(TOP, "build", "laid_out.antt")
-    write(path, text)
-    return subprocess.run([RATTLE, "fmt", path], check=True, capture_output=True, text=True).stdout
+    with tempfile.TemporaryDirectory(prefix="rows-") as folder:
+        path = os.path.join(folder, "text.antt")
+        write(path, text)
+        return subprocess.run([RATTLE, "fmt", path], check=True, capture_output=True, text=True).stdout
 
 
 def written():

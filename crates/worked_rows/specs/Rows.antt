@@ -470,8 +470,8 @@ row_106 = row 106 settings_101 (encode_utf8_all (codes "漢文\t\r")) (encode_ut
 -- words:éa,èb
 abbrev pub settings_110 : Settings
 settings_110 = record plain {
-  helping = aide false (Some ((encode_utf8_all (codes "éa")) ∷ (encode_utf8_all (codes "èb")) ∷
-      []));
+  helping = aide false (Some ((encode_utf8_all (codes "éa")) ∷ (encode_utf8_all
+      (codes "èb")) ∷ []));
 }
 
 -- Tab Enter = e | shows {} {e} ␍␊ {} ␍␊
@@ -490,7 +490,8 @@ row_111 = record (row 111 settings_110 (codes "e\t\r") (codes "e\n")) {
 
 -- Tab ‹cc›‹80› Tab Enter = èb
 abbrev pub row_112 : Row
-row_112 = row 112 settings_110 (encode_utf8_all (codes "\t̀\t\r")) (encode_utf8_all (codes "èb\n"))
+row_112 = row 112 settings_110 (encode_utf8_all (codes "\t̀\t\r")) (encode_utf8_all
+    (codes "èb\n"))
 
 -- é Tab C-_ Enter = é
 abbrev pub row_113 : Row
