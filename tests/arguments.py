@@ -1,8 +1,9 @@
 #!/usr/bin/env python3
-"""The program's arguments, its history file and its file of words. Run it by ./test, or alone once `rt ci` or ./keyline has built the program."""
+"""The program's arguments, its history file and its file of words. Run it by ./test, or alone once `rt ci` or ./keyline --prove has built the program."""
 import importlib.util
 import itertools
 import os
+import re
 import stat
 import subprocess
 import tempfile
@@ -18,7 +19,7 @@ BELL = b"\x07"
 # Words of each kind, of which every one and every two make a command line.
 WORDS = ["--help", "-h", "-hx", "--help=x", "--mode", "--mode=vi", "--mode=ed", "--columns", "--columns=+07", "--columns=1",
          "--columns=", "--prompt=--", "--history", "--words", "--brackets", "--brackets=on", "--", "-", "", "vi", "7", "-x", "-\u00e9",
-         "--colums", "--wrods", "--hlp=3", "--nothing", "--=x", "---", "--mod\u00e9"]
+         "--colums", "--wrods", "--hlp=3", "--nothing", "--=x", "---", "--mod\u00e9", "--version"]
 # Where a number or a likeness ends.
 EDGES = [["--columns", text] for text in ("2", "1000", "1001", "65538", "0" * 30 + "5", "9" * 5000, "+", "5_0", " 5", "-5", "\u0665")]
 EDGES += [["--mode" + "x" * count] for count in (35, 36, 37)]
@@ -84,6 +85,16 @@ def help_is_asked_for():
         for part in (b"Usage: keyline", b"--mode <emacs|vi>", b"[default: emacs]", b"[default: 80]",
                      b"--prompt <TEXT>", b"--history <FILE>", b"--words <FILE>", b"--brackets", b"Ctrl-Y"):
             same(f"{part!r} is there", part in run.stdout, True)
+
+
+def version_is_asked_for():
+    run = ran(b"ab\r", "--version")
+    expect(run, display=b"")
+    same("whether a version is told", re.fullmatch(rb"keyline \d+\.\d+\.\d+\n", run.stdout) is not None, True)
+    for words in (["--version", "--mode=vi"], ["--mode=vi", "--version"], ["--version", "--version"]):
+        run = ran(b"ab\r", *words)
+        expect(run, b"", status=2)
+        same(f"whether it is unexpected in {words}", b"unexpected argument '--version' found" in run.stderr, True)
 
 
 def wrong_arguments():
@@ -344,6 +355,7 @@ def many_entries():
 if __name__ == "__main__":
     run_all([
         help_is_asked_for,
+        version_is_asked_for,
         wrong_arguments,
         an_argument_that_is_no_text,
         what_is_answered_before_a_build,

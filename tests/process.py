@@ -1,5 +1,5 @@
 #!/usr/bin/env python3
-"""The program on real pipes. Run it by ./test, or alone once `rt ci` or ./keyline has built the program."""
+"""The program on real pipes. Run it by ./test, or alone once `rt ci` or ./keyline --prove has built the program."""
 import os
 import subprocess
 import tempfile

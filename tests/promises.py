@@ -37,7 +37,6 @@ LEFT_OUT = re.compile(r"\n[ ]*(?://|--) \.\.\n")
 # The longest sentence of a document, and the longest promise, in words; and the most bytes of docs/.
 LONGEST_SENTENCE, LONGEST_PROMISE = 40, 30
 MOST_BYTES = 200 * 1024
-NAMED_MUTANTS = "tests/mutants-named.txt"
 
 
 class Checks:
@@ -195,7 +194,7 @@ def check_listings(checks):
 
 
 def stands_in(listed, file):
-    """Whether a file has these lines, in one piece but for what a line `// ..` leaves out."""
+    """Whether a file has these lines, in one piece except for what a line `// ..` leaves out."""
     text, at = "\n".join(lines_of(file)), 0
     for piece in LEFT_OUT.split("\n".join(["", *listed, ""])):
         lines = textwrap.dedent(piece).strip("\n").split("\n")
@@ -208,14 +207,15 @@ def stands_in(listed, file):
 
 
 def check_style(checks):
-    """How the documents are written: short sentences, no word that went, no mark of a broken merge, and not too much in all."""
+    """How the documents are written: short sentences, no word that went (nor in comments and messages), no mark of a broken merge,
+    and not too much in all."""
     for document in written():
         left = [at for at, line in enumerate(lines_of(document), 1) if MERGED.match(line)]
         checks.expect(not left, f"{document}: a broken merge left its marks in lines {left}")
         for at, sentence in sentences(document):
             is_short = count_words(sentence) <= LONGEST_SENTENCE
             checks.expect(is_short, f"{document}:{at}: more than {LONGEST_SENTENCE} words: {sentence[:60]}")
-    for place, instead in words.standing(written()):
+    for place, instead in words.standing([*written(), *words.swept()]):
         checks.expect(False, f"{place}: write {instead}")
     size = sum(os.path.getsize(os.path.join(TOP, it)) for it in files_under("docs", "") if it not in GENERATED)
     made = ", ".join(GENERATED)
@@ -247,28 +247,18 @@ def with_line(document, link):
 
 
 def check_mutants(checks):
-    """Each mutant that is named by a rule is there, and each of must-fail/ stands for one."""
+    """Each mutant of tests/mutants-named.txt is there, and each of must-fail/ stands for a rule."""
     named = set()
-    for rule, crate, mutant in named_mutants():
-        of, name = crate.strip("` |"), mutant.strip("` |")
-        named.add(f"{of}/{name}")
-        files = [os.path.join(TOP, "crates", of, folder, f"{name}.edit") for folder in ("mutants", "must-fail")]
-        checks.expect(any(map(os.path.isfile, files)), f"{of} has no mutant {name}, of the rule: {rule.strip('| ')}")
-    checks.expect(named, "no mutant is named by a rule")
+    for line in lines_of("tests", "mutants-named.txt"):
+        if line and not line.startswith("#"):
+            rule, crate, name = line.split(" | ")
+            named.add(f"{crate}/{name}")
+            files = [os.path.join(TOP, "crates", crate, folder, f"{name}.edit") for folder in ("mutants", "must-fail")]
+            checks.expect(any(map(os.path.isfile, files)), f"{crate} has no mutant {name}, of the rule: {rule}")
     for crate in CRATES:
         for file in files_under(f"crates/{crate}/must-fail", ".edit"):
             name = os.path.basename(file).removesuffix(".edit")
             checks.expect(f"{crate}/{name}" in named, f"no rule is named of {file}")
-
-
-def named_mutants():
-    """The mutants that stand for a rule, each as the rule, the crate and its name: those that documents name, and NAMED_MUTANTS."""
-    for document in written():
-        lines = lines_of(document)
-        for head in (it for it in lines if re.match(r"##+ Named (mutants|wrong bodies)$", it)):
-            yield from tables(section(lines, head))
-    if os.path.isfile(os.path.join(TOP, NAMED_MUTANTS)):
-        yield from (line.split(" | ") for line in lines_of(NAMED_MUTANTS) if line and not line.startswith("#"))
 
 
 def check_parts(checks):

@@ -7,6 +7,7 @@ editor does. Each session is ended by Ctrl-C, and then the terminal's settings m
 import os
 import pathlib
 import shlex
+import subprocess
 import sys
 import tempfile
 import termios
@@ -177,8 +178,34 @@ def test_of(session):
     return plays
 
 
+def typed_before_the_end(terminal, above):
+    """Types a letter ten times before a line's end, so that the line is drawn anew ten times; answers how many rows tmux then keeps
+    above the window."""
+    until_taken(terminal)
+    for count, keys in enumerate(["a c Left", *"b" * 10]):
+        deed(keys)(terminal)
+        expect(terminal, keys, ([*above, f"> a{'b' * count}c"], (len(above), 3 + count)))
+    return int(terminal.ask("display-message", "-p", "#{history_size}"))
+
+
+def copies_that_tmux_keeps():
+    """tmux scrolls away what is cleared from the window's first cell on, so it keeps a copy of each drawing of a line that begins in
+    the first row, unless it is told not to."""
+    for above, setting, copies in (([], None, 10), (["above"], None, 0), ([], "off", 0)):
+        with tempfile.TemporaryDirectory() as folder:
+            terminal = Terminal(folder, 80, "".join(f"echo {it}; " for it in above) + f"{shlex.quote(SCRIPT)}; exec sleep 120")
+            try:
+                if setting:
+                    terminal.ask("set-option", "-g", "scroll-on-clear", setting)
+                same(f"copies under {above}, {setting}", typed_before_the_end(terminal, above), copies)
+            except subprocess.CalledProcessError as fault:
+                same("what this tmux, which has no such option, says", "invalid option" in fault.stderr, True)
+            finally:
+                terminal.close()
+
+
 if __name__ == "__main__":
     os.environ["LC_ALL"] = "C.UTF-8"
     SCRIPT = placed_script()
     chosen = [session for session in sessions() if not sys.argv[1:] or session.name in sys.argv[1:]]
-    run_all([test_of(session) for session in chosen])
+    run_all([test_of(session) for session in chosen] + [copies_that_tmux_keeps] * (not sys.argv[1:]))

@@ -3,7 +3,7 @@
 terminal is put back on every way out, and what stands then.
 
 A process of its own leads the terminal's session as a shell does: it runs the program as a job in the foreground, and
-takes the terminal while the job is stopped. Run it by ./test, or alone once `rt ci` or ./keyline has built the program.
+takes the terminal while the job is stopped. Run it by ./test, or alone once `rt ci` or ./keyline --prove has built the program.
 """
 import contextlib
 import fcntl
@@ -624,14 +624,73 @@ def a_program_that_is_missing():
             terminal.expect_ended(127)
 
 
+# It says what COLUMNS is, and which arguments it has.
+TELLS_COLUMNS = "#!/bin/sh\necho \"${COLUMNS-none} $*\" >&2\n"
+# The terminal's columns, COLUMNS as on_terminal finds it, on_terminal's option, and what the program says.
+COLUMNS = [
+    (30, None, [], "30 a b"), (60, None, [], "60 a b"), (80, None, [], "80 a b"), (200, None, [], "200 a b"), (60, "77", [], "60 a b"),
+    (1, None, [], "1 a b"), (2000, "77", [], "2000 a b"), (0, None, [], "none a b"), (0, "77", [], "77 a b"),
+    (30, None, ["--columns"], "30 --columns=30 a b"), (200, "77", ["--columns"], "200 --columns=200 a b"),
+    (2, None, ["--columns"], "2 --columns=2 a b"), (1, None, ["--columns"], "1 a b"),
+    (2000, None, ["--columns"], "2000 --columns=1000 a b"), (0, "77", ["--columns"], "77 a b"),
+]
+
+
+@contextlib.contextmanager
+def that_tells_columns(found):
+    """A folder, and a command line up to on_terminal's option and then the program, with COLUMNS as it is to be found."""
+    with tempfile.TemporaryDirectory() as folder:
+        program = os.path.join(folder, "tells")
+        with open(program, "w", encoding="utf-8") as it:
+            it.write(TELLS_COLUMNS)
+        os.chmod(program, 0o755)
+        found = ["-u", "COLUMNS"] if found is None else [f"COLUMNS={found}"]
+        yield folder, [shutil.which("env"), *found, ON_TERMINAL], [program, "a", "b"]
+
+
+def the_columns_that_any_program_finds():
+    for columns, found, option, told in COLUMNS:
+        with that_tells_columns(found) as (_, before, program):
+            with Terminal(columns, command=[*before, *option, *program]) as terminal:
+                terminal.expect_ended(0, told.encode() + b"\n")
+
+
+def columns_where_the_display_is_no_terminal():
+    with that_tells_columns(None) as (folder, before, program):
+        display = os.path.join(folder, "display")
+        with Terminal(60, command=[*before, *program], files={2: display}) as terminal:
+            terminal.expect_ended(0)
+        same("what it says", taken_from(display), "60 a b\n")
+
+
+def columns_where_the_display_is_another_terminal():
+    with that_tells_columns(None) as (_, before, program):
+        keys, display = os.openpty(), os.openpty()
+        for (_, slave), columns in ((keys, 60), (display, 33)):
+            fcntl.ioctl(slave, termios.TIOCSWINSZ, struct.pack("HHHH", 24, columns, 0, 0))
+        subprocess.run([*before, *program], stdin=keys[1], stderr=display[1], start_new_session=True, timeout=HUNG, check=True)
+        Incoming(display[0]).expect(MARKED + b"33 a b\r\n" + UNMARKED)
+        for descriptor in (*keys, *display):
+            os.close(descriptor)
+
+
+def columns_without_a_terminal():
+    for found, told in ((None, b"none a b\n"), ("77", b"77 a b\n")):
+        with that_tells_columns(found) as (_, before, program):
+            ran = subprocess.run([*before, "--columns", *program], stdin=subprocess.DEVNULL, capture_output=True, timeout=HUNG)
+            same("what it says", (ran.stderr, ran.returncode), (told, 0))
+
+
 def any_program_without_a_terminal():
     ran = subprocess.run([ON_TERMINAL, "cat"], input=b"a\r", capture_output=True, timeout=HUNG)
     same("what comes", (ran.stdout, ran.stderr, ran.returncode), (b"a\r", b"", 0))
     ran = subprocess.run([ON_TERMINAL, "env"], stdin=subprocess.DEVNULL, env={"PATH": os.environ["PATH"]},
                          capture_output=True, timeout=HUNG)
     same("whether the locale is set", b"LC_" in ran.stdout, False)
-    ran = subprocess.run([ON_TERMINAL], stdin=subprocess.DEVNULL, capture_output=True, timeout=HUNG)
-    same("without a program", (ran.stdout, ran.stderr, ran.returncode), (b"", b"usage: on_terminal PROGRAM ARGUMENT..\n", 2))
+    for words in ([], ["--columns"]):
+        ran = subprocess.run([ON_TERMINAL, *words], stdin=subprocess.DEVNULL, capture_output=True, timeout=HUNG)
+        usage = b"usage: on_terminal [--columns] PROGRAM ARGUMENT..\n"
+        same("without a program", (ran.stdout, ran.stderr, ran.returncode), (b"", usage, 2))
 
 
 if __name__ == "__main__":
@@ -667,5 +726,9 @@ if __name__ == "__main__":
         a_program_that_goes_on,
         a_program_of_any_name,
         a_program_that_is_missing,
+        the_columns_that_any_program_finds,
+        columns_where_the_display_is_no_terminal,
+        columns_where_the_display_is_another_terminal,
+        columns_without_a_terminal,
         any_program_without_a_terminal,
     ])

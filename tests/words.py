@@ -19,15 +19,22 @@ LISTED = ("tests", "words.txt")
 READ = {
     ".rt": re.compile(r"(//.*)|\"((?:[^\"\\]|\\.)*)\""),
     ".antt": re.compile(r"(--.*)"),
-    ".c": re.compile(r"(//.*|/?\*.*)|\"((?:[^\"\\]|\\.)*)\""),
+    ".c": re.compile(r"(//.*|/\*.*|^\s*\* .*)|\"((?:[^\"\\]|\\.)*)\""),
     ".txt": re.compile(r"\A(#.*)"),
     "": re.compile(r"(#.*)|'([^']*)'|\"([^\"]*)\""),
 }
 READ[".h"] = READ[".c"]
-PLACEHOLDER = re.compile(r"\{[^}]*\}")
+PLACEHOLDER = re.compile(r"\{[^}]*\}|\$\w+")
 SCRIPTS = ("keyline", "test", "bench/run")
-# Those that quote the words.
+# Those that quote the words, and those whose comments aren't looked through yet.
 QUOTING = ("tests/words.txt", "tests/words.py")
+UNSWEPT = (
+    "crates/keyline/", "crates/keyline_files/", "crates/keyline_program/", "crates/line_editor/proofs/", "crates/line_edits/proofs/",
+    "crates/line_screen/proofs/", "crates/worked_rows/", "keyline", "on_terminal", "test", "tests/arguments.py", "tests/building.py",
+    "tests/c_program.py", "tests/claims.py", "tests/first_minute.py", "tests/picture.py", "tests/programs.py", "tests/terminal.py",
+    "tests/unfolding.py", "tests/worked_rows.py",
+)
+UNSWEPT_FOLDERS = tuple(it for it in UNSWEPT if it.endswith("/"))
 
 
 def words_listed():
@@ -48,6 +55,11 @@ def sources():
         for ending in (".py", ".c", ".txt"):
             yield from (it for it in files_under(folder, ending) if it not in QUOTING)
     yield from SCRIPTS
+
+
+def swept():
+    """The sources and scripts in which no word that went stands."""
+    return [it for it in [*sources(), "on_terminal"] if it not in UNSWEPT and not it.startswith(UNSWEPT_FOLDERS)]
 
 
 def is_message(text):

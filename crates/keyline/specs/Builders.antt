@@ -6,14 +6,13 @@ use Rattle.keyline.specs.Program.{standard_config}
 use Rattle.keyline.specs.declared.builder.SessionBuilder.{SessionBuilder}
 
 -- the program's settings with nothing bound and no helper, a history that begins empty, and sinks
--- that haven't failed for lines and history
+-- that haven't failed for lines and history; not the columns, which each builder says by itself
 pub record HasDefaults {F S H D L T B : Type 0} (feed : F → Feed) (lines_failed : L → Bool)
     (text_failed : T → Bool) (b : SessionBuilder F S H D L T B) : Type 0 where
   pub config_is : b.config ≡ standard_config
   pub bindings_are : b.bindings ≡ []
   pub helper_is : b.helper ≡ None
   pub prompt_is : b.prompt.now ≡ codes "> "
-  pub columns_are : b.columns ≡ 80
   pub history_is : feed b.history ≡ fresh_feed [] End
   pub lines_work : lines_failed b.lines ≡ false
   pub text_works : text_failed b.text ≡ false

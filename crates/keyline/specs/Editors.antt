@@ -3,7 +3,7 @@ use Rattle.std.specs.Prelude.{◌≡◌, ℕ, List, Option, Result, Err, MatchOp
 use Rattle.line_config.specs.declared.errors.ReadlineError.{ReadlineError}
 use Rattle.keyline.specs.Endings.{ended_by}
 use Rattle.keyline.specs.Known.{Known}
-use Rattle.keyline.specs.Opened.{ReadsNext}
+use Rattle.keyline.specs.Opened.{ReadsNext, SetsColumns}
 use Rattle.keyline.specs.Sessions.{Given}
 use Rattle.keyline.specs.declared.editor.LineEditor.{LineEditor}
 use Rattle.keyline.specs.declared.session.Session.{Session}
@@ -25,3 +25,9 @@ module _ {S H D L T B : Type 0} where
       (IfSome (session_of old) (λ s. IsSomeAnd (session_of new) (λ t.
       ReadsNext k given s t result × (ending_in new ≡ ended_by result))))
       (λ why. (result ≡ Err why) × (new ≡ old))
+
+  -- THE relation of new columns: the session has them, and all else of it is as it was
+  abbrev pub SetsSessionColumns : ℕ → Option (Session S H D L T B) → Option (Session S H D L T B)
+      → Type 0
+  SetsSessionColumns columns old new =
+      IfSome old (λ s. IsSomeAnd new (λ t. SetsColumns columns s t))

@@ -1,4 +1,5 @@
 pub mod Builders
+pub mod Columns
 pub mod Desks
 pub mod Editors
 pub mod Endings

@@ -1,6 +1,6 @@
 -- The program's command line: its options, and what words choose by them.
 use Rattle.std.specs.Prelude.{◌≡◌, ◌≢◌, ◌≤◌, ◌⊎◌, ◌↔◌, ◌∷◌, ⊤, ℕ, List, [], Option, Some, None, codes, IsTrue, MatchResult, Result, option_map, string_bytes}
-use Rattle.std.specs.Str.Parse.{IsNumeral, digits_value, without_leading_plus}
+use Rattle.std.specs.Str.Parse.{without_leading_plus}
 use Rattle.clap.specs.Words.{App, IsAmong, Row, Rule, Text, fault_of, first_of, kind_of, matches_of, new_app, new_rule, with_rule}
 use Rattle.clap.specs.declared.builder.action.ArgAction.TheVariants.{SetTrue}
 use Rattle.clap.specs.declared.error.kind.ErrorKind.{ErrorKind}
@@ -8,6 +8,7 @@ use Rattle.clap.specs.declared.error.kind.ErrorKind.TheVariants.{DisplayHelp, In
 use Rattle.clap.specs.declared.error.Error.{Error}
 use Rattle.line_config.specs.declared.settings.EditMode.{EditMode}
 use Rattle.line_config.specs.declared.settings.EditMode.TheVariants.{Emacs, Vi}
+use Rattle.keyline.specs.Columns.{WritesColumns}
 use Rattle.keyline.specs.declared.options.Options.{Options}
 use Rattle.keyline.specs.declared.options.Parsed.{Parsed}
 use Rattle.keyline.specs.declared.options.Parsed.TheVariants.{Run, Help, Usage, Memory}
@@ -44,8 +45,7 @@ IsMode text mode = text ≡ Some (mode_name mode)
 -- decimal digits, perhaps after a plus, that write a number of 2 to 1,000
 abbrev pub AreColumns : Option Text → ℕ → Type 0
 AreColumns None columns = ⊥
-AreColumns (Some text) columns = IsNumeral 10 (without_leading_plus text)
-    × (digits_value 10 (without_leading_plus text) ≡ columns) × (2 ≤ columns) × (columns ≤ 1000)
+AreColumns (Some text) columns = WritesColumns (without_leading_plus text) columns
 
 -- the options by the text of each one
 pub record Chooses (rows : List Row) (options : Options) : Type 0 where

@@ -1,5 +1,5 @@
 -- A session that is opened and run: what it is opened on, and what it gives back.
-use Rattle.std.specs.Prelude.{◌≡◌, ℕ, Bool, false, List, Option, None, Result, Err, IsOk, IsTrue, string_bytes}
+use Rattle.std.specs.Prelude.{◌≡◌, ℕ, Bool, cond, false, List, [], Option, None, Result, Err, IsOk, IsTrue, string_bytes}
 use Rattle.line_config.specs.Feed.{AlwaysTold, Feed}
 use Rattle.line_config.specs.declared.config.Config.{Config}
 use Rattle.line_config.specs.declared.errors.ReadlineError.{ReadlineError}
@@ -104,6 +104,11 @@ pub record Finishes {S H D L T : Type 0} (held : T → List ℕ) (failed : T →
   pub ahead_is : ended.ahead ≡ kept_of desk.reader
   pub display_is : ended.display ≡ sink_of desk.out
   pub lines_are : ended.lines ≡ desk.lines
+
+-- what is to be saved of a sink that the history's text was written to: all that it took, and
+-- nothing if it has failed, since its text then is not whole
+abbrev pub text_to_save : {T : Type 0} → (T → List ℕ) → (T → Bool) → T → List ℕ
+text_to_save held failed text = cond (failed text) [] (held text)
 
 -- THE relation of a session: lines until one is refused, and then its end
 pub record PlaysSession {S H D L T : Type 0} (k : Known S D L) (held : T → List ℕ)

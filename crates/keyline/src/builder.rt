@@ -3,6 +3,7 @@
 ghost use Rattle.std.specs.Prelude.{◌≡◌, ◌≤◌, IfErr, IfOk, Some, [], false};
 ghost use Rattle.line_config.specs.Adapters.{gave, taken};
 ghost use Rattle.keyline.specs.Builders.{HasDefaults};
+ghost use Rattle.keyline.specs.Columns.{ColumnsBy};
 ghost use Rattle.keyline.specs.Program.{standard_config};
 ghost use Rattle.keyline.specs.Opened.{HasGiven, desk_of};
 ghost use Rattle.keyline.specs.Plays.{Opens, Unopens};
@@ -13,7 +14,11 @@ use line_config::{Config, ReadSource, Sink, SliceSource, Source, WriteSink};
 use line_help::Helper;
 use line_keys::{Decides, EventHandler, EventMap};
 use std::alloc::Global;
+use std::env;
 use std::io::{self, Input, Stderr, StdinLock};
+
+/// Columns of a row if nothing says another number.
+const COLUMNS: u16 = 80;
 
 /// What a session is to be opened on. Where nothing else is said: the settings of the program with
 /// the keys of Emacs, nothing bound, no helper, the prompt `> ` and rows of 80 columns, a history
@@ -53,14 +58,40 @@ pub type StandardKeys = ReadSource<StdinLock<'static>>;
 /// A builder over the standard streams.
 pub type StandardBuilder<'p> = DefaultBuilder<'p, StandardKeys, WriteSink<Stderr>>;
 
-/// An editor over them, helped by `H`.
-pub type StandardEditor<H> = LineEditor<StandardKeys, H, WriteSink<Stderr>, Nowhere, Nowhere>;
+/// An editor over them, helped by `H`, whose history is saved to `T`.
+pub type StandardEditor<H, T = Nowhere> = LineEditor<
+    StandardKeys,
+    H,
+    WriteSink<Stderr>,
+    Nowhere,
+    T,
+>;
 
 /// The settings: each accepted line is kept in the history.
 fn standard_config() -> Config
     ensures { result ≡ standard_config }
 {
     Config::builder().auto_add_history(true).build()
+}
+
+/// The columns that a text writes in decimal digits alone, 2 to 1,000; 80 if it writes none.
+fn columns_by(text: &str) -> u16
+    ensures { ColumnsBy text.now result }
+{
+    match text.parse::<u16>() {
+        Ok(columns) if !text.starts_with('+') && 2 <= columns && columns <= 1000 => columns,
+        _ => COLUMNS,
+    }
+}
+
+/// The columns that the environment variable `COLUMNS` writes; 80 if it writes none or is not set.
+fn environment_columns(rt: &HostRuntime) -> u16
+    ensures { (2 ≤ result) × (result ≤ 1000) }
+{
+    match env::var(rt, "COLUMNS") {
+        Ok(text) => columns_by(text.as_str()),
+        Err(_) => COLUMNS,
+    }
 }
 
 /// Over this source of keys and this display.
@@ -71,6 +102,7 @@ pub fn session_builder<'p, S: Source + Drop, D: Sink + Drop>(
 ) -> DefaultBuilder<'p, S, D>
     ensures defaults { HasDefaults ⟦<SliceSource<'static> as Source>⟧.feed
         ⟦<Nowhere as Sink>⟧.has_failed ⟦<Nowhere as Sink>⟧.has_failed result }
+    ensures columns { result.columns ≡ 80 }
     ensures devices { (result.source ≡ source) × (result.display ≡ display) }
 {
     SessionBuilder {
@@ -81,17 +113,20 @@ pub fn session_builder<'p, S: Source + Drop, D: Sink + Drop>(
         helper: None,
         prompt: "> ",
         source,
-        columns: 80,
+        columns: COLUMNS,
         display,
         lines: WriteSink::new(io::sink()),
         text: WriteSink::new(io::sink()),
     }
 }
 
-/// Keys from standard input, and the display on standard error.
+/// Keys from standard input, and the display on standard error, with the columns of the window:
+/// those that the environment variable `COLUMNS` writes in decimal digits, 2 to 1,000. Rows have 80
+/// columns if it is not set or holds anything else.
 pub fn standard_builder<'p>(rt: &HostRuntime) -> StandardBuilder<'p>
     ensures defaults { HasDefaults ⟦<SliceSource<'static> as Source>⟧.feed
         ⟦<Nowhere as Sink>⟧.has_failed ⟦<Nowhere as Sink>⟧.has_failed result }
+    ensures columns { (2 ≤ result.columns) × (result.columns ≤ 1000) }
     ensures nothing_read { gave result.source ≡ [] }
     ensures nothing_written { taken result.display ≡ [] }
     ensures keys { (⟦<StandardKeys as Source>⟧.feed result.source).failed ≡ false }
@@ -102,6 +137,7 @@ pub fn standard_builder<'p>(rt: &HostRuntime) -> StandardBuilder<'p>
         ReadSource::new(rt.stdin().reader()),
         WriteSink::new(rt.stderr()),
     )
+    .columns(environment_columns(rt))
 }
 
 impl<'p, F, S, H, D, L, T, B: Decides> SessionBuilder<'p, F, S, H, D, L, T, B>

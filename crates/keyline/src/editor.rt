@@ -1,6 +1,6 @@
 //! A line at a time, by `&mut self`.
 
-ghost use Rattle.std.specs.Prelude.{◌≡◌, IfErr, IfOk, IfSome, IsSome, IsTrue, None, OnErr, OnOk, Some, option_map, string_bytes};
+ghost use Rattle.std.specs.Prelude.{◌≡◌, ◌≤◌, IfErr, IfOk, IfSome, IsSome, IsTrue, None, OnErr, OnOk, Some, option_map, string_bytes};
 ghost use Rattle.std.specs.Option.{option_map_or};
 ghost use Rattle.line_config.specs.declared.errors.ReadlineError.TheVariants.{Eof, Memory};
 ghost use Rattle.line_help.specs.History.{takes};
@@ -48,7 +48,7 @@ where
     L: Drop,
     T: Drop,
 {
-    ghost use Rattle.keyline.specs.Editors.{EditorReads, ending_in, session_of};
+    ghost use Rattle.keyline.specs.Editors.{EditorReads, SetsSessionColumns, ending_in, session_of};
     ghost use Rattle.keyline.specs.Opened.{desk_of, given_in, history_of, text_sink, with_entry, with_helper};
 
     /// The lines of this session.
@@ -85,6 +85,18 @@ where
         *slot = Some(session);
         self.ended = ended_by(&line);
         line
+    }
+
+    /// From now on rows of the display have so many columns, 2 to 1,000. Nothing is drawn.
+    pub fn set_columns(&mut self, columns: u16)
+        requires { (2 ≤ columns) × (columns ≤ 1000) }
+        ensures session { SetsSessionColumns columns (session_of self.old) (session_of self.new) }
+        ensures ended { ending_in self.new ≡ ending_in self.old }
+    {
+        match &mut self.session.value {
+            Some(session) => session.set_columns(columns),
+            None => unreachable!(),
+        }
     }
 
     /// Adds a line to the history, whatever the settings say of accepted lines, and answers whether

@@ -8,12 +8,12 @@ ghost use Rattle.line_editor.specs.Running.{helping_by};
 ghost use Rattle.keyline.specs.Known.{known_by};
 ghost use Rattle.keyline.specs.Playing.{Saves, ending_after};
 ghost use Rattle.keyline.specs.Opened.{HasGiven, ReadsNext, SetsColumns, desk_of, given_in, history_of, prompt_of, text_sink, with_entry};
-ghost use Rattle.keyline.specs.Plays.{BeginsSession, Finishes, LoadRefused, Loaded, Opens, Remains, RunsSession, Unopens};
+ghost use Rattle.keyline.specs.Plays.{BeginsSession, Finishes, LoadRefused, Loaded, Opens, Remains, RunsSession, Unopens, text_to_save};
 
 use crate::boxed::Devices;
 use crate::desk::{Desk, DeskAfter};
 use crate::ending::Ending;
-use line_config::{Config, ReadlineError, Sink, Source};
+use line_config::{Config, ReadlineError, Sink, Source, VecSink};
 use line_help::{FileHistory, Helper, History};
 use line_keys::{Decides, EventHandler, EventMap};
 use line_record::KillRing;
@@ -111,6 +111,21 @@ pub struct Ended<S, D, L, T> {
     pub lines: L,
     /// The sink of the history's text.
     pub text: T,
+}
+
+impl<S, D, L> Ended<S, D, L, VecSink> {
+    /// The history's text, to be saved where it was loaded from. It is empty, and nothing is to be
+    /// saved, if no entry is new or memory was not enough for the whole text.
+    pub fn text_to_save(&self) -> &[u8]
+        ensures { result.now ≡ text_to_save ⟦<VecSink as Sink>⟧.held
+            ⟦<VecSink as Sink>⟧.has_failed self.now.text }
+    {
+        if self.text.failed() {
+            &[]
+        } else {
+            self.text.bytes()
+        }
+    }
 }
 
 /// A session after a line, and the line that was accepted, or why there is none.

@@ -1,4 +1,4 @@
--- A line of the keys so far: what is handed in for it, and what it leaves.
+-- A line of the keys so far: its arguments and its result.
 use Rattle.std.specs.Prelude.{◌≡◌, ◌⊎◌, ℕ, ◌<◌, ◌++◌, Bool, true, if◌then◌else◌, List, Result, Err, IsErrAnd, length, string_bytes}
 use Rattle.line_config.specs.Feed.{Feed}
 use Rattle.line_config.specs.declared.device.Last.{Last}
@@ -27,16 +27,16 @@ use Rattle.keyline_c.specs.declared.status.Status.{Status}
 use Rattle.keyline_c.specs.declared.status.Status.TheVariants as Refusal
 use Rattle.line_record.specs.Ring.{Ring}
 
--- what stands after the keys: their end, or the failure that says that more are wanted
+-- what follows the keys: their end, or a failure if more keys may follow
 abbrev pub last_of : Bool → Last
 last_of ended = if ended then End else Failed
 
--- memory was wanting: for the line, for its display bytes, or for what helps
+-- memory ran out: for the line, for its display bytes, or for its helper
 abbrev pub IsWant : ReadlineError → Type 0
 IsWant e = (e ≡ Memory) ⊎ ((e ≡ Display) ⊎ (e ≡ Helper))
 
--- where memory was not wanting, all is left as the line says: so many bytes are left for a reader
--- that goes on with what stands after the line
+-- if memory didn't run out, the result is the line's: so many bytes are left for a reader that
+-- continues after the line
 pub record LeftBy (held : VecSink → List ℕ) (feed : SliceSource → Feed) (g : Given)
     (t : LineReport) (old : Filed) (left : Left) : Type 0 where
   pub reader : KeyReader SliceSource
@@ -47,20 +47,20 @@ pub record LeftBy (held : VecSink → List ℕ) (feed : SliceSource → Feed) (g
   pub rest_is : left.rest ≡ length (left_in feed reader)
   pub goes_on : coming_in feed reader ≡ t.rest
 
--- THE relation of a line. More fuel than the source has bytes is enough
+-- the relation of a line. More fuel than the source has bytes is enough
 pub record ReadsLine (held : VecSink → List ℕ) (feed : SliceSource → Feed) (g : Given)
     (x : SessionState) (bound : ℕ) (left : Left) : Type 0 where
   pub goes : (n : ℕ) → bound < n → LeftBy held feed g (line_in n g x) x.history left
       ⊎ IsErrAnd left.outcome IsWant
 
--- the end of a line: a new row where it says so, and an accepted one in the history
+-- the end of a line: a new row if its ending asks for one, and an accepted line in the history
 pub record Ends (held : VecSink → List ℕ) (outcome : Result (List ℕ) ReadlineError)
     (old new : VecSink) (history history' : Filed) : Type 0 where
   pub drawn : held new ≡ held old ++ break_if (breaks outcome)
   pub kept : history' ≡ history_after true outcome history
 
--- THE relation of a line by what C hands in: the options are meant, and it is the line of these
--- keys, by these words, over this history and with the ring of these slots
+-- the relation of a line and its arguments: the options are valid, and it is the line of these
+-- keys, with these words, this history and these slots
 pub record ReadsKeys (held : VecSink → List ℕ) (feed : SliceSource → Feed)
     (options : KeylineOptions) (keys prompt words history kills ends : List ℕ) (left : Left)
     : Type 0 where
@@ -73,8 +73,7 @@ pub record ReadsKeys (held : VecSink → List ℕ) (feed : SliceSource → Feed)
       (last_of options.ended)) (length keys) left
 
 module _ (options : KeylineOptions) (prompt words history kills ends : List ℕ) where
-  -- what is handed in can't be meant: the options, a row of the words or of the history, or the
-  -- kill ring
+  -- an argument is invalid: the options, a row of the words or of the history, or the kill ring
   abbrev pub CantBeMeant : Type 0
   CantBeMeant = ((o : Options) → AreMeant options prompt o → ⊥)
       ⊎ ((has_bad_row (rows_to_come (whole words)) ≡ true)
@@ -82,7 +81,7 @@ module _ (options : KeylineOptions) (prompt words history kills ends : List ℕ)
       × (loads (config_of o) (whole history) ≡ Err HistoryText))
       ⊎ ((ring : Ring) → IsRingOf kills ends options.place ring → ⊥)))
 
-  -- why a line isn't read: that, or memory was wanting, and then its options can be meant
+  -- why a line isn't read: that, or memory ran out while its options are valid
   abbrev pub IsRefused : Status → Type 0
   IsRefused Refusal.Argument = CantBeMeant
   IsRefused Refusal.Memory = OptionsMean options prompt (Err Refusal.Memory)

@@ -7,9 +7,9 @@ use Rattle.line_record.specs.Ring.{Ring}
 use Rattle.line_editor.specs.Sights.{Sight, no_sight, ended_sight, Turns, FitsAll}
 use Rattle.line_editor.specs.Values.{EditStep}
 
--- a first drawing, or a phrase and a command that leave the line open, with what is to be seen
--- after them; a phrase and a command that accept the line; what ends the session, with whether a
--- line break is written after it
+-- a first drawing, or a phrase and a command that leave the line open, with what is shown after
+-- them. A phrase and a command that accept the line. The end of the session, and whether a line
+-- break is written after it
 pub data Turn : Type 0 where
   Open : (steps : List EditStep) (value : Sight) → Turn
   Accept : (steps : List EditStep) (value : Sight) → Turn
@@ -31,8 +31,8 @@ steps_in (Open steps value) = steps
 steps_in (Accept steps value) = steps
 steps_in (Last steps breaks) = steps
 
--- each turn's steps lead from what is seen to what is to be seen; a line begins with nothing to
--- see
+-- each turn's steps lead from what is shown to what is to be shown; at a line's start nothing is
+-- shown
 abbrev pub TurnsLead : List ℕ → Sight → List Turn → Type 0
 TurnsLead own x [] = ⊤
 TurnsLead own x (Open steps y ∷ rest) =
@@ -41,7 +41,7 @@ TurnsLead own x (Accept steps y ∷ rest) =
     Turns own x steps y × (y.ended ≡ true) × TurnsLead own no_sight rest
 TurnsLead own x (Last steps breaks ∷ rest) = FitsAll own x steps
 
--- the turn that accepts a line, or in which its session ends, is the line's last
+-- the turn that accepts a line, or that ends its session, is the line's last
 abbrev pub EndsLine : Result (List ℕ) ReadlineError → List Turn → Type 0
 EndsLine outcome [] = ⊥
 EndsLine outcome (Open steps value ∷ rest) = EndsLine outcome rest
@@ -49,7 +49,7 @@ EndsLine outcome (Accept steps value ∷ rest) = IsOk outcome × (rest ≡ [])
 EndsLine outcome (Last steps breaks ∷ rest) =
     IsErrAnd outcome (λ e. breaks ≡ breaks_after e) × (rest ≡ [])
 
--- what a line comes to: its turns, its outcome, and what the next line begins with
+-- the result of a line: its turns, its outcome, and the state in which the next line begins
 pub record LineReport : Type 0 where
   pub turns : List Turn
   pub outcome : Result (List ℕ) ReadlineError

@@ -1,4 +1,4 @@
--- What the steps of an edit ask of a renderer, and where a fault stops them.
+-- The calls on a renderer of an edit's steps, and where a fault stops them.
 use Rattle.std.specs.Prelude.{◌≡◌, ⊤, Bool, List, [], ◌∷◌, Err, IsTrue}
 use Rattle.std.specs.List.{FoldsTo}
 use Rattle.line_buffer.specs.declared.layout.Layout.{Layout}
@@ -12,7 +12,7 @@ use Rattle.line_editor.specs.Redraws.{Asked, asked_by, nothing_asked, then_asked
 use Rattle.line_editor.specs.Values.{Value, EditStep, written_of}
 use Rattle.line_editor.specs.Values.EditStep.{Draws, Helped, Edits, TakesBack, Takes}
 
--- ---- the calls of steps that are made
+-- ---- the calls of steps
 
 abbrev pub help_asked : Layout → Bool → Asked
 help_asked l fails = record { calls = Help fails ∷ []; layout = l }
@@ -30,7 +30,7 @@ asked r l (x ∷ xs) = then_asked (one r l x) (asked r (one r l x).layout xs)
 
 -- ---- where a fault stops them
 
--- a renderer, and what is kept of its drawing
+-- a renderer, and the stored layout
 pub record Surface (R : Type 0) : Type 0 where
   pub out : R
   pub layout : Layout
@@ -46,13 +46,13 @@ pub record Refusal : Type 0 where
 abbrev pub refusal : ReadlineError → Value → Refusal
 refusal fault value = record { fault = fault; value = value }
 
--- the helper fails, or finds no memory where it takes some
+-- the helper fails, or finds no memory when it takes some
 abbrev pub Unhelped : Bool → Bool → ReadlineError → Type 0
 Unhelped fails takes Helper = IsTrue fails
 Unhelped fails takes Memory = IsTrue takes
 Unhelped fails takes why = ⊥
 
--- what an edit of line and record that was refused leaves: all else is as it was
+-- what a failed edit of line and record leaves: all else is as it was
 abbrev pub SameBeside : Value → Value → Type 0
 SameBeside v w = w ≡ record v { line = w.line; held = w.held }
 
@@ -62,9 +62,8 @@ StepMade canvas r s step t =
     FoldsTo (MadeIn canvas) s.out (one r s.layout step).calls t.out
     × (t.layout ≡ (one r s.layout step).layout)
 
--- one that is refused leaves the value that stands, and what is kept of the drawing. The display
--- refuses drawings alone, of which it has the first calls; memory is wanting for edits alone, and
--- where it says so
+-- a failed step leaves the current value, and the stored layout. The display fails only at
+-- drawings, whose first calls it has; memory runs out only at edits, and where a step says so
 abbrev pub StepCut : {R : Type 0} → Canvas R → Ruler → Surface R → EditStep → Refusal → Surface R
     → Type 0
 StepCut canvas r s (Draws v marks x) e t =

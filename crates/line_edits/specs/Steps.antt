@@ -1,5 +1,5 @@
--- Edits by their steps, in order: what an edit makes of a line and its record, and what stands
--- where a step was refused.
+-- Edits by their steps, in order: the effect of an edit on a line and its record, and their state
+-- if a step fails.
 use Rattle.std.specs.Prelude.{◌≡◌, ⊤, List, ◌∷◌, ◌++◌, Result, Err, OnErr}
 use Rattle.line_buffer.specs.Edit.{Edit}
 use Rattle.line_buffer.specs.Event.{Event}
@@ -11,9 +11,9 @@ use Rattle.line_edits.specs.Written.{Written, Writes, written, written_in, edite
 use Rattle.line_edits.specs.declared.recorded_line.RecordedLine.{RecordedLine}
 
 pub data WriteStep : Type 0 where
-  -- line and record follow events together, one after another; the line is left so in the end
+  -- line and record follow the events together, one after another; at last the line is this
   Tells : (events : List Event) (line : Line) → WriteStep
-  -- the line is left so: its cursor was moved
+  -- the line is this: its cursor was moved
   Leaves : (line : Line) → WriteStep
   -- a mark is set
   Marks : WriteStep
@@ -30,8 +30,8 @@ step_made Closes w = group_closed w
 abbrev pub after_events : List Event → Written → Written
 after_events events w = edited events (carried_all events w.line) w
 
--- one of the events was refused: line and record followed those before it together, and neither
--- that one nor those after it
+-- one of the events failed: line and record followed those before it together, and neither that one
+-- nor those after it
 pub record StopsWithin (events : List Event) (w v : Written) : Type 0 where
   pub done : List Event
   pub refused : Event
@@ -40,7 +40,7 @@ pub record StopsWithin (events : List Event) (w v : Written) : Type 0 where
   pub change : TellsOfChange refused
   pub left : v ≡ after_events done w
 
--- what a step leaves that is refused; moving the cursor and closing marks never is
+-- the state that a failed step leaves; moving the cursor and closing marks never fail
 abbrev pub Refused : WriteStep → Written → Written → Type 0
 Refused (Tells events line) w v = StopsWithin events w v
 Refused (Leaves line) w v = ⊥
@@ -61,7 +61,7 @@ written_world E = record {
   cut = λ w step e v. Refused step w v;
 }
 
--- what all steps make
+-- the effect of all steps
 abbrev pub made : {A : Type 0} → WriteSteps A → Written → Written
 made (Ends answer) w = w
 made (Asks step later) w = made (later tt) (step_made step w)
@@ -70,16 +70,16 @@ abbrev pub answer_of : {A : Type 0} → WriteSteps A → A
 answer_of (Ends answer) = answer
 answer_of (Asks step later) = answer_of (later tt)
 
--- the first steps were made, in order, and the refused one and those after it were not
+-- the first steps were made, in order; the failed one and those after it were not
 pub record StopsIn {A : Type 0} (steps : WriteSteps A) (w v : Written) : Type 0 where
   pub goes : Goes (written_world ⊤) steps w (Err tt) v
 
--- ---- what edits are made of
+-- ---- parts of edits
 
 abbrev pub doing : {A : Type 0} → WriteStep → A → WriteSteps A
 doing step answer = Asks step (λ none. Ends answer)
 
--- an edit of the line, told to the record
+-- an edit of the line, reported to the record
 abbrev pub telling : {A : Type 0} → Edit A → WriteSteps A
 telling edit = doing (Tells edit.events edit.line) edit.answer
 
@@ -97,7 +97,7 @@ grouping steps = Asks Marks (λ none. then steps (λ a. doing Closes a))
 
 -- ---- calls
 
--- a call that is answered has made all steps of the edit, and answers so; one that is refused has
+-- a call that succeeds has made all steps of the edit, and returns their answer; one that fails has
 -- made the first of them
 pub record Rewrites {A E : Type 0} (steps : WriteSteps A) (before after : Line) (old new : Items)
     (result : Result A E) : Type 0 where

@@ -52,7 +52,7 @@ back_turn f xs left earlier x first l is cases line stand =
       line = ap (taken_back_in (f x)) here ∙ sym (ap (λ cs. lines_back cs first) from);
     }
 
--- the oldest of the changes that are left is made anew
+-- the oldest of the changes that are left is redone
 pub record AheadTurn {A : Type 0} (f : A → Change) (xs : List A) (i : ℕ) (x : A) (first l : Line) : Type 0 where
   pub fits : FitsIn (f x) l.text
   pub line : made_anew_in (f x) l ≡ lines_ahead (take (i + 1) (map f xs)) first

@@ -22,7 +22,7 @@ fn add_tables(conn: &mut Connection<MemStore>, names: &mut Vec<String>) -> Resul
     Ok(())
 }
 
-/// Runs a statement and prints its rows, how many it changed, or why it was refused.
+/// Runs a statement and prints its rows, how many it changed, or why it failed.
 pub(crate) fn print(
     rt: &HostRuntime,
     conn: &mut Connection<MemStore>,

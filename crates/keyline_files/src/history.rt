@@ -1,6 +1,8 @@
 //! The file that keeps a history.
 
-use crate::files;
+ghost use Rattle.std.specs.Prelude.{◌≡◌, [], IsOk};
+
+use crate::whole::read_file;
 use std::fs::{File, Metadata, OpenOptions, Permissions};
 use std::io::{Error, ErrorKind, Write};
 use std::os::unix::fs::{MetadataExt, OpenOptionsExt, PermissionsExt, fchown};
@@ -12,18 +14,28 @@ const RIGHTS: u32 = 0o600;
 /// How many links are followed, one to the next.
 const LINKS: u8 = 40;
 
-/// The text of the file. A missing file is empty.
-pub(crate) fn load(rt: &HostRuntime, path: &str) -> io::Result<Vec<u8>> {
-    match files::read(rt, path) {
+/// The text of the file, for the source of a session's history. A missing file is empty, and a
+/// device is refused, as `read_file` says.
+pub fn load_history(rt: &HostRuntime, path: &str) -> io::Result<Vec<u8>> {
+    match read_file(rt, path) {
         Err(error) if error.kind() == ErrorKind::NotFound => Ok(Vec::new(rt.alloc())),
         read => read,
     }
 }
 
-/// Writes the text whole. A regular file is replaced by a new one of its folder that has its rights
-/// and its owner, so the old text stays until the new one is there; a link stays, and a file that
-/// it names and that is missing is made. What is no regular file is written to.
-pub(crate) fn save(rt: &HostRuntime, path: &str, text: &[u8]) -> io::Result<()> {
+/// Writes the text of a history whole. An empty text is no history's: it leaves the file as it is,
+/// since a session whose history has no new entry gives none.
+///
+/// A regular file is replaced by a new one of its folder that has its permissions and, if the
+/// program may give them, its owner and group. So the old text stays until the new one is there,
+/// after an error too. A link stays, and a missing file that it names is made, for its owner alone.
+/// A file that its permissions protect is not replaced. What is no regular file is written to.
+pub fn save_history(rt: &HostRuntime, path: &str, text: &[u8]) -> io::Result<()>
+    ensures empty { text.now ≡ [] → IsOk result }
+{
+    if text.is_empty() {
+        return Ok(());
+    }
     let target = target_of(rt, path)?;
     let target = target.as_str();
     let old = match fs::metadata(rt, target) {
