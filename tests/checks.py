@@ -81,6 +81,14 @@ def same(what, found, expected):
         raise Failed(f"{what}: expected {expected!r}, found {found!r}")
 
 
+def wait_until(what, holds, patience=HUNG):
+    deadline = time.monotonic() + patience
+    while not holds():
+        if time.monotonic() > deadline:
+            raise Failed(f"hung before {what}")
+        time.sleep(0.01)
+
+
 class Incoming:
     """The bytes read from a file descriptor, compared as they come."""
 

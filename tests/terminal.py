@@ -20,9 +20,8 @@ import termios
 import time
 
 from checks import (CTRL_D, ENTER, HUNG, LEFT, NEW_ROW, ON_TERMINAL, PROGRAM, Failed, Incoming, drawing, placed_script,
-                    run_all, same)
+                    run_all, same, wait_until)
 
-SCRIPT = placed_script()
 # Pastes come between marks from here on, or no more.
 MARKED, UNMARKED = b"\x1b[?2004h", b"\x1b[?2004l"
 # Where a job that is stopped goes on: with the terminal, or without it.
@@ -33,14 +32,6 @@ OLD = b"#V2\nold\n"
 def shown(display):
     """What a terminal gets where it turns each newline that is written into CR LF."""
     return display.replace(b"\n", b"\r\n")
-
-
-def wait_until(what, holds):
-    deadline = time.monotonic() + HUNG
-    while not holds():
-        if time.monotonic() > deadline:
-            raise Failed(f"hung before {what}")
-        time.sleep(0.01)
 
 
 def lead(slave, reports, orders, command, files):
@@ -694,6 +685,7 @@ def any_program_without_a_terminal():
 
 
 if __name__ == "__main__":
+    SCRIPT = placed_script()
     run_all([
         a_line_typed_edited_and_accepted,
         bytes_that_a_terminal_would_keep,
