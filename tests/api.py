@@ -57,9 +57,9 @@ def head_at(lines, at):
             break
         if not re.match(r"\s*(//|ghost\b)", line):
             parts.append(line.strip())
-        if line.rstrip().endswith(("{", ";")) and " ".join(parts).count("(") == " ".join(parts).count(")"):
+        if line.rstrip().endswith(("{", "{}", ";")) and " ".join(parts).count("(") == " ".join(parts).count(")"):
             break
-    head = re.sub(r"\s*(\{|;)\Z", "", " ".join(parts))
+    head = re.sub(r"\s*(\{\}?|;)\Z", "", " ".join(parts))
     head = re.sub(r"([(<]) (?=\S)", r"\1", head)
     return re.sub(r",? ([)>](?!=))", r"\1", head).replace("pub ", "", 1).strip().rstrip(",")
 

@@ -1,10 +1,10 @@
 #!/usr/bin/env python3
 """Lines for programs in C: `libkeyline_c.a`, with crates/keyline_c/c/keyline.h, under tests/c_calls.c, and the console of
-crates/keyline_c/c/console.c over c/line.c: on pipes, against the program `keyline` by the same keys, on a terminal with
-signals, on tmux in windows of several widths, and under valgrind.
+crates/keyline_c/c/console.c over c/line.c. It runs on pipes, compared with the program `keyline` for the same keys, on a
+terminal with signals, on tmux in windows of several widths, and under valgrind.
 
-`rt ci` proves the crate and leaves the libraries that it stands on. Of them the archive is built here, since `rt lib` would
-prove them all again. `--archive` builds it and no more, and `--built` takes it as it is.
+`rt ci` proves the crate and leaves its libraries. The archive is built from these here, since `rt lib` would prove them all
+again. `--archive` only builds it, and `--built` uses it as it is.
 """
 import contextlib
 import os
@@ -13,7 +13,6 @@ import re
 import shlex
 import shutil
 import signal
-import string
 import subprocess
 import sys
 import tempfile
@@ -24,6 +23,7 @@ from checks import CTRL_D, ENTER, HUNG, LEFT, NEW_ROW, PROGRAM, TOP, Failed, dra
 from drawings import Terminal
 from mutants import Checker
 from shown import expect, key, until_taken
+from windows import WIDTHS, edited_in_its_middle, rows_of, type_bytes
 from wrong_bodies import below, crates_of
 
 CRATE = os.path.join(TOP, "crates", "keyline_c")
@@ -32,12 +32,12 @@ CONSOLE = os.path.join(TOP, "build", "console")
 CALLS = os.path.join(TOP, "build", "c_calls")
 KIT = os.path.dirname(os.path.dirname(os.path.realpath(shutil.which("rt") or "/")))
 REFUSED = b"console: out of memory\n"
-# What the console draws below its line before a signal acts, and before it says why it ends.
+# What the console draws below its line before a signal acts, and before the message at its end.
 BELOW = b"\n\x1b[J"
 VALGRIND = ["valgrind", "--quiet", "--leak-check=full", "--show-leak-kinds=all", "--errors-for-leak-kinds=all", "--error-exitcode=99"]
 
-# Keys in both modes: editing, a kill that the next line yanks, lines before, texts of several rows, a paste, undo, a key and
-# a character cut by the end, several lines in one read.
+# Keys in both modes: editing, a kill that the next line yanks, earlier lines, texts of several rows, a paste, undo, a key and a
+# character cut off by the end, several lines in one read.
 EMACS = [
     b"",
     b"ab\r",
@@ -57,7 +57,7 @@ VI = [b"ab\rcd\r", b"one two\x1bbdwu0x3p\r", b"a b c\x1bcWx\x1b.\r\x1bpk\r", b"d
 
 
 def build_archive():
-    """Proves the crate over the libraries that `rt ci` has left, and builds it."""
+    """Proves the crate with the libraries that `rt ci` has left, and builds it."""
     uses = crates_of(TOP)
     rlib = Checker(TOP, uses).rlib
     words = [os.path.join(KIT, "bin", "rattle"), "build", "--crate-name", "keyline_c", "src/lib.rt", "--crate-type", "staticlib"]
@@ -88,7 +88,7 @@ def run(words, keys, **settings):
 
 
 def as_the_program(mode, keys, **settings):
-    """The console sends, accepts and ends as the program does of these keys, which have no Ctrl-C and no newline."""
+    """The console sends, accepts and ends like the program for these keys, which have no Ctrl-C and no newline."""
     program = run([PROGRAM, "--mode", mode, "--prompt", "c> "], keys)
     console = run([CONSOLE, mode], keys, **settings)
     same("the lines", re.sub(b"^got: ", b"", console.stdout, flags=re.M), program.stdout)
@@ -98,7 +98,7 @@ def as_the_program(mode, keys, **settings):
 
 
 def on_pipes():
-    """In one piece, and a byte at a time."""
+    """In one piece, and one byte at a time."""
     a_byte = {"env": {**os.environ, "LD_PRELOAD": shim("one_byte")}}
     for mode, rows in (("emacs", EMACS), ("vi", VI)):
         for keys in rows:
@@ -127,27 +127,27 @@ def under_valgrind():
 
 
 def keys_in_one_read():
-    """A line whose display is larger than the buffers were, and more lines than a buffer holds."""
+    """A line whose display is larger than the buffers were, and more lines than fit into a buffer."""
     for keys in (b"x" * 13000 + b"\r", b"ab\x01c\r" * 3000):
         as_the_program("emacs", keys)
 
 
 def arguments():
-    """Any other than a mode is refused, and no line is read."""
+    """Any other argument than a mode is rejected, and no line is read."""
     for words in (["nano"], ["--help"], [""], ["vi", "vi"]):
         console = run([CONSOLE, *words], b"ab\r")
         same(f"{words}", (console.returncode, console.stdout, console.stderr), (2, b"", b"usage: console [emacs|vi]\n"))
 
 
 def ends_with(console, words):
-    """Whether it failed, and these are its last words."""
+    """Whether it failed with this message."""
     same("the status", console.returncode, 1)
     same("the last words", console.stderr[-len(words) :], words)
 
 
 def what_fails():
-    """Keys that mean nothing end it with their cause in a row of their own. So do keys that can't be read, and lines that
-    can't be written; a display that fails has no place for words."""
+    """Invalid keys end it with the cause in a row of its own. So do keys that can't be read, and lines that can't be written; a
+    display that fails has no place for a message."""
     for keys, cause in ((b"ab\xff", b"input is not UTF-8"), (b"ab\x18\x1b[200~c\x1b[201~", b"paste out of place")):
         ends_with(run([CONSOLE], keys), BELOW + b"console: " + cause + b"\n")
     for redirected, words in (
@@ -160,13 +160,13 @@ def what_fails():
 
 
 def refused_growths():
-    """Each growth refused in turn, that of a display for the new row at a line's end among them."""
+    """Each allocation failing in turn, including that of a display for the new row at a line's end."""
     for keys in (b"one two\x17\r\x19\x19\r\x10\x10 three\r", *(b"a" * count + b"\r" for count in range(16))):
         each_refused(keys)
 
 
 def each_refused(keys):
-    """Of these keys each growth refused in turn: the console tells it by its status, and the lines before it stand."""
+    """With these keys each allocation fails in turn: the console's status says so, and the lines before it are written."""
     whole = run([CONSOLE], keys).stdout
     with tempfile.TemporaryDirectory() as folder:
         number, report = 0, os.path.join(folder, "report")
@@ -178,11 +178,11 @@ def each_refused(keys):
             done = run([CONSOLE], keys, env={**os.environ, **setting})
             if done.returncode:
                 ends_with(done, REFUSED)
-                same(f"the lines, growth {number}", done.stdout, whole[: len(done.stdout)])
+                same(f"the lines, allocation {number}", done.stdout, whole[: len(done.stdout)])
             else:
-                same(f"the lines, growth {number}", done.stdout, whole)
+                same(f"the lines, allocation {number}", done.stdout, whole)
     if number < 10:
-        raise Failed(f"only {number - 1} growths were refused")
+        raise Failed(f"only {number - 1} allocations failed")
 
 
 def drawn(text, back=0):
@@ -201,7 +201,7 @@ def in_mid_line():
 
 
 def a_line_on_a_terminal():
-    """Pasted text comes between marks while a line is read. Between two lines the terminal is as it was found."""
+    """Pasted text comes between marks while a line is read. Between two lines the terminal is as it was."""
     with in_mid_line() as it:
         it.type(b"\x1b[200~X\rY\x1b[201~")
         it.expect(drawn(b"abX\r\nYc", 1).replace(b"\r\n", NEW_ROW))
@@ -212,7 +212,7 @@ def a_line_on_a_terminal():
 
 
 def signals_that_end_it():
-    """The terminal is put back, and then the signal acts."""
+    """The terminal is restored, and then the signal acts."""
     for number in (signal.SIGHUP, signal.SIGINT, signal.SIGQUIT, signal.SIGTERM):
         with in_mid_line() as it:
             os.kill(it.job, number)
@@ -223,14 +223,14 @@ def signals_that_end_it():
 
 
 def a_window_that_is_closed():
-    """The console may find that no key comes any more before the signal comes."""
+    """The console may find that no more keys come before the signal comes."""
     with in_mid_line() as it:
         it.close_window()
         it.expect_gone(0, 1, -signal.SIGHUP)
 
 
 def stopped_and_continued():
-    """Where it stops the terminal is put back, and where it goes on the line is drawn again. In the background it stops."""
+    """When it stops, the terminal is restored, and when it continues, the line is drawn again. In the background it stops."""
     for places in ([terminal.IN_FRONT], [terminal.BEHIND, terminal.IN_FRONT]):
         with in_mid_line() as it:
             it.type(b"\x1a")
@@ -248,7 +248,7 @@ def stopped_and_continued():
 
 @contextlib.contextmanager
 def on_tmux(columns, redirected=""):
-    """The console in a window of so many columns, its folder, and after it the terminal's settings compared."""
+    """The console in a window with so many columns, its folder, and after it the terminal's settings compared."""
     with tempfile.TemporaryDirectory() as folder:
         run_it = f"stty -g >before; {shlex.quote(CONSOLE)} {redirected}; echo status $?; stty -g >after"
         pane = Terminal(folder, columns, f"cd {shlex.quote(folder)}; {run_it}; exec sleep {HUNG}")
@@ -272,7 +272,7 @@ def wait_for(what, holds):
 
 
 def type_keys(pane, *words):
-    pane.ask("send-keys", "-H", *(f"{byte:02x}" for word in words for byte in key(word)))
+    type_bytes(pane, b"".join(map(key, words)))
 
 
 def lines_on_tmux():
@@ -289,24 +289,11 @@ def lines_on_tmux():
         expect(pane, "the end", (["c> y", "got: y", "c>", "status 0"], (4, 0)))
 
 
-def rows_of(text, columns):
-    return [text[at : at + columns] for at in range(0, len(text), columns)]
-
-
-def edited_in_its_middle(pane, columns):
-    """Types a line of more than a row, and two letters before its last two."""
-    text = (string.ascii_letters * 5)[: columns + 10]
-    type_keys(pane, text, "Left", "Left", "X", "Y")
-    line = f"{text[:-2]}XY{text[-2:]}"
-    expect(pane, f"a line in {columns} columns", (rows_of(f"c> {line}", columns), divmod(len(line) + 1, columns)))
-    return line
-
-
 def windows():
-    """A line is as wide as its window, and after the window changes the next one is as wide as that."""
-    for columns, other in ((30, 60), (60, 80), (80, 200), (200, 30)):
+    """A line is as wide as its window, and after the window changes so is the next one."""
+    for columns, other in zip(WIDTHS, WIDTHS[1:] + WIDTHS[:1]):
         with on_tmux(columns) as (pane, _):
-            line = edited_in_its_middle(pane, columns)
+            line = edited_in_its_middle(pane, "c> ", columns)
             type_keys(pane, "Enter")
             shown = rows_of(f"c> {line}", columns) + rows_of(f"got: {line}", columns)
             expect(pane, "it is accepted", ([*shown, "c>"], (len(shown), 3)))
@@ -315,12 +302,12 @@ def windows():
                 wait_for("the new width", lambda: os.get_terminal_size(tty.fileno()).columns == other)
             type_keys(pane, "Enter", "C-l")
             expect(pane, "a new line", (["c>"], (0, 3)))
-            edited_in_its_middle(pane, other)
+            edited_in_its_middle(pane, "c> ", other)
             type_keys(pane, "C-c", "C-d")
 
 
 def a_long_paste_is_one_text():
-    """All of 70,000 characters, of a thousand rows, are in the line, and none is left."""
+    """All of its 70,000 characters, in a thousand rows, are in the line, and none is left."""
     text = "\n".join(f"{row:069}" for row in range(1000))
     with on_tmux(80, ">lines") as (pane, folder):
         pasted, lines = folder / "pasted", folder / "lines"

@@ -15,7 +15,7 @@ NAMING = re.compile(r"\[([^\]\n]+)\]\[([\w-]+)\]")
 TARGET = re.compile(r"\[([\w-]+)\]: (\S+)")
 ANCHOR = re.compile(r"<a id=\"([\w-]+)\"></a>")
 SOURCE = re.compile(r"`(crates/[\w/]+\.\w+)`")
-ITEM = re.compile(r"\s*(?:[-*]|\d+\.) ")
+ITEM = re.compile(r"\A\s*(?:[-*]|\d+\.) ")
 
 
 def documents():

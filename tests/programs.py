@@ -1,6 +1,6 @@
 #!/usr/bin/env python3
-"""The small programs over the library, on pipes: the columns that the environment names, and a history that lasts from one
-run to the next. Run it by ./test, or alone once `rt ci` has built them.
+"""The small programs over the library, on pipes: the columns of the environment, and a history that lasts from one run to the
+next. Run it by ./test, or alone once `rt ci` has built them.
 """
 import os
 import subprocess
@@ -11,10 +11,10 @@ from checks import CTRL_D, HUNG, PROGRAM, built, run_all, same
 FIRST, HISTORY = built("first_program"), built("history_program")
 CTRL_C, CTRL_P = b"\x03", b"\x10"
 
-# A row of more cells than 80, with a cell in the middle that is typed last.
+# A row of more than 80 cells, with a cell in the middle that is typed last.
 LONG = b"x" * 100 + b"\x01y\r" + CTRL_D
 
-# What COLUMNS holds, and the columns that lines are drawn for then.
+# The value of COLUMNS, and the columns for which lines are drawn then.
 COLUMNS = [
     (None, 80),
     (b"2", 2),
@@ -39,7 +39,7 @@ COLUMNS = [
 
 
 def columns_of_the_environment():
-    """A program draws what keyline draws for the columns that COLUMNS writes, and for 80 if it writes none."""
+    """A program draws like keyline for the columns in COLUMNS, and for 80 if there is no number."""
     for text, columns in COLUMNS:
         others = {name: value for name, value in os.environb.items() if name != b"COLUMNS"}
         environment = others if text is None else {**others, b"COLUMNS": text}
@@ -51,7 +51,7 @@ def columns_of_the_environment():
 
 
 def run(folder, keys, said, status=0, words=b"", path="history"):
-    """A run over a history in this folder: what it says again, its status and its last words."""
+    """A run over a history in this folder: the lines that it repeats, its status and its message."""
     ran = subprocess.run([HISTORY, *([path] if path else [])], input=keys, capture_output=True, timeout=HUNG, cwd=folder)
     same("what was said", ran.stdout, said)
     same("status", ran.returncode, status)
@@ -89,7 +89,7 @@ def a_file_that_no_argument_names():
 
 
 def a_save_that_fails():
-    """It is told, and ends the program with status 1; what was said stands."""
+    """The error is printed, and ends the program with status 1; the lines before were printed."""
     with tempfile.TemporaryDirectory() as folder:
         told = b"Error: the history is not saved\n\nCaused by:\n    No such file or directory (os error 2)\n"
         run(folder, b"one\r", b"one\n", 1, told, path="none/history")
@@ -108,7 +108,7 @@ def a_history_that_does_not_load():
 
 
 def input_that_fails():
-    """Lines that were said before a fault are kept, and the fault is told."""
+    """Lines that were read before a fault are kept, and the fault is printed."""
     with tempfile.TemporaryDirectory() as folder:
         run(folder, b"one\r\xff", b"one\n", 1, b"Error: input is not UTF-8\n")
         same("the file", text_of(folder), b"#V2\none\n")

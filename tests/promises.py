@@ -73,7 +73,7 @@ def promises(lines):
     crate, place = None, ""
     for at, line in enumerate(lines):
         if line.startswith("### "):
-            crate, place = next(iter(re.findall(r"`(\w+)`", line)), None), ""
+            crate, place = next((it for it in re.findall(r"`(\w+)`", line) if it in CRATES), None), ""
         elif line.startswith("Place: "):
             place = line
         elif line.startswith("- "):

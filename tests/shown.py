@@ -1,8 +1,8 @@
 #!/usr/bin/env python3
-"""What a terminal shows after each key of whole sessions: tmux runs ./keyline, and is asked for its cells and cursor.
+"""What a terminal shows after each key of whole sessions: tmux runs ./keyline, and reports its cells and cursor.
 
-The sessions stand in tests/shown.txt. `rt ci` builds the program first. Texts are those whose widths tmux counts as the
-editor does. Each session is ended by Ctrl-C, and then the terminal's settings must be those that were found.
+The sessions are in tests/shown.txt. `rt ci` builds the program first. The texts are ones whose widths tmux counts like the
+editor. Each session is ended by Ctrl-C, and then the terminal's settings must be as they were.
 """
 import os
 import pathlib
@@ -19,7 +19,7 @@ from drawings import Terminal
 
 ROWS = pathlib.Path(__file__).with_name("shown.txt")
 
-# Seconds within which a key is shown.
+# A key must be shown within this many seconds.
 PATIENCE = 60
 
 NAMED = {
@@ -30,7 +30,7 @@ NAMED = {
 
 
 def meant(text):
-    """A text in which a control character or a blank may stand as its picture."""
+    """A text in which a control character or a blank may be written as its picture."""
     return "".join(chr(ord(c) - 0x2400) if 0x2400 <= ord(c) <= 0x2420 else c for c in text)
 
 
@@ -45,7 +45,7 @@ def key(word):
 
 
 def deed(words):
-    """What is done to a terminal: keys are sent to it, or it is told to paste a text."""
+    """An action on a terminal: keys are sent to it, or it pastes a text."""
     word, _, text = words.partition(" ")
     if word == "paste:":
         return lambda terminal: paste(terminal, meant(text))
@@ -54,7 +54,7 @@ def deed(words):
 
 
 def paste(terminal, text):
-    """Has tmux paste, as a user of it does: between marks where they are asked for, each newline as a Return."""
+    """Makes tmux paste, as its user does: between marks if the program asked for them, each newline as a Return."""
     terminal.ask("set-buffer", "--", text)
     terminal.ask("paste-buffer", "-p")
 
@@ -111,7 +111,7 @@ class Session:
         terminal.ask("send-keys", "-H", "03")
 
     def left(self, folder):
-        """Compares what the session left behind it."""
+        """Compares what the session left."""
         read = lambda name: pathlib.Path(folder, name).read_text(encoding="utf-8")
         end = time.monotonic() + PATIENCE
         while not (os.path.exists(os.path.join(folder, "after")) and read("after")):
@@ -179,8 +179,8 @@ def test_of(session):
 
 
 def typed_before_the_end(terminal, above):
-    """Types a letter ten times before a line's end, so that the line is drawn anew ten times; answers how many rows tmux then keeps
-    above the window."""
+    """Types a letter ten times before a line's end, so that the line is redrawn ten times; returns how many rows tmux then
+    keeps above the window."""
     until_taken(terminal)
     for count, keys in enumerate(["a c Left", *"b" * 10]):
         deed(keys)(terminal)
@@ -189,8 +189,8 @@ def typed_before_the_end(terminal, above):
 
 
 def copies_that_tmux_keeps():
-    """tmux scrolls away what is cleared from the window's first cell on, so it keeps a copy of each drawing of a line that begins in
-    the first row, unless it is told not to."""
+    """tmux scrolls up what is erased from the window's first cell on. So it keeps a copy of each drawing of a line that begins
+    in the first row, unless it is configured not to."""
     for above, setting, copies in (([], None, 10), (["above"], None, 0), ([], "off", 0)):
         with tempfile.TemporaryDirectory() as folder:
             terminal = Terminal(folder, 80, "".join(f"echo {it}; " for it in above) + f"{shlex.quote(SCRIPT)}; exec sleep 120")

@@ -3,6 +3,7 @@ pub mod Columns
 pub mod Desks
 pub mod Editors
 pub mod Endings
+pub mod Events
 pub mod Known
 pub mod OneByte
 pub mod Opened
@@ -12,6 +13,5 @@ pub mod Playing
 pub mod Plays
 pub mod Program
 pub mod SessionLaws
-pub mod SessionScripts
 pub mod Sessions
 pub mod Shows

@@ -1,4 +1,4 @@
-//! A session from what is wanted of it, and the program's defaults for the rest.
+//! Builds a session from its requested parts, with the program's defaults for the rest.
 
 ghost use Rattle.std.specs.Prelude.{◌≡◌, ◌≤◌, IfErr, IfOk, Some, [], false};
 ghost use Rattle.line_config.specs.Adapters.{gave, taken};
@@ -17,12 +17,12 @@ use std::alloc::Global;
 use std::env;
 use std::io::{self, Input, Stderr, StdinLock};
 
-/// Columns of a row if nothing says another number.
+/// The columns of a row if no other number is set.
 const COLUMNS: u16 = 80;
 
-/// What a session is to be opened on. Where nothing else is said: the settings of the program with
-/// the keys of Emacs, nothing bound, no helper, the prompt `> ` and rows of 80 columns, a history
-/// that begins empty and isn't saved, and lines that are written nowhere.
+/// The parts with which a session is opened. The defaults are the program's settings with the keys
+/// of Emacs, no bindings, no helper, the prompt `> ` and rows of 80 columns. The history begins
+/// empty and isn't saved, and lines are not written.
 #[derive(Drop)]
 pub struct SessionBuilder<'p, F, S, H, D, L, T, B: Decides = EventHandler> {
     alloc: Global,
@@ -38,10 +38,10 @@ pub struct SessionBuilder<'p, F, S, H, D, L, T, B: Decides = EventHandler> {
     text: T,
 }
 
-/// A sink that keeps nothing.
+/// A sink that discards its bytes.
 pub type Nowhere = WriteSink<io::Sink>;
 
-/// A builder of which the source of keys and the display alone are said.
+/// A builder with only the source of keys and the display set.
 pub type DefaultBuilder<'p, S, D> = SessionBuilder<
     'p,
     SliceSource<'static>,
@@ -58,7 +58,7 @@ pub type StandardKeys = ReadSource<StdinLock<'static>>;
 /// A builder over the standard streams.
 pub type StandardBuilder<'p> = DefaultBuilder<'p, StandardKeys, WriteSink<Stderr>>;
 
-/// An editor over them, helped by `H`, whose history is saved to `T`.
+/// An editor over them with the helper `H`, whose history is saved to `T`.
 pub type StandardEditor<H, T = Nowhere> = LineEditor<
     StandardKeys,
     H,
@@ -67,14 +67,14 @@ pub type StandardEditor<H, T = Nowhere> = LineEditor<
     T,
 >;
 
-/// The settings: each accepted line is kept in the history.
+/// The settings: each accepted line is added to the history.
 fn standard_config() -> Config
     ensures { result ≡ standard_config }
 {
     Config::builder().auto_add_history(true).build()
 }
 
-/// The columns that a text writes in decimal digits alone, 2 to 1,000; 80 if it writes none.
+/// The number of columns in a text of decimal digits, 2 to 1,000; 80 for any other text.
 fn columns_by(text: &str) -> u16
     ensures { ColumnsBy text.now result }
 {
@@ -84,7 +84,7 @@ fn columns_by(text: &str) -> u16
     }
 }
 
-/// The columns that the environment variable `COLUMNS` writes; 80 if it writes none or is not set.
+/// The number of columns in the environment variable `COLUMNS`; 80 if it has none or is not set.
 fn environment_columns(rt: &HostRuntime) -> u16
     ensures { (2 ≤ result) × (result ≤ 1000) }
 {
@@ -94,7 +94,7 @@ fn environment_columns(rt: &HostRuntime) -> u16
     }
 }
 
-/// Over this source of keys and this display.
+/// A builder over this source of keys and this display.
 pub fn session_builder<'p, S: Source + Drop, D: Sink + Drop>(
     alloc: Global,
     source: S,
@@ -120,9 +120,9 @@ pub fn session_builder<'p, S: Source + Drop, D: Sink + Drop>(
     }
 }
 
-/// Keys from standard input, and the display on standard error, with the columns of the window:
-/// those that the environment variable `COLUMNS` writes in decimal digits, 2 to 1,000. Rows have 80
-/// columns if it is not set or holds anything else.
+/// Keys from standard input, and the display on standard error, with the columns of the window.
+/// These are the number in the environment variable `COLUMNS`, in decimal digits, 2 to 1,000; 80 if
+/// it is not set or is anything else.
 pub fn standard_builder<'p>(rt: &HostRuntime) -> StandardBuilder<'p>
     ensures defaults { HasDefaults ⟦<SliceSource<'static> as Source>⟧.feed
         ⟦<Nowhere as Sink>⟧.has_failed ⟦<Nowhere as Sink>⟧.has_failed result }
@@ -149,28 +149,28 @@ where
     L: Sink + Drop,
     T: Sink + Drop,
 {
-    /// The settings.
+    /// Sets the settings.
     pub fn config(self, config: Config) -> Self
         ensures { result ≡ record self.entry { config = config } }
     {
         SessionBuilder { config, ..self }
     }
 
-    /// What stands before each line of `Session::run`; `Session::read_line` is handed one.
+    /// Sets the prompt of each line of `Session::run`; `Session::read_line` takes its own.
     pub fn prompt(self, prompt: &'p str) -> Self
         ensures { result ≡ record self.entry { prompt = prompt.entry } }
     {
         SessionBuilder { prompt, ..self }
     }
 
-    /// Columns of a row, 2 to 1,000.
+    /// Sets the number of columns of a row, 2 to 1,000.
     pub fn columns(self, columns: u16) -> Self
         ensures { result ≡ record self.entry { columns = columns } }
     {
         SessionBuilder { columns, ..self }
     }
 
-    /// What the keys do besides the tables.
+    /// Sets the bindings of keys, besides the tables.
     pub fn bindings<C: Decides>(
         self,
         bindings: EventMap<C>,
@@ -204,7 +204,7 @@ where
         }
     }
 
-    /// What completes, hints, highlights and validates.
+    /// Sets the helper.
     pub fn helper<G: Helper + Drop>(self, helper: G) -> SessionBuilder<'p, F, S, G, D, L, T, B>
         ensures { result ≡ record {
           alloc = self.entry.alloc;
@@ -235,7 +235,7 @@ where
         }
     }
 
-    /// Where accepted lines are written.
+    /// Sets the sink of accepted lines.
     pub fn lines<M: Sink + Drop>(self, lines: M) -> SessionBuilder<'p, F, S, H, D, M, T, B>
         ensures { result ≡ record {
           alloc = self.entry.alloc;
@@ -266,7 +266,8 @@ where
         }
     }
 
-    /// Where the history's text is loaded from, and where it is saved to where an entry is new.
+    /// Sets the source from which the history's text is loaded, and the sink to which it is saved
+    /// if an entry is new.
     pub fn history<G: Source + Drop, U: Sink + Drop>(
         self,
         history: G,

@@ -4,16 +4,15 @@
 ghost use Rattle.std.specs.Prelude.{IsTrue};
 ghost use Rattle.line_config.specs.Feed.{AlwaysTold};
 ghost use Rattle.line_editor.specs.Running.{helping_by};
-ghost use Rattle.keyline.specs.SessionLaws.{CutsAreFree, LinesBegin, SessionsBegin, ColumnsAreFree, LastAreKept};
+ghost use Rattle.keyline.specs.SessionLaws.{CutsAreFree, LinesBegin, SessionsBegin, ColumnsAreFree, LineColumnsAreFree, LastAreKept};
 ghost use Rattle.keyline.specs.Desks.{TakesLines};
 ghost use Rattle.keyline.specs.Known.{known_by};
 ghost use Rattle.keyline.specs.OneByte.{LayoutsTell, OneByte};
 ghost use Rattle.keyline.specs.Pasting.{PastesAreAccepted, PastedLinesAreAccepted};
-ghost use Rattle.keyline.specs.Playing.{SessionsCome};
-ghost use Rattle.keyline.specs.Plays.{PlaysSession};
-ghost use Rattle.keyline.specs.SessionScripts.{EventsTell, LinesTell};
+ghost use Rattle.keyline.specs.Plays.{RunsSession};
+ghost use Rattle.keyline.specs.Events.{LinesInOrder};
 ghost use Rattle.keyline.specs.Opened.{desk_of, given_in, prompt_of, text_sink};
-ghost use Rattle.keyline.specs.Shows.{DrawingsShow, SessionsShow, CommandsShow, TurnsShow};
+ghost use Rattle.keyline.specs.Shows.{BlankIsAtRest, SessionsShow, CommandsShow, TurnsShow};
 
 use crate::prompter::Prompter;
 use crate::session::{Ended, LineRead, Session};
@@ -37,7 +36,7 @@ pub fn always_told<
     ensures plays { let helps =
         helping_by H.hint_of H.verdict_of H.completion_of H.update_of H.marks in
         let known = known_by S.feed D.held D.waits D.has_failed L.held L.has_failed in
-        PlaysSession known T.held T.has_failed
+        RunsSession known T.held T.has_failed
         (given_in B.decides helps (prompt_of session) session)
         (desk_of session) (text_sink session) result }
 {
@@ -78,13 +77,6 @@ pub fn lines<
     }
 }
 
-/// The bytes up to each moment of a session show its value at its top, like a single drawing on a
-/// blank display, and all bytes sent have a meaning. The rows above keep their cells until a screen
-/// is cleared.
-pub fn drawings_show()
-    ensures { DrawingsShow }
-{}
-
 /// From any display that shows a value, the bytes of a command lead to one that shows the value
 /// after it. An interruption leaves the cursor at the drawing's end.
 pub fn commands_show()
@@ -92,7 +84,7 @@ pub fn commands_show()
 {}
 
 /// From any display that shows a value, the bytes of a turn, whatever is read in it, lead to one
-/// that shows the value after it. A course is one turn after the other.
+/// that shows the value after it.
 pub fn turns_show()
     ensures { TurnsShow }
 {}
@@ -105,30 +97,27 @@ pub fn one_byte()
     ensures sends { OneByte }
 {}
 
-/// A session's display bytes are parts, one for each moment and one for the end of each line. Up to
-/// each moment they show its value at its top.
+/// At each moment of a session's events the bytes so far show prompt and line at its top, like a
+/// single drawing on a blank display. After each drawing they have a meaning. The rows above keep
+/// their cells until a screen is cleared. This holds from any display between two lines, such as a
+/// blank one, and with a prompt and columns for each line.
 pub fn sessions_show()
-    ensures { SessionsShow }
+    ensures blank { BlankIsAtRest }
+    ensures sessions { SessionsShow }
 {}
 
-/// Two sessions that differ only in their columns accept the same lines and save the same text,
-/// turn for turn, if the prompt ends in the same column on both.
+/// Two sessions that differ only in their columns accept the same lines and save the same text, if
+/// the prompt ends in the same column on both. Except for the bytes sent they are the same, event
+/// for event, and so is each line, with the values and marks of its steps.
 pub fn columns()
-    ensures { ColumnsAreFree }
+    ensures sessions { ColumnsAreFree }
+    ensures lines { LineColumnsAreFree }
 {}
 
-/// The events of a session lead to its report: its ending, the bytes drawn, the remaining input,
-/// the history, and the lines written. Any first events have written the first lines, and added
-/// these and at most the next one to the history. A line's events lead to the line that is meant.
-pub fn events()
-    ensures sessions { EventsTell }
-    ensures lines { LinesTell }
-{}
-
-/// A session that goes as its script says has done all its events, or a fault stopped one of them
-/// after those before it were done. So the bytes of display, sources and sinks are known then.
-pub fn sessions_come<D: Sink, L: Sink>()
-    ensures { SessionsCome D.held L.held }
+/// Any first events of a session have written the first of its lines, and added these and at most
+/// the next one to the history.
+pub fn lines_in_order()
+    ensures { LinesInOrder }
 {}
 
 /// A history that began empty holds, under fixed settings, the last of the accepted lines that

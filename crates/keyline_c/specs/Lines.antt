@@ -1,5 +1,6 @@
 -- A line of the keys so far: its arguments and its result.
-use Rattle.std.specs.Prelude.{◌≡◌, ◌⊎◌, ℕ, ◌<◌, ◌++◌, Bool, true, if◌then◌else◌, List, Result, Err, IsErrAnd, length, string_bytes}
+use Rattle.std.specs.Prelude.{◌≡◌, ◌⊎◌, ℕ, ◌<◌, ◌++◌, Bool, true, if◌then◌else◌, List, Result, Ok, Err, IsErrAnd, length, string_bytes}
+use Rattle.std.specs.List.{flat_map}
 use Rattle.line_config.specs.Feed.{Feed}
 use Rattle.line_config.specs.declared.device.Last.{Last}
 use Rattle.line_config.specs.declared.device.Last.TheVariants.{End, Failed}
@@ -7,7 +8,7 @@ use Rattle.line_config.specs.declared.errors.ReadlineError.{ReadlineError}
 use Rattle.line_config.specs.declared.errors.ReadlineError.TheVariants.{Display, Helper, HistoryText, Memory}
 use Rattle.line_config.specs.declared.memory.SliceSource.{SliceSource}
 use Rattle.line_config.specs.declared.memory.VecSink.{VecSink}
-use Rattle.line_editor.specs.Courses.{LineReport}
+use Rattle.line_editor.specs.Courses.{breaks_after}
 use Rattle.line_help.specs.History.{Filed}
 use Rattle.line_help.specs.HistoryText.{has_bad_row}
 use Rattle.line_help.specs.WordList.{rows_to_come}
@@ -17,7 +18,8 @@ use Rattle.line_screen.specs.Reader.{coming_in, left_in}
 use Rattle.line_screen.specs.declared.reading.reader.KeyReader.{KeyReader}
 use Rattle.keyline.specs.Program.{config_of, program_given}
 use Rattle.keyline.specs.Plays.{loaded_from, loads}
-use Rattle.keyline.specs.Sessions.{Given, SessionState, breaks, history_after, line_bytes, line_in, state_over}
+use Rattle.keyline.specs.Events.{Course, bytes_drawn, line_course}
+use Rattle.keyline.specs.Sessions.{Given, SessionState, history_after, state_over}
 use Rattle.keyline.specs.declared.options.Options.{Options}
 use Rattle.keyline_c.specs.Meant.{AreMeant, OptionsMean, whole, words_in}
 use Rattle.keyline_c.specs.Slots.{IsRingOf}
@@ -37,23 +39,28 @@ IsWant e = (e ≡ Memory) ⊎ ((e ≡ Display) ⊎ (e ≡ Helper))
 
 -- if memory didn't run out, the result is the line's: so many bytes are left for a reader that
 -- continues after the line
-pub record LeftBy (held : VecSink → List ℕ) (feed : SliceSource → Feed) (g : Given)
-    (t : LineReport) (old : Filed) (left : Left) : Type 0 where
+pub record LeftBy (held : VecSink → List ℕ) (feed : SliceSource → Feed)
+    (line : Course (Result (List ℕ) ReadlineError × SessionState)) (left : Left) : Type 0 where
   pub reader : KeyReader SliceSource
-  pub outcome_is : made_of string_bytes left.outcome ≡ t.outcome
-  pub drawn : held left.display ≡ line_bytes g.screen t
-  pub ring_is : left.ring ≡ t.ring
-  pub history_is : left.history ≡ history_after g.config.auto_add_history t.outcome old
+  pub outcome_is : made_of string_bytes left.outcome ≡ line.answer.0
+  pub drawn : held left.display ≡ flat_map bytes_drawn line.events
+  pub ring_is : left.ring ≡ line.answer.1.ring
+  pub history_is : left.history ≡ line.answer.1.history
   pub rest_is : left.rest ≡ length (left_in feed reader)
-  pub goes_on : coming_in feed reader ≡ t.rest
+  pub goes_on : coming_in feed reader ≡ line.answer.1.coming
 
 -- the relation of a line. More fuel than the source has bytes is enough
 pub record ReadsLine (held : VecSink → List ℕ) (feed : SliceSource → Feed) (g : Given)
     (x : SessionState) (bound : ℕ) (left : Left) : Type 0 where
-  pub goes : (n : ℕ) → bound < n → LeftBy held feed g (line_in n g x) x.history left
+  pub goes : (n : ℕ) → bound < n → LeftBy held feed (line_course n g x) left
       ⊎ IsErrAnd left.outcome IsWant
 
--- the end of a line: a new row if its ending asks for one, and an accepted line in the history
+-- after an accepted line, and after the endings that say so, the display gets a new row
+abbrev pub breaks : Result (List ℕ) ReadlineError → Bool
+breaks (Ok text) = true
+breaks (Err e) = breaks_after e
+
+-- the end of a line: a new row if its ending asks for one, and an accepted one in the history
 pub record Ends (held : VecSink → List ℕ) (outcome : Result (List ℕ) ReadlineError)
     (old new : VecSink) (history history' : Filed) : Type 0 where
   pub drawn : held new ≡ held old ++ break_if (breaks outcome)

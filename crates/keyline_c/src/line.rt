@@ -8,8 +8,8 @@ ghost use Rattle.line_screen.specs.Calls.{screen_of, sink_of};
 ghost use Rattle.line_screen.specs.Reader.{left_in};
 ghost use Rattle.line_screen.specs.Drawing.{row_break};
 ghost use Rattle.keyline.specs.Program.{program_given, word_texts};
-ghost use Rattle.keyline.specs.Sessions.{breaks, history_after, screen_by, state_over};
-ghost use Rattle.keyline_c.specs.Lines.{Ends, IsWant, ReadsLine, last_of};
+ghost use Rattle.keyline.specs.Sessions.{history_after, screen_by, state_over};
+ghost use Rattle.keyline_c.specs.Lines.{Ends, IsWant, ReadsLine, breaks, last_of};
 
 use keyline::{
     Bindings, Config, FileHistory, History, Options, ReadlineError, Sink, SliceSource, Source,

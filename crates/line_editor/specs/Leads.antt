@@ -1,5 +1,5 @@
 -- The drawings of commands lead from the sight of the value before to that of the value after.
-use Rattle.std.specs.Prelude.{◌≡◌, ℕ, false, List, [], ◌∷◌, Option, Result, Ok, IsUtf8, IsCharBoundary}
+use Rattle.std.specs.Prelude.{◌≡◌, ⊤, ℕ, true, false, List, [], ◌∷◌, Option, Result, Ok, Err, IsUtf8, IsCharBoundary}
 use Rattle.line_config.specs.declared.errors.ReadlineError.{ReadlineError}
 use Rattle.line_keys.specs.Refreshing.{Ask}
 use Rattle.line_keys.specs.Refreshing.Ask.{Line, Message, Prompted, DoingInsert, DoneInserting}
@@ -14,9 +14,8 @@ use Rattle.line_record.specs.Ring.{Ring}
 use Rattle.line_editor.specs.Accepting.{submitted}
 use Rattle.line_editor.specs.Asks.{ask_effect}
 use Rattle.line_editor.specs.Commands.{Means, effect}
-use Rattle.line_editor.specs.Courses.{TurnsLead, EndsLine}
-use Rattle.line_editor.specs.LineScripts.{LineState, kept, line_script, made_from, played_from, reported_from, turn_script}
-use Rattle.line_editor.specs.Sights.{Sight, no_sight, sight_with, sight_of, ended_sight, info_after, FitsAll, Turns}
+use Rattle.line_editor.specs.LineScripts.{Begins, LineAsk, LineState, effect_at, kept, left_at, line_script, made_from, played_from, turn_script}
+use Rattle.line_editor.specs.Sights.{Sight, no_sight, sight_with, sight_of, ended_sight, info_after, sight_all, FitsAll, Turns}
 use Rattle.line_editor.specs.Redraws.{Redraw}
 use Rattle.line_editor.specs.Values.{Value, Setting, EditStep, Effect, first_value, shown_hint}
 use Rattle.line_editor.specs.Values.EditStep.{Draws}
@@ -99,12 +98,30 @@ EachTurnLeads =
     → let turn = turn_script n custom in
     TurnLeads s k.value info (played_from s indent turn k).answer (made_from s indent turn k)
 
--- whatever the input is, a line's turns lead from a display without the line, each to what it
--- shows; the turn that accepts the line leads to the drawing's end
+module _ (s : Setting) (indent : ℕ) where
+  -- at the begin of a turn its value is shown, with the current information
+  abbrev pub BeginShows : LineAsk → LineState → Sight → Type 0
+  BeginShows Begins k x = x ≡ sight_of s k.value x.info
+  BeginShows ask k x = ⊤
+
+  -- an accepted line leaves the cursor at the drawing's end
+  abbrev pub EndShows : Result (List ℕ) ReadlineError → Sight → Type 0
+  EndShows (Ok text) x = x.ended ≡ true
+  EndShows (Err e) x = ⊤
+
+  -- the steps of each request fit what those before it lead to
+  abbrev pub LeadsAlong : Result (List ℕ) ReadlineError → LineState → Sight → List LineAsk → Type 0
+  LeadsAlong o k x [] = EndShows o x
+  LeadsAlong o k x (ask ∷ asks) =
+      let steps = (effect_at s indent k ask).steps in let y = sight_all x steps in
+      FitsAll s.prompt x steps × BeginShows ask k y × LeadsAlong o (left_at s indent k ask) y asks
+
+-- whatever the input is, the requests of a line lead, one after the other, from a display without
+-- the line
 abbrev pub LinesLead : Type 0
 LinesLead =
     (n : ℕ) (s : Setting) (custom : Custom) (indent : ℕ) (input : Input) (r : Ring)
     (coming : Coming)
     → let k = kept (first_value s) input r coming in
-    let line = reported_from s indent (line_script n custom) k in
-    TurnsLead s.prompt no_sight line.turns × EndsLine line.outcome line.turns
+    let line = played_from s indent (line_script n custom) k in
+    LeadsAlong s indent line.answer k no_sight line.asks

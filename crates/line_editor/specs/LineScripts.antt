@@ -1,5 +1,5 @@
 -- A line as a script: its requests in order, depending on the input, and where a fault stops it.
-use Rattle.std.specs.Prelude.{◌≡◌, ◌⊎◌, ℕ, zero, suc, List, [], ◌∷◌, ◌++◌, Option, None, Result, Ok, Err}
+use Rattle.std.specs.Prelude.{◌≡◌, ◌⊎◌, ℕ, zero, suc, List, [], ◌∷◌, ◌++◌, Result, Ok, Err}
 use Rattle.std.specs.List.{FoldsTo}
 use Rattle.line_config.specs.Played.{Plan, Played, played}
 use Rattle.line_config.specs.Scripts.{Script, Ends, Asks, World, then}
@@ -16,10 +16,8 @@ use Rattle.line_editor.specs.Accepting.{submitted}
 use Rattle.line_editor.specs.Asks.{shown_in, ask_effect}
 use Rattle.line_editor.specs.Calls.{Canvas, Ruler, MadeIn}
 use Rattle.line_editor.specs.Commands.{Means, means_of, effect, ring_after_command, LeavesRing, outcome}
-use Rattle.line_editor.specs.Courses.{Turn, Open, last_turn, LineReport}
 use Rattle.line_editor.specs.Drawing.{refreshed}
 use Rattle.line_editor.specs.NextCommand.{line_phrase, reset_by}
-use Rattle.line_editor.specs.Sights.{sight_of, info_after}
 use Rattle.line_editor.specs.Steps.{asked, Surface, Stops}
 use Rattle.line_editor.specs.Values.{Value, Setting, EditStep, Effect, Transition, unchanged, taking_memory, then_do}
 use Rattle.line_editor.specs.declared.commands.Status.{Status}
@@ -151,26 +149,6 @@ module _ (s : Setting) (indent : ℕ) where
   abbrev pub made_from : {X : Type 0} → LineScript X → LineState → Effect
   made_from script k = let p = played_from script k in
       record { value = p.rest.value; steps = steps_along k p.asks }
-
-  -- the turns of the requests, each up to the begin of the next one; these steps of the first one
-  -- have been made, and this information was shown before them
-  abbrev pub turns_along : Result (List ℕ) ReadlineError → LineState → List EditStep
-      → Option (List ℕ) → List LineAsk → List Turn
-  turns_along outcome k steps info [] =
-      last_turn outcome steps (sight_of s k.value (info_after steps info)) ∷ []
-  turns_along outcome k steps info (Begins ∷ asks) = let stands = info_after steps info in
-      Open steps (sight_of s k.value stands) ∷ turns_along outcome k [] stands asks
-  turns_along outcome k steps info (ask ∷ asks) =
-      turns_along outcome (left_at k ask) (steps ++ (effect_at k ask).steps) info asks
-
-  -- the result of a line's script
-  abbrev pub reported_from : LineScript (List ℕ) → LineState → LineReport
-  reported_from script k = let p = played_from script k in record {
-    turns = turns_along p.answer k [] None p.asks;
-    outcome = p.answer;
-    ring = p.rest.ring;
-    rest = p.rest.coming;
-  }
 
 -- ---- where a fault stops it
 

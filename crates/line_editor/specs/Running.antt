@@ -1,5 +1,5 @@
 -- A whole line: what is passed in for it, what is returned, and what was read and drawn.
-use Rattle.std.specs.Prelude.{◌≡◌, ⊤, ℕ, ◌<◌, ◌≤◌, Bool, List, Option, None, option_map, Result, Ok, Err, string_bytes, flat_map, if◌then◌else◌, IsTrue, IfErr, OnOk}
+use Rattle.std.specs.Prelude.{◌≡◌, ⊤, ℕ, ◌<◌, ◌≤◌, Bool, List, Option, None, option_map, Result, Ok, Err, string_bytes, if◌then◌else◌, IsTrue, IfErr, OnOk}
 use Rattle.line_buffer.specs.Cells.{origin}
 use Rattle.line_buffer.specs.Line.{Line}
 use Rattle.line_buffer.specs.declared.layout.Layout.{Layout}
@@ -18,11 +18,10 @@ use Rattle.line_keys.specs.InputStates.{new_input}
 use Rattle.line_keys.specs.Phrases.{Input}
 use Rattle.line_keys.specs.declared.command.CmdKind.{CmdKind}
 use Rattle.line_record.specs.Ring.{Ring}
-use Rattle.line_editor.specs.Calls.{Call, Canvas, Ruler}
-use Rattle.line_editor.specs.Courses.{Turn, steps_in, LineReport}
-use Rattle.line_editor.specs.LineScripts.{LineState, LineAsk, LineStage, kept, line_script, line_world, played_from, line_stage, reported_from}
+use Rattle.line_editor.specs.Calls.{Canvas, Ruler}
+use Rattle.line_editor.specs.LineScripts.{LineState, LineAsk, LineStage, kept, line_script, line_world, played_from, line_stage}
 use Rattle.line_editor.specs.Redraws.{fresh}
-use Rattle.line_editor.specs.Steps.{asked, surface}
+use Rattle.line_editor.specs.Steps.{surface}
 use Rattle.line_editor.specs.Turning.{cause_of}
 use Rattle.line_editor.specs.Values.{Value, Setting, Hooks, first_value, hooks_by, IsFailing}
 use Rattle.line_editor.specs.declared.running.Ran.{Ran}
@@ -57,15 +56,6 @@ abbrev pub line_played : ℕ → Setting → Custom → Config → Ring → Comi
     → Played LineAsk LineState ReadlineError (List ℕ)
 line_played n s custom config ring c =
     played_from s config.indent_size (line_script n custom) (kept_first s config ring c)
-
--- the line as it is meant: from an empty one at the history's end, with this input
-abbrev pub line_meant : ℕ → Setting → Custom → Config → Ring → Coming → LineReport
-line_meant n s custom config ring c =
-    reported_from s config.indent_size (line_script n custom) (kept_first s config ring c)
-
--- the calls of its turns, on a blank display
-abbrev pub line_calls : Ruler → List Turn → List Call
-line_calls r turns = (asked r (fresh r.mode) (flat_map steps_in turns)).calls
 
 -- a helper, if there is one, by its replies
 abbrev pub helping_by : {H : Type 0} → (H → Answers (Reply (Option Hinted)))

@@ -25,9 +25,9 @@ pub fn turn_leads()
     ensures { EachTurnLeads }
 {}
 
-/// Whatever the input is, the turns of a line lead, drawing after drawing, from a display without
-/// the line to what each turn shows. The turn that accepts the line or ends the session is the
-/// last.
+/// Whatever the input is, the requests of a line lead, drawing after drawing, from a display without
+/// the line. At the begin of each turn its value is shown. An accepted line leaves the cursor at the
+/// end of its drawing.
 pub fn lines_lead()
     ensures { LinesLead }
 {}

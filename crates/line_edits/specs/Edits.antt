@@ -11,10 +11,9 @@ use Rattle.line_buffer.specs.Replay.{insertion, replacement}
 use Rattle.line_buffer.specs.Transpositions.{transpose_chars, transpose_words, before_transposed}
 use Rattle.line_buffer.specs.declared.types.Movement.{Movement}
 use Rattle.line_buffer.specs.declared.types.WordAction.{WordAction}
-use Rattle.line_config.specs.Scripts.{Ends, Asks}
 use Rattle.line_record.specs.Held.{line_back, has_step, ahead_back}
 use Rattle.line_record.specs.Ring.{Ring, ring_all}
-use Rattle.line_edits.specs.Steps.{WriteSteps, Tells, Leaves, made, doing, telling, in_turn, answering, grouping, StopsIn}
+use Rattle.line_edits.specs.Steps.{WriteSteps, Tells, Leaves, made, doing, doing_nothing, telling, in_turn, answering, grouping, StopsIn}
 use Rattle.line_edits.specs.Written.{Written, Writes, written_in, group_opened}
 use Rattle.line_edits.specs.declared.recorded_line.RecordedLine.{RecordedLine}
 use Rattle.line_record.specs.Items.{Items, BackInPart, no_items, last_changes, ahead_on}
@@ -90,7 +89,7 @@ replacing c n l = grouping (exchanging c n (clusters_after n l) l)
 -- nothing is done if there is none
 abbrev pub replacing_if_any : ℕ → ℕ → Line → WriteSteps Bool
 replacing_if_any c n l =
-    if is_some (place_forward n l) then answering true (replacing c n l) else Ends false
+    if is_some (place_forward n l) then answering true (replacing c n l) else doing_nothing false
 
 -- a character inserted in place of the text up to a place
 abbrev pub putting_over : ℕ → ℕ → Line → WriteSteps ⊤
@@ -100,7 +99,7 @@ putting_over c end l =
 
 -- the cluster at the cursor overwritten, if there is one
 abbrev pub writing_over : ℕ → Option ℕ → Line → WriteSteps Bool
-writing_over c None l = Ends false
+writing_over c None l = doing_nothing false
 writing_over c (Some end) l = answering true (putting_over c end l)
 
 abbrev pub overwriting : ℕ → Line → WriteSteps Bool
@@ -117,7 +116,7 @@ transposing_chars_in_group l = grouping (transposing_chars l)
 -- the cursor goes behind the earlier word before the words are swapped
 abbrev pub transposing_words : ℕ → Line → WriteSteps Bool
 transposing_words n l =
-    Asks (Leaves (before_transposed n l)) (λ none. telling (transpose_words n l))
+    in_turn (doing (Leaves (before_transposed n l)) (tt {0})) (telling (transpose_words n l))
 
 abbrev pub transposing_words_in_group : ℕ → Line → WriteSteps Bool
 transposing_words_in_group n l = grouping (transposing_words n l)
