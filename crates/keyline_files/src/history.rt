@@ -1,6 +1,7 @@
 //! The file that keeps a history.
 
-ghost use Rattle.std.specs.Prelude.{◌≡◌, [], IsOk};
+ghost use Rattle.std.specs.Prelude.{◌≡◌, [], IfOk, IsOk, string_bytes};
+ghost use Rattle.keyline_files.specs.Paths.{SeenFrom};
 
 use crate::whole::read_file;
 use std::fs::{File, Metadata, OpenOptions, Permissions};
@@ -69,12 +70,18 @@ fn target_of(rt: &HostRuntime, path: &str) -> io::Result<String> {
 }
 
 /// A path as it is seen from the folder of another.
-fn beside(rt: &HostRuntime, other: &str, path: &str) -> io::Result<String> {
-    let seen = match other.rsplit_once('/') {
-        Some((folder, _)) if !path.starts_with('/') => format!(in rt.alloc(); "{folder}/{path}")?,
-        _ => String::from_str(rt.alloc(), path)?,
-    };
-    Ok(seen)
+fn beside(rt: &HostRuntime, other: &str, path: &str) -> io::Result<String>
+    ensures { IfOk result (λ seen. SeenFrom other.now path.now (string_bytes seen)) }
+{
+    match other.rsplit_once('/') {
+        Some((folder, _)) if !path.starts_with('/') => {
+            let mut seen = String::from_str(rt.alloc(), folder)?;
+            seen.push('/')?;
+            seen.push_str(path)?;
+            Ok(seen)
+        }
+        _ => Ok(String::from_str(rt.alloc(), path)?),
+    }
 }
 
 fn replace(rt: &HostRuntime, path: &str, old: Option<&Metadata>, text: &[u8]) -> io::Result<()> {
