@@ -18,4 +18,5 @@ pub mod SessionSteps
 pub mod ShowCourse
 mod ShowRows
 pub mod ShowSteps
+pub mod TranscriptLemmas
 pub mod TurnShowLemmas

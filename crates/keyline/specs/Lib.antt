@@ -14,3 +14,4 @@ pub mod SessionLaws
 pub mod SessionScripts
 pub mod Sessions
 pub mod Shows
+pub mod Transcripts

@@ -1,5 +1,5 @@
 //! The calls of `keyline` by themselves: command lines, sessions by options, editors of one line a call, lines
-//! that are handed back one by one, endings.
+//! that are handed back one by one, endings, whole sessions over memory.
 #![tactic(auto)]
 
 #[cfg(test)]
@@ -12,3 +12,5 @@ mod editors;
 mod endings;
 #[cfg(test)]
 mod lines;
+#[cfg(test)]
+mod over_memory;
