@@ -1,11 +1,14 @@
 #!/usr/bin/env python3
-"""What the program answers to the words of a command line that give no session: the help, or what is wrong with them.
+"""What the program answers to the words of a command line that give no session: the help, the version, or what is wrong with them.
 
-It is for ./keyline, where the program is not built yet. The program's own rules stand in crates/keyline/src/options.rt;
-tests/arguments.py compares both, text for text. Status 3 says that the words give a session.
+It is for ./keyline, where the program is not built yet. The program's own rules stand in crates/keyline/src/options.rt, and its
+version in its main file; tests/arguments.py compares both, text for text. Status 3 says that the words give a session.
 """
 import os
+import re
 import sys
+
+TOP = os.path.dirname(os.path.dirname(os.path.realpath(__file__)))
 
 SESSION = 3
 # Each option with its value; a flag has none.
@@ -31,8 +34,13 @@ def mistake(message, used=None):
 
 
 def help_text():
-    with open(os.path.join(os.path.dirname(os.path.realpath(__file__)), "help.txt"), encoding="utf-8") as it:
+    with open(os.path.join(TOP, "answers", "help.txt"), encoding="utf-8") as it:
         return Answer(0, it.read())
+
+
+def version():
+    with open(os.path.join(TOP, "crates", "keyline_program", "src", "main.rt"), encoding="utf-8") as it:
+        return Answer(0, re.search(r'const VERSION: &str = "(.*)";', it.read())[1] + "\n")
 
 
 def shown(name):
@@ -143,6 +151,8 @@ def read(words):
         words = [word.decode() for word in words]
     except UnicodeDecodeError:
         raise Answer(2, "keyline: an argument is not UTF-8\n") from None
+    if words == ["--version"]:
+        raise version()
     read = Words()
     read.read(words)
     if read.given.get("mode", "emacs") not in ("emacs", "vi") or not is_columns(read.given.get("columns", "80")):

@@ -1,13 +1,13 @@
 """The built program beside loops over other line editors, on the same keys, their lines thrown away.
 
-Called by `bench/run beside` with the folder that holds keyline and a loop over each editor that is installed, and with the way
-in which all are run: `terminal`, where each reads its keys from a terminal of its own, since most edit nothing that comes over
-a pipe, and its display is thrown away; `drawn`, where the terminal takes the display too; `pipe`; or `instructions`, the first
-of them under callgrind, which counts nothing that the system does.
+Called by `bench/run beside` with the folder of keyline and of a loop over each installed editor, and with the way in which all
+are run. With `terminal` each reads its keys from its own terminal, since most don't edit what comes over a pipe, and its
+display is thrown away. With `drawn` the terminal takes the display too. The others are `pipe`, and `instructions`: that is
+`terminal` under callgrind, which doesn't count the system's work.
 
-The runs of all take turns. The time is the processor's, the program's own and the system's for it, less that of a session
-without the keys that are counted; of the rounds the median counts. Beside it stands how many times keyline's it is. An editor
-that accepts other lines than keyline doesn't have the keys, and has no figure.
+The editors take turns. The time is processor time, the program's own and the system's for it, less that of a session without
+the keys that are counted; the median of the rounds counts. It is followed by its ratio to keyline's. An editor that accepts
+other lines than keyline lacks some of the keys, and has no figure.
 """
 import fcntl
 import functools
@@ -27,25 +27,25 @@ from dataclasses import dataclass
 from session import BACKSPACE, END, ENTER, HOME, LEFT, RIGHT, edits, lines_typed, one_line, pasted
 
 EDITORS = ["keyline", "readline", "libedit", "tecla", "rustyline"]
-# Those that edit what comes over a pipe.
+# Editors that edit what comes over a pipe.
 PIPED = ["keyline", "readline"]
 TYPED = b"the quick brown fox jumps over two dogs."
 ESCAPE, END_OF_INPUT, KILL, YANK, UP = b"\x1b", b"\x04", b"\x0b", b"\x19", b"\x10"
 WORD_LEFT, WORD_RIGHT = b"\x1bb", b"\x1bf"
 ROUNDS = 9
-# A terminal holds no more bytes at once.
+# The most bytes that a terminal buffers at once.
 ROOM = 4096
-# Seconds without a byte after which a program is held to be stuck.
+# After this many seconds without a byte a program is taken to be stuck.
 PATIENCE = 300
 
 
 def before(text, keys):
-    """Keys before a line of so many characters."""
+    """Keys before a line of this many characters."""
     return b"a" * text + HOME + b"b" * keys + ENTER
 
 
 def after(text, keys):
-    """The same keys with so many characters before them."""
+    """The same keys with this many characters before them."""
     return b"a" * text + b" " + keys
 
 
@@ -62,7 +62,7 @@ def kills(keys):
 
 
 def commands(keys):
-    """Vi's, ten keys at a time."""
+    """Vi's keys, ten at a time."""
     return TYPED + ESCAPE + b"hl0web$hxu" * (keys // 10) + ENTER
 
 
@@ -101,7 +101,7 @@ CASES = [
 
 @functools.cache
 def history_file(editor, folder, entries):
-    """A file of so many entries of 44 bytes, as the editor writes it."""
+    """A file of this many entries of 44 bytes, as the editor writes it."""
     rows = [f"entry {it:06} of a history, as it was typed." for it in range(entries)]
     if editor == "libedit":
         rows = ["_HiStOrY_V2_", *(row.replace(" ", r"\040") for row in rows)]
@@ -127,14 +127,14 @@ def set_keys(terminal, echoes):
 
 
 def wait_for_editor(display):
-    """Until the editor takes the terminal's echo away: what is typed before that may be lost."""
+    """Waits until the editor turns the terminal's echo off: keys typed before that may be lost."""
     end = time.monotonic() + PATIENCE
     while termios.tcgetattr(display)[3] & termios.ECHO and time.monotonic() < end:
         time.sleep(0.0005)
 
 
 def is_typed(display, keys):
-    """Sends keys as the terminal takes them, and reads its display, until the program has ended. Whether it has."""
+    """Sends keys as the terminal takes them, and reads its display, until the program has ended. Returns whether it has."""
     left = memoryview(keys)
     while True:
         readable, writable, _ = select.select([display], [display] if left else [], [], PATIENCE)
@@ -150,14 +150,14 @@ def is_typed(display, keys):
 
 
 def used_by(process):
-    """The seconds of the processor, once a process has ended."""
+    """The seconds of processor time, once a process has ended."""
     _, status, used = os.wait4(process.pid, 0)
     process.returncode = os.waitstatus_to_exitcode(status)
     return used.ru_utime + used.ru_stime
 
 
 def from_terminal(command, keys, echoes, lines=subprocess.DEVNULL, drawn=subprocess.DEVNULL):
-    """The seconds of a session whose keys come from a terminal. Readline draws nothing where a terminal didn't echo."""
+    """The seconds of a session whose keys come from a terminal. Readline draws nothing if a terminal doesn't echo."""
     display, terminal = pty.openpty()
     set_keys(terminal, echoes)
     os.set_blocking(display, False)
@@ -171,7 +171,7 @@ def from_terminal(command, keys, echoes, lines=subprocess.DEVNULL, drawn=subproc
 
 
 def on_terminal(command, keys, echoes, lines=subprocess.DEVNULL):
-    """The seconds of one that is drawn on the terminal, too."""
+    """The seconds of one that is also drawn on the terminal."""
     return from_terminal(command, keys, echoes, lines, drawn=None)
 
 
@@ -192,7 +192,7 @@ def instructions(command, keys, echoes, lines=subprocess.DEVNULL):
         return int(re.findall(rb"Collected : (\d+)", told.read())[-1])
 
 
-# How an editor is run, which of them can be run so, how often, and the unit of what that tells.
+# How an editor is run, which of them can be run so, how often, and the unit of the result.
 WAYS = {
     "terminal": (from_terminal, EDITORS, ROUNDS, "ms", 1e3),
     "drawn": (on_terminal, EDITORS, ROUNDS, "ms", 1e3),
@@ -202,7 +202,7 @@ WAYS = {
 
 
 class Beside:
-    """The editors that are there, and a way in which they are run."""
+    """The installed editors, and a way in which they are run."""
 
     def __init__(self, programs, way, folder):
         self.run, able, self.rounds, self.unit, self.scale = WAYS[way]
@@ -214,18 +214,18 @@ class Beside:
         return self.run(command, keys, editor != "keyline", **more)
 
     def lines(self, editor, case):
-        """What an editor accepts."""
+        """The lines that an editor accepts."""
         with tempfile.TemporaryFile() as lines:
             self.session(editor, case, case.keys, case.entries, lines=lines)
             lines.seek(0)
             return lines.read()
 
     def counted(self, editor, case):
-        """What the keys that are counted cost."""
+        """The cost of the keys that are counted."""
         return self.session(editor, case, case.keys, case.entries) - self.session(editor, case, case.less, 1)
 
     def cells(self, case):
-        """The medians of the costs, and of how often keyline's they are."""
+        """The medians of the costs, and of their ratios to keyline's."""
         accepted = {it: self.lines(it, case) for it in self.editors}
         able = [it for it in self.editors if accepted[it] == accepted["keyline"]]
         rounds = [{it: self.counted(it, case) for it in able} for _ in range(self.rounds)]

@@ -1,4 +1,4 @@
-/* The cost of a key by keyline.h: a call after each key at the end of lines of so many characters. */
+/* The cost of a key with keyline.h: a call after each key at the end of lines of so many characters. */
 #include "../crates/keyline_c/c/keyline.h"
 #include <stdio.h>
 #include <string.h>

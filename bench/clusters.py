@@ -1,7 +1,7 @@
-"""What keys cost that look at clusters: the built program, its display and lines thrown away.
+"""The cost of keys that examine clusters: the built program, its display and lines thrown away.
 
-Called by `bench/run clusters` with the built program. Each key is pressed a hundred times in a line of each of two sizes,
-less a session that has the line alone: by instructions where valgrind is there, else by the processor's time.
+Called by `bench/run clusters` with the built program. Each key is pressed a hundred times in lines of two sizes, less a
+session with only the line. The cost is counted in instructions if valgrind is installed, and otherwise in processor time.
 """
 import os
 import re
@@ -21,7 +21,7 @@ def pasted(text):
     return b"\x1b[200~" + text + b"\x1b[201~"
 
 
-# What is pressed, in which mode, of which characters the line is, what stands before the keys, each key, and the line's sizes.
+# The keys, their mode, the characters of the line, the text before the keys, each key, and the line's sizes.
 CASES = [
     ("Ctrl-T at the front of a line", "emacs", b"a", HOME + RIGHT, TRANSPOSE, (1_000, 10_000)),
     ("Vi's r and a character there", "vi", b"a", ESCAPE + b"0", b"rb", (1_000, 10_000)),
@@ -33,7 +33,7 @@ CASES = [
 
 
 def instructions(command, keys):
-    """How many instructions a session makes, by callgrind."""
+    """The number of instructions of a session, by callgrind."""
     made = subprocess.run(
         ["valgrind", "--tool=callgrind", "--callgrind-out-file=/dev/null", *command],
         input=keys, stdout=subprocess.DEVNULL, stderr=subprocess.PIPE, check=True,
@@ -42,7 +42,7 @@ def instructions(command, keys):
 
 
 def microseconds(command, keys):
-    """The processor's time for a session, the shortest of five."""
+    """The processor time of a session, the shortest of five."""
     return min(once(command, keys) for _ in range(5))
 
 

@@ -1,8 +1,8 @@
-"""What keys at the end of a line of plain text cost: the built program, its display and lines thrown away.
+"""The cost of keys at the end of a line of plain text: the built program, its display and lines thrown away.
 
-Called by `bench/run ends` with the built program. The line is pasted, and its end stands in the middle of a row, so that no
-key has the whole line drawn: what a key costs is then the same in a line of any size. Each is pressed two hundred times in a
-line of each of two sizes, less a session that has a hundred, counted as by `bench/run clusters`.
+Called by `bench/run ends` with the built program. The line is pasted, and ends in the middle of a row, so that no key draws
+the whole line. So a key costs the same in a line of any size. Each is pressed two hundred times in lines of two sizes, less a
+session with a hundred, counted like in `bench/run clusters`.
 """
 import shutil
 import sys

@@ -1,6 +1,6 @@
 #!/bin/sh
-# Entries a second of processor time, and peak memory, of loading, searching and saving a history of 100,000 entries, 20 times.
-# Called by `bench/run history` with the built program. Wants GNU time as /usr/bin/time (Debian's package `time`).
+# Entries per second of processor time, and peak memory, of loading, searching and saving a history of 100,000 entries, 20 times.
+# Called by `bench/run history` with the built program. Needs GNU time as /usr/bin/time (Debian's package `time`).
 set -eu
 program=$1
 measure() {

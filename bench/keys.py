@@ -1,8 +1,8 @@
-"""What each key costs in a long line: the built program over a pipe, its display and lines thrown away.
+"""The cost of each key in a long line: the built program over a pipe, its display and lines thrown away.
 
-Called by `bench/run keys` with the built program. Texts of several kinds are pasted, and each key is typed some times at
-their start and at their end. The time is the processor's, less that of the same session without the key; of two runs the
-shorter counts. The dearest key of each text is told of; and each that costs more than twenty times what it costs in a tenth
+Called by `bench/run keys` with the built program. Texts of several kinds are pasted, and each key is typed a few times at
+their start and at their end. The time is processor time, less that of the same session without the key; the shorter of two
+runs counts. Printed are the dearest key of each text, and each key that costs more than twenty times as much as in a tenth
 of the text.
 """
 import os
@@ -14,7 +14,7 @@ import tempfile
 SIZES = (20_000, 200_000)
 # How often a key is typed, and the seconds below which a difference says nothing.
 TIMES, LEAST = 5, 0.02
-# More than this in ten times the text is told of.
+# Keys that cost more than this many times as much in ten times the text are reported.
 GROWTH = 20
 PASTE, PASTED, INTERRUPT = b"\x1b[200~", b"\x1b[201~", b"\x03"
 TEXTS = {
@@ -61,7 +61,7 @@ def typed(word):
 
 
 def seconds(words, keys):
-    """The processor's time for a session over these keys, the shorter of two."""
+    """The processor time of a session with these keys, the shorter of two."""
     return min(once(words, keys) for _ in range(2))
 
 
@@ -90,7 +90,7 @@ def main(program, only=""):
                 for large, key in told:
                     if large * TIMES > LEAST and large > GROWTH * (small := case.cost(0, key)):
                         dear.append(f"{text}, {mode}, {place}: {key}, {1000 * small:.3f} and {1000 * large:.2f} ms")
-    print(f"costs more than {GROWTH} times what it costs in a tenth of the text: {'; '.join(dear) or 'no key'}")
+    print(f"more than {GROWTH} times as dear as in a tenth of the text: {'; '.join(dear) or 'no key'}")
 
 
 class Case:
@@ -101,7 +101,7 @@ class Case:
         self.bare = [seconds(self.words, keys + INTERRUPT) for keys in begun]
 
     def cost(self, size, key):
-        """The seconds that keys of these names cost together."""
+        """The seconds that keys with these names cost together."""
         keys = b"".join(map(typed, key.split())) * TIMES
         return (seconds(self.words, self.begun[size] + keys + INTERRUPT) - self.bare[size]) / TIMES
 

@@ -1,7 +1,7 @@
-"""What a line costs after another: the built program, its display and lines thrown away.
+"""The cost of one more line: the built program, its display and lines thrown away.
 
-Called by `bench/run lines` with the built program. Each case is told for what a session has more than one of each of two
-sizes, as `bench/run clusters` does it: so neither what a session costs once is counted, nor hidden what grows with the lines.
+Called by `bench/run lines` with the built program. The cost is the difference between a session and a longer one, at two
+sizes, as in `bench/run clusters`. So the fixed cost of a session isn't counted, and a cost that grows with the lines shows.
 """
 import shutil
 import sys

@@ -1,9 +1,9 @@
-"""What keys cost a whole session: the built program over a pipe, its display and lines thrown away.
+"""The cost of keys in whole sessions: the built program over a pipe, its display and lines thrown away.
 
 Called by `bench/run session` with the built program. Each case is run at two sizes, the second ten times the first, so
-that a cost that grows with what came before shows. The time is the processor's for the program, in microseconds a key,
-less that of a session without keys, or without those that are counted; of five runs the shortest counts. Then what
-sessions of many lines and of one long line take of memory, at the peak, and of time.
+that a cost that grows with the session shows. The time is processor time, in microseconds per key, less that of a session
+without keys, or without those that are counted; the shortest of five runs counts. After that come the peak of memory and
+the time of sessions with many lines and with one long line.
 """
 import os
 import subprocess
@@ -58,7 +58,7 @@ CASES = [
 
 
 def seconds(program, keys):
-    """The processor's time for a session over these keys, the shortest of five."""
+    """The processor time of a session with these keys, the shortest of five."""
     return min(once(program, keys) for _ in range(5))
 
 
@@ -77,13 +77,13 @@ def once(program, keys):
 
 
 def peak(process):
-    """The most memory that a process has held so far, in KB."""
+    """The most memory that a process has used so far, in KB."""
     with open(f"/proc/{process.pid}/status", encoding="ascii") as status:
         return next(int(line.split()[1]) for line in status if line.startswith("VmHWM"))
 
 
 def whole(program, keys, lines):
-    """The peak of memory of a session over these keys, once its lines are read, and the processor's time for it."""
+    """The peak of memory of a session with these keys, once its lines are read, and its processor time."""
     how = {"stdin": subprocess.PIPE, "stdout": subprocess.PIPE, "stderr": subprocess.DEVNULL}
     with subprocess.Popen([program, "--columns=1000"], **how) as session:
         typist = threading.Thread(target=lambda: (session.stdin.write(keys), session.stdin.flush()))

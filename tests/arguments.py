@@ -1,8 +1,9 @@
 #!/usr/bin/env python3
-"""The program's arguments, its history file and its file of words. Run it by ./test, or alone once `rt ci` or ./keyline has built the program."""
+"""The program's arguments, its history file and its file of words. Run it by ./test, or alone once `rt ci` or ./keyline --prove has built the program."""
 import importlib.util
 import itertools
 import os
+import re
 import stat
 import subprocess
 import tempfile
@@ -15,11 +16,11 @@ NOT_SAVED = b"keyline: history text failed\n"
 NO_WORDS = b"keyline: words do not load\n"
 TAB = b"\t"
 BELL = b"\x07"
-# Words of each kind, of which every one and every two make a command line.
+# Words of each kind; each one and each pair of them makes a command line.
 WORDS = ["--help", "-h", "-hx", "--help=x", "--mode", "--mode=vi", "--mode=ed", "--columns", "--columns=+07", "--columns=1",
          "--columns=", "--prompt=--", "--history", "--words", "--brackets", "--brackets=on", "--", "-", "", "vi", "7", "-x", "-\u00e9",
-         "--colums", "--wrods", "--hlp=3", "--nothing", "--=x", "---", "--mod\u00e9"]
-# Where a number or a likeness ends.
+         "--colums", "--wrods", "--hlp=3", "--nothing", "--=x", "---", "--mod\u00e9", "--version"]
+# The limits of a number, and of a similar word.
 EDGES = [["--columns", text] for text in ("2", "1000", "1001", "65538", "0" * 30 + "5", "9" * 5000, "+", "5_0", " 5", "-5", "\u0665")]
 EDGES += [["--mode" + "x" * count] for count in (35, 36, 37)]
 EDGES += [["--columns", "9", "--mode", "vi", "--mode", "vi", *last] for last in ([], ["--nothing"], ["--colums"], ["--help=x"])]
@@ -71,7 +72,7 @@ class History:
 
 
 def by_its_name(*words):
-    """A run without keys, by the name that it has in build/, which its usages repeat."""
+    """A run without keys, by its name in build/, which its usage texts repeat."""
     return subprocess.run(["keyline", *words], executable=PROGRAM, stdin=subprocess.DEVNULL, capture_output=True, timeout=HUNG)
 
 
@@ -84,6 +85,16 @@ def help_is_asked_for():
         for part in (b"Usage: keyline", b"--mode <emacs|vi>", b"[default: emacs]", b"[default: 80]",
                      b"--prompt <TEXT>", b"--history <FILE>", b"--words <FILE>", b"--brackets", b"Ctrl-Y"):
             same(f"{part!r} is there", part in run.stdout, True)
+
+
+def version_is_asked_for():
+    run = ran(b"ab\r", "--version")
+    expect(run, display=b"")
+    same("whether a version is told", re.fullmatch(rb"keyline \d+\.\d+\.\d+\n", run.stdout) is not None, True)
+    for words in (["--version", "--mode=vi"], ["--mode=vi", "--version"], ["--version", "--version"]):
+        run = ran(b"ab\r", *words)
+        expect(run, b"", status=2)
+        same(f"whether it is unexpected in {words}", b"unexpected argument '--version' found" in run.stderr, True)
 
 
 def wrong_arguments():
@@ -106,7 +117,8 @@ def an_argument_that_is_no_text():
 
 
 def what_is_answered_before_a_build():
-    """./keyline answers by the words alone where nothing is built: as the program does, and wherever the program does."""
+    """./keyline answers by the words alone if nothing is built: just like the program, and in every case in which the program
+    does."""
     spec = importlib.util.spec_from_file_location("answers", os.path.join(ANSWERS, "arguments.py"))
     answers = importlib.util.module_from_spec(spec)
     spec.loader.exec_module(answers)
@@ -120,7 +132,7 @@ def what_is_answered_before_a_build():
             texts = [b"", answer.text.encode()] if answer.status else [answer.text.encode(), b""]
             same(f"what the program answers to {words}", found, [answer.status, *texts])
         else:
-            # There are no files of such names, so words do not load.
+            # There are no files with such names, so words do not load.
             if b"--words" in words:
                 same(f"what a session by {words} says", found, [6, b"", NO_WORDS])
             else:
@@ -128,7 +140,7 @@ def what_is_answered_before_a_build():
 
 
 def no_device_is_touched_before():
-    # The keys are left to whoever reads next.
+    # The keys are left for the next reader.
     with tempfile.TemporaryFile() as keys:
         keys.write(b"ab\r")
         keys.seek(0)
@@ -141,7 +153,7 @@ def prompts_and_columns():
     shown = drawing(b"").replace(b"> ", b"? ") + NEW_ROW
     expect(ran(b"", "--prompt", "? "), b"", shown)
     expect(ran(b"", "--prompt="), b"", drawing(b"").replace(b"> ", b"") + NEW_ROW)
-    # `abc` after `> ` fills four columns at the second letter, and the third stands in a row of its own.
+    # `abc` after `> ` fills four columns at the second letter, and the third is in the next row.
     narrow = ran(b"abc" + ENTER, "--columns", "4")
     expect(narrow, b"abc\n")
     same("the same display", narrow.stderr == ran(b"abc" + ENTER).stderr, False)
@@ -284,7 +296,7 @@ def words_with_brackets():
     with Words(b"(alpha") as words:
         expect(words.ran(b"(al" + TAB + ENTER + b")" + ENTER, "--brackets"), b"(alpha\n)\n")
         expect(words.ran(b"(al" + TAB + ENTER), b"(alpha\n")
-    # A helper that has no words rings; without a helper nothing is sent.
+    # A helper without words rings the bell; without a helper nothing is sent.
     rung = ran(b"al" + TAB + ENTER, "--brackets")
     expect(rung, b"al\n")
     same("bells", rung.stderr.count(BELL), 1)
@@ -344,6 +356,7 @@ def many_entries():
 if __name__ == "__main__":
     run_all([
         help_is_asked_for,
+        version_is_asked_for,
         wrong_arguments,
         an_argument_that_is_no_text,
         what_is_answered_before_a_build,

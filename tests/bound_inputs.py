@@ -1,7 +1,7 @@
-"""Sessions over memory that nobody would write by hand, each made from a random generator: for tests/hostile_memory.py.
+"""Sessions over memory that nobody would write by hand, each made by a random generator: for tests/hostile_memory.py.
 
-A session has what the program has no argument for: keys bound to commands and handlers, a helper that answers as it is told
-to, and each way in which clusters are counted.
+A session has what the program has no arguments for: keys bound to commands and handlers, a helper with fixed answers, and
+each way to count clusters.
 """
 import dataclasses
 import re
@@ -13,7 +13,7 @@ from sessions import NAMED, meant
 
 MESSAGE = re.compile(r"Mismatched brackets: '.' is (unpaired|not properly closed)")
 
-# Keys by their names, and what a terminal sends for them.
+# Keys by their names, and the bytes that a terminal sends for them.
 KEYS = {f"C-{chr(code + 0x40)}": bytes([code]) for code in range(1, 0x20) if chr(code) not in "\t\r\x1b\x7f\x08"}
 KEYS.update({"Space": b" ", "Bar": b"|", "Enter": b"\r", "Tab": b"\t", "Backspace": b"\x7f", "Esc": b"\x1b"})
 KEYS.update({chr(code): bytes([code]) for code in range(0x21, 0x7F) if chr(code) != "|"})
@@ -25,17 +25,17 @@ KEYS.update({"Delete": b"\x1b[3~", "Insert": b"\x1b[2~", "PageUp": b"\x1b[5~", "
 KEYS.update({"C-Left": b"\x1b[1;5D", "A-Right": b"\x1b[1;3C", "S-Up": b"\x1b[1;2A", "F1": b"\x1bOP", "F5": b"\x1b[15~"})
 KEYS.update({"UnknownEscSeq": b"\x1b[99~", "PasteEnd": PASTED, "PasteStart": PASTE, "C-H": b"\x08", "C-M": b"\r", "C-I": b"\t"})
 NAMES = list(KEYS)
-# The one that accepts a session's last line: nothing else is bound to it, and no session has it.
+# The key that accepts a session's last line: nothing else is bound to it, and no session has it.
 ACCEPTING = "ʘ"
 KEYS[ACCEPTING] = ACCEPTING.encode()
-# Those that begin a sequence which is reached.
+# The keys that begin a sequence which is reached.
 FIRST = ["C-X", "C-X", "C-X", "F5", "F1", "S-Up", "PageUp", "Insert", "C-O", "C-V", "A-Q", "C-A-Z", "UnknownEscSeq"]
 
 BARE = """Abort EndOfFile Interrupt Noop Repaint ClearScreen Suspend Unknown AcceptLine Newline AcceptOrInsertLine
     AcceptAtEndOrInsertLine BeginningOfHistory EndOfHistory ForwardSearchHistory HistorySearchBackward HistorySearchForward
     NextHistory PreviousHistory ReverseSearchHistory CapitalizeWord Complete CompleteBackward CompleteHint DowncaseWord
     QuotedInsert TransposeChars UpcaseWord YankPop""".split()
-# Those that show what is hunted for come more often.
+# Keys that show what the hunt looks for come more often.
 BARE += ["CompleteHint", "Complete", "Repaint", "AcceptLine", "Newline", "YankPop", "HistorySearchBackward", "PreviousHistory"] * 2
 BARE += ["AcceptOrInsertLine", "AcceptAtEndOrInsertLine"] * 3
 RANGES = "WholeLine BeginningOfLine EndOfLine ViFirstPrint WholeBuffer BeginningOfBuffer EndOfBuffer".split()
@@ -43,7 +43,7 @@ ENDS = {"Interrupt", "EndOfFile"}
 
 
 def noted(text):
-    """A text, or bytes, in the notation of rows: pictures, and numbers for what would be lost or be read in another way."""
+    """A text, or bytes, in the notation of rows: pictures, and numbers for what would be lost or misread."""
     if isinstance(text, bytes):
         text = text.decode(errors="surrogateescape")
     return "".join(map(noted_char, text))
@@ -63,7 +63,7 @@ def noted_char(char):
 
 
 def noted_keys(keys):
-    """Keys as a row has them, in one word."""
+    """Keys in a row's notation, in one word."""
     word = noted(keys) or "nothing"
     if keys and (word in NAMED or word[0] in ":#" or re.match("[CM]-", word)):
         return f"‹{ord(word[0]):02x}›{word[1:]}"
@@ -81,7 +81,7 @@ class Session:
         return f": {' '.join(self.words)}\n{noted_keys(self.keys)} = nothing"
 
     def value(self, name, default=None):
-        """What stands after a name in the first word that has it."""
+        """The text after a name in the first word that has it."""
         return next((word[len(name):] for word in self.words if word.startswith(name)), default)
 
     @property
@@ -105,7 +105,7 @@ class Session:
         return f"reads:{self.value('reads:', '1..')}"
 
     def with_message(self, shown, line, place):
-        """The drawing that has after prompt and line the message which a display shows there, where it may show one."""
+        """The drawing with the message that a display shows after prompt and line, if it may show one."""
         message = meant(self.value("message:", "")).decode()
         if "helped" in self.words and "advised" not in self.words:
             found = MESSAGE.fullmatch(shown.text(shown.top + place[0], place[1]))
@@ -118,12 +118,12 @@ class Session:
         return "advised" not in self.words and any(word.startswith(("helped", "words:")) for word in self.words)
 
     def open_lines(self, prompt, line):
-        """Drawings of a line that isn't ended, with what may stand after it."""
+        """Drawings of a line that hasn't ended, with what may follow it."""
         for text in ("", *(meant(self.value(name, "")).decode(errors="replace") for name in ("hint:", "message:"))):
             yield Drawing(self.columns, prompt, line, text, clusters=self.clusters)
 
     def shorter(self):
-        """Sessions with less in them, the ones with much less first."""
+        """Smaller sessions, the much smaller ones first."""
         for words in without_parts(self.words):
             yield Session(self.keys, words)
         for keys in without_parts(self.keys):
@@ -137,7 +137,7 @@ class Session:
 
 
 def shorter_words(word):
-    """This word of a setting with less in it."""
+    """A setting's word with less in it."""
     name, found, rest = word.partition(":")
     if name == "bind":
         keys, _, command = rest.partition("⇒")
@@ -152,7 +152,7 @@ def shorter_words(word):
 
 
 def of_text(rng, most):
-    """A text for a command, which has no numbers of bytes in it."""
+    """A text for a command, without numbers of bytes."""
     noted_chars = map(noted_char, texts(rng, most, UNTYPED))
     return "".join(char for char in noted_chars if not char.startswith("‹")) or "x"
 
@@ -169,7 +169,7 @@ def movement(rng):
 
 
 def command(rng):
-    """A command, as `stand_ins` reads it."""
+    """A command, in the notation of `stand_ins`."""
     if rng.random() < 0.4:
         found = rng.choice(BARE)
         return found if found not in ENDS or rng.random() < 0.2 else "Repaint"
@@ -185,7 +185,7 @@ def command(rng):
 
 
 def action(rng):
-    """A command, or a handler of one answer or another."""
+    """A command, or a handler with some answer."""
     at = rng.random()
     if at < 0.55:
         return command(rng)
@@ -201,7 +201,7 @@ def word_of(keys, bound):
 
 
 def advice(rng):
-    """The words of a helper that answers as it is told to."""
+    """The words of a helper with fixed answers."""
     words = ["advised"]
     if rng.random() < 0.7:
         words.append(f"hint:{noted(texts(rng, 8, UNTYPED))}")
@@ -233,7 +233,7 @@ def helper(rng):
 
 
 def reads(rng):
-    """What a reader does at its calls: mostly a byte at each."""
+    """What a reader does at its calls: mostly one byte per call."""
     if rng.random() < 0.6:
         return "reads:1.."
     turns = [rng.choice(["1", "1", "2", "3", "5", "17", "interrupted"]) for _ in range(some(rng, 0, 20))]
@@ -254,18 +254,18 @@ def setting(rng):
 
 
 def typed(rng, mode, names, most):
-    """Keys, among them those of these names."""
+    """Keys, including those with these names."""
     return ended(rng, b"".join(KEYS[rng.choice(names)] if rng.random() < 0.6 else one_key(rng, mode)
                                for _ in range(some(rng, 1, most))))
 
 
 def ended(rng, keys):
-    """These keys, with what accepts a line behind them, or cut off anywhere."""
+    """These keys, followed by one that accepts the line, or cut off anywhere."""
     return rng.choice([keys + ENTER, keys + b"\n", keys, keys[:rng.randrange(len(keys) + 1)]])
 
 
 def shadowed_keys(rng):
-    """Many keys bound, among them those of the tables, and any other."""
+    """Many bound keys, including those of the tables, and any other key."""
     words, mode = setting(rng)
     bound = rng.sample(NAMES, some(rng, 1, 60))
     words += [word_of([name], action(rng)) for name in bound]
@@ -294,7 +294,7 @@ def bound_sequences(rng):
 
 
 def advised_lines(rng):
-    """A helper of any answers, without bindings or with a few that ask it."""
+    """A helper with any answers, without bindings or with a few that call it."""
     words, mode = setting(rng)
     words = [word for word in words if not word.startswith(("helped", "words:"))]
     if "advised" not in words:
@@ -318,5 +318,5 @@ def odd_settings(rng):
     return Session(ended(rng, keys_of(rng, mode, 50)), tuple(words))
 
 
-# Of each kind, how often.
+# How often each kind is played.
 KINDS = {shadowed_keys: 4, bound_sequences: 4, advised_lines: 4, odd_settings: 2}

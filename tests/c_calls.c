@@ -1,5 +1,5 @@
-/* Calls of keyline.h by its letter: rooms of just the size, arguments that can't be meant, and what goes on from line to
- * line. It prints what failed, and then how much passed and how much failed. */
+/* Calls of keyline.h at its limits: buffers of exactly the needed size, invalid arguments, and what is passed on from line
+ * to line. It prints what failed, and then how many checks passed and how many failed. */
 #include "../crates/keyline_c/c/keyline.h"
 #include <stdio.h>
 #include <stdlib.h>
@@ -13,13 +13,13 @@ static void hold(bool holds, const char *what)
     else failed += 1, printf("FAILED: %s\n", what);
 }
 
-/* A call, with rooms of their own from malloc, so that a byte beyond them is seen. */
+/* A call, with each buffer from its own malloc, so that a byte beyond it is detected. */
 struct call {
     struct keyline_options options;
     struct keyline_given given;
     struct keyline_room room;
     struct keyline_step step;
-    void *history, *kills, *ends; /* what a line before left */
+    void *history, *kills, *ends; /* from an earlier line */
 };
 
 static struct keyline_text text(const char *bytes)
@@ -51,7 +51,7 @@ static uint8_t made(struct call *c)
     return c->step.status;
 }
 
-/* The status of one call of these keys, after a change of it. */
+/* The status of one call with these keys, after this change of the call. */
 #define STATUS(what, keys, change, status) \
     do { \
         struct call c = call(keys); \
@@ -62,13 +62,13 @@ static uint8_t made(struct call *c)
         drop(&c); \
     } while (0)
 
-/* Whether the line is this one. */
+/* Whether the line is this text. */
 static bool is_line(struct call *c, const char *line)
 {
     return c->step.status == KEYLINE_LINE && c->step.line == strlen(line) && memcmp(c->room.line.bytes, line, c->step.line) == 0;
 }
 
-/* Begins the next line with what the call left. */
+/* Begins the next line with the results of the call. */
 static void go_on(struct call *c, const char *keys)
 {
     if (c->step.history > 0) {
@@ -103,14 +103,14 @@ static void bad_arguments(void)
     STATUS("no mode", "", c.options.mode = 2, KEYLINE_ARGUMENT);
     STATUS("no mode by far", "", c.options.mode = 255, KEYLINE_ARGUMENT);
     STATUS("more sent than there is", "", c.options.sent = 4096, KEYLINE_ARGUMENT);
-    STATUS("a prompt that is no UTF-8", "", c.given.prompt = text("\xff"), KEYLINE_ARGUMENT);
-    STATUS("words that are no UTF-8", "", c.given.words = text("a\n\xff\n"), KEYLINE_ARGUMENT);
-    STATUS("a history that is no UTF-8", "", c.given.history = text("a\n\xff\n"), KEYLINE_ARGUMENT);
-    STATUS("kills that are no UTF-8", "", (c.given.kills = text("\xff\xff"), c.given.ends = inside, c.given.slots = 2), KEYLINE_ARGUMENT);
+    STATUS("a prompt that isn't UTF-8", "", c.given.prompt = text("\xff"), KEYLINE_ARGUMENT);
+    STATUS("words that aren't UTF-8", "", c.given.words = text("a\n\xff\n"), KEYLINE_ARGUMENT);
+    STATUS("a history that isn't UTF-8", "", c.given.history = text("a\n\xff\n"), KEYLINE_ARGUMENT);
+    STATUS("kills that aren't UTF-8", "", (c.given.kills = text("\xff\xff"), c.given.ends = inside, c.given.slots = 2), KEYLINE_ARGUMENT);
     STATUS("a kill in mid-character", "", (c.given.kills = text("\u00e9"), c.given.ends = inside, c.given.slots = 2), KEYLINE_ARGUMENT);
     STATUS("a kill past the texts", "", (c.given.kills = text("abc"), c.given.ends = past, c.given.slots = 1), KEYLINE_ARGUMENT);
     STATUS("kills that go back", "", (c.given.kills = text("abc"), c.given.ends = back, c.given.slots = 2), KEYLINE_ARGUMENT);
-    STATUS("a text behind the last kill", "", (c.given.kills = text("abc"), c.given.ends = inside, c.given.slots = 2), KEYLINE_ARGUMENT);
+    STATUS("a text after the last kill", "", (c.given.kills = text("abc"), c.given.ends = inside, c.given.slots = 2), KEYLINE_ARGUMENT);
     STATUS("kills without a slot", "", c.given.kills = text("abc"), KEYLINE_ARGUMENT);
     STATUS("the first of two slots", "", (c.given.kills = text("ab"), c.given.ends = inside, c.given.slots = 2), KEYLINE_MORE);
     STATUS("a place without a slot", "", c.options.place = 1, KEYLINE_ARGUMENT);
@@ -122,20 +122,20 @@ static void bad_arguments(void)
     STATUS("words without a pointer", "", c.given.words = ((struct keyline_text){NULL, 1}), KEYLINE_ARGUMENT);
     STATUS("a history without a pointer", "", c.given.history = ((struct keyline_text){NULL, 1}), KEYLINE_ARGUMENT);
     STATUS("kills without a pointer", "", c.given.kills = ((struct keyline_text){NULL, 1}), KEYLINE_ARGUMENT);
-    STATUS("a length that none can have", "", c.given.prompt.length = SIZE_MAX, KEYLINE_ARGUMENT);
+    STATUS("an impossible length", "", c.given.prompt.length = SIZE_MAX, KEYLINE_ARGUMENT);
     STATUS("a display without a pointer", "", c.room.display.bytes = NULL, KEYLINE_ARGUMENT);
     STATUS("a line without a pointer", "", c.room.line.bytes = NULL, KEYLINE_ARGUMENT);
-    STATUS("a history's room without a pointer", "", c.room.history.bytes = NULL, KEYLINE_ARGUMENT);
-    STATUS("room for kills without a pointer", "", c.room.kills.bytes = NULL, KEYLINE_ARGUMENT);
-    STATUS("room for ends without a pointer", "", c.room.ends = NULL, KEYLINE_ARGUMENT);
-    STATUS("a room that none can have", "", c.room.line.size = SIZE_MAX, KEYLINE_ARGUMENT);
+    STATUS("a history's buffer without a pointer", "", c.room.history.bytes = NULL, KEYLINE_ARGUMENT);
+    STATUS("a buffer for kills without a pointer", "", c.room.kills.bytes = NULL, KEYLINE_ARGUMENT);
+    STATUS("a buffer for ends without a pointer", "", c.room.ends = NULL, KEYLINE_ARGUMENT);
+    STATUS("an impossible buffer size", "", c.room.line.size = SIZE_MAX, KEYLINE_ARGUMENT);
     struct call c = call("");
     keyline_line(NULL, &c.given, &c.room, &c.step);
     hold(c.step.status == KEYLINE_ARGUMENT, "no options");
     keyline_line(&c.options, NULL, &c.room, &c.step);
     hold(c.step.status == KEYLINE_ARGUMENT, "nothing given");
     keyline_line(&c.options, &c.given, NULL, &c.step);
-    hold(c.step.status == KEYLINE_ARGUMENT, "no rooms");
+    hold(c.step.status == KEYLINE_ARGUMENT, "no buffers");
     keyline_line(&c.options, &c.given, &c.room, NULL);
     drop(&c);
 }
@@ -156,7 +156,7 @@ static void endings(void)
     STATUS("an open bracket that may stand", "(\r", (void)0, KEYLINE_LINE);
 }
 
-/* What was sent for fewer keys is the beginning of what is sent for more. */
+/* The bytes sent for fewer keys are a prefix of those sent for more. */
 static void beginnings(const char *keys, uint8_t mode)
 {
     struct call all = call(keys);
@@ -177,7 +177,7 @@ static void beginnings(const char *keys, uint8_t mode)
     drop(&all);
 }
 
-/* Fills a room of four texts and its ends. */
+/* Fills the four text buffers and the ends. */
 static void fill(struct keyline_room *room)
 {
     struct keyline_space spaces[] = {room->display, room->line, room->history, room->kills};
@@ -192,7 +192,7 @@ static bool is_filled(const uint8_t *bytes, size_t size)
     return true;
 }
 
-/* Whether it is as `fill` left it. */
+/* Whether they are as `fill` left them. */
 static bool is_untouched(const struct keyline_room *room)
 {
     return is_filled(room->display.bytes, room->display.size) && is_filled(room->line.bytes, room->line.size) &&
@@ -200,11 +200,11 @@ static bool is_untouched(const struct keyline_room *room)
            is_filled((const uint8_t *)room->ends, KEYLINE_SLOTS * sizeof(size_t));
 }
 
-/* A room that is too small, and then one of just the size. */
+/* A buffer that is too small, and then one of exactly the needed size. */
 static void rooms(void)
 {
     struct call c = call("one \x15two\rrest");
-    hold(made(&c) == KEYLINE_LINE && is_line(&c, "two") && c.step.keys == 9, "a line, and the keys that are left");
+    hold(made(&c) == KEYLINE_LINE && is_line(&c, "two") && c.step.keys == 9, "a line, and the keys after it");
     struct keyline_step all = c.step;
     for (int which = 0; which < 4; which++) {
         struct call small = call("one \x15two\rrest");
@@ -213,11 +213,11 @@ static void rooms(void)
         free(it->bytes);
         *it = space(size - 1);
         fill(&small.room);
-        hold(made(&small) == KEYLINE_ROOM && is_untouched(&small.room), "a room of a byte too few, and all as they were");
+        hold(made(&small) == KEYLINE_ROOM && is_untouched(&small.room), "a buffer one byte too small, and all buffers as they were");
         hold(small.step.display == all.display && small.step.line == all.line && small.step.history == all.history && small.step.kills == all.kills, "the lengths that are needed");
         free(it->bytes);
         *it = space(size);
-        hold(made(&small) == KEYLINE_LINE && is_line(&small, "two"), "a room of just the size");
+        hold(made(&small) == KEYLINE_LINE && is_line(&small, "two"), "a buffer of exactly the needed size");
         drop(&small);
     }
     drop(&c);

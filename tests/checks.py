@@ -1,4 +1,4 @@
-"""What the tests of processes share: the script and the programs, the bytes of drawings, and a count of what passed."""
+"""Shared by the tests of processes: the script and the programs, the bytes of drawings, and the count of passed tests."""
 import atexit
 import os
 import select
@@ -12,12 +12,12 @@ import traceback
 
 TOP = os.path.dirname(os.path.dirname(os.path.realpath(__file__)))
 SCRIPT = os.path.join(TOP, "keyline")
-# What the script runs the program by on a terminal, and anyone else's.
+# The command by which the script runs the program on a terminal; it can run any program.
 ON_TERMINAL = os.path.join(TOP, "on_terminal")
-# What the script answers by where nothing is built yet.
+# The folder of the script's answers before the first build.
 ANSWERS = os.path.join(TOP, "answers")
 
-# A run that takes so many seconds hangs. No test is decided by a clock otherwise.
+# A run that takes this many seconds hangs. No other check depends on a clock.
 HUNG = 120
 
 LEFT = b"\x1b[D"
@@ -35,11 +35,11 @@ def drawing(text, back=0):
 
 
 class Failed(Exception):
-    """A test found something else than it expects."""
+    """A test found something other than it expects."""
 
 
 def built(crate):
-    """The program that `rt ci` left of a crate: proved from nothing, and run by it."""
+    """The program of a crate, proved from nothing and run by `rt ci`."""
     return os.path.join(TOP, "crates", crate, "out", crate)
 
 
@@ -47,7 +47,7 @@ PROGRAM = built("keyline_program")
 
 
 def shim(name):
-    """A library that is preloaded under a program, made from a C file of this folder."""
+    """A library to preload under a program, built from a C file of this folder."""
     made = os.path.join(TOP, "build", f"{name}.so")
     source = os.path.join(TOP, "tests", f"{name}.c")
     if not os.path.exists(made) or os.path.getmtime(made) < os.path.getmtime(source):
@@ -57,7 +57,7 @@ def shim(name):
 
 
 def placed_script():
-    """A copy of ./keyline in a folder of its own, whose build hands out the program that `rt ci` left."""
+    """A copy of ./keyline in its own folder, whose proof hands out the program that `rt ci` left."""
     folder = tempfile.TemporaryDirectory(prefix="keyline-gate-")
     atexit.register(folder.cleanup)
     script = shutil.copy(SCRIPT, folder.name)
@@ -72,7 +72,7 @@ def placed_script():
     with open(os.path.join(folder.name, "crates.txt"), "w", encoding="utf-8") as it:
         it.write("keyline_program:\n")
     os.environ["PATH"] = f"{folder.name}/bin:{os.environ['PATH']}"
-    subprocess.run([script], stdin=subprocess.DEVNULL, capture_output=True, timeout=HUNG, check=True)
+    subprocess.run([script, "--prove"], stdin=subprocess.DEVNULL, capture_output=True, timeout=HUNG, check=True)
     return script
 
 
@@ -81,8 +81,16 @@ def same(what, found, expected):
         raise Failed(f"{what}: expected {expected!r}, found {found!r}")
 
 
+def wait_until(what, holds, patience=HUNG):
+    deadline = time.monotonic() + patience
+    while not holds():
+        if time.monotonic() > deadline:
+            raise Failed(f"hung before {what}")
+        time.sleep(0.01)
+
+
 class Incoming:
-    """The bytes that come from a file descriptor, compared as they come."""
+    """The bytes read from a file descriptor, compared as they come."""
 
     def __init__(self, descriptor):
         self.descriptor = descriptor
@@ -92,16 +100,16 @@ class Incoming:
         """Reads once; False at the end."""
         ready, _, _ = select.select([self.descriptor], [], [], max(0, deadline - time.monotonic()))
         if not ready:
-            raise Failed(f"hung, with {self.held!r} come and not yet expected")
+            raise Failed(f"hung: {self.held!r} came, and more is expected")
         try:
             read = os.read(self.descriptor, 65536)
-        except OSError:  # a terminal that nobody holds any more
+        except OSError:  # a terminal whose other end is closed
             read = b""
         self.held += read
         return read != b""
 
     def expect(self, expected):
-        """Waits for these bytes, and for no others before them."""
+        """Waits for these bytes, and fails at any others before them."""
         deadline = time.monotonic() + HUNG
         while len(self.held) < len(expected) and expected.startswith(self.held):
             if not self.more(deadline):
@@ -110,7 +118,7 @@ class Incoming:
         self.held = self.held[len(expected) :]
 
     def expect_end_of(self, expected):
-        """Waits until what came ends with these bytes."""
+        """Waits until the bytes so far end with these."""
         deadline = time.monotonic() + HUNG
         while not self.held.endswith(expected) and self.more(deadline):
             pass
@@ -125,7 +133,7 @@ class Incoming:
 
 
 class Running:
-    """The program with a pipe at each standard stream, but for those that are given."""
+    """The program with a pipe at each standard stream, except for those that are given."""
 
     def __init__(self, command, **streams):
         given = {**dict.fromkeys(("stdin", "stdout", "stderr"), subprocess.PIPE), **streams}
@@ -142,7 +150,7 @@ class Running:
         same("status", self.process.wait(timeout=HUNG), status)
 
     def peak(self):
-        """The most memory that the process has held so far, in KB."""
+        """The most memory that the process has used so far, in KB."""
         with open(f"/proc/{self.process.pid}/status", encoding="ascii") as status:
             return next(int(line.split()[1]) for line in status if line.startswith("VmHWM"))
 
@@ -161,7 +169,7 @@ class Running:
 
 
 def run_all(tests):
-    """Runs each test, says what failed, and closes with the count."""
+    """Runs each test, prints what failed, and ends with the count."""
     passed = 0
     for test in tests:
         name = test.__name__.replace("_", " ")

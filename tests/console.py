@@ -1,40 +1,70 @@
 #!/usr/bin/env python3
-"""The console over a database on a terminal: tmux types into crates/sql_console, and is asked for its cells and cursor.
+"""The console over a database: tmux types into crates/sql_console, and reports its cells and cursor; on pipes, its arguments
+and the history that it keeps. crates/first_program gets keys in the same windows.
 
-`rt ci` builds the program first; with another one's name as an argument, that one is typed into.
+`rt ci` builds the programs first. If another program is named as an argument, that one is the console.
 """
+import contextlib
 import os
+import pathlib
 import shlex
+import subprocess
 import sys
 import tempfile
 
-from checks import CTRL_D, ENTER, ON_TERMINAL, built, run_all
+from checks import CTRL_D, ENTER, HUNG, ON_TERMINAL, built, run_all, same
 from drawings import Terminal
 from shown import expect, until_taken
+from windows import WIDTHS, edited_in_its_middle, rows_of, type_bytes
 
 PROGRAM = built("sql_console")
 
 CTRL_C = b"\x03"
+CTRL_L = b"\x0c"
+CTRL_P = b"\x10"
 TAB = b"\t"
 UP = b"\x1b[A"
+
+GREETING = "A database in memory: .help lists commands, .quit leaves."
+USAGE = b"usage: sql_console [--history FILE]\n"
+HINT = "(; ends the statement)"
 
 MADE = b"CREATE TABLE note (title, stars);" + ENTER
 MADE_ROWS = ["sql> CREATE TABLE note (title, stars);", "0 changed"]
 
 
-def plays(*steps):
-    """Types each step, and compares the rows that are shown then and the cursor's place, after the last one by default."""
+@contextlib.contextmanager
+def in_window(columns, program, prompt):
+    """A program in a window with so many columns, which shows only the prompt."""
     with tempfile.TemporaryDirectory() as folder:
-        run = " ".join(map(shlex.quote, [ON_TERMINAL, PROGRAM]))
-        terminal = Terminal(folder, 60, f"{run}; echo ended $?; exec sleep 120")
+        run = " ".join(map(shlex.quote, [ON_TERMINAL, program]))
+        terminal = Terminal(folder, columns, f"{run}; echo ended $?; exec sleep {HUNG}")
         try:
             until_taken(terminal)
-            expect(terminal, "before the first key", (["sql>"], (0, 5)))
-            for keys, rows, cursor in steps:
-                terminal.ask("send-keys", "-H", *(f"{byte:02x}" for byte in keys))
-                expect(terminal, keys, (rows, cursor))
+            before = rows_of(GREETING, columns) if program == PROGRAM else []
+            before = [row.rstrip() for row in before]
+            expect(terminal, "before the first key", ([*before, prompt.rstrip()], (len(before), len(prompt))))
+            type_bytes(terminal, CTRL_L)
+            expect(terminal, "Ctrl-L", ([prompt.rstrip()], (0, len(prompt))))
+            yield terminal
         finally:
             terminal.close()
+
+
+def plays(*steps):
+    """Types each step, and compares the rows and the cursor's place that are shown then."""
+    with in_window(60, PROGRAM, "sql> ") as terminal:
+        for keys, rows, cursor in steps:
+            type_bytes(terminal, keys)
+            expect(terminal, keys, (rows, cursor))
+
+
+def windows():
+    """Lines are as wide as the window that `on_terminal` finds."""
+    for columns in WIDTHS:
+        for program, prompt in ((PROGRAM, "sql> "), (built("first_program"), "> ")):
+            with in_window(columns, program, prompt) as terminal:
+                edited_in_its_middle(terminal, prompt, columns)
 
 
 def a_table_of_rows():
@@ -61,7 +91,7 @@ def a_column_as_wide_as_the_terminal_shows_it():
 
 def a_statement_goes_on_until_its_semicolon():
     plays(
-        (b"SELECT 1" + ENTER, ["sql> SELECT 1"], (1, 0)),
+        (b"SELECT 1" + ENTER, ["sql> SELECT 1", HINT], (1, 0)),
         (b"AS one", ["sql> SELECT 1", "AS one"], (1, 6)),
         (b";" + ENTER, ["sql> SELECT 1", "AS one;", "| one |", "|-----|", "| 1   |", "sql>"], (5, 5)),
     )
@@ -69,16 +99,52 @@ def a_statement_goes_on_until_its_semicolon():
 
 def another_prompt_after_an_empty_row():
     plays(
-        (b"SELECT 1" + ENTER, ["sql> SELECT 1"], (1, 0)),
+        (b"SELECT 1" + ENTER, ["sql> SELECT 1", HINT], (1, 0)),
         (ENTER, ["sql> SELECT 1", "", "...>"], (2, 5)),
         (b"AS one;" + ENTER, ["sql> SELECT 1", "", "...> AS one;", "| one |", "|-----|", "| 1   |", "sql>"], (6, 5)),
     )
 
 
-def a_mistake_is_told_and_the_console_goes_on():
+def an_open_statement_says_how_it_ends():
     plays(
-        (b"SELEC;" + ENTER, ["sql> SELEC;", "error: syntax error", "sql>"], (2, 5)),
-        (b".tables" + ENTER, ["sql> SELEC;", "error: syntax error", "sql> .tables", "error: syntax error", "sql>"], (4, 5)),
+        (b"help" + ENTER, ["sql> help", HINT], (1, 0)),
+        (b"me", ["sql> help", "me"], (1, 2)),
+        (b"\x7f\x7f", ["sql> help", HINT], (1, 0)),
+        (CTRL_C, ["sql> help", HINT, "sql>"], (2, 5)),
+        (CTRL_L + b"help" + ENTER, ["sql> help", HINT], (1, 0)),
+        (b";" + ENTER, ["sql> help", ";", "error near \"help\": syntax error", "sql>"], (3, 5)),
+    )
+
+
+def a_mistake_is_told_and_the_console_goes_on():
+    first = ["sql> SELEC;", "error near \"SELEC\": syntax error"]
+    second = ["sql> SELECT 1", "AS SELECT;", "error in row 2 near \"SELECT\": syntax error"]
+    plays(
+        (b"SELEC;" + ENTER, [*first, "sql>"], (2, 5)),
+        (b"SELECT 1\rAS SELECT;" + ENTER, [*first, *second, "sql>"], (5, 5)),
+    )
+
+
+def commands():
+    plays(
+        (b".tables" + ENTER, ["sql> .tables", "sql>"], (1, 5)),
+        (CTRL_L + MADE, [*MADE_ROWS, "sql>"], (2, 5)),
+        (b".tables" + ENTER, [*MADE_ROWS, "sql> .tables", "note", "sql>"], (4, 5)),
+        (CTRL_L + b".table" + ENTER, ["sql> .table", "error: there is no .table; .help lists the commands", "sql>"], (2, 5)),
+        (
+            CTRL_L + b".help" + ENTER,
+            [
+                ".tables  lists the tables",
+                ".quit    leaves, as Ctrl-D does",
+                "A statement ends with ; and may",
+                "have several rows. Ctrl-C gives",
+                "it up, Ctrl-O empties the line,",
+                "Up brings earlier ones back, and",
+                "Tab completes names of tables.",
+                "sql>",
+            ],
+            (7, 5),
+        ),
     )
 
 
@@ -110,12 +176,55 @@ def ctrl_c_gives_up_a_line_and_the_rows_before_it():
     )
 
 
-def a_word_of_its_own_ends_it():
+def a_command_ends_it():
     plays((b".quit" + ENTER, ["sql> .quit", "ended 0"], (2, 0)))
 
 
 def the_end_of_input_ends_it():
     plays((CTRL_D, ["sql>", "ended 0"], (2, 0)))
+
+
+def run(*arguments, keys=b""):
+    return subprocess.run([PROGRAM, *arguments], input=keys, capture_output=True, timeout=HUNG, check=False)
+
+
+def arguments():
+    """`--help` prints the usage; unknown arguments are an error, and nothing is read."""
+    helped = run("--help", keys=b"SELECT 1;\r")
+    same("--help", (helped.returncode, helped.stdout, helped.stderr), (0, USAGE, b""))
+    for words in (["--history"], ["--history", "a", "b"], ["--histor", "a"], ["notes.db"], [""]):
+        ran = run(*words, keys=b"SELECT 1;\r")
+        wanted = (2, b"", b"sql_console: unknown arguments\n" + USAGE)
+        same(f"{words}", (ran.returncode, ran.stdout, ran.stderr), wanted)
+
+
+def a_history_that_lasts():
+    """A run begins with the lines of those before it, and one with no new line leaves the file alone."""
+    with tempfile.TemporaryDirectory() as folder:
+        file = pathlib.Path(folder, "history")
+        for keys, printed, kept in (
+            (b"SELECT 1;\r", b"| 1 |\n|---|\n| 1 |\n", "SELECT 1;\n"),
+            (CTRL_P + b"\x7f0;\r.quit\r", b"| 10 |\n|----|\n| 10 |\n", "SELECT 1;\nSELECT 10;\n.quit\n"),
+            (b"", b"", "SELECT 1;\nSELECT 10;\n.quit\n"),
+        ):
+            ended = run("--history", str(file), keys=keys)
+            same(f"after {keys}", (ended.returncode, ended.stdout), (0, printed))
+            same(f"the file after {keys}", file.read_text(encoding="utf-8"), f"#V2\n{kept}")
+        same("the files", os.listdir(folder), ["history"])
+
+
+def histories_that_fail():
+    """The answers before are printed, and so is the cause."""
+    with tempfile.TemporaryDirectory() as folder:
+        file = pathlib.Path(folder, "history")
+        file.write_bytes(b"\xff\n")
+        for path, printed, words in (
+            (file, b"", b"sql_console: history text failed\n"),
+            ("/dev/null", b"", b"sql_console: the history does not load: invalid input parameter\n"),
+            (f"{folder}/none/history", b"| 1 |\n|---|\n| 1 |\n", b"sql_console: the history is not saved: No such file or directory (os error 2)\n"),
+        ):
+            ended = run("--history", str(path), keys=b"SELECT 1;\r")
+            same(f"{path}", (ended.returncode, ended.stdout, ended.stderr[-len(words) :]), (1, printed, words))
 
 
 if __name__ == "__main__":
@@ -127,10 +236,16 @@ if __name__ == "__main__":
         a_column_as_wide_as_the_terminal_shows_it,
         a_statement_goes_on_until_its_semicolon,
         another_prompt_after_an_empty_row,
+        an_open_statement_says_how_it_ends,
         a_mistake_is_told_and_the_console_goes_on,
+        commands,
         tab_completes_a_table_that_was_just_made,
         a_statement_before_comes_back_and_is_edited,
         ctrl_c_gives_up_a_line_and_the_rows_before_it,
-        a_word_of_its_own_ends_it,
+        a_command_ends_it,
         the_end_of_input_ends_it,
+        windows,
+        arguments,
+        a_history_that_lasts,
+        histories_that_fail,
     ])

@@ -1,13 +1,13 @@
-"""What display bytes mean, and what a drawing is: docs/DISPLAY.md once more, for the tests of the built program.
+"""The meaning of display bytes, and of drawings: docs/DISPLAY.md once more, for the tests of the built program.
 
-It stands apart from the program: of it nothing is asked but bytes. Clusters follow UAX #29 and widths the rules of
-`unicode_width`, both for the characters of the table below and for letters that no rule names; what holds another
+It is independent of the program, and reads only its bytes. Clusters follow UAX #29, and widths follow the rules of
+`unicode_width`. Both are known for the characters of the table below and for letters without a rule. A text with any other
 character is `Unjudged`.
 """
 import re
 import unicodedata
 
-# Range, class of UAX #29, width alone. What is left out of a block has no row.
+# Range, class of UAX #29, width by itself. Characters of a block that are left out have no row.
 CHARACTERS = """
     20-7E Other 1 | A0-A8 Other 1 | A9 Pict 1 | AA-AC Other 1 | AD Control 0 | AE Pict 1 | AF-2FF Other 1
     300-36F Extend 0 | 370-482 Other 1 | 483-489 Extend 0 | 48A-590 Other 1
@@ -27,7 +27,7 @@ CHARACTERS = """
     1F466-1F469 Pict 2 | 1F4BB Pict 2 | 1F525 Pict 2 | 1F600 Pict 2 | 1F9D1 Pict 2 | 20000-2A6DF Other 2
     E0020-E007F Extend 0
 """
-# Of these: what U+FE0F widens (U+FE0E narrows those of two columns), and what a skin tone colours.
+# Of these, the ones that U+FE0F widens (U+FE0E narrows those of two columns), and those that take a skin tone.
 VARIED = set("#*0123456789\u00a9\u00ae\u203c\u2139\u231a\u231b\u2615\u261d\u263a\u26a0\u2764\u3030")
 VARIED |= set("\U0001f3f3\U0001f44d\U0001f4bb")
 COLOURED = set("\u261d\U0001f44d\U0001f466\U0001f467\U0001f468\U0001f469\U0001f9d1")
@@ -36,22 +36,22 @@ EMOJI = set("\u231a\u231b\u2615\U0001f308\U0001f3f4\U0001f4bb\U0001f525\U0001f60
 TONES = {chr(code) for code in range(0x1F3FB, 0x1F400)}
 JOINER, TO_TEXT, TO_EMOJI, TAG_END = "\u200d", "\ufe0e", "\ufe0f", "\U000e007f"
 
-# Rows beyond this one are not counted, and nothing is promised of them.
+# Rows beyond this one are not counted, and nothing is promised about them.
 MOST_ROWS = 65535
 
 PRINTABLE = re.compile(r"[ -~]*\Z")
-# How a drawing begins whose old one had one row: so does a line's first.
+# The beginning of a drawing over an old one of one row, and of a line's first drawing.
 REDRAWN = b"\r\x1b[J"
 TOKENS = re.compile(rb"(?P<nothing>(\x1b\[m)+)|(?P<text>[ -~\x80-\xff]+)|(?P<plain>\x1b\[[JKH]|[\r\n\x07])"
                     rb"|\x1b\[(?P<by>[1-9][0-9]*)(?P<way>[A-D])")
 
 
 class Unjudged(Exception):
-    """A character whose class or width isn't known here."""
+    """A character with an unknown class or width."""
 
 
 class Meaningless(Exception):
-    """Display bytes that have no meaning."""
+    """Display bytes without a meaning."""
 
 
 def read_table():
@@ -68,7 +68,7 @@ TABLE = read_table()
 
 
 def known(char):
-    """A character's class and its width alone."""
+    """A character's class, and its width by itself."""
     if char in TABLE:
         return TABLE[char]
     if unicodedata.category(char) == "Cc":
@@ -85,16 +85,16 @@ def kind(char):
     return found
 
 
-# Where no boundary stands between two neighbours, whatever comes before them.
+# Pairs without a boundary between them, whatever precedes them.
 JOINED = {("L", "L"), ("L", "V"), ("L", "LV"), ("L", "LVT"), ("LV", "V"), ("LV", "T"), ("V", "V"), ("V", "T"), ("LVT", "T"),
           ("T", "T")}
-# The classes of a cluster that a pictograph goes on with, and a consonant.
+# The classes of a cluster that a pictograph continues, and of one that a consonant continues.
 PICTURE_JOINED = re.compile(r"(.* )?Pict (Extend |Linker |NonJoiner )*Joiner \Z")
 CONJUNCT_OPEN = re.compile(r"(.* )?Linker (Extend |Joiner |Linker )*\Z")
 
 
 def belongs(kinds, now):
-    """Whether a character of the class `now` goes on with the cluster whose characters have these classes."""
+    """Whether a character of the class `now` continues the cluster whose characters have these classes."""
     last = kinds[-1]
     if "Control" in (last, now):
         return False
@@ -125,7 +125,7 @@ def clusters(text):
 
 
 def step_back(char, total, after, selector):
-    """A text's width with one character more before it; `after` and `selector` tell what the text begins with."""
+    """A text's width with one more character before it; `after` and `selector` describe the text's first characters."""
     joined = after == "joiner"
     if selector == TO_EMOJI and char in VARIED:
         return (total + (0 if joined else 2), "emoji", None)
@@ -155,7 +155,7 @@ def text_width(text):
     return reading[0]
 
 
-# The columns of a cluster, by how clusters are counted.
+# The columns of a cluster, for each way to count clusters.
 COUNTED = {
     "Unicode": text_width,
     "WcWidth": lambda cluster: sum(known(char)[1] for char in cluster),
@@ -176,14 +176,14 @@ def is_control(char):
 
 
 def shown_cluster(cluster, columns, counted):
-    """What is drawn of a cluster, and its width."""
+    """How a cluster is drawn, and its width."""
     if any(map(is_control, cluster)) or not 1 <= width(cluster, counted) <= columns:
         return ("?", 1)
     return (cluster, width(cluster, counted))
 
 
 def counted_row(row):
-    """A row's number, where rows are counted."""
+    """A row's number, if rows are counted."""
     if row > MOST_ROWS:
         raise Unjudged("more rows than are counted")
     return row
@@ -217,13 +217,13 @@ class Rows:
         return found
 
     def text(self, row, col):
-        """The clusters from a place on, without what is blank between them."""
+        """The clusters from a place on, without the blanks between them."""
         cells = [(at, cell) for number, row in enumerate(self.rows[row:]) for at, cell in sorted(row.items()) if number or at >= col]
         return "".join(cell for _, cell in cells if cell is not self.INSIDE)
 
 
 class Drawing(Rows):
-    """Texts drawn one after the other from a display's first cell; `place` is where they end."""
+    """Texts drawn one after the other from a display's first cell; `place` is their end."""
 
     def __init__(self, columns, *texts, clusters="Unicode"):
         super().__init__(columns, clusters)
@@ -253,7 +253,7 @@ class Drawing(Rows):
 
 
 class Display(Rows):
-    """A display that reads bytes. `top` is the row where the present line begins: nothing may change above."""
+    """A display that reads bytes. `top` is the row where the current line begins: nothing may change above it."""
 
     def __init__(self, columns, clusters="Unicode"):
         super().__init__(columns, clusters)
@@ -263,7 +263,7 @@ class Display(Rows):
         raise Meaningless(f"{why}, at row {self.cursor[0]}, column {self.cursor[1]}")
 
     def read(self, display):
-        """Reads bytes, and yields after each new row that a drawing follows: there a line has ended."""
+        """Reads bytes, and yields after each new row before a drawing: there a line has ended."""
         at = 0
         for token in TOKENS.finditer(display):
             if token.start() != at:

@@ -1,7 +1,7 @@
 #!/usr/bin/env python3
-"""Drawings on a terminal: tmux shows what crates/sessions_program draws, its cells and its cursor.
+"""Drawings on a terminal: what tmux shows of the drawings of crates/sessions_program, the cells and the cursor.
 
-`rt ci` builds the program first. Texts are those whose widths tmux counts as the editor does.
+`rt ci` builds the program first. The texts are ones whose widths tmux counts like the editor.
 """
 import os
 import pathlib
@@ -29,7 +29,7 @@ CASES = [
 
 
 class Terminal:
-    """A tmux server of its own, with one pane that runs a command."""
+    """A tmux server with one pane that runs a command."""
 
     def __init__(self, folder, columns, command):
         config = os.path.join(folder, "tmux.conf")
@@ -61,7 +61,7 @@ def shows(name, columns, rows, cursor):
                 if got == (rows, cursor):
                     return True
                 if time.monotonic() > end:
-                    print(f"FAILED: {name}: wanted {(rows, cursor)}, shown {got}")
+                    print(f"FAILED: {name}: expected {(rows, cursor)}, shown {got}")
                     return False
                 time.sleep(0.05)
         finally:

@@ -1,12 +1,12 @@
 #!/usr/bin/env python3
-"""Each edit of a line with each growth refused in turn: text, cursor and events stand together after it; so each call
-that the undo record and the kill ring hear of, and each call of a history; and what each edit of `line_edits` and each
-command of `execute` leaves then, by the tables of tests/edit_growth.txt.
+"""Each edit of a line, with each of its allocations failing in turn: text, cursor and events must agree after it. The same for
+each call of the undo record and of the kill ring, and for each call of a history. For each edit of `line_edits` and each
+command of `execute` the tables of tests/edit_growth.txt say what may be left.
 
-`rt ci` builds crates/sessions_program first. With the argument `calls` the program makes one call a row and says itself whether what
-it left is right: WRONG where it isn't, "not begun" where the refusal came before the call, and "not judged" where it came
-after. With `edits` or `commands` it makes the steps that follow, and tells after each of them what stands. Here each call for
-memory of its run is refused once.
+`rt ci` builds crates/sessions_program first. With the argument `calls` the program makes one call per row, and checks the
+result itself. It prints WRONG for a wrong one, "not begun" if an allocation failed before the call, and "not judged" if one
+failed after it. With `edits` or `commands` it makes the steps that follow, and prints the state after each of them. Here each
+allocation of such a run fails once.
 """
 import os
 import re
@@ -20,7 +20,7 @@ PROGRAM = built("sessions_program")
 TABLES = os.path.join(TOP, "tests", "edit_growth.txt")
 MOST = 10000
 
-# Rows of calls that grow, so that each of them must have been refused once at least.
+# Rows of calls that allocate, so each of them must have failed at least once.
 GROWING = {
     "insert", "update", "yank", "indent",
     "letter recorded", "letter joined", "paste recorded", "replacement joined",
@@ -31,16 +31,16 @@ GROWING = {
     "history append_to", "history hint",
 }
 
-# How many rows it tells of calls.
+# The number of the program's rows for calls.
 ROWS = 48
 
 COLUMNS = 20
 PROMPT = "> "
 # More items than any row records.
 ALL = 8
-# Where the arguments don't fit into memory.
+# The message if the arguments don't fit into memory.
 UNREAD = b"Error: out of memory\n"
-# How a step ends that is neither refused nor unread.
+# How a step ends that neither failed nor was unknown.
 ANSWERED = {"done", "Submit", "Interrupted", "Eof"}
 
 
@@ -50,7 +50,7 @@ def run_program(arguments, number, report):
 
 
 def rows_of(ran):
-    """The rows that a run tells: none where its arguments were refused."""
+    """The rows that a run prints; none if the allocation of its arguments failed."""
     if (ran.returncode, ran.stderr) == (1, UNREAD):
         return []
     same("standard error", ran.stderr, b"")
@@ -71,14 +71,14 @@ def each_growth_refused():
                 break
             os.remove(report)
             begun = begun or words != []
-            # (a block made smaller for the arguments may stay as it is)
+            # (a block shrunk for the arguments may stay as it is)
             if begun and (len(words) != 1 or words[0] not in ("refused", "not begun", "not judged")):
                 raise Failed(f"call {number}: {rows}")
             refused.update(name for name, word in rows if word == "refused")
         else:
-            raise Failed(f"{MOST} calls, and no end")
-    print(f"calls refused in turn: {number - 1}; refused once at least: {', '.join(sorted(refused))}", flush=True)
-    same("rows of calls that grow and were never refused", sorted(GROWING - refused), [])
+            raise Failed(f"{MOST} allocations, and no end")
+    print(f"allocations that failed in turn: {number - 1}; calls that failed at least once: {', '.join(sorted(refused))}", flush=True)
+    same("rows of calls that allocate and never failed", sorted(GROWING - refused), [])
 
 
 def pictured(text):
@@ -91,7 +91,7 @@ def meant(shown):
 
 
 class State:
-    """What the program tells after a step: how it ended, and what stands then."""
+    """The state that the program prints after a step: how it ended, and what the line and its record are."""
 
     def __init__(self, told, entries):
         self.word, text, place, *rest = told.split("\t")
@@ -110,12 +110,12 @@ class State:
 
     @staticmethod
     def ring_of(rest, entries):
-        """The fields before the ring's, its slots, and which of them is the present one."""
+        """The fields before the ring's, its slots, and the current one."""
         count = 1 if entries is None else 3
         return (*rest[:count], rest[count:-1], rest[-1])
 
     def shown(self, *more):
-        """How the step ended where the line doesn't go on, and what stands, in the tables' words."""
+        """How the step ended if the line doesn't continue, and the state, in the tables' words."""
         words = [self.word] if self.word not in ("done", "refused") else []
         words += [self.bar + (f"{{{pictured(self.hint)}}}" if self.hint else "")]
         words += ["ring:" + ",".join(map(pictured, self.ring))] if self.ring else []
@@ -124,7 +124,7 @@ class State:
 
 
 class Ran:
-    """The states of a run after its first steps, in their order, with the display's bytes before each."""
+    """The states of a run after its first steps, in order, with the display's bytes before each."""
 
     def __init__(self, ran, entries, count):
         self.begun = ran.stderr not in (b"not begun\n", UNREAD)
@@ -150,7 +150,7 @@ class Row:
         self.entries = None if kind == "edits" else len([it for it in settings["history"].split(",") if it])
 
     def begun(self, before, behind):
-        """The steps that put the line there, and draw it."""
+        """The steps that set the line, and draw it."""
         if self.kind == "edits":
             return [f"insert_text 0 {before + behind}", f"at {len(before.encode())}"]
         return [f"put {before}", "Move EndOfBuffer", f"put {behind}", "Repaint"]
@@ -159,20 +159,20 @@ class Row:
         return self.last.partition(" ")[0].replace("AtEnd", "")
 
     def run(self, after, number, report):
-        """A run with further steps. All runs of a row have as many, so that they want the same memory for them."""
+        """A run with further steps. All runs of a row have as many, so that they need the same memory for them."""
         steps = [*self.start, *self.before, "tighten", self.last, *after]
         settings = [] if self.kind == "edits" else [self.settings["history"], self.settings["words"]]
         rest = ["nothing"] * (2 * ALL - len(after))
         return Ran(run_program([self.kind, *settings, *steps, *rest], number, report), self.entries, len(steps))
 
     def undoing(self):
-        """Steps that take everything back, and then show the line that was left for the history, or make all anew."""
+        """Steps that undo everything, and then show the line saved on leaving the history's end, or redo everything."""
         if self.kind == "edits":
             return ["undo 1"] * ALL + ["redo"] * ALL
         return ["Undo 1"] * ALL + ["restore"]
 
     def grouping(self):
-        """Two characters typed, and exchanged in a group that is taken back: all groups are closed then."""
+        """Two characters typed and transposed in a group, which is undone: then all groups are closed."""
         if self.kind == "edits":
             return ["insert_char 1 q", "insert_char 1 r", "transpose_chars", "undo 1"]
         return ["SelfInsert 1 q", "SelfInsert 1 r", "TransposeChars", "Undo 1"]
@@ -182,14 +182,14 @@ class Row:
 
 
 class Judge:
-    """Plays a row with each growth refused."""
+    """Plays a row with each allocation failing in turn."""
 
     def __init__(self, row, report):
         self.row, self.report, self.seen = row, report, set()
 
     def play(self, after, number, is_drawn=True):
-        """The states of a run, and whether a growth was refused in it. What is typed over a line that wasn't drawn need
-        not be shown."""
+        """The states of a run, and whether an allocation failed in it. Text typed into a line that wasn't drawn needn't be
+        shown."""
         if os.path.exists(self.report):
             os.remove(self.report)
         ran = self.row.run(after, number, self.report)
@@ -206,7 +206,7 @@ class Judge:
         return ran.begun and ANSWERED.issuperset(state.word for state in ran.states[:self.row.at])
 
     def check_display(self, ran):
-        """The display's cursor is where the layout has it after each step, and what was drawn is the line."""
+        """Checks that the display's cursor is where the layout has it after each step, and that the line was drawn."""
         display = Display(COLUMNS)
         for shown, state in zip(ran.bytes, ran.states):
             for _ in display.read(shown):
@@ -217,7 +217,7 @@ class Judge:
                 same(f"the display at {state.bar}", display.below(0), drawing.below(0))
 
     def whole(self):
-        """The run with ample memory."""
+        """The run with enough memory."""
         ran, refused = self.play([], 0)
         if refused or ran.states[-1].word not in ANSWERED:
             raise Failed(f"it ends with {ran.states[-1].word}")
@@ -236,14 +236,15 @@ class Judge:
             if ran.states[-1].word == "refused":
                 self.judge(ran, number)
             else:
-                same("what stands after a refusal that it gets over", ran.states[-1].shown(), self.shown)
+                same("the state after a failure that it gets over", ran.states[-1].shown(), self.shown)
         raise Failed(f"{MOST} calls, and no end")
 
     def judge(self, ran, number):
-        """What a refused step left: one of what the row names, from which the same step goes on, and nothing is lost."""
+        """Checks the state after a failed step: it is one that the row names, the same step continues from it, and nothing is
+        lost."""
         left = ran.states[-1]
         if not self.drawn.startswith(ran.bytes[-1]):
-            raise Failed(f"call {number}: what was drawn is no beginning of {self.drawn}: {ran.bytes[-1]}")
+            raise Failed(f"allocation {number}: the drawing is no prefix of {self.drawn}: {ran.bytes[-1]}")
         again, _ = self.play([self.row.last], number)
         back, _ = self.play(self.row.undoing(), number)
         grouped, _ = self.play(self.row.grouping(), number, is_drawn=False)
@@ -251,26 +252,26 @@ class Judge:
         self.check_record(left, back)
 
     def saved(self, back):
-        """The line that was left for the history, where one was."""
+        """The line saved on leaving the history's end, if there is one."""
         bar = back.states[-1].bar if self.row.kind == "commands" else "|"
         return [] if bar == "|" else [f"saved:{bar}"]
 
     @staticmethod
     def opened(grouped):
-        """Whether a group was left open, which is taken back with a later one."""
+        """Whether a group was left open, which is undone with a later one."""
         typed, _, undone = grouped.states[-3:]
         return [] if undone.line == typed.line else ["open"]
 
     def check_record(self, left, back):
-        """Taking all back goes over texts that stood, to the one that the record begins on; what was taken back is made
-        anew. A refused undo may have left no record."""
+        """Checks that undoing everything passes texts that the line had, to the one on which the record begins, and that
+        everything can be redone. After a failed undo the record may be empty."""
         undone = [state.line for state in back.states[self.row.at + 1:self.row.at + 1 + ALL]]
         if self.row.is_undo() and set(undone) == {left.line}:
             return
-        same("a text that never stood", sorted(set(undone) - self.texts - {left.line}), [])
-        same("the text when all is taken back", undone[-1], "")
+        same("texts that the line never had", sorted(set(undone) - self.texts - {left.line}), [])
+        same("the text after undoing everything", undone[-1], "")
         if self.row.kind == "edits":
-            same("the text when all is made anew", back.states[-1].line, left.line)
+            same("the text after redoing everything", back.states[-1].line, left.line)
 
     def compare(self):
         is_named = self.seen <= set(self.row.left) and bool(self.seen) == bool(self.row.left)
@@ -303,7 +304,7 @@ def play_table(kind):
                 judge.compare()
             except Failed as fault:
                 raise Failed(f"{row.text}: {fault}") from fault
-    print(f"calls refused in turn: {count}", flush=True)
+    print(f"allocations that failed in turn: {count}", flush=True)
 
 
 def source(*path):

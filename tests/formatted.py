@@ -1,5 +1,5 @@
 #!/usr/bin/env python3
-"""Whether each file of the crates is in the layout that `rt fmt` writes: `rt ci` proves no crate with one that isn't."""
+"""Whether each file of the crates has the layout of `rt fmt`: `rt ci` proves no crate with a file that hasn't."""
 import os
 import shutil
 import subprocess

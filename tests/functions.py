@@ -1,24 +1,24 @@
-"""The functions of a Rattle crate's source, by their paths as rattle prints them, and which of them a place is in."""
+"""The functions of a Rattle crate's source, by their paths as rattle prints them, and the function around a place."""
 import os
 import re
 
-# What holds no code: comments, texts and characters (a lifetime is none of them).
+# Text that isn't code: comments, strings and characters (but not lifetimes).
 NO_CODE = re.compile(
     r"//[^\n]*|/\*.*?\*/|b?r(#*)\".*?\"\1|b?\"(?:[^\"\\]|\\.)*\"|b?'(?:\\[^\n']+|[^\\'\n])'", re.S
 )
-# What opens a brace that is no body: a clause of a contract, or a ghost member's type.
+# What opens a brace that isn't a body: a clause of a contract, or a ghost member's type.
 CLAUSE = re.compile(r"(?:\b(?:requires|ensures)\b\*?(?:\s+\w+)?|\bghost\s+\w+\s*:)\s*\Z")
 WORD = re.compile(r"\b(?:fn|impl|trait|mod)\b|[{};]")
 HEAD = {"impl": r"impl\b", "trait": r"trait\s+(\w+)", "mod": r"mod\s+(\w+)", "fn": r"fn\s+(\w+)"}
 
 
 def blanked(text):
-    """The text with nothing in its comments and literals, each character at its place."""
+    """The text with its comments and literals blanked, each character at its place."""
     return NO_CODE.sub(lambda found: re.sub(r"[^\n]", " ", found[0]), text)
 
 
 def closing(text, at):
-    """The place behind the brace that closes the one at this place."""
+    """The place after the brace that closes the one at this place."""
     depth = 0
     for found in re.finditer(r"[{}]", text[at:]):
         depth += 1 if found[0] == "{" else -1
@@ -28,7 +28,7 @@ def closing(text, at):
 
 
 def without_generics(text):
-    """The text less what stands in angle brackets."""
+    """The text without the parts in angle brackets."""
     text = text.replace("->", "  ")
     while True:
         shorter = re.sub(r"<[^<>]*>", "", text)
@@ -38,18 +38,18 @@ def without_generics(text):
 
 
 class Function:
-    """A function: its name, the impl, trait or module that it stands in, where it begins, and its body's two ends."""
+    """A function: its name, the impl, trait or module around it, where it begins, and its body's two ends."""
 
     def __init__(self, name, module, owner, begun, body):
         self.name, self.module, self.owner, self.begun, self.body = name, module, owner, begun, body
 
     def may_have_others_beside(self):
-        """Whether functions of other names may stand where it does, as in no impl of a trait."""
+        """Whether other functions may be added beside it; not in an impl of a trait."""
         return self.owner is None or self.owner[0] == "impl" and not self.owner[2]
 
 
 def impl_of(head):
-    """What an impl is of: its type and its trait, as one word each."""
+    """The type and the trait of an impl, each as one word."""
     head = re.sub(r"\Aimpl\s*", "", head)
     parameters = []
     if head.startswith("<"):
@@ -67,7 +67,7 @@ def impl_of(head):
 
 
 def named(of, parameters):
-    """A type that an impl is of, as rattle names it in a path."""
+    """A type of an impl, as rattle names it in a path."""
     if of.startswith("("):
         count = len([it for it in without_generics(of).strip("()").split(",") if it.strip()])
         return f"Tuple{count}" if count else "Unit"
@@ -75,13 +75,13 @@ def named(of, parameters):
 
 
 def given(of, parameters):
-    """What stands behind a type's name where its own impl is not for all its arguments: these, each with a plus before it."""
+    """The suffix of a type's name for an impl that isn't for all its arguments: these, each after a plus."""
     arguments = re.findall(r"\w+", re.sub(r"\b\w+::|'\w+\b", "", of.strip().partition("<")[2]))
     return "" if {*arguments} <= {*parameters} else "".join(f"+{it}" for it in arguments)
 
 
 def words(path, parameters):
-    """The words of a type as rattle joins them: of each path the last, less lifetimes and the impl's own parameters."""
+    """The words of a type as rattle joins them: the last one of each path, without lifetimes and the impl's own parameters."""
     path = re.sub(r"\b\w+::", "", re.sub(r"'\w+\b", "", path)).replace("&", " Ref ")
     return "".join(it[0].upper() + it[1:] for it in re.findall(r"\w+", path) if it not in parameters)
 
@@ -125,7 +125,7 @@ def functions(text, module):
 
 
 def body_of(text, at, end):
-    """The brace that opens the item's body, behind its clauses; None where it has no body."""
+    """The brace that opens the item's body, after its clauses; None if it has no body."""
     while True:
         word = re.compile(r"[{;]").search(text, at, end)
         if not word:
@@ -161,7 +161,7 @@ class Sources:
             self.homes.setdefault(name, module)
 
     def module_of(self, file):
-        """The module that a file is, by the names from the crate's root down."""
+        """The module of a file, by the names from the crate's root down."""
         module = file.removeprefix("src/").removesuffix(".rt").split("/")
         return module[:-1] if module[-1] in ("lib", "main", "mod") else module
 
@@ -171,6 +171,6 @@ class Sources:
         if function.owner is None:
             return "::".join([*here, function.name])
         kind, of, trait = function.owner
-        # A type's own methods stand in its module, wherever their impl is.
+        # A type's own methods are in its module, wherever their impl is.
         home = here if kind == "trait" or trait else [self.crate, *self.homes.get(of.partition("+")[0], function.module)]
         return "::".join([*home, of + trait, function.name])

@@ -1,8 +1,8 @@
 #!/usr/bin/env python3
-"""Writes what the parts of the last `./test` took into the table of docs/GATE.md.
+"""Writes the times of the last `./test` into the table of docs/GATE.md.
 
-    tests/gate_table.py nothing    the run proved all from nothing
-    tests/gate_table.py kept       all was kept from an earlier run
+    tests/gate_table.py nothing    the run proved everything from nothing
+    tests/gate_table.py kept       everything was kept from an earlier run
 """
 import os
 import re
@@ -16,14 +16,14 @@ COLUMNS = {"nothing": (2, 3), "kept": (4, 5)}
 
 
 def parts_of(path):
-    """The parts of a run, each with its wall and processor time; the last one is of all."""
+    """The parts of a run, each with its wall and processor time; the last one is the total."""
     rows = [line.split("\t") for line in read(path).splitlines()]
     found = {name: (float(wall), float(processor)) for name, wall, processor in rows}
     return {**found, "all": tuple(map(sum, zip(*found.values())))}
 
 
 def filled(line, parts, columns):
-    """A row of the table with a run's times in its cells, if it is of a part."""
+    """A row of the table with a run's times in its cells, if it is the row of a part."""
     cells = line.strip("|").split("|")
     times = parts.pop(cells[0].strip(), None)
     for column, seconds in zip(columns, times or ()):

@@ -1,10 +1,10 @@
 #!/usr/bin/env python3
-"""The program with its growths refused in turn. Run it by ./test, or alone once `rt ci` or ./keyline has built it.
+"""The program with each of its allocations failing in turn. Run it by ./test, or alone once `rt ci` or ./keyline --prove has built it.
 
-A session is run once for each call that asks the C library for memory, and that call is refused. Such a run ends with
-status 1 and the words for it; what it wrote before is the beginning of what a run with ample memory writes. A refusal
-that the program gets over, as one that was to make a block smaller, must leave the run whole. The count
-ends with the first run that meets no refusal, which must be as if nothing stood in its way.
+A session is run once for each call that allocates in the C library, and that call fails. Such a run ends with status 1 and
+the message for it; what it wrote before is a prefix of what a run with enough memory writes. A failure that the program
+gets over, such as that of shrinking a block, must leave the run whole. The count ends with the first run in which no call
+fails; its result must be that of an ordinary run.
 """
 import os
 import subprocess
@@ -14,7 +14,7 @@ from checks import ENTER, HUNG, NEW_ROW, PROGRAM, TOP, Failed, drawing, run_all,
 
 SHIM = os.path.join(TOP, "build", "refuse_growth.so")
 WORDS = b"keyline: out of memory\n"
-# Where the history's text doesn't fit into memory, after everything else was done.
+# The message if the history's text doesn't fit into memory, after everything else was done.
 NO_TEXT = b"keyline: history text failed\n"
 MOST = 10000
 TAB = ord("\t")
@@ -22,8 +22,8 @@ BELL = b"\a"
 
 
 class Session:
-    """The keys of these lines, each printable ASCII or Tab, and what a whole run on them writes, with these words to
-    complete. Each line fits into one row."""
+    """The keys of these lines, printable ASCII or Tab, and what a whole run with them writes, with these words to complete.
+    Each line fits into one row."""
 
     def __init__(self, *lines, words=()):
         self.words = words
@@ -40,7 +40,7 @@ class Session:
         self.got_over = 0
 
     def typed(self, keys):
-        """The line that the keys give; their parts of the display go to the others."""
+        """The line of the keys; their parts of the display are appended to the others."""
         line = b""
         for key in keys:
             completed = self.completed(line) if key == TAB else None
@@ -55,7 +55,7 @@ class Session:
         return line
 
     def completed(self, line):
-        """The line after a Tab at its end, or None where it rings."""
+        """The line after a Tab at its end, or None if the bell rings."""
         word = line.rpartition(b" ")[2]
         candidates = [it for it in self.words if it.startswith(word)]
         shared = os.path.commonprefix(candidates)
@@ -78,16 +78,16 @@ class Session:
             same("display", display, b"".join(self.parts))
         begun = [b"".join(self.parts[:count]) for count in range(len(self.parts) + 1)]
         if display not in begun:
-            raise Failed(f"the display is no beginning of the whole one, by parts: {display!r}")
+            raise Failed(f"the display is no prefix of the whole one, part by part: {display!r}")
         sent = begun.index(display)
         # A line is written after its row break, and before the next line's first drawing.
         at_least = sum(at + 2 <= sent for at in self.breaks)
         at_most = sum(at + 1 <= sent for at in self.breaks)
         if ran.stdout not in [b"".join(self.lines[:count]) for count in range(at_least, at_most + 1)]:
-            raise Failed(f"between {at_least} and {at_most} lines are to be written, not {ran.stdout!r}")
+            raise Failed(f"expected {at_least} to {at_most} lines, found {ran.stdout!r}")
 
     def arguments(self, folder):
-        """Those of the program; the words stand in a file of the folder."""
+        """The program's arguments; the words are in a file of the folder."""
         if not self.words:
             return []
         path = os.path.join(folder, "words")
@@ -112,7 +112,7 @@ class Session:
                 os.remove(report)
             else:
                 raise Failed(f"{MOST} calls, and no end")
-        print(f"calls refused in turn: {number - 1}, got over: {self.got_over}", flush=True)
+        print(f"allocations that failed in turn: {number - 1}, got over: {self.got_over}", flush=True)
         same("whether any call was met", number > 1, True)
 
 
@@ -141,7 +141,7 @@ def words_that_are_read():
 
 
 def words_that_are_completed():
-    """By what they share, by the one that begins so, and by none."""
+    """By their common prefix, by the single one that begins so, and by none."""
     Session(b"al\t", b"x alph\t!", b"zz\t", words=[b"alpha", b"alpine"]).refuse_each()
 
 

@@ -1,6 +1,6 @@
 #!/usr/bin/env python3
 """The history file in odd places: where it can't be written whole, and where a save must not change more than its text.
-Run it by ./test, or alone once `rt ci` or ./keyline has built the program.
+Run it by ./test, or alone once `rt ci` or ./keyline --prove has built the program.
 """
 import contextlib
 import os
@@ -16,12 +16,12 @@ NEW = b"x" * 20_000
 NOT_LOADED = b"keyline: history does not load\n"
 NOT_SAVED = b"keyline: history text failed\n"
 NO_WORDS = b"keyline: words do not load\n"
-# How many files a crash may have left each, and an owner who isn't the tests' own.
+# How many files crashes may have left, and an owner other than that of the tests.
 STALE, NOBODY = 120, 65534
 
 
 def played(path, keys, status=0, words=b"", **more):
-    """A session over a history, its lines those of its keys."""
+    """A session over a history; its lines are those of its keys."""
     ran = subprocess.run([PROGRAM, "--history", path], input=keys, capture_output=True, timeout=HUNG, **more)
     same("lines", ran.stdout, keys.replace(b"\r", b"\n"))
     same("status", ran.returncode, status)
@@ -35,7 +35,7 @@ def text_of(path):
 
 @contextlib.contextmanager
 def folder_with(name, text=None):
-    """A folder, and the path of a file in it of this name and text, or of none."""
+    """A folder, and the path of a file in it with this name and text, or without a file."""
     with tempfile.TemporaryDirectory() as folder:
         path = os.path.join(folder, name)
         if text is not None:
@@ -46,11 +46,11 @@ def folder_with(name, text=None):
 
 @contextlib.contextmanager
 def little_room():
-    """A folder on a disk of four pages, and what a program there is started with; where none can be had, a file's size is
-    limited instead."""
+    """A folder on a disk of four pages, and the command with which a program starts there. If such a disk can't be mounted, the
+    size of files is limited instead."""
     with tempfile.TemporaryDirectory() as folder:
         mounted = is_mounted(folder)
-        print(f"room: {'a small disk' if mounted else 'a limit of a file'}")
+        print(f"space: {'a small disk' if mounted else 'a limit of a file'}")
         try:
             yield folder, {} if mounted else {"preexec_fn": limit_files, "restore_signals": False}
         finally:
@@ -59,7 +59,7 @@ def little_room():
 
 
 def is_mounted(folder):
-    """Whether a disk of four pages could be mounted there."""
+    """Whether a disk of four pages can be mounted there."""
     try:
         words = ["mount", "-t", "tmpfs", "-o", "size=16k", "tmpfs", folder]
         return subprocess.run(words, capture_output=True).returncode == 0
@@ -73,7 +73,7 @@ def limit_files():
 
 
 def a_full_disk():
-    """A text that doesn't fit leaves the old one, and nothing beside it; one that fits is saved."""
+    """A text that doesn't fit leaves the old one, and no other file; one that fits is saved."""
     with little_room() as (folder, limits):
         path = os.path.join(folder, "history")
         for old in (None, OLD):
@@ -97,7 +97,8 @@ def a_link_in_a_circle():
 
 
 def a_link_to_nothing():
-    """The file that a link names is made, and the link stays; so behind several links, from other folders too."""
+    """The file to which a link leads is made, and the link stays. The same holds for several links, and for links from other
+    folders."""
     with folder_with("link") as (folder, link):
         os.mkdir(os.path.join(folder, "one"))
         os.symlink("one/two", link)
@@ -117,7 +118,7 @@ def a_link_to_nothing():
 
 
 def a_name_as_long_as_names_are():
-    """A name of 255 bytes has no room for another ending, nor one of letters of two bytes."""
+    """A name of 255 bytes leaves no space for another suffix, nor does one with letters of two bytes."""
     for name in ("h" * 255, "é" * 127):
         with folder_with(name) as (folder, path):
             played(path, b"a\r")
@@ -135,7 +136,7 @@ def a_relative_name():
 
 
 def what_crashes_left():
-    """Files that runs before have left don't stop a save, and stay; nor do those of a run that is at work."""
+    """Files left by earlier runs don't stop a save, and stay; nor do those of a run in progress."""
     with folder_with("history", OLD) as (folder, path):
         left = [f".keyline.{number}.new" for number in range(STALE)]
         for name in left:
@@ -147,7 +148,7 @@ def what_crashes_left():
 
 
 def the_owner_of_a_file():
-    """A file keeps its owner, its group and its rights where the program may give them, and is saved where it may not."""
+    """A file keeps its owner, its group and its permissions if the program may set them; it is saved in any case."""
     with folder_with("history", OLD) as (folder, path):
         if os.geteuid() != 0:
             print("not played: a file of another owner, which root alone can make")
@@ -166,7 +167,7 @@ def the_owner_of_a_file():
 
 
 def devices():
-    """A device is neither a history nor words: it is refused before a key is read, and not read without end."""
+    """A device is neither a history nor words: it is rejected before a key is read, and not read without end."""
     for name in ("/dev/null", "/dev/zero", "/dev/full", "/dev/urandom"):
         for option, words, status in (("--history", NOT_LOADED, 5), ("--words", NO_WORDS, 6)):
             ran = subprocess.run([PROGRAM, option, name], input=b"ab\r", capture_output=True, timeout=HUNG)
@@ -179,7 +180,7 @@ def devices():
 
 @contextlib.contextmanager
 def pipe_with(text):
-    """The path of a pipe that gives this text, and what a program is started with to have it."""
+    """The path of a pipe that gives this text, and the command with which a program gets it."""
     reader, writer = os.pipe()
     os.write(writer, text)
     os.close(writer)
@@ -190,7 +191,7 @@ def pipe_with(text):
 
 
 def a_pipe():
-    """What a pipe gives is read to its end; a history can't be written to one that nobody reads."""
+    """A pipe is read to its end; a history can't be written to one that nobody reads."""
     with pipe_with(b"alpha\n") as (path, given):
         ran = subprocess.run([PROGRAM, "--words", path], input=b"alp\t\r", capture_output=True, timeout=HUNG, **given)
         same("lines and status with words", [ran.stdout, ran.returncode], [b"alpha\n", 0])
@@ -202,14 +203,15 @@ def a_pipe():
 
 
 def ended_by(number):
-    """Has a signal end this process, also where the test was begun with it ignored, and leave no core."""
+    """Lets a signal end this process, even if the test was started with it ignored, without a core dump."""
     resource.setrlimit(resource.RLIMIT_CORE, (0, 0))
     if number != signal.SIGKILL:
         signal.signal(number, signal.SIG_DFL)
 
 
 def killed_in_mid_line():
-    """Where keys come from no terminal a signal ends the program: the lines before stand, and the old history is whole."""
+    """If the keys don't come from a terminal, a signal ends the program: the lines before are written, and the old history is
+    whole."""
     for number in (signal.SIGTERM, signal.SIGHUP, signal.SIGINT, signal.SIGQUIT, signal.SIGKILL):
         with folder_with("history", OLD) as (folder, path):
             with Running([PROGRAM, "--history", path], preexec_fn=lambda: ended_by(number)) as program:

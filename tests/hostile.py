@@ -1,15 +1,15 @@
 #!/usr/bin/env python3
-"""A hunt through the built program with inputs that nobody writes by hand. Run it by ./test, or alone once `rt ci` or
-./keyline has built the program.
+"""Random sessions with inputs that nobody writes by hand, run through the built program. Run it by ./test, or alone once
+`rt ci` or ./keyline --prove has built the program.
 
-    tests/hostile.py                           ten thousand sessions, from a seed that is the program's sum
-    tests/hostile.py --sessions N --seed S     as many as one likes, from any seed
+    tests/hostile.py                           ten thousand sessions, from a seed that is the program's checksum
+    tests/hostile.py --sessions N --seed S     any number of them, from any seed
 
-Each session is played twice, the second time one byte a read, with tests/one_byte.c preloaded: it must end by a name,
-with the status and the words that go with it, write whole lines alone, leave the history file that those lines make of
-the old one, and show on the display of tests/display.py, from its top on, prompt and line where each line ends. Played
-once more with Enter after all keys, it tells what the line was that stood open: prompt and line must be what the display
-showed of it. What fails is cut down, and printed as a row for ROWS.
+Each session is played twice, the second time one byte per read, with tests/one_byte.c preloaded. It must end in a known
+way, with the status and the message for it, and write only whole lines. The history file must be what those lines make of
+the old one. The display of tests/display.py must show prompt and line where each line ends, from its top on. Played once
+more with Enter after all keys, it says what the open line was: the display must have shown prompt and line of it. A
+failing session is made smaller, and printed as a row for ROWS.
 """
 import argparse
 import dataclasses
@@ -27,7 +27,7 @@ from hunting import (MUCH, Fault, hunted, is_text, judge_open_line, most_judged,
                      shown_lines, tell, test_of)
 from inputs import ENTER, KINDS, PASTE, PASTED, Session, large_pastes
 
-# Sessions that are played each time before the hunt: what it found once, and ends of what it looks for.
+# Sessions that are played each time before the hunt: former finds, and limits of what it looks for.
 ROWS = [
     Session(keys=b"ab\x1b\xc3"),
     Session(keys=b"a\x1b\xff", mode="vi"),
@@ -44,18 +44,18 @@ ROWS = [
     Session(keys="漢\t\t\r".encode(), words="漢字\n漢a\n".encode(), columns=3),
 ]
 
-# The words of each status that is no fault of a device.
+# The message of each status that isn't a device's fault.
 ENDINGS = {0: b"", 130: b"", 3: b"keyline: input is not UTF-8\n", 4: b"keyline: paste out of place\n",
            5: b"keyline: history does not load\n", 6: b"keyline: words do not load\n"}
-# What a session may take: seconds of processor, bytes of memory, and bytes of what it writes into one stream.
+# The limits of a session: seconds of processor time, bytes of memory, and bytes written to one stream.
 LIMITS = {resource.RLIMIT_CPU: 60, resource.RLIMIT_AS: 2_000_000_000, resource.RLIMIT_FSIZE: 64_000_000}
-# Of how many sessions one is a large paste, and how many keys such a one has at least.
+# One in so many sessions is a large paste, and how many keys it has at least.
 SELDOM, SHORT = 3000, 100_000
 
 
 @dataclasses.dataclass(frozen=True)
 class Ran:
-    """What a run left: `files` are those of its folder, by their names."""
+    """The result of a run: `files` are those of its folder, by their names."""
 
     status: int
     lines: bytes
@@ -64,7 +64,7 @@ class Ran:
 
 
 class Player:
-    """Plays sessions, one after the other, in a folder of its own."""
+    """Plays sessions, one after the other, in its own folder."""
 
     def __init__(self):
         memory = "/dev/shm" if os.access("/dev/shm", os.W_OK) else None
@@ -148,13 +148,13 @@ def read(path):
 
 
 def unread_status(session):
-    """The status of a session with a file that isn't text: of words before a history."""
+    """The status of a session with a file that isn't UTF-8: that of words comes before that of a history."""
     files = [(6, session.words), (5, session.history)]
     return next((status for status, data in files if data is not None and not is_text(data)), None)
 
 
 def judge_run(session, ran):
-    """Raises what is wrong with a run, and answers what its display shows at last."""
+    """Raises what is wrong with a run, and returns what its display shows at the end."""
     if ran.status not in ENDINGS:
         tell("ending", f"status {ran.status}, with {ran.display[-60:]!r}")
     words = ENDINGS[ran.status]
@@ -178,7 +178,7 @@ def judge_run(session, ran):
 
 
 def session_of(seed):
-    """What gives the session of a number, and its kind."""
+    """The generator of the session with a number, and its kind."""
 
     def session_at(number):
         rng = random.Random(f"{seed} {number}")

@@ -1,16 +1,16 @@
 #!/usr/bin/env python3
-"""A hunt through sessions over memory, for what the program has no argument for: bindings, handlers and helpers of every
-answer. Run it by ./test, or alone once `rt ci` has built crates/sessions_program.
+"""Random sessions over memory, for what the program has no arguments for: bindings, and handlers and helpers with any answers.
+Run it by ./test, or alone once `rt ci` has built crates/sessions_program.
 
-    tests/hostile_memory.py                           five thousand sessions, from a seed that is the program's sum
-    tests/hostile_memory.py --sessions N --seed S     as many as one likes, from any seed
+    tests/hostile_memory.py                           five thousand sessions, from a seed that is the program's checksum
+    tests/hostile_memory.py --sessions N --seed S     any number of them, from any seed
 
-The program reads sessions as rows and tells in hexadecimal what each leaves. Each is played with its keys in one read, and
-then as its own word cuts them: both must leave the same. It must end by a name that its words and keys have a reason for,
-write whole lines alone, save the text that those lines make of the old one, and send display bytes that have a meaning and
-show prompt, line and a message at most where each line ends. Played once more with a key after all others that accepts the
-line, it tells what the line was that stood open: prompt, line and a hint or message at most must be what the display showed
-of it. What fails is cut down, and printed as a row for ROWS.
+The program reads sessions as rows, and prints in hexadecimal what each leaves. Each is played with its keys in one read, and
+then as its own word cuts them: both must leave the same. It must end in a way for which its words and keys have a reason,
+write only whole lines, and save the text that those lines make of the old one. Its display bytes must have a meaning, and
+show prompt, line and at most a message where each line ends. Played once more with a key after all others that accepts the
+line, it says what the open line was: the display must have shown prompt, line and at most a hint or a message of it. A
+failing session is made smaller, and printed as a row for ROWS.
 """
 import argparse
 import collections
@@ -60,16 +60,16 @@ abc Enter Enter 漢 Enter Enter = nothing
 ‹e6›‹bc›‹a2› Left a Enter = nothing
 """
 
-# How many sessions a run of the program plays; what it may take, in seconds of processor and bytes of memory; and how many
-# bytes of what it tells of one way are read. A session that leaves more isn't judged.
+# How many sessions a run of the program plays; its limits, in seconds of processor time and bytes of memory; and how many bytes
+# of the output for one way are read. A session that leaves more isn't judged.
 BATCH, LIMITS, LONGEST = 40, {resource.RLIMIT_CPU: 100, resource.RLIMIT_AS: 64_000_000}, 2_000_000
-# How the program ends where it finds no memory for what it tells.
+# The program's message if it has no memory for its output.
 WANTS_MEMORY = b"Error: memory allocation failed\n"
 
 
 @dataclasses.dataclass(frozen=True)
 class Left:
-    """What a session left: its ending, its lines, the text of its history and the bytes of its display."""
+    """The result of a session: its ending, its lines, the text of its history and the bytes of its display."""
 
     ending: str
     lines: bytes = b""
@@ -81,20 +81,20 @@ TOO_LONG = Left("too long")
 
 
 def rows_for(session):
-    """A session's rows: with its keys in one read, as its own word cuts them, and with a key more that accepts the line."""
+    """A session's rows: with its keys in one read, as its own word cuts them, and with one more key that accepts the line."""
     others = " ".join(word for word in session.words if not word.startswith("reads:"))
     ways = [("", b""), (session.cut(), b""), (f"bind:{ACCEPTING}⇒AcceptLine", KEYS[ACCEPTING])]
     return "".join(f"\n: {others} {word}\n{noted_keys(session.keys + key)} = nothing" for word, key in ways)
 
 
 class Run:
-    """A run of the program, which plays sessions in their three ways. What it tells of each is read as it comes."""
+    """A run of the program, which plays sessions in their three ways. Its output for each is read as it comes."""
 
     def __init__(self, sessions):
         self.program = subprocess.Popen([PROGRAM, "each"], **dict.fromkeys(("stdin", "stdout", "stderr"), subprocess.PIPE))
         for kind, most in LIMITS.items():
             resource.prlimit(self.program.pid, kind, (most, most))
-        # It reads all before it tells anything.
+        # It reads everything before it prints anything.
         with contextlib.suppress(BrokenPipeError), self.program.stdin as rows:
             rows.write("".join(map(rows_for, sessions)).encode())
 
@@ -108,7 +108,7 @@ class Run:
         self.program.stderr.close()
 
     def left(self):
-        """What the next way left, None at the end."""
+        """The result of the next way, None at the end."""
         row = self.program.stdout.readline(LONGEST)
         if row.endswith(b"\n"):
             ending, *parts = row[:-1].decode().split(" .")
@@ -118,7 +118,7 @@ class Run:
         return TOO_LONG if row else None
 
     def fault(self):
-        """Why it told no more."""
+        """Why there is no more output."""
         said = self.program.stderr.read(1000)
         status = self.program.wait()
         if said.endswith(WANTS_MEMORY):
@@ -127,8 +127,8 @@ class Run:
 
 
 def played(sessions):
-    """What is wrong with each of these sessions, or why it can't be judged. It stops before one that isn't told, where that
-    isn't the only one."""
+    """What is wrong with each of these sessions, or why it can't be judged. It stops before a session without output, unless
+    that is the only one."""
     with Run(sessions) as run:
         for session in sessions:
             ways = [run.left() for _ in range(3)]
@@ -163,7 +163,7 @@ class Player:
 
 
 def found_of(session, whole, pieces, accepted):
-    """What is wrong with a session that left this, read at once, in pieces, and with the last line accepted."""
+    """What is wrong with a session with these results: read at once, in pieces, and with the last line accepted."""
     try:
         judge(session, whole, pieces, accepted)
     except (Fault, Unjudged) as fault:
@@ -172,7 +172,7 @@ def found_of(session, whole, pieces, accepted):
 
 
 def judge(session, whole, pieces, accepted):
-    # (`unopened Memory` is judged: what a session left is told without a copy, which might find no room)
+    # (`unopened Memory` is judged: the result of a session is printed without a copy, for which memory might run out)
     is_short = "Memory" in (whole.ending, pieces.ending) and (whole != pieces or not has_reason(session, "Memory"))
     if is_short or TOO_LONG in (whole, pieces, accepted):
         raise Unjudged(MUCH)
@@ -185,14 +185,14 @@ def judge(session, whole, pieces, accepted):
     ways, shown = shown_lines(session, whole.display, whole.lines, whole.ending not in ("Helper", "Memory"))
     saved = [saved_after(session.history, lines) if "adding" in session.words else None for lines in ways]
     same_as_one("history", whole.saved, [text or b"" for text in saved])
-    # (an Esc at the input's end is another key with one more behind it)
+    # (an Esc at the input's end is another key if one more follows it)
     if (whole.ending, accepted.ending) == ("Eof", "Eof") and not session.keys.endswith(ESC):
         judge_open_line(session, shown, whole.lines, accepted.lines)
     return None
 
 
 def has_reason(session, ending):
-    """Whether keys and words have something that ends a session so."""
+    """Whether keys and words have something that ends a session in this way."""
     keys, bound = session.keys, " ".join(word for word in session.words if word.startswith("bind:"))
     fails = any("-fails:" in word for word in session.words)
     wants = "wants-memory" in session.words
@@ -217,7 +217,7 @@ def rows_of(text):
 
 
 def session_of(seed):
-    """What gives the session of a number, and its kind."""
+    """The generator of the session with a number, and its kind."""
 
     def session_at(number):
         rng = random.Random(f"{seed} {number}")

@@ -1,4 +1,4 @@
-"""What the hunts share: what a session must show and keep, a failing one cut down, and processes side by side."""
+"""Shared by the hunts: what a session must show and store, how a failing one is made smaller, and parallel processes."""
 import collections
 import itertools
 import os
@@ -12,18 +12,18 @@ from checks import Failed
 from display import REDRAWN, Display, Drawing, Meaningless, Unjudged
 
 COUNT = re.compile(r"\(arg: -?\d+\) ")
-# Lines that a history keeps.
+# The most lines that a history stores.
 KEPT = 100
-# Why a session isn't judged that is too large.
-MUCH = "more than there is room for"
-# How many faults end a hunt, for how many seconds one is cut down, and of how many sessions one at most isn't judged.
+# Why a session that is too large isn't judged.
+MUCH = "more than there is space for"
+# How many faults end a hunt, for how many seconds one is made smaller, and of how many sessions at most one isn't judged.
 ENOUGH, CUTTING, FEW = 3, 60, 50
-# In how many ways what was written may fall into lines that look alike.
+# In how many ways the written bytes may be split into lines that look alike.
 ALIKE = 1000
 
 
 class Fault(Exception):
-    """What is wrong with a session; the first argument says of which kind it is."""
+    """What is wrong with a session; the first argument is its kind."""
 
     def __str__(self):
         return f"{self.args[0]}: {self.args[1]}"
@@ -52,8 +52,8 @@ def is_text(data):
 
 
 def shown_lines(session, display, lines, is_drawn=True):
-    """In which ways what was written falls into lines, as the display shows them, each where it ends, and what it shows at last;
-    all else on it is as it must be. The line that was begun may be undrawn, where a helper failed."""
+    """In which ways the written bytes are split into lines, as the display shows them, each where it ends, and what it shows at
+    the end; everything else on it is as it must be. The first drawing of a line may be missing if a helper failed."""
     if lines and not (lines.endswith(b"\n") and is_text(lines)):
         tell("lines", f"not whole: {lines[-60:]!r}")
     text, ways, ends = lines.decode(), {0: [[]]}, display.count(b"\r\n" + REDRAWN)
@@ -72,7 +72,7 @@ def shown_lines(session, display, lines, is_drawn=True):
 
 
 def with_one_more(session, shown, text, ways, is_last):
-    """The ways in which a text falls into lines up to each place, with one line more, which the display shows."""
+    """The ways to split a text into lines up to each place, with one more line, which the display shows."""
     found = {}
     for begun, before in ways.items():
         for end in shown_ends(session, shown, text, begun, is_last):
@@ -85,8 +85,8 @@ def with_one_more(session, shown, text, ways, is_last):
 
 
 def shown_ends(session, shown, text, begun, is_last):
-    """Where the lines end that begin at a place in a text and that the display shows: at its first newline, or at a later one, as
-    lines hold some. Where two drawings look alike there are several."""
+    """Where the lines end that begin at a place in a text and that the display shows: at its first newline, or at a later one,
+    since some lines contain newlines. If two drawings look alike, there are several."""
     drawn, drawn_to = Drawing(session.columns, session.prompt, clusters=session.clusters), begun
     for end in [len(text) - 1] if is_last else (found.start() for found in re.compile("\n").finditer(text, begun)):
         if end < begun:
@@ -100,27 +100,27 @@ def shown_ends(session, shown, text, begun, is_last):
 
 
 def is_shown(session, shown, line, drawn):
-    """Whether the display shows the drawing of prompt and line from its top on, and a message at most, and the cursor is in the
+    """Whether the display shows the drawing of prompt and line from its top on, and at most a message, with the cursor in the
     row below."""
     return any(shown.below(shown.top) == each.below(0) and shown.cursor == (shown.top + each.place[0] + 1, 0)
                for each in (drawn, *session.with_message(shown, line, drawn.place)))
 
 
 def shows_prompt(session, shown):
-    """Whether the prompt, or that of a count, stands at the display's top."""
+    """Whether the prompt, or that of a count, is at the display's top."""
     drawn = [Drawing(session.columns, prompt, clusters=session.clusters) for prompt in prompts_of(session, shown)]
     return any(begins(shown.below(shown.top), each.below(0)) for each in drawn)
 
 
 def prompts_of(session, shown):
-    """The session's prompt, and that of a count which a display may show."""
+    """The session's prompt, and those of counts that a display may show."""
     count = COUNT.match(shown.text(shown.top, 0))
     return [session.prompt] + ([count[0]] if count else [])
 
 
 def judge_open_line(session, shown, lines, accepted):
-    """What a display shows at last is the line that stood open, with a hint or message at most: the one more line that is
-    accepted where a key for that comes after all others, if it is read as one."""
+    """Checks that the display shows the open line at the end, with at most a hint or a message. The open line is the additional
+    one that is accepted if a key for that comes after all others, if it is read as one."""
     if accepted == lines or not accepted.startswith(lines):
         return
     line = accepted[len(lines):].decode()
@@ -133,7 +133,7 @@ def judge_open_line(session, shown, lines, accepted):
 
 
 def begins(rows, drawn):
-    """Whether these rows have what is drawn, and maybe more."""
+    """Whether these rows begin with what is drawn."""
     return len(drawn) <= len(rows) and all(cells.items() <= row.items() for cells, row in zip(drawn, rows))
 
 
@@ -145,7 +145,7 @@ def pictured(shown):
 
 
 def entries_of(saved):
-    """The entries of a history file: its rows, in which escapes are read where the first row says so."""
+    """The entries of a history file: its rows, in which escapes are read if the first row says so."""
     rows = saved.decode().split("\n")
     rows = [row[:-1] if row.endswith("\r") else row for row in rows[:-1]] + rows[-1:]
     if rows[0] != "#V2":
@@ -156,8 +156,8 @@ def entries_of(saved):
 
 
 def saved_after(saved, lines):
-    """The text of the history after these lines, None where nothing is new: no line counts that is empty or that was the last
-    one."""
+    """The text of the history after these lines, None if nothing is new: empty lines and those that equal the last one don't
+    count."""
     kept, are_new = [], 0
     loaded = [] if saved is None else entries_of(saved)
     for number, line in enumerate(loaded + lines):
@@ -170,7 +170,7 @@ def saved_after(saved, lines):
 
 
 def without_parts(parts):
-    """A text, or a tuple, with less in it, the ones with much less first."""
+    """Smaller texts, or tuples, the much smaller ones first."""
     size = len(parts)
     while size:
         for at in range(0, len(parts), size):
@@ -192,13 +192,13 @@ def cut_down(player, session, fault):
 
 
 class Hunt:
-    """The sessions of some numbers: how many of each kind were played, why some weren't judged, and what failed."""
+    """The sessions with some numbers: how many of each kind were played, why some weren't judged, and what failed."""
 
     def __init__(self):
         self.played, self.unjudged, self.faults = collections.Counter(), collections.Counter(), []
 
     def play(self, player, session_at, numbers):
-        """Plays the sessions of these numbers, as a player takes them, until enough have failed."""
+        """Plays the sessions with these numbers, as a player takes them, until enough have failed."""
         names = collections.deque()
 
         def sessions():
@@ -220,7 +220,7 @@ class Hunt:
 
 
 def hunted(player, session_at, sessions):
-    """The hunts through so many sessions by as many processes as there are processors; each has a player of its own."""
+    """The hunts through so many sessions, by as many processes as there are processors; each has its own player."""
     count, reports = len(os.sched_getaffinity(0)), []
     for number in range(count):
         report, told = os.pipe()
@@ -262,13 +262,13 @@ def rows_pass(player, rows):
 
 
 def test_of(kind, hunts):
-    """A test that tells of the sessions of a kind which were played."""
+    """A test that reports the played sessions of a kind."""
 
     def test():
         print(f"sessions of {kind.__name__.replace('_', ' ')}: {sum(hunt.played[kind.__name__] for hunt in hunts)}")
         faults = [fault[1:] for hunt in hunts for fault in hunt.faults if fault[0] == kind.__name__]
         if faults:
-            raise Failed("".join(f"\n  session {number}: {fault}\n  cut down: {less_fault}\n{less!r}"
+            raise Failed("".join(f"\n  session {number}: {fault}\n  made smaller: {less_fault}\n{less!r}"
                                  for number, fault, less, less_fault in faults))
 
     test.__name__ = kind.__name__
@@ -276,12 +276,12 @@ def test_of(kind, hunts):
 
 
 def most_judged(hunts):
-    """A test that fails where many sessions weren't judged."""
+    """A test that fails if many sessions weren't judged."""
 
     def most_sessions_are_judged():
         played = sum(sum(hunt.played.values()) for hunt in hunts)
         unjudged = sum(sum(hunt.unjudged.values()) for hunt in hunts)
         if unjudged * FEW > played:
-            raise Failed(f"{unjudged} of {played} are not")
+            raise Failed(f"{unjudged} of {played} are not judged")
 
     return most_sessions_are_judged

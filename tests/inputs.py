@@ -1,4 +1,4 @@
-"""Sessions that nobody would write by hand, each made from a random generator: for tests/hostile.py."""
+"""Sessions that nobody would write by hand, each made by a random generator: for tests/hostile.py."""
 import dataclasses
 import re
 
@@ -17,13 +17,13 @@ JOINED = ["😀", "👍🏽", "🏽", "👩\u200d💻", "👩🏽\u200d💻", "�
 RIGHT_TO_LEFT = ["א", "ב", "שלום", "ل", "ا", "لا", "سلام", *"\u200f\u200e\u202e\u2067\u061c\u0600\u0605\u06dd"]
 WIDTHLESS = list("\u200b\u200c\u2060\ufeff\u00ad\u115f\u1160\u1161\u11a8\u2028\u2029\U000e0061")
 WIDE = ["漢", "字", "あ", "한", "각", "\u1112\u1161\u11ab", "Ａ", "ㅋ", "。", "\U00020000", "カ", "ｶ"]
-# What takes part only in a text that is pasted, recalled or given as a prompt.
+# Characters that come only in a text that is pasted, recalled or given as a prompt.
 UNTYPED = ["\t", "\x00", "\x07", "\x1b", "\x1b[H", "\x7f", "\x80", "\x9b", "\r", "\n", "\r\n", "\n\n"]
 ALPHABETS = [PLAIN, MARKS, JOINED, RIGHT_TO_LEFT, WIDTHLESS, WIDE]
 
 COLUMNS = [2, 2, 3, 3, 4, 5, 7, 10, 20, 80, 80, 1000, 1000]
 
-# What follows ESC in every form of a key's sequence, and in some that are none.
+# What follows ESC in each form of a key's sequence, and in some that are none.
 SEQUENCES = [b"[" + bytes([final]) for final in b"ABCDHFZEX"]
 SEQUENCES += [b"O" + bytes([final]) for final in b"ABCDHFMPQRSZ"]
 SEQUENCES += [b"[%d~" % number for number in (0, 1, 2, 3, 4, 5, 6, 7, 8, 9, 11, 15, 16, 17, 21, 23, 24, 25, 99, 201)]
@@ -33,7 +33,7 @@ SEQUENCES += [b"[[" + bytes([final]) for final in b"ABCDEF["]
 SEQUENCES += [b"[?25h", b"[<0;1;2M", b"[ q", b"[1 ~", b"[03~", b"[1;2;3A", b"[;A", b"[3\x07", b"[3\r", b"[\xc3\xa9", b"O\xc3\xa9",
               b"[\x1b", b"O\x1b", b"[", b"O", b"", b"\x1b", b"\x1b[A", b"[" + b"9" * 40 + b"~"]
 
-# Those that end a session come seldom.
+# Keys that end a session are rare.
 ENDING = [b"\x03", b"\x1c", b"\x04"]
 CONTROLS = [bytes([code]) for code in [*range(0x20), 0x7F] if code not in (0x03, 0x04, 0x1B, 0x1C)]
 EMACS = [ESC + bytes([char]) for char in b"bfdcultyBFDCULTY<>\x7f\x08\x07"]
@@ -50,9 +50,8 @@ MESSAGE = re.compile(r"Mismatched brackets: '.' is (unpaired|not properly closed
 
 @dataclasses.dataclass(frozen=True)
 class Session:
-    """A run of the program: its keys, its arguments, and the bytes of its history file and of its file of words, which None
-    leaves out.
-    """
+    """A run of the program: its keys, its arguments, and the bytes of its history file and of its file of words. None stands
+    for no file."""
 
     keys: bytes
     mode: str = "emacs"
@@ -70,7 +69,7 @@ class Session:
     clusters = "Unicode"
 
     def with_message(self, shown, line, place):
-        """The drawing that has after prompt and line the message which a display shows there, where it may show one."""
+        """The drawing with the message that a display shows after prompt and line, if it may show one."""
         message = shown.text(shown.top + place[0], place[1])
         if self.brackets and MESSAGE.fullmatch(message):
             yield Drawing(self.columns, self.prompt, line, message)
@@ -80,11 +79,11 @@ class Session:
         return self.brackets or self.words is not None
 
     def open_lines(self, prompt, line):
-        """Drawings of a line that isn't ended; after it a hint of the history may stand, or a message."""
+        """Drawings of a line that hasn't ended; a hint from the history or a message may follow it."""
         yield Drawing(self.columns, prompt, line)
 
     def shorter(self):
-        """Sessions with less in them, the ones with much less first."""
+        """Smaller sessions, the much smaller ones first."""
         for field in ("prompt", "history", "words", "brackets", "mode", "columns"):
             default = Session.__dataclass_fields__[field].default
             if getattr(self, field) != default:
@@ -104,12 +103,12 @@ class Session:
 
 
 def some(rng, least, most):
-    """A number, the smaller ones more often."""
+    """A number; smaller ones are more frequent."""
     return least + int((most - least + 1) * rng.random() ** 2)
 
 
 def texts(rng, most, *more):
-    """A text of one or two alphabets, and of what is added to them."""
+    """A text of one or two alphabets, and some additions."""
     pieces = rng.choice(ALPHABETS) + rng.choice(ALPHABETS) + [piece for other in more for piece in other]
     return "".join(rng.choice(pieces) for _ in range(some(rng, 0, most)))
 
@@ -133,7 +132,7 @@ def settings(rng):
 
 
 def one_key(rng, mode):
-    """The bytes of a key or of a few that belong together."""
+    """The bytes of a key, or of a few that belong together."""
     at = rng.random()
     if at < 0.25:
         return texts(rng, 4).encode()
@@ -159,12 +158,12 @@ def keys_of(rng, mode, most):
 
 
 def closed(rng, keys):
-    """These keys, mostly with what accepts a line behind them."""
+    """These keys, mostly followed by one that accepts the line."""
     return keys + rng.choice([ENTER, ENTER, ENTER, ENTER, b"\n", ESC + ENTER, b""])
 
 
 def cut(rng, keys):
-    """These keys, now and then cut off, or with a byte lost, doubled or changed."""
+    """These keys, sometimes cut off, or with a byte lost, doubled or changed."""
     at, how = rng.randrange(len(keys) + 1), rng.random()
     if how < 0.15:
         return keys[:at]
@@ -178,7 +177,7 @@ def cut(rng, keys):
 
 
 def count(rng, mode, most):
-    """A count as it is typed, its amount up to `most` or at an end of what counts can be."""
+    """A count as it is typed, its amount up to `most` or at a limit of counts."""
     digits = rng.choice([str(rng.randrange(most + 1)), "0", "1", "00", str(most)])
     if mode == "vi":
         return ESC + digits.encode()
@@ -220,7 +219,7 @@ def keys_cut_anywhere(rng):
 
 
 def pastes(rng):
-    """Pastes one after the other, in one another, cut off, and where none is awaited."""
+    """Pastes one after the other, nested, cut off, and at unexpected places."""
     given, keys = settings(rng), b""
     for _ in range(some(rng, 1, 6)):
         some_keys = keys_of(rng, given["mode"], 3)
@@ -230,7 +229,7 @@ def pastes(rng):
 
 
 def counts(rng):
-    """Counts at their ends before keys of all kinds; the line is long at times."""
+    """Counts at their limits before keys of all kinds; the line is sometimes long."""
     given = settings(rng)
     keys = texts(rng, 20).encode()
     if rng.random() < 0.05:
@@ -247,7 +246,7 @@ def counts(rng):
 
 
 def odd_texts(rng):
-    """Texts that a display has trouble with, typed, pasted and edited."""
+    """Texts that are difficult to display, typed, pasted and edited."""
     given = settings(rng)
     given["columns"] = rng.choice([2, 3, 1000, given["columns"]])
     keys = b""
@@ -260,7 +259,7 @@ def odd_texts(rng):
 
 
 def odd_prompts(rng):
-    """Prompts of such texts."""
+    """Prompts with such texts."""
     given = settings(rng)
     given["prompt"] = texts(rng, 12, UNTYPED).replace("\0", "")
     return Session(keys=cut(rng, closed(rng, keys_of(rng, given["mode"], 25))), **given)
@@ -297,6 +296,6 @@ def large_pastes(rng):
     return Session(keys=keys, columns=rng.choice([2, 80, 1000]), mode=rng.choice(["emacs", "vi"]))
 
 
-# Of each kind that comes by chance, how often.
+# How often each random kind is played.
 KINDS = {random_bytes: 6, keys_cut_anywhere: 10, pastes: 6, counts: 4, odd_texts: 8, odd_prompts: 3, history_files: 3,
          word_files: 3}

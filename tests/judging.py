@@ -1,19 +1,19 @@
-"""What counts as a wrong body that a contract refuses: what rattle says of a check, and how it is judged."""
+"""When a contract kills a mutant: what rattle says in a check, and how that is judged."""
 import re
 
 from functions import functions
 from wrong_bodies import UNREAD, head
 
-# What a check finds of a wrong body: values are known at which an open goal of it is false, so that no proof can be
-# written, whatever its form; or goals are open, which shows nothing where the search has given up; or neither is so.
+# What a check finds about a mutant: values are known for which an open goal is false, so no proof can be written in any form;
+# or goals are open, which shows nothing if the search has given up; or neither.
 FALSE, OPEN, FAULT = "false", "open", "fault"
 
 
 class Said:
-    """What a check says of each function."""
+    """The output of a check for each function."""
 
     FUNCTION = re.compile(r"(?m)^fn (\S+): (proved|not proved|no proof|could not tell|no holes|depends on a hole)(.*)$")
-    # A call of what is not proved, or a block handed on, is no fault of the function that makes it.
+    # If a callee, or a block that is passed on, isn't proved, that is no fault of its caller.
     CALLS = re.compile(r"\bit (?:calls|passes the block) .*?, which (?:is|are) not proved")
     UNPROVED = re.compile(r"(?s).*?did not prove (.*?)(?:; it calls.*|\Z)")
     OPEN = re.compile(
@@ -34,11 +34,11 @@ class Said:
             self.open.setdefault(self.at(file, int(line)), {})[goal] = "values at which this goal is false" in more
 
     def at(self, file, line):
-        """The function that a line of the checked text is of."""
+        """The function around a line of the checked text."""
         return next((path for path, first, last in self.places.get(file, ()) if first <= line <= last), None)
 
     def why(self, path):
-        """Why a function is refused for its own sake; None where it isn't."""
+        """Why a function is rejected for its own sake; None if it isn't."""
         kind, why = self.lines[path]
         own = self.CALLS.sub("", why).strip("; ")
         if kind == "not proved" or kind == "no proof" and own:
@@ -50,7 +50,7 @@ class Said:
         return [it for it in self.lines if it == path or it.replace("::fn::", "::", 1).startswith(f"{path}::")]
 
     def refusals(self, path):
-        """Why a function or a closure in it is refused for its own sake; of one told of in brief, its open goals."""
+        """Why a function or a closure in it is rejected for its own sake; for one reported in brief, its open goals."""
         if path in self.brief:
             goals = [f"`{it}`" for it in self.open.get(path, {})]
             told = f": `search` did not prove {', '.join(goals)}" if goals else ""
@@ -58,33 +58,33 @@ class Said:
         return [why for why in map(self.why, self.of(path)) if why]
 
     def misfits(self, path):
-        """Whether a stored answer of a function's does not fit its body."""
+        """Whether a stored answer of a function doesn't fit its body."""
         folder = re.escape(self.crate.answers(path))
         own = "|".join([UNREAD, *self.unasked.get(path, ())])
         return bool(re.search(rf"(?m)^(?:\./)?{folder}/.*: error(?!: `(?:{own})`)", self.text))
 
     def strays(self, paths):
-        """The files of definitions and lemmas that are refused, but for those of these functions' proofs."""
+        """The files of definitions and lemmas that are rejected, except for the proofs of these functions."""
         own = tuple(f"{self.crate.answers(path)}/" for path in paths)
         return sorted({it for it in self.ANTT.findall(self.text) if not it.startswith(own)})
 
     def silent(self, edit):
-        """Whether what was said in brief of an edit doesn't show that it is refused, so that it is asked again."""
+        """Whether a brief report of a mutant doesn't show that it is killed, so that it is checked again."""
         return not all(self.refusals(path) for path in edit.paths() if path in self.brief)
 
     def goals(self, path):
-        """The open goals of a function but those of invariants, and whether values are known at which each is false."""
+        """The open goals of a function except for those of invariants, and whether values are known for which each is false."""
         unproved = self.UNPROVED.match(self.why(path) or "")
         found = dict.fromkeys(re.findall(r"`([^`]+)`", unproved[1]) if unproved else [], False)
         found.update(self.open.get(path, {}))
         return {it: false for it, false in found.items() if not re.match(r"loop|invariant|decreases|iterator", it)}
 
     def is_false(self, path):
-        """Whether values are known at which an open goal is false."""
+        """Whether values are known for which an open goal is false."""
         return any(self.goals(path).values())
 
     def to_spare(self, edit):
-        """The open goals of an edit's function that need not be asked, since one that is enough is asked."""
+        """The open goals of a mutant's function that need not be asked, since one that is enough is asked."""
         [path, *more] = edit.paths()
         goals = {} if more or path not in self.lines else self.goals(path)
         asked = min(goals, key=lambda it: not goals[it], default=None)
@@ -100,7 +100,7 @@ def spans(sources, file, text):
 
 
 def found_of(edit, said):
-    """What a check finds of an edit, and what to say of it."""
+    """What a check finds about a mutant, and what to print."""
     faults, told, known = [], [], []
     for path in edit.paths():
         why = said.refusals(path) if path in said.lines else []
@@ -109,7 +109,7 @@ def found_of(edit, said):
         elif said.lines[path][0] == "could not tell":
             faults.append(f"{path}: could not tell")
         elif not why:
-            faults.append(f"{path} is NOT REFUSED: it is proved with this body")
+            faults.append(f"{path} is NOT KILLED: it is proved with this body")
         else:
             known.append(said.is_false(path))
         told += [f"{path}: {it}" for it in why]
@@ -118,13 +118,13 @@ def found_of(edit, said):
 
 
 def judged(crate, group, said):
-    """What is found of each wrong body of a group, with its name and what to say; then the other functions refused."""
+    """What was found about each mutant of a group, with its name and what to print; then the other rejected functions."""
     for edit in group:
         kind, told = found_of(edit, said)
         yield kind, f"{crate.name}/{edit.name}", told
     meant = {it for edit in group for path in edit.paths() for it in said.of(path)}
     for path in said.lines:
         if path not in meant and said.why(path):
-            yield FAULT, path, f"refused, though nothing is wrong with it: {said.why(path)}"
+            yield FAULT, path, f"rejected, though nothing is wrong with it: {said.why(path)}"
     for file in said.strays(path for edit in group for path in edit.paths()):
-        yield FAULT, f"{crate.name}/{file}", "refused, though nothing is wrong with it"
+        yield FAULT, f"{crate.name}/{file}", "rejected, though nothing is wrong with it"

@@ -1,17 +1,17 @@
-"""What earlier runs on this machine found of wrong bodies that were refused, by sums of all that their checks read."""
+"""What earlier runs on this machine found about killed mutants, by checksums of everything that their checks read."""
 import os
 import tempfile
 
 from wrong_bodies import below, read, seen_sum, sum_of
 
-# What of the scripts says what a check is made of and how it is judged.
+# The scripts that say what a check is made of and how it is judged.
 SCRIPTS = ("functions.py", "judging.py", "wrong_bodies.py")
-# So many are kept at most: those that were longest unused go.
+# At most this many are kept: those that were unused for the longest time go.
 MOST = 20_000
 
 
 class Kept:
-    """A folder with a file for each wrong body that was refused, under its sum."""
+    """A folder with a file for each killed mutant, named by its checksum."""
 
     def __init__(self, top, uses, kit, folder, anew=False):
         self.top, self.uses, self.folder, self.anew, self.seen = top, uses, folder, anew, {}
@@ -19,7 +19,7 @@ class Kept:
         self.tools = sum_of(kit_texts(kit), scripts)
 
     def name(self, crate, edit):
-        """The sum of all that a check of an edit reads, and of how it is judged."""
+        """The checksum of everything that a check of an edit reads, and of how it is judged."""
         libraries = below(self.uses, crate.name)
         for it in libraries:
             if it not in self.seen:
@@ -27,7 +27,7 @@ class Kept:
         return sum_of(self.tools, self.uses[crate.name], [self.seen[it] for it in libraries], crate.sum_of(edit))
 
     def found(self, name):
-        """What was found of the body of that sum, and why; None where none tried it, or all are to be tried anew."""
+        """What was found about the body with that checksum, and why; None if none tried it, or all are to be tried again."""
         if self.anew:
             return None
         try:
@@ -39,17 +39,17 @@ class Kept:
             return None
 
     def keep(self, name, kind, why):
-        """Keeps what was found of the body of that sum, where the folder can be written."""
+        """Keeps what was found about the body with that checksum, if the folder can be written."""
         try:
             os.makedirs(self.folder, 0o700, exist_ok=True)
             with tempfile.NamedTemporaryFile("w", dir=self.folder, prefix="new-", delete=False, encoding="utf-8") as it:
                 it.write(f"{kind}\n{why}")
             os.replace(it.name, os.path.join(self.folder, name))
         except OSError as fault:
-            print(f"note: what is found of a wrong body is not kept: {fault}", flush=True)
+            print(f"note: the result of a mutant is not kept: {fault}", flush=True)
 
     def shrink(self):
-        """Removes what was longest unused, past the most that is kept."""
+        """Removes what was unused for the longest time, beyond the most that is kept."""
         try:
             found = sorted(os.scandir(self.folder), key=lambda it: it.stat().st_mtime, reverse=True)
             for it in found[MOST:]:
@@ -64,7 +64,7 @@ def folder_beside(kit):
 
 
 def kit_texts(kit):
-    """What tells one kit from another: its name, and the sizes and times of its commands and libraries."""
+    """What distinguishes kits: the name, and the sizes and times of commands and libraries."""
     files = [os.path.join(kit, "bin", it) for it in sorted(os.listdir(os.path.join(kit, "bin")))]
     rlibs = os.path.join(kit, "rlibs")
     files += [os.path.join(rlibs, it, "format") for it in sorted(os.listdir(rlibs))]

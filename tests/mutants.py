@@ -1,32 +1,32 @@
 #!/usr/bin/env python3
-"""Wrong bodies, many at a check: crates/NAME/mutants/*.edit give functions bodies that their contracts must refuse.
+"""Mutants, many per check: crates/NAME/mutants/*.edit give functions bodies that their contracts must reject.
 
-Such a file is written as those of must-fail/ are: a line `file: src/lib.rt` and pairs of lines `old: TEXT` and
-`new: TEXT`, each text once in the file. Many share a check of their crate, over the libraries that `rt ci` left in
-crates/*/out: each stands beside the right one, as a function of another name, and ensures no more there than the clause
-that its case in tests/mutants-by-hand.txt begins with. The right one is taken at its word there, as its contract has it:
-a check proves no right body, since `rt ci` has, and needs nothing that an earlier one kept.
+Such a file is written like those of must-fail/: a line `file: src/lib.rt` and pairs of lines `old: TEXT` and `new: TEXT`.
+Each old text must be in the file once. Many mutants share a check of their crate, over the libraries that `rt ci` left in
+crates/*/out. Each is a function beside the original, with another name. It ensures only the clause with which its case in
+tests/mutants-by-hand.txt begins. The originals are assumed to meet their contracts: a check proves none of them, since
+`rt ci` has, and needs nothing that an earlier check kept.
 
-A wrong body passes where each function that it changes is refused for its own sake, and rattle knows values at which
-an open goal of it is false, or tests/mutants-by-hand.txt has a case at which a clause is: an open goal alone may be one
-at which the search gave up. It fails where a function is proved all the same, and where it no longer fits or changes
-nothing. A function or a file of lemmas that is refused though nothing is wrong with it fails too.
+A mutant is killed if each function that it changes is rejected for its own sake, and rattle knows values for which an
+open goal of it is false, or tests/mutants-by-hand.txt has a case for which a clause is. An open goal alone isn't enough,
+since the search may have given up at it. A mutant fails if a function is proved all the same, and if the mutant no longer
+fits or changes nothing. It is a failure too if a function or a file of lemmas is rejected though nothing is wrong with it.
 
-What was found of one that is refused is kept on this machine, beside what `rt ci` keeps, by the sums of all that its
-check read: a later run, in any clone, tries only those of which something changed (tests/kept.py).
+The result of a killed mutant is kept on this machine, beside what `rt ci` keeps, by the checksums of everything that its
+check read. A later run, in any clone, tries only the mutants for which something changed (tests/kept.py).
 
     tests/mutants.py [CRATE..]          all crates, or these
-    tests/mutants.py --anew [CRATE..]   tries those too that are kept
-    tests/mutants.py --fit [CRATE..]    says in a second which wrong bodies no longer fit, and tries none
-    tests/mutants.py --all-goals ..     asks every goal, and writes tests/mutants-unasked.txt anew for these crates
-    rt ci | tests/mutants.py --beside   begins with a crate as soon as what `rt ci` says shows that it has proved the
+    tests/mutants.py --anew [CRATE..]   tries the kept ones again, too
+    tests/mutants.py --fit [CRATE..]    says in a second which mutants no longer fit, and tries none
+    tests/mutants.py --all-goals ..     asks every goal, and writes tests/mutants-unasked.txt again for these crates
+    rt ci | tests/mutants.py --beside   begins with a crate as soon as the lines of `rt ci` show that it has proved the
                                         libraries below it, one check at a time until `rt ci` has ended; tries no more
-                                        where that was broken off, so that its last line doesn't count
+                                        if that was broken off, so that its last line doesn't count
 
-Where a wrong body leaves several goals open, one is enough to refuse it, and each takes seconds. So those of which
-tests/mutants-unasked.txt tells are left as holes; where no other one is open, the body is tried again with them.
+If a mutant leaves several goals open, one is enough to kill it, and each takes seconds. So the goals in
+tests/mutants-unasked.txt are left as holes; if no other one is open, the mutant is tried again with them.
 
-What a check said stands in build/mutants/ after it.
+The output of a check is in build/mutants/ afterwards.
 """
 import os
 import re
@@ -44,14 +44,14 @@ from kept import Kept, folder_beside
 from wrong_bodies import Crate, below, crates_of, joined, read, write
 
 TOP = os.path.dirname(os.path.dirname(os.path.realpath(__file__)))
-# What a check takes at most of memory, in bytes.
+# The memory limit of a check, in bytes.
 NEED = 2_500_000_000
 BY_HAND = os.path.join(TOP, "tests", "mutants-by-hand.txt")
 UNASKED = os.path.join(TOP, "tests", "mutants-unasked.txt")
 
 
 class Checker:
-    """Checks crates of a repository over the libraries that are built in their out/."""
+    """Checks crates of a repository with the libraries that were built in their out/."""
 
     def __init__(self, top, uses):
         self.top, self.uses = top, uses
@@ -62,11 +62,11 @@ class Checker:
         return own if name in self.uses else os.path.join(self.kit, "rlibs", f"{name}.rlib")
 
     def lacking(self, crate, proofs):
-        """The libraries below a crate that aren't built, or that `rt ci`, if it is heard, hasn't proved."""
+        """The libraries below a crate that aren't built, or that `rt ci`, if its output is read, hasn't proved."""
         return [it for it in below(self.uses, crate.name) if not (proofs.has(it) and os.path.isdir(self.rlib(it)))]
 
     def words(self, crate, kept, paths):
-        """The command that checks these functions of a crate, those of others taken by their contracts."""
+        """The command that checks these functions of a crate; other functions are taken by their contracts."""
         root = "src/main.rt" if "src/main.rt" in crate.sources.texts else "src/lib.rt"
         words = [os.path.join(self.kit, "bin", "rattle"), "check", "--crate-name", crate.name, root]
         for dep in ["std", *self.uses[crate.name]]:
@@ -80,10 +80,10 @@ class Checker:
         return words + [word for path in sorted(paths) for word in ("--only", path.partition("::")[2])]
 
     def check(self, crate, group, brief, kept):
-        """What a check of the functions that a group changes costs, what rattle says of them, of some in brief, and how
+        """What a check of the functions that a group changes costs, what rattle says about them (about some in brief), and how
         it ends.
 
-        What the crate's first check keeps, each later one has a copy of: rattle shares no such folder at one time.
+        Each later check has a copy of what the crate's first one keeps, since rattle can't share such a folder.
         """
         with tempfile.TemporaryDirectory(prefix="mutants-") as top:
             room, own = os.path.join(top, "crate"), os.path.join(top, "kept")
@@ -96,7 +96,7 @@ class Checker:
             return self.ran(self.words(crate, own if crate.checks else kept, paths), room)
 
     def ran(self, words, room):
-        """The processor time of a command, what it says, and its status."""
+        """The processor time of a command, its output, and its status."""
         with tempfile.TemporaryFile("w+", errors="replace") as said:
             how = {"stdin": subprocess.DEVNULL, "stdout": said, "stderr": subprocess.STDOUT}
             with subprocess.Popen(words, cwd=room, **how) as it:
@@ -107,7 +107,7 @@ class Checker:
 
 
 class Proofs:
-    """What `rt ci` has proved so far or taken as kept, as the lines that it writes say; all, where it isn't heard."""
+    """What `rt ci` has proved so far or taken as kept, as its lines say; everything, if its output isn't read."""
 
     PROVED = re.compile(r"rt: (\w+) (?:proved\n|is kept: )")
     COUNT = re.compile(r"\d+ passed, \d+ failed\n")
@@ -129,7 +129,7 @@ class Proofs:
             self.ended = True
 
     def hear_out(self):
-        """Waits until `rt ci` has ended, so that it has someone to write to."""
+        """Waits until `rt ci` has ended, so that its output is read to the end."""
         if self.is_heard:
             self.hearing.join()
 
@@ -138,9 +138,9 @@ class Proofs:
 
 
 class Trial:
-    """A crate's wrong bodies as they are tried: what is found of them, and the groups that are still to be tried.
+    """A crate's mutants as they are tried: what was found about them, and the groups that are still to be tried.
 
-    What its first check keeps serves the others, of which each has a copy, so these begin when that one has ended.
+    The first check keeps what serves the others, of which each has a copy; so these begin when the first one has ended.
     """
 
     def __init__(self, crate, checker, by_hand, kept):
@@ -154,13 +154,13 @@ class Trial:
         self.left = crate.groups([it for it in crate.edits if it not in known])
 
     def settled(self, kind, name, why):
-        """Whether a body passes of which this was found, with its name and what to say."""
+        """Whether a mutant with this finding passes, with its name and what to print."""
         if kind == OPEN and name not in self.by_hand:
-            return False, name, f"no values are known at which an open goal is false, and no case is written out: {why}"
+            return False, name, f"no values are known for which an open goal is false, and no case is written out: {why}"
         return kind != FAULT, name, why
 
     def ready(self, proofs):
-        """The groups that may be tried now; none ever, where a library that they need is not to come."""
+        """The groups that may be tried now; none ever, if a library that they need will not come."""
         lacking = self.left and self.checker.lacking(self.crate, proofs)
         if lacking and proofs.ended:
             self.left = []
@@ -174,13 +174,13 @@ class Trial:
         return groups
 
     def check(self, group):
-        """Tries a group: what its check cost, what was said of it, and how the check ended."""
+        """Tries a group: the cost of its check, its output, and how the check ended."""
         brief = self.crate.brief([it for it in group if it not in self.full])
         cost, said, status = self.checker.check(self.crate, group, brief, self.folder.name)
         return cost, Said(self.crate, group, said, brief), status
 
     def take(self, group, cost, said, status):
-        """Takes what was said of a group: what was found of its edits, and those that need another check."""
+        """Takes the output for a group: what was found about its mutants, and which need another check."""
         self.running -= 1
         if status < 0 or not said.text:
             self.take_killed(group, status)
@@ -193,7 +193,7 @@ class Trial:
             self.take_unread(group, said)
 
     def take_killed(self, group, status):
-        """Has a group whose check was killed tried once more; a second time it is named with its status."""
+        """Tries a group again if its check was killed; the second time it fails, with its status."""
         if self.killed.issuperset(group):
             why = f"its check was killed twice, with status {status}"
             self.found += [(False, f"{self.crate.name}/{it.name}", why) for it in group]
@@ -202,17 +202,17 @@ class Trial:
             self.left.append(group)
 
     def take_unread(self, group, said):
-        """Takes that the front end refused the crate: those edits fail of which it says so, and the others are tried."""
+        """Takes an error of the front end: the mutants that it names fail, and the others are tried again."""
         culprits = refused_unread(said, group)
         for edit, why in culprits.items():
             self.found.append((False, f"{self.crate.name}/{edit.name}", f"it did not reach the prover: {why}"))
         self.left += [[it for it in group if it not in culprits]] * (len(culprits) < len(group))
 
     def take_told(self, group, said):
-        """Takes what the prover said of a group."""
-        # Where a callee in the same check is refused too, some goals are not tried: such bodies have another.
+        """Takes the prover's output for a group."""
+        # If a callee in the same check is rejected too, some goals are not tried: such mutants get another check.
         waiting = [it for it in group if len(group) > 1 and {*it.paths()} & said.waiting]
-        # Where nothing is open, it is asked in full: the body is proved, or refused in another way.
+        # If nothing is open, the mutant is checked in full: its body is proved, or rejected in another way.
         silent = [it for it in group if it not in waiting and said.silent(it)]
         self.full.update(silent)
         again = [*waiting, *silent]
@@ -224,7 +224,7 @@ class Trial:
         self.keep(group, found)
 
     def keep(self, group, found):
-        """Keeps what was found of those of a group that are refused, unless the check shows another fault."""
+        """Keeps what was found about the killed mutants of a group, unless the check shows another fault."""
         sums = {f"{self.crate.name}/{it.name}": self.sums[it] for it in group}
         if all(name in sums for _, name, _ in found):
             for kind, name, why in found:
@@ -233,17 +233,17 @@ class Trial:
 
 
 def tried(trials, lanes, proofs):
-    """Tries the wrong bodies of crates, the dearest first, so many checks side by side; yields each trial as it ends.
+    """Tries the mutants of crates, the dearest first, with several checks side by side; yields each trial as it ends.
 
-    While `rt ci` is at work there is one check at a time, where the memory for it is free, and a crate whose libraries
-    it hasn't proved waits.
+    While `rt ci` is running there is one check at a time, if there is memory for it, and a crate waits until its libraries
+    are proved.
     """
     running, ready, left = {}, [], list(trials)
     with ThreadPoolExecutor(lanes) as pool:
         while left:
             is_alone = proofs.ended
             if proofs.was_broken_off:
-                sys.exit("rt ci was broken off, so no more wrong bodies are tried")
+                sys.exit("rt ci was broken off, so no more mutants are tried")
             ready += [(trial, group) for trial in left for group in trial.ready(proofs)]
             ready.sort(key=lambda it: it[0].crate.weight(), reverse=True)
             room = lanes if is_alone else min(1, free() // NEED)
@@ -259,32 +259,32 @@ def tried(trials, lanes, proofs):
 
 
 def ended_of(running):
-    """Those of the running checks that have ended, after a second or as soon as there is one."""
+    """The running checks that have ended, after a second or as soon as there is one."""
     if not running:
         time.sleep(1)
     return wait(running, timeout=1, return_when=FIRST_COMPLETED).done
 
 
 def refused_unread(said, group):
-    """The edits for which the front end refused the crate, each with its error; all of them where it doesn't tell."""
+    """The mutants for which the front end rejected the crate, each with its error; all of them if it doesn't say."""
     errors = {said.at(file, int(line)): why for file, line, why in said.FRONT.findall(said.text)}
     found = {it: errors[path] for it in group for path in it.paths() if path in errors}
     return found or dict.fromkeys(group, " ".join(said.text.split("\n")[:3])[:300])
 
 
 def save(top, name, text):
-    """Keeps what a check said, for whoever looks into a failure."""
+    """Stores the output of a check, to look into a failure."""
     write(os.path.join(top, "build", "mutants", name), text)
 
 
 def noted(path):
-    """What a file says of wrong bodies, each on a line of its own after its crate and name."""
+    """The lines of a file about mutants, each after its crate and name."""
     lines = [line.strip() for line in read(path).split("\n") if line.strip() and not line.startswith("#")]
     return dict(line.split(": ", 1) for line in lines)
 
 
 def note_unasked(path, trials):
-    """Writes which goals need not be asked of these crates' wrong bodies, as the trials showed."""
+    """Writes which goals need not be asked of these crates' mutants, as the trials showed."""
     names = {it.crate.name for it in trials}
     told = {name: goals for name, goals in noted(path).items() if name.split("/")[0] not in names}
     for it in trials:
@@ -294,13 +294,13 @@ def note_unasked(path, trials):
 
 
 def free():
-    """The memory that is free, in bytes."""
+    """The free memory, in bytes."""
     with open("/proc/meminfo", encoding="ascii") as it:
         return 1024 * int(re.search(r"MemAvailable:\s+(\d+)", it.read())[1])
 
 
 def processors():
-    """How many checks fit side by side: a processor each, and the memory."""
+    """How many checks fit side by side: a processor for each, and the memory."""
     return max(1, min(len(os.sched_getaffinity(0)), free() // NEED))
 
 
@@ -315,7 +315,7 @@ def main(words):
     passed = failed = 0
     for name in by_hand:
         if name not in known and (not names or name.split("/")[0] in names):
-            print(f"FAILED {name}: tests/mutants-by-hand.txt names it, and there is no such wrong body", flush=True)
+            print(f"FAILED {name}: tests/mutants-by-hand.txt names it, and there is no such mutant", flush=True)
             failed += 1
     if "--fit" in words:
         unfit = [(f"{it.name}/{name}", why) for it in crates for name, why in it.unfit.items()]
@@ -339,16 +339,16 @@ def main(words):
 
 
 def tell(trial):
-    """Prints what a trial cost and found."""
+    """Prints the cost and the result of a trial."""
     crate = trial.crate
     cost = f"checks {len(crate.checks)}, {sum(cost for cost, _ in crate.checks):.0f} s of processor"
-    count = f"wrong bodies {len(crate.edits) + len(crate.unfit)}, of them kept {trial.known}"
+    count = f"mutants {len(crate.edits) + len(crate.unfit)}, of them kept {trial.known}"
     print(f"-- {crate.name}: {count}, {cost}", flush=True)
     for at, (cost, names) in enumerate(crate.checks, 1):
         of = ", ".join(names[:8]) + " .." * (len(names) > 8)
-        print(f"   check {at}: {cost:.0f} s, wrong bodies {len(names)}: {of}", flush=True)
+        print(f"   check {at}: {cost:.0f} s, mutants {len(names)}: {of}", flush=True)
     for well, name, text in trial.found:
-        print(f"{'refused' if well else 'FAILED'} {name}: {text[:400]}", flush=True)
+        print(f"{'killed' if well else 'FAILED'} {name}: {text[:400]}", flush=True)
 
 
 def finished(passed, failed):

@@ -1,8 +1,8 @@
 #!/usr/bin/env python3
-"""What tests/mutants.py says of wrong bodies, and of what is none, in a small crate of its own.
+"""What tests/mutants.py says about mutants, and about functions that are none, in a small crate.
 
-    tests/mutants_tests.py             where the prover is a stand-in, in a second
-    tests/mutants_tests.py --prover    where it is rattle itself
+    tests/mutants_tests.py             with a stand-in for the prover, in a second
+    tests/mutants_tests.py --prover    with rattle itself
 """
 import os
 import re
@@ -18,7 +18,7 @@ from checks import run_all, same
 from functions import Sources
 from kept import Kept
 
-SOURCE = """//! Numbers, for wrong bodies.
+SOURCE = """//! Numbers, for mutants.
 #![tactic(auto)]
 
 ghost use Rattle.std.specs.Prelude.{\u25cc\u2261\u25cc, \u25cc+\u25cc};
@@ -94,7 +94,7 @@ EDITS = {
     "from-other": ("doubled(n) + doubled(n)", "u16::from(&Pair { one: 0, other: 0 })"),
 }
 DOUBLED = "small::doubled_added_once"
-# What is said of it: a goal that is open, and one that is known to be false.
+# What is said about it: an open goal, and one that is known to be false.
 OPEN = "note: src/lib.rt:27:1: it is not proved that what the function ensures holds when it returns (`returns`)\n"
 FALSE = OPEN.replace("\n", "; the facts known there allow values at which this goal is false\n")
 REFUSED = f"fn {DOUBLED}: no proof: `search` did not prove `returns`\n"
@@ -102,7 +102,7 @@ CASE = {"small/added-once": "a case"}
 
 
 class Small:
-    """A repository with one small crate and these of its edits."""
+    """A repository with one small crate and some of its mutants."""
 
     def __init__(self, *names):
         self.folder = tempfile.TemporaryDirectory(prefix="mutants-tests-")
@@ -128,7 +128,7 @@ class Small:
         return self.tried_by(mutants.Checker(self.folder.name, self.uses()), {}, unasked)
 
     def tried_by(self, checker, by_hand, unasked=None):
-        """A trial that keeps what it finds in the repository's own folder."""
+        """A trial that keeps its findings in the repository's own folder."""
         kit = mutants.Checker(self.folder.name, self.uses()).kit
         kept = Kept(self.folder.name, self.uses(), kit, os.path.join(self.folder.name, "kept"))
         return mutants.Trial(self.crate(unasked), checker, by_hand, kept)
@@ -141,13 +141,13 @@ class Small:
 
 
 def tried(trial):
-    """What is found of a trial's wrong bodies, each with what was said of it."""
+    """The findings of a trial about its mutants, each with what was said about it."""
     [ended] = mutants.tried([trial], 2, mutants.Proofs())
     return {name: (well, text) for well, name, text in ended.found}
 
 
 def expect(found, name, well, words):
-    same(f"whether {name} is told of", name in found, True)
+    same(f"whether {name} is reported", name in found, True)
     same(f"whether {name} passes", found[name][0], well)
     same(f"whether `{found[name][1]}` says `{words}`", words in found[name][1], True)
 
@@ -158,10 +158,10 @@ def what_the_prover_says():
     expect(found, "small/added-once", True, DOUBLED)
     expect(found, "small/half-of-it", True, "small::fourfold_half_of_it")
     expect(found, "small/other-for-one", True, "small::Pair::first_other_for_one")
-    expect(found, "small/nothing-said", False, "small::silent_nothing_said is NOT REFUSED")
-    expect(found, "small/same-sum", False, "small::fourfold_same_sum is NOT REFUSED")
+    expect(found, "small/nothing-said", False, "small::silent_nothing_said is NOT KILLED")
+    expect(found, "small/same-sum", False, "small::fourfold_same_sum is NOT KILLED")
     expect(found, "small/does-not-compile", False, "did not reach the prover")
-    same("what is told of", len(found), 6)
+    same("how many are reported", len(found), 6)
 
 
 def goals_that_go_unasked():
@@ -170,7 +170,7 @@ def goals_that_go_unasked():
     })
     found = tried(trial)
     said = "small::twice_neither: not proved: `search` did not prove `returns-clause-one`"
-    same("what is said of one that has another goal open", found["small/neither"], (True, said))
+    same("what is said about one that has another goal open", found["small/neither"], (True, said))
     expect(found, "small/one-of-two", True, "returns-clause-other")
     same("checks", [names for _, names in trial.crate.checks], [["neither", "one-of-two"], ["one-of-two"]])
 
@@ -184,7 +184,7 @@ def answers_of_a_body_beside_the_right_one():
         crate.furnish(room, crate.edits)
         crate.shorten(room, crate.edits, {"small::twice_neither"})
         text = wrong_bodies.read(os.path.join(room, "proofs/twice_neither/Answers.antt"))
-        same("what its answers name its goals", text.startswith(f"{use.format('twice_neither')}{name}\n"), True)
+        same("whether its answers name its goals so", text.startswith(f"{use.format('twice_neither')}{name}\n"), True)
         same("how often the goals are brought in", text.count("Goals as "), 1)
         same("whether the goal is left as a hole",
              f"\npub returns-clause-one : {name}.returns-clause-one\nreturns-clause-one = ?\n" in text, True)
@@ -198,7 +198,7 @@ def goals_that_need_not_be_asked():
     said += "fn small::twice_neither: not proved\n"
     group = trial.crate.edits
     trial.take(group, 1, judging.Said(trial.crate, group, said, {"small::twice_neither"}), 0)
-    same("what needs not be asked", trial.spared, {group[0]: ["returns-clause-one"]})
+    same("what need not be asked", trial.spared, {group[0]: ["returns-clause-one"]})
     file = os.path.join(trial.checker.top, "unasked.txt")
     wrong_bodies.write(file, "# Told.\n\nother/one: a, b\nsmall/gone: c\n")
     mutants.note_unasked(file, [trial])
@@ -206,7 +206,7 @@ def goals_that_need_not_be_asked():
 
 
 class Told:
-    """A checker that says of a check what it was told to say, by the names of the edits."""
+    """A checker with a fixed output for a check, by the names of the mutants."""
 
     def __init__(self, top, said):
         self.top, self.said = top, said
@@ -219,7 +219,7 @@ class Told:
 
 
 def trial_of(small, said, by_hand=CASE):
-    """A trial of a crate whose edits are all told of in full, by a checker that says this."""
+    """A trial of a crate whose mutants are all reported in full, by a checker with this output."""
     trial = small.tried_by(Told(small.folder.name, said), by_hand)
     trial.full = {*trial.crate.edits}
     return trial
@@ -241,7 +241,7 @@ def a_body_that_waits_for_its_callee_is_tried_again():
 
 
 def heard(lines, ended):
-    """What is known of `rt ci` that has written these lines."""
+    """What is known of `rt ci` after these lines of its output."""
     proofs = mutants.Proofs(())
     proofs.hear(lines)
     proofs.ended = ended
@@ -268,11 +268,11 @@ def a_crate_waits_for_its_libraries():
     group = [it for it in trial.crate.edits if it.name == "added-once"]
     trial.left, trial.checker.said = [group], {"added-once": REFUSED}
     [ended] = mutants.tried([trial], 2, mutants.Proofs(stream))
-    same("what is found", [(well, name) for well, name, _ in ended.found], [(True, "small/added-once")])
+    same("the results", [(well, name) for well, name, _ in ended.found], [(True, "small/added-once")])
 
 
 class Paced(Told):
-    """A checker with which `rt ci` ends once its first check has; the two after it wait for one another."""
+    """A checker with which `rt ci` ends as soon as its first check has; the two checks after it wait for each other."""
 
     def __init__(self, top, said):
         super().__init__(top, said)
@@ -287,7 +287,7 @@ class Paced(Told):
         self.running += 1
         self.beside.append(self.running)
         if len(self.beside) == 1:
-            # (the others have time enough to begin where they shouldn't)
+            # (the others have time enough to begin when they shouldn't)
             time.sleep(3)
             self.first.set()
         else:
@@ -304,7 +304,7 @@ def one_check_at_a_time_beside_the_proofs():
         it.full = {*it.crate.edits}
     ended = [*mutants.tried(trials, 2, mutants.Proofs(paced.lines()))]
     same("checks beside one another", paced.beside, [1, 1, 2])
-    same("what is found", [well for it in ended for well, _, _ in it.found], [True] * 3)
+    same("the results", [well for it in ended for well, _, _ in it.found], [True] * 3)
 
 
 def nothing_is_tried_once_the_proofs_are_broken_off():
@@ -316,7 +316,7 @@ def nothing_is_tried_once_the_proofs_are_broken_off():
         said = "nothing"
     except SystemExit as why:
         said = str(why)
-    same("what is said", said, "rt ci was broken off, so no more wrong bodies are tried")
+    same("the message", said, "rt ci was broken off, so no more mutants are tried")
 
 
 def edits_that_no_longer_fit():
@@ -341,10 +341,10 @@ def named(groups):
 
 def wrong_bodies_that_share_a_check():
     small = Small("added-once", "half-of-it", "same-sum", "nothing-said")
-    same("all that stand beside the right ones", named(groups_of(small.crate())),
+    same("all mutants that are beside their originals", named(groups_of(small.crate())),
          [["added-once", "half-of-it", "nothing-said", "same-sum"]])
     small = Small("from-one", "from-none", "from-other", "nothing-said")
-    same("a body of a trait's impl has the right one's place, and may be called there", named(groups_of(small.crate())),
+    same("a body of a trait's impl replaces the original, and may be called there", named(groups_of(small.crate())),
          [["from-none", "from-other", "nothing-said"], ["from-one"]])
     same("groups of one size", wrong_bodies.parts([1, 2, 3, 4, 5], 3), [[1, 3, 5], [2, 4]])
 
@@ -363,7 +363,7 @@ def what_is_not_changed_is_taken_at_its_word():
         "fn from(pair: &Pair) -> u16 { loop {}", "{ loop {}",
     ])
     beside = "}\n\npub fn doubled_added_once(n: u8) -> u16\n    ensures { result \u2261 n + n }\n{\n    u16::from(n)\n}"
-    same("whether the wrong body has the right one's head and another name", beside in text, True)
+    same("whether the mutant has the original's head and another name", beside in text, True)
     files = {os.path.relpath(os.path.join(at, it), room) for at, _, names in os.walk(room) for it in names}
     same("files", files, {
         "src/lib.rt", "proofs/Pair/first/Proof.antt", "proofs/doubled/Proof.antt", "proofs/fourfold/Proof.antt",
@@ -399,7 +399,7 @@ def a_caller_is_not_blamed_for_its_callee():
     small = Small("added-once")
     callee = f"fn {DOUBLED}: no proof: `search` did not prove `returns`\n"
     caller = f"fn small::fourfold: no proof: it calls `{DOUBLED}`, which is not proved\n"
-    same("what is told of", [*small.judged(callee + caller)], ["small/added-once"])
+    same("what is reported", [*small.judged(callee + caller)], ["small/added-once"])
     caller = caller.replace("it calls", "`search` did not prove `returns`; it calls")
     expect(small.judged(callee + caller), "small::fourfold", False, "nothing is wrong with it")
 
@@ -414,7 +414,7 @@ def a_refused_lemma_is_told_of():
     ):
         found = small.judged(line + FALSE + REFUSED)
         expect(found, "small/added-once", True, DOUBLED)
-        same("whether the lemma is told of", "small/proofs/Sums.antt" in found, told)
+        same("whether the lemma is reported", "small/proofs/Sums.antt" in found, told)
 
 
 def a_function_told_of_in_brief():
@@ -432,8 +432,8 @@ def a_function_told_of_in_brief():
     ):
         said = judging.Said(crate, group, text, crate.brief(group))
         same("whether nothing of it is open", said.silent(group[0]), silent)
-        same("how often it is refused", len(said.refusals(DOUBLED)), 0 if silent else 1)
-    same("whether it is silent where it is told of in full",
+        same("how often it is rejected", len(said.refusals(DOUBLED)), 0 if silent else 1)
+    same("whether it is silent if it is reported in full",
          judging.Said(crate, group, refused).silent(group[0]), False)
 
 
@@ -507,7 +507,7 @@ def an_open_goal_alone_shows_nothing():
 
 
 class Killed(Told):
-    """A checker whose first checks are killed, so many of them."""
+    """A checker whose first checks are killed, this many of them."""
 
     def __init__(self, top, said, times):
         super().__init__(top, said)
@@ -524,7 +524,7 @@ def a_check_that_is_killed_is_tried_once_more():
         small = Small("added-once")
         trial = small.tried_by(Killed(small.folder.name, {"added-once": REFUSED}, times), CASE)
         trial.full = {*trial.crate.edits}
-        same("what is found", tried(trial), {"small/added-once": (times == 1, why)})
+        same("the results", tried(trial), {"small/added-once": (times == 1, why)})
 
 
 LOW = """//! Numbers, for numbers.
@@ -572,7 +572,7 @@ def what_is_refused_is_kept_until_something_that_its_check_read_changes():
     ):
         path = f"crates/{file}"
         whole = wrong_bodies.read(os.path.join(small.folder.name, path))
-        same(f"how often {old} stands in {file}", whole.count(old), 1)
+        same(f"how often {old} is in {file}", whole.count(old), 1)
         small.write(path, whole.replace(old, new))
         same(f"what is known with {new} in {file}", known(), count)
         small.write(path, whole)

@@ -1,28 +1,26 @@
+#!/usr/bin/env python3
 """What the crates name: the calls of each with the names of their clauses, its laws, its types, what it hands out, and the
-definitions in its specs/; and docs/NAMES.md, the list of these definitions, which is made of them.
+definitions in its specs/.
+
+    tests/names.py              prints the definitions of the libraries, file by file, with what each file is about and where
+                                contracts cite it
+    tests/names.py CRATE..      only those of these crates
 """
 import os
 import re
+import sys
 
 TOP = os.path.dirname(os.path.dirname(os.path.realpath(__file__)))
 OWNER = re.compile(r"(?:pub(?:\([^)]*\))? )?(?:trait (\w+)|impl(?:<.*?>)? (?:(.+?) for )?(.+?) ?(?:where\b.*)?\{?\Z)")
 CALL = re.compile(r"\s*(pub )?(?:pub\([^)]*\) )?(?:const |extern \"C\" )?fn (\w+)")
 CLAUSE = re.compile(r"\s*(?:requires|ensures)\*?(?: (\w+))? \{")
 BODY = re.compile(r"\s*(?:requires|ensures|ghost|where)\b|.*[{;]\Z")
-REFUSES = re.compile(r"-> (?:\w+::)*Result<")
+FAILS = re.compile(r"-> (?:\w+::)*Result<")
 TYPE = re.compile(r"\A(?:pub(?:\([^)]*\))? )?(?:struct|enum|trait|type) (\w+)")
 DEFINED = re.compile(r"^(  |)((?:abbrev |unfoldable )?)pub ((?:data |record )?)(\S+)(?= :| \(| \{|$)", re.M)
 MODULE = re.compile(r"^pub mod (\w+);", re.M)
 HANDED = re.compile(r"^pub use (\w+)(?:::\w+)*::(?:\{([^}]*)\}|(\w+));", re.M)
 CITED = re.compile(r"\bghost use Rattle\.(\w+)\.specs\.(\w+)(?=[. ])")
-
-NAMES = ("docs", "NAMES.md")
-HEAD = """# Names
-
-Each file of definitions in the `specs/` of a library or a program, with what it is about, the definitions in it, and which files of which
-crates' `src/` cite them in their contracts. `tests/promises.py --write` makes this list of the sources, and `tests/promises.py`
-fails where it is stale. [DEFINITIONS.md](DEFINITIONS.md) says which standards the definitions follow, and where to begin.
-"""
 
 
 def lines_of(*path):
@@ -71,7 +69,7 @@ class Crate:
 
     def __init__(self, name):
         self.name, self.calls, self.laws, self.types, self.public, self.specs, self.cites = name, {}, set(), set(), {}, {}, {}
-        self.refusing = {}
+        self.failing = {}
         for file in files_under(f"crates/{name}/src", ".rt"):
             self.read_source(file, file.endswith("/laws.rt"))
         for file in files_under(f"crates/{name}/specs", ".antt"):
@@ -102,8 +100,8 @@ class Crate:
                 if is_laws:
                     self.laws.add(call[2])
                 head = (part, owners, call[2]) if (call[1] or is_shared and owners) and not is_laws else None
-            if head and REFUSES.search(line):
-                self.refusing["::".join([*owners[-1:], head[2]])] = head
+            if head and FAILS.search(line):
+                self.failing["::".join([*owners[-1:], head[2]])] = head
             if BODY.match(line):
                 head = None
             if clause and clause[1] and not call:
@@ -123,9 +121,9 @@ class Crate:
             if part in self.modules or self.handed_out.intersection(owners or [call]):
                 yield name, {name, *owners, *(f"{owner}::{call}" for owner in owners)}
 
-    def refusing_calls(self):
+    def failing_calls(self):
         """Each call of the library that answers a `Result`, its own or that of a trait which it hands out."""
-        for name, (part, owners, call) in sorted(self.refusing.items()):
+        for name, (part, owners, call) in sorted(self.failing.items()):
             if part in self.modules or self.handed_out.intersection(owners or [call]):
                 yield name
 
@@ -163,23 +161,21 @@ def cited_in(crate, spec, crates):
     return ", ".join(own) + ("; " if own and above else "") + ", ".join(above)
 
 
-def names_text(crates):
-    """The text of docs/NAMES.md."""
-    parts = [HEAD]
-    for name in LIBRARIES:
-        if name not in crates or not crates[name].specs:
-            continue
-        parts.append(f"## `{name}`\n\n{about_crate(name)}\n\n| File | About | Definitions | Cited in |\n|---|---|---|---|")
+def names_text(names):
+    """The definitions of these crates, as a page in Markdown."""
+    parts, crates = [], {name: Crate(name) for name in CRATES}
+    for name in names:
+        if crates[name].specs:
+            parts.append(f"## `{name}`\n\n{about_crate(name)}\n\n| File | About | Definitions | Cited in |\n|---|---|---|---|")
         for file, defined in crates[name].specs.items():
             path = f"crates/{name}/{file}.antt"
             words = ", ".join(f"`{it}`" for it in defined)
-            parts.append(f"| [`{file}`](../{path}) | {about(path)} | {words} | {cited_in(crates[name], file[6:], crates)} |")
-        parts.append("")
+            parts.append(f"| `{path}` | {about(path)} | {words} | {cited_in(crates[name], file[6:], crates)} |")
     return "\n".join(parts)
 
 
 def line_of(path, name):
-    """The number of the line of a file that defines a name, or of the row of a table that is of it; none where there is none."""
+    """The number of the line of a file that defines a name, or of the row of a table that is of it; None if there is none."""
     word = re.escape(name)
     if path.endswith(".antt"):
         wanted = rf"(?:  )?(?:abbrev |unfoldable )?(?:pub )?(?:data |record )?{word}(?= :| \(| \{{|$)"
@@ -192,3 +188,6 @@ def line_of(path, name):
 
 
 CRATES, LIBRARIES = crates_listed()
+
+if __name__ == "__main__":
+    print(names_text(sys.argv[1:] or LIBRARIES))

@@ -1,4 +1,4 @@
-/* Preloaded under a program, it hands out standard input one byte a read. */
+/* Preloaded under a program, it gives standard input one byte per read. */
 #define _GNU_SOURCE
 #include <stddef.h>
 #include <sys/syscall.h>

@@ -1,5 +1,5 @@
 #!/usr/bin/env python3
-"""The program on real pipes. Run it by ./test, or alone once `rt ci` or ./keyline has built the program."""
+"""The program on real pipes. Run it by ./test, or alone once `rt ci` or ./keyline --prove has built the program."""
 import os
 import subprocess
 import tempfile
@@ -10,14 +10,14 @@ from checks import (BACKSPACE, CTRL_D, ENTER, HUNG, LEFT, NEW_ROW, PROGRAM, RIGH
 SCRIPT = placed_script()
 # A session's first line, `ab`: what is sent to the display before the next line's first drawing.
 FIRST_LINE = drawing(b"") + b"ab" + NEW_ROW
-# A character taken from the line's end, and a way of one column.
+# A character deleted at the line's end, and a move by one column.
 TAKEN = b"\x1b[1D\x1b[K"
 BACK = b"\x1b[1D"
 ONWARD = b"\x1b[1C"
 
 
 def expect(keys, lines, display, status=0, **streams):
-    """A run to its end. `streams` stand in the place of pipes, or are closed from the start."""
+    """A run to its end. `streams` replace pipes, or are closed from the start."""
     closed = [number for number, name in enumerate(("stdin", "stdout", "stderr")) if streams.get(name) == "closed"]
 
     def close():

@@ -1,8 +1,7 @@
-/* Preloaded under a program, it refuses one of the calls that ask the C library for memory.
+/* Preloaded under a program, it makes one of the C library's allocations fail.
  *
- * REFUSE_GROWTH is the number of that call, from 1; REFUSE_GROWTH_REPORT is the path of a file that is
- * made where the call came and was refused. Each call that asks for memory is counted, one that makes
- * room smaller too. */
+ * REFUSE_GROWTH is the number of that call, from 1. REFUSE_GROWTH_REPORT is the path of a file that is made if the
+ * call came and failed. Each call that allocates is counted, and so is one that shrinks a block. */
 #define _GNU_SOURCE
 #include <errno.h>
 #include <fcntl.h>
@@ -10,7 +9,7 @@
 #include <stdlib.h>
 #include <unistd.h>
 
-/* glibc's own names of the calls that stand in for each other here. */
+/* glibc's own names of the calls that are replaced here. */
 void *__libc_malloc(size_t size);
 void *__libc_calloc(size_t count, size_t size);
 void *__libc_realloc(void *block, size_t size);

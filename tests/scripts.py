@@ -1,5 +1,5 @@
 #!/usr/bin/env python3
-"""Whether every script and C file of the gate reads, so that none fails for that after an hour of proofs."""
+"""Whether the syntax of every script and C file of the gate is right, so that none fails for that after an hour of proofs."""
 import os
 import subprocess
 import sys

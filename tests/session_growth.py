@@ -1,11 +1,12 @@
 #!/usr/bin/env python3
-"""The sessions of crates/sessions_program/data/refusals.txt with each growth refused in turn. Run it by ./test, or alone
-once `rt ci` has built the programs.
+"""The sessions of crates/sessions_program/data/refusals.txt, with each of their allocations failing in turn. Run it by ./test,
+or alone once `rt ci` has built the programs.
 
-`sessions_program` plays them over devices that take no memory, each of them twice, and says itself whether one that a
-refusal cut short is right beside the other, and whether a next one goes on from what came back: "refused". A refusal in
-the other, or before and after, leaves it "not judged". The program plays those that it can by its arguments, over the
-streams and the file of a process: lines, display and history are then what a whole run begins with.
+`sessions_program` plays each of them twice, over devices that take no memory. It compares a session that a failed
+allocation cut short with the other one, and checks that a next one continues from the returned devices: `refused`. If an
+allocation fails in the other one, or before or after both, the result is "not judged". The program plays those that its
+arguments allow, over the streams and the file of a process: lines, display and history are then a prefix of those of a
+whole run.
 """
 import os
 import subprocess
@@ -17,14 +18,14 @@ from sessions import DATA, rows_of
 
 SESSIONS = "refusals.txt"
 WORDS = b"keyline: out of memory\n"
-# Where the history's text doesn't fit into memory, after everything else was done.
+# The message if the history's text doesn't fit into memory, after everything else was done.
 NO_TEXT = b"keyline: history text failed\n"
 UNREAD = b"Error: out of memory\n"
 MOST = 10000
 
 
 def refused_in_turn(play):
-    """Plays with each growth refused in turn, until none is left to refuse. It answers how many there were."""
+    """Plays with each allocation failing in turn, until none fails. Returns how many there were."""
     with tempfile.TemporaryDirectory() as folder:
         report = os.path.join(folder, "refused")
         for number in range(1, MOST):
@@ -40,7 +41,7 @@ def refused_in_turn(play):
 
 
 def words_of(ran):
-    """What is said of each session, by its settings and its row."""
+    """The result of each session, by its settings and its row."""
     if (ran.returncode, ran.stderr) == (1, UNREAD):
         return {}
     same("standard error", ran.stderr, b"")
@@ -60,26 +61,27 @@ def over_devices_that_take_no_memory():
         all_rows.update(said)
         refused.update(row for row, word in said.items() if word == "refused")
 
-    print(f"calls refused in turn: {refused_in_turn(play)}", flush=True)
-    same("sessions of which no growth was refused", sorted(all_rows - refused), [])
+    print(f"allocations that failed in turn: {refused_in_turn(play)}", flush=True)
+    same("sessions of which no allocation failed", sorted(all_rows - refused), [])
     same("whether all sessions were played", len(all_rows), len(list(rows_of(SESSIONS))))
 
 
 def check_cut(row, ran, saved, whole):
-    """A run that a refusal ended, beside a whole one: the history holds the lines that were written, or one more."""
+    """Compares a run that a failed allocation ended with a whole one: the history has the lines that were written, or one
+    more."""
     words = NO_TEXT if ran.stderr.endswith(NO_TEXT) else WORDS
     same("status", ran.returncode, 1)
     same("the end of standard error", ran.stderr[-len(words):], words)
     if not whole.stderr.startswith(ran.stderr[:-len(words)]):
-        raise Failed(f"the display is no beginning of {whole.stderr!r}: {ran.stderr!r}")
+        raise Failed(f"the display is no prefix of {whole.stderr!r}: {ran.stderr!r}")
     begun = [b"".join(line + b"\n" for line in row.accepted[:count]) for count in range(len(row.accepted) + 1)]
     if ran.stdout not in begun:
-        raise Failed(f"the lines are no beginning of {row.accepted}: {ran.stdout!r}")
+        raise Failed(f"the lines are no prefix of {row.accepted}: {ran.stdout!r}")
     lines = [line.decode() for line in row.accepted[:begun.index(ran.stdout) + 1]]
     held = [lines, lines[:begun.index(ran.stdout)]]
     kept = [row.loaded] if words == NO_TEXT else [saved_after(row.loaded or None, some) or row.loaded for some in held]
     if saved not in kept:
-        raise Failed(f"the history is none of {kept}: {saved!r}")
+        raise Failed(f"expected one of the histories {kept}, found {saved!r}")
 
 
 def by_the_program():
@@ -97,10 +99,10 @@ def by_the_program():
             elif was_refused():
                 check_cut(row, ran, saved, whole)
             else:
-                raise Failed(f"status {ran.returncode}, and no refusal")
+                raise Failed(f"status {ran.returncode}, and no error")
 
         try:
-            print(f"calls refused in turn: {refused_in_turn(play)} of {row.text}", flush=True)
+            print(f"allocations that failed in turn: {refused_in_turn(play)}, of {row.text}", flush=True)
         except Failed as fault:
             raise Failed(f"{row.text}: {fault}") from fault
 

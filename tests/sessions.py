@@ -1,9 +1,9 @@
 #!/usr/bin/env python3
 """The sessions of `crates/sessions_program/data/` through the built program. Run it by ./test, or alone once `rt ci` or
-./keyline has built the program.
+./keyline --prove has built the program.
 
-Each row is played twice: its bytes in one piece, and one byte a read. Rows need what the program has by its arguments;
-those with a bound key, or with a hint, are for `sessions_program` alone.
+Each row is played twice: its bytes in one piece, and one byte per read. Only rows that the program's arguments allow are
+played; those with a bound key, or with a hint, are for `sessions_program` alone.
 """
 import os
 import re
@@ -22,8 +22,8 @@ NAMED = {
 
 
 def meant(text):
-    """The bytes of a text with pictures: a control character's own, `␠` for a blank, and in `‹›` hexadecimal digits, or a
-    number and what is so often there."""
+    """The bytes of a text with pictures: a picture for a control character, `␠` for a blank, and in `‹›` hexadecimal digits, or
+    a number and the text to repeat so often."""
     held = b""
     for part in re.split("(‹[^›]+›)", text):
         if part.startswith("‹"):
@@ -48,7 +48,7 @@ def key(word):
 
 
 def drawn(text):
-    """The bytes of a display: `{` begins a drawing, up to the line, and `}` ends one with nothing after the line."""
+    """The bytes of a display: `{` begins a drawing, up to the line, and `}` ends one without anything after the line."""
     pieces = [meant(piece) for piece in re.split("[{}]", text)]
     signs = [b"\r\x1b[J\x1b[m> \x1b[m" if sign == "{" else b"\x1b[m\x1b[m" for sign in re.findall("[{}]", text)]
     return b"".join(piece + sign for piece, sign in zip(pieces, [*signs, b""]))
@@ -77,13 +77,13 @@ class Row:
         return found[0] if found else default
 
     def is_played(self):
-        """Whether the program has what the row needs: it binds no key, gives no hint and keeps a hundred lines."""
+        """Whether the program can play the row: it binds no key, gives no hint and keeps a hundred lines."""
         helped = "helped" in self.settings or self.value("words:", "")
         own = any(word.startswith(("bind:", "size:")) for word in self.settings)
         return not own and not (helped and self.value("loaded:", ""))
 
     def arguments(self, folder):
-        """Those of the program; the words that complete stand in a file of the folder."""
+        """The program's arguments; the words to complete are in a file of the folder."""
         given = ["--mode", "vi" if "vi" in self.settings else "emacs", "--columns", self.value("columns:", "80")]
         given += ["--prompt=" if "bare" in self.settings else "--prompt=> "]
         if self.value("words:", ""):
@@ -129,7 +129,7 @@ def rows_of(name):
 
 
 def played(name, one_byte):
-    """The rows of a file that the program can play; they are there, and each is as it says."""
+    """Plays the rows of a file that the program can play; there must be some, and each must be as it says."""
     count = 0
     faults = []
     for row in rows_of(name):
@@ -179,7 +179,7 @@ def worked_sessions_one_byte_a_read():
 
 
 def sizes():
-    """Those that are too large to be played each time that `sessions_program` is run."""
+    """Sessions that are too large to be played with each run of `sessions_program`."""
     count = len(list(rows_of("sizes.txt")))
     ran = subprocess.run([built("sessions_program"), "sizes.txt"], cwd=DATA, capture_output=True, timeout=HUNG)
     same("what is told", [ran.stdout[:1000], ran.stderr, ran.returncode], [b"sizes.txt: %d sessions\n" % count, b"", 0])

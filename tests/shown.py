@@ -1,12 +1,13 @@
 #!/usr/bin/env python3
-"""What a terminal shows after each key of whole sessions: tmux runs ./keyline, and is asked for its cells and cursor.
+"""What a terminal shows after each key of whole sessions: tmux runs ./keyline, and reports its cells and cursor.
 
-The sessions stand in tests/shown.txt. `rt ci` builds the program first. Texts are those whose widths tmux counts as the
-editor does. Each session is ended by Ctrl-C, and then the terminal's settings must be those that were found.
+The sessions are in tests/shown.txt. `rt ci` builds the program first. The texts are ones whose widths tmux counts like the
+editor. Each session is ended by Ctrl-C, and then the terminal's settings must be as they were.
 """
 import os
 import pathlib
 import shlex
+import subprocess
 import sys
 import tempfile
 import termios
@@ -18,7 +19,7 @@ from drawings import Terminal
 
 ROWS = pathlib.Path(__file__).with_name("shown.txt")
 
-# Seconds within which a key is shown.
+# A key must be shown within this many seconds.
 PATIENCE = 60
 
 NAMED = {
@@ -29,7 +30,7 @@ NAMED = {
 
 
 def meant(text):
-    """A text in which a control character or a blank may stand as its picture."""
+    """A text in which a control character or a blank may be written as its picture."""
     return "".join(chr(ord(c) - 0x2400) if 0x2400 <= ord(c) <= 0x2420 else c for c in text)
 
 
@@ -44,7 +45,7 @@ def key(word):
 
 
 def deed(words):
-    """What is done to a terminal: keys are sent to it, or it is told to paste a text."""
+    """An action on a terminal: keys are sent to it, or it pastes a text."""
     word, _, text = words.partition(" ")
     if word == "paste:":
         return lambda terminal: paste(terminal, meant(text))
@@ -53,7 +54,7 @@ def deed(words):
 
 
 def paste(terminal, text):
-    """Has tmux paste, as a user of it does: between marks where they are asked for, each newline as a Return."""
+    """Makes tmux paste, as its user does: between marks if the program asked for them, each newline as a Return."""
     terminal.ask("set-buffer", "--", text)
     terminal.ask("paste-buffer", "-p")
 
@@ -110,7 +111,7 @@ class Session:
         terminal.ask("send-keys", "-H", "03")
 
     def left(self, folder):
-        """Compares what the session left behind it."""
+        """Compares what the session left."""
         read = lambda name: pathlib.Path(folder, name).read_text(encoding="utf-8")
         end = time.monotonic() + PATIENCE
         while not (os.path.exists(os.path.join(folder, "after")) and read("after")):
@@ -177,8 +178,34 @@ def test_of(session):
     return plays
 
 
+def typed_before_the_end(terminal, above):
+    """Types a letter ten times before a line's end, so that the line is redrawn ten times; returns how many rows tmux then
+    keeps above the window."""
+    until_taken(terminal)
+    for count, keys in enumerate(["a c Left", *"b" * 10]):
+        deed(keys)(terminal)
+        expect(terminal, keys, ([*above, f"> a{'b' * count}c"], (len(above), 3 + count)))
+    return int(terminal.ask("display-message", "-p", "#{history_size}"))
+
+
+def copies_that_tmux_keeps():
+    """tmux scrolls up what is erased from the window's first cell on. So it keeps a copy of each drawing of a line that begins
+    in the first row, unless it is configured not to."""
+    for above, setting, copies in (([], None, 10), (["above"], None, 0), ([], "off", 0)):
+        with tempfile.TemporaryDirectory() as folder:
+            terminal = Terminal(folder, 80, "".join(f"echo {it}; " for it in above) + f"{shlex.quote(SCRIPT)}; exec sleep 120")
+            try:
+                if setting:
+                    terminal.ask("set-option", "-g", "scroll-on-clear", setting)
+                same(f"copies under {above}, {setting}", typed_before_the_end(terminal, above), copies)
+            except subprocess.CalledProcessError as fault:
+                same("what this tmux, which has no such option, says", "invalid option" in fault.stderr, True)
+            finally:
+                terminal.close()
+
+
 if __name__ == "__main__":
     os.environ["LC_ALL"] = "C.UTF-8"
     SCRIPT = placed_script()
     chosen = [session for session in sessions() if not sys.argv[1:] or session.name in sys.argv[1:]]
-    run_all([test_of(session) for session in chosen])
+    run_all([test_of(session) for session in chosen] + [copies_that_tmux_keeps] * (not sys.argv[1:]))

@@ -1,6 +1,6 @@
 #!/usr/bin/env python3
-"""Streams that end, fail or fill up at each stage of a session: what stands then, and how it ends. Run it by ./test, or
-alone once `rt ci` or ./keyline has built the program.
+"""Streams that end, fail or fill up at each stage of a session: what was done then, and how it ends. Run it by ./test, or
+alone once `rt ci` or ./keyline --prove has built the program.
 """
 import os
 import resource
@@ -17,13 +17,13 @@ LINES_FAILED = b"keyline: line output failed\n"
 
 
 class Stage:
-    """A key, what is shown of it, and the line that it accepts, before what is shown last."""
+    """A key, what is shown for it, and the line that it accepts, before what is shown last."""
 
     def __init__(self, key, *shown, line=None):
         self.key, self.shown, self.line = key, b"".join(shown), line
 
 
-# Two lines, edited, and an end that is typed.
+# Two edited lines, and a typed end.
 FIRST = drawing(b"")
 STAGES = [
     Stage(b"a", b"a"),
@@ -54,7 +54,7 @@ class Session(Running):
         super().__init__([PROGRAM, "--history", self.path], **streams)
 
     def played(self):
-        """Types each key once what the one before showed has come."""
+        """Types each key once everything for the one before was shown."""
         self.display.expect(FIRST)
         for stage in self.stages:
             self.type(stage.key)
@@ -67,7 +67,7 @@ class Session(Running):
         return [stage.line for stage in self.stages if stage.line]
 
     def left(self, status, kept):
-        """Its end, and the lines that the history keeps."""
+        """Its end, and the lines that the history has."""
         self.expect_status(status)
         found = os.listdir(self.folder)
         same("files", found, ["history"] if kept else [])
@@ -77,7 +77,7 @@ class Session(Running):
 
 
 def at_each_stage(play):
-    """Plays once for each stage: what comes before it is the first argument, and what comes after it the second."""
+    """Plays once for each stage: the first argument is what comes before it, the second what comes after it."""
     for count in range(len(STAGES)):
         with tempfile.TemporaryDirectory() as folder:
             try:
@@ -98,7 +98,7 @@ def input_that_ends():
 
 
 class Reset(Session):
-    """A session whose keys come by a socket that can be reset: to close it with something unread is to fail it."""
+    """A session whose keys come from a socket that can be reset: closing it with unread bytes makes the source fail."""
 
     def __init__(self, folder, stages):
         ours, theirs = socket.socketpair()
@@ -127,7 +127,7 @@ def input_that_fails_over_a_history_that_cannot_be_written():
 
 
 def a_display_whose_reader_goes():
-    """Of the key that comes next nothing is accepted, kept or said, and none is read after it."""
+    """Nothing of the next key is accepted, stored or said, and none is read after it."""
 
     def play(folder, before, after):
         with Session(folder, before) as session:
@@ -140,7 +140,7 @@ def a_display_whose_reader_goes():
 
 
 def lines_whose_reader_goes():
-    """The line that can't be written is kept by the history; what comes before it is as ever."""
+    """The line that can't be written is in the history; what comes before it is as ever."""
 
     def play(folder, before, after):
         with Session(folder, before) as session:
@@ -157,7 +157,7 @@ def lines_whose_reader_goes():
 
 
 def ran_with_room(room, name):
-    """A run whose stream of this name is a file that takes so many bytes, and what the file has then."""
+    """A run whose stream with this name is a file that takes so many bytes, and the file's content then."""
 
     def limit():
         signal.signal(signal.SIGXFSZ, signal.SIG_IGN)
@@ -175,25 +175,25 @@ def a_display_that_fills_up():
     ends = [SHOWN.find(NEW_ROW + FIRST) + len(NEW_ROW), SHOWN.rfind(NEW_ROW + FIRST) + len(NEW_ROW)]
     for room in range(len(SHOWN) + 1):
         ran, shown = ran_with_room(room, "stderr")
-        same(f"display with room for {room} bytes", shown, SHOWN[:room])
-        same(f"lines beside a display with room for {room} bytes", ran.stdout, written(LINES[:sum(end <= room for end in ends)]))
-        same(f"status of a display with room for {room} bytes", ran.returncode, 0 if room == len(SHOWN) else 1)
+        same(f"display with space for {room} bytes", shown, SHOWN[:room])
+        same(f"lines beside a display with space for {room} bytes", ran.stdout, written(LINES[:sum(end <= room for end in ends)]))
+        same(f"status of a display with space for {room} bytes", ran.returncode, 0 if room == len(SHOWN) else 1)
 
 
 def lines_that_fill_up():
-    """After each byte: the lines are a beginning of what they would be, and nothing is drawn after the one that didn't fit."""
+    """After each byte: the lines are a prefix of the whole ones, and nothing is drawn after the one that didn't fit."""
     whole = written(LINES)
     for room in range(len(whole) + 1):
         ran, lines = ran_with_room(room, "stdout")
-        same(f"lines with room for {room} bytes", lines, whole[:room])
+        same(f"lines with space for {room} bytes", lines, whole[:room])
         end = (SHOWN.find if room <= len(LINES[0]) else SHOWN.rfind)(NEW_ROW + FIRST) + len(NEW_ROW)
         shown = SHOWN if room == len(whole) else SHOWN[:end] + LINES_FAILED
-        same(f"display beside lines with room for {room} bytes", ran.stderr, shown)
-        same(f"status of lines with room for {room} bytes", ran.returncode, 0 if room == len(whole) else 1)
+        same(f"display beside lines with space for {room} bytes", ran.stderr, shown)
+        same(f"status of lines with space for {room} bytes", ran.returncode, 0 if room == len(whole) else 1)
 
 
 def full_devices():
-    """/dev/full takes nothing and gives zeros: a display on it shows nothing, lines on it are kept by the history alone."""
+    """/dev/full takes nothing and gives zeros: a display on it shows nothing, and lines on it are only in the history."""
     with tempfile.TemporaryDirectory() as folder, open("/dev/full", "r+b", buffering=0) as full:
         path = os.path.join(folder, "history")
         words = [PROGRAM, "--history", path]
@@ -211,7 +211,7 @@ def full_devices():
 
 
 def streams_closed_from_the_start():
-    """What is opened in their place, as the history file, gets none of their bytes and gives none."""
+    """What is opened in their place, such as the history file, gets none of their bytes and gives none."""
     for closed in ((0,), (1,), (2,), (0, 1), (0, 2), (1, 2), (0, 1, 2)):
         with tempfile.TemporaryDirectory() as folder:
             path, old = os.path.join(folder, "history"), b"#V2\nold\n"
@@ -228,7 +228,7 @@ def streams_closed_from_the_start():
 
 
 def words_that_cannot_be_said():
-    """The status stands where its words find no room, or nobody."""
+    """The status is right even if its message has no space, or no reader."""
     with tempfile.TemporaryDirectory() as folder, open("/dev/full", "wb") as full:
         path = os.path.join(folder, "history")
         with open(path, "wb") as file:
@@ -244,7 +244,7 @@ def words_that_cannot_be_said():
 
 
 def a_hundred_thousand_lines():
-    """All are written, in the memory that the first of them took."""
+    """All are written, with the memory that the first of them took."""
     line, count = b"the quick brown fox jumps over two dogs.", 100_000
     with Running([PROGRAM], stderr=subprocess.DEVNULL) as program:
         peaks = []

@@ -1,9 +1,9 @@
 #!/usr/bin/env python3
-"""./keyline on a terminal, and programs that aren't ours by ./on_terminal: what is shown, that pastes are marked, that the
-terminal is put back on every way out, and what stands then.
+"""./keyline on a terminal, and other programs by ./on_terminal: what is shown, that pastes are marked, that the terminal is
+restored on every way out, and what was written and saved then.
 
-A process of its own leads the terminal's session as a shell does: it runs the program as a job in the foreground, and
-takes the terminal while the job is stopped. Run it by ./test, or alone once `rt ci` or ./keyline has built the program.
+A separate process leads the terminal's session like a shell. It runs the program as a job in the foreground, and takes the
+terminal while the job is stopped. Run it by ./test, or alone once `rt ci` or ./keyline --prove has built the program.
 """
 import contextlib
 import fcntl
@@ -20,31 +20,22 @@ import termios
 import time
 
 from checks import (CTRL_D, ENTER, HUNG, LEFT, NEW_ROW, ON_TERMINAL, PROGRAM, Failed, Incoming, drawing, placed_script,
-                    run_all, same)
+                    run_all, same, wait_until)
 
-SCRIPT = placed_script()
-# Pastes come between marks from here on, or no more.
+# Pastes come between marks from here on, or no longer.
 MARKED, UNMARKED = b"\x1b[?2004h", b"\x1b[?2004l"
-# Where a job that is stopped goes on: with the terminal, or without it.
+# How a stopped job continues: with the terminal, or without it.
 IN_FRONT, BEHIND = b"f", b"b"
 OLD = b"#V2\nold\n"
 
 
 def shown(display):
-    """What a terminal gets where it turns each newline that is written into CR LF."""
+    """What a terminal gets if it turns each newline into CR LF."""
     return display.replace(b"\n", b"\r\n")
 
 
-def wait_until(what, holds):
-    deadline = time.monotonic() + HUNG
-    while not holds():
-        if time.monotonic() > deadline:
-            raise Failed(f"hung before {what}")
-        time.sleep(0.01)
-
-
 def lead(slave, reports, orders, command, files):
-    """Leads the session, and never returns. It reports each stop and the end; each order lets the job go on. A stream for
+    """Leads the session, and never returns. It reports each stop and the end; each order lets the job continue. A stream for
     which a file is named doesn't go to the terminal."""
     os.setsid()
     fcntl.ioctl(slave, termios.TIOCSCTTY, 0)
@@ -54,7 +45,7 @@ def lead(slave, reports, orders, command, files):
     if job == 0:
         os.setpgid(0, 0)
         os.tcsetpgrp(slave, os.getpid())
-        # Whoever runs the tests may have signals ignored, and a shell answers none that it finds so.
+        # The tests may be run with signals ignored, and a shell doesn't handle signals that it finds so.
         for name in ("HUP", "INT", "QUIT", "PIPE", "TERM", "TSTP", "TTIN", "TTOU", "CONT"):
             signal.signal(getattr(signal, f"SIG{name}"), signal.SIG_DFL)
         signal.pthread_sigmask(signal.SIG_SETMASK, ())
@@ -160,7 +151,7 @@ class Terminal:
             return [int(child) for child in children.read().split()][-1]
 
     def expect_taken(self):
-        """Each byte reaches the program as it is, but those that stop and quit; output stays as it was found."""
+        """Each byte reaches the program as it is, except those that stop and quit; output stays as it was."""
         now, found = termios.tcgetattr(self.slave), self.found
         changes = termios.ICRNL | termios.INLCR | termios.IGNCR | termios.ISTRIP | termios.IXON
         same("what is done to input", now[0] & changes, 0)
@@ -178,7 +169,7 @@ class Terminal:
         same("the terminal's settings", termios.tcgetattr(self.slave), self.found)
 
     def expect_ended(self, status, last=b""):
-        """Waits for the end, with `last` as the last of what is shown, and no more marks for pastes."""
+        """Waits for the end, with `last` as the last part of what is shown, and no more marks for pastes."""
         self.expect_gone(status)
         self.expect_put_back()
         os.write(self.slave, b"|")
@@ -195,7 +186,7 @@ class Terminal:
 
 
 class Kept:
-    """A folder with a history, and what a session left in it."""
+    """A folder with a history, and the result of a session in it."""
 
     def __init__(self, folder):
         self.lines, self.history = (os.path.join(folder, name) for name in ("lines", "history"))
@@ -213,7 +204,7 @@ class Kept:
 
 @contextlib.contextmanager
 def in_mid_line():
-    """A session with a history in the middle of its second line, and its folder."""
+    """A session with a history, in the middle of its second line, and its folder."""
     with tempfile.TemporaryDirectory() as folder:
         kept = Kept(folder)
         with Terminal(arguments=["--history", kept.history], files={1: kept.lines}) as terminal:
@@ -238,7 +229,7 @@ def a_line_typed_edited_and_accepted():
 
 
 def bytes_that_a_terminal_would_keep():
-    """Ctrl-Q, Ctrl-R, Ctrl-S, Ctrl-V and Ctrl-O reach the program, where they change nothing; a newline accepts the line."""
+    """Ctrl-Q, Ctrl-R, Ctrl-S, Ctrl-V and Ctrl-O reach the program, and change nothing; a newline accepts the line."""
     with Terminal() as terminal:
         terminal.expect(drawing(b""))
         terminal.type(b"a\x11\x12\x13\x16\x0fb\n")
@@ -262,7 +253,7 @@ def interrupt_typed():
 
 
 def the_width_at_the_start():
-    """The terminal's width is the program's, but for widths that it doesn't take and where the arguments name one."""
+    """The terminal's width is the program's, unless the program can't take it or an argument names one."""
     for columns, arguments, width in [(4, [], 4), (2000, [], 1000), (0, [], 80), (1, [], 80), (4, ["--columns", "7"], 7),
                                       (4, ["--columns=7", "--prompt", "> "], 7)]:
         ran = subprocess.run([PROGRAM, f"--columns={width}"], input=b"abcdef\x03", capture_output=True, timeout=HUNG)
@@ -273,7 +264,7 @@ def the_width_at_the_start():
 
 
 def a_paste_between_marks():
-    """What is pasted is one text, a newline and a Ctrl-C in it too."""
+    """A paste is one text, even with a newline and a Ctrl-C in it."""
     ran = subprocess.run([PROGRAM], input=b"\x1b[200~one\rt\x03wo\x1b[201~\r", capture_output=True, timeout=HUNG)
     with Terminal() as terminal:
         terminal.expect(drawing(b""))
@@ -285,7 +276,7 @@ def a_paste_between_marks():
 
 
 def words_at_a_fault():
-    """They have a row of their own, and nothing of the line is below it."""
+    """They have their own row, and nothing of the line is below it."""
     for keys, words, status in [(b"ab\x18\x1b[200~c\x1b[201~", b"paste out of place", 4),
                                 (b"ab\xff", b"input is not UTF-8", 3)]:
         with Terminal() as terminal:
@@ -314,7 +305,7 @@ def signals_that_end_the_program():
 
 
 def signals_that_end_the_input():
-    """Lines accepted stand, the history is saved, and nothing is left beside it."""
+    """Accepted lines are written, the history is saved, and no other file is left."""
     for number in (signal.SIGTERM, signal.SIGHUP):
         for send in (os.kill, os.killpg):
             with in_mid_line() as (terminal, kept):
@@ -324,7 +315,7 @@ def signals_that_end_the_input():
 
 
 def keys_before_a_signal():
-    """What was typed before the input's end is read, also by a program that is slow to read, as its display is held up."""
+    """Everything typed before the input's end is read, even by a program that reads slowly because its display is held up."""
     with in_mid_line() as (terminal, kept):
         termios.tcflow(terminal.slave, termios.TCOOFF)
         terminal.type(b"e\rf")
@@ -388,7 +379,7 @@ def stopped_and_then_ended():
 
 
 def ended_behind_another():
-    """Without the terminal no input ends: the program is killed, the terminal stays as it is, and so does the history."""
+    """Without the terminal no input ends: the program is killed, and the terminal and the history stay as they are."""
     with in_mid_line() as (terminal, kept):
         terminal.stop()
         os.killpg(terminal.job, signal.SIGTERM)
@@ -407,7 +398,7 @@ def stopped_in_a_window_that_is_closed():
         kept.expect(b"ab\n", OLD + b"ab\n")
 
 
-# It tells each byte that comes, ends by `q` with a status of its own and else with its input, and says how in a file.
+# It prints each byte that comes. It ends at `q` with its own status, and otherwise with its input, and writes to a file how.
 TELLER = """
 import os, sys
 how = "ended"
@@ -421,7 +412,7 @@ except OSError:
 with open(sys.argv[1], "w") as it:
     it.write(" ".join([how, *sys.argv[2:]]))
 """
-# It doesn't heed the end of its input, and has an answer to SIGTERM alone.
+# It ignores the end of its input, and handles only SIGTERM.
 STUBBORN = """
 import os, signal, sys, time
 signal.signal(signal.SIGTERM, lambda *_: (os.write(2, b"told "), sys.exit(0)))
@@ -431,7 +422,7 @@ while True:
 """
 
 
-# It has an answer to SIGQUIT that it gives once, and ends with the next byte.
+# It handles SIGQUIT once, and ends with the next byte.
 ANSWERING = """
 import os, signal, sys
 def answer(*_):
@@ -456,7 +447,7 @@ def taken_from(path):
 
 
 def any_program():
-    """Each byte reaches it at once and is shown by itself alone."""
+    """Each byte reaches it at once, and only the program shows it."""
     with of_others(["cat"]) as terminal:
         terminal.expect_taken()
         for key in (b"a", b"\x03", b"\r", b"\x04"):
@@ -472,7 +463,7 @@ def any_program():
 
 
 def the_end_of_any_program():
-    """Its status, its arguments as they are, and the end of its input at a signal."""
+    """Its status, its arguments unchanged, and the end of its input at a signal."""
     with tempfile.TemporaryDirectory() as folder:
         said = os.path.join(folder, "said")
         command = ["python3", "-c", TELLER, said, "a b", "*", ""]
@@ -501,7 +492,7 @@ def any_program_in_a_window_that_is_closed():
 
 
 def keys_that_are_left():
-    """What a program doesn't read is there for the next one."""
+    """Keys that a program doesn't read are there for the next one."""
     with tempfile.TemporaryDirectory() as folder:
         with of_others(["python3", "-c", TELLER, os.path.join(folder, "said")]) as terminal:
             terminal.type(b"qrest\r")
@@ -511,7 +502,7 @@ def keys_that_are_left():
 
 
 def what_a_program_has_started():
-    """The end of the input is there for whoever reads it."""
+    """The end of the input reaches every process that reads it."""
     with of_others(["sh", "-c", "cat; echo over >&2"]) as terminal:
         terminal.type(b"a")
         terminal.expect(b"a")
@@ -520,7 +511,7 @@ def what_a_program_has_started():
 
 
 def signals_that_any_program_answers():
-    """One that has no answer ends by them, and one that has goes on, and ends as it likes."""
+    """A program without a handler ends by them; one with a handler continues, and ends as it likes."""
     for number in (signal.SIGUSR1, signal.SIGALRM, signal.SIGPROF, signal.SIGPWR):
         with of_others(["cat"]) as terminal:
             terminal.type(b"a")
@@ -536,7 +527,7 @@ def signals_that_any_program_answers():
 
 
 def a_program_that_stops_itself():
-    """The job stops with it, and goes on with it."""
+    """The job stops with it, and continues with it."""
     with of_others(["sh", "-c", "kill -s STOP $$; read -r _; exit 7"]) as terminal:
         terminal.expect_stopped()
         terminal.go_on(IN_FRONT)
@@ -546,7 +537,7 @@ def a_program_that_stops_itself():
 
 
 def a_program_that_does_not_stop():
-    """It goes on in front, as the terminal's key is its own to answer."""
+    """It continues in the foreground, since it handles the terminal's key itself."""
     with of_others(["sh", "-c", "trap '' TSTP; echo on >&2; cat"]) as terminal:
         terminal.expect(b"on\n")
         terminal.type(b"\x1ab")
@@ -556,7 +547,7 @@ def a_program_that_does_not_stop():
 
 
 def signals_in_any_order():
-    """However many come to the job or to the script alone, it ends by the one that ends it, with the terminal put back."""
+    """However many come to the job or to the script alone, it ends by the one that ends it, with the terminal restored."""
     ends = (signal.SIGHUP, signal.SIGINT, signal.SIGQUIT, signal.SIGTERM, signal.SIGUSR1)
     others = (signal.SIGTSTP, signal.SIGCONT, signal.SIGTTIN, signal.SIGCHLD, signal.SIGWINCH)
     for seed in range(30):
@@ -579,7 +570,7 @@ def signals_in_any_order():
 
 
 def ended_behind_another_that_it_asked():
-    """A job that is continued behind another asks for the terminal, which stays as the other has it."""
+    """A job that continues in the background asks for the terminal, which stays as the other job has it."""
     with of_others(["cat"]) as terminal:
         terminal.type(b"a")
         terminal.expect(b"a")
@@ -598,7 +589,7 @@ def ended_behind_another_that_it_asked():
 
 
 def a_program_that_goes_on():
-    """It has an answer to the signal, or is killed."""
+    """It handles the signal, or is killed."""
     for number, last in ((signal.SIGTERM, b"told "), (signal.SIGHUP, b"\n")):
         with of_others(["python3", "-c", STUBBORN]) as terminal:
             terminal.expect(b"on ")
@@ -607,7 +598,7 @@ def a_program_that_goes_on():
 
 
 def a_program_of_any_name():
-    """Also one that reads as an assignment or an option."""
+    """Even one that looks like an assignment or an option."""
     with tempfile.TemporaryDirectory() as folder:
         for name in ("a=b", "-a b"):
             program = os.path.join(folder, name)
@@ -624,17 +615,77 @@ def a_program_that_is_missing():
             terminal.expect_ended(127)
 
 
+# It prints COLUMNS and its arguments.
+TELLS_COLUMNS = "#!/bin/sh\necho \"${COLUMNS-none} $*\" >&2\n"
+# The terminal's columns, COLUMNS as on_terminal finds it, on_terminal's option, and the program's output.
+COLUMNS = [
+    (30, None, [], "30 a b"), (60, None, [], "60 a b"), (80, None, [], "80 a b"), (200, None, [], "200 a b"), (60, "77", [], "60 a b"),
+    (1, None, [], "1 a b"), (2000, "77", [], "2000 a b"), (0, None, [], "none a b"), (0, "77", [], "77 a b"),
+    (30, None, ["--columns"], "30 --columns=30 a b"), (200, "77", ["--columns"], "200 --columns=200 a b"),
+    (2, None, ["--columns"], "2 --columns=2 a b"), (1, None, ["--columns"], "1 a b"),
+    (2000, None, ["--columns"], "2000 --columns=1000 a b"), (0, "77", ["--columns"], "77 a b"),
+]
+
+
+@contextlib.contextmanager
+def that_tells_columns(found):
+    """A folder, and a command line up to on_terminal's option and then the program, with COLUMNS set as given."""
+    with tempfile.TemporaryDirectory() as folder:
+        program = os.path.join(folder, "tells")
+        with open(program, "w", encoding="utf-8") as it:
+            it.write(TELLS_COLUMNS)
+        os.chmod(program, 0o755)
+        found = ["-u", "COLUMNS"] if found is None else [f"COLUMNS={found}"]
+        yield folder, [shutil.which("env"), *found, ON_TERMINAL], [program, "a", "b"]
+
+
+def the_columns_that_any_program_finds():
+    for columns, found, option, told in COLUMNS:
+        with that_tells_columns(found) as (_, before, program):
+            with Terminal(columns, command=[*before, *option, *program]) as terminal:
+                terminal.expect_ended(0, told.encode() + b"\n")
+
+
+def columns_where_the_display_is_no_terminal():
+    with that_tells_columns(None) as (folder, before, program):
+        display = os.path.join(folder, "display")
+        with Terminal(60, command=[*before, *program], files={2: display}) as terminal:
+            terminal.expect_ended(0)
+        same("what it says", taken_from(display), "60 a b\n")
+
+
+def columns_where_the_display_is_another_terminal():
+    with that_tells_columns(None) as (_, before, program):
+        keys, display = os.openpty(), os.openpty()
+        for (_, slave), columns in ((keys, 60), (display, 33)):
+            fcntl.ioctl(slave, termios.TIOCSWINSZ, struct.pack("HHHH", 24, columns, 0, 0))
+        subprocess.run([*before, *program], stdin=keys[1], stderr=display[1], start_new_session=True, timeout=HUNG, check=True)
+        Incoming(display[0]).expect(MARKED + b"33 a b\r\n" + UNMARKED)
+        for descriptor in (*keys, *display):
+            os.close(descriptor)
+
+
+def columns_without_a_terminal():
+    for found, told in ((None, b"none a b\n"), ("77", b"77 a b\n")):
+        with that_tells_columns(found) as (_, before, program):
+            ran = subprocess.run([*before, "--columns", *program], stdin=subprocess.DEVNULL, capture_output=True, timeout=HUNG)
+            same("what it says", (ran.stderr, ran.returncode), (told, 0))
+
+
 def any_program_without_a_terminal():
     ran = subprocess.run([ON_TERMINAL, "cat"], input=b"a\r", capture_output=True, timeout=HUNG)
     same("what comes", (ran.stdout, ran.stderr, ran.returncode), (b"a\r", b"", 0))
     ran = subprocess.run([ON_TERMINAL, "env"], stdin=subprocess.DEVNULL, env={"PATH": os.environ["PATH"]},
                          capture_output=True, timeout=HUNG)
     same("whether the locale is set", b"LC_" in ran.stdout, False)
-    ran = subprocess.run([ON_TERMINAL], stdin=subprocess.DEVNULL, capture_output=True, timeout=HUNG)
-    same("without a program", (ran.stdout, ran.stderr, ran.returncode), (b"", b"usage: on_terminal PROGRAM ARGUMENT..\n", 2))
+    for words in ([], ["--columns"]):
+        ran = subprocess.run([ON_TERMINAL, *words], stdin=subprocess.DEVNULL, capture_output=True, timeout=HUNG)
+        usage = b"usage: on_terminal [--columns] PROGRAM ARGUMENT..\n"
+        same("without a program", (ran.stdout, ran.stderr, ran.returncode), (b"", usage, 2))
 
 
 if __name__ == "__main__":
+    SCRIPT = placed_script()
     run_all([
         a_line_typed_edited_and_accepted,
         bytes_that_a_terminal_would_keep,
@@ -667,5 +718,9 @@ if __name__ == "__main__":
         a_program_that_goes_on,
         a_program_of_any_name,
         a_program_that_is_missing,
+        the_columns_that_any_program_finds,
+        columns_where_the_display_is_no_terminal,
+        columns_where_the_display_is_another_terminal,
+        columns_without_a_terminal,
         any_program_without_a_terminal,
     ])

@@ -1,4 +1,4 @@
-"""Wrong bodies: the files of crates/NAME/mutants/, and how those of a crate share checks."""
+"""Mutants: the files of crates/NAME/mutants/, and how those of a crate share checks."""
 import hashlib
 import os
 import re
@@ -7,36 +7,35 @@ from collections import Counter
 
 from functions import Sources, blanked, closing, functions
 
-# What stands before the word `fn` of a function: attributes, and who may call it.
+# What comes before the word `fn` of a function: attributes and visibility.
 ATTRIBUTES = re.compile(r"(?:#\[(?:[^][]|\[[^][]*\])*\]\s*)*(?:pub(?:\([^)]*\))?\s+)?(?:(?:const|unsafe)\s+)*\Z")
-# What a function ensures: a clause, with its name where it has one; and what a stored proof has for one.
+# A function's clauses, each with its name if it has one; and the answers of a stored proof for one.
 ENSURES = re.compile(r"\bensures\b\*?\s*(\w*)\s*(?=\{)")
 ANSWER = re.compile(r"(?ms)^pub (returns\S*?(?:-clause-(\w+))?) : goal\.\1\n.*?(?=^pub |\Z)")
-# The files of a function's proof, and the proof that is taken at its word.
+# The files of a function's proof, and the proof that is assumed.
 PROOF_FILES = ("Proof.antt", "Answers.antt", "Invariants.antt")
 HOLE = """use {module}.Statement.{{statement}}
 
 pub {name}_spec : {{M : Type 1}} → statement M
 {name}_spec = ?
 """
-# Rattle writes out what is to be proved of a function that it refuses, at the cost of half the check again, but not
-# where one of the function's answers does not read. It takes the others as ever, so such a one ends their file.
+# Rattle writes out what is to be proved of a function that it rejects, at the cost of half the check again, unless one of the
+# function's answers can't be read. It takes the other answers as ever, so such a one ends their file.
 UNREAD = "no_lines_wanted"
 UNREAD_ANSWER = f"\nabbrev {UNREAD} : NoLinesWanted\n{UNREAD} = tt\n"
 
 
 class Unfit(Exception):
-    """An edit cannot be tried, and why."""
+    """A mutant can't be tried, and why."""
 
 
 class Edit:
-    """A wrong body: its name and, by file, the functions that it changes with their new bodies.
+    """A mutant: its name and, by file, the functions that it changes with their new bodies.
 
-    In a check it stands beside the right one, as a function of another name with the same head, so that what calls the
-    right one isn't touched by it, and ensures no more there than the clause that its case is of, where it has one: so
-    that clause alone refuses it. A body of a trait's impl, where no other function may stand, has the right one's
-    place, and so have those of an edit that changes several functions. Of its goals some may go unasked, since another
-    one shows that it is refused.
+    In a check it is a function beside the original, with another name and the same head, so the callers of the original
+    aren't affected. It ensures only the clause of its case, if it has one, so that clause alone kills it. A body in a
+    trait's impl, where no other function may be added, replaces the original, and so do those of a mutant that changes
+    several functions. Some of its goals may go unasked, since another one kills it.
     """
 
     def __init__(self, path, sources, unasked=(), case=""):
@@ -59,17 +58,17 @@ class Edit:
         return [path for _, path in self.bodies]
 
     def replaced(self):
-        """The functions whose right bodies it takes the place of."""
+        """The functions whose originals it replaces."""
         return [path for path in self.paths() if self.right[path] == path]
 
     def stands_beside(self, other):
-        """Whether the two may share a check: neither takes the place of a function that the other changes."""
+        """Whether the two may share a check: neither replaces a function that the other changes."""
         clash = lambda one, its: {*one.replaced()} & {*its.right.values()}
         return not ({*self.paths()} & {*other.paths()} or clash(self, other) or clash(other, self))
 
 
 def changed(text, sources):
-    """The texts of the files that an edit changes."""
+    """The changed texts of the files that a mutant changes."""
     file, old, texts = None, None, {}
     for line in text.split("\n"):
         if line.startswith("file: "):
@@ -81,7 +80,7 @@ def changed(text, sources):
                 raise Unfit(f"it names no file of src/ ({file}), or no old text before a new one")
             whole = texts.get(file, sources.texts[file])
             if whole.count(old) != 1:
-                raise Unfit(f"its text `{old.strip()}` stands in {file} {whole.count(old)} times, and not once")
+                raise Unfit(f"its text `{old.strip()}` is in {file} {whole.count(old)} times, and not once")
             texts[file], old = whole.replace(old, line.removeprefix("new:").removeprefix(" ")), None
     return texts
 
@@ -100,7 +99,7 @@ def bodies_changed(sources, file, text):
 
 
 def frame(text, found):
-    """A file's text less the bodies."""
+    """A file's text without the bodies."""
     at, kept = 0, []
     for it in sorted(found, key=lambda it: it.body):
         kept.append(text[at : it.body[0]])
@@ -109,18 +108,18 @@ def frame(text, found):
 
 
 def head(text, function):
-    """Where a function's attributes begin, and what stands from there to the word `fn`."""
+    """Where a function's attributes begin, and the text from there to the word `fn`."""
     found = ATTRIBUTES.search(text, max(0, function.begun - 400), function.begun)
     return found.start(), found[0]
 
 
 def stand_in(body):
-    """A body for a function that is taken at its word: it has any type, calls nothing, and has as many lines."""
+    """A body for a function that is assumed: it has any type, calls nothing, and has as many lines."""
     return "{ loop {}" + "\n" * body.count("\n") + " }"
 
 
 def joined(groups, edits):
-    """Groups of edits with more of them, each in the first group whose edits it may share a check with."""
+    """Groups of mutants with more of them, each in the first group with which it may share a check."""
     for edit in edits:
         group = next((it for it in groups if all(map(edit.stands_beside, it))), None)
         if group is None:
@@ -131,13 +130,13 @@ def joined(groups, edits):
 
 
 def parts(group, most):
-    """A group in parts of one size, as few as have so many at most."""
+    """A group in parts of equal size, as few as possible with at most so many."""
     count = -(-len(group) // most)
     return [group[at::count] for at in range(count)]
 
 
 def named_so(text, function, path, clause):
-    """A function's head, from its attributes to its body, under the name that a path ends in, with one of its clauses."""
+    """A function's head, from its attributes to its body, with the name at a path's end, and with one of its clauses."""
     name, own = path.rpartition("::")[2], text[function.begun : function.body[0]]
     for first, last in reversed([span for it, span in clauses(own) if clause and it != clause]):
         own = own[:first].rstrip() + own[last:]
@@ -152,23 +151,23 @@ def clauses(own):
 
 
 def clause_of(case, own):
-    """The clause of a function's head that a case begins with the name of."""
+    """The clause of a function's head with whose name a case begins."""
     word = re.match(r"\w*", case)[0]
     return word if word and word in [name for name, _ in clauses(own)] else None
 
 
 def of_clause(text, clause):
-    """A stored proof's text less the answers of goals of other clauses than one: a function that ensures that one alone
-    has no goal with a clause's name."""
+    """A stored proof's text without the answers to goals of other clauses: in a function that ensures only one clause, no goal
+    has a clause's name."""
     if clause is None:
         return text
     return re.sub(rf"-clause-{clause}\b", "", ANSWER.sub(lambda it: it[0] if it[2] == clause else "", text))
 
 
 class Crate:
-    """A crate of the repository with its wrong bodies."""
+    """A crate of the repository with its mutants."""
 
-    # As many share a check at most, for the memory that it takes and for other checks beside it.
+    # At most this many share a check, because of its memory and of other checks beside it.
     MOST = 60
 
     def __init__(self, top, name, unasked=None, cases=None):
@@ -187,11 +186,11 @@ class Crate:
                 self.unfit[edit] = str(why)
 
     def weight(self):
-        """What its checks cost, roughly: the lines of its code, and some a wrong body."""
+        """The cost of its checks, roughly: the lines of its code, and some for each mutant."""
         return sum(it.count("\n") for it in self.sources.texts.values()) + 40 * len(self.edits)
 
     def groups(self, edits):
-        """Edits in few groups of which each is tried in one check: those that leave least choice first."""
+        """Mutants in few groups, each of which is tried in one check: those with the least choice first."""
         times = Counter(path for edit in edits for path in edit.replaced())
         barred = {it: sum(not it.stands_beside(other) for other in edits) for it in edits}
         choice = lambda it: (-max((times[path] for path in it.replaced()), default=0), -barred[it])
@@ -199,11 +198,11 @@ class Crate:
         return sorted((it for group in groups for it in parts(group, self.MOST)), key=len, reverse=True)
 
     def answers(self, path):
-        """Where the files of a function's proof stand."""
+        """The folder of a function's proof."""
         return os.path.join("proofs", *path.split("::")[1:])
 
     def right_of(self, path):
-        """The path of the right body of a function in a check."""
+        """The path of the original of a function in a check."""
         return next((it.right[path] for it in self.edits if path in it.right), path)
 
     def stored(self, path):
@@ -213,23 +212,23 @@ class Crate:
         return {name: file for name, file in files.items() if name.endswith(".antt") and os.path.isfile(file)}
 
     def brief(self, group):
-        """The functions of a group that may have answers, and so one that does not read."""
+        """The functions of a group that may have answers, and so one that can't be read."""
         paths = {path for edit in group for path in edit.paths()}
         return {it for it in paths if PROOF_FILES[0] not in self.stored(it)}
 
     def ensured_by(self, path):
-        """The clause that a function ensures alone in a check; None where it ensures what the right one does."""
+        """The only clause that a function ensures in a check; None if it ensures what the original does."""
         return next((it.clause for it in self.edits if path in it.right), None)
 
     def answered(self, path):
-        """The goals that the function's proof files have answers for; None where it has no such file."""
+        """The goals for which the function's proof files have answers; None if there is no such file."""
         files, clause = self.stored(path).values(), self.ensured_by(path)
         if not files:
             return None
         return {goal for file in files for goal in re.findall(r"\bgoal\.([\w-]+)", of_clause(read(file), clause))}
 
     def texts(self, group):
-        """The crate's files with a group's bodies, and stand-ins for all right ones."""
+        """The crate's files with a group's bodies, and stand-ins for all originals."""
         bodies = {}
         for edit in group:
             for (file, path), (old, new) in edit.bodies.items():
@@ -238,7 +237,7 @@ class Crate:
         for file, text in self.sources.texts.items():
             for it in sorted(self.sources.found[file], key=lambda it: it.body, reverse=True):
                 body = text[slice(*it.body)]
-                # (a constant's value may be what a `const fn` answers)
+                # (a constant's value may come from a `const fn`)
                 own = body if "const" in head(text, it)[1].split() else stand_in(body)
                 for path, new, clause in bodies.get((file, it.body), ()):
                     if path == self.sources.path(it):
@@ -250,7 +249,7 @@ class Crate:
         return made
 
     def sum_of(self, edit):
-        """A sum of what a check of an edit reads of the crate: all but the right bodies that it takes at their word."""
+        """A checksum of what a check of a mutant reads of the crate: everything except the originals that it assumes."""
         if not self.taken:
             self.taken = [*texts_under(self.folder, "specs"), *lemmas(self.folder), *self.outlines()]
         bodies = [(file, path, edit.right[path], new) for (file, path), (_, new) in edit.bodies.items()]
@@ -258,12 +257,12 @@ class Crate:
         return sum_of(self.name, self.taken, edit.name, edit.clause, bodies, stored, sorted(edit.unasked))
 
     def outlines(self):
-        """The crate's files with no line of a body that is taken at its word."""
+        """The crate's files without the lines of bodies that are assumed."""
         for file, text in self.sources.texts.items():
             yield file, outline(text, self.sources.found[file], lambda it: "const" in head(text, it)[1].split())
 
     def furnish(self, room, group):
-        """Writes the crate with a group's bodies into a folder: what the group doesn't change is taken at its word."""
+        """Writes the crate with a group's bodies into a folder; everything that the group doesn't change is assumed."""
         for part in ("specs", "proofs"):
             if os.path.isdir(os.path.join(self.folder, part)):
                 shutil.copytree(os.path.join(self.folder, part), os.path.join(room, part))
@@ -277,7 +276,7 @@ class Crate:
             self.prove_as_the_right_one(room, path, clause)
 
     def prove_as_the_right_one(self, room, path, clause):
-        """Gives a body that stands beside the right one its proof, under its own name, as far as it is of a clause."""
+        """Gives a body beside the original that one's proof, under its own name, as far as it belongs to a clause."""
         right = self.right_of(path)
         if path == right:
             return
@@ -288,11 +287,11 @@ class Crate:
             write(os.path.join(room, self.answers(path), name), text)
 
     def module(self, path):
-        """The module of proofs that is a function's."""
+        """The module of a function's proofs."""
         return f"Rattle.{self.name}.proofs.{'.'.join(path.split('::')[1:])}"
 
     def shorten(self, room, group, brief):
-        """Has rattle say little of some functions of a group, and ask no goal that need not be, in a folder with it."""
+        """Makes rattle say little about some functions of a group, and ask no goal that need not be, in a folder with it."""
         for edit in group:
             for path in brief.intersection(edit.paths()):
                 file = os.path.join(room, self.answers(path), "Answers.antt")
@@ -304,13 +303,13 @@ class Crate:
                 write(file, text + UNREAD_ANSWER)
 
     def named_goals(self, path, text):
-        """The name that a function's answers have for the module of its goals, and their text with a name for it."""
+        """The name that a function's answers use for the module of its goals, and their text with a name for it."""
         use = f"use {self.module(path)}.Goals as "
         found = re.search(rf"^{re.escape(use)}(\w+)", text, re.MULTILINE)
         return (found[1], text) if found else ("unasked", f"{use}unasked\n{text}")
 
     def take_at_its_word(self, room, path):
-        """Leaves a hole for a function's proof, in a folder that the crate was written into."""
+        """Leaves a hole for a function's proof, in a folder with the crate."""
         folder = os.path.join(room, self.answers(path))
         for name in PROOF_FILES:
             if os.path.exists(os.path.join(folder, name)):
@@ -320,7 +319,7 @@ class Crate:
 
 
 def outline(text, found, keeps):
-    """A file's text less the bodies of its functions, but for those that are to be kept."""
+    """A file's text without the bodies of its functions, except for those to keep."""
     for it in sorted(found, key=lambda it: it.body, reverse=True):
         if not keeps(it):
             text = f"{text[: it.body[0]]}{{}}{text[it.body[1] :]}"
@@ -340,7 +339,8 @@ def lemmas(folder):
 
 
 def seen_sum(top, name, uses):
-    """A sum of what a crate above a library can see of it: no body but of what is computed or handed down by a trait."""
+    """A checksum of what a crate above a library can see of it: no body except those that are computed or inherited from a
+    trait."""
     folder = os.path.join(top, "crates", name)
     sources, texts = Sources(folder, name), [*texts_under(folder, "specs"), *lemmas(folder)]
     for file, text in sources.texts.items():
@@ -350,7 +350,7 @@ def seen_sum(top, name, uses):
 
 
 def sum_of(*of):
-    """A sum of values that have one text each."""
+    """A checksum of values that have one text each."""
     return hashlib.sha256(repr(of).encode()).hexdigest()
 
 
@@ -360,14 +360,14 @@ def read(path):
 
 
 def write(path, text):
-    """Writes a file, and the folders that it stands in."""
+    """Writes a file, and the folders around it."""
     os.makedirs(os.path.dirname(path), exist_ok=True)
     with open(path, "w", encoding="utf-8") as it:
         it.write(text)
 
 
 def crates_of(top):
-    """The crates of crates.txt, lowest first, each with what it uses."""
+    """The crates of crates.txt, lowest first, each with its dependencies."""
     uses = {}
     with open(os.path.join(top, "crates.txt"), encoding="utf-8") as it:
         for line in it:

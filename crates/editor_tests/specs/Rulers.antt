@@ -1,10 +1,10 @@
--- What a display of the tests measures by.
+-- The measures of a display for tests.
 use Rattle.std.specs.Prelude.{ℕ, Bool}
 use Rattle.line_buffer.specs.declared.layout.GraphemeClusterMode.TheVariants.{Unicode}
 use Rattle.line_editor.specs.Calls.{Ruler}
 use Rattle.line_screen.specs.Measure.{measure_of}
 
--- of so many columns, with colours or without
+-- with so many columns, with colours or without
 abbrev pub ruler_with : ℕ → Bool → Ruler
 ruler_with columns colours = record {
   measure = λ text from. measure_of Unicode columns text from;

@@ -1,4 +1,4 @@
-//! Lines that are accepted, hints that are taken, and commands that draw or do nothing.
+//! Accepted lines, accepted hints, and commands that draw or do nothing.
 
 use crate::desk::holds;
 use std::test::Fail;

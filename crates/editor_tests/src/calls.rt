@@ -1,4 +1,4 @@
-//! A renderer that writes down what it is asked.
+//! A renderer that logs its calls.
 
 ghost use Rattle.std.specs.Prelude.{◌≡◌, ◌≤◌, IfErr, OnErr, IsTrue};
 ghost use Rattle.line_config.specs.declared.errors.ReadlineError.TheVariants.{Display};
@@ -11,12 +11,12 @@ use line_screen::measure;
 use stand_ins::tables::{marked, pictured};
 use std::alloc::{AllocError, Global};
 
-/// The calls that were made, and how many more are.
+/// The calls made, and how many more succeed.
 #[derive(Drop)]
 pub struct CallLog {
     alloc: Global,
     calls: String,
-    /// How many more calls are made, if not all: the display fails at the next one.
+    /// How many more calls succeed before the display fails; `None` for all.
     answered: Option<u32>,
     failed: bool,
 }
@@ -27,13 +27,13 @@ impl CallLog {
         self.calls = String::new(self.alloc);
     }
 
-    /// Sets how many more calls are made, if not all.
+    /// Sets how many more calls succeed; `None` for all.
     pub fn answer(&mut self, answered: Option<u32>) {
         self.answered = answered;
         self.failed = false;
     }
 
-    /// Whether one more call is made.
+    /// Whether one more call succeeds.
     fn answers(&mut self) -> bool {
         match self.answered {
             None => !self.failed,
@@ -52,7 +52,7 @@ impl CallLog {
         self.calls.push_str(call)
     }
 
-    /// Writes a call down, or refuses it.
+    /// Logs a call, or fails.
     fn note(&mut self, call: Result<String, AllocError>) -> Result<(), ReadlineError>
         ensures fault { IfErr result (λ e. e ≡ Display) }
         ensures failed { OnErr result (IsTrue self.new.failed) }
@@ -68,10 +68,13 @@ impl CallLog {
     }
 }
 
-/// Writes each call down in words, parted by `; `. Places are rows and columns: `1,4` is the fifth column of the second
-/// row. `draw '> a|b{c}' at 0,3 to 0,5` is prompt, line with a bar at the cursor, and hint or message in braces, then the
-/// place of the cursor and the end. `below 2` stands after it where the older drawing's cursor is in row 2, `fresh`
-/// where there is no older one, and `lit` where a highlighter is handed in.
+/// Logs each call in words, separated by `; `. Places are rows and columns: `1,4` is the fifth
+/// column of the second row.
+///
+/// A drawing is `draw '> a|b{c}' at 0,3 to 0,5`. It has prompt, line with a bar at the cursor, and
+/// hint or message in braces, then the place of the cursor and the end. `below 2` follows if the
+/// older drawing's cursor is in row 2, `fresh` if there is no older one, and `lit` if a highlighter
+/// is passed in.
 #[derive(Drop)]
 pub struct CallList {
     pub log: CallLog,
@@ -82,7 +85,7 @@ pub struct CallList {
 }
 
 impl CallList {
-    /// A display of so many columns, and of at least 2 and at most 1,000.
+    /// A display with so many columns, at least 2 and at most 1,000.
     pub fn new(alloc: Global, columns: Unit, colours: bool) -> Self {
         CallList {
             log: CallLog {
@@ -102,13 +105,13 @@ impl CallList {
     }
 }
 
-// What stands after a line, in braces.
+// The text after a line, in braces.
 fn tell_hint(alloc: Global, text: &mut String, hint: &str) -> Result<(), AllocError> {
     let hint = pictured(alloc, hint)?;
     write!(text, "{{{hint}}}")
 }
 
-// The text that is drawn: prompt, line and what stands after it.
+// The text of a drawing: prompt, line and what follows it.
 fn drawn(
     alloc: Global,
     prompt: &str,
@@ -123,7 +126,7 @@ fn drawn(
     Ok(text)
 }
 
-// What stands after the places of a drawing.
+// The words after the places of a drawing.
 fn tell_rest(call: &mut String, old: Option<Layout>, lit: bool) -> Result<(), AllocError> {
     match old {
         None => call.push_str(" fresh")?,
@@ -156,7 +159,7 @@ impl Renderer for CallList {
     ghost use Rattle.std.specs.Prelude.{⊤};
     ghost use Rattle.editor_tests.specs.Rulers.{ruler_with};
 
-    // its calls are text: no clause says more of them than that they were made
+    // its calls are text: contracts only say that they were made
     ghost canvas = { record {
       made = λ _ _ _. ⊤;
       refused = λ _ _ _. ⊤;

@@ -1,4 +1,4 @@
-//! Completion of the word before the cursor, by a helper's candidates.
+//! Completion of the word before the cursor, with a helper's candidates.
 
 use crate::desk::holds;
 use std::test::Fail;
@@ -60,7 +60,7 @@ const TAKEN_BACK: &str = "
     al|: Kill BackwardChar 1; Complete = alp| / - / a|
 ";
 
-// The group that was begun for it stays open: what is typed then is taken back step by step.
+// The group that was begun for it stays open: text typed then is undone step by step.
 const FAILING_COMPLETERS: &str = "
     helper: Valid = nothing
     offers: 0 alpha alpine = nothing

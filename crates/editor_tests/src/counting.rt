@@ -1,5 +1,6 @@
-//! A helper that counts how often each of its hooks is asked. A row has the commands of a line, or after `keys: ` the keys
-//! that are typed into an empty one, and after ` = ` how often the hinter was asked, and how often the validator.
+//! A helper that counts the calls of its hooks. A row has the commands of a line, or after `keys: `
+//! the keys typed into an empty one. After ` = ` it has the number of calls of the hinter and of
+//! the validator.
 
 ghost use Rattle.std.specs.Prelude.{◌≡◌, None, false, refl};
 ghost use Rattle.line_help.specs.Completion.{nothing_offered};
@@ -20,7 +21,7 @@ use std::borrow::CowStr;
 use std::cell::Cell;
 use std::test::Fail;
 
-/// No hints, and every text is valid; each time that it is asked is counted.
+/// No hints, and every text is valid; each call is counted.
 #[derive(Clone, Copy, Drop)]
 struct Counting<'c> {
     hints: &'c Cell<u32>,
@@ -151,7 +152,7 @@ impl Helper for Counting<'_> {
     ghost same_verdicts = { λ before after kept. refl };
 }
 
-/// Lines that are edited over a helper that counts.
+/// Lines edited with a helper that counts.
 #[derive(Drop)]
 struct Counter {
     stage: Stage,
@@ -188,7 +189,8 @@ impl Player for Counter {
     }
 }
 
-// A move asks neither; a line that is drawn anew asks once for each drawing, an accepted one for its verdict alone.
+// A move calls neither; a redrawn line calls the hinter once for each drawing, and an accepted one
+// only the validator.
 const COUNTS: &str = "
     history: line0,line1 = nothing
     a|b: Move BackwardChar 1 = 0 0

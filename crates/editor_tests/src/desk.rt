@@ -1,12 +1,17 @@
-//! Tables of commands. A row is a line with a bar at the cursor, after `:` the commands, parted by `; `, and after ` = `
-//! what they lead to. A row that begins with one of these words sets what stands there for the rows after it, and leads
-//! to nothing: `columns: 10` the display's columns, `colours: yes` whether it has colours, `answered: 3` how many calls it
-//! makes; `history: one,two` the entries; `mode: Vi` the keymap; `first:` the commands that each row begins with;
-//! `tells: ring` what is told of a row; `helper: InvalidTold no` a helper with its verdict and its message, which never
-//! fails, and then of that helper `marks: 2` the place at which it highlights, `takes: no` that its hints are only shown,
-//! `hint-fails: 3`, `verdict-fails: 3` and `completion-fails: 3` the length of the texts from which on it fails,
-//! `update-fails: 3` the length of the words from which on it puts none in, `wants-memory: yes` that it does so for want of
-//! memory, and `offers: 3 alpha alpine` where each word starts and the candidates for it.
+//! Tables of commands. A row is a line with a bar at the cursor, after `:` the commands, separated
+//! by `; `, and after ` = ` their result.
+//!
+//! A row that begins with one of these words is a setting for the rows after it, and has no result.
+//! For the display: `columns: 10` sets its columns, `colours: yes` whether it has colours,
+//! `answered: 3` how many calls succeed. `history: one,two` sets the entries, `mode: Vi` the
+//! keymap, `first:` the commands before those of each row, `tells: ring` what a row's result is.
+//!
+//! `helper: InvalidTold no` sets a helper with its verdict and its message, which never fails. For
+//! that helper, `marks: 2` is the place at which it highlights, and `takes: no` says that its hints
+//! are only shown. `hint-fails: 3`, `verdict-fails: 3` and `completion-fails: 3` are the length of
+//! the texts from which on it fails. `update-fails: 3` is the length of the words from which on it
+//! inserts none. `wants-memory: yes` makes it run out of memory there. `offers: 3 alpha alpine`
+//! sets where each word starts and its candidates.
 
 use crate::calls::CallList;
 use crate::helpers::{Adviser, Offer, Verdict};
@@ -24,7 +29,7 @@ use stand_ins::tables::{marked, meant, pictured, word_and_rest};
 use std::alloc::{AllocError, Global};
 use std::test::Fail;
 
-/// What a table's lines are edited with, and what is told of them.
+/// The settings of a table's lines, and what their results are.
 #[derive(Drop)]
 pub(crate) struct Stage {
     pub columns: Unit,
@@ -33,13 +38,13 @@ pub(crate) struct Stage {
     /// Whether there is a helper.
     helped: bool,
     helper: Adviser,
-    /// How many calls the renderer makes for the last command, if not all.
+    /// How many calls of the renderer succeed for the last command; `None` for all.
     pub answered: Option<u32>,
     pub mode: EditMode,
-    /// The commands that are made before each row's own, with `; ` after each.
+    /// The commands that come before each row's own, with `; ` after each.
     first: String,
     pub bindings: Bindings,
-    /// Whether the ring is told of, and not the calls.
+    /// Whether the result is the ring, and not the calls.
     pub tells_ring: bool,
 }
 
@@ -61,7 +66,7 @@ fn message_named(name: &str) -> &'static str {
     }
 }
 
-// The words that are offered, by their names.
+// The offered words, by their names.
 fn word_named(name: &str) -> &'static str {
     match name {
         "alpha" => "alpha",
@@ -106,7 +111,7 @@ impl Stage {
         if self.helped { Some(self.helper) } else { None }
     }
 
-    /// Sets what a row says, and tells whether it says something to set.
+    /// Applies a row's setting, and returns whether the row has one.
     pub(crate) fn sets(&mut self, alloc: Global, row: &str) -> Result<bool, Fail> {
         let (word, rest) = word_and_rest(row);
         match word {
@@ -164,11 +169,11 @@ impl Stage {
     }
 }
 
-/// A line over a renderer that writes down what it is asked. Whoever edits it names no helper: of one that is named,
-/// the checker of borrows finds no only answer to what a hint is.
+/// A line over a renderer that logs its calls. Functions that edit it don't name the helper's type:
+/// with a named one the borrow checker finds no unique type for its hints.
 pub(crate) type Desk<'h, H> = State<'static, 'h, CallList, H, MemHistory>;
 
-// A history with these entries, oldest first, parted by commas.
+// A history with these entries, oldest first, separated by commas.
 fn history_of(alloc: Global, entries: &str) -> Result<MemHistory, ReadlineError> {
     let mut history = MemHistory::new(alloc);
     for entry in entries.split(',') {
@@ -194,7 +199,7 @@ fn bind(alloc: Global, bindings: &mut Bindings, name: &str, words: &str) -> Resu
     Ok(())
 }
 
-// The bindings that a row `C-O: HistorySearchBackward` makes.
+// The bindings of a row `C-O: HistorySearchBackward`.
 fn bound(alloc: Global, row: &str) -> Result<Bindings, Fail> {
     let (name, words) = row.split_once(": ").unwrap_or((row, ""));
     let mut bindings = Bindings::new(alloc)?;
@@ -202,7 +207,7 @@ fn bound(alloc: Global, row: &str) -> Result<Bindings, Fail> {
     Ok(bindings)
 }
 
-// Puts a text behind the cursor.
+// Inserts a text after the cursor.
 fn put<H: Helper + Drop>(
     alloc: Global,
     desk: &mut Desk<'_, H>,
@@ -211,7 +216,7 @@ fn put<H: Helper + Drop>(
     desk.edit_insert_text(meant(alloc, shown)?.as_str())
 }
 
-// Puts texts before the cursor and behind it.
+// Inserts texts before the cursor and after it.
 fn put_around<H: Helper + Drop>(
     alloc: Global,
     desk: &mut Desk<'_, H>,
@@ -223,7 +228,7 @@ fn put_around<H: Helper + Drop>(
     put(alloc, desk, after)
 }
 
-// Puts the line there that a table shows, with nothing in its record.
+// Sets the line to that of a table, with an empty record.
 fn set_line<H: Helper + Drop>(
     alloc: Global,
     desk: &mut Desk<'_, H>,
@@ -246,7 +251,7 @@ fn empty_desk<'h, H: Helper + Drop>(
     State::new(alloc, out, "> ", None, Context::new(&stage.history))
 }
 
-/// Makes a command, as a turn of a line does.
+/// Runs a command, like a turn of a line does.
 pub(crate) fn make<H: Helper + Drop, D: Decides>(
     desk: &mut Desk<'_, H>,
     input: &InputState<'_, D>,
@@ -271,7 +276,7 @@ pub(crate) fn status_of(
     }
 }
 
-/// A line as tables show it: a blank at its start as its picture.
+/// A line in a table's notation: a blank at its start as its picture.
 pub(crate) fn line_shown(alloc: Global, line: &LineBuffer) -> Result<String, AllocError> {
     let shown = marked(alloc, line.as_str(), line.pos())?;
     match shown.as_str().strip_prefix(' ') {
@@ -280,7 +285,7 @@ pub(crate) fn line_shown(alloc: Global, line: &LineBuffer) -> Result<String, All
     }
 }
 
-/// What a yank would give, in quotes, or `-`.
+/// The text that a yank would return, in quotes, or `-`.
 pub(crate) fn lent_by(alloc: Global, ring: &mut KillRing) -> Result<String, AllocError> {
     match ring.yank() {
         Some(text) => format!(in alloc; "'{}'", pictured(alloc, text)?),
@@ -288,7 +293,7 @@ pub(crate) fn lent_by(alloc: Global, ring: &mut KillRing) -> Result<String, Allo
     }
 }
 
-/// The command with these words.
+/// The command with this name.
 pub(crate) fn command_of(alloc: Global, words: &str) -> Result<Cmd, Fail> {
     match command_named(alloc, words) {
         Some(cmd) => Ok(cmd),
@@ -296,7 +301,7 @@ pub(crate) fn command_of(alloc: Global, words: &str) -> Result<Cmd, Fail> {
     }
 }
 
-// Makes a command by its words, its calls alone kept; how it ended.
+// Runs a command by its name, and keeps only its calls; how it ended.
 fn make_named<H: Helper + Drop>(
     alloc: Global,
     desk: &mut Desk<'_, H>,
@@ -313,7 +318,7 @@ fn make_named<H: Helper + Drop>(
     status_of(alloc, make(desk, input, ring, config, cmd))
 }
 
-// Makes commands one after the other; how the last of them ended.
+// Runs commands one after the other; how the last of them ended.
 fn make_all<H: Helper + Drop>(
     alloc: Global,
     desk: &mut Desk<'_, H>,
@@ -330,7 +335,7 @@ fn make_all<H: Helper + Drop>(
     Ok(status)
 }
 
-// What the commands of a row led to.
+// The result of a row's commands.
 fn told<H: Helper + Drop>(
     alloc: Global,
     stage: &Stage,
@@ -358,14 +363,14 @@ fn calls_told(
     format!(in alloc; "{status}{line} / {calls}")
 }
 
-// The line, and what a yank would give.
+// The line, and the text that a yank would return.
 fn kept_told(alloc: Global, line: &LineBuffer, ring: &mut KillRing) -> Result<String, AllocError> {
     let line = line_shown(alloc, line)?;
     let lent = lent_by(alloc, ring)?;
     format!(in alloc; "{line} / {lent}")
 }
 
-// The line when one change is taken back.
+// The line after one undo.
 fn undone<H: Helper + Drop>(
     alloc: Global,
     desk: &mut Desk<'_, H>,
@@ -379,7 +384,7 @@ fn undone<H: Helper + Drop>(
     line_shown(alloc, &desk.recorded.line)
 }
 
-// The line, what a yank would give, and the line when one change is taken back.
+// The line, the text that a yank would return, and the line after one undo.
 fn ring_told<H: Helper + Drop>(
     alloc: Global,
     desk: &mut Desk<'_, H>,
@@ -392,16 +397,16 @@ fn ring_told<H: Helper + Drop>(
     raised(format!(in alloc; "{kept} / {undone}"))
 }
 
-/// What is done on a desk.
+/// Work done on a desk.
 pub(crate) trait Work {
-    /// What there is before the helper comes.
+    /// The state before the helper is added.
     fn begin<H: Helper + Drop>(
         &self,
         alloc: Global,
         desk: &mut Desk<'_, H>,
     ) -> Result<(), ReadlineError>;
 
-    /// What it leads to.
+    /// Its result.
     fn done<H: Helper + Drop>(
         &self,
         alloc: Global,
@@ -413,7 +418,7 @@ pub(crate) trait Work {
     ) -> Result<String, Fail>;
 }
 
-/// The commands of a row, and the line that it shows.
+/// The commands of a row, and its line.
 #[derive(Drop)]
 struct Commands<'r> {
     shown: &'r str,
@@ -496,7 +501,7 @@ pub(crate) fn done_over<H: Helper + Drop, W: Work>(
     done_from(alloc, stage, &mut desk, helper, work)
 }
 
-/// Makes the commands of a row, over a helper.
+/// Runs the commands of a row, over a helper.
 pub(crate) fn led_over<H: Helper + Drop>(
     alloc: Global,
     stage: &Stage,
@@ -508,7 +513,7 @@ pub(crate) fn led_over<H: Helper + Drop>(
 }
 
 impl Stage {
-    // What the commands of a row lead to.
+    // The result of a row's commands.
     fn led_by(&self, alloc: Global, row: &str) -> Result<String, Fail> {
         let Some((shown, commands)) = row.split_once(": ") else {
             return Err(Fail::new(format_args!("no row: {row}")));
@@ -528,9 +533,9 @@ impl Player for Stage {
     }
 }
 
-/// Each row has, after ` = `, how the last command ends unless the line goes on, the line then, and after ` / ` the calls
-/// of that command; where the ring is told of, the line then, what a yank would give, in quotes or `-`, and the line when
-/// one change is taken back.
+/// Each row has, after ` = `, how the last command ends unless the line continues, the line then,
+/// and after ` / ` the calls of that command. If results are the ring, it has the line then, the
+/// text that a yank would return, in quotes or `-`, and the line after one undo.
 pub(crate) fn holds(rt: &impl AllocGlobal, tables: &[&str]) -> Result<(), Fail> {
     for table in tables {
         stage_holds(rt.alloc(), table)?;

@@ -1,9 +1,9 @@
-//! Displays that fail at a call, and helpers that fail or want memory.
+//! Displays that fail at a call, and helpers that fail or run out of memory.
 
 use crate::desk::holds;
 use std::test::Fail;
 
-// What the edit did is in the record.
+// The record has what the edit did.
 const FAILING_DISPLAYS: &str = "
     history: line0,line1 = nothing
     answered: 0 = nothing
@@ -50,8 +50,8 @@ const FAILING_DISPLAYS: &str = "
     abc|: Kill BackwardChar 1 = ab| / move 0,5 to 0,4; clear row
 ";
 
-// The group that was begun for it stays open: what is typed then is taken back step by step, until a later group
-// closes it.
+// The group that was begun for it stays open: text typed then is undone step by step, until a later
+// group closes it.
 const FAILING_HELPERS: &str = "
     history: line0,line1 = nothing
     helper: Valid = nothing

@@ -1,4 +1,4 @@
-//! A helper that answers as a test wants it to.
+//! A helper that answers as a test says.
 
 ghost use Rattle.std.specs.Prelude.{◌≡◌, ◌==◌, nat_le, option_map, length, Option, Some, None, false, if◌then◌else◌, refl, string_bytes, IfErr};
 ghost use Rattle.line_help.specs.Completion.{text_offered};
@@ -16,7 +16,7 @@ use line_keys::{CmdKind, Text};
 use std::alloc::Global;
 use std::borrow::CowStr;
 
-/// What is found of any text; those that tell do so by the helper's message.
+/// The verdict on any text; those with a message have the helper's.
 #[derive(Clone, Copy)]
 pub enum Verdict {
     Incomplete,
@@ -34,7 +34,7 @@ pub enum Offer {
     Two(&'static str, &'static str),
 }
 
-/// The rest of an entry, which can be taken into the line or only be shown.
+/// The rest of an entry, which can be accepted into the line or only be shown.
 #[derive(Drop)]
 pub struct Rest {
     text: String,
@@ -57,15 +57,16 @@ impl Hint for Rest {
     }
 }
 
-/// Hints from the history, and a verdict and candidates that are the same for every text. A character is highlighted where
-/// the cursor is at `marked_at`. From a text of so many bytes on hinter, validator and completer fail, or want memory; the
-/// completer puts none of so many bytes in.
+/// Hints from the history, and a verdict and candidates that are the same for every text. A
+/// character is highlighted if the cursor is at `marked_at`. For texts of at least so many bytes
+/// hinter, validator and completer fail, or run out of memory; the completer inserts no text of so
+/// many bytes.
 #[derive(Clone, Copy, Drop)]
 pub struct Adviser {
     pub verdict: Verdict,
     pub message: &'static str,
     pub marked_at: usize,
-    /// Whether a hint can be taken into the line.
+    /// Whether a hint can be accepted into the line.
     pub completes: bool,
     pub hint_fails_at: usize,
     pub verdict_fails_at: usize,
@@ -78,7 +79,7 @@ pub struct Adviser {
 }
 
 impl Adviser {
-    /// A helper that finds this of every text, offers nothing, and never fails.
+    /// A helper with this verdict on every text, which offers nothing and never fails.
     pub const fn new(verdict: Verdict, message: &'static str) -> Self {
         Adviser {
             verdict,

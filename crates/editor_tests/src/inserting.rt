@@ -1,4 +1,4 @@
-//! Characters and texts put in.
+//! Insertions of characters and texts.
 
 use crate::desk::holds;
 use std::test::Fail;

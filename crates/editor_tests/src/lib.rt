@@ -1,5 +1,5 @@
-//! What `line_editor` promises, at work: tables of text in which each row is a line and what is done to it; and in
-//! `screen` what `line_screen` promises.
+//! The promises of `line_editor` at work: tables of text in which each row is a line and what is
+//! done to it; and in `screen` those of `line_screen`.
 #![tactic(auto)]
 
 #[cfg(test)]

@@ -1,6 +1,7 @@
-//! Lines as they are typed. A row has keys by their names, parted by blanks, and after ` = ` how the line ends and the line
-//! then. `text:ab` is the pasted text `ab`; `!failed` at the end is a source that fails there. What a row sets for the rows
-//! after it is as in tables of commands, and `bind: C-O: Noop` is the only key that is bound to a command.
+//! Lines typed with keys. A row has keys by their names, separated by blanks, and after ` = ` how
+//! the line ends and the line then. `text:ab` is the pasted text `ab`; `!failed` at the end is a
+//! source that fails there. The settings for later rows are those of tables of commands, and `bind:
+//! C-O: Noop` binds this key only to a command.
 
 use crate::calls::CallList;
 use crate::desk::{Desk, Stage, Work, done_over, key_of, lent_by, line_shown, make, status_of};
@@ -17,7 +18,7 @@ use stand_ins::tables::{meant, pictured};
 use std::alloc::{AllocError, Global};
 use std::test::Fail;
 
-/// What a row types.
+/// The input of a row.
 #[derive(Drop)]
 pub(crate) struct Input {
     typed: Vec<Typed>,
@@ -47,7 +48,7 @@ pub(crate) fn typed(alloc: Global, words: &str) -> Result<Input, Fail> {
     Ok(input)
 }
 
-// One turn: the next command, and what it does.
+// One turn: the next command, and its effect.
 fn turn<H: Helper + Drop, D: Decides>(
     desk: &mut Desk<'_, H>,
     input: &mut InputState<'_, D>,
@@ -59,7 +60,7 @@ fn turn<H: Helper + Drop, D: Decides>(
     make(desk, input, ring, config, cmd)
 }
 
-// Turns until one ends the line, of which no row has a hundred.
+// Turns until one ends the line; no row has a hundred.
 fn turns<H: Helper + Drop, D: Decides>(
     desk: &mut Desk<'_, H>,
     input: &mut InputState<'_, D>,
@@ -76,7 +77,7 @@ fn turns<H: Helper + Drop, D: Decides>(
     Ok(Status::Proceed)
 }
 
-// Sends the cursor to the line's end.
+// Moves the cursor to the line's end.
 fn left_at_the_end<H: Helper + Drop>(desk: &mut Desk<'_, H>) -> Result<(), ReadlineError> {
     desk.edit_move_buffer_end(CmdKind::ForcedRefresh)?;
     desk.move_cursor_to_end()
@@ -96,7 +97,7 @@ fn line<H: Helper + Drop, D: Decides>(
     Ok(status)
 }
 
-// Whether `run` left what the same line leaves, turn by turn.
+// Whether the result of `run` is that of the same line, turn by turn.
 fn left_alike(
     alloc: Global,
     left: &str,
@@ -113,16 +114,17 @@ fn left_alike(
     Ok(found.as_str() == left)
 }
 
-/// Keys that are typed turn by turn.
+/// Keys typed turn by turn.
 #[derive(Drop)]
 struct Keys<'r> {
     input: &'r Input,
-    /// What `run` left of the same line.
+    /// The result of `run` for the same line.
     left: &'r str,
 }
 
 impl Keys<'_> {
-    // `Submit` or the name of a refusal, the line, and all calls or what a yank would give.
+    // `Submit` or the name of an error, the line, and all calls or the text that a yank would
+    // return.
     fn told(
         &self,
         alloc: Global,
@@ -184,7 +186,8 @@ impl Work for Keys<'_> {
     }
 }
 
-/// What `run` leaves of the same line: its text, or why there is none, all calls, and what a yank would give.
+/// The result of `run` for the same line: its text, or why there is none, all calls, and the text
+/// that a yank would return.
 pub(crate) fn run_over<H: Helper + Drop>(
     alloc: Global,
     stage: &Stage,
@@ -220,7 +223,7 @@ fn run_with<H: Helper + Drop>(
     raised(left_by(alloc, &ran.outcome, ran.out.calls(), ring))
 }
 
-// What is left of a line, in words.
+// The result of a line, in words.
 fn left_by(
     alloc: Global,
     outcome: &Result<String, ReadlineError>,
@@ -243,14 +246,14 @@ fn outcome_shown(
     }
 }
 
-/// Keys that are typed on a stage.
+/// Keys typed on a stage.
 #[derive(Drop)]
 struct Typist {
     stage: Stage,
 }
 
 impl Typist {
-    // What the keys lead to turn by turn, where `run` leaves the same.
+    // The result of the keys turn by turn, if that of `run` is the same.
     fn types(&self, alloc: Global, keys: &str) -> Result<String, Fail> {
         let input = typed(alloc, keys)?;
         let stage = &self.stage;
@@ -278,8 +281,8 @@ impl Player for Typist {
     }
 }
 
-/// Each row has, after ` / `, all calls from the first drawing on; where the ring is told of, what a yank would give, in
-/// quotes or `-`.
+/// Each row has, after ` / `, all calls from the first drawing on; if results are the ring, the
+/// text that a yank would return, in quotes or `-`.
 fn types(alloc: Global, table: &str) -> Result<(), Fail> {
     let stage = Stage::new(alloc)?;
     rows_hold(alloc, &mut Typist { stage }, table)

@@ -1,4 +1,4 @@
-//! The history in place of the line.
+//! History entries in place of the line.
 
 use crate::desk::holds;
 use std::test::Fail;
@@ -40,8 +40,8 @@ const STEPS: &str = "
     cu|r: BeginningOfHistory = line0| / - / cur|
 ";
 
-// A search that finds nothing moves the place nevertheless, and no search keeps the line; at the history's end the
-// next step back does.
+// A search that finds nothing still moves the place, and no search saves the line; at the history's
+// end the next step back does.
 const SEARCHES: &str = "
     |: HistorySearchBackward = | / beep
     ab|: HistorySearchForward = ab| / beep

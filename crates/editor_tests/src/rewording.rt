@@ -1,4 +1,4 @@
-//! Transpositions, letters in another case, indentation, and changes taken back.
+//! Transpositions, changes of case, indentation, and undo.
 
 use crate::desk::holds;
 use std::test::Fail;

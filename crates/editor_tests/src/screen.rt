@@ -1,4 +1,5 @@
-//! Tests of the terminal's two sides, as tables: bytes read as keys and pasted texts, and drawings as bytes.
+//! Tests of the terminal's input and output, as tables: bytes read as keys and pasted texts, and
+//! drawings as bytes.
 
 mod drawing;
 mod measuring;

@@ -3,7 +3,7 @@
 use crate::desk::holds;
 use std::test::Fail;
 
-// `one` and `two` are killed, each into a slot of its own, `one` last.
+// `one` and `two` are killed, each into its own slot, `one` last.
 const YANKS: &str = "
     |: Yank 1 Before = | /
     |ab: Yank 1 After = |ab /

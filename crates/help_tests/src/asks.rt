@@ -1,4 +1,4 @@
-//! Tables whose rows ask of nothing but what stands in them: two players for all.
+//! Tables whose rows need nothing but their own text: two players for all of them.
 
 use crate::brackets::{Judge, bracket_at_the_cursor, match_told, validated};
 use crate::completion::{common_prefix, completed_by, made_of_row};
@@ -11,7 +11,7 @@ use stand_ins::rows::{Player, raised, trimmed};
 use std::alloc::{AllocError, Global};
 use std::test::Fail;
 
-/// What the rows of a table ask, which is refused for want of memory alone.
+/// The calls of a table's rows that fail only if memory runs out.
 #[derive(Drop)]
 pub(crate) enum Ask {
     Match,
@@ -48,7 +48,7 @@ impl Player for Ask {
     }
 }
 
-/// What the rows of a table try, which more than want of memory refuses.
+/// The calls of a table's rows that may fail for other reasons too.
 #[derive(Drop)]
 pub(crate) enum Try {
     Words,

@@ -1,4 +1,5 @@
-//! Brackets: their matches, the line that shows one, and what validation says of them. A bar marks a place in a line.
+//! Brackets: their matches, the line with a match shown, and the verdicts of validation. A bar
+//! marks a place in a line.
 
 use crate::asks::Ask;
 use crate::helpers::shown_told;
@@ -14,7 +15,7 @@ use std::alloc::{AllocError, Global};
 use std::borrow::CowStr;
 use std::test::Fail;
 
-// A bracket and the line that it stands in; the bracket that matches it, and where.
+// A bracket and its line; the bracket that matches it, and where.
 const MATCHES: &str = "
     ( |(...     = none
     ( |(..)     = ) (..|)
@@ -55,7 +56,7 @@ const AT_THE_CURSOR: &str = "
     a{b|+6      = none
 ";
 
-// A bracket that was found in a line, and where.
+// A bracket found in a line, and where.
 fn place_told(alloc: Global, line: &str, found: Option<(u8, usize)>) -> Result<String, AllocError> {
     let Some((bracket, place)) = found else {
         return String::from_str(alloc, "none");
@@ -90,8 +91,9 @@ fn brackets_at_the_cursor(rt: HostRuntime) -> Result<(), Fail> {
     rows_hold(rt.alloc(), &mut Ask::AtTheCursor, AT_THE_CURSOR)
 }
 
-// What a highlighter is told of a line before it is drawn, whether it marks something in it, and the line as it is drawn:
-// first a bracket that was found in one line and other lines drawn, then texts that are left as they are.
+// The calls of a highlighter for a line, whether it marks something in it, and the line as it is
+// drawn. First come brackets that were found in one line while other lines are drawn, then texts
+// that stay as they are.
 const HIGHLIGHTED: &str = r#"
     drawn  |()     = "()"
     told   (ab|)   = marks ""
@@ -112,7 +114,7 @@ const HIGHLIGHTED: &str = r#"
     other  |       = leaves ""
 "#;
 
-// What a helper that highlights nothing leaves.
+// A helper that highlights nothing.
 const NOTHING_HIGHLIGHTED: &str = r#"
     other     |(a) = leaves "(a)"
     prompt     (>) = "(>)"
@@ -120,7 +122,7 @@ const NOTHING_HIGHLIGHTED: &str = r#"
     listed     (>) = "(>)"
 "#;
 
-/// What a highlighter makes of a text: nothing where it is only told of a line.
+/// How a highlighter shows a text; nothing if it only gets a line.
 pub(crate) fn shown<'t, H: Highlighter>(
     alloc: Global,
     highlighter: &H,
@@ -137,7 +139,7 @@ pub(crate) fn shown<'t, H: Highlighter>(
     }
 }
 
-// Why the line is to be drawn, where a call tells of it.
+// The reason for the drawing, in a call for a line.
 const KINDS: [(&str, CmdKind); 5] = [
     ("move", CmdKind::MoveCursor),
     ("told", CmdKind::MoveCursor),
@@ -153,7 +155,7 @@ struct Asked<H> {
 }
 
 impl<H: Highlighter> Asked<H> {
-    // Whether the highlighter says that it marks something, where the call tells it of a line.
+    // Whether the highlighter says that it marks something, if the call is for a line.
     fn marks(&mut self, call: &str, line: &str, place: usize) -> &'static str {
         let Some(kind) = named(&KINDS, call) else {
             return "";
@@ -207,7 +209,7 @@ const VERDICTS: &str = "
     (a␊b)       = valid
 ";
 
-// What a validator finds of a text, in a word.
+// A validator's verdict on a text, in a word.
 fn verdict_word(found: &ValidationResult) -> &'static str {
     match found {
         ValidationResult::Incomplete => "incomplete",
@@ -225,7 +227,7 @@ fn message_of(found: &ValidationResult) -> &str {
     }
 }
 
-// What a validator finds of a text, in words.
+// A validator's verdict on a text, in words.
 fn verdict_told(
     alloc: Global,
     found: Result<ValidationResult, HookFault>,
@@ -238,7 +240,7 @@ fn verdict_told(
     format!(in alloc; "{word}{mark}{message}")
 }
 
-/// What finds brackets in a text: a validator, none, or the function alone.
+/// Judges the brackets of a text: a validator, none, or only the function.
 #[derive(Drop)]
 pub(crate) enum Judge {
     Function,
@@ -246,7 +248,7 @@ pub(crate) enum Judge {
     NoValidator,
 }
 
-// What is found of a text.
+// The verdict on a text.
 fn found_of(alloc: Global, judge: &Judge, text: &str) -> Result<ValidationResult, HookFault> {
     let context = ValidationContext::new(text);
     match judge {
@@ -256,7 +258,7 @@ fn found_of(alloc: Global, judge: &Judge, text: &str) -> Result<ValidationResult
     }
 }
 
-/// What is said of a row's text.
+/// The verdict on a row's text, in words.
 pub(crate) fn validated(alloc: Global, judge: &Judge, text: &str) -> Result<String, AllocError> {
     let text = meant(alloc, text)?;
     verdict_told(alloc, found_of(alloc, judge, text.as_str()))

@@ -1,4 +1,4 @@
-//! Completion: escapes, quotes, words, prefixes and file names over listers of the tests.
+//! Completion: escapes, quotes, words, prefixes and file names over listers for tests.
 ghost use Rattle.std.specs.Prelude.{◌≡◌, List, ℕ, [], true, false, map, if◌then◌else◌, bytes_eq, IfOk, IfErr};
 ghost use Rattle.line_config.specs.declared.errors.HookFault.TheVariants.{Memory};
 ghost use Rattle.line_help.specs.FileNames.{Named};
@@ -42,7 +42,7 @@ fn ends_word(c: char) -> bool {
     )
 }
 
-/// One folder: a name and whether a folder bears it, for each.
+/// One folder: the name of each item, and whether it is a folder.
 #[derive(Drop)]
 struct Folder {
     path: &'static str,
@@ -85,11 +85,11 @@ impl Lister for Broken {
     }
 }
 
-/// How many candidates are told.
+/// How many candidates are written out.
 const TOLD: usize = 12;
 
-// The line with a bar where the completed word begins, and after it each candidate with its replacement; of many the first ones
-// and their number.
+// The line with a bar where the completed word begins, and after it each candidate with its
+// replacement. If there are many, the first ones and their number.
 fn told<C: Candidate>(
     alloc: Global,
     line: &str,
@@ -108,7 +108,7 @@ fn told<C: Candidate>(
     Ok(said)
 }
 
-/// Completes each row's line at its end, by the name of the call.
+/// Completes each row's line at its end, with the call of this name.
 #[derive(Drop)]
 struct PathCompleter {
     completer: FilenameCompleter<Folder>,
@@ -187,7 +187,7 @@ fn paths(rt: HostRuntime) -> Result<(), Fail> {
     completes_paths(rt.alloc(), "~/", &[], "    sorted ~/ = |~/")
 }
 
-// Candidates for a line, and what all of them begin with.
+// Candidates for a line, and their common prefix.
 fn offer_told<C: Candidate>(
     alloc: Global,
     line: &str,
@@ -213,7 +213,7 @@ fn answer_told<C: Candidate>(
     }
 }
 
-// What a completer answers to a line with the cursor at a place.
+// A completer's answer for a line with the cursor at a place.
 fn completed_at<C: Completer>(
     alloc: Global,
     completer: &C,
@@ -228,7 +228,7 @@ fn completed_at<C: Completer>(
     answer_told(alloc, line, answer)
 }
 
-// What a completer answers to a line with the cursor.
+// A completer's answer for a line with the cursor.
 pub(crate) fn completed<C: Completer>(
     alloc: Global,
     completer: &C,
@@ -244,7 +244,8 @@ const COMPLETERS: &str = "
     none ca|t lo        = |cat lo
 ";
 
-/// What a completer by its name answers: one whose lister fails, one in a box, or the one that has nothing.
+/// The answer of a completer by its name: one whose lister fails, one in a box, or the one without
+/// candidates.
 pub(crate) fn completed_by(alloc: Global, call: &str) -> Result<String, AllocError> {
     let (name, line) = word_and_rest(call);
     match name {
@@ -289,14 +290,15 @@ fn candidates_copied(rt: HostRuntime) -> Result<(), Fail> {
     same(said.as_str(), "|lo; local→local/; log→log")
 }
 
-// A line in which the text from `[` to the cursor is replaced by what stands after the colon; the line then.
+// A line in which the text from `[` to the cursor is replaced by the text after the colon; the line
+// then.
 const UPDATES: &str = "
     cat [lo| x : log  = cat log| x
     cat [log| x :     = cat | x
     cat [| x : été    = cat été| x
 ";
 
-/// Updates lines by a completer.
+/// Updates lines with a completer.
 #[derive(Drop)]
 struct Updater<C> {
     completer: C,
@@ -353,7 +355,7 @@ fn updates_by<C: Completer + Drop>(alloc: Global, completer: C) -> Result<(), Fa
     rows_hold(alloc, &mut Updater { completer }, UPDATES)
 }
 
-// The same by a helper that completes words, where they are there.
+// The same with a helper that completes words, if there are any.
 fn updates_in_parts(alloc: Global, completer: Option<WordCompleter>) -> Result<(), Fail> {
     let helper = HelperParts {
         completer,
@@ -364,8 +366,8 @@ fn updates_in_parts(alloc: Global, completer: Option<WordCompleter>) -> Result<(
     updates_by(alloc, helper)
 }
 
-// Where the last word of a line begins, and the word; a text escaped, bare or in quotes; and unescaped. The character that
-// escapes stands first.
+// Where the last word of a line begins, and the word; a text escaped, without quotes or in quotes;
+// and unescaped. The escape character comes first.
 const WORDS: &str = r#"
     word \ ls '/usr/local/b         = ls '|/usr/local/b; /usr/local/b
     word \ ls /User\ Information    = ls |/User\ Information; /User\ Information
@@ -415,7 +417,7 @@ fn escaped(
     escape(alloc, input, esc, ends_word, quote)
 }
 
-// What a call makes of a text.
+// The result of a call for a text.
 fn made(alloc: Global, call: &str, esc: Option<char>, text: &str) -> Result<String, HookFault> {
     match call {
         "word" => raised(word_told(alloc, esc, text)),
@@ -426,7 +428,7 @@ fn made(alloc: Global, call: &str, esc: Option<char>, text: &str) -> Result<Stri
     }
 }
 
-// The character that escapes, if there is one.
+// The escape character, if there is one.
 fn escape_named(word: &str) -> Option<char> {
     match word {
         "none" => None,
@@ -434,7 +436,7 @@ fn escape_named(word: &str) -> Option<char> {
     }
 }
 
-/// What a row's call makes of its text.
+/// The result of a row's call for its text.
 pub(crate) fn made_of_row(alloc: Global, call: &str) -> Result<String, HookFault> {
     let (call, rest) = word_and_rest(call);
     let (esc, text) = word_and_rest(rest);
@@ -447,7 +449,7 @@ fn words_and_escapes(rt: HostRuntime) -> Result<(), Fail> {
     rows_hold(rt.alloc(), &mut Try::Words, WORDS)
 }
 
-// Candidates, with a semicolon after each, and what all of them begin with.
+// Candidates, with a semicolon after each, and their common prefix.
 const COMMON_PREFIXES: &str = "
                             = none
     User;                   = User
@@ -459,7 +461,7 @@ const COMMON_PREFIXES: &str = "
     漢字b;漢字ab;漢字a;        = 漢字
 ";
 
-/// What a row's candidates begin with.
+/// The common prefix of a row's candidates.
 pub(crate) fn common_prefix(alloc: Global, texts: &str) -> Result<String, AllocError> {
     let candidates: Vec<&str> = texts.split_terminator(';').collect(alloc)?;
     let prefix = longest_common_prefix(&candidates).unwrap_or("none");

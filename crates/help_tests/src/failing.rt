@@ -1,4 +1,4 @@
-//! Devices that fail at each byte in turn, and what a history is then.
+//! Devices that fail at each byte in turn, and the history after that.
 
 use crate::asks::Try;
 use crate::history::{add_lines, load_told, told_with_entries, with_lines};
@@ -9,7 +9,7 @@ use stand_ins::tables::{meant_bytes, or_nothing, pictured_bytes, word_and_rest};
 use std::alloc::{AllocError, Global};
 use std::test::Fail;
 
-/// A sink with room for so many bytes, which writes a bar where it is asked to pass them on.
+/// A sink with space for so many bytes, which writes a bar for each flush.
 #[derive(Drop)]
 struct Narrow {
     room: usize,
@@ -69,7 +69,8 @@ impl Sink for Narrow {
     }
 }
 
-// What the history `old` answers to a source that fails after these bytes, its entries then, and what of them is new.
+// The answer of the history `old` to a source that fails after these bytes, its entries then, and
+// which of them are new.
 const CUT_TEXTS: &str = r"
                             = Reader old|
     #                       = Reader old|
@@ -86,7 +87,7 @@ const CUT_TEXTS: &str = r"
     #V2␊a\nb␊c␊d            = Reader old|a␊b|c|, new a\nb␊c␊
 ";
 
-// What a history answers to such a source, and its entries then.
+// The answer of a history to such a source, and its entries then.
 fn refused(
     alloc: Global,
     history: &mut FileHistory,
@@ -99,7 +100,7 @@ fn refused(
     format!(in alloc; "{said}, at no failure")
 }
 
-// What a history answers twice to such a source.
+// The two answers of a history to such a source.
 fn twice_refused(
     alloc: Global,
     history: &mut FileHistory,
@@ -113,14 +114,14 @@ fn twice_refused(
     format!(in alloc; "{first}, then {second}")
 }
 
-// What of a history is written now.
+// The entries of a history that are written now.
 fn written(alloc: Global, way: &Way, history: &mut FileHistory) -> Result<String, AllocError> {
     let mut sink = VecSink::new(alloc);
     let _ = write_to(way, history, &mut sink);
     pictured_bytes(alloc, sink.bytes())
 }
 
-// The same answers, and what of the history's entries is new then.
+// The same answers, and which of the history's entries are new then.
 fn after_failing_source(
     alloc: Global,
     history: &mut FileHistory,
@@ -140,7 +141,7 @@ pub(crate) fn cut_text_told(alloc: Global, text: &str) -> Result<String, Readlin
     raised(after_failing_source(alloc, &mut history, &mut source))
 }
 
-// A history with these lines, the text of which is saved.
+// A history with these lines, whose text is saved.
 fn saved_with(alloc: Global, lines: &str) -> Result<FileHistory, ReadlineError> {
     let mut history = with_lines(alloc, lines)?;
     history.save_to(&mut VecSink::new(alloc))?;
@@ -152,20 +153,21 @@ fn sources_that_fail_at_each_byte(rt: HostRuntime) -> Result<(), Fail> {
     rows_hold(rt.alloc(), &mut Try::CutTexts, CUT_TEXTS)
 }
 
-// What a new history answers to a row that isn't UTF-8 before a failure.
+// The answer of a new history to a row that isn't UTF-8 before a failure.
 fn bad_row_told(alloc: Global) -> Result<String, AllocError> {
     let mut source = SliceSource::failing_after(b"a\n\xff\nb");
     refused(alloc, &mut FileHistory::new(alloc), &mut source)
 }
 
-/// A row that isn't UTF-8 is met before the failure after it.
+/// A row that isn't UTF-8 comes before the failure after it.
 #[test]
 fn bad_rows_before_a_failure(rt: HostRuntime) -> Result<(), Fail> {
     let said = bad_row_told(rt.alloc())?;
     same(said.as_str(), "HistoryText a|, at no failure")
 }
 
-// A save to a sink with room for so many bytes: what it answers twice, the entries then, and what a further save writes.
+// A save to a sink with space for so many bytes: its two answers, the entries then, and what a
+// further save writes.
 const SAVES: &str = r"
     0       = HistoryText, HistoryText, a\|b␊|, #V2␊a\\␊b\n␊
     1       = HistoryText, HistoryText, a\|b␊|, #V2␊a\\␊b\n␊
@@ -183,7 +185,7 @@ const SAVES: &str = r"
     13      = fine, fine, a\|b␊|, nothing
 ";
 
-// The same of an addition after a saved text.
+// The same for an addition after a saved text.
 const ADDITIONS: &str = r"
     0       = HistoryText, HistoryText, a|b␊|c|, b\n␊c␊
     1       = HistoryText, HistoryText, a|b␊|c|, b\n␊c␊
@@ -195,14 +197,14 @@ const ADDITIONS: &str = r"
     7       = fine, fine, a|b␊|c|, nothing
 ";
 
-/// Where the text of a history goes.
+/// How the text of a history is written.
 #[derive(Drop)]
 pub(crate) enum Way {
     Save,
     Append,
 }
 
-// Writes the text, and tells the answer.
+// Writes the text, and returns the answer in a word.
 fn write_to<S: Sink>(way: &Way, history: &mut FileHistory, sink: &mut S) -> &'static str {
     let answer = match way {
         Way::Save => history.save_to(sink),
@@ -215,7 +217,7 @@ fn write_to<S: Sink>(way: &Way, history: &mut FileHistory, sink: &mut S) -> &'st
     }
 }
 
-// What a sink with so much room answers twice.
+// The two answers of a sink with so much space.
 fn answers(
     alloc: Global,
     way: &Way,
@@ -230,7 +232,8 @@ fn answers(
     (first, write_to(way, history, &mut sink))
 }
 
-// What happens with so much room: both answers, the entries then, and what of them is still to be written.
+// The result with so much space: both answers, the entries then, and which of them are still to be
+// written.
 fn with_room(
     alloc: Global,
     way: &Way,
@@ -244,14 +247,14 @@ fn with_room(
     format!(in alloc; "{first}, {second}, {entries}, {rest}")
 }
 
-// A history with a text that is saved, and entries that are to be added to it.
+// A history with a saved text and entries to append to it.
 fn to_be_appended(alloc: Global) -> Result<FileHistory, ReadlineError> {
     let mut history = saved_with(alloc, "a|")?;
     add_lines(alloc, &mut history, "b␊|c|")?;
     Ok(history)
 }
 
-// A history with entries that are to be written.
+// A history with entries to write.
 fn to_be_written(alloc: Global, way: &Way) -> Result<FileHistory, ReadlineError> {
     match way {
         Way::Save => with_lines(alloc, r"a\|b␊|"),
@@ -259,7 +262,7 @@ fn to_be_written(alloc: Global, way: &Way) -> Result<FileHistory, ReadlineError>
     }
 }
 
-/// What happens to such a history with a row's room.
+/// The result for such a history with a row's space.
 pub(crate) fn room_told(alloc: Global, way: &Way, room: &str) -> Result<String, Fail> {
     let room = room.parse()?;
     let mut history = to_be_written(alloc, way)?;
@@ -272,13 +275,13 @@ fn sinks_that_fail_at_each_byte(rt: HostRuntime) -> Result<(), Fail> {
     rows_hold(rt.alloc(), &mut Try::Room(Way::Append), ADDITIONS)
 }
 
-// Whether a history with no entries has nothing to write to a sink.
+// Whether a history without entries has nothing to write to a sink.
 fn writes_nothing(alloc: Global, sink: &mut Narrow) -> bool {
     let mut history = FileHistory::with_config(alloc, &Config::default());
     history.save_to(sink).is_ok() && history.append_to(sink).is_ok()
 }
 
-/// A sink that has failed isn't asked where nothing is new.
+/// A failed sink isn't called if nothing is new.
 #[test]
 fn nothing_new_for_a_failed_sink(rt: HostRuntime) {
     let mut sink = Narrow::new(rt.alloc(), 0);

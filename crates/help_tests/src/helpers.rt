@@ -1,4 +1,4 @@
-//! Helpers of the tests, and prompts: a helper that has everything, and one that refuses every call.
+//! Helpers for tests, and prompts: a helper that has everything, and one that fails at every call.
 ghost use Rattle.std.specs.Prelude.{◌≡◌, if◌then◌else◌, None, Some, true, false, IfOk, refl};
 ghost use Rattle.std.proofs.Common.{ap};
 ghost use Rattle.line_help.specs.Completion.{nothing_offered};
@@ -33,7 +33,7 @@ type Whole = HelperParts<
     MatchingBracketValidator,
 >;
 
-/// Refuses every call that can be refused: as failed, or for want of memory.
+/// Fails at every call that can fail, or runs out of memory.
 #[derive(Drop)]
 pub struct Refusing {
     fails: bool,
@@ -168,7 +168,7 @@ impl Helper for Refusing {
     ghost same_verdicts = { λ before after kept. ap ⟦<Refusing as Validator>⟧.verdict_of kept };
 }
 
-/// What a helper finds of a line after a drawing of it: what it found before.
+/// A helper's verdict on a line after a drawing of it: the one before.
 fn verdict_after_drawing<H: Helper>(
     alloc: Global,
     helper: &mut H,
@@ -180,13 +180,13 @@ fn verdict_after_drawing<H: Helper>(
     helper.validate(alloc, &ValidationContext::new(line))
 }
 
-// What a helper says, and a text with pictures, in quotes.
+// A helper's word, and a text with pictures, in quotes.
 fn quoted(alloc: Global, said: &str, text: &str) -> Result<String, AllocError> {
     let shown = pictured(alloc, text)?;
     format!(in alloc; "{said}\"{shown}\"")
 }
 
-// How many candidates it has for a line with the cursor at its end.
+// The number of candidates for a line with the cursor at its end.
 fn candidates<H: Helper>(
     alloc: Global,
     helper: &H,
@@ -199,7 +199,7 @@ fn candidates<H: Helper>(
     }
 }
 
-/// What a helper says and shows, or the fault in its place.
+/// What a helper says and shows, or its fault.
 pub(crate) fn shown_told(
     alloc: Global,
     said: &str,
@@ -221,7 +221,7 @@ fn value_told<T: Debug + Drop>(
     }
 }
 
-// What a helper answers to a call.
+// A helper's answer to a call.
 fn asked<H: Helper>(
     alloc: Global,
     helper: &mut H,
@@ -238,7 +238,7 @@ fn asked<H: Helper>(
     }
 }
 
-/// A helper that is asked each row's question, with a history.
+/// A helper that gets each row's call, with a history.
 #[derive(Drop)]
 struct Answering<H> {
     helper: H,
@@ -255,7 +255,7 @@ impl<H: Helper> Player for Answering<H> {
     }
 }
 
-// Asks a helper, with one entry in the history.
+// Calls a helper, with one entry in the history.
 fn answers<H: Helper + Drop>(
     alloc: Global,
     helper: H,
@@ -276,7 +276,7 @@ fn make_helper(alloc: Global) -> Result<Whole, AllocError> {
     })
 }
 
-// Each part in its place: two of them fail, and two want memory.
+// Each part in its place: two of them fail, and two run out of memory.
 fn make_refusing() -> HelperParts<Refusing, Refusing, Refusing, Refusing> {
     HelperParts {
         completer: Refusing { fails: true },
@@ -320,7 +320,7 @@ const WORDS_ALONE: &str = "
     candidates he       = 2
 ";
 
-/// Words and brackets, each where it is wanted.
+/// Words and brackets, each optional.
 type Wanted = HelperParts<Option<WordCompleter>, (), (), Option<MatchingBracketValidator>>;
 
 fn wanted_answers(
@@ -384,7 +384,7 @@ fn both_texts<P: Prompt>(alloc: Global, prompt: &P) -> Result<String, AllocError
     format!(in alloc; "\"{raw}\" \"{styled}\"")
 }
 
-// The type of a prompt, and its versions.
+// The type of a prompt, and its two versions.
 const PROMPTS: &str = r#"
     str     = "> " "> "
     String  = "é " "é "

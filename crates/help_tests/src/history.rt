@@ -62,7 +62,7 @@ fn add_owned<H: History>(
     history.add_owned(alloc, line)
 }
 
-/// Adds lines, each of which ends with a bar.
+/// Adds lines, each of which ends in a bar.
 pub(crate) fn add_lines(
     alloc: Global,
     history: &mut FileHistory,
@@ -74,21 +74,21 @@ pub(crate) fn add_lines(
     Ok(())
 }
 
-/// A history to which these lines were added, each of which ends with a bar.
+/// A history to which these lines were added, each of which ends in a bar.
 pub(crate) fn with_lines(alloc: Global, lines: &str) -> Result<FileHistory, ReadlineError> {
     let mut history = FileHistory::new(alloc);
     add_lines(alloc, &mut history, lines)?;
     Ok(history)
 }
 
-// What a save of the history writes, where it is answered.
+// The text that a save of the history writes, if it succeeds.
 fn saved(alloc: Global, history: &mut FileHistory) -> Result<String, ReadlineError> {
     let mut sink = VecSink::new(alloc);
     history.save_to(&mut sink)?;
     raised(pictured_bytes(alloc, sink.bytes()))
 }
 
-// What loading a text answers: whether the text was whole, or why it was refused.
+// The answer of loading a text: whether the text was whole, or why it failed.
 fn answer_told(answer: Result<bool, ReadlineError>) -> &'static str {
     match answer {
         Ok(true) => "whole ",
@@ -99,7 +99,8 @@ fn answer_told(answer: Result<bool, ReadlineError>) -> &'static str {
     }
 }
 
-// A text that a new history loads; whether it was whole, the entries, and what of them is new then.
+// A text that a new history loads; whether it was whole, the entries, and which of them are new
+// then.
 const LOADED: &str = r"
     #V2␊a\nb␊c\\d␊e\x␊         = whole a␊b|c\d|e\x|
     a\nb␊                      = part a\nb|
@@ -118,7 +119,7 @@ const LOADED: &str = r"
     #V2␊a␊b␊‹e2 82›           = HistoryText a|b|, new #V2␊a␊b␊
 ";
 
-/// What a history answers to a source that it loads, and its entries then.
+/// The answer of a history to a source that it loads, and its entries then.
 pub(crate) fn load_told<S: Source>(
     alloc: Global,
     history: &mut FileHistory,
@@ -128,7 +129,7 @@ pub(crate) fn load_told<S: Source>(
     told_with_entries(alloc, history, answer)
 }
 
-// The same, and what of the entries is new.
+// The same, and which of the entries are new.
 fn loaded(alloc: Global, history: &mut FileHistory, text: &[u8]) -> Result<String, ReadlineError> {
     let said = load_told(alloc, history, &mut SliceSource::new(text))?;
     let new = saved(alloc, history)?;
@@ -136,7 +137,7 @@ fn loaded(alloc: Global, history: &mut FileHistory, text: &[u8]) -> Result<Strin
     raised(format!(in alloc; "{said}{mark}{new}"))
 }
 
-/// What a new history answers to a row's text.
+/// The answer of a new history to a row's text.
 pub(crate) fn loaded_anew(alloc: Global, text: &str) -> Result<String, ReadlineError> {
     let text = meant_bytes(alloc, text)?;
     loaded(alloc, &mut FileHistory::new(alloc), &text)
@@ -161,7 +162,7 @@ const SETTINGS: &str = "
     0                   = part
 ";
 
-/// What a history with a row's settings answers to the text, and its entries then.
+/// The answer of a history with a row's settings to the text, and its entries then.
 pub(crate) fn loaded_under(alloc: Global, settings: &str) -> Result<String, AllocError> {
     let (size, ignored) = word_and_rest(settings);
     let mut history = FileHistory::new(alloc);
@@ -172,7 +173,7 @@ pub(crate) fn loaded_under(alloc: Global, settings: &str) -> Result<String, Allo
     load_told(alloc, &mut history, &mut source)
 }
 
-/// Loading goes by the history's own settings, as adding does.
+/// Loading follows the history's own settings, like adding.
 #[test]
 fn texts_under_other_settings(rt: HostRuntime) -> Result<(), Fail> {
     rows_hold(rt.alloc(), &mut Ask::Settings, SETTINGS)
@@ -187,7 +188,7 @@ fn unlike_the_default() -> Config {
     config
 }
 
-// What a history of a configuration keeps of these lines.
+// The entries of a configuration's history after these lines.
 fn kept_of(alloc: Global, config: &Config, lines: &str) -> Result<String, ReadlineError> {
     let mut history = FileHistory::with_config(alloc, config);
     add_lines(alloc, &mut history, lines)?;
@@ -201,7 +202,8 @@ fn histories_of_a_configuration(rt: HostRuntime) -> Result<(), Fail> {
     same(kept.as_str(), "b|b|")
 }
 
-// Where a search found an entry: the place of the entry, and the entry with a bar at the place in it.
+// Where a search found an entry: the index of the entry, and the entry with a bar at the place in
+// it.
 fn hit_told(alloc: Global, found: Option<SearchResult<'_>>) -> Result<String, AllocError> {
     match found {
         Some(found) => {
@@ -212,7 +214,7 @@ fn hit_told(alloc: Global, found: Option<SearchResult<'_>>) -> Result<String, Al
     }
 }
 
-// Adds a line, and tells whether it did.
+// Adds a line, and returns whether it did, in a word.
 fn added<H: History>(
     alloc: Global,
     history: &mut H,
@@ -226,7 +228,7 @@ fn added<H: History>(
     Ok(if added? { "added " } else { "ignored " })
 }
 
-// Sets what is kept and what ignored; there is nothing to tell then.
+// Sets what is kept and what is ignored, which has no answer.
 fn set<H: History>(history: &mut H, call: &str, text: &str) -> &'static str {
     let (size, yes) = (text.parse().unwrap_or(0), text == "yes");
     match call {
@@ -239,7 +241,7 @@ fn set<H: History>(history: &mut H, call: &str, text: &str) -> &'static str {
     ""
 }
 
-// Looks an entry up; or changes the history, and tells what it answers and the entries then.
+// Looks an entry up; or changes the history, and returns its answer and the entries then.
 fn answered<H: History>(
     alloc: Global,
     history: &mut H,
@@ -254,7 +256,7 @@ fn answered<H: History>(
     raised(told_with_entries(alloc, history, answer))
 }
 
-// Looks an entry up, as `search forward 3 line` does from the place 3 on.
+// Looks an entry up, like `search forward 3 line` does from the index 3 on.
 fn looked_up<H: History>(
     alloc: Global,
     history: &H,
@@ -270,7 +272,7 @@ fn looked_up<H: History>(
     hit_told(alloc, found)
 }
 
-// The direction in which is searched, the place from which, and what for.
+// The direction of the search, the index from which it starts, and the term.
 fn direction_place_and_term(text: &str) -> (SearchDirection, usize, &str) {
     let (dir, rest) = word_and_rest(text);
     let (place, term) = word_and_rest(rest);
@@ -281,7 +283,7 @@ fn direction_place_and_term(text: &str) -> (SearchDirection, usize, &str) {
     }
 }
 
-// A history with the text that it is saved to.
+// A history, and the text of its saves.
 #[derive(Drop)]
 struct Desk {
     history: FileHistory,
@@ -289,7 +291,8 @@ struct Desk {
 }
 
 impl Desk {
-    // Makes a call, and tells what it answers: of a save what it writes, and of an addition the whole text then.
+    // Makes a call, and returns its result: for a save the text that it writes, and for an addition
+    // the whole text then.
     fn made(&mut self, alloc: Global, call: &str, text: &str) -> Result<String, ReadlineError> {
         match call {
             "save" => self.save(alloc),
@@ -344,7 +347,8 @@ struct Memory {
 }
 
 impl Memory {
-    // The number of its lines, also counted one by one, whether there are none, and the line at a place.
+    // The number of its lines, also counted one by one, whether there are none, and the line at an
+    // index.
     fn told(&self, alloc: Global, place: usize) -> Result<String, AllocError> {
         let (count, counted) = (self.history.len(), self.history.iter().count());
         let empty = self.history.is_empty();
@@ -378,8 +382,9 @@ const SAVED: &str = r"
     save                = nothing
 ";
 
-// What is appended after a saved text, with more lines added than the history keeps, and the first of them like the last
-// one saved: the list comes back all the same, and so it does after a second round, where a repeated row is ignored.
+// Rows appended after a saved text. More lines are added than the history keeps, and the first of
+// them equals the last saved one. Loading still restores the list, and so it does after a second
+// round, in which a repeated row is ignored.
 const APPENDED: &str = r"
     max_len 2           = nothing
     add a               = added a|
@@ -418,7 +423,8 @@ fn histories_with_texts(rt: HostRuntime) -> Result<(), Fail> {
     plays_with(rt.alloc(), "line1|line2|line3|", SEARCHES)
 }
 
-// `lines 1` tells the number of the lines, also counted one by one, whether there are none, and the line at 1.
+// `lines 1` is the number of the lines, also counted one by one, whether there are none, and the
+// line at 1.
 const ADDED: &str = "
     ignore_space yes    = nothing
     add line2           = added line2|
@@ -452,7 +458,7 @@ fn lines_that_are_added(rt: HostRuntime) -> Result<(), Fail> {
     rows_hold(rt.alloc(), &mut Memory { history }, ADDED)
 }
 
-// A line with the cursor; the hint of the only entry, as it is shown and as it is taken.
+// A line with the cursor; the hint of the only entry, as it is shown and as it is accepted.
 const HINTS: &str = r#"
     hello|          = " world", takes " world"
     hello world|    = none
@@ -461,7 +467,7 @@ const HINTS: &str = r#"
     help|           = none
 "#;
 
-/// A hint, as it is shown and as it is taken.
+/// A hint, as it is shown and as it is accepted.
 pub(crate) fn hint_told<T: Hint>(
     alloc: Global,
     answer: Result<Option<T>, HookFault>,
@@ -478,14 +484,15 @@ fn both_told(alloc: Global, shown: &str, taken: Option<&str>) -> Result<String, 
     format!(in alloc; "{shown:?}, takes {taken:?}")
 }
 
-/// A history with the line that is hinted.
+/// A history with the hinted line.
 #[derive(Drop)]
 struct Hinted {
     history: FileHistory,
 }
 
 impl Hinted {
-    // The hint from the history; where there is one without a hinter, that, which no row wants.
+    // The hint from the history. If there is one without a hinter, then that one, which no row
+    // expects.
     fn told(&self, alloc: Global, line: &str, pos: usize) -> Result<String, AllocError> {
         if pos > line.len() {
             return String::from_str(alloc, "a cursor beyond the line");
@@ -505,7 +512,7 @@ impl Player for Hinted {
     }
 }
 
-// Whether the place in a history of one entry is 1 at first, and 0 after it is set to that.
+// Whether the place in a history of one entry is 1 at first, and 0 after it is set to 0.
 fn place_is_set<H: History>(history: &H) -> bool {
     let mut context = Context::new(history);
     let first = context.history_index();

@@ -1,4 +1,4 @@
-//! Sources that end, and give more where they are asked again, as a terminal does.
+//! Sources that end, and give more if they are read again, like a terminal.
 
 ghost use Rattle.std.specs.Prelude.{◌+◌, [], false, length};
 ghost use Rattle.line_config.specs.declared.device.Last.TheVariants.{End};
@@ -51,8 +51,8 @@ impl Source for Resuming<'_> {
     }
 }
 
-// A text before which nothing was loaded, and `c` behind its end: what a new history answers, its entries then, and those
-// that it has when it loads again.
+// A text before which nothing was loaded, and `c` after its end: the answer of a new history, its
+// entries then, and those after it loads again.
 const ENDS: &str = r"
     a␊b     = part a|b|, then part a|b|c|
     a␊b␊    = part a|b|, then part a|b|c|
@@ -61,7 +61,7 @@ const ENDS: &str = r"
             = part , then part c|
 ";
 
-/// What is loaded of such a source.
+/// What is loaded from such a source.
 pub(crate) fn ends_told(alloc: Global, text: &str) -> Result<String, AllocError> {
     let bytes = meant_bytes(alloc, text)?;
     let mut source = Resuming {
@@ -81,13 +81,13 @@ fn loaded_twice(
     format!(in alloc; "{first}, then {second}")
 }
 
-/// Nothing is read behind a text's end: what comes there is another text.
+/// Nothing is read past a text's end: what comes there is another text.
 #[test]
 fn nothing_read_behind_the_end(rt: HostRuntime) -> Result<(), Fail> {
     rows_hold(rt.alloc(), &mut Ask::Ends, ENDS)
 }
 
-// How many words are read of a source, and how many behind its end.
+// The number of words read from a source, and the number after its end.
 fn words_counted(alloc: Global) -> (usize, usize) {
     let mut source = Resuming {
         bytes: b"a\nb",

@@ -1,4 +1,4 @@
-//! Words: what is completed by them, and how they are read from a text.
+//! Words: completion with them, and how they are read from a text.
 
 use crate::asks::Ask;
 use crate::completion::completed;
@@ -10,7 +10,7 @@ use stand_ins::tables::{meant_bytes, word_and_rest};
 use std::alloc::{AllocError, Global};
 use std::test::Fail;
 
-/// A completer by the words of a text, with a space between two.
+/// A completer with the words of a text, separated by spaces.
 pub(crate) fn completer_of(alloc: Global, text: &str) -> Result<WordCompleter, AllocError> {
     let mut words = Vec::new(alloc);
     for word in text.split(' ') {
@@ -21,7 +21,8 @@ pub(crate) fn completer_of(alloc: Global, text: &str) -> Result<WordCompleter, A
 
 const LISTED: &str = "alpha alpine twin twin été étoile e\u{301}a eb 漢字 al";
 
-// A line with the cursor; where the word begins, the candidates in their order, and what all of them begin with.
+// A line with the cursor; where the word begins, the candidates in their order, and their common
+// prefix.
 const BY_WORDS: &str = "
     al|             = |al; alpha→alpha; alpine→alpine; al→al, all with al
     alp|            = |alp; alpha→alpha; alpine→alpine, all with alp
@@ -39,7 +40,7 @@ const BY_WORDS: &str = "
     x |             = x |; alpha→alpha; alpine→alpine; twin→twin; twin→twin; été→été; étoile→étoile; e\u{301}a→e\u{301}a; eb→eb; 漢字→漢字; al→al
 ";
 
-/// A completer that is asked each row's line.
+/// A completer that gets each row's line.
 #[derive(Drop)]
 struct Asked {
     completer: WordCompleter,
@@ -57,14 +58,14 @@ fn words_complete(rt: HostRuntime) -> Result<(), Fail> {
     rows_hold(rt.alloc(), &mut Asked { completer }, BY_WORDS)
 }
 
-// The same for 100,000 words.
+// The same with 100,000 words.
 const AMONG_MANY: &str = "
     word99999|      = |word99999; word99999→word99999, all with word99999
     word9|9999      = |word99999; word9→word9; word90→word90; word91→word91; word92→word92; word93→word93; word94→word94; word95→word95; word96→word96; word97→word97; word98→word98; word99→word99; word900→word900; 11111 in all, all with word9
     w|              = |w; word0→word0; word1→word1; word2→word2; word3→word3; word4→word4; word5→word5; word6→word6; word7→word7; word8→word8; word9→word9; word10→word10; word11→word11; 100000 in all, all with word
 ";
 
-// Words that a number ends, from 0 on.
+// Words that end in a number, from 0 on.
 fn numbered(alloc: Global, count: u32) -> Result<WordCompleter, AllocError> {
     let mut words = Vec::new(alloc);
     for number in 0..count {
@@ -79,7 +80,7 @@ fn many_words(rt: HostRuntime) -> Result<(), Fail> {
     rows_hold(rt.alloc(), &mut Asked { completer }, AMONG_MANY)
 }
 
-// The words of a text, with a bar after each; the second text ends in a failure of its source.
+// The words of a text, with a bar after each; for the second text the source fails at the end.
 const TEXTS: &str = r"
     whole alpha␊alpine      = alpha|alpine|
     whole b␊a␊b␊            = b|a|b|
@@ -115,7 +116,7 @@ fn bars_behind(alloc: Global, words: &[String]) -> Result<String, AllocError> {
     Ok(said)
 }
 
-/// The words that a row's text has.
+/// The words of a row's text.
 pub(crate) fn words_of_text(alloc: Global, call: &str) -> Result<String, AllocError> {
     let (end, text) = word_and_rest(call);
     let bytes = meant_bytes(alloc, text)?;

@@ -1,11 +1,10 @@
 -- A line at a desk: what `run` gives, and then the line's end.
-use Rattle.std.proofs.Common.{◌≡◌, ℕ, suc, ◌<◌, Bool, true, false, List, inl, inr, refl, sym, ap, ◌∙◌, subst, IsTrue, Option, Result, Ok, Err, IfErr, OnOk, le_refl}
-use Rattle.std.specs.Prelude.{⊤, string_bytes}
-use Rattle.line_config.specs.Scripts.{World, Goes, then, Ends as Taken}
+use Rattle.std.proofs.Common.{◌≡◌, ℕ, suc, ◌<◌, Bool, true, false, List, [], ◌∷◌, ◌++◌, ◌⊎◌, inl, inr, refl, sym, ap, ◌∙◌, subst, IsTrue, Option, Result, Ok, Err, IfErr, OnOk, le_refl}
+use Rattle.std.specs.List.{flat_map}
+use Rattle.std.specs.Prelude.{⊤, if◌then◌else◌, string_bytes}
 use Rattle.line_config.specs.declared.config.Config.{Config}
 use Rattle.line_config.specs.declared.errors.ReadlineError.{ReadlineError}
 use Rattle.line_config.specs.declared.errors.ReadlineError.TheVariants.{Reader, Display, Lines, HistoryText, Helper, Handler, Memory}
-use Rattle.line_config.proofs.ScriptLaws.{then_cut, then_goes}
 use Rattle.line_help.specs.History.{Filed}
 use Rattle.line_keys.specs.Answers.{Custom}
 use Rattle.line_keys.specs.Coming.{Coming, made_of}
@@ -13,7 +12,8 @@ use Rattle.line_keys.specs.Feeds.{KeyFeed}
 use Rattle.line_record.specs.Ring.{Ring}
 use Rattle.line_editor.specs.Courses.{breaks_after}
 use Rattle.line_editor.specs.LineScripts.{LineState, LineStage, kept, line_script, line_stage}
-use Rattle.line_editor.specs.Running.{Helping, Runs, outcome_of, setting_by, stage_first}
+use Rattle.line_editor.specs.Redraws.{fresh}
+use Rattle.line_editor.specs.Running.{Helping, Runs, kept_first, outcome_of, setting_by, stage_first}
 use Rattle.line_editor.specs.States.{reason_of}
 use Rattle.line_editor.specs.Steps.{surface}
 use Rattle.line_editor.specs.Turning.{cause_of}
@@ -27,11 +27,13 @@ use Rattle.line_screen.proofs.CallLemmas.{goes_stay}
 use Rattle.line_screen.proofs.WaitingLemmas.{reads_find_nothing_waiting}
 use Rattle.keyline.specs.Desks.{TakesLine, DeskReason, desk_feed, session_state_of, work_of}
 use Rattle.keyline.specs.Known.{Known, HasPassedOn}
-use Rattle.keyline.specs.Playing.{Work, Closes, CloseReason, ComesTo, SessionReason, session_world, work}
-use Rattle.keyline.specs.SessionScripts.{SessionEvent, SessionScript, close_script, one_line}
-use Rattle.keyline.specs.Sessions.{Given, SessionState, given_of, state_after}
+use Rattle.keyline.specs.Playing.{AreDone, Closes, CloseReason, SessionReason, Work, work}
+use Rattle.keyline.specs.Events.{Event, Course, Begins, Breaks, asks_events, end_events, line_course, lines_kept, played_in}
+use Rattle.keyline.specs.Sessions.{Given, SessionState, given_of, history_after, remembered, state_after}
+use Rattle.keyline.specs.Shows.{EachShown}
 use Rattle.keyline.specs.declared.desk.Desk.{Desk}
-use Rattle.keyline.proofs.EventLemmas.{Went, close_leaves, went}
+use Rattle.keyline.proofs.EventLemmas.{Cut, Goes, Whole, done_both, line_went, none_done, remembered_none, went_before, went_behind, went_cases, went_not, went_not_whole, went_so, went_whole}
+use Rattle.keyline.proofs.ShowCourse.{first_shown, lines_show}
 
 -- ---- faults
 
@@ -70,8 +72,8 @@ ok_of_cut (Err d) e P is = tt
 
 -- ---- a line at a desk
 
-abbrev answered : {X : Type 0} → X → Result X ReadlineError
-answered x = Ok x
+abbrev pair : Result (List ℕ) ReadlineError → SessionState → Result (List ℕ) ReadlineError × SessionState
+pair o x = (o, x)
 
 abbrev desk_of : {S H D L : Type 0} → KeyReader S → ScreenRenderer D → Option H → Filed → Ring → L → Desk S H D L
 desk_of reader out helper history ring lines =
@@ -103,7 +105,7 @@ module _ {S H D L K T : Type 0} (k : Known S D L) (helps : Option H → Helping)
       let n = suc (desk_feed k old).bound in
       goes_stay k.shown k.waits k.show_failed (ruler_of (screen_of old.out)) setting config.indent_size (line_script n custom) first (last runs) (outcome_of ran) (runs.goes t n (le_refl _))
 
-  -- nothing waits after the line where nothing waited before it
+  -- nothing waits after the line if nothing waited before it
   line_passes : RunsAt → IsTrue (items_of k.feed reader).told → HasPassedOn k (sink_of old.out) → HasPassedOn k (sink_of ran.out)
   line_passes runs t none =
       let n = suc (desk_feed k old).bound in
@@ -129,49 +131,94 @@ module _ {S H D L K T : Type 0} (k : Known S D L) (helps : Option H → Helping)
     abbrev state : SessionState
     state = session_state_of k old
 
-    abbrev world : World SessionEvent (λ event. ⊤) (Work D L) ReadlineError
-    world = session_world k.shown k.written_in config.auto_add_history
-
-    -- what comes after what was asked of the line
-    abbrev next : (Result (List ℕ) ReadlineError × LineState) → SessionScript (Result (List ℕ) ReadlineError × SessionState)
-    next line = then (close_script line.0) (λ outcome. Taken (outcome, state_after config.auto_add_history line.0 line.1.ring line.1.coming state))
+    abbrev line : ℕ → Course (Result (List ℕ) ReadlineError × SessionState)
+    line n = line_course n given state
 
     abbrev LineComes : ℕ → Type 0
-    LineComes n = ComesTo k.shown k.written_in config.auto_add_history (one_line n given state) (work_of k old) (result, session_state_of k new) (work_of k new) result
+    LineComes n = Goes k.shown k.written_in config.auto_add_history (line n).events (work_of k old) (work_of k new) ((result, session_state_of k new) ≡ (line n).answer) (λ e. result ≡ Err e)
 
-    line_comes : (n : ℕ) (runs : RunsAt) → Ends (outcome_of ran)
-        → Went k.shown k.written_in config.auto_add_history old.lines old.history k.waits k.show_failed (screen_of old.out) setting config.indent_size next (λ line. tt) (line_script n custom) first (last runs) (outcome_of ran)
-        → LineComes n
-    line_comes n runs closes (inl goes) = by (closes.goes left)
+    abbrev Sums : List Event → Work D L → Work D L → Type 0
+    Sums events x y = AreDone k.shown k.written_in config.auto_add_history events x y
+
+    -- what is asked of it
+    abbrev asked_of : ℕ → List Event
+    asked_of n = asks_events (screen_of old.out) setting config.indent_size (fresh (screen_of old.out).mode) (kept_first setting config old.ring come) (played_in n given state).asks
+
+    abbrev WholeLine : ℕ → RunsAt → Type 0
+    WholeLine n runs =
+        Whole k.shown k.written_in config.auto_add_history old.lines old.history k.waits k.show_failed (screen_of old.out) setting config.indent_size (line_script n custom) first (last runs) (outcome_of ran)
+
+    abbrev CutLine : ℕ → RunsAt → Type 0
+    CutLine n runs =
+        Cut k.shown k.written_in config.auto_add_history old.lines old.history k.waits k.show_failed (screen_of old.out) setting config.indent_size (line_script n custom) first (last runs) (outcome_of ran)
+
+    abbrev Went' : List Event → Work D L → Work D L → Type 0 → (ReadlineError → Type 0) → Type 0
+    Went' events x y W F = Goes k.shown k.written_in config.auto_add_history events x y W F
+
+    -- the begin of a line makes nothing
+    begun : (events : List Event) (x y : Work D L) → Sums events x y → Sums (Begins (screen_of old.out) ∷ events) x y
+    begun events x y d = record { drawn = d.drawn; wrote = d.wrote; history_is = d.history_is; left_is = d.left_is; answered = d.answered }
+
+    -- an accepted line is kept, and no other
+    kept_in_end : (o : Result (List ℕ) ReadlineError) (h h' : Filed) → h' ≡ remembered config.auto_add_history (flat_map lines_kept (end_events o)) h → h' ≡ history_after config.auto_add_history o h
+    kept_in_end (Ok text) h h' is = is
+    kept_in_end (Err e) h h' is = by (breaks_after e) is
       where
-        o : Result (List ℕ) ReadlineError
-        o = outcome_of ran
+        by : (b : Bool) → h' ≡ remembered config.auto_add_history (flat_map lines_kept (if b then Breaks ∷ [] else [])) h → h' ≡ h
+        by true is = is ∙ remembered_none config.auto_add_history h
+        by false is = is ∙ remembered_none config.auto_add_history h
 
-        by : ComesTo k.shown k.written_in config.auto_add_history (close_script o) at_end result (work_of k new) result → LineComes n
-        by (inl h) =
-            let after = state_after config.auto_add_history o ring left state in
-            let leaves = close_leaves k.shown k.written_in config.auto_add_history o result at_end (work_of k new) h in
-            let state_is : after ≡ session_state_of k new = ap (λ (h : Filed). record { ring = ring; history = h; coming = left }) (sym leaves.1) in
-            inl (goes (Ok (result, session_state_of k new)) (work_of k new)
-            (then_goes world (close_script o) (λ outcome. Taken (outcome, after)) result (Ok (result, session_state_of k new)) at_end (work_of k new) (work_of k new) h
-            (ap (λ (x : SessionState). answered (result, x)) (sym state_is), refl)))
-        by (inr (why, h, is)) =
-            inr (why, goes (Err why) (work_of k new) (then_cut world (close_script o) (λ outcome. Taken (outcome, state_after config.auto_add_history o ring left state)) why at_end (work_of k new) h), is)
-    line_comes n runs closes (inr (e, goes, is, cause)) =
-        let same = (subst Ends is closes).stays (unbroken true ⊤ e cause) in
-        let StopsAt : Work D L → Type 0 = λ after. Goes world (one_line n given state) (work_of k old) (Err e) after in
-        inr (e, subst StopsAt (ap (λ (f : Coming → Work D L). f left) (sym same.0)) goes, same.1)
+    abbrev begin_of : List Event
+    begin_of = Begins (screen_of old.out) ∷ []
+
+    abbrev CutBy : ReadlineError → Type 0
+    CutBy e = (outcome_of ran ≡ Err e) × reason_of true ⊤ e
+
+    abbrev Refused : ReadlineError → Type 0
+    Refused e = result ≡ Err e
+
+    abbrev Whole' : ℕ → Type 0
+    Whole' n = (result, session_state_of k new) ≡ (line n).answer
+
+    line_comes : (n : ℕ) (runs : RunsAt) → Ends (outcome_of ran) → WholeLine n runs ⊎ CutLine n runs → LineComes n
+    line_comes n runs closes (inl whole) =
+        let adds = config.auto_add_history in
+        let o = outcome_of ran in
+        let p = played_in n given state in
+        let first = begun (asked_of n) (work_of k old) at_end whole.are_done in
+        let here : List Event = Begins (screen_of old.out) ∷ asked_of n in
+        subst (λ o. Went' (here ++ end_events o) (work_of k old) (work_of k new) (Whole' n) Refused) (sym whole.answer_is)
+        (went_cases k.shown k.written_in adds (result ≡ o) Refused (end_events o) at_end (work_of k new) (closes.goes left)
+        (λ done same.
+        let history_is : history ≡ history_after adds o old.history = kept_in_end o old.history history done.history_is in
+        let state_is : session_state_of k new ≡ state_after adds o ring left state = ap (λ (h : Filed). record { ring = ring; history = h; coming = left }) history_is in
+        let after : Result (List ℕ) ReadlineError → LineState → Result (List ℕ) ReadlineError × SessionState = λ o l. (o, state_after adds o l.ring l.coming state) in
+        went_whole k.shown k.written_in adds (Whole' n) Refused (here ++ end_events o) (work_of k old) (work_of k new)
+        (done_both k.shown k.written_in adds here (end_events o) (work_of k old) at_end (work_of k new) first done)
+        (ap (λ r. pair r (session_state_of k new)) same ∙ ap (pair o) state_is ∙ ap (after o) (sym whole.rest_is) ∙ ap (λ o. after o p.rest) (sym whole.answer_is)))
+        (λ cut. went_behind k.shown k.written_in adds (Whole' n) Refused here (end_events o) (work_of k old) at_end (work_of k new) first
+        (went_not_whole k.shown k.written_in adds (Whole' n) Refused (end_events o) at_end (work_of k new) cut)))
+    line_comes n runs closes (inr cut) =
+        let adds = config.auto_add_history in
+        let end = end_events (played_in n given state).answer in
+        let here = went_behind k.shown k.written_in adds ⊥ CutBy begin_of (asked_of n) (work_of k old) (work_of k old) at_end (begun [] (work_of k old) (work_of k old) (none_done k.shown k.written_in adds (work_of k old))) cut in
+        let stays = λ (e : ReadlineError) (by : CutBy e). (subst Ends by.0 closes).stays (unbroken true ⊤ e by.1) in
+        let is : work_of k new ≡ at_end =
+        went_not k.shown k.written_in adds CutBy (λ e by. ap (λ (f : Coming → Work D L). f left) (stays e by).0) (asked_of n) (work_of k old) at_end cut in
+        let so = went_so k.shown k.written_in adds ⊥ CutBy Refused (λ e by. (stays e by).1) (begin_of ++ asked_of n) (work_of k old) at_end here in
+        subst (λ x. Went' ((begin_of ++ asked_of n) ++ end) (work_of k old) x (Whole' n) Refused) (sym is)
+        (went_before k.shown k.written_in adds (Whole' n) Refused (begin_of ++ asked_of n) end (work_of k old) at_end so)
 
     line_goes : RunsAt → Ends (outcome_of ran) → IsTrue (items_of k.feed reader).told → (n : ℕ) → (desk_feed k old).bound < n → LineComes n
     line_goes runs closes t n b = line_comes n runs closes
-        (went k.shown k.written_in config.auto_add_history old.lines old.history k.waits k.show_failed (screen_of old.out) setting config.indent_size next (λ line. tt)
+        (line_went k.shown k.written_in config.auto_add_history old.lines old.history k.waits k.show_failed (screen_of old.out) setting config.indent_size
         (line_script n custom) first (last runs) (outcome_of ran) refl (runs.goes t n b))
 
-    line_falls : RunsAt → ComesTo k.shown k.written_in config.auto_add_history (close_script (outcome_of ran)) at_end result (work_of k new) result
-        → OnOk result ((desk_feed k new).bound < (desk_feed k old).bound)
-    line_falls runs (inl h) =
-        ok_given ran.outcome string_bytes result _ runs.falls (close_leaves k.shown k.written_in config.auto_add_history (outcome_of ran) result at_end (work_of k new) h).0
-    line_falls runs (inr (why, h, is)) = ok_of_cut result why _ is
+    line_falls : RunsAt → Went' (end_events (outcome_of ran)) at_end (work_of k new) (result ≡ outcome_of ran) Refused → OnOk result ((desk_feed k new).bound < (desk_feed k old).bound)
+    line_falls runs w =
+        went_cases k.shown k.written_in config.auto_add_history (result ≡ outcome_of ran) Refused (end_events (outcome_of ran)) at_end (work_of k new) w
+        (λ done same. ok_given ran.outcome string_bytes result _ runs.falls same)
+        (λ cut. went_not k.shown k.written_in config.auto_add_history Refused (λ e is. ok_of_cut result e _ is) (end_events (outcome_of ran)) at_end (work_of k new) cut)
 
     line_given : RunsAt → screen_of out ≡ screen_of ran.out → IsTrue (desk_feed k new).told → given' ≡ given
     line_given runs screen t =
@@ -195,7 +242,9 @@ module _ {S H D L K T : Type 0} (k : Known S D L) (helps : Option H → Helping)
     pub takes_line : RunsAt → Ends (outcome_of ran) → screen_of out ≡ screen_of ran.out → (HasPassedOn k (sink_of ran.out) → HasPassedOn k (sink_of out))
         → TakesLine k given given' old new result
     takes_line runs closes screen passes = record {
-      goes = λ t n b. line_goes runs closes t n b;
+      goes = λ t n b.
+          let w = line_goes runs closes t n b in
+          record { went = w; shows = λ f rest. first_shown w.done w.others f (subst (EachShown f) w.split (lines_show n given state f rest)) };
       given = line_given runs screen;
       custom = refl;
       told = runs.told;

@@ -8,11 +8,9 @@ use Rattle.line_keys.specs.Answers.{Custom, custom_of}
 use Rattle.line_keys.specs.Handling.{Meaning}
 use Rattle.line_keys.specs.declared.events.Event.{Event}
 use Rattle.line_screen.specs.Calls.{screen_of}
-use Rattle.keyline.specs.Desks.{session_state_of}
 use Rattle.keyline.specs.Known.{Known}
 use Rattle.keyline.specs.Program.{EditHelper, EditsByOptions, config_of, edit_helping, given_to, helper_of, nothing_bound}
-use Rattle.keyline.specs.Plays.{Loaded, Opens, PlaysSession}
-use Rattle.keyline.specs.Shows.{Displays}
+use Rattle.keyline.specs.Plays.{Loaded, Opens, RunsSession}
 use Rattle.keyline.specs.Sessions.{Given, given_of}
 use Rattle.keyline.specs.declared.desk.Desk.{Desk}
 use Rattle.keyline.specs.declared.options.Options.{Options}
@@ -29,11 +27,10 @@ module _ {F S D L T : Type 0} (loads : F → Feed) (k : Known S D L) (held : T �
   pub edited : (options : Options) (words : Option (List (List ℕ))) (history : F) (source : S) (display : D) (lines : L) (text text' : T) (ended : Ended S D L T)
       (desk : Desk S EditHelper D L) (config config' : Config) (custom : Custom) (prompt : List ℕ) (helper : Option EditHelper)
       → Opens loads k.feed config history helper source options.columns display lines desk
-      → PlaysSession k held failed (given_of config' custom prompt (screen_of desk.out) (edit_helping desk.helper)) desk text' ended
-      → Displays (given_of config' custom prompt (screen_of desk.out) (edit_helping desk.helper)) (session_state_of k desk)
+      → RunsSession k held failed (given_of config' custom prompt (screen_of desk.out) (edit_helping desk.helper)) desk text' ended
       → config ≡ config_of options → config' ≡ config → prompt ≡ string_bytes options.prompt → helper ≡ helper_of options words → text' ≡ text → custom ≡ nothing_bound
       → EditsByOptions loads k held failed options words history source display lines text ended
-  edited options words history source display lines text text' ended desk config config' custom prompt helper opens plays shows config_is config_is' prompt_is helper_is text_is custom_is =
+  edited options words history source display lines text text' ended desk config config' custom prompt helper opens runs config_is config_is' prompt_is helper_is text_is custom_is =
       let screen = screen_of desk.out in
       let helping = edit_helping desk.helper in
       let given : given_of config' custom prompt screen helping ≡ given_to options desk =
@@ -41,10 +38,9 @@ module _ {F S D L T : Type 0} (loads : F → Feed) (k : Known S D L) (held : T �
       ∙ (ap (λ (x : Custom). given_of (config_of options) x prompt screen helping) custom_is
       ∙ ap (λ (x : List ℕ). given_of (config_of options) nothing_bound x screen helping) prompt_is) in
       let opens' = subst (λ (x : Config). Opens loads k.feed x history helper source options.columns display lines desk) config_is opens in
-      let plays' = subst (λ (x : Given). PlaysSession k held failed x desk text' ended) given plays in
+      let runs' = subst (λ (x : Given). RunsSession k held failed x desk text' ended) given runs in
       record {
         desk = desk;
         opens = subst (λ (x : Option EditHelper). Opens loads k.feed (config_of options) history x source options.columns display lines desk) helper_is opens';
-        plays = subst (λ (x : T). PlaysSession k held failed (given_to options desk) desk x ended) text_is plays';
-        shows = subst (λ (x : Given). Displays x (session_state_of k desk)) given shows;
+        runs = subst (λ (x : T). RunsSession k held failed (given_to options desk) desk x ended) text_is runs';
       }

@@ -1,50 +1,48 @@
 -- What events that were done come to; and a line's asks as events, done and stopped.
-use Rattle.std.proofs.Common.{◌≡◌, ℕ, Bool, true, false, List, [], ◌∷◌, ◌++◌, inl, inr, ◌⊎◌, refl, sym, ap, ◌∙◌, subst, append-nil, Result, Ok, Err}
+use Rattle.std.proofs.Common.{◌≡◌, ℕ, Bool, true, false, List, [], ◌∷◌, ◌++◌, inl, inr, ◌⊎◌, refl, sym, ap, ◌∙◌, subst, append-nil, append_assoc, Result, Err}
 use Rattle.std.specs.List.{FoldsTo, flat_map}
-use Rattle.std.specs.Prelude.{⊤}
+use Rattle.std.specs.Prelude.{⊤, map}
 use Rattle.std.proofs.lemmas.Grind.{flat_map-append}
 use Rattle.line_buffer.specs.declared.layout.Layout.{Layout}
+use Rattle.line_config.specs.Scripts.{Goes as GoesOn}
+use Rattle.line_config.specs.Sending.{Takes as TakesAll, TakesSome}
 use Rattle.line_config.specs.declared.errors.ReadlineError.{ReadlineError}
 use Rattle.line_config.specs.declared.errors.ReadlineError.TheVariants.{Display, Helper, Memory}
-use Rattle.line_config.specs.Played.{Plan, Plays, Made, Cut, asked_first}
-use Rattle.line_config.specs.Scripts.{Ends, Asks, World, Goes, then}
-use Rattle.line_config.specs.Sending.{Takes, TakesSome}
-use Rattle.line_config.proofs.PlayedLaws.{whole, cut_first}
-use Rattle.line_config.proofs.ScriptLaws.{fault_or, value_or}
-use Rattle.line_config.proofs.Taking.{takes_none, takes_then}
+use Rattle.line_config.proofs.Taking.{takes_none, takes_then, some_of_more, some_then}
 use Rattle.line_help.specs.History.{Filed, filed_with, filed_with_all}
-use Rattle.line_keys.specs.Coming.{Coming, left_by}
-use Rattle.line_keys.specs.Feeds.{InputItem, IsReadFault, Paste}
+use Rattle.line_keys.specs.Coming.{Coming, behind, left, left_by}
+use Rattle.line_keys.specs.Feeds.{InputItem, IsReadFault, Paste, item_at}
 use Rattle.line_keys.specs.Phrases.{Reads}
 use Rattle.line_editor.specs.Calls.{Call, Canvas, MadeIn, RefusedIn, BrokenOff}
 use Rattle.line_editor.specs.Calls.Call.{Help}
-use Rattle.line_editor.specs.LineScripts.{Answered, FaultLeaves, LineState, Keys, LineAnswer, LineAsk, LineScript, Obeys, LineStage, Stopped, answer_at, effect_at, left_at, line_world, line_stage}
-use Rattle.line_editor.specs.Redraws.{asked_by}
+use Rattle.line_editor.specs.LineScripts.{Begins as TurnBegins, DrawnBy, FaultLeaves, Keys, LineAsk, LineScript, LineStage, LineState, Obeys, Stopped, effect_at, left_at, line_world, line_stage, played_from, steps_along}
+use Rattle.line_editor.specs.Redraws.{Asked, asked_by}
 use Rattle.line_editor.specs.States.{reason_of}
-use Rattle.line_editor.specs.Steps.{one, Surface, Refusal, Unhelped, StepCut, Stops as StepsStop}
+use Rattle.line_editor.specs.Steps.{one, Surface, StepCut, Unhelped, Stops as StepsStop}
 use Rattle.line_editor.specs.Values.{Value, Setting, EditStep}
 use Rattle.line_editor.specs.Values.EditStep.{Draws as DrawStep, Helped as HelpStep, Edits as EditingStep, TakesBack as BackStep, Takes as TakingStep}
-use Rattle.line_editor.proofs.ToldLemmas.{stopped_cause}
+use Rattle.line_editor.proofs.StopsLemmas.{asked_both}
+use Rattle.line_editor.proofs.ToldLemmas.{AllDone, StoppedIn, left_along, rest_along, stopped_cause, went}
 use Rattle.line_screen.specs.Calls.{Screen, bytes_of, canvas_of, ruler_of, screen_of, sink_of}
 use Rattle.line_screen.specs.declared.renderer.ScreenRenderer.{ScreenRenderer}
 use Rattle.line_screen.proofs.CallLemmas.{sent_in_all}
-use Rattle.keyline.specs.Playing.{Work, AreDone, IsDone, session_world, work}
-use Rattle.keyline.specs.SessionScripts.{SessionEvent, SessionScript, Draws, Helped, Hears, Keeps, Writes, answered_by, bytes_drawn, call_event, calls_then, close_script, drawn_on, left_to_come, lines_kept, lines_written, read_then, without_fault}
-use Rattle.keyline.specs.Sessions.{history_after, line_text, lines_text, remembered}
+use Rattle.keyline.specs.Events.{Event, Takes, Helped, Draws, Hears, AllAnswered, asks_events, bytes_drawn, left_to_come, lines_kept, lines_written, own_events, step_event, step_events}
+use Rattle.keyline.specs.Playing.{AreDone, IsStopped, Stands, Went, Work, work}
+use Rattle.keyline.specs.Sessions.{line_text, lines_text, remembered}
 use Rattle.keyline.specs.Shows.{drawn_by}
+use Rattle.keyline.proofs.ShowCourse.{all_of_map}
 
 -- ---- events, some after others
 
-pub left_both : (c : Coming) (xs ys : List SessionEvent) → left_to_come c (xs ++ ys) ≡ left_to_come (left_to_come c xs) ys
+pub left_both : (c : Coming) (xs ys : List Event) → left_to_come c (xs ++ ys) ≡ left_to_come (left_to_come c xs) ys
 left_both c [] ys = refl
-left_both c (Hears rest ∷ xs) ys = left_both rest xs ys
+left_both c (Hears item ∷ xs) ys = left_both (left (item_at item c) (behind c)) xs ys
 left_both c (_ ∷ xs) ys = left_both c xs ys
 
--- those of a script that comes after another
-pub sequel : {X Y : Type 0} (p : SessionScript X) (next : X → SessionScript Y) (x : X) → (without_fault p).answer ≡ Ok x
-    → without_fault (then p next) ≡ record (without_fault (next x)) { asks = (without_fault p).asks ++ (without_fault (next x)).asks }
-sequel (Ends y) next x is = ap (λ y. without_fault (next y)) (ap (value_or x) is)
-sequel (Asks event later) next x is = ap (asked_first event) (sequel (later tt) next x is)
+answered_both : (xs ys : List Event) → AllAnswered xs → AllAnswered ys → AllAnswered (xs ++ ys)
+answered_both [] ys h k = k
+answered_both (Helped fails takes ∷ xs) ys h k = (h.0, answered_both xs ys h.1 k)
+answered_both (_ ∷ xs) ys h k = answered_both xs ys h k
 
 -- ---- the history
 
@@ -56,88 +54,213 @@ remembered_both : (adds : Bool) (xs ys : List (List ℕ)) (h : Filed) → rememb
 remembered_both true xs ys h = filed_both h xs ys
 remembered_both false xs ys h = refl
 
-remembered_none : (adds : Bool) (h : Filed) → remembered adds [] h ≡ h
+pub remembered_none : (adds : Bool) (h : Filed) → remembered adds [] h ≡ h
 remembered_none true h = refl
 remembered_none false h = refl
 
+-- ---- what a line's events come to
+
+module _ (s : Screen) where
+  abbrev drawn_in : List Event → List ℕ
+  drawn_in events = flat_map bytes_drawn events
+
+  step_bytes : (l : Layout) (rs : List EditStep) → drawn_in (step_events s l rs) ≡ flat_map (bytes_of s) (drawn_by s l rs).calls
+  step_bytes l [] = refl
+  step_bytes l (DrawStep v marks redraw ∷ rs) =
+      let a = asked_by (ruler_of s) marks l redraw in
+      let more = (drawn_by s a.layout rs).calls in
+      ap (λ b. b ++ drawn_in (step_events s a.layout rs)) (all_of_map (bytes_of s) a.calls)
+      ∙ ap (λ b. flat_map (bytes_of s) a.calls ++ b) (step_bytes a.layout rs)
+      ∙ sym (flat_map-append (bytes_of s) a.calls more)
+  step_bytes l (HelpStep v fails takes ∷ rs) = step_bytes l rs
+  step_bytes l (_ ∷ rs) = step_bytes l rs
+
+  step_left : (c : Coming) (l : Layout) (rs : List EditStep) → left_to_come c (step_events s l rs) ≡ c
+  step_left c l [] = refl
+  step_left c l (DrawStep v marks redraw ∷ rs) = step_left c (asked_by (ruler_of s) marks l redraw).layout rs
+  step_left c l (HelpStep v fails takes ∷ rs) = step_left c l rs
+  step_left c l (_ ∷ rs) = step_left c l rs
+
+  pub step_quiet : (l : Layout) (rs : List EditStep) → (flat_map lines_kept (step_events s l rs) ≡ []) × (flat_map lines_written (step_events s l rs) ≡ [])
+  step_quiet l [] = (refl, refl)
+  step_quiet l (DrawStep v marks redraw ∷ rs) = step_quiet (asked_by (ruler_of s) marks l redraw).layout rs
+  step_quiet l (HelpStep v fails takes ∷ rs) = step_quiet l rs
+  step_quiet l (_ ∷ rs) = step_quiet l rs
+
+  module _ (a : Setting) (indent : ℕ) where
+    own_bytes : (k : LineState) (ask : LineAsk) (more : List Event) → drawn_in (own_events a k ask ++ more) ≡ drawn_in more
+    own_bytes k TurnBegins more = refl
+    own_bytes k (Keys (Reads item)) more = refl
+    own_bytes k _ more = refl
+
+    own_left : (k : LineState) (ask : LineAsk) (more : List Event) → left_to_come k.coming (own_events a k ask ++ more) ≡ left_to_come (left_at a indent k ask).coming more
+    own_left k TurnBegins more = refl
+    own_left k (Keys (Reads item)) more = refl
+    own_left k _ more = refl
+
+    pub own_quiet : (k : LineState) (ask : LineAsk) → (flat_map lines_kept (own_events a k ask) ≡ []) × (flat_map lines_written (own_events a k ask) ≡ [])
+    own_quiet k TurnBegins = (refl, refl)
+    own_quiet k (Keys (Reads item)) = (refl, refl)
+    own_quiet k _ = (refl, refl)
+
+    own_answered : (k : LineState) (ask : LineAsk) → AllAnswered (own_events a k ask)
+    own_answered k TurnBegins = tt
+    own_answered k (Keys (Reads item)) = tt
+    own_answered k _ = tt
+
+    asks_bytes : (l : Layout) (k : LineState) (asks : List LineAsk) → drawn_in (asks_events s a indent l k asks) ≡ flat_map (bytes_of s) (drawn_by s l (steps_along a indent k asks)).calls
+    asks_bytes l k [] = refl
+    asks_bytes l k (ask ∷ asks) =
+        let rs = (effect_at a indent k ask).steps in
+        let left = left_at a indent k ask in
+        let x = drawn_by s l rs in
+        let more = asks_events s a indent x.layout left asks in
+        let later = steps_along a indent left asks in
+        flat_map-append bytes_drawn (step_events s l rs) (own_events a k ask ++ more)
+        ∙ ap (λ b. b ++ drawn_in (own_events a k ask ++ more)) (step_bytes l rs)
+        ∙ ap (λ b. flat_map (bytes_of s) x.calls ++ b) (own_bytes k ask more ∙ asks_bytes x.layout left asks)
+        ∙ sym (flat_map-append (bytes_of s) x.calls (drawn_by s x.layout later).calls)
+        ∙ ap (λ (q : Asked). flat_map (bytes_of s) q.calls) (sym (asked_both (ruler_of s) l rs later))
+
+    asks_left : (l : Layout) (k : LineState) (asks : List LineAsk) → left_to_come k.coming (asks_events s a indent l k asks) ≡ (left_along a indent k asks).coming
+    asks_left l k [] = refl
+    asks_left l k (ask ∷ asks) =
+        let rs = (effect_at a indent k ask).steps in
+        let left = left_at a indent k ask in
+        let x = drawn_by s l rs in
+        let more = asks_events s a indent x.layout left asks in
+        left_both k.coming (step_events s l rs) (own_events a k ask ++ more)
+        ∙ ap (λ c. left_to_come c (own_events a k ask ++ more)) (step_left k.coming l rs)
+        ∙ own_left k ask more
+        ∙ asks_left x.layout left asks
+
+    nothing_in : (f : Event → List (List ℕ)) (xs ys zs : List Event) → flat_map f xs ≡ [] → flat_map f ys ≡ [] → flat_map f zs ≡ [] → flat_map f (xs ++ (ys ++ zs)) ≡ []
+    nothing_in f xs ys zs p q r =
+        flat_map-append f xs (ys ++ zs) ∙ (ap (λ b. b ++ flat_map f (ys ++ zs)) p ∙ (flat_map-append f ys zs ∙ (ap (λ b. b ++ flat_map f zs) q ∙ r)))
+
+    pub asks_quiet : (l : Layout) (k : LineState) (asks : List LineAsk) → (flat_map lines_kept (asks_events s a indent l k asks) ≡ []) × (flat_map lines_written (asks_events s a indent l k asks) ≡ [])
+    asks_quiet l k [] = (refl, refl)
+    asks_quiet l k (ask ∷ asks) =
+        let rs = (effect_at a indent k ask).steps in
+        let left = left_at a indent k ask in
+        let x = drawn_by s l rs in
+        let first = step_quiet l rs in
+        let own = own_quiet k ask in
+        let rest = asks_quiet x.layout left asks in
+        let events = step_events s l rs in
+        let more = asks_events s a indent x.layout left asks in
+        (nothing_in lines_kept events (own_events a k ask) more first.0 own.0 rest.0, nothing_in lines_written events (own_events a k ask) more first.1 own.1 rest.1)
+
+    -- the events of some asks, and of those after them
+    pub asks_both : (l : Layout) (k : LineState) (xs ys : List LineAsk)
+        → asks_events s a indent l k (xs ++ ys) ≡ asks_events s a indent l k xs ++ asks_events s a indent (drawn_by s l (steps_along a indent k xs)).layout (left_along a indent k xs) ys
+    asks_both l k [] ys = refl
+    asks_both l k (ask ∷ xs) ys =
+        let rs = (effect_at a indent k ask).steps in
+        let left = left_at a indent k ask in
+        let m = (drawn_by s l rs).layout in
+        let events = step_events s l rs in
+        let own = own_events a k ask in
+        let mine = asks_events s a indent m left xs in
+        let after = left_along a indent left xs in
+        let others : Layout → List Event = λ l. asks_events s a indent l after ys in
+        let there = (drawn_by s m (steps_along a indent left xs)).layout in
+        ap (λ b. events ++ (own ++ b)) (asks_both m left xs ys)
+        ∙ ap (λ b. events ++ b) (sym (append_assoc own mine (others there)))
+        ∙ sym (append_assoc events (own ++ mine) (others there))
+        ∙ ap (λ (q : Asked). (events ++ (own ++ mine)) ++ others q.layout) (sym (asked_both (ruler_of s) l rs (steps_along a indent left xs)))
+
+-- ---- on devices
+
+folds_apart : {R : Type 0} (made : R → Call → R → Type 0) (xs ys : List Call) (a c : R) → FoldsTo made a (xs ++ ys) c → (b : R) × FoldsTo made a xs b × FoldsTo made b ys c
+folds_apart made [] ys a c h = (a, refl, h)
+folds_apart made (x ∷ xs) ys a c h = let r = folds_apart made xs ys h.0 c h.2 in (r.0, (h.0, h.1, r.1), r.2)
+
 module _ {D L : Type 0} (shown : D → List ℕ) (written_in : L → List ℕ) (adds : Bool) where
-  abbrev world : World SessionEvent (λ event. ⊤) (Work D L) ReadlineError
-  world = session_world shown written_in adds
-
-  abbrev pub GoesIn : {X : Type 0} → SessionScript X → Work D L → Result X ReadlineError → Work D L → Type 0
-  GoesIn script old result new = Goes world script old result new
-
-  -- ---- what they come to
-
-  abbrev Sums : List SessionEvent → Work D L → Work D L → Type 0
+  abbrev Sums : List Event → Work D L → Work D L → Type 0
   Sums events old new = AreDone shown written_in adds events old new
 
-  none_done : (s t : Work D L) → t ≡ s → Sums [] s t
-  none_done s t same = record {
-    drawn = takes_none shown s.display t.display (ap (λ x. x.display) same);
-    wrote = takes_none written_in s.lines t.lines (ap (λ x. x.lines) same);
-    history_is = ap (λ x. x.history) same ∙ sym (remembered_none adds s.history);
-    left_is = ap (λ x. x.coming) same;
-  }
+  pub none_done : (s : Work D L) → Sums [] s s
+  none_done s = record { drawn = takes_none shown s.display s.display refl; wrote = takes_none written_in s.lines s.lines refl; history_is = sym (remembered_none adds s.history); left_is = refl; answered = tt }
 
-  one_done : (event : SessionEvent) (s t : Work D L) → IsDone shown written_in adds s event t → Sums (event ∷ []) s t
-  one_done (Draws bytes) s t (took, same) = record {
-    drawn = subst (Takes shown s.display t.display) (sym (append-nil bytes)) took;
-    wrote = takes_none written_in s.lines t.lines (ap (λ x. x.lines) same);
-    history_is = ap (λ x. x.history) same ∙ sym (remembered_none adds s.history);
-    left_is = ap (λ x. x.coming) same;
-  }
-  one_done (Helped fails) s t (answers, same) = let r = none_done s t same in record { drawn = r.drawn; wrote = r.wrote; history_is = r.history_is; left_is = r.left_is }
-  one_done (Hears rest) s t same = record {
-    drawn = takes_none shown s.display t.display (ap (λ x. x.display) same);
-    wrote = takes_none written_in s.lines t.lines (ap (λ x. x.lines) same);
-    history_is = ap (λ x. x.history) same ∙ sym (remembered_none adds s.history);
-    left_is = ap (λ x. x.coming) same;
-  }
-  one_done (Keeps line) s t same = record {
-    drawn = takes_none shown s.display t.display (ap (λ x. x.display) same);
-    wrote = takes_none written_in s.lines t.lines (ap (λ x. x.lines) same);
-    history_is = ap (λ x. x.history) same;
-    left_is = ap (λ x. x.coming) same;
-  }
-  one_done (Writes line) s t (took, same) = record {
-    drawn = takes_none shown s.display t.display (ap (λ x. x.display) same);
-    wrote = subst (Takes written_in s.lines t.lines) (sym (append-nil (line_text line))) took;
-    history_is = ap (λ x. x.history) same ∙ sym (remembered_none adds s.history);
-    left_is = ap (λ x. x.coming) same;
-  }
-
-  done_both : (xs ys : List SessionEvent) (s m t : Work D L) → Sums xs s m → Sums ys m t → Sums (xs ++ ys) s t
+  pub done_both : (xs ys : List Event) (s m t : Work D L) → Sums xs s m → Sums ys m t → Sums (xs ++ ys) s t
   done_both xs ys s m t d r = record {
-    drawn = subst (Takes shown s.display t.display) (sym (flat_map-append bytes_drawn xs ys))
+    drawn = subst (TakesAll shown s.display t.display) (sym (flat_map-append bytes_drawn xs ys))
         (takes_then shown s.display m.display t.display (flat_map bytes_drawn xs) (flat_map bytes_drawn ys) d.drawn r.drawn);
-    wrote = subst (Takes written_in s.lines t.lines) (sym (flat_map-append line_text (flat_map lines_written xs) (flat_map lines_written ys)) ∙ ap lines_text (sym (flat_map-append lines_written xs ys)))
+    wrote = subst (TakesAll written_in s.lines t.lines) (sym (flat_map-append line_text (flat_map lines_written xs) (flat_map lines_written ys)) ∙ ap lines_text (sym (flat_map-append lines_written xs ys)))
         (takes_then written_in s.lines m.lines t.lines (lines_text (flat_map lines_written xs)) (lines_text (flat_map lines_written ys)) d.wrote r.wrote);
     history_is = r.history_is ∙ (ap (λ h. remembered adds (flat_map lines_kept ys) h) d.history_is ∙ (sym (remembered_both adds (flat_map lines_kept xs) (flat_map lines_kept ys) s.history)
         ∙ ap (λ lines. remembered adds lines s.history) (sym (flat_map-append lines_kept xs ys))));
     left_is = r.left_is ∙ (ap (λ here. left_to_come here ys) d.left_is ∙ sym (left_both s.coming xs ys));
+    answered = answered_both xs ys d.answered r.answered;
   }
 
-  are_done : (events : List SessionEvent) (s t : Work D L) → Made world events s t → Sums events s t
-  are_done [] s t same = none_done s t same
-  are_done (event ∷ events) s t (none, u, made, rest) = done_both (event ∷ []) events s u t (one_done event s u made) (are_done events u t rest)
+  -- ---- all that goes, or what a fault stopped
 
-  abbrev plan : Plan SessionEvent (λ event. ⊤) ⊤ ReadlineError
-  plan = record { answer = λ c event. Ok tt; left = λ c event. c }
+  abbrev pub Goes : List Event → Work D L → Work D L → Type 0 → (ReadlineError → Type 0) → Type 0
+  Goes events s t Whole Faulted = Went shown written_in adds events s t Whole Faulted
 
-  faultless : Plays plan (λ s. tt) world
-  faultless = record { answers = λ s t event none made. refl; leaves = λ s t event none made. refl }
+  module _ (W : Type 0) (F : ReadlineError → Type 0) where
+    pub went_whole : (events : List Event) (s t : Work D L) → Sums events s t → W → Goes events s t W F
+    went_whole events s t d w = record { done = events; others = []; split = sym (append-nil events); at = t; are_done = d; stands = (w, refl) }
 
-  pub all_done : {X : Type 0} (p : SessionScript X) (x : X) (s t : Work D L) → GoesIn p s (Ok x) t → ((without_fault p).answer ≡ Ok x) × Sums (without_fault p).asks s t
-  all_done p x s t goes = let h = whole plan (λ s. tt) world faultless p x s t goes in (h.answer_is, are_done (without_fault p).asks s t h.made)
+    pub went_stopped : (done : List Event) (event : Event) (others : List Event) (s at t : Work D L) (why : ReadlineError) → Sums done s at → IsStopped shown written_in adds at event why t → F why
+        → Goes (done ++ (event ∷ others)) s t W F
+    went_stopped done event others s at t why d stops f = record { done = done; others = event ∷ others; split = refl; at = at; are_done = d; stands = (why, stops, f) }
 
-  pub first_done : {X : Type 0} (p : SessionScript X) (e : ReadlineError) (s t : Work D L) → GoesIn p s (Err e) t → (cut : Cut world (without_fault p) e s t) × Sums cut.done s cut.at
-  first_done p e s t goes = let cut = cut_first plan (λ s. tt) world faultless p e s t goes in (cut, are_done cut.done s cut.at cut.made)
+    -- it was all of them, or a fault stopped one
+    pub went_cases : {P : Type 0} (events : List Event) (s t : Work D L) → Goes events s t W F → (Sums events s t → W → P) → (Goes events s t ⊥ F → P) → P
+    went_cases {P} events s t w whole cut = by w.others w.split w.stands
+      where
+        by : (others : List Event) → events ≡ w.done ++ others → Stands shown written_in adds others w.at t W F → P
+        by [] split stands =
+            let all : Sums events s w.at = subst (λ events. Sums events s w.at) (sym (split ∙ append-nil w.done)) w.are_done in
+            whole (subst (Sums events s) (sym stands.1) all) stands.0
+        by (event ∷ others) split stands = cut (record { done = w.done; others = event ∷ others; split = split; at = w.at; are_done = w.are_done; stands = stands })
 
-  -- the end of a line comes to its outcome, and leaves the history with what was accepted
-  pub close_leaves : (o r : Result (List ℕ) ReadlineError) (s t : Work D L) → GoesIn (close_script o) s (Ok r) t → (r ≡ o) × (t.history ≡ history_after adds o s.history)
-  close_leaves (Ok text) r s t h = let all = all_done (close_script (Ok text)) r s t h in (sym (ap (value_or r) all.0), all.1.history_is)
-  close_leaves (Err e) r s t h = let all = all_done (close_script (Err e)) r s t h in (sym (ap (value_or r) all.0), all.1.history_is ∙ remembered_none adds s.history)
+    -- behind others that were done
+    pub went_behind : (xs ys : List Event) (s m t : Work D L) → Sums xs s m → Goes ys m t W F → Goes (xs ++ ys) s t W F
+    went_behind xs ys s m t d w = record {
+      done = xs ++ w.done;
+      others = w.others;
+      split = ap (λ zs. xs ++ zs) w.split ∙ sym (append_assoc xs w.done w.others);
+      at = w.at;
+      are_done = done_both xs w.done s m w.at d w.are_done;
+      stands = w.stands;
+    }
+
+    -- a fault stopped one, so those after it were not done
+    pub went_before : (xs ys : List Event) (s t : Work D L) → Goes xs s t ⊥ F → Goes (xs ++ ys) s t W F
+    went_before xs ys s t w = by w.others w.split w.stands
+      where
+        by : (others : List Event) → xs ≡ w.done ++ others → Stands shown written_in adds others w.at t ⊥ F → Goes (xs ++ ys) s t W F
+        by [] split stands = absurd (stands.0)
+        by (event ∷ others) split stands =
+            subst (λ zs. Goes zs s t W F) (sym (ap (λ zs. zs ++ ys) split ∙ append_assoc w.done (event ∷ others) ys))
+            (went_stopped w.done event (others ++ ys) s w.at t stands.0 w.are_done stands.1 stands.2)
+
+    pub went_not_whole : (events : List Event) (s t : Work D L) → Goes events s t ⊥ F → Goes events s t W F
+    went_not_whole events s t w = subst (λ zs. Goes zs s t W F) (append-nil events) (went_before events [] s t w)
+
+    -- for another reason
+    pub went_so : (G : ReadlineError → Type 0) → ((e : ReadlineError) → F e → G e) → (events : List Event) (s t : Work D L) → Goes events s t W F → Goes events s t W G
+    went_so G so events s t w = record { done = w.done; others = w.others; split = w.split; at = w.at; are_done = w.are_done; stands = by w.others w.stands }
+      where
+        by : (others : List Event) → Stands shown written_in adds others w.at t W F → Stands shown written_in adds others w.at t W G
+        by [] stands = stands
+        by (event ∷ others) stands = (stands.0, stands.1, so stands.0 stands.2)
+
+  -- no fault can have stopped one
+  pub went_not : {P : Type 0} (F : ReadlineError → Type 0) → ((e : ReadlineError) → F e → P) → (events : List Event) (s t : Work D L) → Goes events s t ⊥ F → P
+  went_not {P} F never events s t w = by w.others w.stands
+    where
+      by : (others : List Event) → Stands shown written_in adds others w.at t ⊥ F → P
+      by [] stands = absurd (stands.0)
+      by (event ∷ others) stands = never stands.0 stands.2
+
+  -- a fault stopped one of these
+  abbrev pub Broken : List Event → Work D L → ReadlineError → Work D L → Type 0
+  Broken events s why t = Goes events s t ⊥ (λ e. e ≡ why)
 
   -- ---- a line's calls on a screen; lines and history stay
 
@@ -145,7 +268,7 @@ module _ {D L : Type 0} (shown : D → List ℕ) (written_in : L → List ℕ) (
     abbrev canvas : Canvas (ScreenRenderer D)
     canvas = canvas_of shown waits show_failed
 
-    abbrev on : ScreenRenderer D → Coming → Work D L
+    abbrev pub on : ScreenRenderer D → Coming → Work D L
     on out coming = work (sink_of out) lines history coming
 
     abbrev Drawn : List Call → ScreenRenderer D → ScreenRenderer D → Type 0
@@ -154,212 +277,184 @@ module _ {D L : Type 0} (shown : D → List ℕ) (written_in : L → List ℕ) (
     screen_kept : (calls : List Call) (a b : ScreenRenderer D) → screen_of a ≡ s → Drawn calls a b → screen_of b ≡ s
     screen_kept calls a b is made = (sent_in_all shown waits show_failed calls a b made).screen ∙ is
 
-    done_call : (call : Call) (c : Coming) (a b : ScreenRenderer D) → screen_of a ≡ s → MadeIn canvas a call b → IsDone shown written_in adds (on a c) (call_event s call) (on b c)
-    done_call (Help fails) c a b is h = (h.0, ap (λ out. on out c) h.1)
-    done_call call c a b is h = let P : Screen → Type 0 = λ s. Takes shown (sink_of a) (sink_of b) (bytes_of s call) in (subst P is h.takes, refl)
+    calls_sent : (calls : List Call) (a b : ScreenRenderer D) → screen_of a ≡ s → Drawn calls a b → TakesAll shown (sink_of a) (sink_of b) (flat_map (bytes_of s) calls)
+    calls_sent calls a b is made =
+        let P : Screen → Type 0 = λ s. TakesAll shown (sink_of a) (sink_of b) (flat_map (bytes_of s) calls) in
+        subst P is (sent_in_all shown waits show_failed calls a b made).takes
 
-    calls_go : {X : Type 0} (calls : List Call) (later : SessionScript X) (c : Coming) (a b : ScreenRenderer D) (r : Result X ReadlineError) (t : Work D L) → screen_of a ≡ s → Drawn calls a b
-        → GoesIn later (on b c) r t → GoesIn (calls_then s calls later) (on a c) r t
-    calls_go [] later c a b r t is made goes = subst (λ out. GoesIn later (on out c) r t) (sym made) goes
-    calls_go (call ∷ calls) later c a b r t is (m, made, rest) goes =
-        inl (tt, on m c, done_call call c a m is made, calls_go calls later c m b r t (screen_kept (call ∷ []) a m is (m, made, refl)) rest goes)
+    call_breaks : (call : Call) (a b : ScreenRenderer D) → screen_of a ≡ s → RefusedIn canvas a call b → TakesSome shown (sink_of a) (sink_of b) (bytes_of s call)
+    call_breaks (Help fails) a b is h = absurd h
+    call_breaks call a b is h = let P : Screen → Type 0 = λ s. TakesSome shown (sink_of a) (sink_of b) (bytes_of s call) in subst P is h.begins
 
-    -- calls that the display broke off
-    call_breaks : {X : Type 0} (call : Call) (later : SessionScript X) (c : Coming) (a b : ScreenRenderer D) → screen_of a ≡ s → RefusedIn canvas a call b
-        → GoesIn (Asks (call_event s call) (λ none. later)) (on a c) (Err Display) (on b c)
-    call_breaks (Help fails) later c a b is h = absurd h
-    call_breaks call later c a b is h = let P : Screen → Type 0 = λ s. TakesSome shown (sink_of a) (sink_of b) (bytes_of s call) in inr (Display, (subst P is h.begins, refl), refl)
-
-    calls_break : {X : Type 0} (calls : List Call) (later : SessionScript X) (c : Coming) (a b : ScreenRenderer D) → screen_of a ≡ s → BrokenOff canvas calls a b
-        → GoesIn (calls_then s calls later) (on a c) (Err Display) (on b c)
+    calls_break : (calls : List Call) (a b : ScreenRenderer D) → screen_of a ≡ s → BrokenOff canvas calls a b → TakesSome shown (sink_of a) (sink_of b) (flat_map (bytes_of s) calls)
     unfolding BrokenOff
-    calls_break [] later c a b is h = absurd h
-    calls_break (call ∷ calls) later c a b is (inl h) = call_breaks call (calls_then s calls later) c a b is h
-    calls_break (call ∷ calls) later c a b is (inr (m, made, h)) =
-        inl (tt, on m c, done_call call c a m is made, calls_break calls later c m b (screen_kept (call ∷ []) a m is (m, made, refl)) h)
+    calls_break [] a b is h = absurd h
+    calls_break (call ∷ calls) a b is (inl h) = some_of_more shown (sink_of a) (sink_of b) (bytes_of s call) (flat_map (bytes_of s) calls) (call_breaks call a b is h)
+    calls_break (call ∷ calls) a b is (inr (m, made, h)) =
+        let took = subst (TakesAll shown (sink_of a) (sink_of m)) (append-nil (bytes_of s call)) (calls_sent (call ∷ []) a m is (m, made, refl)) in
+        some_then shown (sink_of a) (sink_of m) (sink_of b) (bytes_of s call) (flat_map (bytes_of s) calls) took (calls_break calls m b (screen_kept (call ∷ []) a m is (m, made, refl)) h)
 
-    calls_both : {X : Type 0} (xs ys : List Call) (later : SessionScript X) → calls_then s xs (calls_then s ys later) ≡ calls_then s (xs ++ ys) later
-    calls_both [] ys later = refl
-    calls_both (x ∷ xs) ys later = ap (λ script. Asks (call_event s x) (λ none. script)) (calls_both xs ys later)
+    steps_answered : (l : Layout) (rs : List EditStep) (a b : ScreenRenderer D) → Drawn (drawn_by s l rs).calls a b → AllAnswered (step_events s l rs)
+    steps_answered l [] a b made = tt
+    steps_answered l (DrawStep v marks redraw ∷ rs) a b made =
+        let x = asked_by (ruler_of s) marks l redraw in
+        let parts = folds_apart (MadeIn canvas) x.calls (drawn_by s x.layout rs).calls a b made in
+        steps_answered x.layout rs parts.0 b parts.2
+    steps_answered l (HelpStep v fails takes ∷ rs) a b made = (made.1.0, steps_answered l rs made.0 b made.2)
+    steps_answered l (EditingStep v edit ∷ rs) a b made = steps_answered l rs a b made
+    steps_answered l (BackStep v ∷ rs) a b made = steps_answered l rs a b made
+    steps_answered l (TakingStep v ∷ rs) a b made = steps_answered l rs a b made
 
-    -- ---- memory may be wanting before the first event
+    steps_done : (rs : List EditStep) (c : Coming) (a b : Surface (ScreenRenderer D)) → screen_of a.out ≡ s → Drawn (drawn_by s a.layout rs).calls a.out b.out → Sums (step_events s a.layout rs) (on a.out c) (on b.out c)
+    steps_done rs c a b is made =
+        let quiet = step_quiet s a.layout rs in
+        record {
+          drawn = subst (TakesAll shown (sink_of a.out) (sink_of b.out)) (sym (step_bytes s a.layout rs)) (calls_sent (drawn_by s a.layout rs).calls a.out b.out is made);
+          wrote = subst (λ xs. TakesAll written_in lines lines (lines_text xs)) (sym quiet.1) (takes_none written_in lines lines refl);
+          history_is = sym (remembered_none adds history) ∙ ap (λ xs. remembered adds xs history) (sym quiet.0);
+          left_is = sym (step_left s c a.layout rs);
+          answered = steps_answered a.layout rs a.out b.out made;
+        }
 
-    abbrev pub MayWant : {X : Type 0} → SessionScript X → Type 0
-    MayWant (Asks (Draws bytes) later) = ⊤
-    MayWant (Asks (Helped fails) later) = ⊤
-    MayWant (Asks (Hears rest) later) = ⊤
-    MayWant script = ⊥
+    -- a step that failed
+    step_stopped : (step : EditStep) (c : Coming) (e : ReadlineError) (v : Value) (a b : Surface (ScreenRenderer D)) → screen_of a.out ≡ s → StepCut canvas (ruler_of s) a step e v b
+        → IsStopped shown written_in adds (on a.out c) (step_event s a.layout step) e (on b.out c)
+    unfolding BrokenOff
+    step_stopped (DrawStep v marks redraw) c e left a b is h =
+        subst (λ why. IsStopped shown written_in adds (on a.out c) (Draws redraw (map (bytes_of s) (asked_by (ruler_of s) marks a.layout redraw).calls)) why (on b.out c)) (sym h.0)
+        (by (asked_by (ruler_of s) marks a.layout redraw).calls h.1)
+      where
+        by : (calls : List Call) → BrokenOff canvas calls a.out b.out → IsStopped shown written_in adds (on a.out c) (Draws redraw (map (bytes_of s) calls)) Display (on b.out c)
+        by [] broken = absurd broken
+        by (call ∷ calls) broken =
+            (subst (TakesSome shown (sink_of a.out) (sink_of b.out)) (sym (all_of_map (bytes_of s) (call ∷ calls))) (calls_break (call ∷ calls) a.out b.out is broken), refl)
+    step_stopped (HelpStep v fails takes) c e left a b is h = by e h.0
+      where
+        same : on b.out c ≡ on a.out c
+        same = ap (λ (x : Surface (ScreenRenderer D)). on x.out c) h.1
 
-    calls_want : {X : Type 0} (calls : List Call) (later : SessionScript X) → MayWant later → MayWant (calls_then s calls later)
-    calls_want [] later wants = wants
-    calls_want (Help fails ∷ calls) later wants = tt
-    calls_want (call ∷ calls) later wants = tt
+        by : (why : ReadlineError) → Unhelped fails takes why → IsStopped shown written_in adds (on a.out c) (Helped fails takes) why (on b.out c)
+        by Helper p = (p, same)
+        by Memory p = (p, same)
+        by _ p = absurd p
+    step_stopped (EditingStep v edit) c e left a b is h =
+        subst (λ why. IsStopped shown written_in adds (on a.out c) Takes why (on b.out c)) (sym h.0) (ap (λ (x : Surface (ScreenRenderer D)). on x.out c) h.1)
+    step_stopped (BackStep v) c e left a b is h =
+        subst (λ why. IsStopped shown written_in adds (on a.out c) Takes why (on b.out c)) (sym h.0) (ap (λ (x : Surface (ScreenRenderer D)). on x.out c) h.1)
+    step_stopped (TakingStep v) c e left a b is h =
+        subst (λ why. IsStopped shown written_in adds (on a.out c) Takes why (on b.out c)) (sym h.0) (ap (λ (x : Surface (ScreenRenderer D)). on x.out c) h.1)
 
-    read_wants : {X : Type 0} (ask : LineAsk) (rest : Coming) (later : SessionScript X) → MayWant later → MayWant (read_then ask rest later)
-    read_wants (Keys (Reads item)) rest later wants = tt
-    read_wants _ rest later wants = wants
+    step_one : (step : EditStep) (a : Surface (ScreenRenderer D)) (rs : List EditStep) → step_events s a.layout (step ∷ rs) ≡ step_events s a.layout (step ∷ []) ++ step_events s (one (ruler_of s) a.layout step).layout rs
+    step_one step a rs = refl
 
-    -- all is as it was
-    wanting : {X : Type 0} (p : SessionScript X) (x : Work D L) → MayWant p → GoesIn p x (Err Memory) x
-    wanting (Asks (Draws bytes) later) x h = inr (Memory, refl, refl)
-    wanting (Asks (Helped fails) later) x h = inr (Memory, refl, refl)
-    wanting (Asks (Hears rest) later) x h = inr (Memory, inl refl, refl)
-    wanting _ x h = absurd h
+    one_calls : (step : EditStep) (l : Layout) → (drawn_by s l (step ∷ [])).calls ≡ (one (ruler_of s) l step).calls
+    one_calls step l = append-nil (one (ruler_of s) l step).calls
 
-    stands : {X : Type 0} (why : ReadlineError) (p : SessionScript X) (c : Coming) (a b : ScreenRenderer D) → why ≡ Memory → MayWant p → b ≡ a → GoesIn p (on a c) (Err why) (on b c)
-    stands why p c a b is wants same =
-        subst (λ why. GoesIn p (on a c) (Err why) (on b c)) (sym is) (subst (λ out. GoesIn p (on a c) (Err Memory) (on out c)) (sym same) (wanting p (on a c) wants))
-
-    unhelped : {X : Type 0} (why : ReadlineError) (fails takes : Bool) (later : SessionScript X) (c : Coming) (a b : ScreenRenderer D) → Unhelped fails takes why → b ≡ a
-        → GoesIn (Asks (Helped fails) (λ none. later)) (on a c) (Err why) (on b c)
-    unhelped Helper fails takes later c a b h same = inr (Helper, (h, ap (λ out. on out c) same), refl)
-    unhelped Memory fails takes later c a b h same = inr (Memory, ap (λ out. on out c) same, refl)
-    unhelped _ fails takes later c a b h same = absurd h
-
-    -- ---- steps: one that was refused, and those of which the first were made
-
-    stopped_step : {X : Type 0} (step : EditStep) (later : SessionScript X) → MayWant later → (c : Coming) (e : Refusal) (a b : Surface (ScreenRenderer D)) → screen_of a.out ≡ s
-        → StepCut canvas (ruler_of s) a step e b → GoesIn (calls_then s (one (ruler_of s) a.layout step).calls later) (on a.out c) (Err e.fault) (on b.out c)
-    stopped_step (DrawStep v marks x) later wants c e a b is h =
-        let calls = (asked_by (ruler_of s) marks a.layout x).calls in
-        subst (λ why. GoesIn (calls_then s calls later) (on a.out c) (Err why) (on b.out c)) (sym h.0) (calls_break calls later c a.out b.out is h.1)
-    stopped_step (HelpStep v fails takes) later wants c e a b is h = unhelped e.fault fails takes later c a.out b.out h.0 (ap (λ x. x.out) h.1)
-    stopped_step (EditingStep v edit) later wants c e a b is h = stands e.fault later c a.out b.out h.0 wants (ap (λ x. x.out) h.1)
-    stopped_step (BackStep v) later wants c e a b is h = stands e.fault later c a.out b.out h.0 wants (ap (λ x. x.out) h.1)
-    stopped_step (TakingStep v) later wants c e a b is h = stands e.fault later c a.out b.out h.0 wants (ap (λ x. x.out) h.1)
-
-    stopped_steps : {X : Type 0} (steps : List EditStep) (later : SessionScript X) → MayWant later → (c : Coming) (why : ReadlineError) (v : Value) (a b : Surface (ScreenRenderer D)) → screen_of a.out ≡ s
-        → StepsStop canvas (ruler_of s) steps a why v b → GoesIn (calls_then s (drawn_by s a.layout steps).calls later) (on a.out c) (Err why) (on b.out c)
+    steps_stopped : (rs : List EditStep) (c : Coming) (why : ReadlineError) (v : Value) (a b : Surface (ScreenRenderer D)) → screen_of a.out ≡ s
+        → StepsStop canvas (ruler_of s) rs a why v b → Broken (step_events s a.layout rs) (on a.out c) why (on b.out c)
     unfolding StepsStop
-    stopped_steps [] later wants c why v a b is h = absurd (cc)
-    stopped_steps (step ∷ steps) later wants c why v a b is (inl (none, between, made, h)) =
-        let x = one (ruler_of s) a.layout step in
-        let After : Layout → Type 0 = λ l. GoesIn (calls_then s (drawn_by s l steps).calls later) (on between.out c) (Err why) (on b.out c) in
-        let rest = stopped_steps steps later wants c why v between b (screen_kept x.calls a.out between.out is made.0) h in
-        let more = (drawn_by s x.layout steps).calls in
-        subst (λ script. GoesIn script (on a.out c) (Err why) (on b.out c)) (calls_both x.calls more later)
-        (calls_go x.calls (calls_then s more later) c a.out between.out (Err why) (on b.out c) is made.0 (subst After made.1 rest))
-    stopped_steps (step ∷ steps) later wants c why v a b is (inr (e, h, same)) =
-        let x = one (ruler_of s) a.layout step in
-        let more = (drawn_by s x.layout steps).calls in
-        let why_is : e.fault ≡ why = sym (ap (λ (r : Result ⊤ Refusal). (fault_or e r).fault) same) in
-        subst (λ script. GoesIn script (on a.out c) (Err why) (on b.out c)) (calls_both x.calls more later)
-        (subst (λ why. GoesIn (calls_then s x.calls (calls_then s more later)) (on a.out c) (Err why) (on b.out c)) why_is
-        (stopped_step step (calls_then s more later) (calls_want more later wants) c e a b is h))
+    steps_stopped [] c why v a b is h = absurd h
+    steps_stopped (step ∷ rs) c why v a b is (inl (m, made, h)) =
+        let calls = (one (ruler_of s) a.layout step).calls in
+        let rest : Broken (step_events s (one (ruler_of s) a.layout step).layout rs) (on m.out c) why (on b.out c) =
+        subst (λ l. Broken (step_events s l rs) (on m.out c) why (on b.out c)) made.1 (steps_stopped rs c why v m b (screen_kept calls a.out m.out is made.0) h) in
+        went_behind ⊥ (λ e. e ≡ why) (step_events s a.layout (step ∷ [])) (step_events s (one (ruler_of s) a.layout step).layout rs) (on a.out c) (on m.out c) (on b.out c)
+        (steps_done (step ∷ []) c a m is (subst (λ calls. Drawn calls a.out m.out) (sym (one_calls step a.layout)) made.0)) rest
+    steps_stopped (step ∷ rs) c why v a b is (inr h) =
+        went_stopped ⊥ (λ e. e ≡ why) [] (step_event s a.layout step) (step_events s (one (ruler_of s) a.layout step).layout rs) (on a.out c) (on a.out c) (on b.out c) why (none_done (on a.out c))
+        (step_stopped step c why v a b is h) refl
 
-    -- ---- a line's asks, and what comes after them
+    -- ---- a line's asks
 
-    module _ (a : Setting) (indent : ℕ) {X Y : Type 0} (next : (Result X ReadlineError × LineState) → SessionScript Y) where
-      abbrev at : LineStage (ScreenRenderer D) → Work D L
+    module _ (a : Setting) (indent : ℕ) where
+      abbrev pub at : LineStage (ScreenRenderer D) → Work D L
       at x = on x.drawn.out x.kept.coming
 
-      -- the script, and what comes after it
-      abbrev drawn_then : Layout → LineState → LineScript X → SessionScript Y
-      drawn_then l k p = then (drawn_on s a indent l k p) next
-
-      -- what an answer leads to
-      abbrev answer_then : (ask : LineAsk) → (LineAnswer ask → LineScript X) → Layout → LineState → Result (LineAnswer ask) ReadlineError → SessionScript Y
-      answer_then ask later l k o = then (answered_by (λ answer. drawn_on s a indent l k (later answer)) (λ e. Ends (Err e, k)) o) next
-
-      read_parts : {Z : Type 0} (ask : LineAsk) (rest : Coming) (q : SessionScript Z) (on : Z → SessionScript Y) → then (read_then ask rest q) on ≡ read_then ask rest (then q on)
-      read_parts (Keys (Reads item)) rest q on = refl
-      read_parts _ rest q on = refl
-
-      parts : {Z : Type 0} (calls : List Call) (ask : LineAsk) (rest : Coming) (q : SessionScript Z) (on : Z → SessionScript Y)
-          → then (calls_then s calls (read_then ask rest q)) on ≡ calls_then s calls (read_then ask rest (then q on))
-      parts [] ask rest q on = read_parts ask rest q on
-      parts (call ∷ calls) ask rest q on = ap (λ script. Asks (call_event s call) (λ none. script)) (parts calls ask rest q on)
-
-      -- an ask by its parts
-      by_parts : (ask : LineAsk) (later : LineAnswer ask → LineScript X) (l : Layout) (k : LineState) → let x = drawn_by s l (effect_at a indent k ask).steps in let left = left_at a indent k ask in
-          calls_then s x.calls (read_then ask left.coming (answer_then ask later x.layout left (answer_at a indent k ask))) ≡ drawn_then l k (Asks ask later)
-      by_parts ask later l k =
-          let x = drawn_by s l (effect_at a indent k ask).steps in
+      asks_answered : (l : Layout) (k : LineState) (asks : List LineAsk) (x y : ScreenRenderer D) → Drawn (drawn_by s l (steps_along a indent k asks)).calls x y → AllAnswered (asks_events s a indent l k asks)
+      asks_answered l k [] x y made = tt
+      asks_answered l k (ask ∷ asks) x y made =
+          let rs = (effect_at a indent k ask).steps in
           let left = left_at a indent k ask in
-          sym (parts x.calls ask left.coming (answered_by (λ answer. drawn_on s a indent x.layout left (later answer)) (λ e. Ends (Err e, left)) (answer_at a indent k ask)) next)
+          let m = drawn_by s l rs in
+          let later = steps_along a indent left asks in
+          let parts = folds_apart (MadeIn canvas) m.calls (drawn_by s m.layout later).calls x y (subst (λ (q : Asked). Drawn q.calls x y) (asked_both (ruler_of s) l rs later) made) in
+          answered_both (step_events s l rs) (own_events a k ask ++ asks_events s a indent m.layout left asks) (steps_answered l rs x parts.0 parts.1)
+          (answered_both (own_events a k ask) (asks_events s a indent m.layout left asks) (own_answered s a indent k ask) (asks_answered m.layout left asks parts.0 y parts.2))
 
-      module _ (wants : (line : Result X ReadlineError × LineState) → MayWant (next line)) where
-        answer_wants : (ask : LineAsk) (later : LineAnswer ask → LineScript X) (l : Layout) (k : LineState) → ((z : LineAnswer ask) → MayWant (drawn_then l k (later z)))
-            → (o : Result (LineAnswer ask) ReadlineError) → MayWant (answer_then ask later l k o)
-        answer_wants ask later l k so (Ok z) = so z
-        answer_wants ask later l k so (Err e) = wants (Err e, k)
+      asks_done : (asks : List LineAsk) (x y : LineStage (ScreenRenderer D)) → screen_of x.drawn.out ≡ s → DrawnBy canvas (ruler_of s) (steps_along a indent x.kept asks) x.drawn y.drawn
+          → y.kept.coming ≡ (left_along a indent x.kept asks).coming → Sums (asks_events s a indent x.drawn.layout x.kept asks) (at x) (at y)
+      asks_done asks x y is made left_is =
+          let l = x.drawn.layout in
+          let quiet = asks_quiet s a indent l x.kept asks in
+          record {
+            drawn = subst (TakesAll shown (sink_of x.drawn.out) (sink_of y.drawn.out)) (sym (asks_bytes s a indent l x.kept asks))
+                (calls_sent (drawn_by s l (steps_along a indent x.kept asks)).calls x.drawn.out y.drawn.out is made.0);
+            wrote = subst (λ xs. TakesAll written_in lines lines (lines_text xs)) (sym quiet.1) (takes_none written_in lines lines refl);
+            history_is = sym (remembered_none adds history) ∙ ap (λ xs. remembered adds xs history) (sym quiet.0);
+            left_is = left_is ∙ sym (asks_left s a indent l x.kept asks);
+            answered = asks_answered l x.kept asks x.drawn.out y.drawn.out made.0;
+          }
 
-        drawn_wants : (l : Layout) (k : LineState) (p : LineScript X) → MayWant (drawn_then l k p)
-        drawn_wants l k (Ends z) = wants (Ok z, k)
-        drawn_wants l k (Asks ask later) =
-            let x = drawn_by s l (effect_at a indent k ask).steps in
-            let left = left_at a indent k ask in
-            let more = answer_then ask later x.layout left (answer_at a indent k ask) in
-            subst (λ script. MayWant script) (by_parts ask later l k)
-            (calls_want x.calls (read_then ask left.coming more) (read_wants ask left.coming more
-            (answer_wants ask later x.layout left (λ z. drawn_wants x.layout left (later z)) (answer_at a indent k ask))))
+      leaves_coming : (ask : LineAsk) (k l : LineState) (why : ReadlineError) → FaultLeaves ask k why l → l.coming ≡ k.coming
+      leaves_coming (Obeys cmd) k l why h = ap (λ (z : LineState). z.coming) h.0
+      leaves_coming _ k l why h = ap (λ (z : LineState). z.coming) h
 
-        leaves_coming : (ask : LineAsk) (k l : LineState) (why : ReadlineError) → FaultLeaves ask k why l → l.coming ≡ k.coming
-        leaves_coming (Obeys cmd) k l why h = ap (λ (z : LineState). z.coming) h.0
-        leaves_coming _ k l why h = ap (λ (z : LineState). z.coming) h
+      ask_stopped : (ask : LineAsk) (asks : List LineAsk) (why : ReadlineError) (x y : LineStage (ScreenRenderer D)) → screen_of x.drawn.out ≡ s → Stopped canvas (ruler_of s) a indent x ask why y
+          → Broken (asks_events s a indent x.drawn.layout x.kept (ask ∷ asks)) (at x) why (at y)
+      ask_stopped ask asks why x y is (inl (stops, leaves)) =
+          let rs = (effect_at a indent x.kept ask).steps in
+          let more = own_events a x.kept ask ++ asks_events s a indent (drawn_by s x.drawn.layout rs).layout (left_at a indent x.kept ask) asks in
+          let events = step_events s x.drawn.layout rs ++ more in
+          subst (λ c. Broken events (at x) why (on y.drawn.out c)) (sym (leaves_coming ask x.kept y.kept why leaves))
+          (went_before ⊥ (λ e. e ≡ why) (step_events s x.drawn.layout rs) more (at x) (on y.drawn.out x.kept.coming) (steps_stopped rs x.kept.coming why y.kept.value x.drawn y.drawn is stops))
+      ask_stopped (Keys (Reads item)) asks why x y is (inr (unread, same)) = unread_by item why unread same
+        where
+          unread_by : (item : InputItem) (why : ReadlineError) → IsReadFault item why → y ≡ line_stage x.drawn (record x.kept { coming = left_by why })
+              → Broken (Hears item ∷ asks_events s a indent x.drawn.layout (left_at a indent x.kept (Keys (Reads item))) asks) (at x) why (at y)
+          unread_by Paste Memory unread same =
+              went_stopped ⊥ (λ e. e ≡ Memory) [] (Hears Paste) (asks_events s a indent x.drawn.layout (left_at a indent x.kept (Keys (Reads Paste))) asks) (at x) (at x) (at y) Memory (none_done (at x))
+              (ap (λ (z : LineStage (ScreenRenderer D)). at z) same) refl
+          unread_by _ _ unread same = absurd unread
+      ask_stopped _ asks why x y is (inr (unread, same)) = absurd unread
 
-        -- an ask that a fault stopped
-        stopped_ask : (ask : LineAsk) (more : SessionScript Y) → MayWant more → (why : ReadlineError) (x y : LineStage (ScreenRenderer D)) → screen_of x.drawn.out ≡ s
-            → Stopped canvas (ruler_of s) a indent x ask why y
-            → GoesIn (calls_then s (drawn_by s x.drawn.layout (effect_at a indent x.kept ask).steps).calls (read_then ask (left_at a indent x.kept ask).coming more)) (at x) (Err why) (at y)
-        stopped_ask ask more wants why x y is (inl (stops, leaves)) =
-            let calls = (drawn_by s x.drawn.layout (effect_at a indent x.kept ask).steps).calls in
-            let later = read_then ask (left_at a indent x.kept ask).coming more in
-            subst (λ left. GoesIn (calls_then s calls later) (at x) (Err why) (on y.drawn.out left)) (sym (leaves_coming ask x.kept y.kept why leaves))
-            (stopped_steps (effect_at a indent x.kept ask).steps later (read_wants ask (left_at a indent x.kept ask).coming more wants) x.kept.coming why y.kept.value x.drawn y.drawn is stops)
-        stopped_ask (Keys (Reads item)) more wants why x y is (inr (unread, same)) = unread_by item why unread same
-          where
-            unread_by : (item : InputItem) (why : ReadlineError) → IsReadFault item why → y ≡ line_stage x.drawn (record x.kept { coming = left_by why })
-                → GoesIn (Asks (Hears (left_at a indent x.kept (Keys (Reads item))).coming) (λ none. more)) (at x) (Err why) (at y)
-            unread_by Paste Memory unread same = inr (Memory, inr (ap (λ (z : LineStage (ScreenRenderer D)). on z.drawn.out z.kept.coming) same), refl)
-            unread_by _ _ unread same = absurd unread
-        stopped_ask _ more wants why x y is (inr (unread, same)) = absurd unread
+      -- ---- a line
 
-        read_goes : (ask : LineAsk) (k : LineState) (later : SessionScript Y) (out : ScreenRenderer D) (r : Result Y ReadlineError) (t : Work D L) → let rest = (left_at a indent k ask).coming in
-            GoesIn later (on out rest) r t → GoesIn (read_then ask rest later) (on out k.coming) r t
-        read_goes (Keys (Reads item)) k later out r t h = inl (tt, on out (left_at a indent k (Keys (Reads item))).coming, refl, h)
-        read_goes _ k later out r t h = h
+      -- all of what is played was done, and the answer is its own
+      pub record Whole {X : Type 0} (p : LineScript X) (x y : LineStage (ScreenRenderer D)) (result : Result X ReadlineError) : Type 0 where
+        pub answer_is : (played_from a indent p x.kept).answer ≡ result
+        pub rest_is : (played_from a indent p x.kept).rest ≡ y.kept
+        pub are_done : Sums (asks_events s a indent x.drawn.layout x.kept (played_from a indent p x.kept).asks) (at x) (at y)
 
-        -- one that was answered, or refused by the input
-        onward : (ask : LineAsk) (later : LineAnswer ask → LineScript X) (o : Result (LineAnswer ask) ReadlineError) (x v : LineStage (ScreenRenderer D)) (r : Result Y ReadlineError) (t : Work D L) → screen_of x.drawn.out ≡ s
-            → Answered canvas (ruler_of s) a indent x ask o v → GoesIn (answer_then ask later v.drawn.layout v.kept o) (at v) r t → GoesIn (drawn_then x.drawn.layout x.kept (Asks ask later)) (at x) r t
-        onward ask later o x v r t is (answer_is, kept_is, drawn) goes =
-            let first = drawn_by s x.drawn.layout (effect_at a indent x.kept ask).steps in
-            let left = left_at a indent x.kept ask in
-            let G : Layout → LineState → Result (LineAnswer ask) ReadlineError → Type 0 = λ l k o. GoesIn (answer_then ask later l k o) (on v.drawn.out k.coming) r t in
-            let here = subst (λ o. G first.layout left o) (sym answer_is) (subst (λ k. G first.layout k o) kept_is (subst (λ l. G l v.kept o) drawn.1 goes)) in
-            let more = answer_then ask later first.layout left (answer_at a indent x.kept ask) in
-            subst (λ script. GoesIn script (at x) r t) (by_parts ask later x.drawn.layout x.kept)
-            (calls_go first.calls (read_then ask left.coming more) x.kept.coming x.drawn.out v.drawn.out r t is drawn.0
-            (read_goes ask x.kept more v.drawn.out r t here))
+      -- or a fault stopped it
+      abbrev pub Cut : {X : Type 0} → LineScript X → LineStage (ScreenRenderer D) → LineStage (ScreenRenderer D) → Result X ReadlineError → Type 0
+      Cut p x y result = Goes (asks_events s a indent x.drawn.layout x.kept (played_from a indent p x.kept).asks) (at x) (at y) ⊥ (λ e. (result ≡ Err e) × reason_of true ⊤ e)
 
-        -- what comes after it goes on from its answer, or a fault stopped it
-        abbrev pub Went : LineScript X → LineStage (ScreenRenderer D) → LineStage (ScreenRenderer D) → Result X ReadlineError → Type 0
-        Went p x y result =
-            ((r : Result Y ReadlineError) (t : Work D L) → GoesIn (next (result, y.kept)) (at y) r t → GoesIn (drawn_then x.drawn.layout x.kept p) (at x) r t)
-            ⊎ ((e : ReadlineError) × GoesIn (drawn_then x.drawn.layout x.kept p) (at x) (Err e) (at y) × (result ≡ Err e) × reason_of true ⊤ e)
-
-        pub went : (p : LineScript X) (x y : LineStage (ScreenRenderer D)) (result : Result X ReadlineError) → screen_of x.drawn.out ≡ s → Goes (line_world canvas (ruler_of s) a indent) p x result y → Went p x y result
-        went (Ends z) x y result is (same, stays) =
-            inl (λ r t h.
-            subst (λ (u : LineStage (ScreenRenderer D)). GoesIn (next (Ok z, u.kept)) (at u) r t) stays
-            (subst (λ q. GoesIn (next (q, y.kept)) (at y) r t) same h))
-        went (Asks ask later) x y result is (inl (z, v, made, goes)) =
-            let first = drawn_by s x.drawn.layout (effect_at a indent x.kept ask).steps in
-            elim (went (later z) v y result (screen_kept first.calls x.drawn.out v.drawn.out is made.2.0) goes) [
-              | inl f ↦ inl (λ r t h. onward ask later (Ok z) x v r t is made (f r t h))
-              | inr c ↦ inr (c.0, onward ask later (Ok z) x v (Err c.0) (at y) is made c.1, c.2, c.3)
-            ]
-        went (Asks ask later) x y result is (inr (e, inl refused, same)) =
-            inl (λ r t h. onward ask later (Err e) x y r t is refused (subst (λ q. GoesIn (next (q, y.kept)) (at y) r t) same h))
-        went (Asks ask later) x y result is (inr (e, inr stopped, same)) =
-            let first = drawn_by s x.drawn.layout (effect_at a indent x.kept ask).steps in
-            let left = left_at a indent x.kept ask in
-            let more = answer_then ask later first.layout left (answer_at a indent x.kept ask) in
-            inr (
-              e,
-              subst (λ script. GoesIn script (at x) (Err e) (at y)) (by_parts ask later x.drawn.layout x.kept)
-                  (stopped_ask ask more (answer_wants ask later first.layout left (λ z. drawn_wants first.layout left (later z)) (answer_at a indent x.kept ask)) e x y is stopped),
-              same,
-              stopped_cause canvas (ruler_of s) a indent ask x y e stopped,
-            )
+      pub line_went : {X : Type 0} (p : LineScript X) (x y : LineStage (ScreenRenderer D)) (result : Result X ReadlineError) → screen_of x.drawn.out ≡ s → GoesOn (line_world canvas (ruler_of s) a indent) p x result y
+          → Whole p x y result ⊎ Cut p x y result
+      line_went {X} p x y result is goes = by (went canvas (ruler_of s) a indent p x y result goes)
+        where
+          by : AllDone canvas (ruler_of s) a indent (played_from a indent p x.kept) x y result ⊎ StoppedIn canvas (ruler_of s) a indent (played_from a indent p x.kept) x y result → Whole p x y result ⊎ Cut p x y result
+          by (inl h) =
+              let q = played_from a indent p x.kept in
+              inl (record {
+                answer_is = h.answer_is;
+                rest_is = h.rest_is;
+                are_done = asks_done q.asks x y is h.drawn (ap (λ (k : LineState). k.coming) (sym h.rest_is ∙ sym (rest_along a indent p x.kept)));
+              })
+          by (inr h) =
+              let q = played_from a indent p x.kept in
+              let first = asks_done h.done x h.at is h.drawn (ap (λ (k : LineState). k.coming) h.kept_is) in
+              let now : screen_of h.at.drawn.out ≡ s = screen_kept (drawn_by s x.drawn.layout (steps_along a indent x.kept h.done)).calls x.drawn.out h.at.drawn.out is h.drawn.0 in
+              let next = ask_stopped h.ask h.others h.fault h.at y now h.stopped in
+              let E : Layout → LineState → List Event = λ l k. asks_events s a indent l k (h.ask ∷ h.others) in
+              let there = (drawn_by s x.drawn.layout (steps_along a indent x.kept h.done)).layout in
+              let placed : Broken (E there (left_along a indent x.kept h.done)) (at h.at) h.fault (at y) =
+              subst (λ k. Broken (E there k) (at h.at) h.fault (at y)) h.kept_is (subst (λ l. Broken (E l h.at.kept) (at h.at) h.fault (at y)) h.drawn.1 next) in
+              let mine = asks_events s a indent x.drawn.layout x.kept h.done in
+              let both = went_behind ⊥ (λ e. e ≡ h.fault) mine (E there (left_along a indent x.kept h.done)) (at x) (at h.at) (at y) first placed in
+              let cause = stopped_cause canvas (ruler_of s) a indent h.ask h.at y h.fault h.stopped in
+              let split = ap (asks_events s a indent x.drawn.layout x.kept) h.first ∙ asks_both s a indent x.drawn.layout x.kept h.done (h.ask ∷ h.others) in
+              inr (went_so ⊥ (λ e. e ≡ h.fault) (λ e. (result ≡ Err e) × reason_of true ⊤ e)
+              (λ e is. (h.result_is ∙ ap (λ e. Err e) (sym is), subst (reason_of true ⊤) (sym is) cause))
+              (asks_events s a indent x.drawn.layout x.kept q.asks) (at x) (at y)
+              (subst (λ events. Broken events (at x) h.fault (at y)) (sym split) both))

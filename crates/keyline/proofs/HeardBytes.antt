@@ -46,7 +46,7 @@ abbrev High : List ℕ → List ℕ → Type 0
 High (b ∷ bs) (d ∷ ds) = ((d == 0x5B) ≡ false) × ((d == 0x4F) ≡ false)
 High here there = ⊥
 
--- the characters of the one are the first of the other, or it ends before that: where nothing more is
+-- the characters of the one are the first of the other, or it ends before that: if nothing more is
 -- there, or inside what is no whole character
 abbrev CharsOpen : List ℕ → Chars → List ℕ → Chars → Type 0
 CharsOpen here (Next c behind rest) there (Next d beyond more) =

@@ -1,8 +1,9 @@
--- Lines and sessions over what opens more: the same, or cut at a read that draws nothing more.
-use Rattle.std.proofs.Common.{◌≡◌, ◌⊎◌, inl, inr, ℕ, zero, suc, false, List, [], ◌∷◌, ◌++◌, Option, None, refl, sym, ap, ◌∙◌, subst, append-nil, append_assoc, Result, Ok, Err}
-use Rattle.std.specs.Prelude.{OnOk, IfErr, flat_map}
-use Rattle.std.proofs.lemmas.Grind.{flat_map-append}
+-- Lines and sessions over what opens more: the same, or cut at a read after which nothing is done.
+use Rattle.std.proofs.Common.{◌≡◌, ◌⊎◌, inl, inr, ℕ, zero, suc, Bool, false, List, [], ◌∷◌, ◌++◌, refl, sym, ap, ◌∙◌, subst, append-nil, append_assoc, Result, Ok, Err}
+use Rattle.std.specs.Prelude.{OnOk, IfErr, if◌then◌else◌}
+use Rattle.line_buffer.specs.declared.layout.Layout.{Layout}
 use Rattle.line_config.specs.declared.errors.ReadlineError.{ReadlineError}
+use Rattle.line_config.specs.declared.device.Last.TheVariants.{Failed as SourceFailed}
 use Rattle.line_help.specs.History.{Filed}
 use Rattle.line_keys.specs.Coming.{Coming, Pressed, Pasted, CutOff, Ends as NoMore, Refused, behind, left}
 use Rattle.line_keys.specs.Coming.LastItem.{End as EndItem, Bad, Failed}
@@ -11,22 +12,22 @@ use Rattle.line_config.specs.Played.{Played, asked_first, played_on}
 use Rattle.line_config.specs.Scripts.{Ends, Asks}
 use Rattle.line_keys.specs.Phrases.{Reads}
 use Rattle.line_record.specs.Ring.{Ring}
-use Rattle.line_editor.specs.Courses.{Open, breaks_after, steps_in, LineReport}
-use Rattle.line_editor.specs.LineScripts.{Begins as BeginsTurn, Keys, LineState, LineAsk, LineScript, answer_at, effect_at, left_at, line_script, played_from, steps_along, reported_from, turns_along}
+use Rattle.line_editor.specs.Courses.{breaks_after}
+use Rattle.line_editor.specs.LineScripts.{Keys, LineState, LineAsk, LineScript, answer_at, effect_at, left_at, line_script, played_from, steps_along}
 use Rattle.line_editor.specs.Redraws.{fresh}
 use Rattle.line_editor.specs.Running.{kept_first}
-use Rattle.line_editor.specs.Sights.{sight_of, info_after}
 use Rattle.line_editor.specs.Steps.{asked}
-use Rattle.line_editor.specs.Values.{Setting, EditStep}
-use Rattle.line_editor.proofs.StopsLemmas.{asked_both}
-use Rattle.line_editor.proofs.ToldLemmas.{left_along, played_each, steps_both, turns_steps}
-use Rattle.line_screen.specs.Calls.{Screen, bytes_of, ruler_of}
-use Rattle.line_screen.specs.Drawing.{break_if}
+use Rattle.line_editor.specs.Values.{Setting}
+use Rattle.line_editor.proofs.ToldLemmas.{left_along, played_each}
+use Rattle.line_screen.specs.Calls.{Screen, ruler_of}
+use Rattle.keyline.specs.Events.{Begins, Breaks, Course, Event, Hears, asks_events, end_events, going_on, line_course, own_events, played_in, session, step_events}
 use Rattle.keyline.specs.SessionLaws.{IsBeginning, LinesBegin, SessionsBegin}
-use Rattle.keyline.specs.Sessions.{Given, SessionState, Report, line_in, setting_in, after_line, history_after, line_reported, line_bytes, breaks, display_bytes, LineGiven, for_line, screens_for, session_by}
+use Rattle.keyline.specs.Sessions.{Given, SessionState, coming_from, setting_in, state_over, history_after, LineGiven, for_line}
+use Rattle.keyline.specs.Shows.{drawn_by}
+use Rattle.keyline.proofs.EventLemmas.{asks_both}
 use Rattle.keyline.proofs.HeardBytes.{NeverEnds, Agrees, Opens, bytes_open}
 
--- ---- a read that is refused
+-- ---- a read that fails
 
 refused_unbroken : (item : InputItem) (h : Coming) → NeverEnds h → IfErr (item_at item h) (λ e. breaks_after e ≡ false)
 refused_unbroken Key (Pressed k rest) never = tt
@@ -124,181 +125,155 @@ module _ (s : Setting) (indent : ℕ) where
       let rest = left_at s indent k ask in
       unheard ask (λ x c. played_from s indent (t x) (over rest c)) rest h c on (λ x. goes (t x) rest h c on) (answer_at s indent k ask)
 
-  -- the turns of asks are the same, whatever comes
-  turns_unheard : (o : Result (List ℕ) ReadlineError) (k : LineState) (h c : Coming) (drawn : List EditStep) (info : Option (List ℕ)) (asks : List LineAsk)
-      → turns_along s indent o (over k h) drawn info asks ≡ turns_along s indent o (over k c) drawn info asks
-  turns_unheard o k h c drawn info [] = refl
-  turns_unheard o k h c drawn info (BeginsTurn ∷ asks) =
-      let stands = info_after drawn info in ap (λ turns. Open drawn (sight_of s k.value stands) ∷ turns) (turns_unheard o k h c [] stands asks)
-  turns_unheard o k h c drawn info (Keys (Reads item) ∷ asks) = turns_unheard o k (left (item_at item h) (behind h)) (left (item_at item c) (behind c)) (drawn ++ []) info asks
-  turns_unheard o k h c drawn info (ask ∷ asks) = turns_unheard o (left_at s indent k ask) h c (drawn ++ (effect_at s indent k ask).steps) info asks
+-- ---- events
 
--- ---- a line
-
-record SameLine (t u : LineReport) : Type 0 where
-  turns : t.turns ≡ u.turns
-  outcome : t.outcome ≡ u.outcome
-  ring : t.ring ≡ u.ring
-  rest : Opens t.rest u.rest
-
-record StoppedLine (t u : LineReport) : Type 0 where
-  why : ReadlineError
-  outcome : t.outcome ≡ Err why
-  unbroken : breaks_after why ≡ false
-  later : List EditStep
-  begins : flat_map steps_in u.turns ≡ flat_map steps_in t.turns ++ later
-
-abbrev LineGoes : LineReport → LineReport → Type 0
-LineGoes t u = SameLine t u ⊎ StoppedLine t u
-
-line_goes : (s : Setting) (indent : ℕ) (script : LineScript (List ℕ)) (k : LineState) (h c : Coming) → Opens h c → LineGoes (reported_from s indent script (over k h)) (reported_from s indent script (over k c))
-line_goes s indent script k h c on = by (goes s indent script k h c on)
-  where
-    by : Goes (played_from s indent script (over k h)) (played_from s indent script (over k c)) → LineGoes (reported_from s indent script (over k h)) (reported_from s indent script (over k c))
-    by (inl same) =
-        let p = played_from s indent script (over k h) in
-        let q = played_from s indent script (over k c) in
-        inl (record {
-          turns = turns_unheard s indent p.answer k h c [] None p.asks
-              ∙ ap (λ o. turns_along s indent o (over k c) [] None p.asks) same.answer
-              ∙ ap (turns_along s indent q.answer (over k c) [] None) same.asks;
-          outcome = same.answer;
-          ring = same.ring;
-          rest = same.rest;
-        })
-    by (inr cut) =
-        let p = played_from s indent script (over k h) in
-        let q = played_from s indent script (over k c) in
-        let more = steps_along s indent (left_along s indent (over k c) p.asks) cut.later in
-        inr (record {
-          why = cut.why;
-          outcome = cut.answer;
-          unbroken = cut.unbroken;
-          later = more;
-          begins = turns_steps s indent q.answer (over k c) [] None q.asks
-              ∙ ap (steps_along s indent (over k c)) cut.begins
-              ∙ steps_both s indent (over k c) p.asks cut.later
-              ∙ ap (λ steps. steps ++ more) (sym (turns_steps s indent p.answer (over k c) [] None p.asks) ∙ ap (flat_map steps_in) (sym (turns_unheard s indent p.answer k h c [] None p.asks)));
-        })
-
-abbrev bytes_for : Screen → List EditStep → List ℕ
-bytes_for s xs = flat_map (bytes_of s) (asked (ruler_of s) (fresh s.mode) xs).calls
-
-bytes_both : (s : Screen) (xs ys : List EditStep) → IsBeginning (bytes_for s xs) (bytes_for s (xs ++ ys))
-bytes_both s xs ys =
-    let a = asked (ruler_of s) (fresh s.mode) xs in (
-      flat_map (bytes_of s) (asked (ruler_of s) a.layout ys).calls,
-      ap (λ x. flat_map (bytes_of s) x.calls) (asked_both (ruler_of s) (fresh s.mode) xs ys) ∙ flat_map-append (bytes_of s) a.calls (asked (ruler_of s) a.layout ys).calls,
-    )
+events_unheard : (s : Screen) (a : Setting) (indent : ℕ) (l : Layout) (k : LineState) (h c : Coming) (asks : List LineAsk)
+    → asks_events s a indent l (over k h) asks ≡ asks_events s a indent l (over k c) asks
+events_unheard s a indent l k h c [] = refl
+events_unheard s a indent l k h c (Keys (Reads item) ∷ asks) =
+    ap (λ events. Hears item ∷ events) (events_unheard s a indent l k (left (item_at item h) (behind h)) (left (item_at item c) (behind c)) asks)
+events_unheard s a indent l k h c (ask ∷ asks) =
+    let steps = (effect_at a indent k ask).steps in
+    ap (λ events. step_events s l steps ++ (own_events a k ask ++ events)) (events_unheard s a indent (asked (ruler_of s) l steps).layout (left_at a indent k ask) h c asks)
 
 -- what goes on further
 further : {A : Type 0} (xs ys zs : List A) → IsBeginning xs ys → IsBeginning xs (ys ++ zs)
 further xs ys zs begins = (begins.0 ++ zs, ap (λ r. r ++ zs) begins.1 ∙ append_assoc xs begins.0 zs)
 
--- a line that is cut draws no new row
-cut_bytes : (s : Screen) (t : LineReport) (o : Result (List ℕ) ReadlineError) (why : ReadlineError) → o ≡ Err why → breaks_after why ≡ false
-    → bytes_for s (flat_map steps_in t.turns) ++ break_if (breaks o) ≡ bytes_for s (flat_map steps_in t.turns)
-cut_bytes s t o why is unbroken =
-    let drawn = bytes_for s (flat_map steps_in t.turns) in
-    ap (λ x. drawn ++ break_if (breaks x)) is ∙ (ap (λ b. drawn ++ break_if b) unbroken ∙ append-nil drawn)
+behind_both : {A : Type 0} (xs ys zs : List A) → IsBeginning ys zs → IsBeginning (xs ++ ys) (xs ++ zs)
+behind_both xs ys zs begins = (begins.0, ap (λ r. xs ++ r) begins.1 ∙ sym (append_assoc xs ys begins.0))
 
-stopped_bytes : (s : Screen) (t u : LineReport) → StoppedLine t u → IsBeginning (line_bytes s t) (line_bytes s u)
-stopped_bytes s t u cut =
-    let drawn = flat_map steps_in t.turns in
-    let begins = subst (λ r. IsBeginning (bytes_for s drawn) (bytes_for s r)) (sym cut.begins) (bytes_both s drawn cut.later) in
-    subst (λ x. IsBeginning x (line_bytes s u)) (sym (cut_bytes s t t.outcome cut.why cut.outcome cut.unbroken))
-    (further (bytes_for s drawn) (bytes_for s (flat_map steps_in u.turns)) (break_if (breaks u.outcome)) begins)
+-- a line that is cut gets no new row
+nothing_after : (why : ReadlineError) → breaks_after why ≡ false → end_events (Err why) ≡ []
+nothing_after why unbroken = ap (λ b. if b then Breaks ∷ [] else []) unbroken
 
-same_bytes : (s : Screen) (t u : LineReport) → SameLine t u → line_bytes s t ≡ line_bytes s u
-same_bytes s t u same =
-    ap (λ turns. bytes_for s (flat_map steps_in turns) ++ break_if (breaks t.outcome)) same.turns
-    ∙ ap (λ o. bytes_for s (flat_map steps_in u.turns) ++ break_if (breaks o)) same.outcome
-
-line_begins : (s : Screen) (t u : LineReport) → LineGoes t u → IsBeginning (line_bytes s t) (line_bytes s u)
-line_begins s t u (inl same) = ([], sym (same_bytes s t u same) ∙ sym (append-nil (line_bytes s t)))
-line_begins s t u (inr cut) = stopped_bytes s t u cut
-
--- ---- a session
+-- ---- a line
 
 abbrev state_at : Ring → Filed → Coming → SessionState
 state_at ring history coming = record { ring = ring; history = history; coming = coming }
 
-in_goes : (n : ℕ) (g : Given) (ring : Ring) (history : Filed) (h c : Coming) → Opens h c → LineGoes (line_in n g (state_at ring history h)) (line_in n g (state_at ring history c))
-in_goes n g ring history h c on =
-    let s = setting_in g history.kept.entries in line_goes s g.config.indent_size (line_script n g.custom) (kept_first s g.config ring h) h c on
+module _ (n : ℕ) (g : Given) (ring : Ring) (history : Filed) (h c : Coming) (on : Opens h c) where
+  abbrev one : Course (Result (List ℕ) ReadlineError × SessionState)
+  one = line_course n g (state_at ring history h)
 
--- of lines, each on the screen of its number
-record Begins (s : ℕ → Screen) (fewer all : Report) : Type 0 where
-  drawn : IsBeginning (display_bytes s fewer.told) (display_bytes s all.told)
-  accepted : IsBeginning fewer.accepted all.accepted
+  abbrev other : Course (Result (List ℕ) ReadlineError × SessionState)
+  other = line_course n g (state_at ring history c)
 
-abbrev from_next : (ℕ → Screen) → ℕ → Screen
-from_next s line = s (suc line)
+  record SameLine : Type 0 where
+    events : one.events ≡ other.events
+    outcome : one.answer.0 ≡ other.answer.0
+    ring_is : one.answer.1.ring ≡ other.answer.1.ring
+    rest : Opens one.answer.1.coming other.answer.1.coming
 
--- both go on by the same text
-then_begins : {A : Type 0} (xs ys zs : List A) → IsBeginning ys zs → IsBeginning (xs ++ ys) (xs ++ zs)
-then_begins xs ys zs begins = (begins.0, ap (λ r. xs ++ r) begins.1 ∙ sym (append_assoc xs ys begins.0))
+  record StoppedLine : Type 0 where
+    why : ReadlineError
+    outcome : one.answer.0 ≡ Err why
+    begins : IsBeginning one.events other.events
 
-reported_bytes : (s : ℕ → Screen) (u : LineReport) (o : Result (List ℕ) ReadlineError) (later : Report) → IsBeginning (line_bytes (s 0) u) (display_bytes s (line_reported u o later).told)
-reported_bytes s u (Ok text) later = (display_bytes (from_next s) later.told, refl)
-reported_bytes s u (Err e) later = ([], refl)
+  abbrev setting : Setting
+  setting = setting_in g history.kept.entries
 
-stopped_begins : (s : ℕ → Screen) (t u : LineReport) (o : Result (List ℕ) ReadlineError) (one other : Report) → StoppedLine t u
-    → Begins s (line_reported t t.outcome one) (line_reported u o other)
-stopped_begins s t u o one other cut =
-    let more = reported_bytes s u o other in
-    let begins = further (line_bytes (s 0) t) (line_bytes (s 0) u) more.0 (stopped_bytes (s 0) t u cut) in
-    subst (λ x. Begins s (line_reported t x one) (line_reported u o other)) (sym cut.outcome) (record {
-      drawn = subst (λ x. IsBeginning x (display_bytes s (line_reported u o other).told)) (sym (append-nil (line_bytes (s 0) t)))
-          (subst (λ x. IsBeginning (line_bytes (s 0) t) x) (sym more.1) begins);
-      accepted = ((line_reported u o other).accepted, refl);
-    })
+  abbrev first : Coming → LineState
+  first c = kept_first setting g.config ring c
 
-module _ (s : ℕ → Screen) (t u : LineReport) (same : SameLine t u) where
-  same_begins : (o : Result (List ℕ) ReadlineError) (one other : Report) → OnOk o (Begins (from_next s) one other) → Begins s (line_reported t o one) (line_reported u o other)
-  same_begins (Ok text) one other later = record {
-    drawn = subst (λ x. IsBeginning (line_bytes (s 0) t ++ display_bytes (from_next s) one.told) (x ++ display_bytes (from_next s) other.told)) (same_bytes (s 0) t u same)
-        (then_begins (line_bytes (s 0) t) (display_bytes (from_next s) one.told) (display_bytes (from_next s) other.told) later.drawn);
-    accepted = then_begins (text ∷ []) one.accepted other.accepted later.accepted;
-  }
-  same_begins (Err e) one other later = record {
-    drawn = subst (λ x. IsBeginning (line_bytes (s 0) t ++ []) (x ++ [])) (same_bytes (s 0) t u same) ([], sym (append-nil (line_bytes (s 0) t ++ [])));
-    accepted = ([], refl);
-  }
+  abbrev asks_in : Coming → List LineAsk → List Event
+  asks_in c asks = asks_events g.screen setting g.config.indent_size (fresh g.screen.mode) (first c) asks
 
-on_any : {A E P : Type 0} (o : Result A E) → P → OnOk o P
-on_any (Ok x) p = p
-on_any (Err e) p = tt
+  line_goes : SameLine ⊎ StoppedLine
+  line_goes = by (goes setting g.config.indent_size (line_script n g.custom) (first h) h c on)
+    where
+      p : Play (List ℕ)
+      p = played_in n g (state_at ring history h)
+
+      q : Play (List ℕ)
+      q = played_in n g (state_at ring history c)
+
+      by : Goes p q → SameLine ⊎ StoppedLine
+      by (inl same) = inl (record {
+        events = ap (λ events. Begins g.screen ∷ (events ++ end_events p.answer))
+            (events_unheard g.screen setting g.config.indent_size (fresh g.screen.mode) (first h) h c p.asks ∙ ap (asks_in c) same.asks)
+            ∙ ap (λ o. Begins g.screen ∷ (asks_in c q.asks ++ end_events o)) same.answer;
+        outcome = same.answer;
+        ring_is = same.ring;
+        rest = same.rest;
+      })
+      by (inr cut) =
+          let l = fresh g.screen.mode in
+          let mine = asks_in c p.asks in
+          let more = asks_events g.screen setting g.config.indent_size (drawn_by g.screen l (steps_along setting g.config.indent_size (first c) p.asks)).layout
+          (left_along setting g.config.indent_size (first c) p.asks) cut.later in
+          let fewer : one.events ≡ Begins g.screen ∷ mine =
+          ap (λ events. Begins g.screen ∷ (events ++ end_events p.answer)) (events_unheard g.screen setting g.config.indent_size l (first h) h c p.asks)
+          ∙ ap (λ events. Begins g.screen ∷ (mine ++ events)) (ap end_events cut.answer ∙ nothing_after cut.why cut.unbroken)
+          ∙ ap (λ events. Begins g.screen ∷ events) (append-nil mine) in
+          let all : other.events ≡ (Begins g.screen ∷ mine) ++ (more ++ end_events q.answer) =
+          ap (λ asks. Begins g.screen ∷ (asks_in c asks ++ end_events q.answer)) cut.begins
+          ∙ ap (λ events. Begins g.screen ∷ (events ++ end_events q.answer)) (asks_both g.screen setting g.config.indent_size l (first c) p.asks cut.later)
+          ∙ ap (λ events. Begins g.screen ∷ events) (append_assoc mine more (end_events q.answer)) in
+          inr (record {
+            why = cut.why;
+            outcome = cut.answer;
+            begins = (more ++ end_events q.answer, all ∙ ap (λ events. events ++ (more ++ end_events q.answer)) (sym fewer));
+          })
+
+-- ---- a session
 
 session_begins : (n : ℕ) (g : Given) (at : ℕ → LineGiven) (ring : Ring) (history : Filed) (h c : Coming) → Opens h c
-    → Begins (screens_for g at) (session_by n g at (state_at ring history h)) (session_by n g at (state_at ring history c))
-unfolding session_by
-session_begins zero g at ring history h c on = record { drawn = ([], refl); accepted = ([], refl) }
+    → IsBeginning (session n g at (state_at ring history h)).events (session n g at (state_at ring history c)).events
+unfolding session
+session_begins zero g at ring history h c on = ([], refl)
 session_begins (suc n) g at ring history h c on =
-    let x = state_at ring history h in
-    let y = state_at ring history c in
-    let s = screens_for g at in
-    let next : ℕ → LineGiven = λ line. at (suc line) in
-    let t = line_in (suc n) (for_line g (at 0)) x in
-    let u = line_in (suc n) (for_line g (at 0)) y in
-    let B : Report → Type 0 = Begins s (line_reported t t.outcome (session_by n g next (after_line g t x))) in
-    elim (in_goes (suc n) (for_line g (at 0)) ring history h c on) [
-      | inr cut ↦ stopped_begins s t u u.outcome (session_by n g next (after_line g t x)) (session_by n g next (after_line g u y)) cut
-      | inl same ↦
-          let kept = history_after g.config.auto_add_history t.outcome history in
-          let later = session_begins n g next t.ring kept t.rest u.rest same.rest in
-          subst (λ o. B (line_reported u o (session_by n g next (state_at u.ring (history_after g.config.auto_add_history o history) u.rest)))) same.outcome
-          (subst (λ r. B (line_reported u t.outcome (session_by n g next (state_at r kept u.rest)))) same.ring
-          (same_begins s t u same t.outcome (session_by n g next (after_line g t x)) (session_by n g next (state_at t.ring kept u.rest)) (on_any t.outcome later)))
-    ]
+    by (λ r kept h c on. session_begins n g (λ line. at (suc line)) r kept h c on) (line_goes (suc n) first ring history h c on)
+  where
+    So : Type 0
+    So = (r : Ring) (kept : Filed) (h c : Coming) → Opens h c
+        → IsBeginning (session n g (λ line. at (suc line)) (state_at r kept h)).events (session n g (λ line. at (suc line)) (state_at r kept c)).events
+
+    first : Given
+    first = for_line g (at 0)
+
+    next : SessionState → Course ReadlineError
+    next x = session n g (λ line. at (suc line)) x
+
+    fewer : Course (Result (List ℕ) ReadlineError × SessionState)
+    fewer = line_course (suc n) first (state_at ring history h)
+
+    all : Course (Result (List ℕ) ReadlineError × SessionState)
+    all = line_course (suc n) first (state_at ring history c)
+
+    adds : Bool
+    adds = g.config.auto_add_history
+
+    on_line : So → (o : Result (List ℕ) ReadlineError) (r : Ring) (h c : Coming) → Opens h c
+        → IsBeginning (going_on next (o, state_at r (history_after adds o history) h)).events (going_on next (o, state_at r (history_after adds o history) c)).events
+    on_line so (Ok text) r h c on = so r (history_after adds (Ok text) history) h c on
+    on_line so (Err e) r h c on = ([], refl)
+
+    by : So → SameLine (suc n) first ring history h c on ⊎ StoppedLine (suc n) first ring history h c on
+        → IsBeginning (fewer.events ++ (going_on next fewer.answer).events) (all.events ++ (going_on next all.answer).events)
+    by so (inl same) =
+        let hears : Result (List ℕ) ReadlineError → Ring → List Event = λ o r. (going_on next (o, state_at r (history_after adds o history) all.answer.1.coming)).events in
+        let P : List Event → Result (List ℕ) ReadlineError → Ring → Type 0 = λ events o r. IsBeginning (fewer.events ++ (going_on next fewer.answer).events) (events ++ hears o r) in
+        subst (λ events. P events all.answer.0 all.answer.1.ring) same.events
+        (subst (λ o. P fewer.events o all.answer.1.ring) same.outcome
+        (subst (λ r. P fewer.events fewer.answer.0 r) same.ring_is
+        (behind_both fewer.events (going_on next fewer.answer).events (hears fewer.answer.0 fewer.answer.1.ring) (on_line so fewer.answer.0 fewer.answer.1.ring fewer.answer.1.coming all.answer.1.coming same.rest))))
+    by so (inr cut) =
+        let y = fewer.answer.1 in
+        let P : Result (List ℕ) ReadlineError → Type 0 = λ o. IsBeginning (fewer.events ++ (going_on next (o, y)).events) (all.events ++ (going_on next all.answer).events) in
+        subst P (sym cut.outcome)
+        (subst (λ events. IsBeginning events (all.events ++ (going_on next all.answer).events)) (sym (append-nil fewer.events)) (further fewer.events all.events (going_on next all.answer).events cut.begins))
 
 -- ---- the laws
 
 pub lines_begin : LinesBegin
-lines_begin n g ring history mode bytes more last =
-    line_begins g.screen _ _ (in_goes n g ring history _ _ (bytes_open mode bytes more last))
+lines_begin n g ring history mode bytes more last = by (line_goes n g ring history _ _ (bytes_open mode bytes more last))
+  where
+    by : SameLine n g ring history (coming_from mode bytes SourceFailed) (coming_from mode (bytes ++ more) last) (bytes_open mode bytes more last)
+        ⊎ StoppedLine n g ring history (coming_from mode bytes SourceFailed) (coming_from mode (bytes ++ more) last) (bytes_open mode bytes more last)
+        → IsBeginning (line_course n g (state_over ring history mode bytes SourceFailed)).events (line_course n g (state_over ring history mode (bytes ++ more) last)).events
+    by (inl same) = ([], sym same.events ∙ sym (append-nil _))
+    by (inr cut) = cut.begins
 
 pub sessions_begin : SessionsBegin
-sessions_begin n g at ring history mode bytes more last =
-    let begins = session_begins n g at ring history _ _ (bytes_open mode bytes more last) in
-    (begins.drawn, begins.accepted)
+sessions_begin n g at ring history mode bytes more last = session_begins n g at ring history _ _ (bytes_open mode bytes more last)

@@ -2,17 +2,17 @@ pub mod CloseLemmas
 pub mod CuttingLemmas
 pub mod DeskLemmas
 pub mod EditLemmas
-pub mod EventLaw
 pub mod EventLemmas
+mod FaultRows
 pub mod HeardBytes
 pub mod HeardLines
 pub mod LinesLemmas
 pub mod OneByteLemmas
+pub mod OrderLemmas
 pub mod OptionsLemmas
 pub mod PasteLemmas
 pub mod PlayedLemmas
 pub mod PlaysLemmas
-pub mod SessionCourse
 pub mod SessionLawLemmas
 pub mod SessionSteps
 pub mod ShowCourse

@@ -4,8 +4,9 @@ use Rattle.line_config.specs.declared.errors.ReadlineError.{ReadlineError}
 use Rattle.line_screen.specs.Calls.{sink_of}
 use Rattle.line_screen.specs.declared.renderer.ScreenRenderer.{ScreenRenderer}
 use Rattle.keyline.specs.Desks.{TakesLine, TakesLines, desk_feed, session_state_of}
+use Rattle.keyline.specs.Events.{session}
 use Rattle.keyline.specs.Known.{Known, HasPassedOn}
-use Rattle.keyline.specs.Playing.{Work, Reads, work}
+use Rattle.keyline.specs.Playing.{Went, Work, work}
 use Rattle.keyline.specs.Sessions.{Given, LineGiven, each, for_line}
 use Rattle.keyline.specs.declared.desk.Desk.{Desk}
 use Rattle.keyline.proofs.SessionSteps.{Onward, Onwards, onward_nowhere, onward_ok, onward_err}
@@ -69,8 +70,9 @@ module _ {S H D L : Type 0} (k : Known S D L) where
         m,
         b,
         λ end why r.
+            let lines = session m g at' (session_state_of k now) in
             let P : D → Type 0 = λ display.
-            Reads k.shown k.written_in m g at' (session_state_of k now) (work display now.lines now.history (desk_feed k now).coming) end why in
+            Went k.shown k.written_in g.config.auto_add_history lines.events (work display now.lines now.history (desk_feed k now).coming) end (why ≡ lines.answer) (λ e. why ≡ e) in
             so end why (subst P same r),
       )
 

@@ -1,5 +1,5 @@
 -- The count of one byte.
-use Rattle.std.proofs.Common.{◌≡◌, ℕ, ◌+◌, ◌<◌, not, nat_lt, nat_le, Bool, true, false, List, [], ◌∷◌, ◌++◌, take, Option, Some, None, is_some, encode_utf8, refl, ap, ◌∙◌, append-nil, arith, if◌then◌else◌}
+use Rattle.std.proofs.Common.{◌≡◌, ℕ, ◌<◌, not, nat_lt, nat_le, Bool, true, false, List, [], ◌∷◌, ◌++◌, take, Option, Some, None, is_some, encode_utf8, refl, ap, ◌∙◌, append-nil, arith, if◌then◌else◌}
 use Rattle.std.specs.List.{flat_map}
 use Rattle.std.proofs.lemmas.Bool.{and_parts, and_from, not-true, ltb-true}
 use Rattle.std.proofs.lemmas.Str.{encode_ascii}
@@ -128,7 +128,7 @@ turned_steps n a custom indent k c alone =
     ∙ ap (λ (v : Value). first ++ ((insert_char c 1 a v).steps ++ [])) alone.value_is
     ∙ ap (λ steps. first ++ steps) (append-nil (insert_char c 1 a k.value).steps)
 
--- behind steps that ask nothing
+-- after steps that call nothing
 unasked_bytes : (s : Screen) (l : Layout) (xs ys : List EditStep) → drawn_by s l xs ≡ nothing_asked l → bytes_for s l (xs ++ ys) ≡ bytes_for s l ys
 unasked_bytes s l xs ys none =
     ap (λ (x : Asked). flat_map (bytes_of s) x.calls) (asked_both (ruler_of s) l xs ys)

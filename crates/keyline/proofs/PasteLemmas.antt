@@ -44,8 +44,7 @@ use Rattle.line_editor.specs.Accepting.{accept_or_insert}
 use Rattle.line_editor.specs.Asks.{shown_in}
 use Rattle.line_editor.specs.Commands.{in_vi_command, means_of}
 use Rattle.line_editor.specs.Drawing.{refreshed}
-use Rattle.line_editor.specs.LineScripts.{Begins, Keys, Obeys, LineState, LineAsk, beginning, kept, keyed, left_at, line_plan, line_script, obeying, phrase_script, played_from, reported_from, turn_script, turned_on, turns_script, line_begun}
-use Rattle.line_editor.specs.Courses.{LineReport}
+use Rattle.line_editor.specs.LineScripts.{Begins, Keys, Obeys, LineState, LineAsk, beginning, kept, keyed, left_at, line_plan, line_script, obeying, phrase_script, played_from, turn_script, turned_on, turns_script, line_begun}
 use Rattle.line_editor.specs.NextCommand.{reset_by, with_group_begun}
 use Rattle.line_editor.specs.Moving.{cursor_moved_if}
 use Rattle.line_editor.specs.Values.{Setting, Value, empty_at, first_value, unchanged, then_do, at_line}
@@ -314,9 +313,9 @@ bytes_of_a_paste = refl
 plain_setting : Setting
 plain_setting = record { prompt = []; column = 0; mode = Unicode; hooks = None; marks = None; entries = [] }
 
-pasted_in : InputMode → List ℕ → LineReport
+pasted_in : InputMode → List ℕ → Played LineAsk LineState ReadlineError (List ℕ)
 pasted_in input_mode text =
-    reported_from plain_setting 2 (turns_script 2 nothing_bound)
+    played_from plain_setting 2 (turns_script 2 nothing_bound)
     (kept (empty_at 0) (input_with Vi input_mode Noop None) (new_ring 60) (coming_from Vi (sent_as_paste text ++ 0x0D ∷ codes "b") End))
 
 later : Coming

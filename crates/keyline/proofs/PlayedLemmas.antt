@@ -1,9 +1,8 @@
 -- A session by options, over all that is said of its keys.
-use Rattle.std.proofs.Common.{◌≡◌, ℕ, ◌+◌, ◌<◌, ◌^◌, Bool, true, false, IsTrue, List, [], ◌++◌, Option, inl, inr, refl, sym, ap, subst, ◌∙◌, arith}
+use Rattle.std.proofs.Common.{◌≡◌, ℕ, ◌+◌, ◌<◌, ◌^◌, Bool, true, false, IsTrue, List, [], ◌∷◌, ◌++◌, Option, refl, sym, ap, subst, ◌∙◌, arith}
 use Rattle.std.specs.Prelude.{if◌then◌else◌, IsErr, IsOk, OnOk, Result, Ok, Err, is_err, string_bytes, unwrap_or}
 use Rattle.line_config.specs.Feed.{AlwaysTold, Feed, fresh_feed}
 use Rattle.line_config.specs.Foretold.{left_of}
-use Rattle.line_config.specs.Scripts.{Ends, Asks}
 use Rattle.line_config.specs.Sending.{AppendsSome}
 use Rattle.line_config.specs.declared.device.Last.{Last}
 use Rattle.line_config.specs.declared.device.Last.TheVariants.{End}
@@ -12,27 +11,26 @@ use Rattle.line_config.specs.declared.errors.ReadlineError.TheVariants.{Display,
 use Rattle.line_help.specs.History.{Filed, all_saved}
 use Rattle.line_help.specs.HistoryText.{text_to_save}
 use Rattle.line_keys.specs.Coming.{Coming}
+use Rattle.line_keys.specs.Feeds.{Paste}
 use Rattle.line_record.specs.Ring.{Ring, new_ring}
 use Rattle.line_screen.specs.Calls.{Screen}
 use Rattle.line_screen.specs.Reader.{kept_of}
 use Rattle.line_screen.specs.Reading.{kept_count}
-use Rattle.keyline.specs.Desks.{desk_feed, session_state_of, work_of}
+use Rattle.keyline.specs.Desks.{GoesShown, desk_feed, session_state_of, work_of}
+use Rattle.keyline.specs.Events.{Event, Takes, Helped, Draws, Hears, Breaks, Keeps, Writes, session}
 use Rattle.keyline.specs.Known.{Known}
 use Rattle.keyline.specs.Program.{EditHelper, EditsByOptions, config_of, edit_helping, given_to, nothing_bound, PlaysBytes, program_given, program_start}
-use Rattle.keyline.specs.Playing.{IsDone, IsStopped, Reads, SessionReason, Work, work}
+use Rattle.keyline.specs.Playing.{IsStopped, SessionReason, Stands, Work, work}
 use Rattle.keyline.specs.Plays.{loaded_from, loads}
-use Rattle.keyline.specs.SessionScripts.{SessionEvent, SessionScript, Draws, Helped, Hears, Keeps, Writes, session_script}
-use Rattle.keyline.specs.Shows.{Displays}
 use Rattle.keyline.specs.Sessions.{Given, SessionState, given_of, coming_from, each}
 use Rattle.keyline.specs.declared.options.Options.{Options}
 use Rattle.keyline.specs.declared.session.Ended.{Ended}
-use Rattle.keyline.proofs.EventLemmas.{GoesIn}
 use Rattle.keyline.proofs.PlaysLemmas.{reason_at_end}
 
 below : (most kept bound n : ℕ) → kept ≡ 0 → bound ≡ most + kept → most < n → bound < n
 below most kept bound n none is low = omega arith
 
--- nothing was read, and all that is said is to come
+-- nothing was read, and all that is said is left
 pub fresh_coming : (bytes unread given : List ℕ) → unread ≡ [] → given ≡ [] → unread ++ unwrap_or (left_of bytes given) [] ≡ bytes
 unfolding left_of
 fresh_coming bytes unread given none bare = rw (none, bare) refl
@@ -74,54 +72,48 @@ module _ {D L : Type 0} (shown : D → List ℕ) (written_in : L → List ℕ) w
   abbrev in_bytes : Work D L → Work (List ℕ) (List ℕ)
   in_bytes x = work (shown x.display) (written_in x.lines) x.history x.coming
 
-  abbrev DoneInBytes : Bool → Work D L → SessionEvent → Work D L → Type 0
-  DoneInBytes adds x event y = IsDone (λ (d : List ℕ). d) (λ (l : List ℕ). l) adds (in_bytes x) event (in_bytes y)
+  abbrev seen : List ℕ → List ℕ
+  seen bytes = bytes
 
-  done_in_bytes : (adds : Bool) (x : Work D L) (event : SessionEvent) (y : Work D L) → IsDone shown written_in adds x event y → DoneInBytes adds x event y
-  done_in_bytes adds x (Draws bytes) y (took, same) = (took, ap in_bytes same)
-  done_in_bytes adds x (Helped fails) y (answers, same) = (answers, ap in_bytes same)
-  done_in_bytes adds x (Hears rest) y same = ap in_bytes same
-  done_in_bytes adds x (Keeps line) y same = ap in_bytes same
-  done_in_bytes adds x (Writes line) y (took, same) = (took, ap in_bytes same)
-
-  abbrev StoppedInBytes : Bool → Work D L → SessionEvent → ReadlineError → Work D L → Type 0
-  StoppedInBytes adds x event why y = IsStopped (λ (d : List ℕ). d) (λ (l : List ℕ). l) adds (in_bytes x) event why (in_bytes y)
-
-  stopped_in_bytes : (adds : Bool) (x : Work D L) (event : SessionEvent) (why : ReadlineError) (y : Work D L) → IsStopped shown written_in adds x event why y → StoppedInBytes adds x event why y
-  stopped_in_bytes adds x (Draws bytes) Display y (took, same) = (took, ap in_bytes same)
-  stopped_in_bytes adds x (Draws bytes) Memory y same = ap in_bytes same
-  stopped_in_bytes adds x (Helped fails) Helper y (h, same) = (h, ap in_bytes same)
-  stopped_in_bytes adds x (Helped fails) Memory y same = ap in_bytes same
-  stopped_in_bytes adds x (Hears rest) Memory y (inl same) = inl (ap in_bytes same)
-  stopped_in_bytes adds x (Hears rest) Memory y (inr same) = inr (ap in_bytes same)
+  stopped_in_bytes : (adds : Bool) (x : Work D L) (event : Event) (why : ReadlineError) (y : Work D L) → IsStopped shown written_in adds x event why y → IsStopped seen seen adds (in_bytes x) event why (in_bytes y)
+  stopped_in_bytes adds x Takes Memory y same = ap in_bytes same
+  stopped_in_bytes adds x (Helped fails takes) Helper y (h, same) = (h, ap in_bytes same)
+  stopped_in_bytes adds x (Helped fails takes) Memory y (h, same) = (h, ap in_bytes same)
+  stopped_in_bytes adds x (Draws redraw (bytes ∷ more)) Display y (took, same) = (took, ap in_bytes same)
+  stopped_in_bytes adds x (Hears Paste) Memory y same = ap in_bytes same
+  stopped_in_bytes adds x Breaks Display y (took, same) = (took, ap in_bytes same)
   stopped_in_bytes adds x (Keeps line) Memory y (h, same) = (h, ap in_bytes same)
   stopped_in_bytes adds x (Writes line) Lines y (took, same) = (took, ap in_bytes same)
   stopped_in_bytes adds x _ _ y h = absurd h
 
-  goes_in_bytes : {X : Type 0} (adds : Bool) (script : SessionScript X) (s t : Work D L) (r : Result X ReadlineError) → GoesIn shown written_in adds script s r t
-      → GoesIn (λ (d : List ℕ). d) (λ (l : List ℕ). l) adds script (in_bytes s) r (in_bytes t)
-  goes_in_bytes adds (Ends answer) s t r (is, same) = (is, ap in_bytes same)
-  goes_in_bytes adds (Asks event later) s t r (inl (none, u, made, goes)) = inl (none, in_bytes u, done_in_bytes adds s event u made, goes_in_bytes adds (later none) u t r goes)
-  goes_in_bytes adds (Asks event later) s t r (inr (why, cut, is)) = inr (why, stopped_in_bytes adds s event why t cut, is)
+  stands_in_bytes : (adds : Bool) (others : List Event) (at new : Work D L) (Whole : Type 0) (Faulted : ReadlineError → Type 0)
+      → Stands shown written_in adds others at new Whole Faulted → Stands seen seen adds others (in_bytes at) (in_bytes new) Whole Faulted
+  stands_in_bytes adds [] at new Whole Faulted h = (h.0, ap in_bytes h.1)
+  stands_in_bytes adds (event ∷ others) at new Whole Faulted h = (h.0, stopped_in_bytes adds at event h.0 new h.1, h.2)
 
-  as_bytes : (n : ℕ) (g : Given) (x : SessionState) (old new : Work D L) (why : ReadlineError) (drawn wrote : List ℕ)
+  -- what goes on a blank display and on a sink of lines that holds nothing
+  as_bytes : (adds : Bool) (events : List Event) (old new : Work D L) (Whole : Type 0) (Faulted : ReadlineError → Type 0) (drawn wrote : List ℕ)
       → shown old.display ≡ [] → drawn ≡ shown new.display → written_in old.lines ≡ [] → wrote ≡ written_in new.lines
-      → Reads shown written_in n g (each g) x old new why
-      → Reads (λ d. d) (λ l. l) n g (each g) x (work [] [] old.history old.coming) (work drawn wrote new.history new.coming) why
-  as_bytes n g x old new why drawn wrote none drawn_is bare wrote_is reads =
+      → GoesShown shown written_in adds events old new Whole Faulted
+      → GoesShown seen seen adds events (work [] [] old.history old.coming) (work drawn wrote new.history new.coming) Whole Faulted
+  as_bytes adds events old new Whole Faulted drawn wrote none drawn_is bare wrote_is goes =
       let R : List ℕ → List ℕ → List ℕ → List ℕ → Type 0 = λ a b c d.
-      Reads (λ (d : List ℕ). d) (λ (l : List ℕ). l) n g (each g) x (work a b old.history old.coming) (work c d new.history new.coming) why in
+      GoesShown seen seen adds events (work a b old.history old.coming) (work c d new.history new.coming) Whole Faulted in
+      let w = goes.went in
+      let both : R (shown old.display) (written_in old.lines) (shown new.display) (written_in new.lines) = record {
+        went = record {
+          done = w.done;
+          others = w.others;
+          split = w.split;
+          at = in_bytes w.at;
+          are_done = record { drawn = w.are_done.drawn; wrote = w.are_done.wrote; history_is = w.are_done.history_is; left_is = w.are_done.left_is; answered = w.are_done.answered };
+          stands = stands_in_bytes adds w.others w.at new Whole Faulted w.stands;
+        };
+        shows = goes.shows;
+      } in
       subst (λ a. R a [] drawn wrote) none (subst (λ b. R (shown old.display) b drawn wrote) bare
       (subst (λ c. R (shown old.display) (written_in old.lines) c wrote) (sym drawn_is)
-      (subst (λ d. R (shown old.display) (written_in old.lines) (shown new.display) d) (sym wrote_is) (both reads))))
-    where
-      goes : (result : Result ReadlineError ReadlineError) → GoesIn shown written_in g.config.auto_add_history (session_script n g (each g) x) old result new
-          → GoesIn (λ (d : List ℕ). d) (λ (l : List ℕ). l) g.config.auto_add_history (session_script n g (each g) x) (in_bytes old) result (in_bytes new)
-      goes result h = goes_in_bytes g.config.auto_add_history (session_script n g (each g) x) old new result h
-
-      both : Reads shown written_in n g (each g) x old new why → Reads (λ (d : List ℕ). d) (λ (l : List ℕ). l) n g (each g) x (in_bytes old) (in_bytes new) why
-      both (inl h) = inl (goes (Ok why) h)
-      both (inr h) = inr (goes (Err why) h)
+      (subst (λ d. R (shown old.display) (written_in old.lines) (shown new.display) d) (sym wrote_is) both)))
 
 module _ {F S D L T : Type 0} (text_of : F → Feed) (k : Known S D L) (held : T → List ℕ) (failed : T → Bool) where
   pub played : (options : Options) (words : Option (List (List ℕ))) (old bytes : List ℕ) (last : Last) (history : F) (source : S) (display : D) (lines : L) (text : T)
@@ -135,9 +127,9 @@ module _ {F S D L T : Type 0} (text_of : F → Feed) (k : Known S D L) (held : T
   played options words old bytes last history source display lines text ended display' lines' edits always text_is coming_is last_is bound_is none bare blank drawn_is shows wrote_is writes agrees =
       let desk = edits.desk in
       let opens = edits.opens in
-      let left_desk = edits.plays.last in
-      let end = edits.plays.finishes in
-      let why = edits.plays.why in
+      let left_desk = edits.runs.last in
+      let end = edits.runs.finishes in
+      let why = edits.runs.why in
       let g = program_given options words in
       let start = program_start options old bytes last in
       let given_is : given_to options desk ≡ g =
@@ -161,20 +153,19 @@ module _ {F S D L T : Type 0} (text_of : F → Feed) (k : Known S D L) (held : T
         saved = end.saved;
         loaded = subst (λ (f : Feed). IsOk (loads (config_of options) f)) text_is (opens.loaded.whole always);
         goes = λ n low.
-            let went = edits.plays.takes.goes (subst (λ (s : S). IsTrue (k.feed s).told) end.source_is agrees) n (below (2 ^ 63) (kept_count (kept_of desk.reader)) (desk_feed k desk).bound n (ap kept_count opens.kept) bound low) in
+            let went = edits.runs.takes.goes (subst (λ (s : S). IsTrue (k.feed s).told) end.source_is agrees) n (below (2 ^ 63) (kept_count (kept_of desk.reader)) (desk_feed k desk).bound n (ap kept_count opens.kept) bound low) in
             let G : Given → SessionState → Type 0 = λ g x.
-            Reads k.shown k.written_in n g (each g) x (work_of k desk) (work_of k left_desk) why in
+            let lines = session n g (each g) x in
+            GoesShown k.shown k.written_in g.config.auto_add_history lines.events (work_of k desk) (work_of k left_desk) (why ≡ lines.answer) (λ e. why ≡ e) in
             let r = subst (λ (x : SessionState). G g x) start_is (subst (λ (g : Given). G g (session_state_of k desk)) given_is went) in
+            let lines = session n g (each g) start in
             let H : Filed → Coming → Type 0 = λ h c.
-            Reads (λ (d : List ℕ). d) (λ (l : List ℕ). l) n g (each g) start (work [] [] h c)
-            (work (k.shown display') (k.written_in lines') left_desk.history left) why in
+            GoesShown (λ (d : List ℕ). d) (λ (l : List ℕ). l) g.config.auto_add_history lines.events (work [] [] h c)
+            (work (k.shown display') (k.written_in lines') left_desk.history left) (why ≡ lines.answer) (λ e. why ≡ e) in
             subst (λ (c : Coming). H loaded_is c) coming (subst (λ (h : Filed). H h (desk_feed k desk).coming) history_is
-            (as_bytes k.shown k.written_in n g start (work_of k desk) (work_of k left_desk) why
+            (as_bytes k.shown k.written_in g.config.auto_add_history lines.events (work_of k desk) (work_of k left_desk) (why ≡ lines.answer) (λ e. why ≡ e)
             (k.shown display') (k.written_in lines')
             (ap k.shown opens.display_is ∙ none) (drawn_is ∙ ap k.shown end.display_is) (ap k.written_in opens.lines_are ∙ bare) (wrote_is ∙ ap k.written_in end.lines_are) r));
-        shows =
-            let P : Given → SessionState → Type 0 = λ g x. Displays g x in
-            subst (λ (x : SessionState). P g x) start_is (subst (λ (g : Given). P g (session_state_of k desk)) given_is edits.shows);
         done = λ s. (end.saves.done s).1 ∙ ap (λ front. front ++ text_to_save left_desk.history) blank;
         refused = λ s.
             let r = end.saves.refused s in
@@ -186,5 +177,5 @@ module _ {F S D L T : Type 0} (text_of : F → Feed) (k : Known S D L) (held : T
         reason = reason_still g (k.feed ended.source).failed (k.show_failed ended.display) (k.show_failed display') (k.write_failed ended.lines) (k.write_failed lines')
             why shows writes
             (subst (λ (g : Given). SessionReason g (k.feed ended.source).failed (k.show_failed ended.display) (k.write_failed ended.lines) why) given_is
-            (reason_at_end k held failed (given_to options desk) left_desk text why ended end edits.plays.takes.reason));
+            (reason_at_end k held failed (given_to options desk) left_desk text why ended end edits.runs.takes.reason));
       }

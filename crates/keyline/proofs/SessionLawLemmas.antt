@@ -1,30 +1,130 @@
 -- What columns matter to, and what a history holds.
-use Rattle.std.proofs.Common.{◌≡◌, ℕ, zero, suc, ◌≤◌, Bool, true, false, List, [], ◌∷◌, ◌++◌, length, refl, sym, ap, ◌∙◌, append_assoc, append-nil, arith, if◌then◌else◌}
-use Rattle.line_editor.specs.Courses.{LineReport}
-use Rattle.line_editor.specs.Running.{line_meant}
-use Rattle.line_editor.specs.Values.{Setting}
+use Rattle.std.proofs.Common.{◌≡◌, ℕ, zero, suc, ◌≤◌, Bool, true, false, List, [], ◌∷◌, ◌++◌, length, map, Result, Ok, Err, refl, sym, ap, ◌∙◌, subst, append_assoc, append-nil, arith, if◌then◌else◌}
+use Rattle.std.specs.List.{flat_map}
+use Rattle.line_buffer.specs.declared.layout.Layout.{Layout}
+use Rattle.line_config.specs.declared.errors.ReadlineError.{ReadlineError}
+use Rattle.line_editor.specs.LineScripts.{LineAsk, LineState, effect_at, left_at, steps_along}
+use Rattle.line_editor.specs.Redraws.{fresh}
+use Rattle.line_editor.specs.Running.{kept_first, line_played}
+use Rattle.line_editor.specs.Steps.{one}
+use Rattle.line_editor.specs.Values.{EditStep, Setting}
+use Rattle.line_editor.specs.Values.EditStep.{Draws as DrawStep, Helped as HelpStep, Edits as EditingStep, TakesBack as BackStep, Takes as TakingStep}
 use Rattle.line_help.specs.History.{Filed, nothing_filed, ignored, filed_with_all, newest, unsaved_after}
 use Rattle.line_help.proofs.NewestLemmas.{all_new, length-newest, newest_behind}
-use Rattle.keyline.specs.SessionLaws.{at_columns, prompt_column, ColumnsAreFree, taken_of, LastAreKept}
-use Rattle.keyline.specs.Sessions.{Given, SessionState, setting_in, line_in, after_line, line_reported, session, session_by}
+use Rattle.line_screen.specs.Calls.{Screen, ruler_of}
+use Rattle.keyline.specs.Events.{Course, Begins, Takes, Helped, Draws, asks_events, end_events, events_first, going_on, line_course, lines_kept, own_events, session, step_events}
+use Rattle.keyline.specs.SessionLaws.{at_columns, prompt_column, unmeasured, ColumnsAreFree, LineColumnsAreFree, taken_of, LastAreKept}
+use Rattle.keyline.specs.Sessions.{Given, SessionState, each, setting_in, state_after}
+use Rattle.keyline.specs.Shows.{drawn_by}
 
 -- ---- columns
+
+mapped_both : {A B : Type 0} (f : A → B) (xs ys : List A) → map f (xs ++ ys) ≡ map f xs ++ map f ys
+mapped_both f [] ys = refl
+mapped_both f (x ∷ xs) ys = ap (λ zs. f x ∷ zs) (mapped_both f xs ys)
+
+module _ (s t : Screen) where
+  -- whatever is kept of the drawing
+  step_alike : (l m : Layout) (rs : List EditStep) → map unmeasured (step_events s l rs) ≡ map unmeasured (step_events t m rs)
+  step_alike l m [] = refl
+  step_alike l m (DrawStep v marks redraw ∷ rs) = ap (λ events. Draws redraw [] ∷ events) (step_alike (one (ruler_of s) l (DrawStep v marks redraw)).layout (one (ruler_of t) m (DrawStep v marks redraw)).layout rs)
+  step_alike l m (HelpStep v fails takes ∷ rs) = ap (λ events. Helped fails takes ∷ events) (step_alike l m rs)
+  step_alike l m (EditingStep v edit ∷ rs) = ap (λ events. Takes ∷ events) (step_alike l m rs)
+  step_alike l m (BackStep v ∷ rs) = ap (λ events. Takes ∷ events) (step_alike l m rs)
+  step_alike l m (TakingStep v ∷ rs) = ap (λ events. Takes ∷ events) (step_alike l m rs)
+
+  asks_alike : (a : Setting) (indent : ℕ) (l m : Layout) (k : LineState) (asks : List LineAsk) → map unmeasured (asks_events s a indent l k asks) ≡ map unmeasured (asks_events t a indent m k asks)
+  asks_alike a indent l m k [] = refl
+  asks_alike a indent l m k (ask ∷ asks) =
+      let rs = (effect_at a indent k ask).steps in
+      let left = left_at a indent k ask in
+      let own = own_events a k ask in
+      let one_rest = asks_events s a indent (drawn_by s l rs).layout left asks in
+      let other_rest = asks_events t a indent (drawn_by t m rs).layout left asks in
+      mapped_both unmeasured (step_events s l rs) (own ++ one_rest)
+      ∙ ap (λ events. events ++ map unmeasured (own ++ one_rest)) (step_alike l m rs)
+      ∙ ap (λ events. map unmeasured (step_events t m rs) ++ events) (mapped_both unmeasured own one_rest
+      ∙ ap (λ events. map unmeasured own ++ events) (asks_alike a indent (drawn_by s l rs).layout (drawn_by t m rs).layout left asks)
+      ∙ sym (mapped_both unmeasured own other_rest))
+      ∙ sym (mapped_both unmeasured (step_events t m rs) (own ++ other_rest))
 
 setting_at : Given → List (List ℕ) → ℕ → Setting
 setting_at g entries column = record (setting_in g entries) { column = column }
 
-line_same : (n : ℕ) (g : Given) (x : SessionState) (columns : ℕ) → prompt_column (at_columns columns g) ≡ prompt_column g → line_in n (at_columns columns g) x ≡ line_in n g x
+-- a line on one screen and on another, by one setting
+abbrev course_on : ℕ → Given → SessionState → Screen → Setting → Course (Result (List ℕ) ReadlineError × SessionState)
+course_on n g x s a =
+    let k = kept_first a g.config x.ring x.coming in
+    let p = line_played n a g.custom g.config x.ring x.coming in
+    record {
+      events = Begins s ∷ (asks_events s a g.config.indent_size (fresh s.mode) k p.asks ++ end_events p.answer);
+      answer = (p.answer, state_after g.config.auto_add_history p.answer p.rest.ring p.rest.coming x);
+    }
+
+record Alike {X : Type 0} (c d : Course X) : Type 0 where
+  events : map unmeasured c.events ≡ map unmeasured d.events
+  answer : c.answer ≡ d.answer
+
+lines_alike : (n : ℕ) (g : Given) (x : SessionState) (columns : ℕ) → prompt_column (at_columns columns g) ≡ prompt_column g → Alike (line_course n (at_columns columns g) x) (line_course n g x)
 unfolding setting_at
-line_same n g x columns e = ap (λ column. line_meant n (setting_at g x.history.kept.entries column) g.custom g.config x.ring x.coming) e
+lines_alike n g x columns e =
+    let other = at_columns columns g in
+    let s = other.screen in
+    let entries = x.history.kept.entries in
+    let a = setting_in g entries in
+    let p = line_played n a g.custom g.config x.ring x.coming in
+    let k = kept_first a g.config x.ring x.coming in
+    let asks = λ (s : Screen). asks_events s a g.config.indent_size (fresh s.mode) k p.asks in
+    let same : line_course n other x ≡ course_on n g x s a = ap (λ column. course_on n g x s (setting_at g entries column)) e in
+    let alike : Alike (course_on n g x s a) (line_course n g x) = record {
+      events = ap (λ events. Begins (record s { columns = 0 }) ∷ events)
+          (mapped_both unmeasured (asks s) (end_events p.answer)
+          ∙ ap (λ events. events ++ map unmeasured (end_events p.answer)) (asks_alike s g.screen a g.config.indent_size (fresh s.mode) (fresh g.screen.mode) k p.asks)
+          ∙ sym (mapped_both unmeasured (asks g.screen) (end_events p.answer)));
+      answer = refl;
+    } in
+    subst (λ c. Alike c (line_course n g x)) (sym same) alike
+
+-- a line, and what comes after it
+line_first : (c d : Course (Result (List ℕ) ReadlineError × SessionState)) (f h : SessionState → Course ReadlineError) → Alike c d → ((x : SessionState) → Alike (f x) (h x))
+    → Alike (events_first c.events (going_on f c.answer)) (events_first d.events (going_on h d.answer))
+line_first c d f h alike so =
+    subst (λ answer. Alike (events_first c.events (going_on f c.answer)) (events_first d.events (going_on h answer))) alike.answer (by c.answer.0)
+  where
+    y : SessionState
+    y = c.answer.1
+
+    first : (one other : Course ReadlineError) → Alike one other → Alike (events_first c.events one) (events_first d.events other)
+    first one other is = record {
+      events = mapped_both unmeasured c.events one.events ∙ ap (λ events. events ++ map unmeasured one.events) alike.events ∙ ap (λ events. map unmeasured d.events ++ events) is.events
+          ∙ sym (mapped_both unmeasured d.events other.events);
+      answer = is.answer;
+    }
+
+    by : (o : Result (List ℕ) ReadlineError) → Alike (events_first c.events (going_on f (o, y))) (events_first d.events (going_on h (o, y)))
+    by (Ok text) = first (f y) (h y) (so y)
+    by (Err e) = first (record { events = []; answer = e }) (record { events = []; answer = e }) (record { events = refl; answer = refl })
+
+sessions_alike : (n : ℕ) (g : Given) (columns : ℕ) → prompt_column (at_columns columns g) ≡ prompt_column g → (x : SessionState)
+    → (let other = at_columns columns g in Alike (session n other (each other) x) (session n g (each g) x))
+unfolding session
+sessions_alike zero g columns e x = record { events = refl; answer = refl }
+sessions_alike (suc n) g columns e x =
+    let other = at_columns columns g in
+    line_first (line_course (suc n) other x) (line_course (suc n) g x) (session n other (each other)) (session n g (each g)) (lines_alike (suc n) g x columns e) (sessions_alike n g columns e)
 
 pub columns_are_free : ColumnsAreFree
-unfolding session_by
-columns_are_free zero g x columns e = refl
-columns_are_free (suc n) g x columns e =
-    let other = at_columns columns g in
-    let t = line_in (suc n) g x in
-    ap (λ (t : LineReport). line_reported t t.outcome (session n other (after_line other t x))) (line_same (suc n) g x columns e)
-    ∙ ap (line_reported t t.outcome) (columns_are_free n g (after_line g t x) columns e)
+columns_are_free n g x columns e = let h = sessions_alike n g columns e x in (h.events, h.answer)
+
+pub line_columns_are_free : LineColumnsAreFree
+unfolding setting_at
+line_columns_are_free n g x columns e =
+    let at : ℕ → Setting = setting_at g x.history.kept.entries in
+    let first : Setting → LineState = λ a. kept_first a g.config x.ring x.coming in
+    let played = λ (a : Setting). line_played n a g.custom g.config x.ring x.coming in (
+      ap (λ column. played (at column)) e,
+      ap (λ column. steps_along (at column) g.config.indent_size (first (at column)) (played (at column)).asks) e,
+    )
 
 -- ---- the history
 
@@ -58,4 +158,4 @@ kept_from (line ∷ lines) filed few = by_test (ignored filed.kept.settings file
         ∙ ap (newest max) (append_assoc entries (line ∷ []) (taken_of (next false) lines))
 
 pub last_are_kept : LastAreKept
-last_are_kept n g at x settings = kept_from (session_by n g at x).accepted (nothing_filed settings) (omega arith)
+last_are_kept n g at x settings = kept_from (flat_map lines_kept (session n g at x).events) (nothing_filed settings) (omega arith)

@@ -1,18 +1,19 @@
 -- Lines one after the other make a session: a line in front of a session, and the line that ends it.
-use Rattle.std.proofs.Common.{◌≡◌, ℕ, zero, suc, ◌<◌, List, inl, inr, refl, sym, ap, subst, IsTrue, Result, Ok, Err, IfErr, OnOk, arith}
-use Rattle.std.specs.Prelude.{⊤}
-use Rattle.line_config.specs.Scripts.{World, Ends, Goes, then}
+use Rattle.std.proofs.Common.{◌≡◌, ℕ, zero, suc, ◌<◌, List, [], ◌++◌, refl, sym, ap, subst, append-nil, IsTrue, Result, Ok, Err, IfErr, OnOk, arith}
 use Rattle.line_config.specs.declared.errors.ReadlineError.{ReadlineError}
 use Rattle.line_config.specs.declared.errors.ReadlineError.TheVariants.{Handler}
-use Rattle.line_config.proofs.ScriptLaws.{fault_or, ok_not_err, then_cut, then_goes}
+use Rattle.line_config.proofs.ScriptLaws.{err_in, fault_or, ok_not_err}
 use Rattle.line_keys.specs.Answers.{HandlerFails}
 use Rattle.line_screen.specs.Calls.{sink_of}
 use Rattle.keyline.specs.Desks.{TakesLine, TakesLines, DeskReason, desk_feed, session_state_of, work_of}
+use Rattle.keyline.specs.Events.{Course, events_first, going_on, line_course, session}
 use Rattle.keyline.specs.Known.{Known, HasPassedOn}
-use Rattle.keyline.specs.Playing.{Work, ComesTo, Reads, session_world}
-use Rattle.keyline.specs.SessionScripts.{SessionEvent, SessionScript, answered_by, one_line, session_script}
+use Rattle.keyline.specs.Playing.{AreDone, Went, Work}
 use Rattle.keyline.specs.Sessions.{Given, LineGiven, SessionState, for_line}
+use Rattle.keyline.specs.Shows.{EachShown}
 use Rattle.keyline.specs.declared.desk.Desk.{Desk}
+use Rattle.keyline.proofs.EventLemmas.{Goes, went_before, went_behind, went_cases, went_not, went_so, went_whole}
+use Rattle.keyline.proofs.ShowCourse.{first_shown, sessions_show}
 
 lower : (a b m : ℕ) → a < b → b < suc m → a < m
 lower a b m less below = search arith
@@ -22,7 +23,9 @@ lower a b m less below = search arith
 module _ {S H D L : Type 0} (k : Known S D L) where
   -- a session from this desk on
   abbrev pub Onwards : ℕ → Given → (ℕ → LineGiven) → Desk S H D L → Work D L → ReadlineError → Type 0
-  Onwards n g at d end why = Reads k.shown k.written_in n g at (session_state_of k d) (work_of k d) end why
+  Onwards n g at d end why =
+      let lines = session n g at (session_state_of k d) in
+      Went k.shown k.written_in g.config.auto_add_history lines.events (work_of k d) end (why ≡ lines.answer) (λ e. why ≡ e)
 
 -- lines were taken: what is read, drawn, kept and written from here on is, with them, what is so from the first desk on
 pub record Onward {S H D L : Type 0} (k : Known S D L) (g : Given) (at at' : ℕ → LineGiven) (first now : Desk S H D L) : Type 0 where
@@ -37,37 +40,55 @@ module _ {S H D L : Type 0} (k : Known S D L) where
 
   abbrev LineComes : Given → ℕ → Desk S H D L → Desk S H D L → Result (List ℕ) ReadlineError → Type 0
   LineComes g n now next result =
-      ComesTo k.shown k.written_in g.config.auto_add_history (one_line n g (session_state_of k now)) (work_of k now) (result, session_state_of k next) (work_of k next) result
+      let line = line_course n g (session_state_of k now) in
+      Went k.shown k.written_in g.config.auto_add_history line.events (work_of k now) (work_of k next)
+      ((result, session_state_of k next) ≡ line.answer) (λ e. result ≡ Err e)
 
   module _ (g : Given) (at : ℕ → LineGiven) (n : ℕ) (now next : Desk S H D L) where
-    abbrev world : World SessionEvent (λ event. ⊤) (Work D L) ReadlineError
-    world = session_world k.shown k.written_in g.config.auto_add_history
+    abbrev line : Course (Result (List ℕ) ReadlineError × SessionState)
+    line = line_course (suc n) (for_line g (at 0)) (session_state_of k now)
 
-    abbrev first_line : SessionScript (Result (List ℕ) ReadlineError × SessionState)
-    first_line = one_line (suc n) (for_line g (at 0)) (session_state_of k now)
+    abbrev later : SessionState → Course ReadlineError
+    later = session n g (λ line. at (suc line))
 
-    abbrev on : Result (List ℕ) ReadlineError × SessionState → SessionScript ReadlineError
-    on line = answered_by (λ text. session_script n g (λ line. at (suc line)) line.1) (λ e. Ends e) line.0
+    -- what such a line's answer leads to
+    abbrev led : Result (List ℕ) ReadlineError × SessionState → Course ReadlineError
+    led answer = events_first line.events (going_on later answer)
+
+    abbrev Ends : Course ReadlineError → Work D L → ReadlineError → Type 0
+    Ends c end why = Goes k.shown k.written_in g.config.auto_add_history c.events (work_of k now) end (why ≡ c.answer) (λ e. why ≡ e)
+
+    abbrev Whole : Result (List ℕ) ReadlineError → Type 0
+    Whole result = (result, session_state_of k next) ≡ line.answer
 
     -- a line that was accepted, and a session after it
     line_on : (said : List ℕ) → LineComes (for_line g (at 0)) (suc n) now next (Ok said)
         → (end : Work D L) (why : ReadlineError) → Onwards k n g (λ line. at (suc line)) next end why → Onwards k (suc n) g at now end why
-    unfolding session_script
-    line_on said (inl w) end why (inl r) = inl (then_goes world first_line on (Ok said, session_state_of k next) (Ok why) (work_of k now) (work_of k next) end w r)
-    line_on said (inl w) end why (inr r) = inr (then_goes world first_line on (Ok said, session_state_of k next) (Err why) (work_of k now) (work_of k next) end w r)
-    line_on said (inr (why, w, is)) end e r = ok_not_err said why is
+    unfolding session
+    line_on said w end why r =
+        let rest = later (session_state_of k next) in
+        went_cases k.shown k.written_in g.config.auto_add_history (Whole (Ok said)) (λ e. Ok said ≡ Err e) line.events (work_of k now) (work_of k next) w
+        (λ done whole. subst (λ answer. Ends (led answer) end why) whole
+        (went_behind k.shown k.written_in g.config.auto_add_history (why ≡ rest.answer) (λ e. why ≡ e) line.events rest.events (work_of k now) (work_of k next) end done r))
+        (λ cut. went_not k.shown k.written_in g.config.auto_add_history (λ e. Ok said ≡ Err e) (λ e is. ok_not_err said e is) line.events (work_of k now) (work_of k next) cut)
 
     -- a line that wasn't
     line_off : (e : ReadlineError) → LineComes (for_line g (at 0)) (suc n) now next (Err e) → Onwards k (suc n) g at now (work_of k next) e
-    unfolding session_script
-    line_off e (inl w) = inl (then_goes world first_line on (Err e, session_state_of k next) (Ok e) (work_of k now) (work_of k next) (work_of k next) w (refl, refl))
-    line_off e (inr (why, w, is)) =
-        inr (subst (λ why. Goes world (then first_line on) (work_of k now) (Err why) (work_of k next)) (sym (ap (fault_or e) is)) (then_cut world first_line on why (work_of k now) (work_of k next) w))
+    unfolding session
+    line_off e w =
+        let adds = g.config.auto_add_history in
+        let more = (going_on later line.answer).events in
+        went_cases k.shown k.written_in adds (Whole (Err e)) (λ why. err_in (List ℕ) e ≡ Err why) line.events (work_of k now) (work_of k next) w
+        (λ done whole. subst (λ answer. Ends (led answer) (work_of k next) e) whole
+        (went_whole k.shown k.written_in adds (e ≡ e) (λ why. e ≡ why) (line.events ++ []) (work_of k now) (work_of k next)
+        (subst (λ events. AreDone k.shown k.written_in adds events (work_of k now) (work_of k next)) (sym (append-nil line.events)) done) refl))
+        (λ cut. went_before k.shown k.written_in adds (e ≡ (going_on later line.answer).answer) (λ why. e ≡ why) line.events more (work_of k now) (work_of k next)
+        (went_so k.shown k.written_in adds ⊥ (λ why. err_in (List ℕ) e ≡ Err why) (λ why. e ≡ why) (λ why is. ap (fault_or e) is) line.events (work_of k now) (work_of k next) cut))
 
   module _ (g : Given) (at at' : ℕ → LineGiven) (first now next : Desk S H D L) (h h' : Given) (result : Result (List ℕ) ReadlineError)
       (before : Onward k g at at' first now) (given : IsTrue (desk_feed k now).told → h ≡ for_line g (at' 0)) (line : TakesLine k h h' now next result) where
     line_comes : (n : ℕ) → IsTrue (desk_feed k next).told → (desk_feed k now).bound < n → LineComes (for_line g (at' 0)) n now next result
-    line_comes n t b = let P : Given → Type 0 = λ h. LineComes h n now next result in subst P (given (line.told t)) (line.goes t n b)
+    line_comes n t b = let P : Given → Type 0 = λ h. LineComes h n now next result in subst P (given (line.told t)) (line.goes t n b).went
 
     pub onward_ok : (text : List ℕ) → result ≡ Ok text → Onward k g at (λ line. at' (suc line)) first next
     onward_ok text is = record {
@@ -92,7 +113,13 @@ module _ {S H D L : Type 0} (k : Known S D L) where
 
     pub onward_err : (e : ReadlineError) → result ≡ Err e → h.custom ≡ g.custom → TakesLines k g at first next e
     onward_err e is custom = record {
-      goes = λ t n b. let so = before.onward (line.told t) n b in ends t so.0 so.1 (so.2 (work_of k next) e);
+      goes = λ t n b.
+          let so = before.onward (line.told t) n b in
+          let w = ends t so.0 so.1 (so.2 (work_of k next) e) in
+          record {
+            went = w;
+            shows = λ f rest. first_shown w.done w.others f (subst (EachShown f) w.split (sessions_show n g at (session_state_of k first) f rest));
+          };
       passes = λ t none. line.passes t (before.passes (line.told t) none);
       reason = let P : Result (List ℕ) ReadlineError → Type 0 = λ result. IfErr result (DeskReason k h next) in reason_kept e (subst P is line.reason);
     }

@@ -1,24 +1,39 @@
--- The display over a whole session.
-use Rattle.std.proofs.Common.{◌≡◌, ℕ, ◌≤◌, Bool, true, false, List, [], ◌∷◌, ◌++◌, Some, refl, sym, ap, ◌∙◌, subst, append_assoc, append-nil, arith, if◌then◌else◌}
+-- The display over a session's events.
+use Rattle.std.proofs.Common.{◌≡◌, ℕ, zero, suc, ◌≤◌, Bool, true, false, List, [], ◌∷◌, ◌++◌, map, Some, Result, Ok, Err, refl, sym, ap, ◌∙◌, subst, append_assoc, append-nil, arith, if◌then◌else◌}
 use Rattle.std.specs.List.{filter, flat_map}
+use Rattle.std.specs.Prelude.{⊤}
 use Rattle.line_buffer.specs.declared.layout.Layout.{Layout}
-use Rattle.line_editor.specs.Courses.{Turn, Open, Accept, Last, TurnsLead}
-use Rattle.line_editor.specs.Redraws.{fresh}
-use Rattle.line_editor.specs.Sights.{Sight, no_sight, sight, sight_all, FitsAll}
+use Rattle.line_config.specs.declared.errors.ReadlineError.{ReadlineError}
+use Rattle.line_editor.specs.Courses.{breaks_after}
+use Rattle.line_editor.specs.Leads.{BeginShows, EndShows, LeadsAlong}
+use Rattle.line_editor.specs.LineScripts.{Begins as TurnBegins, Keys, LineAsk, LineState, effect_at, left_at}
+use Rattle.line_editor.specs.Redraws.{asked_by, fresh}
+use Rattle.line_editor.specs.Running.{kept_first}
+use Rattle.line_editor.specs.Sights.{Sight, no_sight, sight, sight_all, sight_drawn, sight_as, FitsAll}
 use Rattle.line_editor.specs.Steps.{one}
-use Rattle.line_editor.specs.Values.{EditStep}
+use Rattle.line_editor.specs.Values.{EditStep, Setting}
+use Rattle.line_editor.specs.Values.EditStep.{Draws as DrawStep, Helped as HelpStep}
+use Rattle.line_editor.proofs.LineLeads.{lines_lead}
+use Rattle.line_keys.specs.InputStates.{new_input}
+use Rattle.line_keys.specs.Phrases.{Reads}
 use Rattle.line_screen.specs.Calls.{Screen, bytes_of, ruler_of}
-use Rattle.line_screen.specs.Chain.{View, Good, empty_view, finish_of, cursor_of, above}
-use Rattle.line_screen.specs.Display.{Display, Placed, meaning, at_cursor}
-use Rattle.line_screen.specs.Drawing.{row_break, break_if, next_row}
+use Rattle.line_screen.specs.Chain.{Good, Shows, empty_view, finish_of, cursor_of, above}
+use Rattle.line_screen.specs.Display.{Display, Placed, at_cursor}
+use Rattle.line_screen.specs.Drawing.{row_break, next_row}
 use Rattle.line_screen.specs.Laws.{widths}
 use Rattle.line_screen.proofs.LawLemmas.{start_is_empty, shown_is_meant, line_ends_anywhere, ended_line_stays}
-use Rattle.keyline.specs.Shows.{picture, place_in, view_in, DisplayHolds, LowAll, LowTurns, top_by, top_after, next_top, above_by, above_after, drawn_by, bytes_for, HasMeaning, MomentShown, EachShown, DrawingsShow}
+use Rattle.keyline.specs.Events.{Event, Course, Begins, Draws, Rests, Breaks, all_of, asks_events, end_events, going_on, line_course, own_events, played_in, session, step_events}
+use Rattle.keyline.specs.Sessions.{Given, LineGiven, SessionState, for_line, setting_in}
+use Rattle.keyline.specs.Shows.{picture, place_in, view_in, DisplayHolds, LowAll, top_by, top_drawn, top_after, next_top, above_by, above_drawn, above_after, drawn_by, bytes_for, Face, face, blank, drawn_on, broken, below, IsAtRest, BlankIsAtRest, HasMeaning, MomentShown, EachShown, SessionsShow}
 use Rattle.keyline.proofs.ShowSteps.{fresh_holds, step}
 
 pub flat_both : {A B : Type 0} (f : A → List B) (xs ys : List A) → flat_map f (xs ++ ys) ≡ flat_map f xs ++ flat_map f ys
 flat_both f [] ys = refl
 flat_both f (x ∷ xs) ys = ap (λ zs. f x ++ zs) (flat_both f xs ys) ∙ sym (append_assoc (f x) (flat_map f xs) (flat_map f ys))
+
+pub all_of_map : {A : Type 0} (f : A → List ℕ) (xs : List A) → all_of (map f xs) ≡ flat_map f xs
+all_of_map f [] = refl
+all_of_map f (x ∷ xs) = ap (λ zs. f x ++ zs) (all_of_map f xs)
 
 some_same : {a b : Display} → Some a ≡ Some b → a ≡ b
 some_same e = cc
@@ -40,58 +55,172 @@ module _ (s : Screen) (low : 2 ≤ s.columns) (high : s.columns ≤ 1000) (own :
   place_by : (x : Sight) (b : Bool) → x.ended ≡ b → place_in s x ≡ (if b then finish_of s.columns (widths s) (picture x) else cursor_of s.columns (widths s) (picture x))
   place_by x b e = ap (λ t. if t then finish_of s.columns (widths s) (picture x) else cursor_of s.columns (widths s) (picture x)) e
 
+  abbrev Holds : List ℕ → List Placed → ℕ → Sight → Type 0
+  Holds bytes over top x = Good s.columns (widths s) bytes over (view_in s top x)
+
+  meant : (bytes : List ℕ) (over : List Placed) (top : ℕ) (x : Sight) → Holds bytes over top x → HasMeaning (face s bytes top over x)
+  meant bytes over top x g = let m = shown_is_meant s bytes over (view_in s top x) g in record { display = m.0; means = m.1; over_is = m.3 }
+
   -- the bytes up to a moment show its value at its top
-  pub moment : (bytes : List ℕ) (over : List Placed) (top : ℕ) (x : Sight) → Good s.columns (widths s) bytes over (view_in s top x) → x.ended ≡ false → MomentShown s bytes x top over
-  moment bytes over top x g unended =
+  moment : (bytes : List ℕ) (over : List Placed) (top : ℕ) (x : Sight) (prompt text : List ℕ) (place : ℕ) → Holds bytes over top x → x ≡ sight_as prompt text place x.info
+      → MomentShown (face s bytes top over x) prompt text place
+  moment bytes over top x prompt text place g is =
       let m = shown_is_meant s bytes over (view_in s top x) g in
-      record { display = m.0; means = m.1; shows = m.4 (place_by x false unended); over_is = m.3 }
+      let P : Sight → Type 0 = λ y. Shows s.columns (widths s) (picture y) top m.0 in
+      record { display = m.0; means = m.1; shows = subst P is (m.4 (place_by x false (ap (λ (y : Sight). y.ended) is))); over_is = m.3 }
 
   -- CR LF wherever the cursor stands: every cell stays
-  pub closed : (bytes : List ℕ) (over : List Placed) (w : View) → Good s.columns (widths s) bytes over w → (breaks : Bool) → HasMeaning s (bytes ++ break_if breaks) w.top over
-  closed bytes over w g true =
-      let m = shown_is_meant s bytes over w g in
-      let e = line_ends_anywhere s (omega arith) bytes over w g in
-      record { display = at_cursor (next_row e.0.cursor) e.0; means = e.2; over_is = ap (λ (d : Display). filter (above w.top) d.placed) (some_same (sym e.1 ∙ m.1)) ∙ m.3 }
-  closed bytes over w g false =
-      let m = shown_is_meant s bytes over w g in
-      record { display = m.0; means = ap (meaning s.columns (widths s)) (append-nil bytes) ∙ m.1; over_is = m.3 }
+  closed : (bytes : List ℕ) (over : List Placed) (top : ℕ) (x : Sight) → Holds bytes over top x → HasMeaning (broken (face s bytes top over x))
+  closed bytes over top x g =
+      let m = shown_is_meant s bytes over (view_in s top x) g in
+      let e = line_ends_anywhere s (omega arith) bytes over (view_in s top x) g in
+      record { display = at_cursor (next_row e.0.cursor) e.0; means = e.2; over_is = ap (λ (d : Display). filter (above top) d.placed) (some_same (sym e.1 ∙ m.1)) ∙ m.3 }
 
   -- the next line's top, under all that stands
-  next_line : (bytes : List ℕ) (over : List Placed) (top : ℕ) (x : Sight) (g : Good s.columns (widths s) bytes over (view_in s top x)) → x.ended ≡ true
-      → (let m = closed bytes over (view_in s top x) g true in Good s.columns (widths s) (bytes ++ row_break) m.display.placed (empty_view (next_top s top x)))
+  next_line : (bytes : List ℕ) (over : List Placed) (top : ℕ) (x : Sight) (g : Holds bytes over top x) → x.ended ≡ true
+      → (let f = broken (face s bytes top over x) in let m = closed bytes over top x g in IsAtRest (below f m.display))
   unfolding closed
   next_line bytes over top x g ended =
-      let e = ended_line_stays s low high bytes over (view_in s top x) (empty_view (next_top s top x)) row_break g (record { text_is = refl; place_is = place_by x true ended; view = refl }) in
+      let next = next_top s top x in
+      let e = ended_line_stays s low high bytes over (view_in s top x) (empty_view next) row_break g (record { text_is = refl; place_is = place_by x true ended; view = refl }) in
       let closing = line_ends_anywhere s (omega arith) bytes over (view_in s top x) g in
-      subst (λ xs. Good s.columns (widths s) (bytes ++ row_break) xs (empty_view (next_top s top x))) (ap (λ (d : Display). d.placed) (some_same (sym e.1 ∙ closing.1))) e.2
+      record {
+        screen = record { least = low; most = high };
+        good = subst (λ xs. Good s.columns (widths s) (bytes ++ row_break) xs (empty_view next)) (ap (λ (d : Display). d.placed) (some_same (sym e.1 ∙ closing.1))) e.2;
+        nothing = refl;
+      }
 
-  shown_each : (bytes : List ℕ) (over : List Placed) (top : ℕ) (l : Layout) (x : Sight) (turns : List Turn) → DisplayHolds s bytes over top l x → TurnsLead own x turns → LowTurns s x turns → EachShown s bytes top over l turns
-  shown_each bytes over top l x [] h course rows = tt
-  shown_each bytes over top l x (Open rs y ∷ rest) h course rows =
-      let t = course.0 in
-      let new = bytes ++ bytes_for s l rs in
-      let now = top_after rs top in
-      let kept = above_after rs over in
-      let layout = (drawn_by s l rs).layout in
-      let done : DisplayHolds s new kept now layout y = subst (DisplayHolds s new kept now layout) t.leads (steps bytes over top l x rs h t.fits rows.0) in
-      (moment new kept now y done.good course.1, shown_each new kept now layout y rest done course.2 rows.1)
-  shown_each bytes over top l x (Accept rs y ∷ rest) h course rows =
-      let t = course.0 in
-      let new = bytes ++ bytes_for s l rs in
-      let now = top_after rs top in
-      let kept = above_after rs over in
-      let layout = (drawn_by s l rs).layout in
-      let done : DisplayHolds s new kept now layout y = subst (DisplayHolds s new kept now layout) t.leads (steps bytes over top l x rs h t.fits rows.0) in
-      let means = closed new kept (view_in s now y) done.good true in
-      let next = next_line new kept now y done.good course.1 in (
-        means,
-        shown_each (new ++ row_break) means.display.placed (next_top s now y) (fresh s.mode) no_sight rest
-            (fresh_holds s low high (new ++ row_break) means.display.placed (next_top s now y) (fresh s.mode) next) course.2 rows.1,
-      )
-  shown_each bytes over top l x (Last rs breaks ∷ rest) h course rows =
-      let done = steps bytes over top l x rs h course rows in
-      closed (bytes ++ bytes_for s l rs) (above_after rs over) (view_in s (top_after rs top) (sight_all x rs)) done.good breaks
+  -- ---- an edit's steps
 
-pub drawings_show : DrawingsShow
-drawings_show s low high own turns course rows =
-    shown_each s low high own [] [] 0 (fresh s.mode) no_sight turns (fresh_holds s low high [] [] 0 (fresh s.mode) (start_is_empty s low high)) course rows
+  steps_shown : (later : List Event) (rs : List EditStep) (bytes : List ℕ) (over : List Placed) (top : ℕ) (l : Layout) (x : Sight) → DisplayHolds s bytes over top l x → FitsAll own x rs
+      → ((bytes : List ℕ) (over : List Placed) (top : ℕ) → DisplayHolds s bytes over top (drawn_by s l rs).layout (sight_all x rs) → EachShown (face s bytes top over (sight_all x rs)) later)
+      → EachShown (face s bytes top over x) (step_events s l rs ++ later)
+  steps_shown later [] bytes over top l x h fits next = next bytes over top h
+  steps_shown later (DrawStep v m redraw ∷ rs) bytes over top l x h fits next = λ rows.
+      let a = asked_by (ruler_of s) m l redraw in
+      let new = bytes ++ all_of (map (bytes_of s) a.calls) in
+      let over' = above_drawn redraw over in
+      let top' = top_drawn redraw top in
+      let y = sight_drawn x redraw in
+      let done : DisplayHolds s new over' top' a.layout y =
+      subst (λ sent. DisplayHolds s (bytes ++ sent) over' top' a.layout y) (sym (all_of_map (bytes_of s) a.calls)) (step s low high own bytes over top l x (DrawStep v m redraw) h fits.0 rows) in
+      (meant new over' top' y done.good, steps_shown later rs new over' top' a.layout y done fits.1 next)
+  steps_shown later (HelpStep v fails takes ∷ rs) bytes over top l x h fits next = steps_shown later rs bytes over top l x h fits.1 next
+  steps_shown later (_ ∷ rs) bytes over top l x h fits next = steps_shown later rs bytes over top l x h fits.1 next
+
+-- what a session goes on from
+abbrev After : Result (List ℕ) ReadlineError → Face → Type 0
+After (Ok text) f = IsAtRest f
+After (Err e) f = ⊤
+
+module _ (s : Screen) (low : 2 ≤ s.columns) (high : s.columns ≤ 1000) (a : Setting) (indent : ℕ) where
+  own_shown : (later : List Event) (ask : LineAsk) (k : LineState) (bytes : List ℕ) (over : List Placed) (top : ℕ) (x : Sight) → Good s.columns (widths s) bytes over (view_in s top x) → BeginShows a indent ask k x
+      → EachShown (face s bytes top over x) later → EachShown (face s bytes top over x) (own_events a k ask ++ later)
+  own_shown later TurnBegins k bytes over top x g leads rest = (moment s low high a.prompt bytes over top x a.prompt k.value.line.text k.value.line.place g leads, rest)
+  own_shown later (Keys (Reads item)) k bytes over top x g leads rest = rest
+  own_shown later _ k bytes over top x g leads rest = rest
+
+  -- what follows on the asks
+  abbrev Follows : Result (List ℕ) ReadlineError → List Event → Type 0
+  Follows o later = (bytes : List ℕ) (over : List Placed) (top : ℕ) (l : Layout) (x : Sight) → DisplayHolds s bytes over top l x → EndShows a indent o x → EachShown (face s bytes top over x) later
+
+  asks_shown : (o : Result (List ℕ) ReadlineError) (later : List Event) → Follows o later → (asks : List LineAsk) (k : LineState) (bytes : List ℕ) (over : List Placed) (top : ℕ) (l : Layout) (x : Sight)
+      → DisplayHolds s bytes over top l x → LeadsAlong a indent o k x asks → EachShown (face s bytes top over x) (asks_events s a indent l k asks ++ later)
+  asks_shown o later next [] k bytes over top l x h leads = next bytes over top l x h leads
+  asks_shown o later next (ask ∷ asks) k bytes over top l x h leads =
+      let rs = (effect_at a indent k ask).steps in
+      let m = (drawn_by s l rs).layout in
+      let y = sight_all x rs in
+      let left = left_at a indent k ask in
+      let first = step_events s l rs in
+      let more = asks_events s a indent m left asks in
+      let mine = own_events a k ask in
+      let E : List Event → Type 0 = EachShown (face s bytes top over x) in
+      subst E (sym (append_assoc first (mine ++ more) later ∙ ap (λ events. first ++ events) (append_assoc mine more later)))
+      (steps_shown s low high a.prompt (mine ++ (more ++ later)) rs bytes over top l x h leads.0
+      (λ bytes over top h. own_shown (more ++ later) ask k bytes over top y h.good leads.1 (asks_shown o later next asks left bytes over top m y h leads.2)))
+
+  -- ---- its end
+
+  end_shown : (more : List Event) (o : Result (List ℕ) ReadlineError) → ((f : Face) → After o f → EachShown f more) → Follows o (end_events o ++ more)
+  end_shown more (Ok text) next bytes over top l x h ended =
+      let m = closed s low high a.prompt bytes over top x h.good in
+      (m, next (below (broken (face s bytes top over x)) m.display) (next_line s low high a.prompt bytes over top x h.good ended))
+  end_shown more (Err e) next bytes over top l x h ended = by (breaks_after e)
+    where
+      by : (b : Bool) → EachShown (face s bytes top over x) ((if b then Breaks ∷ [] else []) ++ more)
+      by true = let m = closed s low high a.prompt bytes over top x h.good in (m, next (below (broken (face s bytes top over x)) m.display) tt)
+      by false = next (face s bytes top over x) tt
+
+-- ---- a line, from a display between two lines
+
+-- what follows on its begin
+abbrev tail_of : ℕ → Given → SessionState → List Event
+tail_of n g x =
+    let a = setting_in g x.history.kept.entries in
+    let p = played_in n g x in
+    asks_events g.screen a g.config.indent_size (fresh g.screen.mode) (kept_first a g.config x.ring x.coming) p.asks ++ end_events p.answer
+
+line_shown : (n : ℕ) (g : Given) (x : SessionState) (more : List Event)
+    → ((f : Face) → After (played_in n g x).answer f → EachShown f more)
+    → (f : Face) → IsAtRest (record f { screen = g.screen }) → EachShown (record f { screen = g.screen }) (tail_of n g x ++ more)
+line_shown n g x more next f rest =
+    let s = g.screen in
+    let low = rest.screen.least in
+    let high = rest.screen.most in
+    let a = setting_in g x.history.kept.entries in
+    let indent = g.config.indent_size in
+    let k = kept_first a g.config x.ring x.coming in
+    let p = played_in n g x in
+    let lead = lines_lead n a g.custom indent (new_input g.config.edit_mode) x.ring x.coming in
+    let asks = asks_events s a indent (fresh s.mode) k p.asks in
+    let h : DisplayHolds s f.bytes f.over f.top (fresh s.mode) no_sight = fresh_holds s low high f.bytes f.over f.top (fresh s.mode) rest.good in
+    subst (λ events. EachShown (record f { screen = s }) events) (sym (append_assoc asks (end_events p.answer) more))
+    (subst (λ (y : Sight). EachShown (face s f.bytes f.top f.over y) (asks ++ (end_events p.answer ++ more))) (sym rest.nothing)
+    (asks_shown s low high a indent p.answer (end_events p.answer ++ more) (end_shown s low high a indent more p.answer next) p.asks k f.bytes f.over f.top (fresh s.mode) no_sight h lead))
+
+-- ---- a session
+
+pub blank_is_at_rest : BlankIsAtRest
+blank_is_at_rest s is = record { screen = is; good = start_is_empty s is.least is.most; nothing = refl }
+
+course_shown : (n : ℕ) (g : Given) (x : SessionState) (more : List Event) → ((f : Face) → After (played_in n g x).answer f → EachShown f more)
+    → (f : Face) → IsAtRest f → EachShown f ((line_course n g x).events ++ more)
+course_shown n g x more next f rest =
+    let s = g.screen in (
+      λ same.
+          let path : record f { screen = s } ≡ f = ap (λ s. record f { screen = s }) same in
+          let P : Face → Type 0 = λ f. EachShown f (tail_of n g x ++ more) in
+          subst P path (line_shown n g x more next f (subst IsAtRest (sym path) rest)),
+      λ is. line_shown n g x more next (blank s) (blank_is_at_rest s is),
+    )
+
+on_line : (later : SessionState → Course ReadlineError) (y : SessionState) → ((f : Face) → IsAtRest f → EachShown f (later y).events)
+    → (o : Result (List ℕ) ReadlineError) (f : Face) → After o f → EachShown f (going_on later (o, y)).events
+on_line later y so (Ok text) f rest = so f rest
+on_line later y so (Err e) f rest = tt
+
+pub sessions_show : SessionsShow
+unfolding session
+sessions_show zero g at x f rest = tt
+sessions_show (suc n) g at x f rest =
+    let rest_of : ℕ → LineGiven = λ line. at (suc line) in
+    let first = for_line g (at 0) in
+    let line = line_course (suc n) first x in
+    let later : SessionState → Course ReadlineError = session n g rest_of in
+    let y = line.answer.1 in
+    course_shown (suc n) first x (going_on later line.answer).events (on_line later y (λ f rest. sessions_show n g rest_of y f rest) line.answer.0) f rest
+
+-- ---- the first of the events
+
+pub first_shown : (done others : List Event) (f : Face) → EachShown f (done ++ others) → EachShown f done
+first_shown [] others f h = tt
+first_shown (Begins s ∷ done) others f h = (λ same. first_shown done others f (h.0 same), λ is. first_shown done others (blank s) (h.1 is))
+first_shown (Draws redraw sent ∷ done) others f h = λ rows. let m = h rows in (m.0, first_shown done others (drawn_on f redraw sent) m.1)
+first_shown (Rests prompt text place ∷ done) others f h = (h.0, first_shown done others f h.1)
+first_shown (Breaks ∷ done) others f h = let m = h.0 in (m, first_shown done others (below (broken f) m.display) h.1)
+first_shown (_ ∷ done) others f h = first_shown done others f h
+
+pub lines_show : (n : ℕ) (g : Given) (x : SessionState) (f : Face) → IsAtRest f → EachShown f (line_course n g x).events
+lines_show n g x f rest =
+    first_shown (line_course n g x).events [] f (course_shown n g x [] (λ f after. tt) f rest)

@@ -268,7 +268,7 @@ module _ (s : Screen) (low : 2 ≤ s.columns) (high : s.columns ≤ 1000) where
       } in
       subst (DisplayHolds s new over top (taken_short l count).layout) (sym (taken_is x prompt count text at t)) done
 
-  -- ---- no call, also where the session's own prompt stands
+  -- ---- no call, also if the session's own prompt stands
 
   still_holds : (bytes : List ℕ) (over : List Placed) (top : ℕ) (l : Layout) (x : Sight) → DisplayHolds s bytes over top l x → DisplayHolds s (bytes ++ []) over top l x
   still_holds bytes over top l x h = subst (λ b. DisplayHolds s b over top l x) (sym (append-nil bytes)) h

@@ -1,5 +1,5 @@
--- What goes on from line to line, with its devices, and what a line makes of it.
-use Rattle.std.specs.Prelude.{◌≡◌, ℕ, ◌<◌, List, Result, IsTrue, IfErr, OnOk}
+-- The state that is passed from line to line, with its devices, and the effect of a line on it.
+use Rattle.std.specs.Prelude.{◌≡◌, ℕ, ◌<◌, Bool, List, Result, Err, IsTrue, IfErr, OnOk}
 use Rattle.line_buffer.specs.declared.layout.Layout.{Layout}
 use Rattle.line_config.specs.Scripts.{Goes}
 use Rattle.line_config.specs.declared.errors.ReadlineError.{ReadlineError}
@@ -13,10 +13,19 @@ use Rattle.line_screen.specs.Calls.{canvas_of, ruler_of, sink_of}
 use Rattle.line_screen.specs.Reader.{items_of, source_of}
 use Rattle.line_screen.specs.declared.renderer.ScreenRenderer.{ScreenRenderer}
 use Rattle.keyline.specs.Known.{Known, HasPassedOn}
-use Rattle.keyline.specs.Playing.{Closes, Work, ComesTo, SessionReason, Reads, work}
-use Rattle.keyline.specs.SessionScripts.{one_line}
+use Rattle.keyline.specs.Events.{Event, line_course, session}
+use Rattle.keyline.specs.Playing.{Closes, Went, Work, SessionReason, work}
 use Rattle.keyline.specs.Sessions.{Given, LineGiven, SessionState, setting_in}
+use Rattle.keyline.specs.Shows.{EachShown, Face, IsAtRest}
 use Rattle.keyline.specs.declared.desk.Desk.{Desk}
+
+-- events happened so on a display and a sink of lines. At each moment of those that were done the
+-- display shows it, whatever it showed before the first of them
+pub record GoesShown {D L : Type 0} (shown : D → List ℕ) (written_in : L → List ℕ) (adds : Bool)
+    (events : List Event) (old new : Work D L) (Whole : Type 0) (Faulted : ReadlineError → Type 0)
+    : Type 0 where
+  pub went : Went shown written_in adds events old new Whole Faulted
+  pub shows : (f : Face) → IsAtRest f → EachShown f went.done
 
 module _ {S H D L : Type 0} (k : Known S D L) where
   abbrev pub desk_feed : Desk S H D L → KeyFeed
@@ -33,8 +42,8 @@ module _ {S H D L : Type 0} (k : Known S D L) where
   DeskReason g d e = SessionReason g (k.feed (source_of d.reader)).failed
       (k.show_failed (sink_of d.out)) (k.write_failed d.lines) e
 
-  -- what a line came to before its end was drawn, kept and written, and what its end made of that:
-  -- the ring is the one that the line left, whatever refused its end
+  -- the result of a line before its end was drawn, added and written, and the effect of its end.
+  -- The ring is the one that the line left, even if its end failed
   pub record EndsLine (g : Given) (old new : Desk S H D L) (result : Result (List ℕ) ReadlineError)
       : Type 0 where
     pub drawn : ScreenRenderer D
@@ -52,13 +61,13 @@ module _ {S H D L : Type 0} (k : Known S D L) where
         g.config.auto_add_history outcome (work (sink_of drawn) old.lines old.history)
         (work (sink_of new.out) new.lines new.history) result
 
-  -- THE relation of a line: it comes to its outcome and what goes on, or to a fault
+  -- the relation of a line: it leads to its outcome and the state after it, or to a fault
   pub record TakesLine (g g' : Given) (old new : Desk S H D L)
       (result : Result (List ℕ) ReadlineError) : Type 0 where
     pub goes : IsTrue (desk_feed new).told → (n : ℕ) → (desk_feed old).bound < n
-        → ComesTo k.shown k.written_in g.config.auto_add_history
-        (one_line n g (session_state_of old)) (work_of old) (result, session_state_of new)
-        (work_of new) result
+        → let line = line_course n g (session_state_of old) in
+        GoesShown k.shown k.written_in g.config.auto_add_history line.events (work_of old) (work_of new)
+        ((result, session_state_of new) ≡ line.answer) (λ e. result ≡ Err e)
     pub given : IsTrue (desk_feed new).told → g' ≡ g
     pub custom : g'.custom ≡ g.custom
     pub told : IsTrue (desk_feed new).told → IsTrue (desk_feed old).told
@@ -68,12 +77,13 @@ module _ {S H D L : Type 0} (k : Known S D L) where
     pub ends : EndsLine g old new result
     pub reason : IfErr result (DeskReason g new)
 
-  -- THE relation of lines until one is refused, with what is handed in for each
+  -- the relation of lines until one fails, with what is passed in for each
   pub record TakesLines (g : Given) (at : ℕ → LineGiven) (old new : Desk S H D L)
       (why : ReadlineError) : Type 0 where
     pub goes : IsTrue (desk_feed new).told → (n : ℕ) → (desk_feed old).bound < n
-        → Reads k.shown k.written_in n g at (session_state_of old) (work_of old) (work_of new)
-        why
+        → let lines = session n g at (session_state_of old) in
+        GoesShown k.shown k.written_in g.config.auto_add_history lines.events (work_of old) (work_of new)
+        (why ≡ lines.answer) (λ e. why ≡ e)
     pub passes : IsTrue (desk_feed new).told → HasPassedOn k (sink_of old.out)
         → HasPassedOn k (sink_of new.out)
     pub reason : DeskReason g new why

@@ -1,4 +1,4 @@
--- The endings of a session: the status of a program that ends with it, and its words.
+-- The endings of a session: the status of a program that ends with it, and its message.
 use Rattle.std.specs.Prelude.{ℕ, List, Option, Some, None, Result, Ok, Err, codes}
 use Rattle.line_config.specs.declared.errors.ReadlineError.{ReadlineError}
 use Rattle.line_config.specs.declared.errors.ReadlineError.TheVariants as Refusal
@@ -25,7 +25,7 @@ ending_text Helper = codes "helper failed"
 ending_text Handler = codes "handler failed"
 ending_text Memory = codes "out of memory"
 
--- a refusal that ends a session, as its ending
+-- an error that ends a session, as its ending
 abbrev pub ending_of : ReadlineError → Ending
 ending_of Refusal.Eof = Eof
 ending_of Refusal.Interrupted = Interrupted
@@ -39,7 +39,7 @@ ending_of Refusal.Helper = Helper
 ending_of Refusal.Handler = Handler
 ending_of Refusal.Memory = Memory
 
--- why there is no line after this answer, if there is none: after an interruption there is
+-- why there is no further line after this answer; after an interruption there is one
 abbrev pub ended_by : Result (List ℕ) ReadlineError → Option ReadlineError
 ended_by (Err Refusal.Interrupted) = None
 ended_by (Err why) = Some why

@@ -23,6 +23,6 @@ known_by feed shown waits show_failed written_in write_failed = record {
   write_failed = write_failed;
 }
 
--- a display that works has passed on all that was drawn
+-- a display that works has passed on everything that was drawn
 abbrev pub HasPassedOn : {S D L : Type 0} → Known S D L → D → Type 0
 HasPassedOn k display = NothingWaits k.waits k.show_failed display

@@ -1,7 +1,9 @@
 pub mod Builders
+pub mod Columns
 pub mod Desks
 pub mod Editors
 pub mod Endings
+pub mod Events
 pub mod Known
 pub mod OneByte
 pub mod Opened
@@ -11,7 +13,6 @@ pub mod Playing
 pub mod Plays
 pub mod Program
 pub mod SessionLaws
-pub mod SessionScripts
 pub mod Sessions
 pub mod Shows
 pub mod Transcripts

@@ -1,4 +1,4 @@
--- Where a typed character costs its one byte.
+-- When a typed character sends only its one byte.
 use Rattle.std.specs.Prelude.{◌≡◌, ℕ, true, List, [], ◌∷◌, is_some, Ok}
 use Rattle.line_buffer.specs.Insertions.{insert as insertion}
 use Rattle.line_buffer.specs.declared.layout.Layout.{Layout}
@@ -13,25 +13,26 @@ use Rattle.line_editor.specs.Values.{Value, Setting, EditStep}
 use Rattle.line_screen.specs.Calls.{Screen, ruler_of}
 use Rattle.keyline.specs.Shows.{drawn_by, bytes_for}
 
--- the layout that is kept tells whether information stands, and whether the session's own prompt
+-- the stored layout says whether information is shown, and whether the session's own prompt is
 pub record TellsSight (l : Layout) (x : Sight) : Type 0 where
   pub info_is : l.has_info ≡ is_some x.info
   pub given_is : l.default_prompt ≡ x.given
 
--- and so after any steps
+-- and it does after any steps
 abbrev pub LayoutsTell : Type 0
 LayoutsTell =
     (s : Screen) (own : List ℕ) (steps : List EditStep) (l : Layout) (x : Sight)
     → TellsSight l x → FitsAll own x steps
     → TellsSight (drawn_by s l steps).layout (sight_all x steps)
 
--- one that its byte alone may show, with room in the text, and in a line that is bare after it too
+-- a character that its byte alone may show, if the text has space, in a line that is bare after it
+-- too
 pub record TypedAtEnd (a : Setting) (v : Value) (c : ℕ) : Type 0 where
   pub alone : may_be_typed c 1 v ≡ true
   pub room : is_some (insertion c 1 v.line).answer ≡ true
   pub after : is_bare (insert_char c 1 a v).value ≡ true
 
--- the tables read it alone, with no count and nothing asked
+-- the tables read it alone, without a count or a drawing
 pub record ReadAlone (a : Setting) (indent : ℕ) (k : LineState) (phrase : LineScript Cmd) (c : ℕ)
     : Type 0 where
   pub answer : (played_from a indent phrase k).answer ≡ Ok (SelfInsert 1 c)
@@ -39,7 +40,7 @@ pub record ReadAlone (a : Setting) (indent : ℕ) (k : LineState) (phrase : Line
   pub unasked : (s : Screen) (l : Layout)
       → drawn_by s l (made_from a indent phrase k).steps ≡ nothing_asked l
 
--- where the layout lets its byte be written alone, its turn sends that byte
+-- if the layout allows its byte to be written alone, its turn sends that byte
 abbrev pub OneByte : Type 0
 OneByte =
     (n : ℕ) (s : Screen) (l : Layout) (a : Setting) (custom : Custom) (indent : ℕ) (k : LineState)

@@ -1,4 +1,4 @@
--- A session that is open: what it has, what it hands in for a line, and what its calls make of it.
+-- An open session: its parts, what it passes in for a line, and the effect of its calls.
 use Rattle.std.specs.Prelude.{◌≡◌, ℕ, List, Option, Result, string_bytes}
 use Rattle.line_config.specs.declared.config.Config.{Config}
 use Rattle.line_config.specs.declared.errors.ReadlineError.{ReadlineError}
@@ -15,9 +15,9 @@ use Rattle.keyline.specs.declared.desk.Desk.{Desk}
 use Rattle.keyline.specs.declared.session.Session.{Session}
 
 module _ {S H D L T B : Type 0} where
-  -- ---- what it has
+  -- ---- its parts
 
-  -- what goes on from line to line, with the devices
+  -- the state that is passed from line to line, with the devices
   abbrev pub desk_of : Session S H D L T B → Desk S H D L
   desk_of s = s.desk
 
@@ -28,17 +28,18 @@ module _ {S H D L T B : Type 0} where
   abbrev pub text_sink : Session S H D L T B → T
   text_sink s = s.text
 
-  -- the prompt of its own
+  -- its own prompt
   abbrev pub prompt_of : Session S H D L T B → List ℕ
   prompt_of s = string_bytes s.prompt
 
-  -- what it hands in for a line behind this prompt, by what its bindings mean and its helper says
+  -- what it passes in for a line after this prompt, with the meanings of its bindings and the
+  -- replies of its helper
   abbrev pub given_in : (B → Meaning) → (Option H → Helping) → List ℕ → Session S H D L T B
       → Given
   given_in means helps prompt s = given_of s.config (custom_of s.bindings means) prompt
       (screen_of s.desk.out) (helps s.desk.helper)
 
-  -- it has what was handed in for all its lines
+  -- it has what was passed in for all its lines
   pub record HasGiven (config : Config) (bindings : List (Event × B)) (prompt : List ℕ) (text : T)
       (s : Session S H D L T B) : Type 0 where
     pub config_is : s.config ≡ config
@@ -48,13 +49,13 @@ module _ {S H D L T B : Type 0} where
 
   -- ---- its calls
 
-  -- THE relation of a line that is asked for: the desk takes it, and all else stays as it was
+  -- the relation of a requested line: the desk takes it, and all else stays as it was
   pub record ReadsNext (k : Known S D L) (given : Session S H D L T B → Given)
       (old new : Session S H D L T B) (result : Result (List ℕ) ReadlineError) : Type 0 where
     pub takes : TakesLine k (given old) (given new) old.desk new.desk result
     pub others : new ≡ record old { desk = new.desk }
 
-  -- rows of the display have so many columns, and all else is as it was
+  -- rows of the display have this many columns, and all else is as it was
   pub record SetsColumns (columns : ℕ) (old new : Session S H D L T B) : Type 0 where
     pub screen : screen_of new.desk.out ≡ record (screen_of old.desk.out) { columns = columns }
     pub display : sink_of new.desk.out ≡ sink_of old.desk.out

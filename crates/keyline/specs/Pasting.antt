@@ -1,21 +1,23 @@
--- A text that is sent as a paste, and then entered.
+-- A text that is pasted and then entered.
 use Rattle.std.specs.Prelude.{◌≡◌, ◌≢◌, ℕ, suc, true, List, [], ◌∷◌, ◌++◌, None, Ok}
 use Rattle.std.specs.Str.{IsUtf8}
 use Rattle.line_config.specs.declared.device.Last.{Last}
+use Rattle.line_config.specs.Played.{Played}
+use Rattle.line_config.specs.declared.errors.ReadlineError.{ReadlineError}
 use Rattle.line_keys.specs.declared.events.Event.{Event}
 use Rattle.line_keys.specs.Answers.{Custom}
 use Rattle.line_keys.specs.Coming.{Coming}
-use Rattle.line_editor.specs.LineScripts.{LineState, reported_from, turns_script}
-use Rattle.line_editor.specs.Courses.{LineReport}
+use Rattle.line_editor.specs.LineScripts.{LineAsk, LineState, played_from, turns_script}
 use Rattle.line_editor.specs.Values.{Setting, Value}
 use Rattle.line_screen.specs.KeyGrammar.{marker, start_marker, HaveNoMarker}
-use Rattle.keyline.specs.Sessions.{Given, SessionState, coming_from, line_in}
+use Rattle.keyline.specs.Events.{played_in}
+use Rattle.keyline.specs.Sessions.{Given, SessionState, coming_from}
 
 -- ESC [ 2 0 0 ~, the text, and ESC [ 2 0 1 ~
 abbrev pub sent_as_paste : List ℕ → List ℕ
 sent_as_paste text = start_marker ++ text ++ marker
 
--- a text that stays as it is: of characters, without CR, and without the mark that ends it
+-- a text that stays as it is: UTF-8, without CR, and without the mark that ends it
 pub record IsPasteable (text : List ℕ) : Type 0 where
   pub utf8 : IsUtf8 text
   pub no_return : (before after : List ℕ) → text ≢ before ++ 0x0D ∷ after
@@ -29,13 +31,14 @@ pub record IsEmptyLine (v : Value) : Type 0 where
   pub empty : v.line.text ≡ []
   pub grows : v.line.growth ≡ true
 
--- the text is accepted, and this is left to come
-pub record Accepts (t : LineReport) (text : List ℕ) (rest : Coming) : Type 0 where
-  pub outcome : t.outcome ≡ Ok text
-  pub rest_is : t.rest ≡ rest
+-- the text is accepted, and this remains of the input
+pub record Accepts (p : Played LineAsk LineState ReadlineError (List ℕ)) (text : List ℕ)
+    (rest : Coming) : Type 0 where
+  pub outcome : p.answer ≡ Ok text
+  pub rest_is : p.rest.coming ≡ rest
 
--- Where nothing is bound and nothing helps, at an empty line between two phrases, a text that is
--- sent as a paste and entered is accepted, whatever is kept: the last change and search, in any
+-- If nothing is bound and there is no helper, a text pasted at an empty line between two phrases
+-- and then entered is accepted. This holds whatever the state is: the last change and search, any
 -- input mode, the ring, the record and the history.
 abbrev pub PastesAreAccepted : Type 0
 PastesAreAccepted =
@@ -43,13 +46,13 @@ PastesAreAccepted =
     (last : Last)
     → s.hooks ≡ None → IsUnbound custom → IsEmptyLine k.value → IsPasteable text
     → k.coming ≡ coming_from k.input.mode (sent_as_paste text ++ 0x0D ∷ more) last
-    → Accepts (reported_from s indent (turns_script (suc (suc n)) custom) k) text
+    → Accepts (played_from s indent (turns_script (suc (suc n)) custom) k) text
     (coming_from k.input.mode more last)
 
--- and so is one that a line of a session begins with
+-- and so is one with which a line of a session begins
 abbrev pub PastedLinesAreAccepted : Type 0
 PastedLinesAreAccepted =
     (n : ℕ) (g : Given) (x : SessionState) (text more : List ℕ) (last : Last)
     → g.helping.hooks ≡ None → IsUnbound g.custom → IsPasteable text
     → x.coming ≡ coming_from g.config.edit_mode (sent_as_paste text ++ 0x0D ∷ more) last
-    → Accepts (line_in (suc (suc n)) g x) text (coming_from g.config.edit_mode more last)
+    → Accepts (played_in (suc (suc n)) g x) text (coming_from g.config.edit_mode more last)

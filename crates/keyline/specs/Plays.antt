@@ -1,5 +1,5 @@
--- A session that is opened and run: what it is opened on, and what it gives back.
-use Rattle.std.specs.Prelude.{◌≡◌, ℕ, Bool, false, List, Option, None, Result, Err, IsOk, IsTrue, string_bytes}
+-- A session that is opened and run: what it is opened with, and what it returns.
+use Rattle.std.specs.Prelude.{◌≡◌, ℕ, Bool, cond, false, List, [], Option, None, Result, Err, IsOk, IsTrue, string_bytes}
 use Rattle.line_config.specs.Feed.{AlwaysTold, Feed}
 use Rattle.line_config.specs.declared.config.Config.{Config}
 use Rattle.line_config.specs.declared.errors.ReadlineError.{ReadlineError}
@@ -9,11 +9,10 @@ use Rattle.line_help.specs.HistoryText.{ReadsGood, left_by_load, load_answer, lo
 use Rattle.line_record.specs.Ring.{new_ring}
 use Rattle.line_screen.specs.Calls.{screen_of, sink_of}
 use Rattle.line_screen.specs.Reader.{coming_in, kept_of, source_of}
-use Rattle.keyline.specs.Desks.{TakesLines, session_state_of}
+use Rattle.keyline.specs.Desks.{TakesLines}
 use Rattle.keyline.specs.Known.{Known}
 use Rattle.keyline.specs.Endings.{ending_of}
 use Rattle.keyline.specs.Playing.{Saves, ending_after}
-use Rattle.keyline.specs.Shows.{Displays}
 use Rattle.keyline.specs.Sessions.{Given, coming_from, each, screen_by}
 use Rattle.keyline.specs.declared.desk.Desk.{Desk}
 use Rattle.keyline.specs.declared.session.Beginning.{Beginning}
@@ -22,7 +21,7 @@ use Rattle.keyline.specs.declared.session.Unopened.{Unopened}
 
 -- ---- opening
 
--- what loading the text of a source answers and leaves, in a new history
+-- the answer and the result of loading a source's text into a new history
 abbrev pub loads : Config → Feed → Result Bool ReadlineError
 loads config text =
     load_answer text.last (text_rows text.last text.coming) (nothing_filed (settings_of config))
@@ -31,13 +30,13 @@ abbrev pub loaded_from : Config → Feed → Filed
 loaded_from config text =
     load_leaves text.last (text_rows text.last text.coming) (nothing_filed (settings_of config))
 
--- a text is refused so, and this is left of it
+-- loading the text fails with this error, and this remains of it
 pub record RefusesText (config : Config) (text left : Feed) (why : ReadlineError) : Type 0 where
   pub answer : loads config text ≡ Err why
   pub behind : left.coming ≡ left_by_load text.last text.coming
 
--- why no history is loaded of a source's text, where this is left of the source: it has failed, a
--- row isn't UTF-8, or memory is wanting, and each row that was read is UTF-8
+-- why loading a source's text fails, if this remains of the source: it has failed, or a row isn't
+-- UTF-8, or memory ran out after rows in UTF-8
 abbrev pub LoadRefused : Config → Feed → Feed → ReadlineError → Type 0
 LoadRefused config text left Reader = IsTrue left.failed
     × (IsTrue left.told → RefusesText config text left Reader)
@@ -47,12 +46,12 @@ LoadRefused config text left Memory = (left.failed ≡ false)
     × (IsTrue left.told → ReadsGood text.coming left.coming)
 LoadRefused config text left why = ⊥
 
--- what is left of a source ends as it did, and agrees where it agreed before
+-- what remains of a source ends as it did, and agrees with the assumption only if it did before
 pub record Remains (text left : Feed) : Type 0 where
   pub told : IsTrue left.told → IsTrue text.told
   pub last : left.last ≡ text.last
 
--- a history that was loaded, where its source gave what was said
+-- a loaded history, if its source agrees with the assumption
 pub record Loaded (Told : Type 0) (config : Config) (text : Feed) (history : Filed) : Type 0 where
   pub whole : Told → IsOk (loads config text)
   pub history_is : Told → history ≡ loaded_from config text
@@ -64,8 +63,8 @@ pub record BeginsSession (Told : Type 0) (config : Config) (prompt : List ℕ) (
   pub ring : b.ring ≡ new_ring 60
   pub prompt_is : string_bytes b.prompt ≡ prompt
 
--- no session was opened: of the history's text something may have been read, and all other devices
--- are as they were handed in
+-- no session was opened: some of the history's text may have been read, and all other devices are
+-- as they were passed in
 pub record Unopens {F S D L T : Type 0} (feed : F → Feed) (config : Config) (history : F)
     (source : S) (display : D) (lines : L) (text : T) (unopened : Unopened F S D L T)
     : Type 0 where
@@ -76,8 +75,8 @@ pub record Unopens {F S D L T : Type 0} (feed : F → Feed) (config : Config) (h
   pub lines_are : unopened.lines ≡ lines
   pub text_is : unopened.text ≡ text
 
--- a session's desk: the devices as they were handed in, nothing read, and nothing drawn. The
--- history's source is gone: its text is known where it tells whatever comes
+-- a session's desk: the devices as they were passed in, nothing read, and nothing drawn. The
+-- history's source is gone: its text is known if it always agrees with the assumption
 pub record Opens {F S H D L : Type 0} (text : F → Feed) (feed : S → Feed) (config : Config)
     (history : F) (helper : Option H) (source : S) (columns : ℕ) (display : D) (lines : L)
     (desk : Desk S H D L) : Type 0 where
@@ -94,7 +93,7 @@ pub record Opens {F S H D L : Type 0} (text : F → Feed) (feed : S → Feed) (c
 
 -- ---- running
 
--- a session has ended for this reason: its history was saved, and its devices come back
+-- a session has ended for this reason: its history was saved, and its devices are returned
 pub record Finishes {S H D L T : Type 0} (held : T → List ℕ) (failed : T → Bool)
     (desk : Desk S H D L) (text : T) (why : ReadlineError) (ended : Ended S D L T) : Type 0 where
   pub saved : Bool
@@ -105,8 +104,14 @@ pub record Finishes {S H D L T : Type 0} (held : T → List ℕ) (failed : T →
   pub display_is : ended.display ≡ sink_of desk.out
   pub lines_are : ended.lines ≡ desk.lines
 
--- THE relation of a session: lines until one is refused, and then its end
-pub record PlaysSession {S H D L T : Type 0} (k : Known S D L) (held : T → List ℕ)
+-- what is to be saved from a sink to which the history's text was written: everything that it took.
+-- It is nothing if the sink has failed, since then its text is not whole
+abbrev pub text_to_save : {T : Type 0} → (T → List ℕ) → (T → Bool) → T → List ℕ
+text_to_save held failed text = cond (failed text) [] (held text)
+
+-- the relation of `run`: lines until one fails, and then the session's end. Display, lines and
+-- history are what the session's events make of them, and each moment is shown
+pub record RunsSession {S H D L T : Type 0} (k : Known S D L) (held : T → List ℕ)
     (failed : T → Bool) (g : Given) (desk : Desk S H D L) (text : T) (ended : Ended S D L T)
     : Type 0 where
   -- the desk as the lines left it, and why there was no further line
@@ -114,10 +119,3 @@ pub record PlaysSession {S H D L T : Type 0} (k : Known S D L) (held : T → Lis
   pub why : ReadlineError
   pub takes : TakesLines k g (each g) desk last why
   pub finishes : Finishes held failed last text why ended
-
--- THE relation of `run`: a session is played, and its display shows it
-pub record RunsSession {S H D L T : Type 0} (k : Known S D L) (held : T → List ℕ)
-    (failed : T → Bool) (g : Given) (desk : Desk S H D L) (text : T) (ended : Ended S D L T)
-    : Type 0 where
-  pub plays : PlaysSession k held failed g desk text ended
-  pub shows : Displays g (session_state_of k desk)

@@ -1,4 +1,4 @@
--- The program's session: by its options, and by bytes alone.
+-- The program's session: with its options, and by bytes alone.
 use Rattle.std.specs.Prelude.{ℕ, Bool, true, false, if◌then◌else◌, List, Option, Some, None, is_some, option_map, ◌||◌, ⊤, map, take, String, string_bytes, ◌≡◌, ◌<◌, ◌^◌, [], IsTrue, IsOk}
 use Rattle.std.specs.Global.{Global, Vec}
 use Rattle.std.specs.Option.{option_map_or}
@@ -16,10 +16,10 @@ use Rattle.line_editor.specs.Running.{Helping, helping_by}
 use Rattle.line_screen.specs.Calls.{screen_of}
 use Rattle.line_screen.specs.Reader.{coming_in, kept_of, source_of}
 use Rattle.line_screen.specs.declared.reading.reader.KeyReader.{KeyReader}
-use Rattle.keyline.specs.Desks.{session_state_of}
+use Rattle.keyline.specs.Desks.{GoesShown}
+use Rattle.keyline.specs.Events.{session}
 use Rattle.keyline.specs.Known.{Known}
-use Rattle.keyline.specs.Plays.{Opens, PlaysSession, loaded_from, loads}
-use Rattle.keyline.specs.Shows.{Displays}
+use Rattle.keyline.specs.Plays.{Opens, RunsSession, loaded_from, loads}
 use Rattle.keyline.specs.Sessions.{Given, SessionState, each, given_of, screen_by, state_over}
 use Rattle.keyline.specs.declared.desk.Desk.{Desk}
 use Rattle.keyline.specs.declared.options.Options.{Options}
@@ -36,20 +36,20 @@ use Rattle.line_help.specs.History.{Filed, all_saved}
 use Rattle.line_help.specs.HistoryText.{text_to_save}
 use Rattle.line_record.specs.Ring.{new_ring}
 use Rattle.keyline.specs.Endings.{ending_of}
-use Rattle.keyline.specs.Playing.{Reads, SessionReason, ending_after, work}
+use Rattle.keyline.specs.Playing.{SessionReason, ending_after, work}
 
--- where nothing else is said: each accepted line is kept
+-- the default: each accepted line is added to the history
 abbrev pub standard_config : Config
 standard_config = record default_config { auto_add_history = true }
 
--- and in the mode that the options choose
+-- the same in the mode that the options choose
 abbrev pub config_of : Options → Config
 config_of options = record standard_config {
   edit_mode = options.mode;
   keyseq_timeout = timeout_of options.mode;
 }
 
--- completes by words and validates brackets, each where it is wanted
+-- completes words and validates brackets, if requested
 abbrev pub EditHelper : Type 0
 EditHelper = HelperParts (Option (List (List ℕ))) ⊤ ⊤ (Option MatchingBracketValidator)
 
@@ -69,7 +69,7 @@ helper_of options words = if options.brackets || is_some words
     })
     else None
 
--- what it gives, and it helps with nothing else
+-- its replies; it helps with nothing else
 abbrev pub edit_helping : Option EditHelper → Helping
 edit_helping = helping_by (λ helper line pos entries place. gives_at_once None)
     (λ helper text. option_map_or (λ validator. bracket_reply text) helper.validator
@@ -95,27 +95,26 @@ pub record EditsByOptions {F S D L T : Type 0} (loads : F → Feed) (k : Known S
   pub desk : Desk S EditHelper D L
   pub opens : Opens loads k.feed (config_of options) history (helper_of options words) source
       options.columns display lines desk
-  pub plays : PlaysSession k held failed (given_to options desk) desk text ended
-  pub shows : Displays (given_to options desk) (session_state_of k desk)
+  pub runs : RunsSession k held failed (given_to options desk) desk text ended
 
 -- ---- by bytes alone: those of its keys, those that its devices took, and its ending
 
--- what these options and words hand in for a session
+-- what these options and words pass in for a session
 abbrev pub program_given : Options → Option (List (List ℕ)) → Given
 program_given options words =
     let config = config_of options in
     given_of config nothing_bound (string_bytes options.prompt)
     (screen_by config options.columns) (edit_helping (helper_of options words))
 
--- its first line, over this history's text and these keys
+-- the state before its first line, over this history's text and these keys
 abbrev pub program_start : Options → List ℕ → List ℕ → Last → SessionState
 program_start options old bytes last =
     state_over (new_ring 60) (loaded_from (config_of options) (fresh_feed old End)) options.mode
     bytes last
 
--- THE session of these options and words, of a history's text, and of all these bytes with this
--- after them: what is drawn, written and saved are its bytes, its lines and its history, or a
--- beginning of them where a fault cut it
+-- the session of these options and words, of a history's text, and of all these bytes followed by
+-- this. What is drawn, written and saved are its bytes, its lines and its history, or a prefix of
+-- them if a fault cut it
 pub record PlaysBytes {S D L T : Type 0} (known : Known S D L) (held : T → List ℕ)
     (failed : T → Bool) (options : Options) (words : Option (List (List ℕ))) (old bytes : List ℕ)
     (last : Last) (ended : Ended S D L T) : Type 0 where
@@ -128,11 +127,11 @@ pub record PlaysBytes {S D L T : Type 0} (known : Known S D L) (held : T → Lis
   pub loaded : IsOk (loads (config_of options) (fresh_feed old End))
   pub goes : (n : ℕ) → 2 ^ 63 < n → let g = program_given options words in
       let start = program_start options old bytes last in
-      Reads (λ drawn. drawn) (λ wrote. wrote) n g (each g) start
+      let lines = session n g (each g) start in
+      GoesShown (λ drawn. drawn) (λ wrote. wrote) g.config.auto_add_history lines.events
       (work [] [] start.history start.coming)
       (work (known.shown ended.display) (known.written_in ended.lines) kept
-      (coming_in known.feed reader)) why
-  pub shows : Displays (program_given options words) (program_start options old bytes last)
+      (coming_in known.feed reader)) (why ≡ lines.answer) (λ e. why ≡ e)
   pub done : saved ≡ true → held ended.text ≡ text_to_save kept
   pub refused : saved ≡ false → IsTrue (failed ended.text)
       × AppendsSome [] (text_to_save kept) (held ended.text)
@@ -143,9 +142,9 @@ pub record PlaysBytes {S D L T : Type 0} (known : Known S D L) (held : T → Lis
   pub reason : SessionReason (program_given options words) (known.feed ended.source).failed
       (known.show_failed ended.display) (known.write_failed ended.lines) why
 
--- THE relation of the program's session, over a reader and two writers: where what the reads gave
--- agrees with the bytes that are said of them, the session is that of these bytes; and a writer
--- that hasn't failed was handed all that its sink took
+-- the relation of the program's session, over a reader and two writers. If what the reads gave
+-- agrees with the assumed bytes, the session is that of these bytes. A writer that hasn't failed
+-- got everything that its sink took
 pub record PlaysOver {R K E W T : Type 0}
     (known : Known (ReadSource R K) (WriteSink E) (WriteSink W)) (held : T → List ℕ)
     (failed : T → Bool) (options : Options) (words : Option (List (List ℕ))) (old bytes : List ℕ)

@@ -1,10 +1,15 @@
--- Laws of sessions: what their columns matter to, what their history holds, what fewer keys send,
--- and where an input may be cut.
-use Rattle.std.specs.Prelude.{◌≡◌, ℕ, true, if◌then◌else◌, List, [], ◌∷◌, ◌++◌, IsTrue}
+-- Laws of sessions: what depends on their columns, the content of their history, what fewer keys
+-- send, and where an input may be cut.
+use Rattle.std.specs.Prelude.{◌≡◌, ℕ, map, true, if◌then◌else◌, List, [], ◌∷◌, ◌++◌, IsTrue}
+use Rattle.std.specs.List.{flat_map}
 use Rattle.line_buffer.specs.Cells.{origin}
+use Rattle.line_editor.specs.LineScripts.{steps_along}
+use Rattle.line_editor.specs.Running.{kept_first}
+use Rattle.line_editor.specs.Values.{EditStep}
 use Rattle.line_help.specs.History.{Settings, Filed, nothing_filed, ignored, filed_with, newest}
 use Rattle.line_screen.specs.Measure.{measure_of}
-use Rattle.keyline.specs.Sessions.{Given, LineGiven, SessionState, session, session_by, remembered, line_in, line_bytes, display_bytes, screens_for, state_over, coming_from}
+use Rattle.keyline.specs.Events.{Event, Begins, Draws, lines_kept, line_course, played_in, session}
+use Rattle.keyline.specs.Sessions.{Given, LineGiven, SessionState, each, remembered, setting_in, state_over, coming_from}
 use Rattle.line_config.specs.declared.device.Last.{Last}
 use Rattle.line_config.specs.declared.device.Last.TheVariants.{Failed, End}
 use Rattle.line_config.specs.declared.settings.EditMode.{EditMode}
@@ -13,7 +18,7 @@ use Rattle.line_keys.specs.Coming.{Coming, Pressed, Pasted, CutOff, Ends, Refuse
 use Rattle.line_screen.specs.KeyGrammar.{are_whole, EndWithoutEsc, readings}
 use Rattle.line_screen.specs.Input.{chars_of}
 
--- the same on rows of so many columns
+-- the same on rows of this many columns
 abbrev pub at_columns : ℕ → Given → Given
 at_columns columns g = record g { screen = record g.screen { columns = columns } }
 
@@ -21,12 +26,33 @@ at_columns columns g = record g { screen = record g.screen { columns = columns }
 abbrev pub prompt_column : Given → ℕ
 prompt_column g = (measure_of g.screen.mode g.screen.columns g.prompt origin).col
 
--- two sessions that differ in columns alone are one, line for line and turn for turn, where the
--- prompt ends in the same column: so they accept the same lines and save the same text
+-- events without what depends on columns: the screen, and the bytes of a redraw
+abbrev pub unmeasured : Event → Event
+unmeasured (Begins s) = Begins (record s { columns = 0 })
+unmeasured (Draws redraw sent) = Draws redraw []
+unmeasured event = event
+
+-- two sessions that differ only in their columns are the same, event for event, if the prompt ends
+-- in the same column. So they accept the same lines, save the same text and have the same drawings
 abbrev pub ColumnsAreFree : Type 0
 ColumnsAreFree =
     (n : ℕ) (g : Given) (x : SessionState) (columns : ℕ) → let other = at_columns columns g in
-    prompt_column other ≡ prompt_column g → session n other x ≡ session n g x
+    let one = session n other (each other) x in let two = session n g (each g) x in
+    prompt_column other ≡ prompt_column g
+    → (map unmeasured one.events ≡ map unmeasured two.events) × (one.answer ≡ two.answer)
+
+-- the steps of a line without faults, each with the value that is current until then
+abbrev pub steps_in : ℕ → Given → SessionState → List EditStep
+steps_in n g x = let a = setting_in g x.history.kept.entries in
+    steps_along a g.config.indent_size (kept_first a g.config x.ring x.coming)
+    (played_in n g x).asks
+
+-- and so is each line, request for request and step for step
+abbrev pub LineColumnsAreFree : Type 0
+LineColumnsAreFree =
+    (n : ℕ) (g : Given) (x : SessionState) (columns : ℕ) → let other = at_columns columns g in
+    prompt_column other ≡ prompt_column g
+    → (played_in n other x ≡ played_in n g x) × (steps_in n other x ≡ steps_in n g x)
 
 -- the lines that become entries, of these, added one after the other
 abbrev pub taken_of : Filed → List (List ℕ) → List (List ℕ)
@@ -39,33 +65,30 @@ taken_of filed (line ∷ lines) =
 abbrev pub LastAreKept : Type 0
 LastAreKept =
     (n : ℕ) (g : Given) (at : ℕ → LineGiven) (x : SessionState) (settings : Settings) →
-    let lines = (session_by n g at x).accepted in let empty = nothing_filed settings in
+    let lines = flat_map lines_kept (session n g at x).events in let empty = nothing_filed settings in
     (remembered true lines empty).kept.entries ≡ newest settings.max_len (taken_of empty lines)
 
--- the one is a beginning of the other
+-- the one is a prefix of the other
 abbrev pub IsBeginning : {A : Type 0} → List A → List A → Type 0
 IsBeginning {A} xs ys = (later : List A) × (ys ≡ xs ++ later)
 
--- of a source that fails after its bytes, against one that gives more of them and then does
--- whatever it does: a line's display bytes
+-- a source that fails after its bytes, compared with one that gives more of them and then does
+-- anything. A line's events with the first are a prefix of those with the second, and so is what is
+-- drawn, added to the history and written
 abbrev pub LinesBegin : Type 0
 LinesBegin =
     (n : ℕ) (g : Given) (ring : Ring) (history : Filed) (mode : EditMode) (bytes more : List ℕ)
     (last : Last)
-    → let fewer = line_in n g (state_over ring history mode bytes Failed) in
-    let all = line_in n g (state_over ring history mode (bytes ++ more) last) in
-    IsBeginning (line_bytes g.screen fewer) (line_bytes g.screen all)
+    → IsBeginning (line_course n g (state_over ring history mode bytes Failed)).events
+    (line_course n g (state_over ring history mode (bytes ++ more) last)).events
 
--- and a session's display bytes and accepted lines, whatever prompt and columns each line has
+-- and so are a session's, whatever prompt and columns each line has
 abbrev pub SessionsBegin : Type 0
 SessionsBegin =
     (n : ℕ) (g : Given) (at : ℕ → LineGiven) (ring : Ring) (history : Filed) (mode : EditMode)
     (bytes more : List ℕ) (last : Last)
-    → let fewer = session_by n g at (state_over ring history mode bytes Failed) in
-    let all = session_by n g at (state_over ring history mode (bytes ++ more) last) in
-    let screens = screens_for g at in
-    IsBeginning (display_bytes screens fewer.told) (display_bytes screens all.told)
-    × IsBeginning fewer.accepted all.accepted
+    → IsBeginning (session n g at (state_over ring history mode bytes Failed)).events
+    (session n g at (state_over ring history mode (bytes ++ more) last)).events
 
 -- the keys and pastes of the one, then what the other has
 abbrev pub coming_then : Coming → Coming → Coming
@@ -75,12 +98,12 @@ coming_then (CutOff item) more = CutOff item
 coming_then (Ends item) more = more
 coming_then (Refused why) more = Refused why
 
--- the bytes read as whole keys and pastes to their end, where no paste is announced
+-- the bytes are read as whole keys and pastes to their end, if no paste is announced
 abbrev pub AreWhole : EditMode → List ℕ → Type 0
 AreWhole mode bytes = IsTrue (are_whole (readings mode (chars_of bytes End)))
 
--- The keys and pastes of such bytes, of which the last isn't ESC, with others behind them are those
--- of the first, then those of the others.
+-- If the last of such bytes isn't ESC, then with other bytes after them the keys and pastes are
+-- those of the first, then those of the others.
 abbrev pub CutsAreFree : Type 0
 CutsAreFree =
     (mode : EditMode) (bytes more : List ℕ) (last : Last)

@@ -1,23 +1,23 @@
--- What a display shows over a session: what is to be seen of a line at its top, and what above.
-use Rattle.std.specs.Prelude.{◌≡◌, ⊤, ℕ, ◌+◌, ◌≤◌, Bool, true, false, if◌then◌else◌, List, [], ◌∷◌, ◌++◌, Some, is_some, Option, Ok}
+-- What a display shows during events: the line to be shown at its top, and the rows above.
+use Rattle.std.specs.Prelude.{◌≡◌, ⊤, ℕ, ◌+◌, ◌≤◌, if◌then◌else◌, List, [], ◌∷◌, ◌++◌, Some, is_some, Option, Ok}
 use Rattle.std.specs.List.{filter, flat_map}
 use Rattle.line_buffer.specs.Cells.{origin}
 use Rattle.line_buffer.specs.declared.layout.Layout.{Layout}
 use Rattle.line_buffer.specs.declared.layout.Position.{Position}
-use Rattle.line_editor.specs.Courses.{Turn, Open, Accept, Last, TurnsLead}
-use Rattle.line_editor.specs.Redraws.{Asked, fresh, info_text}
+use Rattle.line_editor.specs.Redraws.{Asked, Redraw, info_text}
 use Rattle.line_editor.specs.Redraws.Redraw.{Cleared}
-use Rattle.line_editor.specs.Sights.{Sight, sight, sight_drawn, no_sight, sight_of, ended_sight, info_after}
+use Rattle.line_editor.specs.Sights.{Sight, sight, sight_as, sight_drawn, no_sight, sight_of, ended_sight, info_after}
 use Rattle.line_editor.specs.Steps.{asked}
 use Rattle.line_editor.specs.Values.{EditStep, Value, Setting}
-use Rattle.line_editor.specs.Values.EditStep.{Draws}
+use Rattle.line_editor.specs.Values.EditStep.{Draws as DrawStep}
 use Rattle.line_screen.specs.Calls.{Screen, bytes_of, ruler_of}
-use Rattle.line_screen.specs.Chain.{View, Good, Picture, Shows, finish_of, cursor_of, above}
+use Rattle.line_screen.specs.Chain.{View, Good, Picture, Shows, empty_view, finish_of, cursor_of, above}
 use Rattle.line_screen.specs.Display.{Display, Placed, meaning}
-use Rattle.line_screen.specs.Drawing.{row_break, break_if}
+use Rattle.line_screen.specs.Drawing.{row_break}
 use Rattle.line_screen.specs.Laws.{widths}
 use Rattle.line_screen.specs.Measure.{measure_of}
-use Rattle.keyline.specs.Sessions.{Given, SessionState, session, turns_of, display_bytes}
+use Rattle.keyline.specs.Events.{Event, Begins, Draws, Rests, Breaks, all_of, session}
+use Rattle.keyline.specs.Sessions.{Given, LineGiven, SessionState}
 use Rattle.line_editor.specs.Commands.{Means, effect}
 use Rattle.line_editor.specs.LineScripts.{LineState, made_from, played_from, turn_script}
 use Rattle.line_editor.specs.declared.commands.Status.{Status}
@@ -25,7 +25,7 @@ use Rattle.line_keys.specs.Answers.{Custom}
 use Rattle.line_keys.specs.declared.command.Cmd.{Cmd}
 use Rattle.line_keys.specs.declared.command.Cmd.TheVariants.{Interrupt}
 
--- ---- what is to be seen, as one drawing from nothing
+-- ---- what is to be shown, as one drawing on a blank display
 
 abbrev pub picture : Sight → Picture
 picture x = record { prompt = x.prompt; line = x.line; place = x.place; info = info_text x.info }
@@ -38,8 +38,8 @@ place_in s x = if x.ended then finish_of s.columns (widths s) (picture x)
 abbrev pub view_in : Screen → ℕ → Sight → View
 view_in s top x = record { shown = picture x; top = top; place = place_in s x }
 
--- the bytes so far show what is to be seen, and the layout that is kept tells where its cursor and
--- its end are, whether information stands, and whether its prompt is the session's own
+-- the bytes so far show what is to be shown. The stored layout says where its cursor and its end
+-- are, whether information is shown, and whether its prompt is the session's own
 pub record DisplayHolds (s : Screen) (bytes : List ℕ) (over : List Placed) (top : ℕ) (l : Layout)
     (x : Sight) : Type 0 where
   pub good : Good s.columns (widths s) bytes over (view_in s top x)
@@ -56,27 +56,22 @@ pub record Low (s : Screen) (x : Sight) : Type 0 where
   pub cursor : (cursor_of s.columns (widths s) (picture x)).row ≤ 65535
 
 abbrev pub LowStep : Screen → Sight → EditStep → Type 0
-LowStep s x (Draws value marks redraw) = Low s (sight_drawn x redraw)
+LowStep s x (DrawStep value marks redraw) = Low s (sight_drawn x redraw)
 LowStep s x step = ⊤
 
 abbrev pub LowAll : Screen → Sight → List EditStep → Type 0
 LowAll s x [] = ⊤
 LowAll s x (r ∷ rs) = LowStep s x r × LowAll s (sight x r) rs
 
-abbrev pub LowTurns : Screen → Sight → List Turn → Type 0
-LowTurns s x [] = ⊤
-LowTurns s x (Open steps y ∷ rest) = LowAll s x steps × LowTurns s y rest
-LowTurns s x (Accept steps y ∷ rest) = LowAll s x steps × LowTurns s no_sight rest
-LowTurns s x (Last steps breaks ∷ rest) = LowAll s x steps
-
 -- ---- tops, and the rows above: a line's top is the row of its prompt's first cell
 
-abbrev pub clears : EditStep → Bool
-clears (Draws value marks Cleared) = true
-clears step = false
+abbrev pub top_drawn : Redraw → ℕ → ℕ
+top_drawn Cleared top = 0
+top_drawn redraw top = top
 
 abbrev pub top_by : EditStep → ℕ → ℕ
-top_by r top = if clears r then 0 else top
+top_by (DrawStep value marks redraw) top = top_drawn redraw top
+top_by step top = top
 
 abbrev pub top_after : List EditStep → ℕ → ℕ
 top_after [] top = top
@@ -86,9 +81,14 @@ top_after (r ∷ rs) top = top_after rs (top_by r top)
 abbrev pub next_top : Screen → ℕ → Sight → ℕ
 next_top s top x = top + (finish_of s.columns (widths s) (picture x)).row + 1
 
--- what stands in the rows above stays until the screen is cleared
+-- the rows above stay until the screen is cleared
+abbrev pub above_drawn : Redraw → List Placed → List Placed
+above_drawn Cleared over = []
+above_drawn redraw over = over
+
 abbrev pub above_by : EditStep → List Placed → List Placed
-above_by r over = if clears r then [] else over
+above_by (DrawStep value marks redraw) over = above_drawn redraw over
+above_by step over = over
 
 abbrev pub above_after : List EditStep → List Placed → List Placed
 above_after [] over = over
@@ -102,75 +102,88 @@ drawn_by s l steps = asked (ruler_of s) l steps
 abbrev pub bytes_for : Screen → Layout → List EditStep → List ℕ
 bytes_for s l steps = flat_map (bytes_of s) (drawn_by s l steps).calls
 
--- ---- what these bytes mean
+-- ---- the meaning of these bytes
 
--- a meaning with these rows above the top
-pub record HasMeaning (s : Screen) (bytes : List ℕ) (top : ℕ) (over : List Placed) : Type 0 where
+-- what is known of a display: its screen, the bytes that were sent, the row of the first cell of
+-- what is shown, the rows above, and what is shown
+pub record Face : Type 0 where
+  pub screen : Screen
+  pub bytes : List ℕ
+  pub top : ℕ
+  pub over : List Placed
+  pub seen : Sight
+
+abbrev pub face : Screen → List ℕ → ℕ → List Placed → Sight → Face
+face s bytes top over seen =
+    record { screen = s; bytes = bytes; top = top; over = over; seen = seen }
+
+abbrev pub blank : Screen → Face
+blank s = face s [] 0 [] no_sight
+
+-- a redraw for which these bytes were sent
+abbrev pub drawn_on : Face → Redraw → List (List ℕ) → Face
+drawn_on f redraw sent =
+    face f.screen (f.bytes ++ all_of sent) (top_drawn redraw f.top) (above_drawn redraw f.over)
+    (sight_drawn f.seen redraw)
+
+-- a new row, and the next line below everything
+abbrev pub broken : Face → Face
+broken f = record f { bytes = f.bytes ++ row_break }
+
+abbrev pub below : Face → Display → Face
+below f d = face f.screen f.bytes (next_top f.screen f.top f.seen) d.placed no_sight
+
+-- columns that a display's rows may have
+pub record IsScreen (s : Screen) : Type 0 where
+  pub least : 2 ≤ s.columns
+  pub most : s.columns ≤ 1000
+
+-- between two lines: from the top on the display is blank, and the cursor is in the first cell
+pub record IsAtRest (f : Face) : Type 0 where
+  pub screen : IsScreen f.screen
+  pub good : Good f.screen.columns (widths f.screen) f.bytes f.over (empty_view f.top)
+  pub nothing : f.seen ≡ no_sight
+
+-- before the first byte
+abbrev pub BlankIsAtRest : Type 0
+BlankIsAtRest = (s : Screen) → IsScreen s → IsAtRest (blank s)
+
+-- the bytes so far have a meaning, with these rows above the top
+pub record HasMeaning (f : Face) : Type 0 where
   pub display : Display
-  pub means : meaning s.columns (widths s) bytes ≡ Some display
-  pub over_is : filter (above top) display.placed ≡ over
+  pub means : meaning f.screen.columns (widths f.screen) f.bytes ≡ Some display
+  pub over_is : filter (above f.top) display.placed ≡ f.over
 
--- and from the top on one drawing from nothing, with the cursor at its place
-pub record MomentShown (s : Screen) (bytes : List ℕ) (x : Sight) (top : ℕ) (over : List Placed)
-    : Type 0 where
+-- and from the top on they show prompt and line like a single drawing on a blank display, with the
+-- current information, and the cursor at its place
+pub record MomentShown (f : Face) (prompt text : List ℕ) (place : ℕ) : Type 0 where
   pub display : Display
-  pub means : meaning s.columns (widths s) bytes ≡ Some display
-  pub shows : Shows s.columns (widths s) (picture x) top display
-  pub over_is : filter (above top) display.placed ≡ over
+  pub means : meaning f.screen.columns (widths f.screen) f.bytes ≡ Some display
+  pub shows : Shows f.screen.columns (widths f.screen)
+      (picture (sight_as prompt text place f.seen.info)) f.top display
+  pub over_is : filter (above f.top) display.placed ≡ f.over
 
--- after `bytes`, turn for turn: each turn that leaves its line open is a moment, at which its value
--- is shown; all that an accepted line left stands above the next one
-abbrev pub EachShown : Screen → List ℕ → ℕ → List Placed → Layout → List Turn → Type 0
-EachShown s bytes top over l [] = ⊤
-EachShown s bytes top over l (Open steps y ∷ rest) =
-    let new = bytes ++ bytes_for s l steps in
-    let now = top_after steps top in
-    let kept = above_after steps over in
-    MomentShown s new y now kept × EachShown s new now kept (drawn_by s l steps).layout rest
-EachShown s bytes top over l (Accept steps y ∷ rest) =
-    let new = (bytes ++ bytes_for s l steps) ++ row_break in
-    let now = top_after steps top in
-    (m : HasMeaning s new now (above_after steps over))
-    × EachShown s new (next_top s now y) m.display.placed (fresh s.mode) rest
-EachShown s bytes top over l (Last steps breaks ∷ rest) =
-    HasMeaning s ((bytes ++ bytes_for s l steps) ++ break_if breaks) (top_after steps top)
-    (above_after steps over)
+-- event after event: at each moment the bytes so far show prompt and line, and after each drawing
+-- they have a meaning. This holds as long as everything shown is within the rows that can be
+-- counted. Everything that an ended line left stays above the next one. A line on the same screen
+-- as the one before it continues below it; and each line can be shown from a blank display
+abbrev pub EachShown : Face → List Event → Type 0
+EachShown f [] = ⊤
+EachShown f (Begins s ∷ later) =
+    (s ≡ f.screen → EachShown f later) × (IsScreen s → EachShown (blank s) later)
+EachShown f (Draws redraw sent ∷ later) =
+    let g = drawn_on f redraw sent in Low g.screen g.seen → HasMeaning g × EachShown g later
+EachShown f (Rests prompt text place ∷ later) =
+    MomentShown f prompt text place × EachShown f later
+EachShown f (Breaks ∷ later) =
+    let g = broken f in (m : HasMeaning g) × EachShown (below g m.display) later
+EachShown f (event ∷ later) = EachShown f later
 
--- on a display that was blank, over a course of turns whose drawings stay within the rows that can
--- be counted
-abbrev pub DrawingsShow : Type 0
-DrawingsShow =
-    (s : Screen) → 2 ≤ s.columns → s.columns ≤ 1000 → (own : List ℕ) (turns : List Turn)
-    → TurnsLead own no_sight turns → LowTurns s no_sight turns
-    → EachShown s [] 0 [] (fresh s.mode) turns
-
--- ---- a session
-
--- the display bytes in parts: one for each moment, and one for each line's close
-abbrev pub parts_of : Screen → Layout → List Turn → List (List ℕ)
-parts_of s l [] = []
-parts_of s l (Open steps y ∷ rest) =
-    bytes_for s l steps ∷ parts_of s (drawn_by s l steps).layout rest
-parts_of s l (Accept steps y ∷ rest) =
-    (bytes_for s l steps ++ row_break) ∷ parts_of s (fresh s.mode) rest
-parts_of s l (Last steps breaks ∷ rest) = (bytes_for s l steps ++ break_if breaks) ∷ []
-
-abbrev pub all_of : List (List ℕ) → List ℕ
-all_of parts = flat_map (λ part. part) parts
-
--- the turns of a session are a course; its display bytes are their parts in order; and where all
--- that is to be seen stays within the rows that can be counted, the bytes up to each moment show it
--- at its top
-abbrev pub Displays : Given → SessionState → Type 0
-Displays g x =
-    (n : ℕ) → let turns = turns_of (session n g x) in let s = g.screen in
-    TurnsLead g.prompt no_sight turns
-    × (all_of (parts_of s (fresh s.mode) turns) ≡ display_bytes (λ line. s) (session n g x).told)
-    × (LowTurns s no_sight turns → EachShown s [] 0 [] (fresh s.mode) turns)
-
+-- a session, with a prompt and columns for each line, from any display between two lines
 abbrev pub SessionsShow : Type 0
 SessionsShow =
-    (g : Given) (x : SessionState) → 2 ≤ g.screen.columns → g.screen.columns ≤ 1000 → Displays g x
+    (n : ℕ) (g : Given) (at : ℕ → LineGiven) (x : SessionState) (f : Face)
+    → IsAtRest f → EachShown f (session n g at x).events
 
 -- from any bytes after which the display shows the one, the bytes of these steps lead to the other;
 -- the rows above stay until the screen is cleared
@@ -186,7 +199,7 @@ abbrev pub sight_behind : Cmd → Sight → Sight
 sight_behind Interrupt x = ended_sight x
 sight_behind cmd x = x
 
--- a command, whatever information stands
+-- a command, with any information
 abbrev pub CommandsShow : Type 0
 CommandsShow =
     (s : Screen) → 2 ≤ s.columns → s.columns ≤ 1000
@@ -195,7 +208,7 @@ CommandsShow =
     Lead s (sight_of a v info) e.steps
     (sight_behind cmd (sight_of a e.value (info_after e.steps info)))
 
--- a phrase and its command, whatever comes
+-- a phrase and its command, whatever the input is
 abbrev pub TurnsShow : Type 0
 TurnsShow =
     (s : Screen) → 2 ≤ s.columns → s.columns ≤ 1000

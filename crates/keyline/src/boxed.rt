@@ -1,4 +1,4 @@
-//! Devices in boxes, so that a session is moved without them.
+//! Devices in boxes, so that moving a session doesn't move them.
 
 ghost use Rattle.std.specs.Prelude.{◌≡◌, IfErr, IfOk, MatchResult};
 
@@ -6,7 +6,7 @@ use line_config::{DeviceFailed, Sink, Source};
 use std::alloc::Global;
 use std::marker::Model;
 
-/// A device in a box, seen as the device.
+/// A device in a box, used like the device.
 #[derive(Drop)]
 pub(crate) struct Boxed<D> {
     inside: Box<D>,
@@ -19,7 +19,7 @@ impl<D> Model for Boxed<D> {
 }
 
 impl<D> Boxed<D> {
-    /// Where there is no memory for the box the device comes back.
+    /// If the box can't be allocated, the device is returned.
     pub(crate) fn new(alloc: Global, device: D) -> Result<Self, D>
         ensures ok { IfOk result (λ boxed. boxed ≡ device) }
         ensures back { IfErr result (λ back. back ≡ device) }
@@ -88,7 +88,7 @@ pub(crate) struct Devices<S, D, L> {
 }
 
 impl<S, D, L> Devices<S, D, L> {
-    /// Where there is no memory for the boxes the devices come back.
+    /// If a box can't be allocated, the devices are returned.
     #[inline(never)]
     pub(crate) fn new(alloc: Global, source: S, display: D, lines: L) -> Result<Self, (S, D, L)>
         ensures { MatchResult result

@@ -1,8 +1,9 @@
-//! A session from what is wanted of it, and the program's defaults for the rest.
+//! Builds a session from its requested parts, with the program's defaults for the rest.
 
 ghost use Rattle.std.specs.Prelude.{◌≡◌, ◌≤◌, IfErr, IfOk, Some, [], false};
 ghost use Rattle.line_config.specs.Adapters.{gave, taken};
 ghost use Rattle.keyline.specs.Builders.{HasDefaults};
+ghost use Rattle.keyline.specs.Columns.{ColumnsBy};
 ghost use Rattle.keyline.specs.Program.{standard_config};
 ghost use Rattle.keyline.specs.Opened.{HasGiven, desk_of};
 ghost use Rattle.keyline.specs.Plays.{Opens, Unopens};
@@ -13,11 +14,15 @@ use line_config::{Config, ReadSource, Sink, SliceSource, Source, WriteSink};
 use line_help::Helper;
 use line_keys::{Decides, EventHandler, EventMap};
 use std::alloc::Global;
+use std::env;
 use std::io::{self, Input, Stderr, StdinLock};
 
-/// What a session is to be opened on. Where nothing else is said: the settings of the program with
-/// the keys of Emacs, nothing bound, no helper, the prompt `> ` and rows of 80 columns, a history
-/// that begins empty and isn't saved, and lines that are written nowhere.
+/// The columns of a row if no other number is set.
+const COLUMNS: u16 = 80;
+
+/// The parts with which a session is opened. The defaults are the program's settings with the keys
+/// of Emacs, no bindings, no helper, the prompt `> ` and rows of 80 columns. The history begins
+/// empty and isn't saved, and lines are not written.
 #[derive(Drop)]
 pub struct SessionBuilder<'p, F, S, H, D, L, T, B: Decides = EventHandler> {
     alloc: Global,
@@ -33,10 +38,10 @@ pub struct SessionBuilder<'p, F, S, H, D, L, T, B: Decides = EventHandler> {
     text: T,
 }
 
-/// A sink that keeps nothing.
+/// A sink that discards its bytes.
 pub type Nowhere = WriteSink<io::Sink>;
 
-/// A builder of which the source of keys and the display alone are said.
+/// A builder with only the source of keys and the display set.
 pub type DefaultBuilder<'p, S, D> = SessionBuilder<
     'p,
     SliceSource<'static>,
@@ -53,17 +58,43 @@ pub type StandardKeys = ReadSource<StdinLock<'static>>;
 /// A builder over the standard streams.
 pub type StandardBuilder<'p> = DefaultBuilder<'p, StandardKeys, WriteSink<Stderr>>;
 
-/// An editor over them, helped by `H`.
-pub type StandardEditor<H> = LineEditor<StandardKeys, H, WriteSink<Stderr>, Nowhere, Nowhere>;
+/// An editor over them with the helper `H`, whose history is saved to `T`.
+pub type StandardEditor<H, T = Nowhere> = LineEditor<
+    StandardKeys,
+    H,
+    WriteSink<Stderr>,
+    Nowhere,
+    T,
+>;
 
-/// The settings: each accepted line is kept in the history.
+/// The settings: each accepted line is added to the history.
 fn standard_config() -> Config
     ensures { result ≡ standard_config }
 {
     Config::builder().auto_add_history(true).build()
 }
 
-/// Over this source of keys and this display.
+/// The number of columns in a text of decimal digits, 2 to 1,000; 80 for any other text.
+fn columns_by(text: &str) -> u16
+    ensures { ColumnsBy text.now result }
+{
+    match text.parse::<u16>() {
+        Ok(columns) if !text.starts_with('+') && 2 <= columns && columns <= 1000 => columns,
+        _ => COLUMNS,
+    }
+}
+
+/// The number of columns in the environment variable `COLUMNS`; 80 if it has none or is not set.
+fn environment_columns(rt: &HostRuntime) -> u16
+    ensures { (2 ≤ result) × (result ≤ 1000) }
+{
+    match env::var(rt, "COLUMNS") {
+        Ok(text) => columns_by(text.as_str()),
+        Err(_) => COLUMNS,
+    }
+}
+
+/// A builder over this source of keys and this display.
 pub fn session_builder<'p, S: Source + Drop, D: Sink + Drop>(
     alloc: Global,
     source: S,
@@ -71,6 +102,7 @@ pub fn session_builder<'p, S: Source + Drop, D: Sink + Drop>(
 ) -> DefaultBuilder<'p, S, D>
     ensures defaults { HasDefaults ⟦<SliceSource<'static> as Source>⟧.feed
         ⟦<Nowhere as Sink>⟧.has_failed ⟦<Nowhere as Sink>⟧.has_failed result }
+    ensures columns { result.columns ≡ 80 }
     ensures devices { (result.source ≡ source) × (result.display ≡ display) }
 {
     SessionBuilder {
@@ -81,17 +113,20 @@ pub fn session_builder<'p, S: Source + Drop, D: Sink + Drop>(
         helper: None,
         prompt: "> ",
         source,
-        columns: 80,
+        columns: COLUMNS,
         display,
         lines: WriteSink::new(io::sink()),
         text: WriteSink::new(io::sink()),
     }
 }
 
-/// Keys from standard input, and the display on standard error.
+/// Keys from standard input, and the display on standard error, with the columns of the window.
+/// These are the number in the environment variable `COLUMNS`, in decimal digits, 2 to 1,000; 80 if
+/// it is not set or is anything else.
 pub fn standard_builder<'p>(rt: &HostRuntime) -> StandardBuilder<'p>
     ensures defaults { HasDefaults ⟦<SliceSource<'static> as Source>⟧.feed
         ⟦<Nowhere as Sink>⟧.has_failed ⟦<Nowhere as Sink>⟧.has_failed result }
+    ensures columns { (2 ≤ result.columns) × (result.columns ≤ 1000) }
     ensures nothing_read { gave result.source ≡ [] }
     ensures nothing_written { taken result.display ≡ [] }
     ensures keys { (⟦<StandardKeys as Source>⟧.feed result.source).failed ≡ false }
@@ -102,6 +137,7 @@ pub fn standard_builder<'p>(rt: &HostRuntime) -> StandardBuilder<'p>
         ReadSource::new(rt.stdin().reader()),
         WriteSink::new(rt.stderr()),
     )
+    .columns(environment_columns(rt))
 }
 
 impl<'p, F, S, H, D, L, T, B: Decides> SessionBuilder<'p, F, S, H, D, L, T, B>
@@ -113,28 +149,28 @@ where
     L: Sink + Drop,
     T: Sink + Drop,
 {
-    /// The settings.
+    /// Sets the settings.
     pub fn config(self, config: Config) -> Self
         ensures { result ≡ record self.entry { config = config } }
     {
         SessionBuilder { config, ..self }
     }
 
-    /// What stands before each line of `Session::run`; `Session::read_line` is handed one.
+    /// Sets the prompt of each line of `Session::run`; `Session::read_line` takes its own.
     pub fn prompt(self, prompt: &'p str) -> Self
         ensures { result ≡ record self.entry { prompt = prompt.entry } }
     {
         SessionBuilder { prompt, ..self }
     }
 
-    /// Columns of a row, 2 to 1,000.
+    /// Sets the number of columns of a row, 2 to 1,000.
     pub fn columns(self, columns: u16) -> Self
         ensures { result ≡ record self.entry { columns = columns } }
     {
         SessionBuilder { columns, ..self }
     }
 
-    /// What the keys do besides the tables.
+    /// Sets the bindings of keys, besides the tables.
     pub fn bindings<C: Decides>(
         self,
         bindings: EventMap<C>,
@@ -168,7 +204,7 @@ where
         }
     }
 
-    /// What completes, hints, highlights and validates.
+    /// Sets the helper.
     pub fn helper<G: Helper + Drop>(self, helper: G) -> SessionBuilder<'p, F, S, G, D, L, T, B>
         ensures { result ≡ record {
           alloc = self.entry.alloc;
@@ -199,7 +235,7 @@ where
         }
     }
 
-    /// Where accepted lines are written.
+    /// Sets the sink of accepted lines.
     pub fn lines<M: Sink + Drop>(self, lines: M) -> SessionBuilder<'p, F, S, H, D, M, T, B>
         ensures { result ≡ record {
           alloc = self.entry.alloc;
@@ -230,7 +266,8 @@ where
         }
     }
 
-    /// Where the history's text is loaded from, and where it is saved to where an entry is new.
+    /// Sets the source from which the history's text is loaded, and the sink to which it is saved
+    /// if an entry is new.
     pub fn history<G: Source + Drop, U: Sink + Drop>(
         self,
         history: G,

@@ -1,4 +1,4 @@
-//! Lines, one after the other: read, drawn, kept and written.
+//! Reads, draws, stores and writes one line after the other.
 
 ghost use Rattle.std.specs.Prelude.{◌≡◌, ◌++◌, ◌∷◌, ◌&&◌, [], IfErr, IsTrue, OnOk, OnErr, string_bytes, Ok};
 ghost use Rattle.line_config.specs.declared.errors.ReadlineError.TheVariants.{Lines, Memory};
@@ -19,7 +19,7 @@ use line_record::KillRing;
 use line_screen::{KeyReader, ScreenRenderer};
 use std::alloc::Global;
 
-/// A text and a newline, flushed.
+/// Writes a text and a newline, and flushes them.
 fn send_line<L: Sink>(lines: &mut L, text: &str) -> Result<(), DeviceFailed>
     ensures { Sends L.held L.has_failed (text.now ++ 0x0A ∷ []) lines.old lines.new
         result }
@@ -30,7 +30,7 @@ fn send_line<L: Sink>(lines: &mut L, text: &str) -> Result<(), DeviceFailed>
     Ok(())
 }
 
-/// The same, with the refusal of lines.
+/// The same, with the error `Lines`.
 fn write_line<L: Sink>(lines: &mut L, text: &str) -> Result<(), ReadlineError>
     ensures sends { Sends L.held L.has_failed (line_text text.now) lines.old lines.new
         result }
@@ -42,14 +42,14 @@ fn write_line<L: Sink>(lines: &mut L, text: &str) -> Result<(), ReadlineError>
     }
 }
 
-/// Whether the display gets a new row where a line ends so.
+/// Whether the display gets a new row after this ending.
 fn breaks_after(why: ReadlineError) -> bool
     ensures { result ≡ breaks_after why }
 {
     matches!(why, ReadlineError::Eof | ReadlineError::Interrupted)
 }
 
-/// Adds a line to the history, where the settings say so.
+/// Adds a line to the history, if the settings say so.
 fn remember(
     alloc: Global,
     history: &mut FileHistory,
@@ -67,7 +67,7 @@ fn remember(
     Ok(())
 }
 
-/// Draws the end of an accepted line, keeps the line and writes it.
+/// Draws the end of an accepted line, adds it to the history and writes it.
 fn keep<D: Sink + Drop, L: Sink>(
     alloc: Global,
     text: String,
@@ -91,7 +91,7 @@ fn keep<D: Sink + Drop, L: Sink>(
     }
 }
 
-/// Draws the end of a line, and keeps and writes it where it is accepted.
+/// Draws the end of a line. An accepted line is added to the history and written.
 fn close<D: Sink + Drop, L: Sink>(
     alloc: Global,
     outcome: Result<String, ReadlineError>,
@@ -119,10 +119,10 @@ fn close<D: Sink + Drop, L: Sink>(
     }
 }
 
-/// What goes on from line to line, with the devices, which are behind pointers.
+/// The state that is passed from line to line, with the devices, which are behind pointers.
 #[derive(Drop)]
 pub struct Desk<S: Source, H, D: Sink, L: Sink> {
-    /// Reads keys from the source, and keeps what was read ahead.
+    /// Reads keys from the source, and stores what was read ahead.
     pub(crate) reader: KeyReader<Boxed<S>>,
     /// Draws on the display.
     pub(crate) out: ScreenRenderer<Boxed<D>>,
@@ -145,7 +145,7 @@ impl<S: Source + Drop, H: Helper + Drop, D: Sink + Drop, L: Sink + Drop> Desk<S,
     ghost use Rattle.keyline.specs.Desks.{TakesLine};
     ghost use Rattle.keyline.specs.Known.{known_by};
 
-    /// Reads a line, draws it, and keeps and writes it where it is accepted.
+    /// Reads a line and draws it. An accepted line is added to the history and written.
     pub(crate) fn one_line<B: Decides>(
         self,
         alloc: Global,

@@ -1,6 +1,6 @@
-//! A line at a time, by `&mut self`.
+//! Reads one line at a time, through `&mut self`.
 
-ghost use Rattle.std.specs.Prelude.{◌≡◌, IfErr, IfOk, IfSome, IsSome, IsTrue, None, OnErr, OnOk, Some, option_map, string_bytes};
+ghost use Rattle.std.specs.Prelude.{◌≡◌, ◌≤◌, IfErr, IfOk, IfSome, IsSome, IsTrue, None, OnErr, OnOk, Some, option_map, string_bytes};
 ghost use Rattle.std.specs.Option.{option_map_or};
 ghost use Rattle.line_config.specs.declared.errors.ReadlineError.TheVariants.{Eof, Memory};
 ghost use Rattle.line_help.specs.History.{takes};
@@ -15,14 +15,14 @@ use line_config::{ReadlineError, Sink, Source};
 use line_help::{FileHistory, Helper};
 use line_keys::{Decides, EventHandler};
 
-/// A value, which is taken out only while it is used by value.
+/// A value that is taken out only while it is used by value.
 #[derive(Drop)]
 pub(crate) struct Held<A> {
     value: Option<A>,
     ghost here: { IsSome value },
 }
 
-/// Hands out the lines of a session, one at each call.
+/// Returns the lines of a session, one at each call.
 #[derive(Drop)]
 pub struct LineEditor<S: Source, H, D: Sink, L: Sink, T: Sink, B: Decides = EventHandler> {
     session: Held<Session<S, H, D, L, T, B>>,
@@ -48,7 +48,7 @@ where
     L: Drop,
     T: Drop,
 {
-    ghost use Rattle.keyline.specs.Editors.{EditorReads, ending_in, session_of};
+    ghost use Rattle.keyline.specs.Editors.{EditorReads, SetsSessionColumns, ending_in, session_of};
     ghost use Rattle.keyline.specs.Opened.{desk_of, given_in, history_of, text_sink, with_entry, with_helper};
 
     /// The lines of this session.
@@ -64,9 +64,9 @@ where
         }
     }
 
-    /// Reads the next line, drawn behind this prompt, as `Session::read_line` does. After
-    /// `Interrupted`, which Ctrl-C gives, the next call begins a new line. Every other refusal ends
-    /// the editor, which from then on answers it again and leaves its devices alone.
+    /// Reads the next line, drawn after this prompt, like `Session::read_line`. After
+    /// `Interrupted`, which Ctrl-C gives, the next call begins a new line. Every other error ends
+    /// the editor: from then on it returns that error again and doesn't use its devices.
     pub fn read_line(&mut self, prompt: &str) -> Result<String, ReadlineError>
         ensures { let helps =
             helping_by H.hint_of H.verdict_of H.completion_of H.update_of H.marks in
@@ -87,8 +87,21 @@ where
         line
     }
 
-    /// Adds a line to the history, whatever the settings say of accepted lines, and answers whether
-    /// it did, as `Session::add_history_entry` does.
+    /// Sets the number of columns of the display's rows for further lines, 2 to 1,000. Nothing is
+    /// drawn.
+    pub fn set_columns(&mut self, columns: u16)
+        requires { (2 ≤ columns) × (columns ≤ 1000) }
+        ensures session { SetsSessionColumns columns (session_of self.old) (session_of self.new) }
+        ensures ended { ending_in self.new ≡ ending_in self.old }
+    {
+        match &mut self.session.value {
+            Some(session) => session.set_columns(columns),
+            None => unreachable!(),
+        }
+    }
+
+    /// Adds a line to the history, whatever the settings say about accepted lines, and returns
+    /// whether it did, like `Session::add_history_entry`.
     pub fn add_history_entry(&mut self, line: &str) -> Result<bool, ReadlineError>
         ensures answer { IfSome (session_of self.old)
             (λ s. IfOk result (λ b. b ≡ takes (history_of s) line.now)) }
@@ -115,7 +128,7 @@ where
         }
     }
 
-    /// What helps from the next line on.
+    /// Sets the helper from the next line on.
     pub fn set_helper(&mut self, helper: Option<H>)
         ensures session { session_of self.new
             ≡ option_map (with_helper helper) (session_of self.old) }
@@ -127,8 +140,8 @@ where
         }
     }
 
-    /// Ends the session, for the reason that ended the editor, or as the end of input does: saves
-    /// the history, where an entry is new, and hands back the devices.
+    /// Ends the session, for the reason that ended the editor, or as at the end of input. Saves the
+    /// history if an entry is new, and returns the devices.
     pub fn finish(self) -> Ended<S, D, L, T>
         ensures { let why = option_map_or (λ e. e) (ending_in self) Eof in
             IfSome (session_of self) (λ s.

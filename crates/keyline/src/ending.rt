@@ -5,16 +5,16 @@ ghost use Rattle.keyline.specs.Endings.{status_of, ending_text};
 
 use line_config::ReadlineError;
 
-/// The one way in which a session ended.
+/// Why a session ended.
 #[derive(Clone, Copy, Debug, PartialEq, Eq)]
 pub enum Ending {
     /// The input ended, or a key ended it on an empty line.
     Eof,
     /// A command interrupted the session.
     Interrupted,
-    /// A character was asked for where the bytes hold none (RFC 3629).
+    /// The input isn't UTF-8 (RFC 3629) where a character is expected.
     NotUtf8,
-    /// Pasted text stood where no command asks for it.
+    /// Text was pasted where no command expects it.
     PasteOutOfPlace,
     /// The source of key bytes failed.
     Reader,
@@ -22,19 +22,19 @@ pub enum Ending {
     Display,
     /// The sink of accepted lines failed.
     Lines,
-    /// The sink of the history text failed, or a loaded text is not UTF-8.
+    /// The sink of the history's text failed, or a loaded text isn't UTF-8.
     HistoryText,
     /// A helper failed.
     Helper,
     /// A handler of a binding failed.
     Handler,
-    /// A growth of memory was refused.
+    /// An allocation failed.
     Memory,
 }
 
 impl Ending {
-    /// The exit status of a program that ends with its session: 0 for the end of input, 130 for an
-    /// interruption, as a shell has it, 3 and 4 for input that can't be read on, and 1 for a fault.
+    /// The exit status of a program that ends with its session. It is 0 for the end of input, 130
+    /// for an interruption (as in a shell), 3 and 4 for invalid input, and 1 for a fault.
     pub fn status(self) -> u8
         ensures { result ≡ status_of self }
     {
@@ -47,7 +47,7 @@ impl Ending {
         }
     }
 
-    /// The ending in words.
+    /// The message of the ending.
     pub fn text(self) -> &'static str
         ensures { result.now ≡ ending_text self }
     {

@@ -1,6 +1,6 @@
-//! The words of `--help`.
+//! The text of `--help`.
 
-/// The keys' page: what each key does, in few words.
+/// The page of the keys: what each key does, in a few words.
 pub(crate) fn keys() -> &'static str {
     "\
 The display is drawn on standard error, for the columns that the program was started with: a

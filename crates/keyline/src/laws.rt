@@ -1,19 +1,18 @@
-//! Laws of the definitions: each is the contract of a function that does nothing, or what a call
-//! comes to where more is known.
+//! Laws of the definitions. Each is the contract of a function that does nothing, or of a call
+//! about which more is known.
 
 ghost use Rattle.std.specs.Prelude.{IsTrue};
 ghost use Rattle.line_config.specs.Feed.{AlwaysTold};
 ghost use Rattle.line_editor.specs.Running.{helping_by};
-ghost use Rattle.keyline.specs.SessionLaws.{CutsAreFree, LinesBegin, SessionsBegin, ColumnsAreFree, LastAreKept};
+ghost use Rattle.keyline.specs.SessionLaws.{CutsAreFree, LinesBegin, SessionsBegin, ColumnsAreFree, LineColumnsAreFree, LastAreKept};
 ghost use Rattle.keyline.specs.Desks.{TakesLines};
 ghost use Rattle.keyline.specs.Known.{known_by};
 ghost use Rattle.keyline.specs.OneByte.{LayoutsTell, OneByte};
 ghost use Rattle.keyline.specs.Pasting.{PastesAreAccepted, PastedLinesAreAccepted};
-ghost use Rattle.keyline.specs.Playing.{SessionsCome};
-ghost use Rattle.keyline.specs.Plays.{PlaysSession};
-ghost use Rattle.keyline.specs.SessionScripts.{EventsTell, LinesTell};
+ghost use Rattle.keyline.specs.Plays.{RunsSession};
+ghost use Rattle.keyline.specs.Events.{LinesInOrder};
 ghost use Rattle.keyline.specs.Opened.{desk_of, given_in, prompt_of, text_sink};
-ghost use Rattle.keyline.specs.Shows.{DrawingsShow, SessionsShow, CommandsShow, TurnsShow};
+ghost use Rattle.keyline.specs.Shows.{BlankIsAtRest, SessionsShow, CommandsShow, TurnsShow};
 
 use crate::prompter::Prompter;
 use crate::session::{Ended, LineRead, Session};
@@ -21,9 +20,9 @@ use line_config::{ReadlineError, Sink, Source};
 use line_help::Helper;
 use line_keys::Decides;
 
-/// Over a source that gives what was said, whatever is asked of it, as one over memory does, the
-/// premise of a session holds: what it draws, writes and saves is that of its keys, and nothing has
-/// to be seen of what they gave.
+/// Over a source that always agrees with the assumption about its bytes, like one over memory, the
+/// premise of a session holds. What the session draws, writes and saves is that of its keys,
+/// whatever they are.
 pub fn always_told<
     S: Source + Drop,
     H: Helper + Drop,
@@ -37,16 +36,16 @@ pub fn always_told<
     ensures plays { let helps =
         helping_by H.hint_of H.verdict_of H.completion_of H.update_of H.marks in
         let known = known_by S.feed D.held D.waits D.has_failed L.held L.has_failed in
-        PlaysSession known T.held T.has_failed
+        RunsSession known T.held T.has_failed
         (given_in B.decides helps (prompt_of session) session)
         (desk_of session) (text_sink session) result }
 {
     session.run()
 }
 
-/// `read_line`, called until it refuses, with a prompt and columns for each line: the lines, the
-/// history and the display bytes are those of the session for which these are handed in. `run` is
-/// the case of one prompt, on one screen.
+/// `read_line`, called until it fails, with a prompt and columns for each line. The lines, the
+/// history and the display bytes are those of the session with these prompts and columns. `run` is
+/// the case of one prompt and one screen.
 pub fn lines<
     S: Source + Drop,
     H: Helper + Drop,
@@ -78,57 +77,47 @@ pub fn lines<
     }
 }
 
-/// The bytes up to each moment of a session show its value at its top, as one drawing from nothing,
-/// and all that was sent has a meaning. The rows above keep their cells until a screen is cleared.
-pub fn drawings_show()
-    ensures { DrawingsShow }
-{}
-
 /// From any display that shows a value, the bytes of a command lead to one that shows the value
-/// after it; an interruption leaves the cursor at the drawing's end.
+/// after it. An interruption leaves the cursor at the drawing's end.
 pub fn commands_show()
     ensures { CommandsShow }
 {}
 
 /// From any display that shows a value, the bytes of a turn, whatever is read in it, lead to one
-/// that shows the value after it. A course of turns is one after the other.
+/// that shows the value after it.
 pub fn turns_show()
     ensures { TurnsShow }
 {}
 
-/// A printable character of ASCII that is read alone, at the end of a line of such characters and
-/// newlines, with room and with no information before or after, sends its one byte. The layout that
-/// is kept tells exactly whether information stands.
+/// A printable ASCII character, read alone, sends only its one byte. It must be typed at the end of
+/// a line of such characters and newlines that has space in its row, with no information before or
+/// after. The stored layout says exactly whether information is shown.
 pub fn one_byte()
     ensures tells { LayoutsTell }
     ensures sends { OneByte }
 {}
 
-/// A session's display bytes are parts, one for each moment and one for each line's close, and up
-/// to each moment they show its value at its top.
+/// At each moment of a session's events the bytes so far show prompt and line at its top, like a
+/// single drawing on a blank display. After each drawing they have a meaning. The rows above keep
+/// their cells until a screen is cleared. This holds from any display between two lines, such as a
+/// blank one, and with a prompt and columns for each line.
 pub fn sessions_show()
-    ensures { SessionsShow }
+    ensures blank { BlankIsAtRest }
+    ensures sessions { SessionsShow }
 {}
 
-/// Two sessions that differ in columns alone accept the same lines and save the same text, where
-/// the prompt ends in the same column on both: they are the same, turn for turn.
+/// Two sessions that differ only in their columns accept the same lines and save the same text, if
+/// the prompt ends in the same column on both. Except for the bytes sent they are the same, event
+/// for event, and so is each line, with the values and marks of its steps.
 pub fn columns()
-    ensures { ColumnsAreFree }
+    ensures sessions { ColumnsAreFree }
+    ensures lines { LineColumnsAreFree }
 {}
 
-/// What a session does, event after event, comes to its report: its ending, the bytes drawn, what
-/// is left to come, the lines kept and the lines written. Any first events of it have written the
-/// first lines, and kept those and at most the next one. A line's events come to the line that is
-/// meant.
-pub fn events()
-    ensures sessions { EventsTell }
-    ensures lines { LinesTell }
-{}
-
-/// A session that goes as its script says has done all its events, or a fault stopped one of them,
-/// with those before it done: what display, sources and sinks have then is known.
-pub fn sessions_come<D: Sink, L: Sink>()
-    ensures { SessionsCome D.held L.held }
+/// Any first events of a session have written the first of its lines, and added these and at most
+/// the next one to the history.
+pub fn lines_in_order()
+    ensures { LinesInOrder }
 {}
 
 /// A history that began empty holds, under fixed settings, the last of the accepted lines that
@@ -137,22 +126,22 @@ pub fn kept()
     ensures { LastAreKept }
 {}
 
-/// Bytes that read as whole keys and pastes to their end, with no paste announced, read so whatever
-/// follows them, unless the last one is ESC: what comes is theirs, and then what follows.
+/// Bytes that are read as whole keys and pastes to their end, with no paste announced, are read so
+/// whatever follows them, unless the last one is ESC. The rest of the input follows.
 pub fn cutting()
     ensures { CutsAreFree }
 {}
 
-/// Where nothing is bound and nothing helps, a text that is sent as a paste and entered, at an
-/// empty line between two phrases, is accepted as it is, whatever is kept, in every mode: so is one
-/// that a session's line begins with.
+/// If nothing is bound and there is no helper, a text pasted at an empty line between two phrases
+/// and then entered is accepted as it is, in every mode. The same holds at the beginning of a
+/// session's line.
 pub fn paste()
     ensures phrases { PastesAreAccepted }
     ensures lines { PastedLinesAreAccepted }
 {}
 
-/// What is sent for fewer keys is a beginning of what is sent for more, and so are the lines: of a
-/// source that fails after its bytes, against one that gives more bytes, in a line and in a
+/// What is sent for fewer keys is a prefix of what is sent for more, and so are the lines. This
+/// compares a source that fails after its bytes with one that gives more bytes, in a line and in a
 /// session.
 pub fn fewer_keys()
     ensures lines { LinesBegin }

@@ -1,11 +1,11 @@
-//! A line editor: key bytes to accepted lines, with a display that shows the line while it is
+//! A line editor: key bytes become accepted lines, with a display that shows the line while it is
 //! typed, a kill ring, undo and a history.
 //!
-//! A [`Session`] is opened over its devices (the text of a history, a source of key bytes, a
-//! display, a sink of lines and one of the history's text) with settings, bindings and a helper. It
-//! is run to its ending, or asked for one line after the other ([`LineEditor`]). Its contracts say
-//! what it sends, writes and saves and how it ends, by the definitions in `specs/`. All that a call
-//! of it needs is handed on here.
+//! A [`Session`] is opened over its devices with settings, bindings and a helper. The devices are a
+//! source of key bytes, a display, a sink of lines, and a source and a sink of the history's text.
+//! A session runs to its ending, or reads one line after the other ([`LineEditor`]). Its contracts
+//! say what it sends, writes and saves, and how it ends, by the definitions in `specs/`. All types
+//! that its calls need are re-exported here.
 #![tactic(auto)]
 
 mod boxed;

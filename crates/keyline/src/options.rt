@@ -1,4 +1,4 @@
-//! The program's options, from the words of a command line.
+//! The program's options, parsed from a command line.
 
 ghost use Rattle.std.specs.Prelude.{◌≡◌, ◌≤◌, ◌↔◌, IfOk, IfSome, IsTrue, MatchOption, Some, codes, map};
 ghost use Rattle.std.specs.Prelude.{false, option_map, string_bytes};
@@ -20,34 +20,33 @@ use std::convert::AsStr;
 pub struct Options {
     /// The keymap.
     pub mode: EditMode,
-    /// Columns of a row, 2 to 1,000.
+    /// The number of columns of a row, 2 to 1,000.
     pub columns: u16,
-    /// What stands before each line.
+    /// The prompt of each line.
     pub prompt: String,
-    /// The path of the file that keeps the history, if any.
+    /// The path of the history file, if any.
     pub history: Option<String>,
-    /// The path of the file of words that complete, if any.
+    /// The path of the file with words to complete, if any.
     pub words: Option<String>,
-    /// Whether a line with open brackets goes on.
+    /// Whether a line with open brackets continues in a new row.
     pub brackets: bool,
 }
 
-/// What the words of a command line ask for.
+/// The meaning of a command line.
 #[derive(Debug, Drop)]
 pub enum Parsed {
     /// A session with these options.
     Run(Options),
     /// The help text, for standard output; the program then ends with status 0.
     Help(String),
-    /// What is wrong with the words, with the usage, for standard error; the status is 2.
+    /// What is wrong with the command line, and the usage, for standard error; the status is 2.
     Usage(String),
-    /// Nothing that can be known: a growth of memory was refused.
+    /// Unknown: an allocation failed.
     Memory,
 }
 
-/// Reads the words of a command line, of which the first is the program's name:
-/// `[--mode emacs|vi] [--columns 2..1000] [--prompt TEXT] [--history FILE] [--words FILE]
-/// [--brackets]`.
+/// Parses a command line; the first word is the program's name: `[--mode emacs|vi] [--columns
+/// 2..1000] [--prompt TEXT] [--history FILE] [--words FILE] [--brackets]`.
 pub fn parse<S: AsStr>(alloc: Global, words: &[S]) -> Parsed
     ensures answers { ParsesTo (map S.text words.now) result }
     ensures columns { HasColumns result }
@@ -58,7 +57,7 @@ pub fn parse<S: AsStr>(alloc: Global, words: &[S]) -> Parsed
     }
 }
 
-// What is said of words that give no options.
+// The answer to a command line without options.
 fn refused(alloc: Global, error: &Error) -> Parsed
     ensures says { Says (kind_of error.now) result }
     ensures columns { HasColumns result }
@@ -197,7 +196,7 @@ fn given<'a>(matches: &ArgMatches<'a>, id: &str) -> Option<&'a str>
     matches.get_str(id)
 }
 
-// The text in memory of its own, if there is one.
+// A copy of the text, if there is one.
 fn owned(alloc: Global, text: Option<&str>) -> Result<Option<String>, AllocError>
     ensures { IfOk result (λ own. option_map string_bytes own
         ≡ option_map (λ s. s.now) text.entry) }

@@ -1,4 +1,4 @@
-//! A session by the program's options.
+//! A session with the program's options.
 
 ghost use Rattle.std.specs.Prelude.{◌≡◌, ◌⊎◌, ◌≤◌, Err, IfErr, IfOk, false};
 ghost use Rattle.line_config.specs.Feed.{fresh_feed};
@@ -19,7 +19,7 @@ use line_keys::Bindings;
 use std::alloc::Global;
 use std::io::{Read, Write};
 
-/// The settings of options: each accepted line is kept in the history.
+/// The settings for the options: each accepted line is added to the history.
 pub fn config_of(options: &Options) -> Config
     ensures { result ≡ config_of options.now }
 {
@@ -29,7 +29,7 @@ pub fn config_of(options: &Options) -> Config
         .build()
 }
 
-/// What helps: these words complete, and brackets are validated where the options say so.
+/// The helper: it completes these words, and validates brackets if the options say so.
 pub fn helper_of(options: &Options, words: Option<Vec<String>>) -> Option<EditHelper>
     ensures { result ≡ helper_of options.now (word_texts words) }
 {
@@ -49,9 +49,9 @@ pub fn helper_of(options: &Options, words: Option<Vec<String>>) -> Option<EditHe
     })
 }
 
-/// Opens a session by options and runs it. The words, where they are given, complete the word
-/// before the cursor. The history's text is loaded from `history`, and saved to `text` where an
-/// entry is new. A refusal is of a session that was not opened.
+/// Opens a session with options and runs it. The words, if given, complete the word before the
+/// cursor. The history's text is loaded from `history`, and saved to `text` if an entry is new. An
+/// error means that the session was not opened.
 pub fn edit<F: Source + Drop, S: Source + Drop, D: Sink + Drop, L: Sink + Drop, T: Sink + Drop>(
     alloc: Global,
     options: &Options,
@@ -93,10 +93,9 @@ pub fn edit<F: Source + Drop, S: Source + Drop, D: Sink + Drop, L: Sink + Drop, 
 /// The same over any reader of keys and any writers, which are flushed at the end, and with a
 /// history's text in memory, before and after.
 ///
-/// It is said of the reader that it gives the bytes of `K`: for all of them that agree with what
-/// its reads gave, its session is that of these bytes, and the writers were handed its display
-/// bytes and its lines. A refusal is of a session that was not opened: the text isn't UTF-8, or
-/// memory was wanting.
+/// The reader is assumed to give the bytes of `K`. For any such bytes that agree with what its
+/// reads gave, the session is that of these bytes, and the writers got its display bytes and its
+/// lines. An error means that the session was not opened: the text isn't UTF-8, or memory ran out.
 pub fn play<K: Foretold, R: Read + Drop, E: Write + Drop, W: Write + Drop>(
     alloc: Global,
     options: &Options,

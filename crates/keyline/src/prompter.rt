@@ -1,6 +1,6 @@
-//! Prompts and columns for lines that are asked for one after the other.
+//! Prompts and columns for lines that are read one after the other.
 
-/// Who says what is handed in for each line: its prompt, and the columns of the display's rows.
+/// Gives each line its prompt, and the number of columns of the display's rows.
 pub trait Prompter {
     ghost use Rattle.std.specs.Prelude.{◌≡◌, ◌≤◌, ℕ, suc};
     ghost use Rattle.keyline.specs.Sessions.{LineGiven};
@@ -11,7 +11,7 @@ pub trait Prompter {
     fn prompt(&self) -> &str
         ensures { result.now ≡ (lines self.now 0).prompt };
 
-    /// The columns of the display's rows for the next line, 2 to 1,000.
+    /// The number of columns of the display's rows for the next line, 2 to 1,000.
     fn columns(&self) -> u16
         ensures columns { result ≡ (lines self.now 0).columns }
         ensures drawable { (2 ≤ result) × (result ≤ 1000) };

@@ -1,4 +1,4 @@
-//! Sessions: from key bytes to accepted lines, a history and display bytes.
+//! Sessions: key bytes become accepted lines, a history and display bytes.
 
 ghost use Rattle.std.specs.Prelude.{◌≡◌, ◌≤◌, IfErr, IfOk, IsTrue, OnErr, OnOk, false, string_bytes};
 ghost use Rattle.line_config.specs.declared.errors.ReadlineError.TheVariants.{Memory};
@@ -8,12 +8,12 @@ ghost use Rattle.line_editor.specs.Running.{helping_by};
 ghost use Rattle.keyline.specs.Known.{known_by};
 ghost use Rattle.keyline.specs.Playing.{Saves, ending_after};
 ghost use Rattle.keyline.specs.Opened.{HasGiven, ReadsNext, SetsColumns, desk_of, given_in, history_of, prompt_of, text_sink, with_entry};
-ghost use Rattle.keyline.specs.Plays.{BeginsSession, Finishes, LoadRefused, Loaded, Opens, Remains, RunsSession, Unopens};
+ghost use Rattle.keyline.specs.Plays.{BeginsSession, Finishes, LoadRefused, Loaded, Opens, Remains, RunsSession, Unopens, text_to_save};
 
 use crate::boxed::Devices;
 use crate::desk::{Desk, DeskAfter};
 use crate::ending::Ending;
-use line_config::{Config, ReadlineError, Sink, Source};
+use line_config::{Config, ReadlineError, Sink, Source, VecSink};
 use line_help::{FileHistory, Helper, History};
 use line_keys::{Decides, EventHandler, EventMap};
 use line_record::KillRing;
@@ -21,11 +21,11 @@ use line_screen::{KeyReader, ScreenRenderer};
 use std::alloc::Global;
 use std::{fmt, mem};
 
-/// The slots of a session's kill ring.
+/// The number of slots of a session's kill ring.
 const KILL_RING_SIZE: usize = 60;
 
-/// A session that is open: it reads keys from a source, draws on a display, writes accepted lines
-/// to a sink, and keeps them in a history whose text goes to another.
+/// An open session. It reads keys from a source, draws on a display, writes accepted lines to a
+/// sink, and adds them to a history whose text goes to another sink.
 #[derive(Drop)]
 pub struct Session<S: Source, H, D: Sink, L: Sink, T: Sink, B: Decides = EventHandler> {
     alloc: Global,
@@ -36,11 +36,11 @@ pub struct Session<S: Source, H, D: Sink, L: Sink, T: Sink, B: Decides = EventHa
     text: T,
 }
 
-/// A session that was not opened, with the devices that were handed in for it: nothing was asked of
-/// them, but of the history's text something may have been read.
+/// A session that was not opened, with the devices passed in for it. They were not used, except
+/// that some of the history's text may have been read.
 #[derive(Drop)]
 pub struct Unopened<F, S, D, L, T> {
-    /// Why: the history's text isn't UTF-8, its source has failed, or memory was wanting.
+    /// Why: the history's text isn't UTF-8, its source has failed, or memory ran out.
     pub why: ReadlineError,
     /// The source of the history's text, after what was read of it.
     pub history: F,
@@ -53,8 +53,8 @@ pub struct Unopened<F, S, D, L, T> {
 }
 
 impl<F, S, D, L, T> Unopened<F, S, D, L, T> {
-    // Not inlined, nor are `open` and `run`: where one function moves the devices to several
-    // places, LLVM takes minutes over it.
+    // Not inlined, and neither are `open` and `run`: if one function moves the devices to several
+    // places, LLVM takes minutes for it.
     #[inline(never)]
     fn new(why: ReadlineError, history: F, source: S, display: D, lines: L, text: T) -> Self
         ensures { result ≡ record {
@@ -77,7 +77,7 @@ impl<F, S, D, L, T> Unopened<F, S, D, L, T> {
     }
 }
 
-/// Shown as why.
+/// Shown as the reason.
 impl<F, S, D, L, T> fmt::Debug for Unopened<F, S, D, L, T> {
     fn fmt<W: fmt::Write>(&self, f: &mut fmt::Formatter<W>) -> fmt::Result {
         fmt::Debug::fmt(&self.why, f)
@@ -94,23 +94,38 @@ impl<F: Drop, S: Drop, D: Drop, L: Drop, T: Drop> From<Unopened<F, S, D, L, T>> 
     }
 }
 
-/// A session that has ended, with its history and the devices that it was handed.
+/// A session that has ended, with its history and its devices.
 #[derive(Drop)]
 pub struct Ended<S, D, L, T> {
     /// How it ended.
     pub ending: Ending,
-    /// The history, with nothing new in it where its text was saved.
+    /// The history, without new entries if its text was saved.
     pub history: FileHistory,
     /// The source of key bytes, after the last byte read.
     pub source: S,
-    /// The byte of it that was read ahead, to see what follows an Esc, and belongs to no key: what
-    /// is left to come begins with it.
+    /// The byte that was read ahead after an Esc and belongs to no key. It is the first byte of the
+    /// remaining input.
     pub ahead: Option<u8>,
     pub display: D,
     /// The sink of accepted lines.
     pub lines: L,
     /// The sink of the history's text.
     pub text: T,
+}
+
+impl<S, D, L> Ended<S, D, L, VecSink> {
+    /// The history's text, to be saved where it was loaded from. It is empty, and nothing must be
+    /// saved, if no entry is new or if memory ran out for the whole text.
+    pub fn text_to_save(&self) -> &[u8]
+        ensures { result.now ≡ text_to_save ⟦<VecSink as Sink>⟧.held
+            ⟦<VecSink as Sink>⟧.has_failed self.now.text }
+    {
+        if self.text.failed() {
+            &[]
+        } else {
+            self.text.bytes()
+        }
+    }
 }
 
 /// A session after a line, and the line that was accepted, or why there is none.
@@ -136,15 +151,15 @@ fn load<F: Source>(
     Ok(history)
 }
 
-/// What a session begins with: what of it may be refused.
+/// The parts with which a session begins whose allocation may fail.
 pub(crate) struct Beginning {
     pub(crate) prompt: String,
     pub(crate) ring: KillRing,
     pub(crate) history: FileHistory,
 }
 
-/// The prompt, the ring, and last the history, so that a text that was read whole is refused for
-/// itself alone.
+/// The prompt, the ring, and last the history. So if a text was read whole, only its own content
+/// can be the error.
 fn begin<F: Source>(
     alloc: Global,
     config: &Config,
@@ -167,7 +182,7 @@ fn begin<F: Source>(
     })
 }
 
-/// Saves the history, where an entry is new, and answers whether the sink took it.
+/// Saves the history if an entry is new, and returns whether the sink took it.
 fn save<T: Sink>(history: &mut FileHistory, text: &mut T) -> bool
     ensures { Saves T.held T.has_failed history.old history.new text.old text.new result }
 {
@@ -177,7 +192,7 @@ fn save<T: Sink>(history: &mut FileHistory, text: &mut T) -> bool
     }
 }
 
-/// What a session ends with: its history's failure counts where no fault came before.
+/// The ending of a session: the failure of its history counts if no fault came before.
 fn ending_after(why: ReadlineError, saved: bool) -> ReadlineError
     ensures { result ≡ ending_after why saved }
 {
@@ -200,8 +215,8 @@ where
     T: Drop,
 {
     /// Opens a session: the history is loaded, no key is read, and nothing is drawn yet. Rows of
-    /// the display have `columns` cells. Where it is refused, the devices come back, the source of
-    /// the history's text after what was read of it.
+    /// the display have `columns` cells. If it fails, the devices are returned, with the source of
+    /// the history's text after what was read from it.
     #[inline(never)]
     pub fn open<F: Source + Drop>(
         alloc: Global,
@@ -270,12 +285,12 @@ where
         })
     }
 
-    /// Reads the next line, drawn behind this prompt. An accepted line is added to the history
-    /// where the settings say so, written, and handed back.
+    /// Reads the next line, drawn after this prompt. An accepted line is added to the history if
+    /// the settings say so, written, and returned.
     ///
-    /// After each answer a further line may be asked for: after `Interrupted`, which Ctrl-C gives,
-    /// it begins with the ring and the history that were; after `Eof` it ends at once again, unless
-    /// the source has more to give.
+    /// After each answer another line may be read. After `Interrupted`, which Ctrl-C gives, it
+    /// begins with the same ring and history. After `Eof` it ends again at once, unless the source
+    /// has more to give.
     #[inline(never)]
     pub fn read_line(self, prompt: &str) -> LineRead<S, H, D, L, T, B>
         ensures { let helps =
@@ -306,7 +321,7 @@ where
         }
     }
 
-    /// From now on rows of the display have so many columns. Nothing is drawn.
+    /// Sets the number of columns of the display's rows for further lines. Nothing is drawn.
     pub fn set_columns(&mut self, columns: u16)
         requires { (2 ≤ columns) × (columns ≤ 1000) }
         ensures { SetsColumns columns self.old self.new }
@@ -314,8 +329,8 @@ where
         self.desk.out.set_columns(columns);
     }
 
-    /// Adds a line to the history, whatever the settings say of accepted lines, and answers whether
-    /// it did: some lines are ignored, as `History::add` says.
+    /// Adds a line to the history, whatever the settings say about accepted lines, and returns
+    /// whether it did: some lines are ignored, as `History::add` says.
     pub fn add_history_entry(&mut self, line: &str) -> Result<bool, ReadlineError>
         ensures answer { IfOk result (λ b. b ≡ takes (history_of self.old) line.now) }
         ensures added { OnOk result (self.new ≡ with_entry line.now self.old) }
@@ -333,8 +348,8 @@ where
         &self.desk.history
     }
 
-    /// Ends the session, for this reason: saves the history, where an entry is new, and hands back
-    /// the devices. A history that isn't saved counts where no fault came before.
+    /// Ends the session, for this reason: saves the history if an entry is new, and returns the
+    /// devices. If the history can't be saved, that is the ending, unless a fault came before.
     #[inline(never)]
     pub fn finish(self, why: ReadlineError) -> Ended<S, D, L, T>
         ensures { Finishes T.held T.has_failed (desk_of self) (text_sink self) why result }
@@ -362,7 +377,7 @@ where
     }
 
     /// Reads lines, draws and writes them, until the input or a fault ends it. The history is saved
-    /// once, after every ending.
+    /// once, whatever the ending.
     #[inline(never)]
     pub fn run(self) -> Ended<S, D, L, T>
         ensures { let known = known_by S.feed D.held D.waits D.has_failed L.held L.has_failed in

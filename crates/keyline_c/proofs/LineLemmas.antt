@@ -1,6 +1,8 @@
 -- What `run` leaves, and then the line's end.
-use Rattle.std.proofs.Common.{◌≡◌, inl, inr, ℕ, Bool, true, List, [], ◌++◌, Option, None, length, ◌+◌, arith, Result, Ok, Err, refl, sym, ap, ◌∙◌, subst, IsTrue}
-use Rattle.std.specs.Prelude.{flat_map, IsErrAnd, String, string_bytes}
+use Rattle.std.proofs.Common.{◌≡◌, inl, inr, ℕ, Bool, true, false, List, [], ◌∷◌, ◌++◌, Option, None, length, ◌+◌, arith, Result, Ok, Err, refl, sym, ap, ◌∙◌, subst, IsTrue}
+use Rattle.std.specs.List.{flat_map}
+use Rattle.std.specs.Prelude.{⊤, IsErrAnd, String, if◌then◌else◌, string_bytes}
+use Rattle.std.proofs.lemmas.Grind.{flat_map-append}
 use Rattle.std.specs.Global.{Global}
 use Rattle.line_config.specs.Feed.{Feed}
 use Rattle.line_config.specs.declared.config.Config.{Config}
@@ -9,26 +11,33 @@ use Rattle.line_config.specs.declared.errors.ReadlineError.{ReadlineError}
 use Rattle.line_config.specs.declared.errors.ReadlineError.TheVariants.{Display, Helper, Memory}
 use Rattle.line_config.specs.declared.memory.SliceSource.{SliceSource}
 use Rattle.line_config.specs.declared.memory.VecSink.{VecSink}
-use Rattle.line_editor.specs.Running.{Helping, Runs, outcome_of, line_calls}
+use Rattle.line_editor.specs.Courses.{breaks_after}
+use Rattle.line_editor.specs.LineScripts.{LineStage, LineState, kept, line_script, line_stage}
+use Rattle.line_editor.specs.Redraws.{fresh}
+use Rattle.line_editor.specs.Running.{Helping, Runs, kept_first, outcome_of, stage_first}
+use Rattle.line_editor.specs.Steps.{surface}
+use Rattle.line_editor.specs.Values.{Setting, Value}
 use Rattle.line_editor.specs.States.{reason_of}
-use Rattle.line_editor.proofs.ToldLemmas.{WholeLine, line_went}
 use Rattle.line_editor.specs.declared.running.Ran.{Ran}
 use Rattle.line_help.specs.History.{Filed}
 use Rattle.line_keys.specs.Answers.{Custom}
 use Rattle.line_keys.specs.Coming.{Coming, made_of}
 use Rattle.line_keys.specs.Feeds.{KeyFeed}
+use Rattle.line_keys.specs.Phrases.{Input}
+use Rattle.line_buffer.specs.declared.layout.Layout.{Layout}
 use Rattle.line_record.specs.Ring.{Ring}
-use Rattle.line_screen.specs.Calls.{Screen, bytes_of, canvas_of, screen_of, sink_of, ruler_of}
+use Rattle.line_screen.specs.Calls.{Screen, canvas_of, screen_of, sink_of, ruler_of}
 use Rattle.line_screen.specs.Reader.{coming_in, left_in}
 use Rattle.line_screen.specs.Reading.{kept_count}
 use Rattle.line_screen.specs.Drawing.{break_if}
 use Rattle.line_screen.specs.declared.reading.reader.KeyReader.{KeyReader}
 use Rattle.line_screen.specs.declared.renderer.ScreenRenderer.{ScreenRenderer}
-use Rattle.line_screen.proofs.CallLemmas.{sent_in_all}
 use Rattle.keyline.specs.Program.{EditHelper, config_of, edit_helping, helper_of, nothing_bound, program_given}
 use Rattle.keyline.specs.declared.options.Options.{Options}
-use Rattle.keyline.specs.Sessions.{coming_from, Given, SessionState, breaks, given_of, history_after, line_in, setting_in, state_over}
-use Rattle.keyline_c.specs.Lines.{Ends, IsWant, LeftBy, ReadsLine}
+use Rattle.keyline.specs.Events.{Breaks, Event, asks_events, bytes_drawn, end_events, line_course, played_in}
+use Rattle.keyline.specs.Sessions.{coming_from, Given, SessionState, given_of, history_after, setting_in, state_over}
+use Rattle.keyline.proofs.EventLemmas.{Whole, line_went, went_not}
+use Rattle.keyline_c.specs.Lines.{Ends, IsWant, LeftBy, ReadsLine, breaks}
 use Rattle.keyline_c.specs.declared.line.Left.{Left}
 
 wanting : (failed : Bool) (hook : Type 0) (e : ReadlineError) → reason_of failed hook e → IsWant e
@@ -41,6 +50,14 @@ wants : (o : Result (String Global) ReadlineError) (e : ReadlineError) → made_
 wants (Ok x) e is want = absurd (cc)
 wants (Err d) e is want = let same : d ≡ e = cc in subst IsWant (sym same) want
 
+end_bytes : (o : Result (List ℕ) ReadlineError) → flat_map bytes_drawn (end_events o) ≡ break_if (breaks o)
+end_bytes (Ok text) = refl
+end_bytes (Err e) = by (breaks_after e)
+  where
+    by : (b : Bool) → flat_map bytes_drawn (if b then Breaks ∷ [] else []) ≡ break_if b
+    by true = refl
+    by false = refl
+
 module _ {H K T : Type 0} (held waits : VecSink → List ℕ) (failed : VecSink → Bool) (helps : Option H → Helping) (config : Config) (custom : Custom) (prompt : List ℕ) (helper : Option H)
     (old : ScreenRenderer VecSink) (display : VecSink) (ring ring' : Ring) (history history' : Filed) (feed feed' : KeyFeed) (ran : Ran (ScreenRenderer VecSink) H K T) (F : SliceSource → Feed) (reader : KeyReader SliceSource) (left : Left) where
   abbrev given : Given
@@ -49,37 +66,50 @@ module _ {H K T : Type 0} (held waits : VecSink → List ℕ) (failed : VecSink 
   abbrev state : SessionState
   state = record { ring = ring; history = history; coming = feed.coming }
 
-  module _ (ends : Ends held (outcome_of ran) (sink_of ran.out) display history history') (fresh : held (sink_of old) ≡ []) (adds : config.auto_add_history ≡ true)
+  module _ (ends : Ends held (outcome_of ran) (sink_of ran.out) display history history') (fresh_is : held (sink_of old) ≡ []) (adds : config.auto_add_history ≡ true)
       (outcome_is : left.outcome ≡ ran.outcome) (display_is : left.display ≡ display) (ring_is : left.ring ≡ ring') (history_is : left.history ≡ history')
       (rest_is : left.rest ≡ length (left_in F reader)) (coming_is : coming_in F reader ≡ feed'.coming) where
-    abbrev LineWhole : ℕ → Type 0
-    LineWhole n = WholeLine (canvas_of held waits failed) (ruler_of (screen_of old)) (setting_in given history.kept.entries) n custom config old ran.out ring ring' feed.coming feed'.coming (outcome_of ran)
+    abbrev setting : Setting
+    setting = setting_in given history.kept.entries
 
-    left_whole : (n : ℕ) → LineWhole n → LeftBy held F given (line_in n given state) history left
-    left_whole n w =
-        let t = line_in n given state in
-        let calls = line_calls (ruler_of (screen_of old)) t.turns in
-        let sent_bytes : List ℕ = flat_map (bytes_of (screen_of old)) calls in
-        let sent = sent_in_all held waits failed calls old ran.out w.calls in
+    abbrev first : LineStage (ScreenRenderer VecSink)
+    first = stage_first old (ruler_of (screen_of old)) setting config ring feed.coming
+
+    -- no lines are written here
+    abbrev unwritten : Unit {0} → List ℕ
+    unwritten none = []
+
+    abbrev LineWhole : ℕ → LineStage (ScreenRenderer VecSink) → Type 0
+    LineWhole n y = Whole held unwritten true (tt {0}) history waits failed (screen_of old) setting config.indent_size (line_script n custom) first y (outcome_of ran)
+
+    left_whole : (n : ℕ) (value : Value) (input : Input) (layout : Layout) → LineWhole n (line_stage (surface ran.out layout) (kept value input ring' feed'.coming)) → LeftBy held F (line_course n given state) left
+    left_whole n value input layout w =
+        let c = line_course n given state in
+        let o = c.answer.0 in
+        let asks : List Event = asks_events (screen_of old) setting config.indent_size (fresh (screen_of old).mode) (kept_first setting config ring feed.coming) (played_in n given state).asks in
+        let rest : LineState → Coming = λ k. k.coming in
         record {
           reader = reader;
           rest_is = rest_is;
-          goes_on = coming_is ∙ w.rest_is;
-          outcome_is = ap (made_of string_bytes) outcome_is ∙ w.outcome_is;
-          drawn = ap held display_is ∙ (ends.drawn ∙ (ap (λ o. held (sink_of ran.out) ++ break_if (breaks o)) w.outcome_is
-              ∙ (ap (λ bytes. bytes ++ break_if (breaks t.outcome)) sent.takes
-              ∙ ap (λ bytes. (bytes ++ sent_bytes) ++ break_if (breaks t.outcome)) fresh)));
-          ring_is = ring_is ∙ w.ring_is;
-          history_is = history_is ∙ (ends.kept ∙ (ap (λ o. history_after true o history) w.outcome_is ∙ ap (λ b. history_after b t.outcome history) (sym adds)));
+          goes_on = coming_is ∙ ap rest (sym w.rest_is);
+          outcome_is = ap (made_of string_bytes) outcome_is ∙ sym w.answer_is;
+          drawn = ap held display_is ∙ (ends.drawn ∙ (ap (λ o. held (sink_of ran.out) ++ break_if (breaks o)) (sym w.answer_is)
+              ∙ (ap (λ bytes. bytes ++ break_if (breaks o)) w.are_done.drawn
+              ∙ (ap (λ bytes. (bytes ++ flat_map bytes_drawn asks) ++ break_if (breaks o)) fresh_is
+              ∙ (ap (λ bytes. flat_map bytes_drawn asks ++ bytes) (sym (end_bytes o)) ∙ sym (flat_map-append bytes_drawn asks (end_events o)))))));
+          ring_is = ring_is ∙ ap (λ (k : LineState). k.ring) (sym w.rest_is);
+          history_is = history_is ∙ (ends.kept ∙ (ap (λ o. history_after true o history) (sym w.answer_is) ∙ ap (λ b. history_after b o history) (sym adds)));
         }
 
     pub reads_line : Runs (canvas_of held waits failed) helps custom prompt helper history.kept.entries config old ring feed ran ring' feed' → IsTrue feed'.told
         → ReadsLine held F given state feed.bound left
     reads_line runs told = record {
-      goes = λ n b. elim (line_went (canvas_of held waits failed) (ruler_of (screen_of old)) (setting_in given history.kept.entries) n custom config old ran.out ring ring' feed.coming feed'.coming (outcome_of ran)
-          runs.value runs.input runs.layout (runs.goes told n b)) [
-            | inl w ↦ inl (left_whole n w)
-            | inr cut ↦ inr (wants left.outcome cut.stopped.fault (ap (made_of string_bytes) outcome_is ∙ cut.stopped.result_is) (wanting _ _ cut.stopped.fault cut.cause))
+      goes = λ n b.
+          let y = line_stage (surface ran.out runs.layout) (kept runs.value runs.input ring' feed'.coming) in
+          elim (line_went held unwritten true (tt {0}) history waits failed (screen_of old) setting config.indent_size (line_script n custom) first y (outcome_of ran) refl (runs.goes told n b)) [
+            | inl w ↦ inl (left_whole n runs.value runs.input runs.layout w)
+            | inr cut ↦ inr (went_not held unwritten true (λ e. (outcome_of ran ≡ Err e) × reason_of true ⊤ e)
+                (λ e is. wants left.outcome e (ap (made_of string_bytes) outcome_is ∙ is.0) (wanting true ⊤ e is.1)) _ _ _ cut)
           ];
     }
 

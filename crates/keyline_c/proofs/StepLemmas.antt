@@ -27,7 +27,7 @@ module _ (held : VecSink → List ℕ) (sent keys : ℕ) (left : Left) (old : Ro
     told_so (Err Room) told h = record { slots = slots; are_slots = are_slots; step_is = told; texts = h }
     told_so (Err _) told h = absurd h
 
-    -- its lengths are told, and its texts are given or have no room
+    -- its lengths are told, and its texts are given or do not fit
     pub end_told : {A : Type 0} (given : RoomTexts) (result : Result A Status) → GivesTexts given old new result → given.display ≡ drop sent (held left.display) → given.line ≡ accepted_text left
         → given.history ≡ text_to_save left.history → given.kills ≡ slots.texts.items → given.ends ≡ slots.ends.items → step' ≡ with_lengths given (with_end held keys left slots step)
         → GivesEnd held sent keys left old new step step' result

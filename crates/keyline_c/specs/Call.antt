@@ -1,4 +1,4 @@
--- The call that C makes, and what it answers.
+-- The call from C, and its result.
 use Rattle.std.specs.Prelude.{◌≡◌, ◌⊎◌, ℕ, List, Result, Ok, Err, IsErrAnd, length}
 use Rattle.line_config.specs.Feed.{Feed}
 use Rattle.line_config.specs.declared.memory.SliceSource.{SliceSource}
@@ -12,7 +12,7 @@ use Rattle.keyline_c.specs.declared.export.KeylineStep.{KeylineStep}
 use Rattle.keyline_c.specs.declared.line.Left.{Left}
 use Rattle.keyline_c.specs.declared.status.Status.{Status}
 
--- nothing is told, but what was sent before
+-- nothing is reported except what was sent before
 abbrev pub untold : ℕ → KeylineStep
 untold sent = record {
   status = 0;
@@ -32,19 +32,19 @@ status_in (Err status) = status
 
 module _ (held : VecSink → List ℕ) (feed : SliceSource → Feed) (options : KeylineOptions)
     (keys prompt words history kills ends : List ℕ) (old new : RoomTexts) where
-  -- the line of these keys was read, and this is given of it
+  -- the line of these keys was read, and its texts are returned
   pub record GivesLine (step step' : KeylineStep) (result : Result Status Status) : Type 0 where
     pub left : Left
     pub reads : ReadsKeys held feed options keys prompt words history kills ends left
     pub gives : Gives held options.sent (length keys) left old new step step' result
 
-  -- or it wasn't, since what is handed in can't be meant or memory is wanting, and nothing is done
+  -- or it wasn't, because an argument is invalid or memory ran out, and nothing is done
   abbrev pub Answers : KeylineStep → KeylineStep → Result Status Status → Type 0
   Answers step step' result = GivesLine step step' result
       ⊎ (IsErrAnd result (IsRefused options prompt words history kills ends)
       × (step' ≡ step) × (new ≡ old))
 
-  -- THE relation of the call: the step tells by its number how it ended
+  -- the relation of the call: the step's number says how it ended
   pub record Calls (step : KeylineStep) : Type 0 where
     pub result : Result Status Status
     pub told : KeylineStep

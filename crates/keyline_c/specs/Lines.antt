@@ -1,5 +1,6 @@
--- A line of the keys so far: what is handed in for it, and what it leaves.
-use Rattle.std.specs.Prelude.{◌≡◌, ◌⊎◌, ℕ, ◌<◌, ◌++◌, Bool, true, if◌then◌else◌, List, Result, Err, IsErrAnd, length, string_bytes}
+-- A line of the keys so far: its arguments and its result.
+use Rattle.std.specs.Prelude.{◌≡◌, ◌⊎◌, ℕ, ◌<◌, ◌++◌, Bool, true, if◌then◌else◌, List, Result, Ok, Err, IsErrAnd, length, string_bytes}
+use Rattle.std.specs.List.{flat_map}
 use Rattle.line_config.specs.Feed.{Feed}
 use Rattle.line_config.specs.declared.device.Last.{Last}
 use Rattle.line_config.specs.declared.device.Last.TheVariants.{End, Failed}
@@ -7,7 +8,7 @@ use Rattle.line_config.specs.declared.errors.ReadlineError.{ReadlineError}
 use Rattle.line_config.specs.declared.errors.ReadlineError.TheVariants.{Display, Helper, HistoryText, Memory}
 use Rattle.line_config.specs.declared.memory.SliceSource.{SliceSource}
 use Rattle.line_config.specs.declared.memory.VecSink.{VecSink}
-use Rattle.line_editor.specs.Courses.{LineReport}
+use Rattle.line_editor.specs.Courses.{breaks_after}
 use Rattle.line_help.specs.History.{Filed}
 use Rattle.line_help.specs.HistoryText.{has_bad_row}
 use Rattle.line_help.specs.WordList.{rows_to_come}
@@ -17,7 +18,8 @@ use Rattle.line_screen.specs.Reader.{coming_in, left_in}
 use Rattle.line_screen.specs.declared.reading.reader.KeyReader.{KeyReader}
 use Rattle.keyline.specs.Program.{config_of, program_given}
 use Rattle.keyline.specs.Plays.{loaded_from, loads}
-use Rattle.keyline.specs.Sessions.{Given, SessionState, breaks, history_after, line_bytes, line_in, state_over}
+use Rattle.keyline.specs.Events.{Course, bytes_drawn, line_course}
+use Rattle.keyline.specs.Sessions.{Given, SessionState, history_after, state_over}
 use Rattle.keyline.specs.declared.options.Options.{Options}
 use Rattle.keyline_c.specs.Meant.{AreMeant, OptionsMean, whole, words_in}
 use Rattle.keyline_c.specs.Slots.{IsRingOf}
@@ -27,40 +29,45 @@ use Rattle.keyline_c.specs.declared.status.Status.{Status}
 use Rattle.keyline_c.specs.declared.status.Status.TheVariants as Refusal
 use Rattle.line_record.specs.Ring.{Ring}
 
--- what stands after the keys: their end, or the failure that says that more are wanted
+-- what follows the keys: their end, or a failure if more keys may follow
 abbrev pub last_of : Bool → Last
 last_of ended = if ended then End else Failed
 
--- memory was wanting: for the line, for its display bytes, or for what helps
+-- memory ran out: for the line, for its display bytes, or for its helper
 abbrev pub IsWant : ReadlineError → Type 0
 IsWant e = (e ≡ Memory) ⊎ ((e ≡ Display) ⊎ (e ≡ Helper))
 
--- where memory was not wanting, all is left as the line says: so many bytes are left for a reader
--- that goes on with what stands after the line
-pub record LeftBy (held : VecSink → List ℕ) (feed : SliceSource → Feed) (g : Given)
-    (t : LineReport) (old : Filed) (left : Left) : Type 0 where
+-- if memory didn't run out, the result is the line's: so many bytes are left for a reader that
+-- continues after the line
+pub record LeftBy (held : VecSink → List ℕ) (feed : SliceSource → Feed)
+    (line : Course (Result (List ℕ) ReadlineError × SessionState)) (left : Left) : Type 0 where
   pub reader : KeyReader SliceSource
-  pub outcome_is : made_of string_bytes left.outcome ≡ t.outcome
-  pub drawn : held left.display ≡ line_bytes g.screen t
-  pub ring_is : left.ring ≡ t.ring
-  pub history_is : left.history ≡ history_after g.config.auto_add_history t.outcome old
+  pub outcome_is : made_of string_bytes left.outcome ≡ line.answer.0
+  pub drawn : held left.display ≡ flat_map bytes_drawn line.events
+  pub ring_is : left.ring ≡ line.answer.1.ring
+  pub history_is : left.history ≡ line.answer.1.history
   pub rest_is : left.rest ≡ length (left_in feed reader)
-  pub goes_on : coming_in feed reader ≡ t.rest
+  pub goes_on : coming_in feed reader ≡ line.answer.1.coming
 
--- THE relation of a line. More fuel than the source has bytes is enough
+-- the relation of a line. More fuel than the source has bytes is enough
 pub record ReadsLine (held : VecSink → List ℕ) (feed : SliceSource → Feed) (g : Given)
     (x : SessionState) (bound : ℕ) (left : Left) : Type 0 where
-  pub goes : (n : ℕ) → bound < n → LeftBy held feed g (line_in n g x) x.history left
+  pub goes : (n : ℕ) → bound < n → LeftBy held feed (line_course n g x) left
       ⊎ IsErrAnd left.outcome IsWant
 
--- the end of a line: a new row where it says so, and an accepted one in the history
+-- after an accepted line, and after the endings that say so, the display gets a new row
+abbrev pub breaks : Result (List ℕ) ReadlineError → Bool
+breaks (Ok text) = true
+breaks (Err e) = breaks_after e
+
+-- the end of a line: a new row if its ending asks for one, and an accepted one in the history
 pub record Ends (held : VecSink → List ℕ) (outcome : Result (List ℕ) ReadlineError)
     (old new : VecSink) (history history' : Filed) : Type 0 where
   pub drawn : held new ≡ held old ++ break_if (breaks outcome)
   pub kept : history' ≡ history_after true outcome history
 
--- THE relation of a line by what C hands in: the options are meant, and it is the line of these
--- keys, by these words, over this history and with the ring of these slots
+-- the relation of a line and its arguments: the options are valid, and it is the line of these
+-- keys, with these words, this history and these slots
 pub record ReadsKeys (held : VecSink → List ℕ) (feed : SliceSource → Feed)
     (options : KeylineOptions) (keys prompt words history kills ends : List ℕ) (left : Left)
     : Type 0 where
@@ -73,8 +80,7 @@ pub record ReadsKeys (held : VecSink → List ℕ) (feed : SliceSource → Feed)
       (last_of options.ended)) (length keys) left
 
 module _ (options : KeylineOptions) (prompt words history kills ends : List ℕ) where
-  -- what is handed in can't be meant: the options, a row of the words or of the history, or the
-  -- kill ring
+  -- an argument is invalid: the options, a row of the words or of the history, or the kill ring
   abbrev pub CantBeMeant : Type 0
   CantBeMeant = ((o : Options) → AreMeant options prompt o → ⊥)
       ⊎ ((has_bad_row (rows_to_come (whole words)) ≡ true)
@@ -82,7 +88,7 @@ module _ (options : KeylineOptions) (prompt words history kills ends : List ℕ)
       × (loads (config_of o) (whole history) ≡ Err HistoryText))
       ⊎ ((ring : Ring) → IsRingOf kills ends options.place ring → ⊥)))
 
-  -- why a line isn't read: that, or memory was wanting, and then its options can be meant
+  -- why a line isn't read: that, or memory ran out while its options are valid
   abbrev pub IsRefused : Status → Type 0
   IsRefused Refusal.Argument = CantBeMeant
   IsRefused Refusal.Memory = OptionsMean options prompt (Err Refusal.Memory)

@@ -1,4 +1,4 @@
--- What the arguments of a call mean.
+-- The meaning of the arguments of a call.
 use Rattle.std.specs.Prelude.{◌≡◌, ◌≢◌, ◌≤◌, ◌==◌, ℕ, true, false, if◌then◌else◌, List, [], ◌∷◌, Option, Some, None, Result, Ok, Err, String, string_bytes}
 use Rattle.std.specs.Global.{Global, Vec}
 use Rattle.std.specs.Str.{IsUtf8}
@@ -21,7 +21,7 @@ use Rattle.keyline_c.specs.declared.status.Status.TheVariants.{Argument, Memory}
 abbrev pub mode_numbered : ℕ → Option EditMode
 mode_numbered code = if code == 0 then Some Emacs else if code == 1 then Some Vi else None
 
--- these are the options of a line behind this prompt
+-- these are the options of a line after this prompt
 pub record AreMeant (options : KeylineOptions) (prompt : List ℕ) (o : Options) : Type 0 where
   pub mode_is : mode_numbered options.mode ≡ Some o.mode
   pub columns_are : o.columns ≡ options.columns
@@ -31,7 +31,7 @@ pub record AreMeant (options : KeylineOptions) (prompt : List ℕ) (o : Options)
   pub no_words : o.words ≡ None
   pub brackets_are : o.brackets ≡ options.brackets
 
--- they are meant, or none can be; or memory was wanting for a prompt where they can be
+-- the options, or the arguments are invalid; or memory ran out for the prompt of valid ones
 abbrev pub OptionsMean : KeylineOptions → List ℕ → Result Options Status → Type 0
 OptionsMean options prompt (Ok o) = AreMeant options prompt o
 OptionsMean options prompt (Err Argument) = (o : Options) → AreMeant options prompt o → ⊥
@@ -43,19 +43,19 @@ OptionsMean options prompt (Err status) = ⊥
 abbrev pub whole : List ℕ → Feed
 whole text = fresh_feed text End
 
--- the words of its rows; without a byte nothing completes
+-- the words of its rows; none for an empty text
 abbrev pub words_in : List ℕ → Option (List (List ℕ))
 words_in [] = None
 words_in (byte ∷ bytes) = Some (entries_of false (rows_to_come (whole (byte ∷ bytes))))
 
--- a text's words; or one of its rows isn't UTF-8, or memory was wanting
+-- a text's words; or one of its rows isn't UTF-8, or memory ran out
 abbrev pub WordsMean : List ℕ → Result (Option (Vec (String Global))) Status → Type 0
 WordsMean text (Ok words) = word_texts words ≡ words_in text
 WordsMean text (Err Argument) = has_bad_row (rows_to_come (whole text)) ≡ true
 WordsMean text (Err Memory) = text ≢ []
 WordsMean text (Err status) = ⊥
 
--- a text's history; or one of its rows isn't UTF-8, or memory was wanting
+-- a text's history; or one of its rows isn't UTF-8, or memory ran out
 abbrev pub HistoryMeans : Options → List ℕ → Result Filed Status → Type 0
 HistoryMeans o text (Ok history) = history ≡ loaded_from (config_of o) (whole text)
 HistoryMeans o text (Err Argument) = loads (config_of o) (whole text) ≡ Err HistoryText

@@ -1,4 +1,4 @@
--- Texts that are put into rooms, and what is told of them.
+-- Texts copied into the caller's buffers, and what is reported of them.
 use Rattle.std.specs.Prelude.{◌≡◌, ◌⊎◌, ◌≤◌, ◌<◌, ◌-◌, ℕ, Bool, true, false, List, ◌++◌, Result, Ok, Err, drop, length}
 use Rattle.keyline_c.specs.declared.export.KeylineStep.{KeylineStep}
 use Rattle.keyline_c.specs.declared.export.Rooms.{Rooms}
@@ -6,7 +6,7 @@ use Rattle.keyline_c.specs.declared.export.Texts.{Texts}
 use Rattle.keyline_c.specs.declared.status.Status.{Status}
 use Rattle.keyline_c.specs.declared.status.Status.TheVariants.{Argument, Room}
 
--- what stands in each room
+-- the content of each buffer
 pub record RoomTexts : Type 0 where
   pub display : List ℕ
   pub line : List ℕ
@@ -26,7 +26,7 @@ abbrev pub texts_of : Texts → RoomTexts
 texts_of texts = room_texts texts.display.now texts.line.now texts.history.now texts.kills.now
     texts.ends.now
 
--- these are the same rooms, whatever stands in them by now
+-- these are the same buffers, whatever their content is now
 abbrev pub SameRooms : Rooms → Rooms → Type 0
 SameRooms old new = new ≡ record {
   display = record old.display { now = new.display.now };
@@ -36,12 +36,12 @@ SameRooms old new = new ≡ record {
   ends = record old.ends { now = new.ends.now };
 }
 
--- what is given stands at the front of the room, and what stood behind it stays
+-- the text is at the front of the buffer, and the rest of the buffer stays
 pub record IsPut {T : Type 0} (given old new : List T) : Type 0 where
   pub fits : length given ≤ length old
   pub room_is : new ≡ given ++ drop (length given) old
 
--- each of these stands in its room
+-- each text is in its buffer
 pub record ArePut (given old new : RoomTexts) : Type 0 where
   pub display : IsPut given.display old.display new.display
   pub line : IsPut given.line old.line new.line
@@ -49,7 +49,7 @@ pub record ArePut (given old new : RoomTexts) : Type 0 where
   pub kills : IsPut given.kills old.kills new.kills
   pub ends : IsPut given.ends old.ends new.ends
 
--- each has room
+-- each text fits
 pub record HaveRoom (given old : RoomTexts) : Type 0 where
   pub display : length given.display ≤ length old.display
   pub line : length given.line ≤ length old.line
@@ -57,7 +57,7 @@ pub record HaveRoom (given old : RoomTexts) : Type 0 where
   pub kills : length given.kills ≤ length old.kills
   pub ends : length given.ends ≤ length old.ends
 
--- one has none
+-- one doesn't fit
 abbrev pub LackRoom : RoomTexts → RoomTexts → Type 0
 LackRoom given old = (length old.display < length given.display)
     ⊎ ((length old.line < length given.line)
@@ -68,13 +68,13 @@ abbrev pub FitsRooms : RoomTexts → RoomTexts → Bool → Type 0
 FitsRooms given old true = HaveRoom given old
 FitsRooms given old false = LackRoom given old
 
--- each is put into its room; or one has none, and all rooms are as they were
+-- each text is copied into its buffer; or one doesn't fit, and all buffers are as they were
 abbrev pub GivesTexts : {A : Type 0} → RoomTexts → RoomTexts → RoomTexts → Result A Status → Type 0
 GivesTexts given old new (Ok done) = ArePut given old new
 GivesTexts given old new (Err Room) = LackRoom given old × (new ≡ old)
 GivesTexts given old new (Err why) = ⊥
 
--- the step tells their lengths
+-- the step reports their lengths
 abbrev pub with_lengths : RoomTexts → KeylineStep → KeylineStep
 with_lengths given step = record step {
   display = length given.display;
@@ -84,13 +84,13 @@ with_lengths given step = record step {
   slots = length given.ends;
 }
 
--- the step tells of the display bytes that are new, behind those that were sent before
+-- the step reports the new display bytes, after those sent before
 abbrev pub with_display : List ℕ → ℕ → KeylineStep → KeylineStep
 with_display bytes sent step =
     record step { display = length bytes - sent; sent = length bytes }
 
--- display bytes that are new are given: all that were sent before are among them, or that can't be
--- meant and nothing is done; and they fit, or the step alone tells their lengths
+-- the new display bytes are returned, or the step reports only their lengths if they don't fit. If
+-- more was sent before than there is, the argument is invalid and nothing is done
 abbrev pub GivesDisplay : {A : Type 0} → List ℕ → ℕ → List ℕ → List ℕ → KeylineStep → KeylineStep
     → Result A Status → Type 0
 GivesDisplay bytes sent old new step step' (Ok done) = (sent ≤ length bytes)

@@ -1,4 +1,4 @@
--- A kill ring as texts one after the other, with the place at which each ends.
+-- A kill ring as one text for all slots, with the place at which each slot ends.
 use Rattle.std.specs.Prelude.{◌≡◌, ◌≤◌, ◌+◌, ◌-◌, ℕ, false, List, [], ◌∷◌, Option, Some, None, Result, Ok, Err, length}
 use Rattle.std.specs.List.{All, flat_map, slice_range}
 use Rattle.std.specs.Str.{IsUtf8}
@@ -8,13 +8,13 @@ use Rattle.keyline_c.specs.declared.ring.Slots.{Slots}
 use Rattle.keyline_c.specs.declared.status.Status.{Status}
 use Rattle.keyline_c.specs.declared.status.Status.TheVariants.{Argument, Memory}
 
--- where each of these texts ends, the first of which begins behind so many bytes
+-- where each of these texts ends, if the first one begins after so many bytes
 abbrev pub ends_behind : ℕ → List (List ℕ) → List ℕ
 ends_behind start [] = []
 ends_behind start (text ∷ texts) =
     let end = start + length text in end ∷ ends_behind end texts
 
--- these texts stand one after the other, and end there
+-- these texts follow each other, and end there
 pub record AreLaidOut (slots : List (List ℕ)) (texts ends : List ℕ) : Type 0 where
   pub texts_are : texts ≡ flat_map (λ text. text) slots
   pub ends_are : ends ≡ ends_behind 0 slots
@@ -24,7 +24,7 @@ pub record AreSlots (ring : Ring) (slots : Slots) : Type 0 where
   pub laid_out : AreLaidOut ring.slots slots.texts.items slots.ends.items
   pub place_is : slots.place ≡ ring.place
 
--- a slot stands there
+-- a slot is there
 pub record IsSlot (texts : List ℕ) (from to : ℕ) (slot : List ℕ) : Type 0 where
   pub in_order : from ≤ to
   pub inside : to ≤ length texts
@@ -36,7 +36,7 @@ abbrev pub SlotMeans : List ℕ → ℕ → ℕ → Option (List ℕ) → Type 0
 SlotMeans texts from to (Some slot) = IsSlot texts from to slot
 SlotMeans texts from to None = (slot : List ℕ) → IsSlot texts from to slot → ⊥
 
--- a ring of these slots, after no kill
+-- a ring of these slots, without a preceding kill
 abbrev pub ring_by : List (List ℕ) → ℕ → Ring
 ring_by slots place = record {
   slots = slots;
@@ -46,7 +46,7 @@ ring_by slots place = record {
   killing = false;
 }
 
--- it is the one of these texts, with that slot present; 0 where there is none
+-- it is the ring of these texts, with that slot current; 0 if there is none
 pub record IsRingOf (texts ends : List ℕ) (place : ℕ) (ring : Ring) : Type 0 where
   pub laid_out : AreLaidOut ring.slots texts ends
   pub ring_is : ring ≡ ring_by ring.slots place
@@ -54,7 +54,8 @@ pub record IsRingOf (texts ends : List ℕ) (place : ℕ) (ring : Ring) : Type 0
   pub inside : place ≤ length ring.slots - 1
   pub utf8 : All IsUtf8 ring.slots
 
--- it is that ring, or there is none; or memory was wanting, of so few slots and a place among them
+-- it is that ring, or there is none; or memory ran out, for a valid number of slots and a place
+-- among them
 abbrev pub RingMeans : List ℕ → List ℕ → ℕ → Result Ring Status → Type 0
 RingMeans texts ends place (Ok ring) = IsRingOf texts ends place ring
 RingMeans texts ends place (Err Argument) =

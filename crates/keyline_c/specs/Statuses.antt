@@ -1,4 +1,5 @@
--- How a call ends: its number, and what a line's end and what is refused of an argument are for it.
+-- How a call ends: its number, the status of a line's ending, and the status of an argument's
+-- error.
 use Rattle.std.specs.Prelude.{ℕ, Result, Ok, Err}
 use Rattle.line_config.specs.declared.errors.ReadlineError.{ReadlineError}
 use Rattle.line_config.specs.declared.errors.ReadlineError.TheVariants as Refusal
@@ -17,8 +18,8 @@ code_of Argument = 6
 code_of Room = 7
 code_of Memory = 8
 
--- a line's end: where the source fails more keys are wanted; and since devices are memory and no
--- handler is bound, what else fails is a growth that was refused
+-- a line's ending: if the source fails, more keys are wanted; and since devices are in memory and
+-- no handler is bound, any other failure is a failed allocation
 abbrev pub ended_as : {T : Type 0} → Result T ReadlineError → Status
 ended_as (Ok text) = Line
 ended_as (Err Refusal.Reader) = More
@@ -28,7 +29,7 @@ ended_as (Err Refusal.NotUtf8) = NotUtf8
 ended_as (Err Refusal.PasteOutOfPlace) = PasteOutOfPlace
 ended_as (Err why) = Memory
 
--- a text that is handed in, or a line that isn't ended
+-- the error of a text passed in, or of a line that didn't end
 abbrev pub refused_as : ReadlineError → Status
 refused_as Refusal.HistoryText = Argument
 refused_as Refusal.NotUtf8 = Argument

@@ -1,4 +1,5 @@
--- What a call answers of a line: how it ended, the lengths that a step tells, and texts in rooms.
+-- The result of a call for a line: how it ended, the lengths in its step, and the texts in the
+-- buffers.
 use Rattle.std.specs.Prelude.{◌≡◌, ◌≢◌, ◌⊎◌, ◌<◌, ◌-◌, ℕ, List, [], Result, Err, drop, length, string_bytes}
 use Rattle.std.specs.Result.{IfOk, result_unwrap_or}
 use Rattle.line_config.specs.declared.memory.VecSink.{VecSink}
@@ -16,12 +17,12 @@ use Rattle.keyline_c.specs.declared.status.Status.TheVariants.{More, Argument, M
 abbrev pub accepted_text : Left → List ℕ
 accepted_text left = result_unwrap_or (made_of string_bytes left.outcome) []
 
--- the texts of a line that has ended: its display bytes are those that are new
+-- the texts of a line that has ended, with only its new display bytes
 abbrev pub texts_left : (VecSink → List ℕ) → ℕ → Left → Slots → RoomTexts
 texts_left held sent left slots = room_texts (drop sent (held left.display)) (accepted_text left)
     (text_to_save left.history) slots.texts.items slots.ends.items
 
--- what is told of it beside their lengths, of so many key bytes
+-- what is reported beside their lengths, for so many key bytes
 abbrev pub with_end : (VecSink → List ℕ) → ℕ → Left → Slots → KeylineStep → KeylineStep
 with_end held keys left slots step = record step {
   sent = length (held left.display);
@@ -29,7 +30,7 @@ with_end held keys left slots step = record step {
   place = slots.place;
 }
 
--- memory is taken for the history's text where an entry is new, and for the ring's slots
+-- memory is taken for the history's text if an entry is new, and for the ring's slots
 abbrev pub TakesMemory : Left → Type 0
 TakesMemory left = (left.history.unsaved ≢ 0) ⊎ (left.ring.slots ≢ [])
 
@@ -38,7 +39,8 @@ module _ (held : VecSink → List ℕ) (sent keys : ℕ) (left : Left) (old new 
   abbrev pub NothingDone : Type 0
   NothingDone = (step' ≡ step) × (new ≡ old)
 
-  -- of a line that has ended all lengths are told, and its texts are given or one has no room
+  -- for a line that has ended all lengths are reported, and its texts are returned or one doesn't
+  -- fit
   pub record TellsEnd {A : Type 0} (result : Result A Status) : Type 0 where
     pub slots : Slots
     pub are_slots : AreSlots left.ring slots
@@ -46,13 +48,13 @@ module _ (held : VecSink → List ℕ) (sent keys : ℕ) (left : Left) (old new 
         (with_end held keys left slots step)
     pub texts : GivesTexts (texts_left held sent left slots) old new result
 
-  -- or memory is wanting for that, or more was sent than there is
+  -- or memory runs out for that, or more was sent than there is
   abbrev pub GivesEnd : {A : Type 0} → Result A Status → Type 0
   GivesEnd (Err Memory) = TakesMemory left × NothingDone
   GivesEnd (Err Argument) = (length (held left.display) < sent) × NothingDone
   GivesEnd result = TellsEnd result
 
-  -- by how it ended: of a line that goes on its display bytes alone are given
+  -- by how it ended: a line that continues returns only its display bytes
   abbrev pub GivesBy : Status → Result Status Status → Type 0
   GivesBy Memory result = (result ≡ Err Memory) × NothingDone
   GivesBy More result =
@@ -60,7 +62,7 @@ module _ (held : VecSink → List ℕ) (sent keys : ℕ) (left : Left) (old new 
       × (new ≡ record old { display = new.display })
   GivesBy status result = GivesEnd result
 
-  -- THE relation of what is given of a line
+  -- the relation of what is returned for a line
   abbrev pub Gives : Result Status Status → Type 0
   Gives result = IfOk result (λ status. status ≡ ended_as left.outcome)
       × GivesBy (ended_as left.outcome) result

@@ -21,50 +21,50 @@ use keyline::{
 };
 use std::alloc::Global;
 
-/// How a line is read. All but `ended` and `sent` stays while a line is typed.
+/// How a line is read. Everything except `ended` and `sent` stays the same during a line.
 #[repr(C)]
 #[derive(Drop)]
 pub struct KeylineOptions {
-    /// The columns of a row, 2 to 1,000.
+    /// The number of columns of a row, 2 to 1,000.
     pub columns: u16,
-    /// The keymap: 0 is Emacs', 1 is Vi's.
+    /// The keymap: 0 is Emacs, 1 is Vi.
     pub mode: u8,
-    /// Whether a line with an open bracket goes on.
+    /// Whether a line with an open bracket continues in a new row.
     pub brackets: bool,
-    /// Whether no key comes after these.
+    /// Whether no more keys follow these.
     pub ended: bool,
-    /// How many display bytes of this line were given before.
+    /// The number of display bytes of this line that were sent before.
     pub sent: usize,
-    /// The present slot of the kill ring.
+    /// The current slot of the kill ring.
     pub place: usize,
 }
 
-/// What a call answers. Where the status says that a text has no room, the lengths are those that
-/// it needs.
+/// The result of a call. If the status says that a buffer is too small, the lengths are those that
+/// the texts need.
 #[repr(C)]
 #[derive(Drop)]
 pub struct KeylineStep {
     /// How it ended.
     pub status: u8,
-    /// The display bytes that are new.
+    /// The number of new display bytes.
     pub display: usize,
-    /// The display bytes of this line so far.
+    /// The number of display bytes of this line so far.
     pub sent: usize,
-    /// The bytes of the line.
+    /// The length of the line, in bytes.
     pub line: usize,
-    /// The key bytes that the line took; those after them are the next one's.
+    /// The number of key bytes that belong to the line; the keys after them are for the next one.
     pub keys: usize,
-    /// The bytes of the history's new text; none where no entry is new.
+    /// The length of the history's new text, in bytes; 0 if no entry is new.
     pub history: usize,
-    /// The bytes of the kill ring's texts.
+    /// The length of the kill ring's texts, in bytes.
     pub kills: usize,
-    /// Its slots that are filled.
+    /// The number of filled slots.
     pub slots: usize,
-    /// The present one.
+    /// The current slot.
     pub place: usize,
 }
 
-/// What is handed in of texts.
+/// The texts passed in.
 #[derive(Drop)]
 struct Handed<'k> {
     keys: &'k [u8],
@@ -75,7 +75,7 @@ struct Handed<'k> {
     ends: &'k [usize],
 }
 
-/// What is put into rooms.
+/// The texts to copy into the caller's buffers.
 #[derive(Drop)]
 struct Texts<'t> {
     display: &'t [u8],
@@ -85,7 +85,7 @@ struct Texts<'t> {
     ends: &'t [usize],
 }
 
-/// Where texts are put.
+/// The caller's buffers.
 #[derive(Drop)]
 struct Rooms<'r> {
     display: &'r mut [u8],
@@ -105,7 +105,7 @@ fn mode_numbered(code: u8) -> Option<EditMode>
     }
 }
 
-/// The options of a line, where they can be meant.
+/// The options of a line, if the arguments are valid.
 fn options_of(alloc: Global, options: &KeylineOptions, prompt: &[u8]) -> Result<Options, Status>
     ensures { OptionsMean options.now prompt.now result }
 {
@@ -123,7 +123,7 @@ fn options_of(alloc: Global, options: &KeylineOptions, prompt: &[u8]) -> Result<
     })
 }
 
-/// The words of a text, one a row; without a text nothing completes.
+/// The words of a text, one per row; `None` for an empty text.
 fn words_of(alloc: Global, text: &[u8]) -> Result<Option<Vec<String>>, Status>
     ensures { WordsMean text.now result }
 {
@@ -160,7 +160,7 @@ fn play<'k>(alloc: Global, options: &KeylineOptions, handed: &Handed<'k>) -> Res
     Ok(read_line(alloc, &chosen, words, history, ring, keys, ended)?)
 }
 
-/// Gives the display bytes that are new.
+/// Copies the new display bytes.
 fn give_display(
     bytes: &[u8],
     sent: usize,
@@ -179,7 +179,7 @@ fn give_display(
     Ok(())
 }
 
-/// Tells how long each text is.
+/// Reports the length of each text.
 fn tell_lengths(texts: &Texts<'_>, step: &mut KeylineStep)
     ensures { step.new ≡ with_lengths (texts_of texts.now) step.old }
 {
@@ -190,7 +190,7 @@ fn tell_lengths(texts: &Texts<'_>, step: &mut KeylineStep)
     step.slots = texts.ends.len();
 }
 
-/// Whether each text fits into its room.
+/// Whether each text fits into its buffer.
 fn fit(texts: &Texts<'_>, rooms: &Rooms<'_>) -> bool
     ensures { FitsRooms (texts_of texts.now) (texts_in rooms.now) result }
 {
@@ -201,7 +201,7 @@ fn fit(texts: &Texts<'_>, rooms: &Rooms<'_>) -> bool
         && texts.ends.len() <= rooms.ends.len()
 }
 
-/// Puts each text into its room; none where one doesn't fit.
+/// Copies each text into its buffer, or none of them if one doesn't fit.
 fn put_all(texts: &Texts<'_>, rooms: &mut Rooms<'_>) -> Result<(), Status>
     ensures gives { GivesTexts (texts_of texts.now)
         (texts_in rooms.old) (texts_in rooms.new) result }
@@ -218,7 +218,7 @@ fn put_all(texts: &Texts<'_>, rooms: &mut Rooms<'_>) -> Result<(), Status>
     Ok(())
 }
 
-/// The text of a line; empty where there is none.
+/// The text of a line; empty if there is none.
 fn text_of(outcome: &Result<String, ReadlineError>) -> &str
     ensures { result.now ≡ result_unwrap_or (made_of string_bytes outcome.now) [] }
 {
@@ -228,7 +228,7 @@ fn text_of(outcome: &Result<String, ReadlineError>) -> &str
     }
 }
 
-/// The text of a history, where an entry is new.
+/// The text of a history, if an entry is new.
 fn saved(alloc: Global, history: FileHistory) -> Result<Vec<u8>, Status>
     ensures { MatchResult result (λ text. text.items ≡ text_to_save history)
         (λ e. (e ≡ Memory) × (history.unsaved ≢ 0)) }
@@ -241,7 +241,7 @@ fn saved(alloc: Global, history: FileHistory) -> Result<Vec<u8>, Status>
     }
 }
 
-/// Gives what is left of a line that has ended.
+/// Returns the texts of a line that has ended.
 fn give_end(
     alloc: Global,
     sent: usize,
@@ -278,7 +278,7 @@ fn give_end(
     put_all(&texts, rooms)
 }
 
-/// Gives what a line left, and answers how it ended.
+/// Returns the texts of a line, and how it ended.
 fn give(
     alloc: Global,
     options: &KeylineOptions,
@@ -306,7 +306,7 @@ fn give(
     Ok(status)
 }
 
-/// Reads the line of these keys, and gives what it left.
+/// Reads the line of these keys, and returns its texts.
 fn answer<'k>(
     alloc: Global,
     options: &KeylineOptions,
@@ -324,7 +324,7 @@ fn answer<'k>(
     give(alloc, options, handed.keys.len(), left, rooms, step)
 }
 
-/// How a call ended, whether it answered or was refused.
+/// How a call ended, whether it succeeded or failed.
 fn status_in(ended: Result<Status, Status>) -> Status
     ensures { result ≡ status_in ended }
 {
@@ -334,9 +334,10 @@ fn status_in(ended: Result<Status, Status>) -> Status
 }
 
 /// The line of these keys, as far as they go. `words` has a word in each row, for Tab; `history` is
-/// a history's text; `kills` and `ends` are the kill ring. Each room takes what its name says.
+/// a history's text; `kills` and `ends` are the kill ring. Each buffer (`.._room`) gets the text
+/// that its name says.
 ///
-/// The numbers of a status, and what a caller does at each, are in `keyline.h`.
+/// The numbers of the statuses, and what a caller does for each, are in `keyline.h`.
 #[unsafe(no_mangle)]
 pub extern "C" fn keyline_line_checked<'k>(
     alloc: Global,

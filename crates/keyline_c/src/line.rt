@@ -1,4 +1,4 @@
-//! A line over memory.
+//! Reads a line from memory.
 
 ghost use Rattle.std.specs.Prelude.{[], ◌≡◌, ◌≤◌, MatchResult, length, string_bytes, true};
 ghost use Rattle.line_config.specs.Feed.{fresh_feed};
@@ -8,8 +8,8 @@ ghost use Rattle.line_screen.specs.Calls.{screen_of, sink_of};
 ghost use Rattle.line_screen.specs.Reader.{left_in};
 ghost use Rattle.line_screen.specs.Drawing.{row_break};
 ghost use Rattle.keyline.specs.Program.{program_given, word_texts};
-ghost use Rattle.keyline.specs.Sessions.{breaks, history_after, screen_by, state_over};
-ghost use Rattle.keyline_c.specs.Lines.{Ends, IsWant, ReadsLine, last_of};
+ghost use Rattle.keyline.specs.Sessions.{history_after, screen_by, state_over};
+ghost use Rattle.keyline_c.specs.Lines.{Ends, IsWant, ReadsLine, breaks, last_of};
 
 use keyline::{
     Bindings, Config, FileHistory, History, Options, ReadlineError, Sink, SliceSource, Source,
@@ -20,7 +20,7 @@ use line_record::KillRing;
 use line_screen::{KeyReader, ScreenRenderer};
 use std::alloc::Global;
 
-/// What a line left.
+/// The result of a line.
 #[derive(Drop)]
 pub(crate) struct Left {
     pub(crate) outcome: Result<String, ReadlineError>,
@@ -28,11 +28,11 @@ pub(crate) struct Left {
     pub(crate) display: VecSink,
     pub(crate) history: FileHistory,
     pub(crate) ring: KillRing,
-    /// The bytes of the keys that come after the line.
+    /// The number of key bytes after the line.
     pub(crate) rest: usize,
 }
 
-/// The keys, and after them the end, or the failure that says that more are wanted.
+/// The keys, and after them the end, or a failure if more keys may follow.
 fn source_of<'k>(keys: &'k [u8], ended: bool) -> SliceSource<'k>
     ensures { ⟦<SliceSource<'k> as Source>⟧.feed result
         ≡ fresh_feed keys.entry.now (last_of ended) }
@@ -44,7 +44,7 @@ fn source_of<'k>(keys: &'k [u8], ended: bool) -> SliceSource<'k>
     }
 }
 
-/// A display over memory, of the options' columns.
+/// A display in memory, with the options' columns.
 fn screen(alloc: Global, options: &Options, config: &Config) -> ScreenRenderer<VecSink>
     requires { (2 ≤ options.now.columns) × (options.now.columns ≤ 1000) }
     ensures empty { ⟦<VecSink as Sink>⟧.held (sink_of result) ≡ [] }
@@ -58,7 +58,7 @@ fn screen(alloc: Global, options: &Options, config: &Config) -> ScreenRenderer<V
     )
 }
 
-/// How many bytes a reader has left: those of its source, and the one that it keeps.
+/// The number of bytes that a reader has left: those of its source, and the one read ahead.
 fn count_rest<'k>(reader: KeyReader<SliceSource<'k>>) -> usize
     ensures { result ≡ length (left_in ⟦<SliceSource<'k> as Source>⟧.feed reader.entry) }
 {
@@ -70,7 +70,7 @@ fn count_rest<'k>(reader: KeyReader<SliceSource<'k>>) -> usize
     }
 }
 
-/// Whether the display gets a new row where a line ends so.
+/// Whether the display gets a new row after this ending.
 fn breaks(outcome: &Result<String, ReadlineError>) -> bool
     ensures { result ≡ breaks (made_of string_bytes outcome.now) }
 {
@@ -88,7 +88,7 @@ fn break_row(out: &mut ScreenRenderer<VecSink>) -> Result<(), ReadlineError>
     out.write_and_flush("\r\n")
 }
 
-/// Keeps an accepted line in the history.
+/// Adds an accepted line to the history.
 fn keep(
     alloc: Global,
     outcome: &Result<String, ReadlineError>,
@@ -103,7 +103,7 @@ fn keep(
     Ok(())
 }
 
-/// Draws the end of a line, and keeps it where it is accepted.
+/// Draws the end of a line, and adds it to the history if it is accepted.
 fn close(
     alloc: Global,
     outcome: &Result<String, ReadlineError>,
@@ -120,8 +120,8 @@ fn close(
     keep(alloc, outcome, history)
 }
 
-/// Reads a line, draws it, and keeps it in the history where it is accepted. Refused where memory
-/// is wanting for its end.
+/// Reads a line, draws it, and adds it to the history if it is accepted. Fails if memory runs out
+/// at its end.
 pub(crate) fn read_line<'k>(
     alloc: Global,
     options: &Options,

@@ -1,4 +1,4 @@
-//! A kill ring as texts one after the other, with the place at which each ends.
+//! A kill ring as one text for all slots, with the place at which each slot ends.
 
 ghost use Rattle.std.specs.Prelude.{[], ◌∷◌, ◌++◌, ◌≡◌, ◌≢◌, ◌<◌, ◌≤◌, ◌-◌, MatchResult, OnOk, length, option_copied};
 ghost use Rattle.keyline_c.specs.Slots.{AreSlots, RingMeans, SlotMeans, ring_by};
@@ -9,10 +9,10 @@ use line_buffer::{Mode, OutOfMemory};
 use line_record::KillRing;
 use std::alloc::Global;
 
-/// The slots of a ring.
+/// The number of slots of a ring.
 const SLOTS: usize = 60;
 
-/// A ring's texts, the ends of its slots in them, and the present slot.
+/// A ring's texts, the ends of its slots in them, and the current slot.
 #[derive(Drop)]
 pub(crate) struct Slots {
     pub(crate) texts: Vec<u8>,
@@ -39,14 +39,14 @@ pub(crate) fn slots_of(alloc: Global, ring: &KillRing) -> Result<Slots, Status>
     })
 }
 
-/// The text of a slot, where one stands there.
+/// The text of a slot, if there is one.
 fn slot_text<'t>(texts: &'t [u8], start: usize, end: usize) -> Option<&'t str>
     ensures { SlotMeans texts.entry.now start end (option_copied result) }
 {
     str::from_utf8(texts.get(start..end)?).ok()
 }
 
-/// Adds a slot behind the last one. It is present then.
+/// Adds a slot after the last one. It becomes the current one.
 fn add_slot(alloc: Global, ring: &mut KillRing, text: &str) -> Result<(), OutOfMemory>
     requires last { ring.old ≡ ring_by ring.old.slots (length ring.old.slots - 1) }
     requires few { length ring.old.slots < 60 }
@@ -58,7 +58,7 @@ fn add_slot(alloc: Global, ring: &mut KillRing, text: &str) -> Result<(), OutOfM
     Ok(())
 }
 
-/// Turns a ring of so many slots, of which the last is present, to a place.
+/// Turns a ring of `count` slots from the last slot to a place.
 fn turn_to(ring: &mut KillRing, place: usize, count: usize)
     requires count { count ≡ length ring.old.slots }
     requires last { ring.old ≡ ring_by ring.old.slots (count - 1) }
@@ -77,7 +77,7 @@ fn turn_to(ring: &mut KillRing, place: usize, count: usize)
     ring.reset();
 }
 
-/// The ring of these slots, after no kill.
+/// The ring of these slots, without a preceding kill.
 pub(crate) fn ring_of(
     alloc: Global,
     texts: &[u8],

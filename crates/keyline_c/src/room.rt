@@ -1,9 +1,9 @@
-//! Room that a caller hands in.
+//! The caller's buffers.
 
 ghost use Rattle.std.specs.Prelude.{◌≤◌, length};
 ghost use Rattle.keyline_c.specs.Rooms.{IsPut};
 
-/// Puts what is given at the front of a room in which it fits.
+/// Copies a text to the front of a buffer in which it fits.
 pub(crate) fn put<T: Copy>(given: &[T], room: &mut [T])
     requires { length given.now ≤ length room.old }
     ensures { IsPut given.now room.old room.new }

@@ -9,26 +9,26 @@ use line_buffer::OutOfMemory;
 use std::alloc::{AllocError, AllocFailed};
 use std::str::Utf8Error;
 
-/// What a call answers. In `keyline.h` each has its number.
+/// The status of a call. `keyline.h` has the numbers.
 #[derive(Clone, Copy, PartialEq, Eq)]
 pub(crate) enum Status {
-    /// The line is there.
+    /// The line is complete.
     Line,
     /// More keys are wanted.
     More,
-    /// The keys ended, or Ctrl-D on an empty line.
+    /// The keys ended, or Ctrl-D was typed on an empty line.
     End,
     /// Ctrl-C.
     Interrupted,
-    /// A character was to be read where the keys are no UTF-8.
+    /// The keys aren't UTF-8 where a character is expected.
     NotUtf8,
-    /// Pasted text came where no command asks for it.
+    /// Text was pasted where no command expects it.
     PasteOutOfPlace,
-    /// An argument is none that can be meant.
+    /// An argument is invalid.
     Argument,
-    /// A text has no room; all lengths are there.
+    /// A buffer is too small; all lengths are returned.
     Room,
-    /// Memory was refused.
+    /// An allocation failed.
     Memory,
 }
 
@@ -50,8 +50,8 @@ impl Status {
     }
 }
 
-/// How a line ends. Devices are memory and no handler is bound, so that what fails of them is a
-/// growth that was refused.
+/// How a line ends. The devices are in memory and no handler is bound, so any other failure is a
+/// failed allocation.
 pub(crate) fn status_of<T>(outcome: &Result<T, ReadlineError>) -> Status
     ensures { result ≡ ended_as outcome.now }
 {
@@ -66,7 +66,7 @@ pub(crate) fn status_of<T>(outcome: &Result<T, ReadlineError>) -> Status
     }
 }
 
-/// A text that was handed in is no UTF-8, or there was no memory.
+/// A text passed in isn't UTF-8, or memory ran out.
 impl From<ReadlineError> for Status {
     ghost from_gives = { λ why status. status ≡ refused_as why };
 

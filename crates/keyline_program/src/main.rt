@@ -10,17 +10,18 @@ ghost use Rattle.keyline.specs.Known.{known_by};
 ghost use Rattle.keyline.specs.Plays.{loads};
 ghost use Rattle.keyline.specs.Program.{PlaysOver, config_of, word_texts};
 
-mod files;
-mod history_file;
-
 use keyline::{
     Ended, Ending, Foretold, Options, Parsed, ReadSource, ReadlineError, Sink, SliceSource, Source,
     VecSink, WriteSink, load_words, parse,
 };
+use keyline_files::{load_history, read_file, save_history};
 use std::env;
 use std::io::{ErrorKind, IsTerminal, Stderr, StdinLock, Stdout};
 use std::marker::Brand;
 use std::process::ExitCode;
+
+/// What `--version` prints, also ./keyline before it has built the program.
+const VERSION: &str = "keyline 0.2.0";
 
 /// The status where words are no command line.
 const USAGE: u8 = 2;
@@ -44,6 +45,12 @@ fn main(rt: HostRuntime) -> ExitCode {
             return ExitCode::from(USAGE);
         }
     };
+    if let [_, word] = words.as_slice()
+        && word.as_str() == "--version"
+    {
+        let _ = println!(rt; "{VERSION}");
+        return ExitCode::SUCCESS;
+    }
     match parse(rt.alloc(), words.as_slice()) {
         Parsed::Run(options) => run(&rt, &options),
         Parsed::Help(text) => {
@@ -68,7 +75,7 @@ fn run(rt: &HostRuntime, options: &Options) -> ExitCode
         Err(_) => return not_loaded(rt, "words do not load", NO_WORDS),
     };
     let old = match &options.history {
-        Some(path) => history_file::load(rt, path.as_str()),
+        Some(path) => load_history(rt, path.as_str()),
         None => Ok(Vec::new(rt.alloc())),
     };
     let old = match old {
@@ -77,7 +84,7 @@ fn run(rt: &HostRuntime, options: &Options) -> ExitCode
         Err(_) => return not_loaded(rt, "history does not load", NO_HISTORY),
     };
     match play::<Brand>(rt, options, words, old.as_slice()) {
-        Ok(played) => ended(rt, kept(rt, options, played.ending, &played.text)),
+        Ok(played) => ended(rt, kept(rt, options, &played)),
         Err(ReadlineError::HistoryText | ReadlineError::Reader) => not_loaded(
             rt,
             "history does not load",
@@ -126,18 +133,18 @@ fn play<K: Foretold>(
     )
 }
 
-/// Writes the history's text, if there is any, and answers what the session ends with then.
-fn kept(rt: &HostRuntime, options: &Options, ending: Ending, text: &VecSink) -> Ending {
+/// Saves the history in its file, and answers what the session ends with then.
+fn kept<K: Foretold>(rt: &HostRuntime, options: &Options, played: &Played<K>) -> Ending {
     let Some(path) = &options.history else {
-        return ending;
+        return played.ending;
     };
-    if text.bytes().is_empty() || text.failed() {
-        return ending;
-    }
-    match (history_file::save(rt, path.as_str(), text.bytes()), ending) {
+    match (
+        save_history(rt, path.as_str(), played.text_to_save()),
+        played.ending,
+    ) {
         (Err(_), Ending::Eof | Ending::Interrupted | Ending::NotUtf8 | Ending::PasteOutOfPlace) =>
             Ending::HistoryText,
-        _ => ending,
+        (_, ending) => ending,
     }
 }
 
@@ -146,7 +153,7 @@ fn words_of(rt: &HostRuntime, options: &Options) -> Result<Option<Vec<String>>, 
     let Some(path) = &options.words else {
         return Ok(None);
     };
-    let text = match files::read(rt, path.as_str()) {
+    let text = match read_file(rt, path.as_str()) {
         Ok(text) => text,
         Err(error) if error.kind() == ErrorKind::OutOfMemory => return Err(ReadlineError::Memory),
         Err(_) => return Err(ReadlineError::Reader),

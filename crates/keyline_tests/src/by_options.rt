@@ -1,4 +1,4 @@
-//! Sessions by the program's options.
+//! Sessions with the program's options.
 
 ghost use Rattle.std.specs.Prelude.{◌≤◌};
 
@@ -8,8 +8,8 @@ use stand_ins::tables::{meant_bytes, pictured_bytes};
 use std::alloc::{AllocError, Global};
 use std::test::Fail;
 
-/// Plays a session by a row's command line, history and keys. The words of `--words` stand there themselves, with a
-/// comma between two.
+/// Plays a session with a row's command line, history and keys. `--words` is followed by the words
+/// themselves, separated by commas.
 #[derive(Drop)]
 struct Optioned;
 
@@ -29,7 +29,7 @@ fn answer(alloc: Global, words: &[&str], history: &str, keys: &str) -> Result<St
     }
 }
 
-/// What a session left.
+/// The result of a session.
 #[derive(Drop)]
 struct Kept {
     ending: Ending,
@@ -50,7 +50,7 @@ fn played(
     kept_of(alloc, options, &loaded, &typed)
 }
 
-/// What a session leaves that loads this text, and in which these keys are typed.
+/// The result of a session that loads this text, and in which these keys are typed.
 fn kept_of(
     alloc: Global,
     options: &Options,

@@ -1,11 +1,11 @@
-//! What the words of a command line come to.
+//! The meaning of command lines.
 
 use keyline::{Options, Parsed, parse};
 use stand_ins::rows::{Player, rows_hold};
 use std::alloc::{AllocError, Global};
 use std::test::Fail;
 
-/// Tells what a command line comes to.
+/// Writes the meaning of a command line.
 #[derive(Drop)]
 struct CommandLine;
 

@@ -1,6 +1,7 @@
-//! Editors that are asked for one line at each call.
+//! Editors that return one line per call.
 
 use keyline::{Ending, LineEditor, ReadlineError, SliceSource, Source, VecSink, session_builder};
+use session_words::notation::display_meant;
 use stand_ins::rows::{Player, raised, rows_hold, trimmed};
 use std::alloc::{AllocError, Global};
 use std::test::Fail;
@@ -8,7 +9,7 @@ use std::test::Fail;
 /// One over memory.
 type Editor = LineEditor<SliceSource<'static>, (), VecSink, VecSink, VecSink>;
 
-/// Asks an editor by the words of a row.
+/// Calls an editor with the words of a row.
 #[derive(Drop)]
 struct Asking {
     editor: Editor,
@@ -25,6 +26,13 @@ impl Asking {
     fn add(&mut self, alloc: Global, line: &str) -> Result<String, ReadlineError> {
         let added = self.editor.add_history_entry(line)?;
         raised(format!(in alloc; "{added}"))
+    }
+
+    /// Sets the columns that a word tells.
+    fn set_columns(&mut self, word: &str) -> &'static str {
+        let columns: u16 = word.parse().unwrap_or(80);
+        self.editor.set_columns(columns.max(2).min(1000));
+        "set"
     }
 
     fn entries_told(&self, alloc: Global) -> Result<String, Fail> {
@@ -48,6 +56,7 @@ impl Player for Asking {
         match call {
             "read" => raised(self.line(alloc, word)),
             "add" => raised(self.add(alloc, word)),
+            "columns" => Ok(String::from_str(alloc, self.set_columns(word))?),
             _ => self.entries_told(alloc),
         }
     }
@@ -61,7 +70,7 @@ fn editor_of(alloc: Global, keys: &'static [u8]) -> Result<Editor, Fail> {
     Ok(LineEditor::new(session))
 }
 
-/// After Ctrl-C the history goes on; behind the end of the input nothing is read.
+/// After Ctrl-C the history continues; after the end of the input nothing is read.
 #[test]
 fn lines_one_by_one(rt: HostRuntime) -> Result<(), Fail> {
     let alloc = rt.alloc();
@@ -88,6 +97,35 @@ fn leaves_one_key(editor: Editor) -> bool {
     let mut ended = editor.finish();
     ended.ending == Ending::Eof
         && ended.lines.bytes() == b"ab\none\n".as_slice()
-        && ended.text.bytes() == b"#V2\nab\none\ntwo\n".as_slice()
+        && ended.text_to_save() == b"#V2\nab\none\ntwo\n".as_slice()
         && ended.source.next_byte() == Ok(Some(b'c'))
+}
+
+/// A line is drawn for the columns that were set last.
+#[test]
+fn columns_between_two_lines(rt: HostRuntime) -> Result<(), Fail> {
+    let alloc = rt.alloc();
+    let rows = "
+        read >  = abc
+        columns 4 = set
+        read >  = abc
+        columns 1000 = set
+        read >  = abc
+        ";
+    let mut asking = Asking {
+        editor: editor_of(alloc, b"abc\rabc\rabc\r")?,
+    };
+    rows_hold(alloc, &mut asking, rows)?;
+    let shown = "{} a b c ␍␊ {} a {ab␍␊} c ␍␊ {} a b c ␍␊";
+    let wanted = display_meant(alloc, shown)?;
+    let ended = asking.editor.finish();
+    assert!(rt; ended.display.bytes() == wanted.as_slice());
+    Ok(())
+}
+
+#[test]
+fn nothing_new_to_save(rt: HostRuntime) -> Result<(), Fail> {
+    let ended = editor_of(rt.alloc(), b"\r\x04")?.finish();
+    assert!(rt; ended.text_to_save().is_empty());
+    Ok(())
 }

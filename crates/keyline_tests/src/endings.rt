@@ -1,4 +1,4 @@
-//! The status and the words of each ending.
+//! The status and the message of each ending.
 
 use keyline::Ending;
 use stand_ins::rows::{Player, rows_hold};

@@ -1,5 +1,5 @@
-//! The calls of `keyline` by themselves: command lines, sessions by options, editors of one line a call, lines
-//! that are handed back one by one, endings, whole sessions over memory.
+//! The calls of `keyline` by themselves: command lines, sessions with options, editors, lines
+//! returned one by one, endings, whole sessions over memory.
 #![tactic(auto)]
 
 #[cfg(test)]

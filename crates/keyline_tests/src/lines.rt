@@ -1,5 +1,5 @@
-//! Lines that are handed back, each with columns and a prompt of its own; what one begins with after the refusal of another;
-//! and entries that a history is given by hand.
+//! Lines returned one by one, each with its own columns and prompt; how a line begins after another
+//! one failed; and entries added to a history by hand.
 
 use keyline::prompter::Prompter;
 use keyline::{
@@ -11,7 +11,7 @@ use stand_ins::tables::{meant_bytes, pictured_bytes};
 use std::alloc::{AllocError, Global};
 use std::test::Fail;
 
-/// Tells a line, or why there is none.
+/// Writes a line, or why there is none.
 fn tell(said: &mut String, line: Result<String, ReadlineError>) -> Result<(), AllocError> {
     match line {
         Ok(line) => write!(said, " {line}"),
@@ -19,7 +19,7 @@ fn tell(said: &mut String, line: Result<String, ReadlineError>) -> Result<(), Al
     }
 }
 
-/// The columns and the prompt of a word, as `80` or `4:ab␠`.
+/// The columns and the prompt of a word, as in `80` or `4:ab␠`.
 fn asked_by(alloc: Global, word: &str) -> Result<(u16, String), AllocError> {
     let (columns, prompt) = word.split_once(':').unwrap_or((word, ">␠"));
     let columns: u16 = columns.parse().unwrap_or(80);
@@ -32,7 +32,7 @@ fn asked_by(alloc: Global, word: &str) -> Result<(u16, String), AllocError> {
 /// A session over memory.
 type InMemory<'k> = Session<SliceSource<'k>, (), VecSink, VecSink, VecSink>;
 
-/// A session over these keys, with what it loads as its history.
+/// A session over these keys, with the text that it loads as its history.
 fn opened<'k>(
     alloc: Global,
     config: Config,
@@ -55,7 +55,7 @@ fn opened<'k>(
     ))
 }
 
-/// Asks for a line as a word says, and tells what is answered; the session then.
+/// Requests a line as a word says, and writes the answer; the session then.
 fn ask<'k>(
     alloc: Global,
     session: InMemory<'k>,
@@ -73,7 +73,8 @@ fn ask<'k>(
     Ok(next)
 }
 
-/// Asks for a line for each of these words, tells what is answered, and then ends the session; the display's bytes.
+/// Requests a line for each of these words, writes the answers, and then ends the session; the
+/// display's bytes.
 fn ask_for(
     alloc: Global,
     words: &str,
@@ -89,7 +90,8 @@ fn ask_for(
     Ok(end.display.into_bytes())
 }
 
-/// Asks as the words before ` | ` say; the keys stand after it, and where the display is looked at, its bytes behind them.
+/// Requests lines as the words before ` | ` say. The keys follow it, and then, if the display is
+/// checked, its bytes.
 #[derive(Drop)]
 struct Asked;
 
@@ -115,7 +117,7 @@ fn tell_lines(
     raised(tell_display(alloc, &display, shown, said))
 }
 
-/// Tells the display's bytes, where they are looked at and others than these.
+/// Writes the display's bytes, if they are checked and differ from these.
 fn tell_display(
     alloc: Global,
     display: &[u8],
@@ -171,7 +173,7 @@ fn is_line(line: &Result<String, ReadlineError>, wanted: &str) -> bool {
     }
 }
 
-/// What a history holds that a session is given by hand, and what each call answers.
+/// The history of a session with entries added by hand, and the answer of each call.
 #[test]
 fn entries_given_by_hand(rt: HostRuntime) -> Result<(), Fail> {
     let config = Config::builder().build();

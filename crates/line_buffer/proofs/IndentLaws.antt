@@ -14,7 +14,7 @@ encoded-append : (xs ys : List ℕ) → encode_utf8_all (xs ++ ys) ≡ encode_ut
 encoded-append [] ys = refl
 encoded-append (x ∷ xs) ys = ap (λ bs. encode_utf8 x ++ bs) (encoded-append xs ys) ∙ sym (append_assoc (encode_utf8 x) (encode_utf8_all xs) (encode_utf8_all ys))
 
--- a beginning of a text's characters is no longer than the text
+-- a prefix of a text's characters is no longer than the text
 beginning_short : (row front back : List ℕ) → IsUtf8 row → chars row ≡ front ++ back → length (encode_utf8_all front) ≤ length row
 beginning_short row front back u e =
     let whole : row ≡ encode_utf8_all front ++ encode_utf8_all back = sym (encodes-chars row u) ∙ ap encode_utf8_all e ∙ encoded-append front back in

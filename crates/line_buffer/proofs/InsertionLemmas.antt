@@ -70,7 +70,7 @@ pub one_insertion : (text : List ℕ) (n : ℕ) (l : Line) → n ≡ 1 → inser
 one_insertion text n l e =
     ap (λ added. insertion_by (insertion l.place added) added l) (let same : text ≡ repeat n text = rw e (sym (append-nil text)) in same)
 
--- where there is room, what is told
+-- what is told if there is space
 pub told_where_room : (told : Event) (added : List ℕ) (l : Line) → true ≡ has_room (length added) l → (insertion_by told added l).events ≡ told ∷ []
 told_where_room told added l e = ap (λ b. (if b then record { answer = Some (l.place == length l.text); events = told ∷ []; line = put_at_cursor added l } else no_insertion l).events) (sym e)
 

@@ -1,4 +1,4 @@
--- Edits that leave the line as it was where they are refused: those of one event, and kills.
+-- Edits that leave the line as it was if they fail: those of one event, and kills.
 use Rattle.std.specs.Prelude.{Bool, true, false, if◌then◌else◌, Option, Some, None, encode_utf8}
 use Rattle.std.specs.List.{repeat}
 use Rattle.std.proofs.Common.{◌≡◌, ◌≤◌, ℕ, ◌==◌, List, [], ◌∷◌, ◌++◌, length, refl, ap, subst, ◌∙◌, arith, length-append}
@@ -16,7 +16,7 @@ use Rattle.line_buffer.specs.Replay.{TellsOfChange, deletion, insertion, replace
 use Rattle.line_buffer.specs.Transpositions.{between_clusters, clusters_at, later_first, transposes_chars, transpose_chars_events}
 use Rattle.line_buffer.proofs.LeftLemmas.{carried_all-none, carried_all-one}
 
--- an edit of one event at most leaves the line as it was where it is refused
+-- an edit of one event at most leaves the line as it was if it fails
 pub kept_alone : {S : Type 0} {takes stops : S → Event → S → Type 0} {closing events : List Event} {s t : S} {l m : Line} → length events ≤ 1
     → StopsAt takes stops closing events s t l m → m ≡ l
 kept_alone {S} {takes} {stops} {closing} {events} {s} {t} {l} {m} few x = by x.stops.done x.stops.split x.line

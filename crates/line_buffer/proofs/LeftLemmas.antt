@@ -1,4 +1,4 @@
--- What a refused call leaves of a line: what the first of its events made of it.
+-- What a failed call leaves of a line: what the first of its events made of it.
 use Rattle.std.proofs.Common.{◌≡◌, Bool, true, false, ℕ, ◌+◌, ◌-◌, ◌≤◌, List, [], ◌∷◌, ◌++◌, inl, length, refl, sym, subst, ap, ◌∙◌, arith, append_assoc}
 use Rattle.std.specs.Prelude.{Result, Ok, Err, OnErr, IsErrAnd, min, slice_range, if◌then◌else◌}
 use Rattle.std.specs.List.{replace_range}
@@ -56,7 +56,7 @@ pub stopped_for_memory : {S : Type 0} (takes refuses : S → Event → S → Typ
     → events ≡ e ∷ never → TellsOfChange e → m ≡ l → StopsAt takes (wants_or refuses) [] events s s l m
 stopped_for_memory takes refuses events never e s l m split change same = stopped_first takes (wants_or refuses) events never e s s l m split change (inl refl) same
 
--- a call was refused after others were made
+-- a call failed after others were made
 pub stopped_later : {S : Type 0} {takes stops : S → Event → S → Type 0} {closing es fs : List Event} {s t u : S} {l k m : Line} → Reports takes es s t l.text k.text → k ≡ carried_all es l
     → StopsAt takes stops closing fs t u k m → StopsAt takes stops closing (es ++ fs) s u l m
 stopped_later {S} {takes} {stops} {closing} {es} {fs} {s} {t} {u} {l} {k} {m} told line x = record {
@@ -80,7 +80,7 @@ pub stopped_after_one : {S : Type 0} {takes stops : S → Event → S → Type 0
 stopped_after_one {S} {takes} {stops} {closing} {fs} e {s} {t} {u} {l} {k} {m} told replays line x =
     stopped_later (reports_one takes e s t l.text k.text told replays) (line ∙ sym (carried_all-one e l)) x
 
--- a call that wants memory too
+-- a call that takes memory too
 pub stopped_wanting : {S : Type 0} {takes refuses : S → Event → S → Type 0} {closing es : List Event} {s t : S} {l m : Line} → StopsAt takes refuses closing es s t l m
     → StopsAt takes (wants_or refuses) closing es s t l m
 unfolding stops_wanting
@@ -92,7 +92,7 @@ pub stopped_as : {S : Type 0} {takes stops : S → Event → S → Type 0} {clos
 stopped_as {S} {takes} {stops} {closing} {es} {fs} {s} {t} {l} {k} {m} e g h =
     subst (λ x. StopsAt takes stops closing fs s t x m) g (subst (λ x. StopsAt takes stops closing x s t l m) e h)
 
--- a refused kill is closed as one that was made
+-- a failed kill is closed as one that was made
 killing_stopped : {S : Type 0} {takes stops : S → Event → S → Type 0} {es : List Event} {s begun left t : S} {l m : Line} → takes s StartKilling begun → takes left StopKilling t
     → StopsAt takes stops [] es begun left l m → StopsAt takes stops (StopKilling ∷ []) (StartKilling ∷ (es ++ (StopKilling ∷ []))) s t l m
 killing_stopped {S} {takes} {stops} {es} {s} {begun} {left} {t} {l} {m} start stop x = record {
@@ -134,7 +134,7 @@ carried_settings (e ∷ es) l = let rest = carried_settings es (carried_line e l
 stopped_settings : {S : Type 0} {takes stops : S → Event → S → Type 0} {closing events : List Event} {s t : S} {l m : Line} → StopsAt takes stops closing events s t l m → SameSettings l m
 stopped_settings {S} {takes} {stops} {closing} {events} {s} {t} {l} {m} x = subst (SameSettings l) (sym x.line) (carried_settings x.stops.done l)
 
--- a refused call has made no edit: it owes where it stopped
+-- a failed call has made no edit: it owes where it stopped
 pub edits_refused : {S A E : Type 0} {takes stops : S → Event → S → Type 0} {closing : List Event} {edit : Edit A} {s t : S} {l m : Line} (P : E → Type 0) (r : Result A E)
     → IsErrAnd r P → StopsAt takes stops closing edit.events s t l m → EditsLine takes stops closing edit s t l m r
 edits_refused P (Ok a) is left = absurd is
@@ -150,7 +150,7 @@ pub cuts_refused_seen : {S A B E : Type 0} {takes stops : S → Event → S → 
 cuts_refused_seen f P (Ok a) is left shrinks = absurd is
 cuts_refused_seen f P (Err x) is left shrinks = cuts_refused P (Err x) is left shrinks
 
--- what is refused has an event
+-- what failed has an event
 pub some_event : {S : Type 0} {takes refuses : S → Event → S → Type 0} {closing events : List Event} {s t : S} {a b : List ℕ} → StopsAmong takes refuses closing events s t a b
     → (next : Event) × (others : List Event) × (events ≡ next ∷ others)
 some_event {S} {takes} {refuses} {closing} {events} {s} {t} {a} {b} x = by x.done x.split

@@ -33,7 +33,7 @@ reports_then {S} {takes} {es} {fs} {s} {t} {u} {a} {b} {c} x y = record {
 pub on_refusal : {T E : Type 0} (r : Result T E) {P : Type 0} → P → OnErr r P
 on_refusal {T} {E} r {P} h = elim r as (λ r. OnErr r P) [ Ok x ↦ tt | Err x ↦ h ]
 
--- the refused event, as another equation has it
+-- the failed event, as another equation has it
 pub refused_as : {S : Type 0} (refuses : S → Event → S → Type 0) {e f : Event} {s t : S} → e ≡ f → wants_or refuses s e t → wants_or refuses s f t
 refused_as refuses {e} {f} {s} {t} same h = subst (λ x. wants_or refuses s x t) same h
 
@@ -41,7 +41,7 @@ refused_as refuses {e} {f} {s} {t} same h = subst (λ x. wants_or refuses s x t)
 pub if_true : {A : Type 0} (b : Bool) (x y : A) → b ≡ true → (if b then x else y) ≡ x
 if_true b x y e = ap (λ v. if v then x else y) e
 
--- a call that wants memory too
+-- a call that takes memory too
 unfoldable pub stops_wanting : {S : Type 0} {takes refuses : S → Event → S → Type 0} {closing es : List Event} {s t : S} {a b : List ℕ} → StopsAmong takes refuses closing es s t a b
     → StopsAmong takes (wants_or refuses) closing es s t a b
 stops_wanting {S} {takes} {refuses} {closing} {es} {s} {t} {a} {b} x = record {

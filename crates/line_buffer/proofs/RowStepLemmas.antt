@@ -1,4 +1,4 @@
--- The walk over the rows that are moved: what was told so far, and what is still to come.
+-- The walk over the rows that are moved: what was told so far, and what is left to tell.
 use Rattle.std.proofs.Common.{◌≡◌, ℕ, ◌+◌, ◌-◌, ◌<◌, ◌≤◌, Bool, true, false, List, [], ◌∷◌, ◌++◌, inl, inr, length, get_or, take, drop, refl, sym, ap, ◌∙◌, subst, arith, append_assoc}
 use Rattle.std.specs.Prelude.{IsUtf8, IsCharBoundary, slice_range}
 use Rattle.std.specs.List.{prefix_len}
@@ -111,7 +111,7 @@ module _ {S : Type 0} (takes refuses : S → Event → S → Type 0) (margin : L
   row_is : take width rows ≡ row
   row_is = take-take width (last - at) (drop at m.text) (omega (arith, short, size)) ∙ ap (λ k. take k (drop at m.text)) (let k : width ≡ end - at = omega (arith, ends) in k)
 
-  -- the row was refused, or no memory was found for it: the line is what those before it made
+  -- the row failed, or no memory was found for it: the line is what those before it made
   pub row_stops : (u : S) (n : Line) → wants_or refuses t (row_event margin dedent at row) u → n ≡ m → StopsAt takes (wants_or refuses) [] all s u l n
   row_stops u n h same =
       let first = row_events-some margin dedent at rows in

@@ -206,7 +206,7 @@ module _ (l : Line) (u : IsUtf8 l.text) (b : IsCharBoundary l.text l.place) wher
       by_start None h = tt
       by_start (Some start) h = around_span (row_start l.text l.place) (row_close l.text start) (omega (arith, h.1, h.0.0)) (row_start-boundary l.text l.place u b) (row_close-boundary l u b start h.0)
 
-  -- where there is text, a part of it as a whole
+  -- a part of a text as a whole, if there is a text
   unless_empty : (t : Bool) (span : Span) → IsSpanOf l.text span → IfSome (if t then None else Some span) (IsSpanOf l.text)
   unless_empty true span h = tt
   unless_empty false span h = h

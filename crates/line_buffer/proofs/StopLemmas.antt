@@ -28,7 +28,7 @@ nth-then [] t o k = ap (last_or (Some t)) (take-nil k)
 nth-then (x ∷ xs) t o zero = refl
 nth-then (x ∷ xs) t o (suc k) = nth-then xs t (Some x) k
 
--- places with at most one more after them, and none where there are none
+-- places with at most one more after them, and none after no places
 abbrev pub IsTailOf : List ℕ → List ℕ → Type 0
 IsTailOf rest xs = ((rest ≡ []) × (xs ≡ [])) ⊎ ((t : ℕ) × (rest ≡ t ∷ []))
 
@@ -70,7 +70,7 @@ edges_of-short at word [] e = edges_of-nil at
 edges_of-short at word (x ∷ []) e = edges_of-one at (x.0, kind_of word x.1)
 edges_of-short at word (x ∷ (y ∷ xs)) e = absurd (let q : suc (length xs) ≡ 0 = ap length e in omega (arith, q))
 
--- each motion over a text has at most one last stop, and none only where it stops nowhere
+-- each motion over a text has at most one last stop, and none only if it stops nowhere
 pub last_stop-tail : (at : At) (word : Word) (text : List ℕ) → IsTailOf (last_stop at word text) (inner_stops at word text)
 last_stop-tail at word text = cases at word
   where

@@ -1,5 +1,5 @@
--- The cells of the display: the first one, and the order in which they are read, a total one that
--- agrees with their equality.
+-- The cells of the display: the first one, and the order in which they are read. The order is total
+-- and agrees with equality.
 use Rattle.line_buffer.specs.declared.layout.Position.{Position}
 use Rattle.std.proofs.Common.{◌≡◌, ◌==◌, ◌&&◌, Bool, refl, ◌∙◌}
 use Rattle.std.proofs.Math.Bool.{and_comm}

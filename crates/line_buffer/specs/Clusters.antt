@@ -1,4 +1,5 @@
--- The extended grapheme clusters of a text (UAX #29), and the places that motions by clusters take.
+-- The extended grapheme clusters of a text (UAX #29), and the places to which motions by clusters
+-- lead.
 use Rattle.std.specs.Prelude.{ℕ, ◌+◌, ◌<◌, ◌≤◌, true, All, IsCharBoundary, List, length, map, reverse, take, Option, None, option_map}
 use Rattle.std.specs.List.{last_or}
 use Rattle.unicode_segmentation.specs.Grapheme.{graphemes}
@@ -16,7 +17,7 @@ cluster_ends text = map (λ x. x.0 + length x.1) (clusters text)
 abbrev pub cluster_starts_back : List ℕ → List ℕ
 cluster_starts_back text = map (λ x. x.0) (reverse (clusters text))
 
--- the n-th, the last where fewer stand, none where n is 0 or there is none
+-- the n-th, the last if there are fewer, none if n is 0 or the list is empty
 abbrev pub nth_or_last : ℕ → List ℕ → Option ℕ
 nth_or_last n places = last_or None (take n places)
 
@@ -28,7 +29,7 @@ place_forward n l = option_map (λ e. l.place + e) (nth_or_last n (cluster_ends 
 abbrev pub place_backward : ℕ → Line → Option ℕ
 place_backward n l = nth_or_last n (cluster_starts_back (text_before l))
 
--- a part of a text between characters
+-- a part of a text between character boundaries
 pub record IsPart (text : List ℕ) (at len : ℕ) : Type 0 where
   pub start : IsCharBoundary text at
   pub end : IsCharBoundary text (at + len)

@@ -1,5 +1,5 @@
--- The places of a row by their columns, and the places that motions up and down by rows take. Of
--- the display they depend on the cluster mode and on the column at which the prompt ends.
+-- The places of a row by their columns, and the places to which motions up and down by rows lead.
+-- These depend on the cluster mode and on the column at which the prompt ends.
 use Rattle.std.specs.Prelude.{ℕ, ◌+◌, ◌==◌, nat_le, if◌then◌else◌, List, ◌∷◌, map, filter, take, slice_range, Option, None, option_map, unwrap_or}
 use Rattle.std.specs.List.{last_or}
 use Rattle.line_buffer.specs.declared.layout.GraphemeClusterMode.{GraphemeClusterMode}
@@ -13,13 +13,13 @@ abbrev pub boundary_columns : GraphemeClusterMode → ℕ → List ℕ → List 
 boundary_columns mode first row =
     map (λ i. (i, first + width_of mode (take i row))) (0 ∷ cluster_ends row)
 
--- the last boundary whose column isn't past the given one, the row's start where all are
+-- the last boundary whose column is at most the given one, the row's start if there is none
 unfoldable pub place_at_column : GraphemeClusterMode → ℕ → ℕ → List ℕ → ℕ
 place_at_column mode first column row =
     unwrap_or (option_map (λ x. x.0)
     (last_or None (filter (λ x. nat_le x.1 column) (boundary_columns mode first row)))) 0
 
--- the first row begins after the prompt, any other at the left
+-- the first row begins after the prompt, any other in the first column
 abbrev pub first_column : ℕ → ℕ → ℕ
 first_column prompt start = if start == 0 then prompt else 0
 

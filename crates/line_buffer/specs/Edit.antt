@@ -1,4 +1,4 @@
--- What a call owes that edits a line: what it answers, what it tells, and the line that it leaves.
+-- What a call that edits a line must do: its answer, its events, and the line that it leaves.
 use Rattle.std.specs.Prelude.{◌≡◌, List, length, Result, IfOk, OnOk, OnErr, ◌≤◌}
 use Rattle.line_buffer.specs.Event.{Event}
 use Rattle.line_buffer.specs.Line.{Line}
@@ -13,17 +13,17 @@ pub record Edit (A : Type 0) : Type 0 where
   pub events : List Event
   pub line : Line
 
--- an edit whose events say all that it makes of the line
+-- an edit whose events describe all its changes
 abbrev pub carrying : {A : Type 0} → A → List Event → Line → Edit A
 carrying answer events l = record { answer = answer; events = events; line = carried_all events l }
 
--- a refused call: the line at which its events began was carried over those that were taken
+-- a failed call: the line at which its events began, changed by the events that were taken
 pub record StopsAt {S : Type 0} (takes refuses : S → Event → S → Type 0)
     (closing events : List Event) (s t : S) (start after : Line) : Type 0 where
   pub stops : StopsAmong takes refuses closing events s t start.text after.text
   pub line : after ≡ carried_all stops.done start
 
--- an answered call has made the edit; one that is refused stopped at one of the edit's events
+-- a call that succeeded has made the edit; one that failed stopped at one of the edit's events
 pub record EditsLine {S A E : Type 0} (takes refuses : S → Event → S → Type 0)
     (closing : List Event) (edit : Edit A) (s t : S) (start after : Line) (result : Result A E)
     : Type 0 where
@@ -33,14 +33,14 @@ pub record EditsLine {S A E : Type 0} (takes refuses : S → Event → S → Typ
   pub left : OnErr result (StopsAt takes refuses closing edit.events s t start after)
   pub settings : SameSettings start after
 
--- the same, and the text gets no longer
+-- the same, and the text doesn't get longer
 pub record CutsLine {S A E : Type 0} (takes refuses : S → Event → S → Type 0)
     (closing : List Event) (edit : Edit A) (s t : S) (start after : Line) (result : Result A E)
     : Type 0 where
   pub edits : EditsLine takes refuses closing edit s t start after result
   pub shrinks : length after.text ≤ length start.text
 
--- one change is told and then made; where it is refused, the line stays as it was
+-- one change is reported and then made; if it fails, the line stays as it was
 pub record ChangesLine {S A E : Type 0} (takes refuses : S → Event → S → Type 0) (event : Event)
     (made : Line) (s t : S) (before after : Line) (result : Result A E) : Type 0 where
   pub told : OnOk result (takes s event t)

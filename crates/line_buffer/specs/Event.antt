@@ -1,4 +1,4 @@
--- What a listener is told.
+-- The events of which a listener is notified.
 use Rattle.std.specs.Prelude.{ℕ, List}
 use Rattle.line_buffer.specs.declared.types.Direction.{Direction}
 

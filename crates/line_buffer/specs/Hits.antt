@@ -1,4 +1,4 @@
--- The places of a character in a text, and the places that searches for a character take.
+-- The places of a character in a text, and the places to which searches for a character lead.
 use Rattle.std.specs.Prelude.{ℕ, ◌+◌, ◌==◌, List, [], ◌∷◌, length, map, reverse, filter, take, drop, chars, encode_utf8, Option, None, option_map, unwrap_or}
 use Rattle.std.specs.List.{last_or}
 use Rattle.line_buffer.specs.declared.types.CharSearch.{CharSearch}
@@ -14,7 +14,7 @@ chars_placed at (c ∷ cs) = (at, c) ∷ chars_placed (at + length (encode_utf8 
 abbrev pub placed_chars : List ℕ → List (ℕ × ℕ)
 placed_chars text = chars_placed 0 (chars text)
 
--- the places of a character in a text that stands at a place
+-- the places of a character in a text that begins at a given place
 abbrev pub hits_from : ℕ → ℕ → List ℕ → List ℕ
 hits_from at c text = map (λ x. x.0) (filter (λ x. x.1 == c) (chars_placed at (chars text)))
 
@@ -34,7 +34,7 @@ abbrev pub hit_forward : ℕ → ℕ → Line → Option ℕ
 hit_forward c n l =
     option_map (λ i. past_cluster l + i) (nth_or_last n (hits c (drop (past_cluster l) l.text)))
 
--- and before the cursor, the nearest first
+-- before the cursor, the nearest first
 abbrev pub hit_backward : ℕ → ℕ → Line → Option ℕ
 hit_backward c n l = nth_or_last n (reverse (hits c (text_before l)))
 
@@ -52,7 +52,7 @@ hit (ForwardBefore c) n l = hit_forward c n l
 hit (Backward c) n l = hit_backward c n l
 hit (BackwardAfter c) n l = hit_backward c n l
 
--- the place that the cursor takes: the hit's, one character before it, or right after it
+-- the cursor's new place: the hit's, one character before it, or right after it
 abbrev pub search_place : CharSearch → ℕ → Line → Option ℕ
 search_place (Forward c) n l = hit_forward c n l
 search_place (ForwardBefore c) n l = option_map (λ i. last_char (take i l.text)) (hit_forward c n l)

@@ -1,4 +1,4 @@
--- Rows moved in or out by spaces.
+-- Indents and dedents of rows with spaces.
 use Rattle.std.specs.Prelude.{⊤, ℕ, ◌+◌, ◌-◌, ◌==◌, Bool, true, if◌then◌else◌, List, [], ◌∷◌, length, take, take_while, slice_range, chars, encode_utf8_all, unwrap_or}
 use Rattle.std.specs.List.{slice_split, repeat}
 use Rattle.std.specs.Char.{is_whitespace}
@@ -14,7 +14,7 @@ use Rattle.line_buffer.specs.Replay.{insertion, carried_all}
 use Rattle.line_buffer.specs.Rows.{row_start, row_end, starts_above, starts_below}
 use Rattle.line_buffer.specs.Words.{prev_word, next_word}
 
--- a place in the first row and one in the last row that a movement covers
+-- a place in the first row and a place in the last row that a movement covers
 abbrev pub rows_covered : Movement → Line → ℕ × ℕ
 rows_covered (BackwardWord n word) l = (unwrap_or (prev_word word n l) l.place, l.place)
 rows_covered (ForwardWord n at word) l = (l.place, unwrap_or (next_word at word n l) l.place)
@@ -29,11 +29,11 @@ rows_covered movement l = (l.place, l.place)
 abbrev pub rows_of : List ℕ → List (List ℕ)
 rows_of text = slice_split (λ byte. byte == 10) text
 
--- the whitespace at the front of a row, at most so many characters of it
+-- the whitespace at the front of a row, at most `count` characters of it
 abbrev pub leading : ℕ → List ℕ → List ℕ
 leading count row = encode_utf8_all (take count (take_while is_whitespace (chars row)))
 
--- what is told of the row that starts at a place: it gets the margin, or loses at most as many
+-- the event of the row that starts at a place: it gets the margin, or loses at most as many
 -- characters
 abbrev pub row_event : List ℕ → Bool → ℕ → List ℕ → Event
 row_event margin dedent at row =
@@ -44,14 +44,14 @@ abbrev pub row_len : List ℕ → Bool → List ℕ → ℕ
 row_len margin dedent row =
     if dedent then length row - length (leading (length margin) row) else length row + length margin
 
--- one event for each row, the first row first, where that one starts at a place
+-- one event for each row, the first row first, which starts at the given place
 unfoldable pub row_events : List ℕ → Bool → ℕ → List (List ℕ) → List Event
 row_events margin dedent at [] = []
 row_events margin dedent at (row ∷ rows) =
     row_event margin dedent at row
     ∷ row_events margin dedent (at + row_len margin dedent row + 1) rows
 
--- the rows between two places moved
+-- the rows between two places, indented or dedented
 abbrev pub change_rows : List ℕ → Bool → ℕ → ℕ → Line → Edit ⊤
 change_rows margin dedent from upto l =
     carrying tt (row_events margin dedent from (rows_of (slice_range l.text from upto))) l

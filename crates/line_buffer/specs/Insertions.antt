@@ -1,4 +1,4 @@
--- Texts that are put in.
+-- Insertions of texts.
 use Rattle.std.specs.Prelude.{⊤, ℕ, zero, suc, ◌+◌, ◌-◌, ◌==◌, Bool, not, ◌&&◌, ◌||◌, nat_le, nat_lt, if◌then◌else◌, slice_index, List, [], ◌∷◌, length, take, min, Option, None, Some, encode_utf8}
 use Rattle.std.specs.List.{insert_slice, repeat}
 use Rattle.line_buffer.specs.declared.types.Direction.TheVariants.{Forward}
@@ -8,21 +8,21 @@ use Rattle.line_buffer.specs.Event.Event.{InsertChar}
 use Rattle.line_buffer.specs.Line.{Line, cut_out}
 use Rattle.line_buffer.specs.Replay.{deletion, insertion}
 
--- the byte at a place goes on with the character before it
+-- the byte at a place continues the character before it
 abbrev pub is_inside_char : List ℕ → ℕ → Bool
 is_inside_char text at =
     nat_lt at (length text) && nat_le 128 (slice_index text at) && nat_lt (slice_index text at) 192
 
--- the greatest place up to `room` at which the text may be cut
+-- the last character boundary of the text up to `room`
 unfoldable pub last_cut : List ℕ → ℕ → ℕ
 last_cut text zero = 0
 last_cut text (suc n) = if is_inside_char text (suc n) then last_cut text n else suc n
 
--- so many bytes more may be put in by the calls that look at the limit
+-- `count` more bytes fit, for the calls that respect the limit
 abbrev pub has_room : ℕ → Line → Bool
 has_room count l = l.growth || nat_le (length l.text + count) l.limit
 
--- the whole text, or the longest beginning in whole characters that the limit lets stand
+-- the whole text, or its longest prefix in whole characters that fits the limit
 abbrev pub kept_text : List ℕ → Line → List ℕ
 kept_text text l =
     if l.growth || nat_le (length text) l.limit then text else take (last_cut text l.limit) text
@@ -39,20 +39,20 @@ abbrev pub update : List ℕ → ℕ → Line → Edit ⊤
 update text pos l =
     record { answer = tt; events = update_events text l; line = update_line text pos l }
 
--- an edit that may find no room
+-- an edit that isn't made if the text doesn't fit
 abbrev pub Insertion : Type 0
 Insertion = Edit (Option Bool)
 
--- nothing is put in
+-- nothing is inserted
 abbrev pub no_insertion : Line → Insertion
 no_insertion l = record { answer = None; events = []; line = l }
 
--- a text put in at the cursor, the cursor after it
+-- a text inserted at the cursor, the cursor after it
 abbrev pub put_at_cursor : List ℕ → Line → Line
 put_at_cursor added l =
     record l { text = insert_slice l.text l.place added; place = l.place + length added }
 
--- where there is room for the text it is put in; the answer is whether that is at the text's end
+-- the text is inserted if it fits; the answer is whether that is at the text's end
 abbrev pub insertion_by : Event → List ℕ → Line → Insertion
 insertion_by told added l =
     if has_room (length added) l then record {
@@ -76,15 +76,15 @@ insert c n l =
 abbrev pub yank : List ℕ → ℕ → Line → Insertion
 yank text n l = if length text == 0 then no_insertion l else insertion_of text n l
 
--- so many bytes stand before the cursor, and begin a character
+-- `count` bytes precede the cursor, and begin at a character boundary
 abbrev pub can_take_before : ℕ → Line → Bool
 can_take_before count l = nat_le count l.place && not (is_inside_char l.text (l.place - count))
 
--- the line without so many bytes before the cursor
+-- the line without the `size` bytes before the cursor
 abbrev pub without_before : ℕ → Line → Line
 without_before size l = cut_out (l.place - size) l.place l
 
--- a text in place of so many bytes before the cursor
+-- a text in place of the `size` bytes before the cursor
 abbrev pub yank_pop : ℕ → List ℕ → Line → Insertion
 yank_pop size text l =
     let put = yank text 1 (without_before size l) in

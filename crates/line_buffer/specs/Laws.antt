@@ -10,7 +10,7 @@ use Rattle.line_buffer.specs.Line.{Line}
 use Rattle.line_buffer.specs.Range.{range_of, copied_range, span_text, kill_events}
 use Rattle.line_buffer.specs.Replay.{replayed_all}
 
--- not by a row and not to the end of one, where a kill takes the newline and a copy doesn't
+-- neither a row nor an end of a row: there a kill takes the newline and a copy doesn't
 abbrev pub leaves_rows_whole : Movement → Bool
 leaves_rows_whole WholeLine = false
 leaves_rows_whole BeginningOfLine = false
@@ -20,21 +20,21 @@ leaves_rows_whole movement = true
 abbrev pub copied_text : Movement → Line → Option (List ℕ)
 copied_text movement l = option_map (λ span. span_text span l) (copied_range movement l)
 
--- the texts that events tell as taken out
+-- the texts of the events that delete
 abbrev pub deleted_texts : List Event → List (List ℕ)
 deleted_texts [] = []
 deleted_texts (Delete at text direction ∷ es) = text ∷ deleted_texts es
 deleted_texts (e ∷ es) = deleted_texts es
 
--- by such a movement a kill takes something exactly where a copy gives a text, and tells that text
--- alone
+-- by such a movement a kill deletes something if and only if a copy returns a text, and the event
+-- has that text
 abbrev pub KillsWhatIsCopied : Type 0
 KillsWhatIsCopied =
     (movement : Movement) (l : Line) → IsTrue (leaves_rows_whole movement)
     → (is_some (range_of movement l) ≡ is_some (copied_text movement l))
     × (deleted_texts (kill_events movement l) ≡ option_to_list (copied_text movement l))
 
--- of the beginnings of a text in whole characters, the longest that is no longer than a limit
+-- the longest prefix of a text, in whole characters, that is no longer than a limit
 pub record IsLongestThatFits (text kept : List ℕ) (limit : ℕ) : Type 0 where
   pub rest : List ℕ
   pub begins : text ≡ kept ++ rest
@@ -43,7 +43,7 @@ pub record IsLongestThatFits (text kept : List ℕ) (limit : ℕ) : Type 0 where
   pub longest : (other more : List ℕ) → text ≡ other ++ more → IsUtf8 other → length other ≤ limit
       → length other ≤ length kept
 
--- a line without leave to grow keeps that of a new text
+-- a line that can't grow keeps that prefix of a new text
 abbrev pub KeepsTheLongestThatFits : Type 0
 KeepsTheLongestThatFits =
     (text : List ℕ) (l : Line) → IsUtf8 text → l.growth ≡ false
@@ -60,8 +60,8 @@ abbrev pub moved_row : List ℕ → Bool → List ℕ → List ℕ
 moved_row margin dedent row =
     if dedent then drop (length (leading (length margin) row)) row else margin ++ row
 
--- what is told of rows in a text gives each its margin, or takes it, and changes nothing before
--- them or after
+-- the events of rows in a text give each its margin, or remove it, and change nothing before or
+-- after
 abbrev pub RowsGetTheirMargin : Type 0
 RowsGetTheirMargin =
     (margin : List ℕ) (dedent : Bool) (before after : List ℕ) (rows : List (List ℕ))

@@ -1,4 +1,4 @@
--- The letters of a word in another case.
+-- Changes of the case of a word's letters.
 use Rattle.std.specs.Prelude.{ℕ, ◌+◌, List, [], ◌∷◌, ◌++◌, length, take, drop, slice_range, find, Bool, is_some, Option, None, Some, option_map, unwrap_or}
 use Rattle.std.specs.List.{last_or}
 use Rattle.std.specs.Str.{str_to_ascii_lowercase, str_to_ascii_uppercase}
@@ -32,13 +32,13 @@ abbrev pub first_cluster_len : List ℕ → ℕ
 first_cluster_len word =
     unwrap_or (option_map (λ x. x.0 + length x.1) (last_or None (take 1 (clusters word)))) 0
 
--- how many bytes at the front of a word are raised, the others being lowered
+-- how many bytes at the front of a word become uppercase; the others become lowercase
 abbrev pub raised_len : WordAction → List ℕ → ℕ
 raised_len Capitalize word = first_cluster_len word
 raised_len Lowercase word = 0
 raised_len Uppercase word = length word
 
--- the letters of ASCII alone
+-- only ASCII letters change
 abbrev pub recased : WordAction → List ℕ → List ℕ
 recased action word =
     str_to_ascii_uppercase (take (raised_len action word) word)

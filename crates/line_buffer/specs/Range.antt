@@ -1,4 +1,4 @@
--- The part of a text that a movement names, and what it makes of a line to take that part out.
+-- The range of the text that a movement names, and the line without it.
 use Rattle.std.specs.Prelude.{◌≡◌, ℕ, ◌+◌, ◌-◌, ◌≤◌, ◌==◌, nat_lt, Bool, true, false, if◌then◌else◌, List, [], ◌∷◌, ◌++◌, length, slice_range, Option, None, Some, is_some, option_map, encode_utf8, IfSome, IsCharBoundary}
 use Rattle.line_buffer.specs.declared.range.Span.{Span}
 use Rattle.line_buffer.specs.declared.types.CharSearch.{CharSearch}
@@ -16,30 +16,30 @@ use Rattle.line_buffer.specs.Replay.{deletion}
 use Rattle.line_buffer.specs.Rows.{row_start, row_end, rows_up, rows_down}
 use Rattle.line_buffer.specs.Words.{prev_word, next_word}
 
--- a part of a text between characters
+-- a range of a text on character boundaries
 pub record IsSpanOf (text : List ℕ) (span : Span) : Type 0 where
   pub order : span.from ≤ span.upto
   pub start : IsCharBoundary text span.from
   pub end : IsCharBoundary text span.upto
 
--- the span that is asked for, which is a part of the text
+-- the requested span, which is a range of the text
 pub record FindsSpan (asked : Option Span) (text : List ℕ) (found : Option Span) : Type 0 where
   pub value : found ≡ asked
   pub span : IfSome found (IsSpanOf text)
 
--- what lies before the cursor from a place on, and after it up to a place
+-- from an earlier place to the cursor, and from the cursor to a later place
 abbrev pub up_to_cursor : ℕ → Line → Span
 up_to_cursor from l = record { from = from; upto = l.place; direction = Backward }
 
 abbrev pub from_cursor : ℕ → Line → Span
 from_cursor upto l = record { from = l.place; upto = upto; direction = Forward }
 
--- what may lie on both sides of the cursor goes back where it ends there
+-- a range that may lie on both sides of the cursor is backward if it ends there
 abbrev pub around_cursor : ℕ → ℕ → Line → Span
 around_cursor from upto l =
     record { from = from; upto = upto; direction = if upto == l.place then Backward else Forward }
 
--- from a place of the cursor's row to the row's end; at that end the newline, if one is there
+-- from a place in the cursor's row to the row's end; at that end the newline, if there is one
 abbrev pub to_row_end : ℕ → Line → Option Span
 to_row_end from l =
     let upto = row_end l.text l.place in
@@ -47,14 +47,14 @@ to_row_end from l =
     else (if nat_lt upto (length l.text)
     then Some (record { from = from; upto = upto + 1; direction = Forward }) else None)
 
--- from the row's start to the cursor; at that start the newline before, if one is there
+-- from the row's start to the cursor; at that start the newline before it, if there is one
 abbrev pub from_row_start : Line → Option Span
 from_row_start l =
     let from = row_start l.text l.place in
     if nat_lt from l.place then Some (up_to_cursor from l)
     else (if nat_lt 0 l.place then Some (up_to_cursor (l.place - 1) l) else None)
 
--- as far as a character that is found: with it, or up to it
+-- up to the character that is found, including it or not
 abbrev pub search_range : CharSearch → ℕ → Line → Option Span
 search_range (Onto c) n l =
     option_map (λ i. from_cursor (i + length (encode_utf8 c)) l) (hit (Onto c) n l)
@@ -81,7 +81,7 @@ range_of BeginningOfBuffer l = if l.place == 0 then None else Some (up_to_cursor
 range_of EndOfBuffer l =
     if l.place == length l.text then None else Some (from_cursor (length l.text) l)
 
--- the same but for the newlines at the ends of a row: what is copied
+-- the range that is copied: the same, except for the newlines at the ends of a row
 abbrev pub copied_range : Movement → Line → Option Span
 copied_range WholeLine l =
     let from = row_start l.text l.place in
@@ -95,12 +95,12 @@ copied_range movement l = range_of movement l
 abbrev pub span_text : Span → Line → List ℕ
 span_text span l = slice_range l.text span.from span.upto
 
--- what is told where a part is taken out, if there is one
+-- the events of the deletion of a range, if there is one
 abbrev pub deletion_events : Option Span → Line → List Event
 deletion_events None l = []
 deletion_events (Some span) l = deletion span.from span.upto span.direction l.text ∷ []
 
--- and the line afterwards
+-- the line afterwards
 abbrev pub deletion_line : Option Span → Line → Line
 deletion_line None l = l
 deletion_line (Some span) l = cut_out span.from span.upto l
@@ -112,7 +112,7 @@ deletion_of span l =
 abbrev pub deletion_by : Movement → Line → Edit Bool
 deletion_by movement l = deletion_of (range_of movement l) l
 
--- n clusters after the cursor, which are answered
+-- n clusters after the cursor, which are the answer
 abbrev pub delete : ℕ → Line → Edit (Option (List ℕ))
 delete n l =
     let span = range_of (ForwardChar n) l in
@@ -127,13 +127,13 @@ goes_by_clusters (BackwardChar n) = true
 goes_by_clusters (ForwardChar n) = true
 goes_by_clusters movement = false
 
--- a kill is told as one, also where it takes nothing, but by clusters it is a deletion
+-- a kill is reported as one, even if it deletes nothing; by clusters it is reported as a deletion
 abbrev pub kill_events : Movement → Line → List Event
 kill_events movement l =
     let events = deletion_events (range_of movement l) l in
     if goes_by_clusters movement then events else StartKilling ∷ (events ++ (StopKilling ∷ []))
 
--- what closes a kill, also one that is refused
+-- the event that ends a kill, even one that fails
 abbrev pub kill_closing : Movement → List Event
 kill_closing movement = if goes_by_clusters movement then [] else StopKilling ∷ []
 

@@ -1,4 +1,4 @@
--- Events replayed on a text, and taken by a listener; and as functions of a text, and of a cursor
+-- Events replayed on a text and taken by a listener, and as functions of a text and of a cursor
 -- that keeps its place in the text.
 use Rattle.std.specs.Prelude.{◌≡◌, ℕ, ◌+◌, List, [], ◌∷◌, ◌++◌, ◌⊎◌, length, slice_range, IsUtf8, IsCharBoundary, encode_utf8, ◌-◌, min, nat_le, if◌then◌else◌}
 use Rattle.std.specs.List.{replace_range}
@@ -7,8 +7,7 @@ use Rattle.line_buffer.specs.Event.Event.{StartKilling, StopKilling, Delete, Ins
 use Rattle.line_buffer.specs.declared.types.Direction.{Direction}
 use Rattle.line_buffer.specs.Line.{Line}
 
--- the text `removed` stands at the place, between characters, and `added` is what stands there
--- afterwards
+-- the text `removed` is at the place, on character boundaries, and `added` replaces it
 pub record Swaps (at : ℕ) (removed added before after : List ℕ) : Type 0 where
   pub start : IsCharBoundary before at
   pub end : IsCharBoundary before (at + length removed)
@@ -16,7 +15,7 @@ pub record Swaps (at : ℕ) (removed added before after : List ℕ) : Type 0 whe
   pub text : IsUtf8 added
   pub becomes : after ≡ replace_range before at (at + length removed) added
 
--- what one event makes of a text
+-- the change of a text by one event
 abbrev pub Replays : Event → List ℕ → List ℕ → Type 0
 Replays (Delete at text direction) before after = Swaps at text [] before after
 Replays (InsertChar at c) before after = Swaps at [] (encode_utf8 c) before after
@@ -24,13 +23,13 @@ Replays (InsertStr at text) before after = Swaps at [] text before after
 Replays (Replace at removed added) before after = Swaps at removed added before after
 Replays mark before after = after ≡ before
 
--- what events in order make of a text
+-- the change of a text by events in order
 abbrev pub ReplaysAll : List Event → List ℕ → List ℕ → Type 0
 ReplaysAll [] before after = after ≡ before
 ReplaysAll (e ∷ es) before after =
     (between : List ℕ) × Replays e before between × ReplaysAll es between after
 
--- what events in order make of a listener
+-- the change of a listener by events in order
 abbrev pub TakesAll : {S : Type 0} → (S → Event → S → Type 0) → S → List Event → S → Type 0
 TakesAll takes s [] t = t ≡ s
 TakesAll {S} takes s (e ∷ es) t = (u : S) × takes s e u × TakesAll takes u es t
@@ -41,19 +40,20 @@ pub record Reports {S : Type 0} (takes : S → Event → S → Type 0) (events :
   pub told : TakesAll takes s events t
   pub replays : ReplaysAll events before after
 
--- an event that tells of a change, and so can be refused: no mark
+-- an event that reports a change, and so can fail; the marks of a kill can't
 abbrev pub TellsOfChange : Event → Type 0
 TellsOfChange StartKilling = ⊥
 TellsOfChange StopKilling = ⊥
 TellsOfChange e = Unit {0}
 
--- the line finds no memory for an event, and the listener isn't told of it; or the listener refuses
+-- the line finds no memory for an event, and the listener isn't notified of it; or the listener
+-- fails
 abbrev pub wants_or : {S : Type 0} → (S → Event → S → Type 0) → S → Event → S → Type 0
 wants_or refuses s e t = (t ≡ s) ⊎ refuses s e t
 
--- memory was wanting at one of the events: those before it were done, and led to the text that is
--- left; that one was stopped, by the listener's refusal or as `wants_or` has it; those after it
--- never come. What closes the call was told in the end
+-- memory ran out at one of the events. The events before it were done, and led to the text that is
+-- left. That event was stopped by the listener's error or as in `wants_or`; the later ones never
+-- come. At last the listener was notified of what closes the call
 pub record StopsAmong {S : Type 0} (takes stops : S → Event → S → Type 0)
     (closing events : List Event)
     (s t : S) (before after : List ℕ) : Type 0 where
@@ -78,7 +78,7 @@ insertion at added = InsertStr at added
 abbrev pub replacement : ℕ → ℕ → List ℕ → List ℕ → Event
 replacement from upto added text = Replace from (slice_range text from upto) added
 
--- what one event makes of a text in which its old text stands
+-- the change by one event of a text that contains the event's old text
 abbrev pub replayed : Event → List ℕ → List ℕ
 replayed (Delete at removed direction) text = replace_range text at (at + length removed) []
 replayed (InsertChar at c) text = replace_range text at (at + 0) (encode_utf8 c)
@@ -90,7 +90,7 @@ unfoldable pub replayed_all : List Event → List ℕ → List ℕ
 replayed_all [] text = text
 replayed_all (e ∷ es) text = replayed_all es (replayed e text)
 
--- the cursor stays before the text that follows on it; an exchange leaves it after what came in
+-- the cursor stays before the text that follows it; a replacement leaves it after the new text
 abbrev pub carried : Event → ℕ → ℕ
 carried (Delete at removed direction) place = place - min (length removed) (place - at)
 carried (InsertStr at added) place = if nat_le at place then place + length added else place

@@ -1,5 +1,5 @@
--- The row in which a place lies: what stands between newlines. Where rows start, and the ranges of
--- rows that a movement up or down names: a range takes along the newline that ends a row.
+-- The row of a place, between newlines; where rows start; and the ranges of rows that a movement up
+-- or down names. Such a range includes the newline that ends it.
 use Rattle.std.specs.Prelude.{◌≡◌, ℕ, ◌+◌, ◌-◌, ◌==◌, Bool, not, List, take, drop, IsCharBoundary, ◌≤◌, min, ◌∷◌, length, map, reverse, filter, Option, option_map, IfSome}
 use Rattle.std.specs.List.{prefix_len, suffix_len, enumerate_from}
 use Rattle.line_buffer.specs.Line.{Line, text_before, text_after}
@@ -8,20 +8,20 @@ use Rattle.line_buffer.specs.Clusters.{nth_or_last}
 abbrev pub is_in_row : ℕ → Bool
 is_in_row byte = not (byte == 10)
 
--- as many bytes back from the place as there is no newline
+-- back from the place up to a newline
 abbrev pub row_start : List ℕ → ℕ → ℕ
 row_start text at = at - suffix_len is_in_row (take at text)
 
--- as many bytes on from the place as there is no newline
+-- on from the place up to a newline
 abbrev pub row_end : List ℕ → ℕ → ℕ
 row_end text at = at + prefix_len is_in_row (drop at text)
 
--- the place that is asked for, which stands between characters of the text
+-- the requested place, which is a character boundary of the text
 pub record FindsPlace (asked : ℕ) (text : List ℕ) (found : ℕ) : Type 0 where
   pub value : found ≡ asked
   pub boundary : IsCharBoundary text found
 
--- the places after the newlines of a text, which begins at the given place
+-- the places after the newlines of a text that begins at the given place
 unfoldable pub behind_newlines : ℕ → List ℕ → List ℕ
 behind_newlines from text = map (λ x. x.0 + 1) (filter (λ x. x.1 == 10) (enumerate_from from text))
 
@@ -33,26 +33,27 @@ row_starts text = 0 ∷ behind_newlines 0 text
 abbrev pub starts_above : Line → List ℕ
 starts_above l = drop 1 (reverse (row_starts (text_before l)))
 
--- and those below it
+-- where the rows below it start
 abbrev pub starts_below : Line → List ℕ
 starts_below l = behind_newlines l.place (text_after l)
 
--- the end of a place's row, after its newline where it has one
+-- the end of a place's row, after its newline if it has one
 abbrev pub row_close : List ℕ → ℕ → ℕ
 row_close text at = min (row_end text at + 1) (length text)
 
--- from the start of the n-th row above, the first where fewer stand, to the end of the cursor's row
+-- from the start of the n-th row above, the first if there are fewer, to the end of the cursor's
+-- row
 abbrev pub rows_up : ℕ → Line → Option (ℕ × ℕ)
 rows_up n l =
     option_map (λ start. (start, row_close l.text l.place)) (nth_or_last n (starts_above l))
 
--- from the start of the cursor's row to the end of the n-th row below, the last where fewer stand
+-- from the start of the cursor's row to the end of the n-th row below, the last if there are fewer
 abbrev pub rows_down : ℕ → Line → Option (ℕ × ℕ)
 rows_down n l =
     option_map (λ start. (row_start l.text l.place, row_close l.text start))
     (nth_or_last n (starts_below l))
 
--- the range of rows that is asked for, between characters of the text
+-- the requested range of rows, on character boundaries of the text
 pub record FindsRows (asked : Option (ℕ × ℕ)) (text : List ℕ) (found : Option (ℕ × ℕ)) : Type 0
   where
     pub value : found ≡ asked

@@ -1,4 +1,4 @@
--- Two parts of a text exchanged: the clusters at the cursor, and the words around it.
+-- Transpositions of two parts of a text: the clusters at the cursor, or the words around it.
 use Rattle.std.specs.Prelude.{⊤, ℕ, ◌+◌, ◌==◌, ◌&&◌, not, nat_lt, nat_le, true, Bool, if◌then◌else◌, List, [], ◌∷◌, ◌++◌, length, slice_range}
 use Rattle.std.specs.List.{replace_range}
 use Rattle.unicode_segmentation.specs.Grapheme.{graphemes}
@@ -11,8 +11,7 @@ use Rattle.line_buffer.specs.Line.{Line, text_before, text_after, moved_to, repl
 use Rattle.line_buffer.specs.Replay.{replacement}
 use Rattle.line_buffer.specs.Words.{prev_word, next_word}
 
--- the cursor between the two clusters that are exchanged: one cluster back where it stands at the
--- text's end
+-- the cursor between the two clusters to transpose: one cluster back at the text's end
 abbrev pub between_clusters : Line → Line
 between_clusters l = if l.place == length l.text then moved_to (place_backward 1 l) l else l
 
@@ -21,15 +20,15 @@ abbrev pub clusters_at : Line → ℕ × ℕ × ℕ
 clusters_at l =
     ((moved_to (place_backward 1 l) l).place, l.place, (moved_to (place_forward 1 l) l).place)
 
--- how many clusters stand before the cursor and after it, each text cut by itself
+-- how many clusters are before the cursor and after it, each text split by itself
 abbrev pub clusters_around : Line → ℕ
 clusters_around l = length (graphemes true (text_before l)) + length (graphemes true (text_after l))
 
--- the cursor is after a cluster, and there are two at least
+-- the cursor is after a cluster, and there are at least two
 abbrev pub transposes_chars : Line → Bool
 transposes_chars l = not (l.place == 0) && nat_lt 1 (clusters_around l)
 
--- two neighbouring parts, the later one first
+-- two adjacent parts, the later one first
 abbrev pub later_first : ℕ × ℕ × ℕ → List ℕ → List ℕ
 later_first parts text = slice_range text parts.1 parts.2 ++ slice_range text parts.0 parts.1
 
@@ -76,7 +75,7 @@ words_around n l = record {
   second = ((second_word n l).place, (after_words n l).place);
 }
 
--- the later part is exchanged first, so that the earlier one still stands where it stood
+-- the later part is replaced first, so that the earlier one is still at its place
 abbrev pub swap_events : Pair → List ℕ → List Event
 swap_events p text =
     let first = slice_range text p.first.0 p.first.1 in
@@ -109,7 +108,7 @@ abbrev pub transpose_words_events : ℕ → Line → List Event
 transpose_words_events n l =
     if transposes_words n l then swap_events (words_around n l) l.text else []
 
--- where the words aren't two, the cursor stays after the first
+-- if the words aren't two, the cursor stays after the first
 abbrev pub transpose_words_line : ℕ → Line → Line
 transpose_words_line n l =
     if transposes_words n l then swap_line (words_around n l) l else after_words 1 (first_word n l)
@@ -121,6 +120,6 @@ transpose_words n l = record {
   line = transpose_words_line n l;
 }
 
--- the line at which these events begin: the cursor has moved
+-- the line at which these events begin: the cursor has already moved
 abbrev pub before_transposed : ℕ → Line → Line
 before_transposed n l = record l { place = (words_around n l).first.1 }

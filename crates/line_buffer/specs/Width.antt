@@ -1,4 +1,4 @@
--- The columns that a text takes in a terminal, by the way in which the terminal counts those of a
+-- The columns that a text takes in a terminal, depending on how the terminal counts those of a
 -- cluster.
 use Rattle.std.specs.Prelude.{◌≡◌, ℕ, ◌+◌, ◌==◌, min, false, List, ◌++◌, chars, sum_by, unwrap_or}
 use Rattle.std.specs.List.{slice_split}
@@ -6,7 +6,7 @@ use Rattle.unicode_width.specs.Width.{str_width, char_width}
 use Rattle.line_buffer.specs.declared.layout.GraphemeClusterMode.{GraphemeClusterMode}
 use Rattle.line_buffer.specs.declared.layout.GraphemeClusterMode.TheVariants.{Unicode, WcWidth, NoZwj}
 
--- a character by itself, 0 where it has no width
+-- a character by itself, 0 if it has no width
 abbrev pub char_columns_of : ℕ → ℕ
 char_columns_of c = unwrap_or (char_width false c) 0
 
@@ -20,7 +20,7 @@ columns_of Unicode cs = str_width false cs
 columns_of WcWidth cs = sum_by char_columns_of cs
 columns_of NoZwj cs = sum_by (str_width false) (unjoined cs)
 
--- of a text: no more than a number of columns can be
+-- of a text: at most the greatest number of columns
 abbrev pub width_of : GraphemeClusterMode → List ℕ → ℕ
 width_of mode text = min (columns_of mode (chars text)) 65535
 
@@ -28,7 +28,7 @@ width_of mode text = min (columns_of mode (chars text)) 65535
 abbrev pub AddUp : GraphemeClusterMode → List ℕ → List ℕ → Type 0
 AddUp mode cs ds = columns_of mode (cs ++ ds) ≡ columns_of mode cs + columns_of mode ds
 
--- characters that part a text: what follows on them changes no columns of what stands before them
+-- characters that separate a text: what follows them changes no columns of what precedes them
 unfoldable pub PartsText : List ℕ → Type 0
 PartsText cs =
     (mode : GraphemeClusterMode) (before after : List ℕ)

@@ -1,4 +1,4 @@
--- Where words start and end, and the places that motions by words take.
+-- Where words start and end, and the places to which motions by words lead.
 use Rattle.std.specs.Prelude.{ℕ, ◌+◌, ◌==◌, Bool, true, false, not, ◌||◌, if◌then◌else◌, List, [], ◌∷◌, ◌++◌, length, map, reverse, filter, zip, drop, chars, bytes_eq, Option, None, Some, option_map, option_to_list}
 use Rattle.std.specs.List.{list_all, last_or}
 use Rattle.std.specs.Char.{is_whitespace}
@@ -12,14 +12,14 @@ use Rattle.line_buffer.specs.declared.words.ClusterKind.TheVariants.{Blank, InWo
 use Rattle.line_buffer.specs.Line.{Line, text_before, text_after}
 use Rattle.line_buffer.specs.Clusters.{clusters, nth_or_last}
 
--- all its characters are Alphabetic, or numbers of some kind
+-- all its characters are Alphabetic or numbers
 abbrev pub is_alphanumeric_cluster : List ℕ → Bool
 is_alphanumeric_cluster cluster = list_all is_alphanumeric (chars cluster)
 
 abbrev pub has_no_whitespace : List ℕ → Bool
 has_no_whitespace cluster = list_all (λ c. not (is_whitespace c)) (chars cluster)
 
--- what one cluster is: part of a word, blank, or for Vi also part of a run of other clusters
+-- the kind of a cluster: part of a word, blank, or for Vi also part of a run of other clusters
 abbrev pub kind_of : Word → List ℕ → ClusterKind
 kind_of Emacs cluster = if is_alphanumeric_cluster cluster then InWord else Blank
 kind_of Big cluster = if has_no_whitespace cluster then InWord else Blank
@@ -34,7 +34,7 @@ starts_between InWord InWord = false
 starts_between Other Other = false
 starts_between x y = true
 
--- and one ends where one would start the other way round
+-- a word ends where one would start in the other direction
 abbrev pub ends_between : ClusterKind → ClusterKind → Bool
 ends_between x y = starts_between y x
 
@@ -49,7 +49,7 @@ neighbours xs = zip xs (drop 1 xs)
 unfoldable pub starts_of : List (ℕ × ClusterKind) → List ℕ
 starts_of xs = map (λ p. p.1.0) (filter (λ p. starts_between p.0.1 p.1.1) (neighbours xs))
 
--- the places at which something else follows on a word
+-- the places at which something else follows a word
 unfoldable pub ends_of : List (ℕ × ClusterKind) → List ℕ
 ends_of xs = map (λ p. p.1.0) (filter (λ p. ends_between p.0.1 p.1.1) (neighbours xs))
 
@@ -63,37 +63,37 @@ edges_of Start xs = starts_of xs
 edges_of BeforeEnd xs = lasts_of xs
 edges_of AfterEnd xs = ends_of xs
 
--- the place between two neighbours, if it can stop there
+-- the place between two neighbours, if such a motion can stop there
 abbrev pub edge_between : At → ℕ × ClusterKind → ℕ × ClusterKind → Option ℕ
 edge_between Start x y = if starts_between x.1 y.1 then Some y.0 else None
 edge_between BeforeEnd x y = if ends_between x.1 y.1 then Some x.0 else None
 edge_between AfterEnd x y = if ends_between x.1 y.1 then Some y.0 else None
 
--- the start of a text and its end, where it isn't empty
+-- the start of a text and its end, if it isn't empty
 abbrev pub text_start : List ℕ → List ℕ
 text_start text = if length text == 0 then [] else 0 ∷ []
 
 abbrev pub text_end : List ℕ → List ℕ
 text_end text = if length text == 0 then [] else length text ∷ []
 
--- the place of the last cluster but where it is the first
+-- the place of the last cluster, unless it is the first
 abbrev pub later_last : List (ℕ × List ℕ) → List ℕ
 later_last pieces = option_to_list (option_map (λ x. x.0) (last_or None (drop 1 pieces)))
 
--- where a motion back over a text can stop, nearest first: at each start of a word, and in the end
--- at the text's start
+-- where a motion back over a text can stop, nearest first: at each start of a word, and at last at
+-- the text's start
 abbrev pub stops_back : Word → List ℕ → List ℕ
 stops_back word text = reverse (text_start text ++ starts_of (kinds word (clusters text)))
 
 -- where a motion over a text can stop inside it: at each start of a word, after its end, or at its
--- last cluster, but there never at the text's first cluster; with Emacs the last cluster counts as
--- the end
+-- last cluster (never at the text's first one). With Emacs words the place after the end counts as
+-- the last cluster
 abbrev pub inner_stops : At → Word → List ℕ → List ℕ
 inner_stops BeforeEnd Emacs text = ends_of (kinds Emacs (clusters text))
 inner_stops BeforeEnd word text = lasts_of (kinds word (drop 1 (clusters text)))
 inner_stops at word text = edges_of at (kinds word (clusters text))
 
--- and where it stops in the end
+-- where it stops at last
 abbrev pub last_stop : At → Word → List ℕ → List ℕ
 last_stop AfterEnd word text = text_end text
 last_stop at Emacs text = text_end text

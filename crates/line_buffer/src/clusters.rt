@@ -1,18 +1,18 @@
-//! Clusters, counted as far as is asked for.
+//! Counts grapheme clusters, up to a given number.
 
 ghost use Rattle.std.specs.Prelude.{◌≡◌, ◌==◌, true, min, length, chars};
 ghost use Rattle.unicode_segmentation.specs.Grapheme.{graphemes};
 
 use unicode_segmentation::UnicodeSegmentation;
 
-/// How many clusters a text has, `most` where it has more.
+/// The number of clusters of a text, at most `most`.
 pub fn clusters_up_to(text: &str, most: usize) -> usize
     ensures { result ≡ min most (length (graphemes true text.now)) }
 {
     text.graphemes(true).take(most).count()
 }
 
-/// Exactly one cluster.
+/// Whether the text is exactly one cluster.
 #[tactic(auto, using(crate::proofs::ClusterLemmas::one_cluster))]
 pub fn has_one_cluster(text: &str) -> bool
     ensures { result ≡ (length (graphemes true text.now) == 1) }

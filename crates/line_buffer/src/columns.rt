@@ -1,5 +1,5 @@
-//! Motions up and down by rows, which keep to the cursor's column as nearly as the clusters of the
-//! row allow.
+//! Motions up and down by rows. They keep the cursor's column as nearly as the clusters of the row
+//! allow.
 
 ghost use Rattle.std.specs.Char.{IsScalar};
 ghost use Rattle.std.specs.Int.{is_in_range};
@@ -28,7 +28,7 @@ fn row_first_column(layout: &Layout, start: usize) -> Unit
     }
 }
 
-/// The columns of these characters add to those of any text before them.
+/// Whether the columns of this text add up with those of any text before it.
 fn adds_up(mode: GraphemeClusterMode, text: &str) -> bool
     ensures { result ≡ true → (before : _) → AddUp mode before (chars text.now) }
 {
@@ -38,7 +38,7 @@ fn adds_up(mode: GraphemeClusterMode, text: &str) -> bool
     }
 }
 
-/// The columns of each character are its own, whatever stands before it.
+/// Whether each character has its own columns, whatever precedes it.
 fn all_stand_alone(text: &str) -> bool
     ensures { result ≡ true → (mode : _) (before : _) → AddUp mode before (chars text.now) }
 {
@@ -60,7 +60,7 @@ fn all_stand_alone(text: &str) -> bool
     })
 }
 
-/// An emoji by itself, no letter of a flag and no tone of skin.
+/// A single emoji, but no regional indicator and no skin tone modifier.
 fn is_own_emoji(c: char) -> bool
     ensures { result ≡ (is_emoji_presentation c
         && not (is_in_range 0x1F1E6 0x1F1FF c || is_in_range 0x1F3FB 0x1F3FF c)) }
@@ -68,7 +68,8 @@ fn is_own_emoji(c: char) -> bool
     is_emoji_presentation(c) && !matches!(c, '\u{1F1E6}'..='\u{1F1FF}' | '\u{1F3FB}'..='\u{1F3FF}')
 }
 
-/// The text begins with such an emoji, or with a character that a selector makes one.
+/// Whether the text begins with such an emoji, or with a character that a variation selector makes
+/// an emoji.
 fn begins_with_emoji(text: &str) -> bool
     ensures { result ≡ true → (mode : _) (before : _) → last_or None before ≢ Some 0x200D
         → AddUp mode before (chars text.now) }
@@ -115,7 +116,8 @@ fn are_flag_letters(text: &str) -> bool
     text.chars().all(|c| is_flag_letter(c))
 }
 
-/// The text ends in two letters of a flag, so that such letters after them add their own columns.
+/// Whether the text ends in two regional indicators. If so, regional indicators after it add their
+/// own columns.
 fn ends_in_flag(text: &str) -> bool
     ensures { result ≡ true → (mode : _) (rest : _)
         → list_all (is_in_range 0x1F1E6 0x1F1FF) rest ≡ true → AddUp mode (chars text.now) rest }
@@ -130,7 +132,7 @@ fn ends_in_flag(text: &str) -> bool
     is_flag_letter(previous) && is_flag_letter(last)
 }
 
-/// The characters where two texts meet tell that their columns add up.
+/// Whether the characters at the seam of two texts show that their columns add up.
 fn columns_add(mode: GraphemeClusterMode, before: &str, rest: &str) -> bool
     ensures { result ≡ true → AddUp mode (chars before.now) (chars rest.now) }
 {
@@ -143,7 +145,7 @@ fn columns_add(mode: GraphemeClusterMode, before: &str, rest: &str) -> bool
     are_flag_letters(rest) && ends_in_flag(before)
 }
 
-/// A letter that parts a text: what follows on it says nothing of what stands before it.
+/// A letter that separates a text: what follows it doesn't change the columns of what precedes it.
 fn is_parting_letter(c: char) -> bool
     ensures { result ≡ true → (rest : _) → PartsText (c ∷ rest) }
 {
@@ -176,9 +178,9 @@ fn begins_with_parting_letter(text: &str) -> bool
     }
 }
 
-/// The columns of a text up to a place, by those of the whole text, where the cluster before the
-/// place begins with a letter that parts the text: what follows on it changes its own columns
-/// alone.
+/// The columns of a text up to a place, computed from those of the whole text. `None` unless the
+/// cluster before the place begins with a separating letter; what follows such a letter changes
+/// only its own columns.
 fn columns_by_letter(
     mode: GraphemeClusterMode,
     text: &str,
@@ -203,9 +205,9 @@ fn columns_by_letter(
     }
 }
 
-/// The columns of a text up to a place, where those of the whole text are known. What follows on
-/// the place is measured alone where it may be, or with the cluster before it, and else all that
-/// stands before the place.
+/// The columns of a text up to a place, if those of the whole text are known. If possible only the
+/// rest after the place is measured, or the rest and the cluster before it. Otherwise the text
+/// before the place is measured.
 fn columns_up_to(mode: GraphemeClusterMode, text: &str, end: usize, whole: usize) -> usize
     requires boundary { IsCharBoundary text.now end }
     requires whole { whole ≡ min (columns_of mode (chars text.now)) usize.MAX }
@@ -221,8 +223,8 @@ fn columns_up_to(mode: GraphemeClusterMode, text: &str, end: usize, whole: usize
     }
 }
 
-/// The last place between the clusters of a row whose column isn't past the given one, the row's
-/// start where all are.
+/// The last cluster boundary of a row whose column is at most the given one; the row's start if
+/// there is none.
 fn boundary_at_column(mode: GraphemeClusterMode, row: &str, first: Unit, column: usize) -> usize
     ensures value { result ≡ place_at_column mode first column row.now }
     ensures boundary { IsCharBoundary row.now result }
@@ -250,7 +252,7 @@ impl LineBuffer {
         usize::from(first) + usize::from(layout.width(&self.buf[start..self.pos]))
     }
 
-    /// The place of the cursor's column in the row that starts at a place.
+    /// The place with the cursor's column in the row that starts at `start`.
     #[tactic(auto, unfolding(crate::specs::Columns::place_in_row))]
     fn place_below_column(&self, layout: &Layout, start: usize) -> usize
         requires { IsCharBoundary self.now.text start }
@@ -266,7 +268,7 @@ impl LineBuffer {
         start + boundary_at_column(layout.grapheme_cluster_mode, row, first, column)
     }
 
-    /// The place to which a motion up by n rows moves the cursor; none in the first row.
+    /// The place to which a motion up by n rows moves the cursor; `None` in the first row.
     #[tactic(auto, unfolding(crate::specs::Columns::line_up))]
     fn line_up_pos(&self, n: RepeatCount, layout: &Layout) -> Option<usize>
         ensures value { result ≡ line_up layout.now.grapheme_cluster_mode layout.now.prompt_size.col
@@ -277,7 +279,7 @@ impl LineBuffer {
         Some(self.place_below_column(layout, start))
     }
 
-    /// The place to which a motion down by n rows moves the cursor; none in the last row.
+    /// The place to which a motion down by n rows moves the cursor; `None` in the last row.
     #[tactic(auto, unfolding(crate::specs::Columns::line_down))]
     fn line_down_pos(&self, n: RepeatCount, layout: &Layout) -> Option<usize>
         ensures value { result ≡ line_down layout.now.grapheme_cluster_mode
@@ -288,7 +290,8 @@ impl LineBuffer {
         Some(self.place_below_column(layout, start))
     }
 
-    /// Moves the cursor up by n rows, or to the first row; false in the first row, and by no rows.
+    /// Moves the cursor up by n rows, or to the first row. Returns false in the first row, and if n
+    /// is 0.
     pub fn move_to_line_up(&mut self, n: RepeatCount, layout: &Layout) -> bool
         ensures answer { result ≡ is_some (line_up layout.now.grapheme_cluster_mode
             layout.now.prompt_size.col n self.old) }
@@ -302,7 +305,8 @@ impl LineBuffer {
         true
     }
 
-    /// Moves the cursor down by n rows, or to the last row; false in the last row, and by no rows.
+    /// Moves the cursor down by n rows, or to the last row. Returns false in the last row, and if n
+    /// is 0.
     pub fn move_to_line_down(&mut self, n: RepeatCount, layout: &Layout) -> bool
         ensures answer { result ≡ is_some (line_down layout.now.grapheme_cluster_mode
             layout.now.prompt_size.col n self.old) }

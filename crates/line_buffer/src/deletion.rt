@@ -1,4 +1,4 @@
-//! Parts of the text taken out, by the ranges that movements name, and the kills among them.
+//! Deletions of the ranges that movements name, and kills.
 
 ghost use Rattle.std.specs.Prelude.{◌≡◌};
 ghost use Rattle.line_buffer.specs.Range as Range;
@@ -9,7 +9,7 @@ use crate::range::Span;
 use crate::types::{At, CharSearch, Movement, RepeatCount, Word};
 use std::alloc::Global;
 
-/// The movement is one by clusters, which is deleted and not killed.
+/// Whether the movement is one by clusters, which deletes and doesn't kill.
 fn goes_by_clusters(movement: &Movement) -> bool
     ensures { result ≡ Range.goes_by_clusters movement.now }
 {
@@ -27,7 +27,7 @@ impl LineBuffer {
     ghost use Rattle.line_buffer.specs.Range.{IsSpanOf, copied_range, span_text, deletion_of, deletion_by, delete, kill, kill_closing};
     ghost use Rattle.line_buffer.specs.Replay.{wants_or};
 
-    /// Takes a part out, if there is one.
+    /// Deletes a range, if there is one.
     fn delete_span<D: DeleteListener>(
         &mut self,
         alloc: Global,
@@ -45,7 +45,7 @@ impl LineBuffer {
         Ok(true)
     }
 
-    /// Takes out what a movement names, without a word of a kill.
+    /// Deletes what a movement names, and doesn't report a kill.
     fn delete_by<D: DeleteListener>(
         &mut self,
         alloc: Global,
@@ -59,7 +59,7 @@ impl LineBuffer {
         self.delete_span(alloc, span, dl)
     }
 
-    /// Takes out the n clusters after the cursor, fewer where fewer stand, and answers them; `None`
+    /// Deletes the n clusters after the cursor, or as many as there are, and returns them; `None`
     /// at the text's end.
     pub fn delete<D: DeleteListener>(
         &mut self,
@@ -76,8 +76,8 @@ impl LineBuffer {
         Ok(text)
     }
 
-    /// Takes out the n clusters before the cursor, fewer where fewer stand; false at the text's
-    /// start.
+    /// Deletes the n clusters before the cursor, or as many as there are. Returns false at the
+    /// text's start.
     pub fn backspace<D: DeleteListener>(
         &mut self,
         alloc: Global,
@@ -90,7 +90,8 @@ impl LineBuffer {
         self.delete_by(alloc, &Movement::BackwardChar(n), dl)
     }
 
-    /// Takes out the rest of the row, at its end the newline; false at the text's end.
+    /// Deletes the rest of the row, or the newline if the cursor is at the row's end. Returns false
+    /// at the text's end.
     pub fn kill_line<D: DeleteListener>(
         &mut self,
         alloc: Global,
@@ -102,7 +103,7 @@ impl LineBuffer {
         self.delete_by(alloc, &Movement::EndOfLine, dl)
     }
 
-    /// Takes out what follows on the cursor; false where nothing does.
+    /// Deletes the text after the cursor. Returns false if there is none.
     pub fn kill_buffer<D: DeleteListener>(
         &mut self,
         alloc: Global,
@@ -114,8 +115,8 @@ impl LineBuffer {
         self.delete_by(alloc, &Movement::EndOfBuffer, dl)
     }
 
-    /// Takes out the row up to the cursor, at its start the newline before; false at the text's
-    /// start.
+    /// Deletes the row up to the cursor, or the newline before it if the cursor is at the row's
+    /// start. Returns false at the text's start.
     pub fn discard_line<D: DeleteListener>(
         &mut self,
         alloc: Global,
@@ -127,7 +128,7 @@ impl LineBuffer {
         self.delete_by(alloc, &Movement::BeginningOfLine, dl)
     }
 
-    /// Takes out what stands before the cursor; false where nothing does.
+    /// Deletes the text before the cursor. Returns false if there is none.
     pub fn discard_buffer<D: DeleteListener>(
         &mut self,
         alloc: Global,
@@ -139,7 +140,7 @@ impl LineBuffer {
         self.delete_by(alloc, &Movement::BeginningOfBuffer, dl)
     }
 
-    /// Takes out what lies back to the n-th earlier word; false at the text's start.
+    /// Deletes back to the start of the n-th earlier word. Returns false at the text's start.
     pub fn delete_prev_word<D: DeleteListener>(
         &mut self,
         alloc: Global,
@@ -153,7 +154,7 @@ impl LineBuffer {
         self.delete_by(alloc, &Movement::BackwardWord(n, word), dl)
     }
 
-    /// Takes out what lies up to the n-th later word; false where there is none.
+    /// Deletes up to the n-th later word. Returns false if there is none.
     pub fn delete_word<D: DeleteListener>(
         &mut self,
         alloc: Global,
@@ -168,8 +169,8 @@ impl LineBuffer {
         self.delete_by(alloc, &Movement::ForwardWord(n, at, word), dl)
     }
 
-    /// Takes out what lies up to the n-th place of a character, by the search with it or without;
-    /// false where there is none.
+    /// Deletes up to the n-th occurrence of a character, including it or not, as the search says.
+    /// Returns false if there is none.
     pub fn delete_to<D: DeleteListener>(
         &mut self,
         alloc: Global,
@@ -183,8 +184,8 @@ impl LineBuffer {
         self.delete_by(alloc, &Movement::ViCharSearch(n, search), dl)
     }
 
-    /// Takes out what a movement names and tells it as killed text, a movement by clusters as text
-    /// that was deleted. False where it names nothing.
+    /// Deletes what a movement names and reports it as killed text, or as deleted text if the
+    /// movement is by clusters. Returns false if the movement names nothing.
     pub fn kill<D: DeleteListener>(
         &mut self,
         alloc: Global,
@@ -204,8 +205,8 @@ impl LineBuffer {
         killed
     }
 
-    /// A text of its own of what a movement names: of a row without its newline, and of the rest of
-    /// a row or of what stands before the cursor in it `None` where that is nothing.
+    /// A copy of what a movement names. A row is copied without its newline. `None` if the movement
+    /// names nothing, or only a newline at an end of the row.
     pub fn copy(&self, alloc: Global, movement: &Movement) -> Result<Option<String>, OutOfMemory>
         ensures text { IfOk result (λ t. option_map string_bytes t ≡ option_map
             (λ s. span_text s self.now) (copied_range movement.now self.now)) }
@@ -215,7 +216,7 @@ impl LineBuffer {
         self.copy_span(alloc, span)
     }
 
-    /// A text of its own of a part, if there is one.
+    /// A copy of a range, if there is one.
     fn copy_span(&self, alloc: Global, span: Option<Span>) -> Result<Option<String>, OutOfMemory>
         requires { IfSome span (λ s. IsSpanOf self.now.text s) }
         ensures text { IfOk result (λ t. option_map string_bytes t ≡ option_map
@@ -229,7 +230,7 @@ impl LineBuffer {
         Ok(Some(text))
     }
 
-    /// A text of its own of what stands between two places.
+    /// A copy of the text between two places.
     pub(crate) fn copy_part(
         &self,
         alloc: Global,

@@ -1,4 +1,5 @@
-//! The changes of one range: each finds its memory, then tells the listener, then changes the text.
+//! Changes of one range. Each reserves its memory, then notifies the listener, then changes the
+//! text.
 
 ghost use Rattle.std.specs.Prelude.{◌≡◌, ◌≤◌, [], string_bytes, IsCharBoundary};
 ghost use Rattle.std.specs.List.{replace_range};
@@ -9,7 +10,7 @@ use crate::types::Direction;
 use std::alloc::Global;
 use std::ops::Range;
 
-/// Takes a range out of a text. An end is cut off, with nothing to move.
+/// Removes a range from a text. A range at the end is truncated, which moves no bytes.
 fn take_out(text: &mut String, from: usize, upto: usize)
     requires order { from ≤ upto }
     requires start { IsCharBoundary (string_bytes text.old) from }
@@ -31,8 +32,8 @@ impl LineBuffer {
     ghost use Rattle.line_buffer.specs.Replay.{deletion, insertion, replacement, wants_or};
     ghost use Rattle.line_buffer.specs.declared.types.Direction.TheVariants.{Forward};
 
-    /// Puts `text` in place of a range, with the cursor after it. The range, in bytes, begins and
-    /// ends between characters, which `as_str().is_char_boundary` tells.
+    /// Puts `text` in place of a range, with the cursor after it. The range is in bytes and must
+    /// lie on character boundaries, which `as_str().is_char_boundary` checks.
     pub fn replace<C: ChangeListener>(
         &mut self,
         alloc: Global,
@@ -55,8 +56,8 @@ impl LineBuffer {
         Ok(())
     }
 
-    /// Puts `text` at a place, the cursor keeping its own; true where it was put at the end. The
-    /// cursor's place must lie between two characters of the new text.
+    /// Inserts `text` at a place and keeps the cursor's place. Returns true if it was inserted at
+    /// the end. The cursor's place must be a character boundary of the new text.
     pub fn insert_str<C: ChangeListener>(
         &mut self,
         alloc: Global,
@@ -77,8 +78,8 @@ impl LineBuffer {
         Ok(at_end)
     }
 
-    /// Takes a range out, with the cursor at its start; the listener is told `Forward`. The range
-    /// begins and ends between characters.
+    /// Deletes a range, with the cursor at its start; the listener gets the direction `Forward`.
+    /// The range must lie on character boundaries.
     pub fn delete_range<D: DeleteListener>(
         &mut self,
         alloc: Global,
@@ -95,7 +96,7 @@ impl LineBuffer {
         self.delete_directed(alloc, range, Direction::Forward, dl)
     }
 
-    /// `delete_range` with the direction that the listener is told.
+    /// `delete_range` with the direction that the listener gets.
     pub(crate) fn delete_directed<D: DeleteListener>(
         &mut self,
         alloc: Global,

@@ -1,4 +1,4 @@
-//! A line whose text is changed from its front to its end, in one pass.
+//! A line whose text is changed from front to end, in one pass.
 
 use crate::line_buffer::{LineBuffer, OutOfMemory};
 use crate::listener::ChangeListener;
@@ -6,8 +6,8 @@ use crate::types::Direction;
 use std::alloc::Global;
 use std::marker::Model;
 
-/// A line with a gap in its text. What stands before the gap is done, and what follows on it is
-/// lent by the line that is changed. There is room for both together.
+/// A line with a gap in its text. The text before the gap is finished. The text after the gap is
+/// borrowed from the line to change. The buffer has capacity for both.
 #[derive(Drop)]
 pub(crate) struct GapBuffer<'a> {
     before: String,
@@ -81,7 +81,7 @@ impl<'a> GapBuffer<'a> {
         self.before.len()
     }
 
-    /// What follows on the gap.
+    /// The text after the gap.
     pub(crate) fn after(&self) -> &str
         ensures value { result.now ≡ drop self.now.1 self.now.0.text }
         ensures utf8 { IsUtf8 self.now.0.text }
@@ -95,7 +95,7 @@ impl<'a> GapBuffer<'a> {
     pub(crate) fn len(&self) -> usize
         ensures { result ≡ length self.now.0.text }
     {
-        // No more bytes fit in it than can be counted.
+        // Its contract says that its length can be counted.
         let _room = self.before.capacity();
         self.before.len() + self.after.len()
     }
@@ -111,7 +111,7 @@ impl<'a> GapBuffer<'a> {
         self.after = &self.after[passed..];
     }
 
-    /// Puts a text in before the gap; the cursor stays before the text that follows on it.
+    /// Inserts a text before the gap. The cursor stays before the text that follows it.
     pub(crate) fn insert<C: ChangeListener>(
         &mut self,
         alloc: Global,
@@ -143,8 +143,8 @@ impl<'a> GapBuffer<'a> {
         Ok(())
     }
 
-    /// Takes out what stands between the gap and a place; the cursor stays before the text that
-    /// follows on it.
+    /// Deletes the text between the gap and a place. The cursor stays before the text that follows
+    /// it.
     pub(crate) fn remove<C: ChangeListener>(
         &mut self,
         alloc: Global,

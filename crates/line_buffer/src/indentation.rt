@@ -1,4 +1,4 @@
-//! Rows moved in and out by spaces.
+//! Indents and dedents rows with spaces.
 
 ghost use Rattle.std.specs.Prelude.{◌≡◌, take, IsCharBoundary};
 ghost use Rattle.line_buffer.specs.Indent.{leading};
@@ -11,7 +11,7 @@ use crate::types::Movement;
 use std::alloc::Global;
 use std::ops::Range;
 
-/// How many bytes of a row are whitespace at its front, at most so many characters of it.
+/// The length in bytes of the whitespace at the front of a row, at most `count` characters of it.
 fn leading_len(row: &str, count: usize) -> usize
     ensures value { take result row.now ≡ leading count row.now }
     ensures boundary { IsCharBoundary row.now result }
@@ -34,8 +34,8 @@ impl<'a> GapBuffer<'a> {
     ghost use Rattle.line_buffer.specs.Replay.{wants_or, carried_line};
     ghost use Rattle.line_buffer.specs.Rows.{is_in_row};
 
-    /// Gives the row between the gap and a place its margin, or takes one away, and answers where
-    /// the row ends then.
+    /// Indents the row between the gap and a place, or dedents it, and returns where the row ends
+    /// then.
     fn change_row<C: ChangeListener>(
         &mut self,
         alloc: Global,
@@ -114,7 +114,7 @@ impl<'a> GapBuffer<'a> {
             (change_rows margin.now dedent self.old.1 upto self.old.0)
             cl.old cl.new self.old.0 self.new.0 result }
     {
-        // Its contract says that it stands between characters.
+        // Its contract says that it is a character boundary.
         let _gap = self.gap();
         let mut last = upto;
         'rows: loop {
@@ -141,7 +141,7 @@ impl LineBuffer {
     ghost use Rattle.line_buffer.specs.Replay.{wants_or};
     ghost use Rattle.line_buffer.specs.Rows.{row_start, row_end};
 
-    /// Gives each row between two places its margin, or takes one away, the first row first.
+    /// Indents each row between two places, or dedents it, the first row first.
     fn change_rows<C: ChangeListener>(
         &mut self,
         alloc: Global,
@@ -184,7 +184,7 @@ impl LineBuffer {
         place + first_row_end(&self.buf[place..])
     }
 
-    /// A place in the first row and one in the last row that a movement covers.
+    /// A place in the first row and a place in the last row that a movement covers.
     fn rows_covered(&self, movement: &Movement) -> (usize, usize)
         ensures value { result ≡ rows_covered movement.now self.now }
         ensures order { result.0 ≤ result.1 }
@@ -210,9 +210,9 @@ impl LineBuffer {
         }
     }
 
-    /// Gives each row that a movement covers `amount` spaces at its start, or takes away at most as
-    /// much whitespace; by a movement within a row, or one that finds nothing, the cursor's row
-    /// alone. The cursor stays before the text that follows on it. Always true.
+    /// Adds `amount` spaces at the start of each row that a movement covers, or removes at most as
+    /// much whitespace there. A movement within a row, or one that finds nothing, covers the
+    /// cursor's row. The cursor stays before the text that follows it. Always returns true.
     pub fn indent<C: ChangeListener>(
         &mut self,
         alloc: Global,

@@ -1,4 +1,4 @@
-//! Texts put in at the cursor, and the exchange of the whole text.
+//! Insertions at the cursor, and replacement of the whole text.
 
 ghost use Rattle.std.specs.Prelude.{◌≡◌, ◌≤◌, ◌<◌, ◌+◌, length, string_bytes, string_len, string_capacity, encode_utf8, IsCharBoundary, OnOk, OnErr};
 ghost use Rattle.std.specs.List.{insert_slice};
@@ -9,7 +9,7 @@ use crate::listener::{ChangeListener, DeleteListener};
 use crate::types::RepeatCount;
 use std::alloc::{AllocError, Global};
 
-/// The greatest place up to `room` at which `text` may be cut.
+/// The last character boundary of `text` up to `room`.
 fn last_cut(text: &str, room: usize) -> usize
     requires { room ≤ length text.now }
     ensures value { result ≡ last_cut text.now room }
@@ -22,7 +22,7 @@ fn last_cut(text: &str, room: usize) -> usize
     end
 }
 
-/// Puts a character into a text. At its end nothing is moved.
+/// Inserts a character into a text. At the text's end no bytes are moved.
 fn put_char(text: &mut String, at: usize, ch: char) -> Result<(), AllocError>
     requires { IsCharBoundary (string_bytes text.old) at }
     ensures bytes { OnOk result (string_bytes text.new
@@ -45,7 +45,7 @@ impl LineBuffer {
     ghost use Rattle.line_buffer.specs.Insertions.{has_room, kept_text, update, put_at_cursor, insertion_by, insertion_of, can_take_before, without_before, insert, yank, yank_pop};
     ghost use Rattle.line_buffer.specs.Replay.{deletion, insertion, wants_or};
 
-    /// So many bytes more may be put in by the calls that look at the limit.
+    /// Whether `count` more bytes fit, for the calls that respect the limit.
     fn has_room(&self, count: usize) -> bool
         ensures { result ≡ has_room count self.now }
     {
@@ -59,7 +59,7 @@ impl LineBuffer {
     fn has_room_for(&self, text: &str, n: RepeatCount) -> bool
         ensures { result ≡ has_room (length (repeat n text.now)) self.now }
     {
-        // Read, the limit is known to fit.
+        // Reading the limit shows that it fits.
         let _limit = self.limit;
         match text.len().checked_mul(usize::from(n)) {
             Some(count) => self.has_room(count),
@@ -67,7 +67,7 @@ impl LineBuffer {
         }
     }
 
-    /// The part of `text` that an empty line takes.
+    /// The part of `text` that fits into an empty line.
     fn kept<'t>(&self, text: &'t str) -> &'t str
         ensures value { result.now ≡ kept_text text.now self.now }
         ensures utf8 { IsUtf8 result.now }
@@ -96,7 +96,7 @@ impl LineBuffer {
         self.delete_range(alloc, 0..end, dl)
     }
 
-    /// `delete_range` of so many bytes before the cursor.
+    /// `delete_range` of `count` bytes before the cursor.
     fn delete_before<D: DeleteListener>(
         &mut self,
         alloc: Global,
@@ -113,8 +113,8 @@ impl LineBuffer {
         self.delete_range(alloc, end - count..end, dl)
     }
 
-    /// Exchanges the whole text, with the cursor at `pos` of the new one. Without leave to grow the
-    /// longest beginning that fits into the limit is kept, with the cursor at most at its end.
+    /// Replaces the whole text, with the cursor at `pos` of the new one. A line that can't grow
+    /// keeps the longest prefix that fits the limit, with the cursor at most at its end.
     pub fn update<C: ChangeListener>(
         &mut self,
         alloc: Global,
@@ -126,7 +126,7 @@ impl LineBuffer {
         ensures { EditsLine C.takes (wants_or C.refuses) [] (update text.now pos self.old)
             cl.old cl.new self.old self.new result }
     {
-        // Its contract says that it stands between characters.
+        // Its contract says that it is a character boundary.
         let _place = self.pos();
         let kept = self.kept(text);
         self.delete_all(alloc, cl)?;
@@ -135,7 +135,7 @@ impl LineBuffer {
         Ok(())
     }
 
-    /// `insert_str` at the cursor, which takes the place after the text.
+    /// `insert_str` at the cursor, which moves behind the text.
     fn insert_at_cursor<C: ChangeListener>(
         &mut self,
         alloc: Global,
@@ -157,7 +157,7 @@ impl LineBuffer {
         Ok(at_end)
     }
 
-    /// Puts a character in at the cursor, which takes the place after it.
+    /// Inserts a character at the cursor, which moves behind it.
     fn insert_char<C: ChangeListener>(
         &mut self,
         alloc: Global,
@@ -174,7 +174,7 @@ impl LineBuffer {
         Ok(())
     }
 
-    /// Puts a text in at the cursor where there is room for it.
+    /// Inserts a text at the cursor if it fits.
     fn insert_where_room<C: ChangeListener>(
         &mut self,
         alloc: Global,
@@ -192,7 +192,7 @@ impl LineBuffer {
         Ok(Some(at_end))
     }
 
-    /// Puts n copies of a text in at the cursor where there is room for them.
+    /// Inserts n copies of a text at the cursor if they fit.
     fn insert_copies<C: ChangeListener>(
         &mut self,
         alloc: Global,
@@ -215,8 +215,8 @@ impl LineBuffer {
         self.insert_where_room(alloc, added.as_str(), cl)
     }
 
-    /// Puts n copies of a character in at the cursor, which takes the place after them: whether
-    /// that was at the text's end, or `None` where the line has no leave to grow as far.
+    /// Inserts n copies of a character at the cursor, which moves behind them. Returns whether they
+    /// were inserted at the text's end, or `None` if they don't fit and the line can't grow.
     pub fn insert<C: ChangeListener>(
         &mut self,
         alloc: Global,
@@ -239,9 +239,9 @@ impl LineBuffer {
         Ok(Some(at_end))
     }
 
-    /// Puts n copies of a text in at the cursor, which takes the place after them: whether that
-    /// was at the text's end, or `None` where the text is empty or the line has no leave to grow as
-    /// far.
+    /// Inserts n copies of a text at the cursor, which moves behind them. Returns whether they were
+    /// inserted at the text's end. Returns `None` if the text is empty, or if it doesn't fit and
+    /// the line can't grow.
     pub fn yank<C: ChangeListener>(
         &mut self,
         alloc: Global,
@@ -258,8 +258,8 @@ impl LineBuffer {
         self.insert_copies(alloc, text, n, cl)
     }
 
-    /// Whether `count` bytes stand before the cursor, the first of which begins a character: what
-    /// `yank_pop` asks for.
+    /// Whether `count` bytes precede the cursor and the first of them begins a character, as
+    /// `yank_pop` requires.
     pub fn can_take_before(&self, count: usize) -> bool
         ensures value { result ≡ can_take_before count self.now }
         ensures size { result ≡ true → count ≤ self.now.place }
@@ -269,8 +269,8 @@ impl LineBuffer {
         count <= place && self.as_str().is_char_boundary(place - count)
     }
 
-    /// `yank` of one text in place of the `yank_size` bytes before the cursor; `None` where only
-    /// these are taken.
+    /// Deletes the `yank_size` bytes before the cursor and then yanks one text; `None` if only the
+    /// deletion was made.
     pub fn yank_pop<C: ChangeListener>(
         &mut self,
         alloc: Global,
@@ -283,7 +283,7 @@ impl LineBuffer {
         ensures { EditsLine C.takes (wants_or C.refuses) []
             (yank_pop yank_size text.now self.old) cl.old cl.new self.old self.new result }
     {
-        // Its contract says that it stands between characters.
+        // Its contract says that it is a character boundary.
         let _place = self.pos();
         self.delete_before(alloc, yank_size, cl)?;
         let answer = self.yank(alloc, text, 1, cl)?;

@@ -1,20 +1,20 @@
-//! Laws of the edits, each the contract of a function that does nothing.
+//! Laws of the edits. Each is the contract of a function that does nothing.
 
 ghost use Rattle.line_buffer.specs.Laws.{KillsWhatIsCopied, KeepsTheLongestThatFits, RowsGetTheirMargin};
 
-/// By a movement that isn't within a row's ends, a kill takes exactly what a copy gives.
+/// A kill deletes exactly what a copy returns, for movements other than those to the ends of a row.
 pub fn kills_what_is_copied()
     ensures { KillsWhatIsCopied }
 {}
 
-/// Without leave to grow, `update` keeps the longest beginning of the new text, in whole
-/// characters, that the limit lets stand.
+/// If the line can't grow, `update` keeps the longest prefix of the new text, in whole characters,
+/// that fits the limit.
 pub fn keeps_the_longest_that_fits()
     ensures { KeepsTheLongestThatFits }
 {}
 
-/// What `indent` tells gives each of its rows the margin, or takes away as much whitespace at its
-/// front, and changes nothing else.
+/// The events of `indent` give each row its margin, or remove as much whitespace at its front, and
+/// change nothing else.
 pub fn rows_get_their_margin()
     ensures { RowsGetTheirMargin }
 {}

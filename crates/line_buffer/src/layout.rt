@@ -12,7 +12,7 @@ use unicode_width::{UnicodeWidthChar, UnicodeWidthStr};
 /// A number of rows or of columns.
 pub type Unit = u16;
 
-/// A cell of the display, both numbers from 0 on.
+/// A cell of the display. Rows and columns count from 0.
 #[derive(Clone, Copy, Debug, Default, PartialEq, Eq)]
 pub struct Position {
     pub col: Unit,
@@ -28,7 +28,7 @@ impl Ord for Position {
 
     ghost matches_eq = { reading_order_ties };
 
-    /// By rows, and within a row by columns.
+    /// Compares rows first, then columns.
     fn cmp(&self, other: &Position) -> Ordering {
         self.row.cmp(&other.row).then(self.col.cmp(&other.col))
     }
@@ -49,13 +49,13 @@ impl PartialOrd for Position {
 pub enum GraphemeClusterMode {
     /// By clusters: an emoji sequence takes the columns of one emoji.
     Unicode,
-    /// By characters, as C's `wcwidth`.
+    /// By characters, like C's `wcwidth`.
     WcWidth,
     /// By clusters, but without joining at a zero width joiner.
     NoZwj,
 }
 
-/// Joins the emoji before and after it into one.
+/// Joins the emoji before it and after it into one.
 pub(crate) const ZERO_WIDTH_JOINER: char = '\u{200D}';
 
 /// The columns of a character by itself.
@@ -68,7 +68,7 @@ fn char_columns(c: char) -> Unit
     }
 }
 
-/// The columns of the characters of a text, each by itself.
+/// The sum of the columns of the characters of a text, each by itself.
 fn all_chars_columns(text: &str) -> usize
     ensures { result ≡ min (columns_of WcWidth (chars text.now)) usize.MAX }
 {
@@ -77,7 +77,7 @@ fn all_chars_columns(text: &str) -> usize
     })
 }
 
-/// The columns of the parts of a text between joiners, each by itself.
+/// The sum of the columns of the parts of a text between joiners, each by itself.
 fn unjoined_columns(text: &str) -> usize
     ensures { result ≡ min (columns_of NoZwj (chars text.now)) usize.MAX }
 {
@@ -87,7 +87,7 @@ fn unjoined_columns(text: &str) -> usize
 }
 
 impl GraphemeClusterMode {
-    /// The number of columns that a text takes, however many.
+    /// The number of columns that a text takes, without a limit.
     pub(crate) fn columns(&self, text: &str) -> usize
         ensures { result ≡ min (columns_of self.now (chars text.now)) usize.MAX }
     {
@@ -106,7 +106,7 @@ impl GraphemeClusterMode {
     }
 }
 
-/// Where the parts of a drawn line stand.
+/// The positions of the parts of a drawn line.
 #[derive(Clone, Copy, Debug, PartialEq, Eq)]
 pub struct Layout {
     pub grapheme_cluster_mode: GraphemeClusterMode,

@@ -1,4 +1,4 @@
-//! The letters of a word in another case.
+//! Changes the case of a word's letters.
 
 ghost use Rattle.std.specs.Prelude.{◌≡◌, IfOk, IfSome, IsCharBoundary, option_map, find, string_bytes};
 ghost use Rattle.line_buffer.specs.Clusters.{clusters};
@@ -27,7 +27,7 @@ fn first_alphanumeric(text: &str) -> Option<usize>
     None
 }
 
-/// How many bytes at the front of a word are raised.
+/// The length in bytes of the front of a word that becomes uppercase.
 fn raised_len(action: WordAction, word: &str) -> usize
     ensures value { result ≡ LetterCase.raised_len action word.now }
     ensures boundary { IsCharBoundary word.now result }
@@ -42,7 +42,7 @@ fn raised_len(action: WordAction, word: &str) -> usize
     }
 }
 
-/// The word with its letters in the other case.
+/// The word with its letters in the new case.
 fn recased(alloc: Global, action: WordAction, word: &str) -> Result<String, OutOfMemory>
     ensures { IfOk result (λ t. string_bytes t ≡ LetterCase.recased action word.now) }
 {
@@ -92,9 +92,9 @@ impl LineBuffer {
         Some((start, end))
     }
 
-    /// Puts the letters of the word at the cursor or after it into another case, those of ASCII
-    /// alone, with the cursor after the word; false where there is none. A capitalized word has
-    /// its first cluster raised and the rest lowered.
+    /// Changes the case of the word at the cursor or after it, and puts the cursor after the word.
+    /// Only ASCII letters change. A capitalized word gets its first cluster in uppercase and the
+    /// rest in lowercase. Returns false if there is no word.
     pub fn edit_word<C: ChangeListener>(
         &mut self,
         alloc: Global,

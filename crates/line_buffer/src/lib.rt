@@ -1,5 +1,5 @@
-//! The text of a line that is being edited, with the place of its cursor: motions, edits, and the
-//! events by which a listener follows each change.
+//! The text of an edited line, with the cursor's place: motions, edits, and the events that notify
+//! a listener of each change.
 #![tactic(auto)]
 
 mod clusters;

@@ -1,14 +1,14 @@
-//! The text and the place of the cursor in it.
+//! The text and the cursor's place in it.
 
 use std::alloc::{AllocError, AllocFailed, Global};
 use std::convert::AsStr;
 use std::marker::Model;
 use std::{error, fmt};
 
-/// The number of bytes that a line is given room for at first.
+/// The number of bytes that a line has capacity for at first.
 pub const MAX_LINE: usize = 4096;
 
-/// There was no memory for the change, or for the listener to take it down.
+/// An allocation failed: for the change, or for the listener to record it.
 #[derive(Clone, Copy, Debug, PartialEq, Eq)]
 pub struct OutOfMemory;
 
@@ -18,7 +18,7 @@ impl From<AllocError> for OutOfMemory {
     }
 }
 
-/// What was to be kept is dropped.
+/// The value that couldn't be stored is dropped.
 impl<T: Drop> From<AllocFailed<T>> for OutOfMemory {
     fn from(_: AllocFailed<T>) -> Self {
         OutOfMemory
@@ -37,7 +37,7 @@ impl fmt::Display for OutOfMemory {
 
 impl error::Error for OutOfMemory {}
 
-/// A line that is being edited. Places are in bytes, and the cursor stands between two characters.
+/// A line to edit. Places are in bytes, and the cursor is always at a character boundary.
 #[derive(Debug, Drop)]
 pub struct LineBuffer {
     pub(crate) buf: String,
@@ -74,8 +74,8 @@ impl LineBuffer {
     ghost use Rattle.std.specs.Prelude.{◌≡◌, ◌==◌, ◌<◌, ◌^◌, not, [], length, true, false, IfOk, IsUtf8, IsCharBoundary, string_bytes};
     ghost use Rattle.line_buffer.specs.Line.{Line};
 
-    /// An empty line with room for `capacity` bytes, which may not grow past that until
-    /// `can_growth` lets it.
+    /// An empty line with capacity for `capacity` bytes. It doesn't grow past that until
+    /// `can_growth` allows it.
     pub fn with_capacity(alloc: Global, capacity: usize) -> Result<Self, OutOfMemory>
         ensures { IfOk result (λ l. l ≡ record {
           text = [];
@@ -94,7 +94,7 @@ impl LineBuffer {
         })
     }
 
-    /// The line, with leave to grow or without.
+    /// The line, with permission to grow past its limit or without.
     pub fn can_growth(self, can_growth: bool) -> Self
         ensures { result ≡ record self { growth = can_growth } }
     {
@@ -106,7 +106,7 @@ impl LineBuffer {
         }
     }
 
-    /// The same line in memory of its own.
+    /// A copy of the line, in memory of its own.
     pub fn try_clone(&self, alloc: Global) -> Result<Self, OutOfMemory>
         ensures { IfOk result (λ l. l ≡ self.now) }
     {
@@ -127,7 +127,7 @@ impl LineBuffer {
         self.buf.as_str()
     }
 
-    /// The text, the line being no longer needed.
+    /// The text; the line is consumed.
     pub fn into_string(self) -> String
         ensures { string_bytes result ≡ self.text }
     {
@@ -142,15 +142,14 @@ impl LineBuffer {
         self.pos
     }
 
-    /// The cursor stands after the whole text.
+    /// Whether the cursor is after the whole text.
     pub fn is_cursor_at_end(&self) -> bool
         ensures { result ≡ (self.now.place == length self.now.text) }
     {
         self.pos == self.buf.len()
     }
 
-    /// Puts the cursor at a place between two characters, which `as_str().is_char_boundary(pos)`
-    /// tells.
+    /// Sets the cursor to a character boundary, which `as_str().is_char_boundary(pos)` checks.
     pub fn set_pos(&mut self, pos: usize)
         requires { IsCharBoundary self.old.text pos }
         ensures { self.new ≡ record self.old { place = pos } }
@@ -165,14 +164,14 @@ impl LineBuffer {
         self.buf.len()
     }
 
-    /// There is no text.
+    /// Whether the text is empty.
     pub fn is_empty(&self) -> bool
         ensures { result ≡ (length self.now.text == 0) }
     {
         self.buf.is_empty()
     }
 
-    /// Puts the cursor before the whole text; false where it stood there.
+    /// Moves the cursor before the whole text. Returns false if it was there.
     pub fn move_buffer_start(&mut self) -> bool
         ensures answer { result ≡ not (self.old.place == 0) }
         ensures line { self.new ≡ record self.old { place = 0 } }
@@ -184,7 +183,7 @@ impl LineBuffer {
         true
     }
 
-    /// Puts the cursor after the whole text; false where it stood there.
+    /// Moves the cursor after the whole text. Returns false if it was there.
     pub fn move_buffer_end(&mut self) -> bool
         ensures answer { result ≡ not (self.old.place == length self.old.text) }
         ensures line { self.new ≡ record self.old { place = length self.old.text } }

@@ -1,13 +1,13 @@
-//! Who is told of the changes of a text: an undo record, a kill ring.
+//! Listeners to the changes of a text, such as an undo record or a kill ring.
 
 use crate::line_buffer::OutOfMemory;
 use crate::types::Direction;
 use std::alloc::Global;
 
-/// Told of each deletion, and of when a run of deletions is a kill.
+/// Is notified of each deletion, and of the begin and end of a kill.
 ///
-/// `takes` says what an event makes of the listener, and `refuses` what is left of it where it
-/// refuses one.
+/// `takes` says what an event makes of the listener. `refuses` says what is left of the listener if
+/// its allocation for an event fails.
 pub trait DeleteListener {
     ghost use Rattle.std.specs.Prelude.{OnOk, OnErr};
     ghost use Rattle.line_buffer.specs.Event.{Event};
@@ -17,11 +17,11 @@ pub trait DeleteListener {
 
     ghost refuses: { Self → Event → Self → Type 0 };
 
-    /// What is deleted from now on is killed text.
+    /// Text deleted from now on is killed.
     fn start_killing(&mut self)
         ensures { takes self.old StartKilling self.new };
 
-    /// `text` is about to leave the byte place `idx`.
+    /// `text` is about to be deleted at the byte place `idx`.
     fn delete(
         &mut self,
         alloc: Global,
@@ -32,22 +32,22 @@ pub trait DeleteListener {
         ensures ok { OnOk result (takes self.old (Delete idx text.now direction) self.new) }
         ensures err { OnErr result (refuses self.old (Delete idx text.now direction) self.new) };
 
-    /// What is deleted from now on is no killed text.
+    /// Text deleted from now on is not killed.
     fn stop_killing(&mut self)
         ensures { takes self.old StopKilling self.new };
 }
 
-/// Told of every change of a text, each before it is made. Places are in bytes.
+/// Is notified of every change of a text, before it is made. Places are in bytes.
 pub trait ChangeListener: DeleteListener {
     ghost use Rattle.std.specs.Prelude.{OnOk, OnErr};
     ghost use Rattle.line_buffer.specs.Event.Event.{InsertChar, InsertStr, Replace};
 
-    /// The character `c` is about to be put at `idx`.
+    /// The character `c` is about to be inserted at `idx`.
     fn insert_char(&mut self, alloc: Global, idx: usize, c: char) -> Result<(), OutOfMemory>
         ensures ok { OnOk result (Self.takes self.old (InsertChar idx c) self.new) }
         ensures err { OnErr result (Self.refuses self.old (InsertChar idx c) self.new) };
 
-    /// The text `text` is about to be put at `idx`.
+    /// The text `text` is about to be inserted at `idx`.
     fn insert_str(&mut self, alloc: Global, idx: usize, text: &str) -> Result<(), OutOfMemory>
         ensures ok { OnOk result (Self.takes self.old (InsertStr idx text.now) self.new) }
         ensures err { OnErr result (Self.refuses self.old (InsertStr idx text.now) self.new) };
@@ -66,7 +66,7 @@ pub trait ChangeListener: DeleteListener {
             self.new) };
 }
 
-/// Listens to nothing, and never refuses.
+/// A listener that ignores every event, and never fails.
 #[derive(Clone, Copy, Debug, PartialEq, Eq)]
 pub struct NoListener;
 

@@ -1,7 +1,7 @@
 //! Motions by grapheme clusters, and to the ends of a row.
 //!
-//! Clusters are the extended grapheme clusters of UAX #29, and places are in bytes. The text before
-//! the cursor and the text after it are cut into clusters each by itself. Rows end at newlines.
+//! Clusters are the extended grapheme clusters of UAX #29, and places are in bytes. The texts
+//! before and after the cursor are split into clusters separately. Rows end at newlines.
 
 ghost use Rattle.std.specs.Prelude.{◌≡◌, ◌+◌, ◌<◌, ◌≤◌, ◌==◌, length, reverse, take, drop, not, is_some, chars, IfSome, None, Some, true, option_map, IsCharBoundary};
 ghost use Rattle.std.specs.List.{last_or, list_all, prefix_len, suffix_len};
@@ -15,7 +15,7 @@ use crate::printable::is_printable;
 use crate::types::RepeatCount;
 use unicode_segmentation::UnicodeSegmentation;
 
-/// Whether two printable characters of ASCII begin the text: the first is a cluster.
+/// Whether the text begins with two printable ASCII characters. If so, the first one is a cluster.
 fn begins_with_letters(text: &str) -> bool
     ensures value { result ≡ true
         → last_or None (take 1 (clusters text.now)) ≡ Some (0, take 1 text.now) }
@@ -31,7 +31,7 @@ fn begins_with_letters(text: &str) -> bool
     is_printable(first) && is_printable(second)
 }
 
-/// The n-th cluster, or the last where fewer stand, with its place.
+/// The n-th cluster with its place, or the last one if there are fewer.
 pub(crate) fn nth_cluster(text: &str, n: RepeatCount) -> Option<(usize, &str)>
     ensures value { option_map (λ p. (p.0, p.1.now)) result ≡ last_or None
         (take n (clusters text.now)) }
@@ -43,8 +43,8 @@ pub(crate) fn nth_cluster(text: &str, n: RepeatCount) -> Option<(usize, &str)>
     text.grapheme_indices(true).take(usize::from(n)).last()
 }
 
-/// The place of the last character, if it and the one before it are printable characters of ASCII:
-/// it is a cluster.
+/// The place of the last character, if it and the one before it are printable ASCII: then it is a
+/// cluster.
 fn last_letter(text: &str) -> Option<usize>
     ensures value { IfSome result (λ start. last_or None (take 1 (reverse (clusters text.now)))
         ≡ Some (start, drop start text.now)) }
@@ -60,7 +60,7 @@ fn last_letter(text: &str) -> Option<usize>
     }
 }
 
-/// The n-th cluster from the end, or the first where fewer stand, with its place.
+/// The n-th cluster from the end with its place, or the first one if there are fewer.
 pub(crate) fn nth_cluster_back(text: &str, n: RepeatCount) -> Option<(usize, &str)>
     ensures value { option_map (λ p. (p.0, p.1.now)) result ≡ last_or None
         (take n (reverse (clusters text.now))) }
@@ -77,7 +77,7 @@ pub(crate) fn nth_cluster_back(text: &str, n: RepeatCount) -> Option<(usize, &st
         .last()
 }
 
-/// How many bytes at the front lie before the first newline.
+/// The number of bytes before the first newline.
 fn row_bytes_after(bytes: &[u8]) -> usize
     ensures value { result ≡ prefix_len is_in_row bytes.now }
     ensures bound { result ≤ length bytes.now }
@@ -85,7 +85,7 @@ fn row_bytes_after(bytes: &[u8]) -> usize
     bytes.iter().take_while(|byte| **byte != b'\n').count()
 }
 
-/// How many bytes at the end lie after the last newline.
+/// The number of bytes after the last newline.
 fn row_bytes_before(bytes: &[u8]) -> usize
     ensures value { result ≡ suffix_len is_in_row bytes.now }
     ensures bound { result ≤ length bytes.now }
@@ -98,7 +98,7 @@ fn row_bytes_before(bytes: &[u8]) -> usize
 }
 
 impl LineBuffer {
-    /// The place after the n-th cluster after the cursor, the text's end where fewer stand.
+    /// The place after the n-th cluster after the cursor; the text's end if there are fewer.
     pub fn next_pos(&self, n: RepeatCount) -> Option<usize>
         ensures value { result ≡ place_forward n self.now }
         ensures boundary { IfSome result (λ p. IsCharBoundary self.now.text p) }
@@ -110,7 +110,7 @@ impl LineBuffer {
         }
     }
 
-    /// The place before the n-th cluster before the cursor, the text's start where fewer stand.
+    /// The place before the n-th cluster before the cursor; the text's start if there are fewer.
     pub(crate) fn prev_pos(&self, n: RepeatCount) -> Option<usize>
         ensures value { result ≡ place_backward n self.now }
         ensures boundary { IfSome result (λ p. IsCharBoundary self.now.text p) }
@@ -122,7 +122,7 @@ impl LineBuffer {
         }
     }
 
-    /// Puts the cursor at a place that was found; false where none was.
+    /// Moves the cursor to the place found. Returns false if there is none.
     pub(crate) fn move_to_found(&mut self, found: Option<usize>) -> bool
         requires { IfSome found (λ p. IsCharBoundary self.old.text p) }
         ensures answer { result ≡ is_some found }
@@ -137,7 +137,7 @@ impl LineBuffer {
         }
     }
 
-    /// Moves the cursor over n clusters, or to the text's end; false where it doesn't move.
+    /// Moves the cursor over n clusters, or to the text's end. Returns false if it doesn't move.
     pub fn move_forward(&mut self, n: RepeatCount) -> bool
         ensures answer { result ≡ is_some (place_forward n self.old) }
         ensures line { self.new ≡ moved_to (place_forward n self.old) self.old }
@@ -146,7 +146,8 @@ impl LineBuffer {
         self.move_to_found(found)
     }
 
-    /// Moves the cursor back over n clusters, or to the text's start; false where it doesn't move.
+    /// Moves the cursor back over n clusters, or to the text's start. Returns false if it doesn't
+    /// move.
     pub fn move_backward(&mut self, n: RepeatCount) -> bool
         ensures answer { result ≡ is_some (place_backward n self.old) }
         ensures line { self.new ≡ moved_to (place_backward n self.old) self.old }
@@ -173,7 +174,7 @@ impl LineBuffer {
         self.pos + row_bytes_after(&self.buf.as_bytes()[self.pos..])
     }
 
-    /// Moves the cursor to the start of its row; false where it stands there.
+    /// Moves the cursor to the start of its row. Returns false if it was there.
     pub fn move_home(&mut self) -> bool
         ensures answer { result ≡ not (row_start self.old.text self.old.place == self.old.place) }
         ensures line { self.new ≡ record self.old {
@@ -186,7 +187,7 @@ impl LineBuffer {
         moves
     }
 
-    /// Moves the cursor to the end of its row; false where it stands there.
+    /// Moves the cursor to the end of its row. Returns false if it was there.
     pub fn move_end(&mut self) -> bool
         ensures answer { result ≡ not (row_end self.old.text self.old.place == self.old.place) }
         ensures line { self.new ≡ record self.old { place = row_end self.old.text self.old.place } }
@@ -197,7 +198,7 @@ impl LineBuffer {
         moves
     }
 
-    /// Only whitespace follows on the cursor.
+    /// Whether only whitespace follows the cursor.
     pub fn is_end_of_input(&self) -> bool
         ensures { result ≡ list_all is_whitespace (chars (text_after self.now)) }
     {

@@ -4,14 +4,14 @@ ghost use Rattle.std.specs.Prelude.{◌≡◌, ◌<◌, true};
 ghost use Rattle.std.specs.List.{list_all};
 ghost use Rattle.line_buffer.specs.Printable.{is_printable};
 
-/// Each character is a printable one of ASCII.
+/// Whether each character is printable ASCII.
 pub fn is_printable_text(text: &str) -> bool
     ensures { result ≡ list_all is_printable text.now }
 {
     are_printable(text.as_bytes())
 }
 
-/// Each byte is a printable character of ASCII.
+/// Whether each byte is a printable ASCII character.
 pub(crate) fn are_printable(bytes: &[u8]) -> bool
     ensures { result ≡ list_all is_printable bytes.now }
 {
@@ -22,7 +22,7 @@ pub(crate) fn are_printable(bytes: &[u8]) -> bool
     all
 }
 
-/// A printable character of ASCII.
+/// Whether the character is printable ASCII.
 pub fn is_printable(c: char) -> bool
     ensures value { result ≡ is_printable c }
     ensures ascii { result ≡ true → c < 127 }

@@ -4,7 +4,7 @@ use crate::line_buffer::LineBuffer;
 use crate::printable::are_printable;
 use crate::types::{CharSearch, Direction, Movement, RepeatCount};
 
-/// A part of the text that is taken out, in byte places, and the way in which it goes.
+/// A range of the text to delete, in bytes, with its direction.
 #[derive(Clone, Copy, Debug, PartialEq, Eq)]
 pub struct Span {
     pub from: usize,
@@ -18,7 +18,7 @@ impl LineBuffer {
     ghost use Rattle.line_buffer.specs.Range.{FindsSpan, up_to_cursor, from_cursor, around_cursor, to_row_end, from_row_start, search_range, range_of, copied_range, kill_line};
     ghost use Rattle.line_buffer.specs.Printable.{is_printable};
 
-    /// What lies between an earlier place and the cursor.
+    /// The range from an earlier place to the cursor.
     fn back_to(&self, found: Option<usize>) -> Option<Span>
         requires earlier { IfSome found (λ i. i ≤ self.now.place) }
         requires boundary { IfSome found (λ i. IsCharBoundary self.now.text i) }
@@ -34,7 +34,7 @@ impl LineBuffer {
         }
     }
 
-    /// What lies between the cursor and a later place.
+    /// The range from the cursor to a later place.
     fn on_to(&self, found: Option<usize>) -> Option<Span>
         requires later { IfSome found (λ i. self.now.place ≤ i) }
         requires boundary { IfSome found (λ i. IsCharBoundary self.now.text i) }
@@ -50,7 +50,7 @@ impl LineBuffer {
         }
     }
 
-    /// What lies between two places, which goes back where it ends at the cursor.
+    /// The range between two places. Its direction is backward if it ends at the cursor.
     fn around(&self, found: Option<(usize, usize)>) -> Option<Span>
         requires order { IfSome found (λ r. r.0 ≤ r.1) }
         requires start { IfSome found (λ r. IsCharBoundary self.now.text r.0) }
@@ -72,7 +72,8 @@ impl LineBuffer {
         }
     }
 
-    /// From a place of the cursor's row to the row's end; at that end the newline, if one is there.
+    /// From a place in the cursor's row to the row's end. At the row's end this is the newline, if
+    /// there is one.
     fn to_row_end(&self, from: usize) -> Option<Span>
         requires earlier { from ≤ self.now.place }
         requires boundary { IsCharBoundary self.now.text from }
@@ -95,7 +96,8 @@ impl LineBuffer {
         })
     }
 
-    /// From the row's start to the cursor; at that start the newline before, if one is there.
+    /// From the row's start to the cursor. At the row's start this is the newline before it, if
+    /// there is one.
     fn from_row_start(&self) -> Option<Span>
         ensures { FindsSpan (from_row_start self.now) self.now.text result }
     {
@@ -109,7 +111,7 @@ impl LineBuffer {
         }
     }
 
-    /// As far as a character that is found: with it, or up to it.
+    /// Up to the character that the search finds, including it or not.
     fn search_range(&self, search: CharSearch, n: RepeatCount) -> Option<Span>
         ensures { FindsSpan (search_range search n self.now) self.now.text result }
     {
@@ -129,7 +131,7 @@ impl LineBuffer {
         }
     }
 
-    /// The part of the text that a kill by the movement takes out.
+    /// The range that a kill by the movement deletes.
     pub(crate) fn range_of(&self, movement: &Movement) -> Option<Span>
         ensures { FindsSpan (range_of movement.now self.now) self.now.text result }
     {
@@ -157,7 +159,8 @@ impl LineBuffer {
         }
     }
 
-    /// Whether as many bytes as a kill by the movement takes are printable ASCII at the text's end.
+    /// Whether the last bytes of the text, as many as a kill by the movement deletes, are printable
+    /// ASCII.
     pub fn has_printable_end(&self, movement: &Movement) -> bool
         ensures { result ≡ list_all is_printable
             (drop (length (kill_line movement.now self.now).text) self.now.text) }
@@ -171,7 +174,7 @@ impl LineBuffer {
         }
     }
 
-    /// The part of the text that a movement copies.
+    /// The range that a movement copies.
     pub(crate) fn copied_range(&self, movement: &Movement) -> Option<Span>
         ensures { FindsSpan (copied_range movement.now self.now) self.now.text result }
     {

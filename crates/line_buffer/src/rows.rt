@@ -1,5 +1,5 @@
 //! The rows of a text, which end at newlines: where they start and end, and the ranges of rows
-//! above and below the cursor's.
+//! above and below the cursor's row.
 
 ghost use Rattle.std.specs.Prelude.{◌≡◌, ◌+◌, ◌<◌, ◌≤◌, length, reverse, drop, IfSome, IsCharBoundary};
 ghost use Rattle.line_buffer.specs.Clusters.{nth_or_last};
@@ -28,7 +28,7 @@ pub(crate) fn first_row_end(text: &str) -> usize
     }
 }
 
-/// Where the first row of a text ends, after its newline where it has one.
+/// Where the first row of a text ends, after its newline if it has one.
 fn first_row_close(text: &str) -> usize
     ensures { FindsPlace (row_close text.now 0) text.now result }
 {
@@ -38,7 +38,7 @@ fn first_row_close(text: &str) -> usize
     }
 }
 
-/// Where the n-th row above the last row of a text starts, the first row where fewer stand.
+/// Where the n-th row above the last row of a text starts, or the first row if there are fewer.
 fn nth_start_above(text: &str, n: RepeatCount) -> Option<usize>
     ensures value { result ≡ nth_or_last n (drop 1 (reverse (row_starts text.now))) }
     ensures boundary { IfSome result (λ start. IsCharBoundary text.now start) }
@@ -55,7 +55,7 @@ fn nth_start_above(text: &str, n: RepeatCount) -> Option<usize>
     found
 }
 
-/// Where the n-th row below the first row of a text starts, the last row where fewer stand.
+/// Where the n-th row below the first row of a text starts, or the last row if there are fewer.
 fn nth_start_below(text: &str, n: RepeatCount) -> Option<usize>
     ensures value { result ≡ nth_or_last n (behind_newlines 0 text.now) }
     ensures boundary { IfSome result (λ start. IsCharBoundary text.now start) }
@@ -75,7 +75,7 @@ fn nth_start_below(text: &str, n: RepeatCount) -> Option<usize>
 }
 
 impl LineBuffer {
-    /// Where the n-th row above the cursor's row starts; none in the first row.
+    /// Where the n-th row above the cursor's row starts; `None` in the first row.
     pub(crate) fn start_above(&self, n: RepeatCount) -> Option<usize>
         ensures value { result ≡ nth_or_last n (starts_above self.now) }
         ensures boundary { IfSome result (λ start. IsCharBoundary self.now.text start) }
@@ -84,7 +84,7 @@ impl LineBuffer {
         nth_start_above(&self.buf[..self.pos], n)
     }
 
-    /// Where the n-th row below the cursor's row starts; none in the last row.
+    /// Where the n-th row below the cursor's row starts; `None` in the last row.
     pub(crate) fn start_below(&self, n: RepeatCount) -> Option<usize>
         ensures value { result ≡ nth_or_last n (starts_below self.now) }
         ensures boundary { IfSome result (λ start. IsCharBoundary self.now.text start) }

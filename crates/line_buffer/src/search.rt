@@ -1,6 +1,6 @@
-//! Searches for a character, as vi's `f`, `t`, `F` and `T`.
+//! Searches for a character, like vi's `f`, `t`, `F` and `T`.
 //!
-//! They go by characters, so the cursor may come to stand inside a cluster. Places are in bytes.
+//! They go by characters, so the cursor may end up inside a cluster. Places are in bytes.
 
 ghost use Rattle.std.specs.Prelude.{◌≡◌, ◌==◌, ◌+◌, ◌≤◌, length, reverse, is_some, encode_utf8, IfSome, IsCharBoundary};
 ghost use Rattle.std.specs.Char.{IsScalar};
@@ -11,7 +11,7 @@ ghost use Rattle.line_buffer.specs.Line.{moved_to};
 use crate::line_buffer::LineBuffer;
 use crate::types::{CharSearch, RepeatCount};
 
-/// The two characters are the same.
+/// Whether the characters are equal.
 fn is_same(left: char, right: char) -> bool
     ensures value { result ≡ (left == right) }
     ensures scalar { IsScalar left }
@@ -19,7 +19,7 @@ fn is_same(left: char, right: char) -> bool
     left == right
 }
 
-/// The n-th place of a character, or the last where fewer stand.
+/// The n-th place of a character, or the last one if there are fewer.
 fn nth_hit(text: &str, c: char, n: RepeatCount) -> Option<usize>
     ensures value { result ≡ nth_or_last n (Hits.hits c text.now) }
     ensures part { IfSome result (λ i. IsPart text.now i (length (encode_utf8 c))) }
@@ -38,7 +38,7 @@ fn nth_hit(text: &str, c: char, n: RepeatCount) -> Option<usize>
     found
 }
 
-/// The n-th place of a character from the text's end, or the first where fewer stand.
+/// The n-th place of a character from the text's end, or the first one if there are fewer.
 fn nth_hit_back(text: &str, c: char, n: RepeatCount) -> Option<usize>
     ensures value { result ≡ nth_or_last n (reverse (Hits.hits c text.now)) }
     ensures part { IfSome result (λ i. IsPart text.now i (length (encode_utf8 c))) }
@@ -111,7 +111,7 @@ impl LineBuffer {
         nth_hit_back(&self.buf[..self.pos], c, n)
     }
 
-    /// The place that the cursor takes by a search.
+    /// The place to which a search moves the cursor.
     pub(crate) fn search_pos(&self, search: CharSearch, n: RepeatCount) -> Option<usize>
         ensures value { result ≡ Hits.search_place search n self.now }
         ensures boundary { IfSome result (λ i. IsCharBoundary self.now.text i) }
@@ -124,8 +124,8 @@ impl LineBuffer {
         }
     }
 
-    /// Moves the cursor to the n-th place of a character, or to the last where fewer stand; false
-    /// where there is none.
+    /// Moves the cursor to the n-th place of a character, or to the last one if there are fewer.
+    /// Returns false if there is none.
     pub fn move_to(&mut self, search: CharSearch, n: RepeatCount) -> bool
         ensures answer { result ≡ is_some (Hits.search_place search n self.old) }
         ensures line { self.new ≡ moved_to (Hits.search_place search n self.old) self.old }

@@ -1,4 +1,4 @@
-//! Clusters and words exchanged with the ones before them.
+//! Transposes clusters and words.
 
 ghost use Rattle.std.specs.Prelude.{◌≡◌, ◌≤◌, IfOk, IsCharBoundary, string_bytes};
 ghost use Rattle.line_buffer.specs.Transpositions.{later_first};
@@ -10,7 +10,7 @@ use crate::types::{At, RepeatCount, Word};
 use std::alloc::Global;
 use std::ops::Range;
 
-/// Two neighbouring parts of a text, the later one first.
+/// Two adjacent parts of a text, with the later one first.
 fn later_first(
     alloc: Global,
     text: &str,
@@ -37,7 +37,7 @@ impl LineBuffer {
     ghost use Rattle.line_buffer.specs.Replay.{wants_or};
     ghost use Rattle.line_buffer.specs.Transpositions.{clusters_around, between_clusters, clusters_at, transpose_chars, after_words, before_words, swap, transpose_words, before_transposed};
 
-    /// The clusters before the cursor and those after it are two at least.
+    /// Whether there are at least two clusters before and after the cursor together.
     fn has_two_clusters(&self) -> bool
         ensures { result ≡ nat_lt 1 (clusters_around self.now) }
     {
@@ -45,7 +45,7 @@ impl LineBuffer {
         before > 1 || before + clusters_up_to(&self.buf[self.pos..], 2) > 1
     }
 
-    /// Where the two clusters at the cursor start, meet and end; at the text's end those are the
+    /// Where the two clusters at the cursor start, meet and end. At the text's end these are the
     /// last two.
     fn clusters_at_cursor(&mut self) -> (usize, usize, usize)
         ensures value { result ≡ clusters_at (between_clusters self.old) }
@@ -67,9 +67,9 @@ impl LineBuffer {
         (from, middle, upto)
     }
 
-    /// Puts the cluster at the cursor, at the text's end the last one, before the cluster before
-    /// it, and the cursor after both. False at the text's start, and where there aren't two
-    /// clusters; a cursor inside a cluster parts it in two.
+    /// Moves the cluster at the cursor before the cluster that precedes it, and the cursor behind
+    /// both. At the text's end the last two clusters are transposed. Returns false at the text's
+    /// start, and if there are fewer than two clusters. A cursor inside a cluster splits it in two.
     pub fn transpose_chars<C: ChangeListener>(
         &mut self,
         alloc: Global,
@@ -88,7 +88,7 @@ impl LineBuffer {
         Ok(true)
     }
 
-    /// Moves the cursor to the n-th later end of a word, where there is one, and answers its place.
+    /// Moves the cursor to the n-th later end of a word, if there is one, and returns its place.
     #[tactic(auto, unfolding(crate::specs::Transpositions::after_words))]
     fn on_by_words(&mut self, n: RepeatCount) -> usize
         ensures value { result ≡ (after_words n self.old).place }
@@ -105,7 +105,7 @@ impl LineBuffer {
         found
     }
 
-    /// Moves the cursor to the n-th earlier start of a word, where there is one, and answers its
+    /// Moves the cursor to the n-th earlier start of a word, if there is one, and returns its
     /// place.
     #[tactic(auto, unfolding(crate::specs::Transpositions::before_words))]
     fn back_by_words(&mut self, n: RepeatCount) -> usize
@@ -121,7 +121,7 @@ impl LineBuffer {
         found
     }
 
-    /// Exchanges two parts, the later one first, with the cursor after both.
+    /// Swaps two ranges, the later one first, and puts the cursor after both.
     fn swap<C: ChangeListener>(
         &mut self,
         alloc: Global,
@@ -153,9 +153,9 @@ impl LineBuffer {
         Ok(())
     }
 
-    /// Exchanges the word at the cursor or after it, the n-th by its end, with the one n words
-    /// before, and puts the cursor after both. Where these aren't two words, false, and the cursor
-    /// stays after the earlier one.
+    /// Swaps the n-th word at the cursor or after it with the word n words before, and puts the
+    /// cursor after both. Returns false if these aren't two words; the cursor then stays after the
+    /// earlier one.
     pub fn transpose_words<C: ChangeListener>(
         &mut self,
         alloc: Global,

@@ -1,6 +1,6 @@
-//! The words in which an edit or a motion is asked for.
+//! The types in which edits and motions are expressed.
 
-/// How often a motion or an edit is to be made.
+/// How often a motion or an edit is repeated.
 pub type RepeatCount = u16;
 
 /// What counts as a word.
@@ -26,21 +26,21 @@ pub enum At {
     AfterEnd,
 }
 
-/// Where a text is put: after or before the cursor.
+/// Where a text is pasted: after or before the cursor.
 #[derive(Clone, Copy, Debug, PartialEq, Eq)]
 pub enum Anchor {
     After,
     Before,
 }
 
-/// A search for a character, as by Vi's `f`, `t`, `F` and `T`.
+/// A search for a character, like Vi's `f`, `t`, `F` and `T`.
 #[derive(Clone, Copy, Debug, PartialEq, Eq)]
 pub enum CharSearch {
-    /// Onto the character.
+    /// To the character.
     Forward(char),
-    /// Onto the character before it.
+    /// To right before the character.
     ForwardBefore(char),
-    /// Back onto the character.
+    /// Back to the character.
     Backward(char),
     /// Back to right after the character.
     BackwardAfter(char),
@@ -65,7 +65,7 @@ pub enum Movement {
     EndOfBuffer,
 }
 
-/// What becomes of the letters of a word.
+/// How the letters of a word change.
 #[derive(Clone, Copy, Debug, PartialEq, Eq)]
 pub enum WordAction {
     Capitalize,
@@ -73,14 +73,14 @@ pub enum WordAction {
     Uppercase,
 }
 
-/// Which way a deletion went, seen from the cursor.
+/// The direction of a deletion, seen from the cursor.
 #[derive(Clone, Copy, Debug, PartialEq, Eq)]
 pub enum Direction {
     Forward,
     Backward,
 }
 
-/// Where a killed text joins the one killed before it.
+/// At which end a killed text joins the one killed before it.
 #[derive(Clone, Copy, Debug, PartialEq, Eq)]
 pub enum Mode {
     Append,

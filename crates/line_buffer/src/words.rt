@@ -1,7 +1,7 @@
-//! Motions by words: readline's, and vi's `b`, `w` and `e` with their big forms.
+//! Motions by words: readline's, and vi's `b`, `w` and `e` with their uppercase forms.
 //!
-//! A word is a run of clusters of one kind. Places are in bytes, and a motion stops at the n-th of
-//! the places at which it can stop, or at the last where fewer stand.
+//! A word is a run of clusters of one kind. Places are in bytes. A motion stops at the n-th place
+//! at which it can stop, or at the last one if there are fewer.
 
 ghost use Rattle.std.specs.Prelude.{◌≡◌, ◌-◌, ◌<◌, ◌≤◌, reverse, is_some, slice_get, IfSome, None, IsCharBoundary};
 ghost use Rattle.std.specs.List.{last_or};
@@ -16,7 +16,7 @@ use crate::types::{At, RepeatCount, Word};
 use unicode::properties::{GeneralCategory, is_alphabetic};
 use unicode_segmentation::{GraphemeIndices, UnicodeSegmentation};
 
-/// What a cluster is to the words around it.
+/// How a cluster relates to the words around it.
 #[derive(Clone, Copy, Debug, PartialEq, Eq)]
 pub enum ClusterKind {
     Blank,
@@ -24,8 +24,7 @@ pub enum ClusterKind {
     Other,
 }
 
-/// A character of the words of Emacs and readline: Alphabetic, or a number of some kind (Nd, Nl,
-/// No).
+/// A character of Emacs and readline words: Alphabetic, or a number (Nd, Nl, No).
 pub fn is_alphanumeric(c: char) -> bool
     ensures { result ≡ Segments.is_alphanumeric c }
 {
@@ -38,21 +37,21 @@ pub fn is_alphanumeric(c: char) -> bool
         )
 }
 
-/// All characters of the cluster are alphanumeric.
+/// Whether all characters of the cluster are alphanumeric.
 pub fn is_alphanumeric_cluster(cluster: &str) -> bool
     ensures { result ≡ Words.is_alphanumeric_cluster cluster.now }
 {
     cluster.chars().all(|c| is_alphanumeric(c))
 }
 
-/// No character of the cluster is whitespace.
+/// Whether no character of the cluster is whitespace.
 fn has_no_whitespace(cluster: &str) -> bool
     ensures { result ≡ Words.has_no_whitespace cluster.now }
 {
     cluster.chars().all(|c| !c.is_whitespace())
 }
 
-/// What the cluster is to a motion by such words.
+/// The kind of the cluster for a motion by such words.
 fn kind_of(word: Word, cluster: &str) -> ClusterKind
     ensures { result ≡ Words.kind_of word cluster.now }
 {
@@ -67,14 +66,15 @@ fn kind_of(word: Word, cluster: &str) -> ClusterKind
     }
 }
 
-/// A word starts between clusters of these kinds.
+/// Whether a word starts between clusters of these kinds.
 fn starts_between(left: ClusterKind, right: ClusterKind) -> bool
     ensures { result ≡ Words.starts_between left right }
 {
     right != ClusterKind::Blank && left != right
 }
 
-/// Where between two neighbours a motion stops, if it does. Each is a cluster's place and kind.
+/// The place between two neighbours at which a motion stops, if it does. Each neighbour is a
+/// cluster's place and kind.
 fn edge_between(at: At, left: (usize, ClusterKind), right: (usize, ClusterKind)) -> Option<usize>
     ensures { result ≡ Words.edge_between at left right }
 {
@@ -86,7 +86,7 @@ fn edge_between(at: At, left: (usize, ClusterKind), right: (usize, ClusterKind))
     }
 }
 
-/// The n-th start of a word, from the text's end back.
+/// The n-th start of a word, counted back from the text's end.
 fn nth_start_back(text: &str, word: Word, n: RepeatCount) -> Option<usize>
     requires { 0 < n }
     ensures { result ≡ slice_get (reverse (Words.starts_of (Words.kinds word (clusters text.now))))
@@ -151,7 +151,7 @@ fn nth_inner_stop(text: &str, at: At, word: Word, n: RepeatCount) -> Option<usiz
     }
 }
 
-/// Where a motion over the text stops in the end.
+/// Where a motion over the text stops at last.
 fn last_stop(text: &str, at: At, word: Word) -> Option<usize>
     ensures { result ≡ last_or None (Words.last_stop at word text.now) }
 {
@@ -170,7 +170,7 @@ fn last_stop(text: &str, at: At, word: Word) -> Option<usize>
     }
 }
 
-/// Where a motion to the n-th later word stops in the text that it goes over.
+/// Where a motion to the n-th later word stops in the text after the cursor.
 fn next_stop(text: &str, at: At, word: Word, n: RepeatCount) -> Option<usize>
     ensures value { result ≡ nth_or_last n (Words.stops_forward at word text.now) }
     ensures boundary { IfSome result (λ i. IsCharBoundary text.now i) }
@@ -184,7 +184,7 @@ fn next_stop(text: &str, at: At, word: Word, n: RepeatCount) -> Option<usize>
     }
 }
 
-/// Where a motion to the n-th earlier word stops in the text that it goes over.
+/// Where a motion to the n-th earlier word stops in the text before the cursor.
 fn prev_stop(text: &str, word: Word, n: RepeatCount) -> Option<usize>
     ensures value { result ≡ nth_or_last n (Words.stops_back word text.now) }
     ensures boundary { IfSome result (λ i. IsCharBoundary text.now i) }
@@ -220,8 +220,8 @@ impl LineBuffer {
         }
     }
 
-    /// Moves the cursor to the start of the n-th earlier word, or to the text's start; false where
-    /// it doesn't move.
+    /// Moves the cursor to the start of the n-th earlier word, or to the text's start. Returns
+    /// false if it doesn't move.
     pub fn move_to_prev_word(&mut self, word: Word, n: RepeatCount) -> bool
         ensures answer { result ≡ is_some (Words.prev_word word n self.old) }
         ensures line { self.new ≡ moved_to (Words.prev_word word n self.old) self.old }
@@ -230,8 +230,8 @@ impl LineBuffer {
         self.move_to_found(found)
     }
 
-    /// Moves the cursor to the n-th later word, or as far as the text goes; false where it doesn't
-    /// move.
+    /// Moves the cursor to the n-th later word, or as far as the text goes. Returns false if it
+    /// doesn't move.
     pub fn move_to_next_word(&mut self, at: At, word: Word, n: RepeatCount) -> bool
         ensures answer { result ≡ is_some (Words.next_word at word n self.old) }
         ensures line { self.new ≡ moved_to (Words.next_word at word n self.old) self.old }

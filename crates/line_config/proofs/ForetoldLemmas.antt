@@ -12,7 +12,7 @@ use Rattle.line_config.specs.declared.device.Last.TheVariants.{End, Failed}
 use Rattle.line_config.specs.declared.foretold.Foretold.{Ghosts}
 use Rattle.line_config.specs.contracts.foretold.Foretold.TheBound.{Met}
 
--- the bound `Foretold` asks nothing of the bytes: so what is proved over any `K: Foretold` holds of
+-- the bound `Foretold` requires nothing of the bytes: so what is proved over any `K: Foretold` holds of
 -- the code at any type, for any bytes and what stands after them
 pub any_bytes : {M : Type 1} {𝓤 : Ura M} (𝓛 : Logic 𝓤) (𝓜 : Model 𝓤 𝓛.H) (𝓡 : Running 𝓤 𝓛.H 𝓜) (K : RattleType) (known : Ghosts K.Denot)
     (methods : Dict) (all : List ℕ) (last : Last)

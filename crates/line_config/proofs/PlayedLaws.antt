@@ -5,7 +5,7 @@ use Rattle.line_config.specs.Scripts.{Script, Ends, Asks, World, Goes}
 use Rattle.line_config.specs.Played.{Plan, Played, played_on, played, Plays, Whole, Cut}
 use Rattle.line_config.proofs.ScriptLaws.{ok_not_err, value_or, fault_or}
 
--- an ask comes first, whether the input answers or refuses it
+-- an ask comes first, whether the input answers it or fails it
 some_follow : {A B C E X : Type 0} (next : B → Played A C E X) (ask : A) (c : C) (r : Result B E) → (others : List A) × ((played_on next ask c r).asks ≡ ask ∷ others)
 some_follow next ask c (Ok x) = ((next x).asks, refl)
 some_follow next ask c (Err e) = ([], refl)

@@ -1,4 +1,4 @@
--- What calls of a sink take, one after the other, and where one of them is refused.
+-- What calls of a sink take, one after the other, also if one of them fails.
 use Rattle.std.proofs.Common.{◌≡◌, ℕ, Bool, List, [], ◌++◌, Result, Ok, Err, IsTrue, refl, sym, ap, ◌∙◌, subst, append-nil, append_assoc}
 use Rattle.std.specs.Result.{OnErr, IsErrAnd}
 use Rattle.line_config.specs.Sending.{Takes, TakesSome, AppendsSome, Sends}
@@ -68,7 +68,7 @@ module _ {D : Type 0} (held : D → List ℕ) (failed : D → Bool) where
   sends_then xs ys {a = a} {b = b} {c = c} {r = Ok x} took works s = record { sent = takes_then held a b c xs ys took s.sent; works = s.works ∙ works; err = tt; begins = tt }
   sends_then xs ys {a = a} {b = b} {c = c} {r = Err e} took works s = record { sent = tt; works = tt; err = s.err; begins = some_then held a b c xs ys took s.begins }
 
-  -- a call was refused, and that is the end
+  -- a call failed, and that is the end
   pub sends_refused : {A E : Type 0} (Q : E → Type 0) (bytes : List ℕ) {a b : D} {r : Result A E}
       → IsErrAnd r Q → IsTrue (failed b) → TakesSome held a b bytes → Sends held failed bytes a b r
   sends_refused Q bytes {a = a} {b = b} {r = Ok x} refused fails some = absurd refused

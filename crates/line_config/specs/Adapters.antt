@@ -1,4 +1,4 @@
--- What a clause reads of the devices over std's readers and writers. `remaining` and `contents` are
+-- What contracts read of the devices over std's readers and writers. `remaining` and `contents` are
 -- std's ghost members of these.
 use Rattle.std.specs.Prelude.{◌≡◌, ℕ, ◌+◌, ◌-◌, ◌^◌, ◌<◌, List, [], ◌++◌, length, option_to_list, Option, Some, None, Bool, Result, Ok, Err, unwrap_or}
 use Rattle.std.specs.Io.KnownBytes.{Consumes, IsAtEnd}
@@ -16,7 +16,7 @@ use Rattle.line_config.specs.declared.recorded.Recorded.{Recorded}
 abbrev pub reader_of : {R K : Type 0} → ReadSource R K → R
 reader_of s = s.reader
 
--- what was read and is not given yet
+-- what was read and not given yet
 abbrev pub unread_of : {R K : Type 0} → ReadSource R K → List ℕ
 unread_of s = bytes_in s.unread
 
@@ -32,7 +32,7 @@ gave s = s.log.bytes
 abbrev pub met : {R K : Type 0} → ReadSource R K → Option Last
 met s = s.met
 
--- a source that is said to give all these bytes, and then this, once its reads gave some, of which
+-- a source that is assumed to give all these bytes, and then this. Its reads gave some, of which
 -- some are unread, and met this
 abbrev pub feed_of : List ℕ → Last → List ℕ → List ℕ → Option Last → ℕ → Bool → Feed
 feed_of all last given unread met count failed = record {
@@ -46,7 +46,7 @@ feed_of all last given unread met count failed = record {
 abbrev pub source_feed : {R K : Type 0} → List ℕ → Last → ReadSource R K → Feed
 source_feed all last s = feed_of all last s.log.bytes (bytes_in s.unread) s.met s.count s.failed
 
--- a source over this reader, of which nothing was read yet
+-- a source over this reader, from which nothing was read yet
 pub record IsUnread {R K : Type 0} (reader : R) (s : ReadSource R K) : Type 0 where
   pub reader_is : reader_of s ≡ reader
   pub unread : unread_of s ≡ []
@@ -58,10 +58,10 @@ abbrev pub given_by : Result (Option ℕ) DeviceFailed → List ℕ
 given_by (Ok byte) = option_to_list byte
 given_by (Err e) = []
 
--- a source gave these bytes, from the front of what its reads gave: what is noted more is what the
--- reader gave more, where that one tells its bytes, and nothing was left of them at the end. While
--- something is unread the reader isn't asked, nor after the end or a failure; what it gives else is
--- one piece.
+-- a source gave these bytes, from the front of what its reads gave. What is noted more is what the
+-- reader gave more, if the reader reports its bytes; at the end nothing of them was left. While
+-- something is unread the reader isn't called, nor after the end or a failure; otherwise it gives
+-- one piece
 pub record Asks {R K : Type 0} (remaining : R → Option (List ℕ)) (bytes : List ℕ)
     (old new : ReadSource R K) : Type 0 where
   pub more : List ℕ
@@ -85,11 +85,11 @@ writer_of s = inner_of s.writer
 abbrev pub sent_of : {W : Type 0} → WriteSink W → List ℕ
 sent_of s = took s.writer
 
--- what was taken and is not sent yet
+-- what was taken and not sent yet
 abbrev pub unsent_of : {W : Type 0} → WriteSink W → List ℕ
 unsent_of s = bytes_in s.unsent
 
--- for how many bytes more there is room before any are sent
+-- how many more bytes fit before any are sent
 abbrev pub room_of : {W : Type 0} → WriteSink W → ℕ
 room_of s = room_in s.unsent
 

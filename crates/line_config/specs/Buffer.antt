@@ -1,4 +1,4 @@
--- What a clause reads of the fixed array of an adapter.
+-- What contracts read of the fixed array of an adapter.
 use Rattle.std.specs.Prelude.{ℕ, ◌-◌, List, slice_range, take}
 use Rattle.line_config.specs.declared.buffer.Buffer.{Buffer}
 
@@ -10,6 +10,6 @@ bytes_in w = slice_range w.bytes w.start w.end
 abbrev pub piece_in : {N : ℕ} → Buffer N → List ℕ
 piece_in w = take w.end w.bytes
 
--- how many bytes more it can take
+-- how many more bytes fit
 abbrev pub room_in : {N : ℕ} → Buffer N → ℕ
 room_in {N} w = N - w.end

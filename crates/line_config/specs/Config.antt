@@ -1,4 +1,4 @@
--- The settings before any is set, and what two of the calls that set them make of their argument.
+-- The default settings, and what two of the calls that change settings make of their argument.
 use Rattle.std.specs.Prelude.{◌≡◌, ℕ, Bool, true, false, Option, Some, None}
 use Rattle.line_buffer.specs.declared.layout.GraphemeClusterMode.TheVariants.{Unicode}
 use Rattle.line_config.specs.declared.builder.Builder.{Builder}
@@ -36,7 +36,7 @@ default_config = record {
   enable_signals = false;
 }
 
--- what holds settings is as before, but for what the change makes of its settings
+-- a holder of settings is as before, except for the change of its settings
 abbrev pub Sets : {H : Type 0} → (H → Config) → (H → Config → H) → (Config → Config) → H → H
     → Type 0
 Sets settings with_settings change old new = new ≡ with_settings old (change (settings old))
@@ -45,7 +45,7 @@ Sets settings with_settings change old new = new ≡ with_settings old (change (
 abbrev pub built : Config → Builder
 built config = record { config = config }
 
--- which lines are left out where repeated ones are ignored, or not
+-- which lines are left out if repeated ones are ignored, or not
 abbrev pub duplicates_of : Bool → HistoryDuplicates
 duplicates_of true = IgnoreConsecutive
 duplicates_of false = AlwaysAdd

@@ -1,9 +1,9 @@
--- Scripts played on an input, where no fault comes: the answer, or why the input refuses one, what
--- is asked in order, and what is left to come.
+-- Scripts played on an input, without faults: the answer, or why the input can't give one; the
+-- requests in order; and what remains of the input.
 use Rattle.std.specs.Prelude.{◌≡◌, List, [], ◌∷◌, ◌++◌, Result, Ok, Err}
 use Rattle.line_config.specs.Scripts.{Script, Ends, Asks, World}
 
--- what an input answers each ask, or why it refuses it, and what it leaves
+-- what an input answers to each request, or why it can't, and what remains of it
 pub record Plan (A : Type 0) (R : A → Type 0) (C E : Type 0) : Type 0 where
   pub answer : C → (ask : A) → Result (R ask) E
   pub left : C → A → C
@@ -16,7 +16,7 @@ pub record Played (A C E X : Type 0) : Type 0 where
 abbrev pub asked_first : {A C E X : Type 0} → A → Played A C E X → Played A C E X
 asked_first ask p = record p { asks = ask ∷ p.asks }
 
--- an ask, then what its answer leads to
+-- a request, then what its answer leads to
 abbrev pub played_on : {A B C E X : Type 0} → (B → Played A C E X) → A → C → Result B E
     → Played A C E X
 played_on next ask c (Ok x) = asked_first ask (next x)
@@ -29,7 +29,7 @@ played plan (Asks ask later) c =
     let left = plan.left c ask in
     played_on (λ x. played plan (later x) left) ask left (plan.answer c ask)
 
--- a world that answers as its input says, and leaves what that leaves
+-- a world that answers as its input says, and leaves what remains of that
 pub record Plays {A : Type 0} {R : A → Type 0} {S C E F : Type 0} (plan : Plan A R C E)
     (coming : S → C) (w : World A R S F) : Type 0 where
   pub answers : (s t : S) (ask : A) (x : R ask) → w.made s ask x t
@@ -37,21 +37,21 @@ pub record Plays {A : Type 0} {R : A → Type 0} {S C E F : Type 0} (plan : Plan
   pub leaves : (s t : S) (ask : A) (x : R ask) → w.made s ask x t
       → coming t ≡ plan.left (coming s) ask
 
--- these asks were answered, in order
+-- these requests were answered, in order
 abbrev pub Made : {A : Type 0} {R : A → Type 0} {S E : Type 0} → World A R S E → List A → S → S
     → Type 0
 Made w [] s t = t ≡ s
 Made {A} {R} {S} w (ask ∷ asks) s t =
     (x : R ask) × (u : S) × w.made s ask x u × Made w asks u t
 
--- all that the script asks on the input was answered, and this is its answer
+-- all requests of the script on the input were answered, and this is its answer
 pub record Whole {A : Type 0} {R : A → Type 0} {S C E F X : Type 0} (coming : S → C)
     (w : World A R S F) (p : Played A C E X) (answer : X) (s t : S) : Type 0 where
   pub answer_is : p.answer ≡ Ok answer
   pub rest_is : coming t ≡ p.rest
   pub made : Made w p.asks s t
 
--- the first of it was answered, and the next ask cut by this fault
+-- the first requests were answered, and the next one was cut by this fault
 pub record Cut {A : Type 0} {R : A → Type 0} {S C E F X : Type 0} (w : World A R S F)
     (p : Played A C E X) (fault : F) (s t : S) : Type 0 where
   pub done : List A

@@ -1,4 +1,4 @@
--- What a clause reads of a writer that keeps in mind what its writes took.
+-- What contracts read of a writer that notes what its writes took.
 use Rattle.std.specs.Prelude.{◌≡◌, ℕ, List, ◌++◌, Option}
 use Rattle.std.specs.Io.KnownBytes.{Appends}
 use Rattle.line_config.specs.declared.recorded.Recorded.{Recorded}
@@ -10,7 +10,7 @@ took s = s.log.bytes
 abbrev pub inner_of : {W : Type 0} → Recorded W → W
 inner_of s = s.writer
 
--- what was noted more is what the writer below took more, where that one tells its bytes
+-- what is noted more is what the writer below took more, if that one reports its bytes
 pub record Notes {W : Type 0} (contents : W → Option (List ℕ)) (old new : Recorded W) : Type 0 where
   pub more : List ℕ
   pub noted : took new ≡ took old ++ more

@@ -1,9 +1,9 @@
--- The refusals: their texts, which of them are faults, and which call is refused by one alone.
+-- The errors: their texts, which of them are faults, and which calls have only one.
 use Rattle.std.specs.Prelude.{◌≡◌, ℕ, List, Bool, true, false, IsFalse, MatchResult, Result, Ok, Err, codes, ⊤}
 use Rattle.line_config.specs.declared.errors.ReadlineError.{ReadlineError}
 use Rattle.line_config.specs.declared.errors.ReadlineError.TheVariants.{Eof, Interrupted, NotUtf8, PasteOutOfPlace, Reader, Display, Lines, HistoryText, Helper, Handler, Memory}
 
--- what a refusal's Display writes
+-- what an error's Display writes
 abbrev pub refusal_text : ReadlineError → List ℕ
 refusal_text Eof = codes "EOF"
 refusal_text Interrupted = codes "Interrupted"
@@ -17,8 +17,8 @@ refusal_text Helper = codes "helper failed"
 refusal_text Handler = codes "handler failed"
 refusal_text Memory = codes "out of memory"
 
--- whether a refusal is a fault: one that no input gives. A reader's failure isn't one, since it
--- stands after the bytes of the input.
+-- whether an error is a fault: one that no input gives. A reader's failure isn't a fault, since it
+-- comes after the bytes of the input.
 abbrev pub is_fault : ReadlineError → Bool
 is_fault Eof = false
 is_fault Interrupted = false
@@ -30,11 +30,11 @@ is_fault why = true
 abbrev pub IsMet : ReadlineError → Type 0
 IsMet refusal = IsFalse (is_fault refusal)
 
--- the input alone gives this result: no fault came
+-- this result comes from the input alone: no fault occurred
 abbrev pub Met : {X : Type 0} → Result X ReadlineError → Type 0
 Met (Ok x) = ⊤
 Met (Err refusal) = IsMet refusal
 
--- a call gives what is said of its answer, or memory was wanting
+-- a call returns an answer with this property, or memory ran out
 abbrev pub OrMemory : {X : Type 0} → Result X ReadlineError → (X → Type 0) → Type 0
 OrMemory result P = MatchResult result P (λ e. e ≡ Memory)

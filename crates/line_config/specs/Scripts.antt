@@ -1,17 +1,17 @@
--- Scripts: what is asked in order, going on by each answer; and where a fault cuts them.
+-- Scripts: requests in order, each depending on the answers before it; and where a fault cuts them.
 use Rattle.std.specs.Prelude.{◌≡◌, ◌⊎◌, Result, Ok, Err}
 
--- an answer at last, or something that is asked first, and what follows by the answer to it
+-- an answer, or a request and what follows for each answer to it
 pub data Script (A : Type 0) (R : A → Type 0) (X : Type 0) : Type 0 where
   Ends : (answer : X) → Script A R X
   Asks : (ask : A) → (later : R ask → Script A R X) → Script A R X
 
--- what asks do to a state: one that is answered, and one that a fault cuts
+-- the effect of requests on a state: one that is answered, and one that a fault cuts
 pub record World (A : Type 0) (R : A → Type 0) (S E : Type 0) : Type 1 where
   pub made : S → (ask : A) → R ask → S → Type 0
   pub cut : S → A → E → S → Type 0
 
--- made in order, to the answer or to the ask that a fault cut
+-- requests made in order, to the answer or to the request that a fault cut
 abbrev pub Goes : {A : Type 0} {R : A → Type 0} {S E X : Type 0} → World A R S E → Script A R X
     → S → Result X E → S → Type 0
 Goes w (Ends answer) s r t = (r ≡ Ok answer) × (t ≡ s)

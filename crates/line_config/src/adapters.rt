@@ -16,20 +16,19 @@ use crate::retry::flush_retrying;
 use std::io::{Read, Write};
 use std::marker::{Brand, PhantomData};
 
-/// How many bytes a `ReadSource` takes of one read, at most.
+/// The most bytes that a `ReadSource` takes from one read.
 pub const READ_SIZE: usize = 4096;
 
-/// How many bytes a `WriteSink` gathers before it sends them.
+/// The number of bytes that a `WriteSink` buffers before it sends them.
 pub const WRITE_SIZE: usize = 4096;
 
 const MOST_BYTES: u64 = 0x7FFF_FFFF_FFFF_F000;
 
-/// A source over std's `Read`, of which it is said that its reads give the bytes of `K`.
+/// A source over std's `Read`, whose bytes are assumed to be those of `K`.
 ///
-/// The reader is asked where no byte is left of its last answer, and then once: so a byte that is
-/// there is given before more are asked for. Each error of the reader is a failure, except that a
-/// read which a signal interrupts is made anew. After the end or a failure it isn't asked again,
-/// nor after more than 2^63 - 4,096 bytes, where the source fails.
+/// It reads only when its buffer is empty, and then once, so buffered bytes are given before more
+/// are read. An interrupted read is repeated; any other error of the reader is a failure. After the
+/// end or a failure it doesn't read again. After more than 2^63 - 4,096 bytes it fails.
 #[derive(Drop)]
 pub struct ReadSource<R, K = Brand> {
     reader: R,
@@ -46,7 +45,7 @@ pub struct ReadSource<R, K = Brand> {
 impl<R: Read> ReadSource<R, Brand> {
     ghost use Rattle.line_config.specs.Adapters.{IsUnread};
 
-    /// A source that gives what the reader gives.
+    /// A source that gives the bytes of the reader.
     pub fn new(reader: R) -> Self
         ensures reader { IsUnread reader result }
         ensures bound { (⟦<ReadSource<R, Brand> as Source>⟧.feed result).bound ≡ 2 ^ 63 }
@@ -59,8 +58,7 @@ impl<R: Read> ReadSource<R, Brand> {
 impl<R: Read, K: Foretold> ReadSource<R, K> {
     ghost use Rattle.line_config.specs.Adapters.{Asks, IsUnread, reader_of, unread_of, met, source_feed};
 
-    /// A source that gives what the reader gives, of which it is said that these are the bytes of
-    /// `K`.
+    /// A source that gives the bytes of the reader, which are assumed to be those of `K`.
     pub fn foretold(reader: R) -> Self
         ensures reader { IsUnread reader result }
         ensures bound { (⟦<ReadSource<R, K> as Source>⟧.feed result).bound ≡ 2 ^ 63 }
@@ -77,7 +75,7 @@ impl<R: Read, K: Foretold> ReadSource<R, K> {
         }
     }
 
-    /// The reader, and the bytes that were read of it and are not given yet.
+    /// The reader, and the bytes that were read from it but not given yet.
     pub fn into_parts(self) -> (R, Buffer<READ_SIZE>)
         ensures reader { result.0 ≡ reader_of self }
         ensures unread { bytes_in result.1 ≡ unread_of self }
@@ -85,7 +83,7 @@ impl<R: Read, K: Foretold> ReadSource<R, K> {
         (self.reader, self.unread)
     }
 
-    // Reads once, where neither the end nor a failure was met.
+    // Reads once, unless the end or a failure was met.
     fn fill(&mut self)
         requires { unread_of self.old ≡ [] }
         ensures reader { Asks R.remaining [] self.old self.new }
@@ -137,8 +135,8 @@ impl<R: Read, K: Foretold> Source for ReadSource<R, K> {
         ensures byte { GivesByte (source_feed K.bytes K.last self.old)
             (source_feed K.bytes K.last self.new) result }
 
-        // The byte is the next of those that its reads gave. It answers the end or a failure where
-        // a read met that, and none of them is left.
+        // The byte is the next one that was read. The end or a failure that a read met is returned
+        // once no byte is left.
         ensures reader { Asks R.remaining (given_by result) self.old self.new }
         ensures end { result ≡ Ok None → (unread_of self.new ≡ []) × (met self.new ≡ Some End) }
         ensures fault { OnErr result ((unread_of self.new ≡ []) × (met self.new ≡ Some Failed)) }
@@ -182,10 +180,9 @@ impl<R: Read, K: Foretold> Source for ReadSource<R, K> {
 
 /// A sink over std's `Write`.
 ///
-/// What is written gathers in a fixed array, and goes to the writer where the array is full and at
-/// a flush: so what is drawn between two flushes is mostly one write of the system. Each error of
-/// the writer is a failure, as is a write that takes nothing, except that a call which a signal
-/// interrupts is made anew.
+/// Written bytes are buffered in a fixed array. They are sent when the array is full and at a
+/// flush, so a drawing between two flushes is mostly one system write. An interrupted call is
+/// repeated; any other error of the writer is a failure, and so is a write that takes nothing.
 #[derive(Drop)]
 pub struct WriteSink<W> {
     writer: Recorded<W>,
@@ -208,7 +205,7 @@ impl<W: Write> WriteSink<W> {
         }
     }
 
-    /// The writer, and the bytes that were taken and are not sent to it yet.
+    /// The writer, and the bytes that were taken but not sent to it yet.
     pub fn into_parts(self) -> (W, Buffer<WRITE_SIZE>)
         ensures writer { result.0 ≡ writer_of self }
         ensures unsent { bytes_in result.1 ≡ unsent_of self }
@@ -216,8 +213,8 @@ impl<W: Write> WriteSink<W> {
         (self.writer.into_inner(), self.unsent)
     }
 
-    // Puts as many of the bytes after those that wait as there is room for. Where there is none, it
-    // is made first.
+    // Buffers as many of the bytes as fit, and returns their number. If the buffer is full, it is
+    // sent first.
     fn gather(&mut self, bytes: &[u8]) -> Result<usize, DeviceFailed>
         ensures ok { IfOk result (λ n. Takes taken self.old self.new (take n bytes.now)) }
         ensures err { OnErr result (taken self.new ≡ taken self.old) }
@@ -250,7 +247,7 @@ impl<W: Write> WriteSink<W> {
         Ok(())
     }
 
-    // Sends what waits, and flushes the writer.
+    // Sends the buffered bytes, and flushes the writer.
     #[tactic(auto, using(crate::proofs::NotesLemmas::on_notes))]
     fn send(&mut self) -> Result<(), DeviceFailed>
         ensures takes { taken self.new ≡ taken self.old }
@@ -277,10 +274,10 @@ impl<W: Write> Sink for WriteSink<W> {
         ensures failure { self.new.failed ≡ is_err result }
         ensures for_good { IsTrue self.old.failed → IsErr result }
 
-        // Where the writer tells its bytes, it has taken what its writes are said to have taken.
+        // If the writer reports its bytes, it has taken what its writes are noted to have taken.
         ensures writer { Notes W.contents (recorded_of self.old) (recorded_of self.new) }
 
-        // Bytes for which the array has room wait: the writer isn't asked, so nothing can fail.
+        // Bytes that fit into the array are buffered: the writer isn't called, so nothing can fail.
         ensures refused { OnErr result (self.old.failed ≡ false
             → room_of self.old < length bytes.now) }
         ensures waiting { length bytes.now ≤ room_of self.old
@@ -301,7 +298,7 @@ impl<W: Write> Sink for WriteSink<W> {
         ensures for_good { IsTrue self.old.failed → IsErr result }
         ensures writer { Notes W.contents (recorded_of self.old) (recorded_of self.new) }
 
-        // The writer itself has all then, and the array nothing.
+        // Then the writer itself has all bytes, and the array none.
         ensures waits { OnOk result (unsent_of self.new ≡ []) }
         ensures passed_on { OnOk result (sent_of self.new ≡ taken self.old) }
         ensures told { OnOk result (Appends (W.contents (writer_of self.old))

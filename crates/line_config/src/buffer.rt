@@ -1,4 +1,4 @@
-//! The fixed array of an adapter: what it holds stands between two places in it.
+//! The fixed array of an adapter: its content is between two places of the array.
 ghost use Rattle.std.specs.Prelude.{◌≡◌, IsTrue, ◌+◌, ◌-◌, ◌≤◌, ◌<◌, [], ◌++◌, length, take, drop, min, option_to_list, OnOk, OnErr, IsNone, ◌↔◌};
 ghost use Rattle.std.specs.Io.KnownBytes.{Consumes, IsAtEnd};
 ghost use Rattle.line_config.specs.Recorded.{Notes, took};
@@ -8,7 +8,7 @@ use crate::recorded::Recorded;
 use crate::retry::{read_retrying, write_retrying};
 use std::io::{Read, Write};
 
-/// Bytes in a fixed array: those that an adapter has read and not given, or taken and not sent.
+/// Bytes in a fixed array: read and not given yet, or taken and not sent yet.
 #[derive(Drop)]
 pub struct Buffer<const N: usize> {
     bytes: [u8; N],
@@ -32,7 +32,7 @@ impl<const N: usize> Buffer<N> {
         }
     }
 
-    /// The bytes that it holds.
+    /// The buffered bytes.
     pub fn as_slice(&self) -> &[u8]
         ensures { result.now ≡ bytes_in self.now }
     {
@@ -40,7 +40,7 @@ impl<const N: usize> Buffer<N> {
         &all[self.start..self.end]
     }
 
-    /// Whether it holds none.
+    /// Whether it is empty.
     pub fn is_empty(&self) -> bool
         ensures { IsTrue result ↔ (bytes_in self.now ≡ []) }
     {
@@ -53,7 +53,7 @@ impl<const N: usize> Buffer<N> {
         self.end == N
     }
 
-    /// Gives the first byte that it holds.
+    /// Removes and returns the first byte.
     pub(crate) fn next_byte(&mut self) -> Option<u8>
         ensures byte { bytes_in self.old ≡ option_to_list result ++ bytes_in self.new }
         ensures none { IsNone result ↔ (bytes_in self.old ≡ []) }
@@ -64,7 +64,7 @@ impl<const N: usize> Buffer<N> {
         Some(first)
     }
 
-    /// Gives the first bytes that it holds, so many.
+    /// Removes the first `amount` bytes.
     pub(crate) fn consume(&mut self, amount: usize)
         requires { amount ≤ length (bytes_in self.old) }
         ensures { bytes_in self.new ≡ drop amount (bytes_in self.old) }
@@ -72,7 +72,7 @@ impl<const N: usize> Buffer<N> {
         self.start += amount;
     }
 
-    /// Takes what one read gives.
+    /// Fills the buffer by one read.
     #[tactic(auto, using(crate::proofs::KnownLemmas::on_known))]
     pub(crate) fn fill_from<R: Read>(&mut self, reader: &mut R) -> Result<(), DeviceFailed>
         ensures bytes { Consumes (R.remaining reader.old) (R.remaining reader.new)
@@ -88,7 +88,7 @@ impl<const N: usize> Buffer<N> {
         Ok(())
     }
 
-    /// Takes as many of the bytes as there is room for after those that it holds.
+    /// Appends as many of the bytes as fit, and returns their number.
     pub(crate) fn append(&mut self, bytes: &[u8]) -> usize
         ensures bytes { bytes_in self.new ≡ bytes_in self.old ++ take result bytes.now }
         ensures count { result ≡ min (length bytes.now) (room_in self.old) }
@@ -102,7 +102,7 @@ impl<const N: usize> Buffer<N> {
         count
     }
 
-    /// Sends all that it holds. What a failure leaves unsent it still holds.
+    /// Sends all bytes. After a failure the unsent ones remain.
     #[tactic(auto, using(crate::proofs::NotesLemmas::on_notes))]
     pub(crate) fn send_to<W: Write>(&mut self, writer: &mut Recorded<W>) -> Result<(), DeviceFailed>
         ensures bytes { took writer.new ++ bytes_in self.new

@@ -1,4 +1,4 @@
-//! Making settings.
+//! Builds settings.
 ghost use Rattle.std.specs.Prelude.{◌≡◌, Ok};
 ghost use Rattle.std.proofs.Common.{refl};
 ghost use Rattle.line_config.specs.Config.{built, default_config, duplicates_of, timeout_of};
@@ -9,7 +9,7 @@ use crate::errors::ReadlineError;
 use crate::settings::{Behavior, BellStyle, ColorMode, CompletionType, EditMode};
 use line_buffer::GraphemeClusterMode;
 
-/// A builder of settings: each call sets one and gives the builder back.
+/// A builder of settings: each call sets one and returns the builder.
 #[derive(Clone, Debug, Default, Drop)]
 pub struct Builder {
     pub(crate) config: Config,
@@ -32,7 +32,7 @@ impl Builder {
         self.config
     }
 
-    /// Sets how many entries a history keeps at most.
+    /// Sets the most entries that a history keeps.
     pub fn max_history_size(mut self, max_size: usize) -> Result<Self, ReadlineError>
         ensures { result ≡ Ok (built (record self.config { max_history_size = max_size })) }
     {
@@ -57,8 +57,7 @@ impl Builder {
         self
     }
 
-    /// Sets what becomes of several candidates of a completion. A session keeps it and does nothing
-    /// with it.
+    /// Sets how several candidates of a completion are shown. Sessions ignore this setting.
     pub fn completion_type(mut self, completion_type: CompletionType) -> Self
         ensures { result ≡ built (record self.config { completion_type = completion_type }) }
     {
@@ -66,7 +65,7 @@ impl Builder {
         self
     }
 
-    /// Sets whether all candidates are listed at once. A session keeps it and does nothing with it.
+    /// Sets whether all candidates are listed at once. Sessions ignore this setting.
     pub fn completion_show_all_if_ambiguous(mut self, yes: bool) -> Self
         ensures { result ≡ built (record self.config { completion_show_all_if_ambiguous = yes }) }
     {
@@ -74,8 +73,7 @@ impl Builder {
         self
     }
 
-    /// Sets how many candidates are listed without asking first. A session keeps it and does
-    /// nothing with it.
+    /// Sets how many candidates are listed without a question. Sessions ignore this setting.
     pub fn completion_prompt_limit(mut self, limit: usize) -> Self
         ensures { result ≡ built (record self.config { completion_prompt_limit = limit }) }
     {
@@ -83,8 +81,8 @@ impl Builder {
         self
     }
 
-    /// Sets how long a key sequence that may go on is waited for, in milliseconds. Without a number
-    /// it is waited for without end. A session keeps it and does nothing with it.
+    /// Sets how long to wait for the rest of a key sequence, in milliseconds. `None` waits without
+    /// a limit. Sessions ignore this setting.
     pub fn keyseq_timeout(mut self, milliseconds: Option<u16>) -> Self
         ensures { result ≡ built (record self.config { keyseq_timeout = milliseconds }) }
     {
@@ -92,8 +90,8 @@ impl Builder {
         self
     }
 
-    /// Sets the keymap, and with it the timeout of key sequences: none for Emacs, 500 milliseconds
-    /// for Vi.
+    /// Sets the keymap, and with it the timeout of key sequences: `None` for Emacs, 500
+    /// milliseconds for Vi.
     pub fn edit_mode(mut self, edit_mode: EditMode) -> Self
         ensures { result ≡ built
             (record self.config { edit_mode = edit_mode; keyseq_timeout = timeout_of edit_mode }) }
@@ -102,7 +100,7 @@ impl Builder {
         self
     }
 
-    /// Sets whether each line that a session gives is added to its history.
+    /// Sets whether each accepted line of a session is added to its history.
     pub fn auto_add_history(mut self, yes: bool) -> Self
         ensures { result ≡ built (record self.config { auto_add_history = yes }) }
     {
@@ -118,7 +116,7 @@ impl Builder {
         self
     }
 
-    /// Sets whether highlighting is drawn. A session keeps it and does nothing with it.
+    /// Sets whether highlighting is drawn. Sessions ignore this setting.
     pub fn color_mode(mut self, color_mode: ColorMode) -> Self
         ensures { result ≡ built (record self.config { color_mode = color_mode }) }
     {
@@ -134,7 +132,7 @@ impl Builder {
         self
     }
 
-    /// Sets which files the editor works on. A session keeps it and does nothing with it.
+    /// Sets which files the editor reads and writes. Sessions ignore this setting.
     pub fn behavior(mut self, behavior: Behavior) -> Self
         ensures { result ≡ built (record self.config { behavior = behavior }) }
     {
@@ -142,7 +140,7 @@ impl Builder {
         self
     }
 
-    /// Sets how many columns a tab takes. A session keeps it and does nothing with it.
+    /// Sets how many columns a tab takes. Sessions ignore this setting.
     pub fn tab_stop(mut self, columns: u8) -> Self
         ensures { result ≡ built (record self.config { tab_stop = columns }) }
     {
@@ -150,7 +148,7 @@ impl Builder {
         self
     }
 
-    /// Sets by how many spaces a row is moved in or out.
+    /// Sets by how many spaces a row is indented or dedented.
     pub fn indent_size(mut self, spaces: u8) -> Self
         ensures { result ≡ built (record self.config { indent_size = spaces }) }
     {
@@ -158,8 +156,8 @@ impl Builder {
         self
     }
 
-    /// Sets whether the cursor is brought to the first column before a prompt. A session keeps it
-    /// and does nothing with it.
+    /// Sets whether the cursor is moved to the first column before a prompt. Sessions ignore this
+    /// setting.
     pub fn check_cursor_position(mut self, yes: bool) -> Self
         ensures { result ≡ built (record self.config { check_cursor_position = yes }) }
     {
@@ -167,8 +165,7 @@ impl Builder {
         self
     }
 
-    /// Sets whether the terminal is asked to mark what is pasted. A session keeps it and does
-    /// nothing with it.
+    /// Sets whether the terminal is asked to mark pasted text. Sessions ignore this setting.
     pub fn bracketed_paste(mut self, yes: bool) -> Self
         ensures { result ≡ built (record self.config { enable_bracketed_paste = yes }) }
     {
@@ -176,8 +173,7 @@ impl Builder {
         self
     }
 
-    /// Sets whether the terminal's own signal keys stay on. A session keeps it and does nothing
-    /// with it.
+    /// Sets whether the terminal's signal keys stay enabled. Sessions ignore this setting.
     pub fn enable_signals(mut self, yes: bool) -> Self
         ensures { result ≡ built (record self.config { enable_signals = yes }) }
     {

@@ -8,8 +8,8 @@ use crate::settings::{
 };
 use line_buffer::GraphemeClusterMode;
 
-/// The settings of an editor. They are changed by a [`Configurer`](crate::Configurer), and made by
-/// a [`Builder`].
+/// The settings of an editor. A [`Configurer`](crate::Configurer) changes them, and a [`Builder`]
+/// builds them.
 #[derive(Clone, Debug, Drop, PartialEq, Eq)]
 pub struct Config {
     pub(crate) max_history_size: usize,
@@ -41,7 +41,7 @@ impl Config {
         Builder::new()
     }
 
-    /// How many entries a history keeps at most.
+    /// The most entries that a history keeps.
     pub fn max_history_size(&self) -> usize
         ensures { result ≡ self.now.max_history_size }
     {
@@ -62,31 +62,29 @@ impl Config {
         self.history_ignore_space
     }
 
-    /// What becomes of several candidates of a completion. A session keeps it and does nothing with
-    /// it.
+    /// How several candidates of a completion are shown. Sessions ignore this setting.
     pub fn completion_type(&self) -> CompletionType
         ensures { result ≡ self.now.completion_type }
     {
         self.completion_type
     }
 
-    /// Whether all candidates are listed at once. A session keeps it and does nothing with it.
+    /// Whether all candidates are listed at once. Sessions ignore this setting.
     pub fn completion_show_all_if_ambiguous(&self) -> bool
         ensures { result ≡ self.now.completion_show_all_if_ambiguous }
     {
         self.completion_show_all_if_ambiguous
     }
 
-    /// How many candidates are listed without asking first. A session keeps it and does nothing
-    /// with it.
+    /// How many candidates are listed without a question. Sessions ignore this setting.
     pub fn completion_prompt_limit(&self) -> usize
         ensures { result ≡ self.now.completion_prompt_limit }
     {
         self.completion_prompt_limit
     }
 
-    /// How long a key sequence that may go on is waited for, in milliseconds. Without a number it
-    /// is waited for without end. A session keeps it and does nothing with it.
+    /// How long to wait for the rest of a key sequence, in milliseconds. `None` waits without a
+    /// limit. Sessions ignore this setting.
     pub fn keyseq_timeout(&self) -> Option<u16>
         ensures { result ≡ self.now.keyseq_timeout }
     {
@@ -100,7 +98,7 @@ impl Config {
         self.edit_mode
     }
 
-    /// Whether each line that a session gives is added to its history.
+    /// Whether each accepted line of a session is added to its history.
     pub fn auto_add_history(&self) -> bool
         ensures { result ≡ self.now.auto_add_history }
     {
@@ -114,7 +112,7 @@ impl Config {
         self.bell_style
     }
 
-    /// Whether highlighting is drawn. A session keeps it and does nothing with it.
+    /// Whether highlighting is drawn. Sessions ignore this setting.
     pub fn color_mode(&self) -> ColorMode
         ensures { result ≡ self.now.color_mode }
     {
@@ -128,52 +126,50 @@ impl Config {
         self.grapheme_cluster_mode
     }
 
-    /// Which files the editor works on. A session keeps it and does nothing with it.
+    /// Which files the editor reads and writes. Sessions ignore this setting.
     pub fn behavior(&self) -> Behavior
         ensures { result ≡ self.now.behavior }
     {
         self.behavior
     }
 
-    /// How many columns a tab takes. A session keeps it and does nothing with it.
+    /// How many columns a tab takes. Sessions ignore this setting.
     pub fn tab_stop(&self) -> u8
         ensures { result ≡ self.now.tab_stop }
     {
         self.tab_stop
     }
 
-    /// By how many spaces a row is moved in or out.
+    /// By how many spaces a row is indented or dedented.
     pub fn indent_size(&self) -> u8
         ensures { result ≡ self.now.indent_size }
     {
         self.indent_size
     }
 
-    /// Whether the cursor is brought to the first column before a prompt. A session keeps it and
-    /// does nothing with it.
+    /// Whether the cursor is moved to the first column before a prompt. Sessions ignore this
+    /// setting.
     pub fn check_cursor_position(&self) -> bool
         ensures { result ≡ self.now.check_cursor_position }
     {
         self.check_cursor_position
     }
 
-    /// Whether the terminal is asked to mark what is pasted. A session keeps it and does nothing
-    /// with it.
+    /// Whether the terminal is asked to mark pasted text. Sessions ignore this setting.
     pub fn enable_bracketed_paste(&self) -> bool
         ensures { result ≡ self.now.enable_bracketed_paste }
     {
         self.enable_bracketed_paste
     }
 
-    /// Whether the terminal is asked to show each drawing at once. A session keeps it and does
-    /// nothing with it.
+    /// Whether the terminal is asked to show each drawing at once. Sessions ignore this setting.
     pub fn enable_synchronized_output(&self) -> bool
         ensures { result ≡ self.now.enable_synchronized_output }
     {
         self.enable_synchronized_output
     }
 
-    /// Whether the terminal's own signal keys stay on. A session keeps it and does nothing with it.
+    /// Whether the terminal's signal keys stay enabled. Sessions ignore this setting.
     pub fn enable_signals(&self) -> bool
         ensures { result ≡ self.now.enable_signals }
     {

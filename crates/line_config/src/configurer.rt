@@ -1,4 +1,4 @@
-//! Changing settings.
+//! Changes settings.
 ghost use Rattle.std.specs.Prelude.{◌≡◌, IsOk};
 ghost use Rattle.std.proofs.Common.{refl};
 ghost use Rattle.std.specs.Borrow.{sem, Lends};
@@ -11,21 +11,21 @@ use crate::errors::ReadlineError;
 use crate::settings::{BellStyle, ColorMode, CompletionType, EditMode, HistoryDuplicates};
 use line_buffer::GraphemeClusterMode;
 
-/// What holds settings and lets them be changed. No change is refused.
+/// A holder of settings that can be changed. No change fails.
 pub trait Configurer {
-    // The settings that it holds.
+    // The settings.
     ghost settings: { Self → Config };
 
-    // The same with other settings.
+    // The same holder with other settings.
     ghost with_settings: { Self → Config → Self };
 
-    /// The settings, to be changed.
+    /// Borrows the settings to change them.
     fn config_mut(&mut self) -> &mut Config
         ensures* writes_back { sem 𝓛
             (Lends Self.row config_row self.entry result (with_settings self.old)) }
         ensures value { result.now ≡ settings self.old };
 
-    /// Sets how many entries a history keeps at most.
+    /// Sets the most entries that a history keeps.
     fn set_max_history_size(&mut self, max_size: usize) -> Result<(), ReadlineError>
         ensures done { IsOk result }
         ensures settings { Sets settings with_settings
@@ -53,8 +53,7 @@ pub trait Configurer {
         self.config_mut().history_ignore_space = yes;
     }
 
-    /// Sets what becomes of several candidates of a completion. A session keeps it and does nothing
-    /// with it.
+    /// Sets how several candidates of a completion are shown. Sessions ignore this setting.
     fn set_completion_type(&mut self, completion_type: CompletionType)
         ensures { Sets settings with_settings (λ c. record c { completion_type = completion_type })
             self.old self.new }
@@ -62,7 +61,7 @@ pub trait Configurer {
         self.config_mut().completion_type = completion_type;
     }
 
-    /// Sets whether all candidates are listed at once. A session keeps it and does nothing with it.
+    /// Sets whether all candidates are listed at once. Sessions ignore this setting.
     fn set_completion_show_all_if_ambiguous(&mut self, yes: bool)
         ensures { Sets settings with_settings
             (λ c. record c { completion_show_all_if_ambiguous = yes }) self.old self.new }
@@ -70,8 +69,7 @@ pub trait Configurer {
         self.config_mut().completion_show_all_if_ambiguous = yes;
     }
 
-    /// Sets how many candidates are listed without asking first. A session keeps it and does
-    /// nothing with it.
+    /// Sets how many candidates are listed without a question. Sessions ignore this setting.
     fn set_completion_prompt_limit(&mut self, limit: usize)
         ensures { Sets settings with_settings (λ c. record c { completion_prompt_limit = limit })
             self.old self.new }
@@ -79,8 +77,8 @@ pub trait Configurer {
         self.config_mut().completion_prompt_limit = limit;
     }
 
-    /// Sets how long a key sequence that may go on is waited for, in milliseconds. Without a number
-    /// it is waited for without end. A session keeps it and does nothing with it.
+    /// Sets how long to wait for the rest of a key sequence, in milliseconds. `None` waits without
+    /// a limit. Sessions ignore this setting.
     fn set_keyseq_timeout(&mut self, milliseconds: Option<u16>)
         ensures { Sets settings with_settings (λ c. record c { keyseq_timeout = milliseconds })
             self.old self.new }
@@ -88,8 +86,8 @@ pub trait Configurer {
         self.config_mut().keyseq_timeout = milliseconds;
     }
 
-    /// Sets the keymap, and with it the timeout of key sequences: none for Emacs, 500 milliseconds
-    /// for Vi.
+    /// Sets the keymap, and with it the timeout of key sequences: `None` for Emacs, 500
+    /// milliseconds for Vi.
     fn set_edit_mode(&mut self, edit_mode: EditMode)
         ensures { Sets settings with_settings
             (λ c. record c { edit_mode = edit_mode; keyseq_timeout = timeout_of edit_mode })
@@ -100,7 +98,7 @@ pub trait Configurer {
         config.keyseq_timeout = edit_mode.keyseq_timeout();
     }
 
-    /// Sets whether each line that a session gives is added to its history.
+    /// Sets whether each accepted line of a session is added to its history.
     fn set_auto_add_history(&mut self, yes: bool)
         ensures { Sets settings with_settings (λ c. record c { auto_add_history = yes })
             self.old self.new }
@@ -116,7 +114,7 @@ pub trait Configurer {
         self.config_mut().bell_style = bell_style;
     }
 
-    /// Sets whether highlighting is drawn. A session keeps it and does nothing with it.
+    /// Sets whether highlighting is drawn. Sessions ignore this setting.
     fn set_color_mode(&mut self, color_mode: ColorMode)
         ensures { Sets settings with_settings (λ c. record c { color_mode = color_mode })
             self.old self.new }
@@ -132,7 +130,7 @@ pub trait Configurer {
         self.config_mut().grapheme_cluster_mode = mode;
     }
 
-    /// Sets how many columns a tab takes. A session keeps it and does nothing with it.
+    /// Sets how many columns a tab takes. Sessions ignore this setting.
     fn set_tab_stop(&mut self, columns: u8)
         ensures { Sets settings with_settings (λ c. record c { tab_stop = columns })
             self.old self.new }
@@ -140,7 +138,7 @@ pub trait Configurer {
         self.config_mut().tab_stop = columns;
     }
 
-    /// Sets by how many spaces a row is moved in or out.
+    /// Sets by how many spaces a row is indented or dedented.
     fn set_indent_size(&mut self, spaces: u8)
         ensures { Sets settings with_settings (λ c. record c { indent_size = spaces })
             self.old self.new }
@@ -148,8 +146,8 @@ pub trait Configurer {
         self.config_mut().indent_size = spaces;
     }
 
-    /// Sets whether the cursor is brought to the first column before a prompt. A session keeps it
-    /// and does nothing with it.
+    /// Sets whether the cursor is moved to the first column before a prompt. Sessions ignore this
+    /// setting.
     fn set_check_cursor_position(&mut self, yes: bool)
         ensures { Sets settings with_settings (λ c. record c { check_cursor_position = yes })
             self.old self.new }
@@ -157,8 +155,7 @@ pub trait Configurer {
         self.config_mut().check_cursor_position = yes;
     }
 
-    /// Sets whether the terminal is asked to mark what is pasted. A session keeps it and does
-    /// nothing with it.
+    /// Sets whether the terminal is asked to mark pasted text. Sessions ignore this setting.
     fn enable_bracketed_paste(&mut self, yes: bool)
         ensures { Sets settings with_settings (λ c. record c { enable_bracketed_paste = yes })
             self.old self.new }
@@ -166,8 +163,8 @@ pub trait Configurer {
         self.config_mut().enable_bracketed_paste = yes;
     }
 
-    /// Sets whether the terminal is asked to show each drawing at once. A session keeps it and does
-    /// nothing with it.
+    /// Sets whether the terminal is asked to show each drawing at once. Sessions ignore this
+    /// setting.
     fn enable_synchronized_output(&mut self, yes: bool)
         ensures { Sets settings with_settings (λ c. record c { enable_synchronized_output = yes })
             self.old self.new }
@@ -175,8 +172,7 @@ pub trait Configurer {
         self.config_mut().enable_synchronized_output = yes;
     }
 
-    /// Sets whether the terminal's own signal keys stay on. A session keeps it and does nothing
-    /// with it.
+    /// Sets whether the terminal's signal keys stay enabled. Sessions ignore this setting.
     fn set_enable_signals(&mut self, yes: bool)
         ensures { Sets settings with_settings (λ c. record c { enable_signals = yes })
             self.old self.new }
@@ -184,11 +180,12 @@ pub trait Configurer {
         self.config_mut().enable_signals = yes;
     }
 
-    // Settings read back as they were set.
+    // Settings are read as they were set.
     ghost settings_as_set: { (holder : Self) (config : Config)
         → settings (with_settings holder config) ≡ config };
 
-    // With its own settings it is as it was, and nothing else of it depends on those set before.
+    // With its own settings the holder is as it was, and nothing else of it depends on earlier
+    // settings.
     ghost own_settings: { (holder : Self) → with_settings holder (settings holder) ≡ holder };
 
     ghost later_settings: { (holder : Self) (before config : Config)

@@ -1,4 +1,4 @@
-//! Refusals: why a call of the editor gives no result.
+//! Errors: why a call of the editor gives no result.
 ghost use Rattle.std.specs.Prelude.{◌≡◌, Some};
 ghost use Rattle.line_config.specs.Refusals.{refusal_text};
 ghost use Rattle.line_config.specs.declared.errors.HookFault.TheVariants.{Memory as HookMemory};
@@ -9,35 +9,35 @@ use std::alloc::{AllocError, AllocFailed};
 use std::{error, fmt};
 use thiserror::Error;
 
-/// Why no line is given.
+/// Why no line is returned.
 ///
-/// The first four are the input's own; the others are faults of a device, a helper, a handler or
-/// the memory. After `NotUtf8` and `PasteOutOfPlace`, and after the fault of a device, the reader
-/// or the device answers the same at each later call.
+/// The first four come from the input; the others are faults of a device, a helper, a handler or
+/// memory. After `NotUtf8`, `PasteOutOfPlace` or a device's fault, each later call of the reader or
+/// of the device returns the same error.
 #[derive(Clone, Copy, Debug, PartialEq, Eq)]
 pub enum ReadlineError {
-    /// The input ended, or the key for its end came on an empty line.
+    /// The input ended, or the end-of-file command came on an empty line.
     Eof,
-    /// The command to interrupt came.
+    /// The interrupt command came.
     Interrupted,
-    /// A character was asked for where the input has none: its bytes aren't UTF-8 (RFC 3629); or a
-    /// row of a list of words isn't.
+    /// The input isn't UTF-8 (RFC 3629) where a character is expected, or a row of a word list
+    /// isn't.
     NotUtf8,
-    /// Pasted text came where no command asks for it.
+    /// Text was pasted where no command expects it.
     PasteOutOfPlace,
-    /// A source failed, of the input or of a history's text.
+    /// A source failed: the input, or the text of a history.
     Reader,
     /// The display failed.
     Display,
     /// The sink of the accepted lines failed.
     Lines,
-    /// The sink of the history's text failed, or a history that was to be loaded isn't UTF-8.
+    /// The sink of the history's text failed, or the history to load isn't UTF-8.
     HistoryText,
-    /// A helper answered that it failed.
+    /// A helper returned a failure.
     Helper,
-    /// A handler of a key sequence answered that it failed.
+    /// A handler of a key sequence returned a failure.
     Handler,
-    /// A growth was refused, or a helper or a handler answered so.
+    /// An allocation failed, or a helper or a handler ran out of memory.
     Memory,
 }
 
@@ -87,13 +87,13 @@ impl From<OutOfMemory> for ReadlineError {
     }
 }
 
-/// What a helper or a handler of a key sequence answers where it has no answer.
+/// Why a helper or a handler of a key sequence has no answer.
 #[derive(Clone, Copy, Debug, PartialEq, Eq, Error)]
 pub enum HookFault {
     /// It failed.
     #[error("hook failed")]
     Failed,
-    /// A growth was refused.
+    /// An allocation failed.
     #[error("out of memory")]
     Memory,
 }

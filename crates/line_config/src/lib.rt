@@ -1,5 +1,4 @@
-//! What every part of the line editor shares: its settings, its refusals, and the devices that
-//! bytes come from and go to.
+//! What all parts of the line editor share: settings, errors, and the devices for input and output.
 #![tactic(auto)]
 
 pub mod adapters;

@@ -1,4 +1,4 @@
-//! Devices over memory.
+//! Devices in memory.
 ghost use Rattle.std.specs.Prelude.{◌≡◌, ◌++◌, ◌+◌, ◌<◌, [], true, false, is_err, length, vec_capacity, vec_len, IsErr, IsTrue, OnErr, OnOk};
 ghost use Rattle.line_config.specs.declared.device.Last.{Last};
 ghost use Rattle.line_config.specs.declared.device.Last.TheVariants.{End, Failed};
@@ -18,7 +18,7 @@ pub struct SliceSource<'a> {
 }
 
 impl<'a> SliceSource<'a> {
-    /// The bytes, and after them the end. It never fails.
+    /// The bytes, then the end. It never fails.
     pub fn new(bytes: &'a [u8]) -> Self
         ensures { ⟦<SliceSource<'a> as Source>⟧.feed result ≡ fresh_feed bytes.entry.now End }
     {
@@ -29,7 +29,7 @@ impl<'a> SliceSource<'a> {
         }
     }
 
-    /// The bytes, and after them a failure.
+    /// The bytes, then a failure.
     pub fn failing_after(bytes: &'a [u8]) -> Self
         ensures { ⟦<SliceSource<'a> as Source>⟧.feed result ≡ fresh_feed bytes.entry.now Failed }
     {
@@ -79,8 +79,8 @@ impl<'a> Source for SliceSource<'a> {
     }
 }
 
-/// A sink that keeps what it takes in memory. A growth that is refused is its failure, for good;
-/// what it held then stays.
+/// A sink that stores its bytes in memory. A failed allocation is its failure, for good; the bytes
+/// before it stay.
 #[derive(Drop)]
 pub struct VecSink {
     bytes: Vec<u8>,
@@ -99,14 +99,14 @@ impl VecSink {
         }
     }
 
-    /// What was written so far.
+    /// The bytes written so far.
     pub fn bytes(&self) -> &[u8]
         ensures { result.now ≡ ⟦<VecSink as Sink>⟧.held self.now }
     {
         &self.bytes
     }
 
-    /// What was written so far.
+    /// The bytes written so far; the sink is consumed.
     pub fn into_bytes(self) -> Vec<u8>
         ensures { result.items ≡ ⟦<VecSink as Sink>⟧.held self }
     {
@@ -127,7 +127,7 @@ impl Sink for VecSink {
         ensures failure { self.new.failed ≡ is_err result }
         ensures for_good { IsTrue self.old.failed → IsErr result }
 
-        // It fails for the first time only where it has to grow, and that is refused.
+        // It fails for the first time only if it must grow and the allocation fails.
         ensures refused { OnErr result (self.old.failed ≡ false
             → vec_capacity self.old.bytes < vec_len self.old.bytes + length bytes.now) }
     {

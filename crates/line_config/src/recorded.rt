@@ -1,4 +1,4 @@
-//! A writer that keeps in mind what its writes took.
+//! A writer that notes what its writes took.
 ghost use Rattle.std.specs.Prelude.{◌≡◌, [], Some};
 ghost use Rattle.std.specs.Io.{WritesAtMost};
 ghost use Rattle.std.specs.Io.KnownBytes.{Keeps, WriteAppends};
@@ -6,7 +6,8 @@ ghost use Rattle.std.specs.Io.KnownBytes.{Keeps, WriteAppends};
 use crate::log::Log;
 use std::io::{Result, Write};
 
-/// A writer over another. Each write is one write of that, and what it took is noted.
+/// A writer over another one. Each write is one write of the other, and the bytes that it took are
+/// noted.
 #[derive(Drop)]
 pub struct Recorded<W> {
     writer: W,
@@ -16,7 +17,7 @@ pub struct Recorded<W> {
 impl<W: Write> Recorded<W> {
     ghost use Rattle.line_config.specs.Recorded.{took, inner_of};
 
-    /// A writer over this one, of which nothing is noted yet.
+    /// A writer over this one. Nothing is noted yet.
     pub fn new(writer: W) -> Self
         ensures took { took result ≡ [] }
         ensures writer { inner_of result ≡ writer }
@@ -44,7 +45,7 @@ impl<W: Write> Write for Recorded<W> {
         ensures bound { WritesAtMost result buf.now }
         ensures bytes { WriteAppends (Some (took self.old)) (Some (took self.new)) result buf.now }
 
-        // Where the writer below tells its bytes, it has taken these, and no others.
+        // If the writer below reports its bytes, it has taken these and no others.
         ensures writer { WriteAppends (W.contents (inner_of self.old))
             (W.contents (inner_of self.new)) result buf.now }
     {

@@ -1,8 +1,8 @@
-//! The calls of a reader or a writer, each made anew where a signal interrupts it.
+//! The calls of a reader or a writer, repeated if a signal interrupts them.
 //!
-//! An interrupted call has read or written nothing, so it is no failure of the device: a terminal
-//! whose window is resized, or a job that is stopped and continued, interrupts a call in this way.
-//! Every other error is a failure.
+//! An interrupted call has read or written nothing, so it is no failure of the device. A resized
+//! window interrupts a call, and so does a job that is stopped and continued. Every other error is
+//! a failure.
 ghost use Rattle.std.specs.Prelude.{◌≡◌, ◌++◌, ◌<◌, ◌≤◌, length, take, OnErr, IfOk};
 ghost use Rattle.std.specs.Io.KnownBytes.{ReadConsumes};
 ghost use Rattle.line_config.specs.Recorded.{Notes, took};
@@ -11,10 +11,10 @@ use crate::device::DeviceFailed;
 use crate::recorded::Recorded;
 use std::io::{ErrorKind, Read, Write};
 
-// A call must return, so the tries are counted. The count is never reached.
+// A call must return, so the tries are counted. In practice this number is never reached.
 const TRIES: u64 = u64::MAX;
 
-// One read, made anew where a signal interrupts it.
+// One read, repeated if a signal interrupts it.
 #[tactic(auto, using(crate::proofs::KnownLemmas::on_known))]
 pub(crate) fn read_retrying<R: Read>(reader: &mut R, buf: &mut [u8]) -> Result<usize, DeviceFailed>
     ensures bound { IfOk result (λ n. n ≤ length buf.new) }
@@ -30,7 +30,7 @@ pub(crate) fn read_retrying<R: Read>(reader: &mut R, buf: &mut [u8]) -> Result<u
     Err(DeviceFailed)
 }
 
-// One write, made anew where a signal interrupts it. One that takes nothing is a failure.
+// One write, repeated if a signal interrupts it. A write that takes nothing is a failure.
 #[tactic(auto, using(crate::proofs::KnownLemmas::on_known, crate::proofs::NotesLemmas::on_notes))]
 pub(crate) fn write_retrying<W: Write>(
     writer: &mut Recorded<W>,
@@ -53,7 +53,7 @@ pub(crate) fn write_retrying<W: Write>(
     Err(DeviceFailed)
 }
 
-// The writer's flush, made anew where a signal interrupts it.
+// The writer's flush, repeated if a signal interrupts it.
 #[tactic(auto, using(crate::proofs::KnownLemmas::on_known, crate::proofs::NotesLemmas::on_notes))]
 pub(crate) fn flush_retrying<W: Write>(writer: &mut Recorded<W>) -> Result<(), DeviceFailed>
     ensures bytes { took writer.new ≡ took writer.old }

@@ -5,16 +5,16 @@ ghost use Rattle.line_config.specs.Config.{duplicates_of, timeout_of};
 /// What a beep does.
 #[derive(Clone, Copy, Debug, Default, PartialEq, Eq)]
 pub enum BellStyle {
-    /// It sounds the terminal's bell.
+    /// The terminal's bell rings.
     #[default]
     Audible,
     /// Nothing.
     None,
-    /// The screen flashes, which a session doesn't do: it does nothing.
+    /// The screen flashes. Sessions don't do this: here it does nothing.
     Visible,
 }
 
-/// Which lines a history leaves out as repeated.
+/// Which repeated lines a history leaves out.
 #[derive(Clone, Copy, Debug, PartialEq, Eq)]
 pub enum HistoryDuplicates {
     /// None.
@@ -24,7 +24,7 @@ pub enum HistoryDuplicates {
 }
 
 impl HistoryDuplicates {
-    // By whether repeated lines are left out.
+    // The value for whether repeated lines are left out.
     pub(crate) fn when(ignored: bool) -> Self
         ensures { result ≡ duplicates_of ignored }
     {
@@ -36,12 +36,12 @@ impl HistoryDuplicates {
     }
 }
 
-/// What becomes of several candidates of a completion.
+/// How several candidates of a completion are shown.
 #[derive(Clone, Copy, Debug, PartialEq, Eq)]
 pub enum CompletionType {
     /// Each further press of the key shows the next candidate.
     Circular,
-    /// The word is completed as far as all candidates agree, and then they are listed.
+    /// The word is completed as far as all candidates agree; then they are listed.
     List,
 }
 
@@ -69,9 +69,9 @@ impl EditMode {
 /// Whether highlighting is drawn.
 #[derive(Clone, Copy, Debug, PartialEq, Eq)]
 pub enum ColorMode {
-    /// Where the terminal can.
+    /// If the terminal supports it.
     Enabled,
-    /// Also where it can't.
+    /// Even if the terminal doesn't support it.
     Forced,
     /// Never.
     Disabled,
@@ -83,6 +83,6 @@ pub enum Behavior {
     /// Standard input and output.
     #[default]
     Stdio,
-    /// The terminal where there is one, whatever standard input and output are.
+    /// The terminal if there is one, whatever standard input and output are.
     PreferTerm,
 }

@@ -148,7 +148,7 @@ module _ {Out H Hi K T : Type 0} {renderer : renderers.Renderer.Ghosts Out} {com
             at.onward result y (subst (λ k. Goes (world_of indent s) (turns_script k custom) (stage_of m i1 r1 feed1.coming) result y) (sym f.is)
             (turns_on (world_of indent s) f.less custom status result (stage_of m i1 r1 feed1.coming) (stage_of t i2 r2 feed2.coming) y (turn_here (suc f.less) (Ok status) (took (suc f.less) enough)) (rest f.less enough)))
 
-        -- after a refusal
+        -- after an error
         refused : (n : ℕ) → Carried n m i1 r1 feed1 → (e : ReadlineError)
             → ((k : ℕ) → feed1.bound < k → Goes (world_of indent m) (turn_script k kept) (stage_of m i1 r1 feed1.coming) (Err e) (stage_of t i2 r2 feed2.coming))
             → Goes (world_of indent s) (turns_script n custom) (stage_of s i r feed.coming) (Err e) (stage_of t i2 r2 feed2.coming)

@@ -14,9 +14,8 @@ use Rattle.line_buffer.specs.declared.types.Anchor.TheVariants.{After, Before}
 use Rattle.line_buffer.specs.declared.types.Movement.{Movement}
 use Rattle.line_buffer.specs.declared.types.WordAction.{WordAction}
 use Rattle.line_buffer.specs.declared.types.WordAction.TheVariants.{Capitalize, Lowercase, Uppercase}
-use Rattle.line_config.specs.Scripts.{Ends}
 use Rattle.line_edits.specs.Edits.{yanking, popping_in_group, updating, updating_in_group, overwriting, replacing, replacing_if_any, indenting, transposing_chars_in_group, transposing_words_in_group, editing_word_in_group, undone, by, writing_over}
-use Rattle.line_edits.specs.Steps.{WriteSteps, made, answering}
+use Rattle.line_edits.specs.Steps.{WriteSteps, made, answering, doing_nothing}
 use Rattle.line_edits.specs.Written.{Written, group_opened, group_closed}
 use Rattle.line_help.specs.Completion.{Completion}
 use Rattle.line_help.specs.Hints.{Hinted}
@@ -284,7 +283,7 @@ commands_lead m (Overwrite c) s v = refresh_if_leads (overwriting c) s v (is_som
 commands_lead m PreviousHistory s v = step_back_leads true s v
 commands_lead m QuotedInsert s v = rest_leads s v v refl
 commands_lead m (ReplaceChar n c) s v = refresh_if_leads (replacing_if_any c n) s v (is_some (place_forward n v.line))
-    (λ e. ap (λ (steps : WriteSteps Bool). (made steps (written_of v)).line) (if_none (is_some (place_forward n v.line)) (answering true (replacing c n v.line)) (Ends false) e))
+    (λ e. ap (λ (steps : WriteSteps Bool). (made steps (written_of v)).line) (if_none (is_some (place_forward n v.line)) (answering true (replacing c n v.line)) (doing_nothing false) e))
 commands_lead m (Replace movement text) s v = replace_leads movement text s v
 commands_lead m ReverseSearchHistory s v = rest_leads s v v refl
 commands_lead m (SelfInsert n c) s v = insertion_leads c n s v

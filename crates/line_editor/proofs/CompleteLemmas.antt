@@ -52,19 +52,19 @@ put_writes start text before after old new (Err e) utf8 stand u = record {
   stand = subst (λ (l : Line). ItemsStand new l.text) (sym u.stays) (subst (λ (x : Items). ItemsStand x before.text) (sym (stays_by old new u.refused)) stand);
 }
 
--- what was refused left line and record
+-- what failed left line and record
 pub put_left : {E : Type 0} (start : ℕ) (text : List ℕ) (before after : Line) (old new : Items) (result : Result ⊤ E)
     → Updates RecordedIn record_refuses start text old new before after result → OnErr result ((after ≡ before) × (new ≡ old))
 put_left start text before after old new (Ok a) u = tt
 put_left start text before after old new (Err e) u = (u.stays, stays_by old new u.refused)
 
--- memory for the mark was wanting
+-- memory ran out for the mark
 pub mark_wanting : {A : Type 0} (reply : Reply ⊤) (line : Line) (old new : Items) (result : Result A HookFault) → IsErrAnd result (λ e. e ≡ HookMemory) → new ≡ old
     → IfErr result (LeavesWord reply (written line old) (written line new))
 mark_wanting reply line old new (Ok x) is same = tt
 mark_wanting reply line old new (Err e) is same = inl (is, ap (written line) same)
 
--- the completer has refused
+-- the completer failed
 pub put_refused : {A : Type 0} (reply : Reply ⊤) (before after : Line) (old marked new : Items) (fault : HookFault) (result : Result A HookFault) → IsErrAnd result (λ e. e ≡ fault) → IsFaultOf reply fault
     → marked ≡ opened old → (after ≡ before) × (new ≡ marked) → IfErr result (LeavesWord reply (written before old) (written after new))
 put_refused reply before after old marked new fault (Ok x) is why mark left = tt
@@ -102,7 +102,7 @@ module _ {Out H Hi K T : Type 0} {renderer : renderers.Renderer.Ghosts Out} {com
       → value_of t ≡ record (value_of s) { line = w.line; held = w.held }
   touched s t w touches is = touches ∙ ap (λ (x : Written). record (value_of s) { line = x.line; held = x.held }) is
 
-  -- the completer has refused, behind the mark
+  -- the completer failed, after the mark
   refused_behind : {A : Type 0} (start : ℕ) (text : List ℕ) (s t : State Out H Hi K T renderer completer candidate hinter hint highlighter validator history) (h : H) (e : ReadlineError) → s.helper ≡ Some h
       → IsHelpFault (Some (completer.update_of h s.recorded.line start text)) e → written_in t.recorded ≡ group_opened (written_in s.recorded) → surface_of t ≡ surface_of s → Stays s t → Touches s t
       → Does {A = A} (word_updated start text) s t (Err e)
@@ -113,7 +113,7 @@ module _ {Out H Hi K T : Type 0} {renderer : renderers.Renderer.Ghosts Out} {com
       (stops_updating renderer.canvas (renderer.canvas.ruler s.out) (value_of s) reply (surface_of s) (surface_of t) e (value_of t) fault same
       (touched s t (group_opened (written_in s.recorded)) touches marked))
 
-  -- memory was wanting for the mark
+  -- memory ran out for the mark
   unmarked : {A : Type 0} (start : ℕ) (text : List ℕ) (s t : State Out H Hi K T renderer completer candidate hinter hint highlighter validator history) (h : H) → s.helper ≡ Some h
       → written_in t.recorded ≡ written_in s.recorded → surface_of t ≡ surface_of s → Stays s t → Touches s t → Does {A = A} (word_updated start text) s t (Err Memory)
   unmarked start text s t h is stood same stays touches =

@@ -83,11 +83,11 @@ module _ {Out H Hi K T : Type 0} {renderer : renderers.Renderer.Ghosts Out} {com
       ∙ ap (λ r. asked r m.layout (second (setting_of s) (first (setting_of s) (value_of s)).value).steps) h.stays.ruler
       ∙ ap (λ l. asked (renderer.canvas.ruler s.out) l (second (setting_of s) (first (setting_of s) (value_of s)).value).steps) h.layout
 
-  -- a refusal says nothing of what would have been answered
+  -- an error says nothing of the answer that would have been
   pub refused_as : {A B : Type 0} (edit : Transition) (s t : State Out H Hi K T renderer completer candidate hinter hint highlighter validator history) (e : ReadlineError) → Does {A = A} edit s t (Err e) → Does {A = B} edit s t (Err e)
   refused_as edit s t e h = record { value = tt; calls = tt; layout = tt; stays = h.stays; reason = h.reason; stops = h.stops }
 
-  -- refused for a reason that what was handed in gives, and where its steps stop
+  -- failed for a reason that the arguments give, and the place where its steps stop
   pub does_refused : {A : Type 0} (edit : Transition) (s t : State Out H Hi K T renderer completer candidate hinter hint highlighter validator history) (e : ReadlineError)
       → Stays s t → reason_of (renderer.canvas.failed t.out) (IsFailing (setting_of s).hooks) e
       → Stops renderer.canvas (renderer.canvas.ruler s.out) (edit (setting_of s) (value_of s)).steps (surface_of s) e (value_of t) (surface_of t) → Does {A = A} edit s t (Err e)
@@ -100,7 +100,7 @@ module _ {Out H Hi K T : Type 0} {renderer : renderers.Renderer.Ghosts Out} {com
     stops = stops;
   }
 
-  -- both were made, or the second was refused
+  -- both were made, or the second failed
   pub does_both : {A B : Type 0} (first second : Transition) (s m t : State Out H Hi K T renderer completer candidate hinter hint highlighter validator history) (x : A) (result : Result B ReadlineError)
       → Does first s m (Ok x) → Does second m t result → Does (then_do first second) s t result
   does_both first second s m t x result h k =
@@ -125,7 +125,7 @@ module _ {Out H Hi K T : Type 0} {renderer : renderers.Renderer.Ghosts Out} {com
             (subst (λ r. Stops renderer.canvas r (second (setting_of m) (value_of m)).steps (surface_of m) fault (value_of t) (surface_of t)) h.stays.ruler c)))) k.stops;
       }
 
-  -- the first one was refused
+  -- the first one failed
   pub does_cut : {A B : Type 0} (first second : Transition) (s t : State Out H Hi K T renderer completer candidate hinter hint highlighter validator history) (e : ReadlineError)
       → Does {A = A} first s t (Err e) → Does {A = B} (then_do first second) s t (Err e)
   does_cut first second s t e h =
@@ -140,7 +140,7 @@ module _ {Out H Hi K T : Type 0} {renderer : renderers.Renderer.Ghosts Out} {com
         stops = stops_before renderer.canvas (renderer.canvas.ruler s.out) x.steps y.steps (surface_of s) (surface_of t) e (value_of t) h.stops;
       }
 
-  -- the same as a question mark hands the refusal on
+  -- the same, as a question mark returns the error
   pub does_cut_by : {A B : Type 0} (first second : Transition) (s t : State Out H Hi K T renderer completer candidate hinter hint highlighter validator history) (e : ReadlineError) (result : Result B ReadlineError)
       → IsErrAnd result (λ x. x ≡ e) → Does {A = A} first s t (Err e) → Does (then_do first second) s t result
   does_cut_by {A} {B} first second s t e result is h =

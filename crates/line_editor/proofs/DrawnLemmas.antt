@@ -96,7 +96,7 @@ module _ {Out H Hi K T : Type 0} {renderer : renderers.Renderer.Ghosts Out} {com
         fault = tt;
       }
 
-  -- it was refused
+  -- it failed
   pub cursor_refused : {A : Type 0} (x : Setting → Value → Redraw) (p : Position) (s t : State Out H Hi K T renderer completer candidate hinter hint highlighter validator history)
       (e : ReadlineError) (result : Result A ReadlineError) → IsErrAnd result (λ y. y ≡ e) → e ≡ Display
       → moved s.layout p ≡ asked_by (renderer.canvas.ruler s.out) (setting_of s).marks s.layout (x (setting_of s) (value_of s)) → same_cell s.layout.cursor p ≡ false

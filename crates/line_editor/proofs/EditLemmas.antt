@@ -7,14 +7,12 @@ use Rattle.line_buffer.specs.Line.{Line}
 use Rattle.line_buffer.specs.Range.{range_of}
 use Rattle.line_buffer.specs.Transpositions.{transposes_words}
 use Rattle.line_buffer.specs.declared.types.Movement.{Movement}
-use Rattle.line_config.specs.Scripts.{Ends}
 use Rattle.line_config.specs.declared.errors.ReadlineError.{ReadlineError}
 use Rattle.line_config.specs.declared.errors.ReadlineError.TheVariants.{Memory}
 use Rattle.line_edits.specs.Edits.{transposing_words_in_group, typing, killing, putting_behind, popping_in_group, replacing, replacing_if_any, writing_over, overwriting, by}
-use Rattle.line_edits.specs.Steps.{WriteSteps, answer_of, answering, StopsIn, Edits as EditsRecorded}
+use Rattle.line_edits.specs.Steps.{WriteSteps, answering, doing_nothing, StopsIn, Edits as EditsRecorded}
 use Rattle.line_edits.specs.Written.{Written, written_in}
 use Rattle.line_edits.specs.declared.recorded_line.RecordedLine.{RecordedLine}
-use Rattle.line_edits.proofs.StepLemmas.{answered_is}
 use Rattle.line_record.specs.Items.{held_on}
 use Rattle.line_help.specs.declared.completion as completions
 use Rattle.line_help.specs.declared.hint as hints
@@ -36,18 +34,18 @@ use Rattle.line_editor.proofs.StopsLemmas.{stops_editing}
 
 -- ---- what edits answer
 
-answered_if : {A : Type 0} (b : Bool) (steps : WriteSteps A) → answer_of (if b then answering true steps else Ends false) ≡ b
-answered_if true steps = answered_is true steps
+answered_if : {A : Type 0} (b : Bool) (steps : WriteSteps A) → (if b then answering true steps else doing_nothing false).answer ≡ b
+answered_if true steps = refl
 answered_if false steps = refl
 
-written_over_if : (c : ℕ) (end : Option ℕ) (l : Line) → answer_of (writing_over c end l) ≡ is_some end
+written_over_if : (c : ℕ) (end : Option ℕ) (l : Line) → (writing_over c end l).answer ≡ is_some end
 written_over_if c None l = refl
 written_over_if c (Some end) l = refl
 
-pub replaces_if : (c n : ℕ) (l : Line) (answer : Bool) → answer ≡ answer_of (replacing_if_any c n l) → is_some (place_forward n l) ≡ answer
+pub replaces_if : (c n : ℕ) (l : Line) (answer : Bool) → answer ≡ (replacing_if_any c n l).answer → is_some (place_forward n l) ≡ answer
 replaces_if c n l answer is = sym (is ∙ answered_if (is_some (place_forward n l)) (replacing c n l))
 
-pub overwrites_if : (c : ℕ) (l : Line) (answer : Bool) → answer ≡ answer_of (overwriting c l) → is_some (place_forward 1 l) ≡ answer
+pub overwrites_if : (c : ℕ) (l : Line) (answer : Bool) → answer ≡ (overwriting c l).answer → is_some (place_forward 1 l) ≡ answer
 overwrites_if c l answer is = sym (is ∙ written_over_if c (place_forward 1 l) l)
 
 -- a text that isn't empty is put in
@@ -103,7 +101,7 @@ module _ {Out H Hi K T : Type 0} {renderer : renderers.Renderer.Ghosts Out} {com
       (ap (λ w. behind_edit second stands steps w (setting_of s)) (edit_is edit stands (value_of m) old new answer same wrote rest) ∙ is)
       (does_both first second s m t answer result (edit_made first stands steps s m answer refl surface stays) done)
 
-  -- memory was wanting for it
+  -- memory ran out for it
   pub edit_refused : {A B E : Type 0} (whole second : Transition) (edit : Line → WriteSteps A) (stands : Value) (s t : State Out H Hi K T renderer completer candidate hinter hint highlighter validator history)
       (old : RecordedLine) (result : Result B ReadlineError) (fault : E) → IsErrAnd result (λ x. x ≡ Memory) → then_do (rewriting edit) second (setting_of s) stands ≡ whole (setting_of s) (value_of s)
       → written_in old ≡ written_of stands → EditsRecorded {A = A} (edit old.line) old t.recorded (Err fault) → SameBeside stands (value_of t)

@@ -71,7 +71,7 @@ module _ {Out H Hi K T : Type 0} {renderer : renderers.Renderer.Ghosts Out} {com
       (taken_is true (hint.says x) text (setting_of s) (value_of s) (ap (option_map hint.says) shown) is (is_put true text 1 v old m.recorded put same wrote some))
       same wrote rest surface stays done
 
-  -- memory was wanting for it
+  -- memory ran out for it
   pub hint_refused : {A E : Type 0} (x : T) (text : List ℕ) (s t : State Out H Hi K T renderer completer candidate hinter hint highlighter validator history) (old : RecordedLine)
       (result : Result A ReadlineError) (fault : E) → IsErrAnd result (λ e. e ≡ Memory) → s.hint ≡ Some x → (hint.says x).completion ≡ Some text → written_in old ≡ written_of (at_row_end (value_of s))
       → EditsRecorded {A = Option Bool} (yanking text 1 old.line) old t.recorded (Err fault) → is_some (yanked_in text 1 old.line).answer ≡ true

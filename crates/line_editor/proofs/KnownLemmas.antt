@@ -19,7 +19,7 @@ use Rattle.line_buffer.specs.Replay.{insertion as told_insertion}
 use Rattle.line_buffer.specs.Printable.{is_plain_byte, is_plain}
 use Rattle.line_editor.specs.Known.{IsKnown, known_within}
 
--- a beginning of a text is one of another
+-- a prefix of a text is one of a longer text
 pub record Begins (k : ℕ) (before after : List ℕ) : Type 0 where
   pub low : k ≤ length after
   pub same : take k after ≡ take k before

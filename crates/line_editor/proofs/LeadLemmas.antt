@@ -79,7 +79,7 @@ either s v false e f h k = k refl
 pub edit_leads : (edit : WriteSteps ⊤) (s : Setting) (v w : Value) (e : Effect) → Leads s v e → Leads s v (record { value = e.value; steps = Edits w edit ∷ e.steps })
 edit_leads edit s v w e h info = record { fits = (tt, (h info).fits); leads = (h info).leads }
 
--- changes taken back
+-- changes undone
 pub back_leads : (s : Setting) (v w : Value) (e : Effect) → Leads s v e → Leads s v (record { value = e.value; steps = TakesBack w ∷ e.steps })
 back_leads s v w e h info = record { fits = (tt, (h info).fits); leads = (h info).leads }
 

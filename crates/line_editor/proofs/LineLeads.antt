@@ -1,5 +1,5 @@
 -- What a line wants to be seen leads from turn to turn.
-use Rattle.std.proofs.Common.{◌≡◌, ℕ, zero, suc, Bool, true, false, List, [], ◌∷◌, ◌++◌, append_assoc, append-nil, Option, None, Result, Ok, Err, refl, sym, ap, ◌∙◌, subst, true≢false, if◌then◌else◌}
+use Rattle.std.proofs.Common.{◌≡◌, ℕ, zero, suc, Bool, true, false, List, [], ◌∷◌, ◌++◌, append-nil, Option, None, Result, Ok, Err, refl, sym, ap, ◌∙◌, subst, true≢false, if◌then◌else◌}
 use Rattle.line_config.specs.declared.errors.ReadlineError.{ReadlineError}
 use Rattle.line_keys.specs.Answers.{Custom}
 use Rattle.line_config.specs.Scripts.{Ends, Asks, then}
@@ -16,18 +16,17 @@ use Rattle.line_keys.proofs.Settling.{phrase_settles, then_settles}
 use Rattle.line_editor.specs.Accepting.{submitted}
 use Rattle.line_editor.specs.Asks.{shown_in, ask_effect}
 use Rattle.line_editor.specs.Commands.{Means, effect, outcome}
-use Rattle.line_editor.specs.Courses.{TurnsLead, EndsLine}
 use Rattle.line_editor.specs.Drawing.{drawn_behind, asked_anew}
-use Rattle.line_editor.specs.Leads.{Leads, CommandLeads, EachTurnLeads, LinesLead}
+use Rattle.line_editor.specs.Leads.{Leads, CommandLeads, EachTurnLeads, LeadsAlong, LinesLead}
 use Rattle.line_editor.specs.NextCommand.{begins_group, with_group_begun, line_phrase}
-use Rattle.line_editor.specs.LineScripts.{line_begun, LineAsk, LineScript, Keys, Obeys, Makes, LineState, kept, keyed, obeying, turn_script, turned_on, turns_script, line_script, means_at, effect_at, answer_at, left_at, line_plan, steps_along, played_from, turns_along}
-use Rattle.line_editor.specs.Sights.{Sight, no_sight, sight_with, sight_of, ended_sight, sight_all, FitsAll, Turns, info_after}
+use Rattle.line_editor.specs.LineScripts.{line_begun, LineAsk, LineScript, Keys, Obeys, Makes, LineState, kept, keyed, obeying, turn_script, turned_on, turns_script, line_script, means_at, effect_at, answer_at, left_at, line_plan, steps_along, played_from}
+use Rattle.line_editor.specs.Sights.{Sight, no_sight, sight_with, sight_of, sight, sight_all, FitsAll, info_after}
 use Rattle.line_editor.specs.Values.{Value, Setting, EditStep, Effect, first_value, taking_memory, hint_reply, helped, shown_hint}
 use Rattle.line_editor.specs.declared.commands.Status.{Status}
 use Rattle.line_editor.specs.declared.commands.Status.TheVariants.{Proceed, Submit}
 use Rattle.line_editor.proofs.CommandsLead.{asks_lead, commands_lead, submitting_leads}
 use Rattle.line_editor.proofs.ToldLemmas.{PlayedOf, played_each, joined_on, follows, played_then}
-use Rattle.line_editor.proofs.LeadLemmas.{fits_both, sight_both, info_both, turns_both, help_info}
+use Rattle.line_editor.proofs.LeadLemmas.{fits_both, sight_both, info_both, help_info}
 
 -- ---- a phrase
 
@@ -171,35 +170,56 @@ turn_leads n s custom indent k info =
 
 -- ---- a line
 
-module _ (s : Setting) (indent : ℕ) where
-  abbrev Along : LineState → List EditStep → Option (List ℕ) → Result (List ℕ) ReadlineError → List LineAsk → PlayedOf s indent Status → Type 0
-  Along k steps info o more p = turns_along s indent o k steps info (p.asks ++ more) ≡ turns_along s indent o p.rest (steps ++ steps_along s indent k p.asks) info more
+fits_first : (own : List ℕ) (x : Sight) (xs ys : List EditStep) → FitsAll own x (xs ++ ys) → FitsAll own x xs
+fits_first own x [] ys h = tt
+fits_first own x (r ∷ xs) ys h = (h.0, fits_first own (sight x r) xs ys h.1)
 
-  -- what is asked for a turn belongs to it
-  phrase_along : (script : Steps Cmd) (k : LineState) (steps : List EditStep) (info : Option (List ℕ)) (o : Result (List ℕ) ReadlineError) (more : List LineAsk)
-      → Along k steps info o more (played_from s indent (spoken s indent script) k)
-  phrase_along (Ends cmd) k steps info o more =
+fits_later : (own : List ℕ) (x : Sight) (xs ys : List EditStep) → FitsAll own x (xs ++ ys) → FitsAll own (sight_all x xs) ys
+fits_later own x [] ys h = h
+fits_later own x (r ∷ xs) ys h = fits_later own (sight x r) xs ys h.1
+
+module _ (s : Setting) (indent : ℕ) where
+  -- what is asked for a turn leads as its steps do, and what is asked after it
+  abbrev Along : LineState → Sight → Result (List ℕ) ReadlineError → List LineAsk → PlayedOf s indent Status → Type 0
+  Along k x o more p =
+      let steps = steps_along s indent k p.asks in
+      FitsAll s.prompt x steps → LeadsAlong s indent o p.rest (sight_all x steps) more → LeadsAlong s indent o k x (p.asks ++ more)
+
+  -- steps that nothing follows
+  alone : (k : LineState) (x : Sight) (o : Result (List ℕ) ReadlineError) (more : List LineAsk) (rs : List EditStep) → FitsAll s.prompt x (rs ++ []) → LeadsAlong s indent o k (sight_all x (rs ++ [])) more
+      → FitsAll s.prompt x rs × LeadsAlong s indent o k (sight_all x rs) more
+  alone k x o more rs fits leads = (subst (FitsAll s.prompt x) (append-nil rs) fits, subst (λ zs. LeadsAlong s indent o k (sight_all x zs) more) (append-nil rs) leads)
+
+  phrase_along : (script : Steps Cmd) (k : LineState) (x : Sight) (o : Result (List ℕ) ReadlineError) (more : List LineAsk) → Along k x o more (played_from s indent (spoken s indent script) k)
+  phrase_along (Ends cmd) k x o more =
       let left = left_at s indent k (Obeys cmd) in
-      let alone = ap (λ zs. turns_along s indent o left (steps ++ zs) info more) (sym (append-nil (effect_at s indent k (Obeys cmd)).steps)) in
-      played_each (Along k steps info o more) (on_command s indent k cmd) (Obeys cmd) left (λ status. alone) (λ e. alone) (answer_at s indent k (Obeys cmd))
-  phrase_along (Asks ask later) k steps info o more =
+      let steps = (effect_at s indent k (Obeys cmd)).steps in
+      played_each (Along k x o more) (on_command s indent k cmd) (Obeys cmd) left
+      (λ status fits leads. let h = alone left x o more steps fits leads in (h.0, tt, h.1)) (λ e fits leads. let h = alone left x o more steps fits leads in (h.0, tt, h.1)) (answer_at s indent k (Obeys cmd))
+  phrase_along (Asks ask later) k x o more =
       let left = left_at s indent k (Keys ask) in
       let made = (effect_at s indent k (Keys ask)).steps in
-      let next : Answer ask → PlayedOf s indent Status = λ x. played_from s indent (spoken s indent (later x)) left in
-      played_each (Along k steps info o more) next (Keys ask) left
-      (λ x. phrase_along (later x) left (steps ++ made) info o more
-      ∙ ap (λ zs. turns_along s indent o (next x).rest zs info more) (append_assoc steps made (steps_along s indent left (next x).asks)))
-      (λ e. ap (λ zs. turns_along s indent o left (steps ++ zs) info more) (sym (append-nil made))) (answer_at s indent k (Keys ask))
+      let next : Answer ask → PlayedOf s indent Status = λ y. played_from s indent (spoken s indent (later y)) left in
+      played_each (Along k x o more) next (Keys ask) left
+      (λ y fits leads.
+      let rest = steps_along s indent left (next y).asks in (
+        fits_first s.prompt x made rest fits,
+        tt,
+        phrase_along (later y) left (sight_all x made) o more (fits_later s.prompt x made rest fits) (subst (λ z. LeadsAlong s indent o (next y).rest z more) (sight_both x made rest) leads),
+      ))
+      (λ e fits leads. let h = alone left x o more made fits leads in (h.0, tt, h.1)) (answer_at s indent k (Keys ask))
 
-  -- its turns lead on, where these steps of the first have been made
-  abbrev LedFrom : LineState → List EditStep → Option (List ℕ) → Sight → PlayedOf s indent (List ℕ) → Type 0
-  LedFrom k steps info x p = let turns = turns_along s indent p.answer k steps info p.asks in TurnsLead s.prompt x turns × EndsLine p.answer turns
+  abbrev LedFrom : LineState → Sight → PlayedOf s indent (List ℕ) → Type 0
+  LedFrom k x p = LeadsAlong s indent p.answer k x p.asks
 
-  abbrev LeadsHere : LineState → List EditStep → Option (List ℕ) → Sight → Type 0
-  LeadsHere k steps info x = Turns s.prompt x steps (sight_of s k.value (info_after steps info))
+  -- the value is seen, with what information stands
+  abbrev SeenAs : LineState → Sight → Type 0
+  SeenAs k x = x ≡ sight_of s k.value x.info
 
-  module _ (n : ℕ) (custom : Custom) (so : (k : LineState) (steps : List EditStep) (info : Option (List ℕ)) (x : Sight) → LeadsHere k steps info x → LedFrom k steps info x (played_from s indent (turns_script n custom) k))
-      (k : LineState) (info : Option (List ℕ)) (script : Steps Cmd) where
+  seen_as : (k : LineState) (x : Sight) (info : Option (List ℕ)) → x ≡ sight_of s k.value info → SeenAs k x
+  seen_as k x info is = is ∙ ap (sight_of s k.value) (sym (ap (λ (y : Sight). y.info) is))
+
+  module _ (n : ℕ) (custom : Custom) (so : (k : LineState) (x : Sight) → SeenAs k x → LedFrom k x (played_from s indent (turns_script n custom) k)) (k : LineState) (info : Option (List ℕ)) (script : Steps Cmd) where
     abbrev said : PlayedOf s indent Status
     said = played_from s indent (spoken s indent script) k
 
@@ -211,33 +231,32 @@ module _ (s : Setting) (indent : ℕ) where
 
     -- what follows on a turn, by its outcome
     after_leads : PlayLeads s indent info seen k said → (q : Result Status ReadlineError) → said.answer ≡ q
-        → LedFrom k [] info seen (joined_on (follows (line_plan s indent) (turned_on (turns_script n custom))) said.asks said.rest q)
+        → LedFrom k seen (joined_on (follows (line_plan s indent) (turned_on (turns_script n custom))) said.asks said.rest q)
     after_leads h (Ok Proceed) is =
         let later = played_from s indent (turns_script n custom) said.rest in
-        let led = so said.rest said_steps info seen (record { fits = h.fits; leads = h.leads Proceed is }) in
-        subst (λ turns. TurnsLead s.prompt seen turns × EndsLine later.answer turns) (sym (phrase_along script k [] info later.answer later.asks)) led
+        let y = sight_all seen said_steps in
+        phrase_along script k seen later.answer later.asks h.fits (so said.rest y (seen_as said.rest y (info_after said_steps info) (h.leads Proceed is)))
     after_leads h (Ok Submit) is =
         let w = said.rest.value in
         let close = submitted s w in
         let stands = info_after said_steps info in
-        let answer : Result (List ℕ) ReadlineError = Ok close.value.line.text in
-        let both = turns_both s.prompt seen (sight_of s w stands) (ended_sight (sight_of s close.value (info_after close.steps stands))) said_steps close.steps (record { fits = h.fits; leads = h.leads Submit is }) (submitting_leads s w stands) in
-        let turns = subst (λ i. Turns s.prompt seen (said_steps ++ close.steps) (ended_sight (sight_of s close.value i))) (sym (info_both said_steps close.steps info)) both in
-        subst (λ turns. TurnsLead s.prompt seen turns × EndsLine answer turns) (sym (phrase_along script k [] info answer (Makes submitted ∷ []))) ((turns, refl, tt), (refl, refl))
+        let t = submitting_leads s w stands in
+        let there = h.leads Submit is in
+        let P : Sight → Type 0 = λ y. LeadsAlong s indent (Ok close.value.line.text) said.rest y (Makes submitted ∷ []) in
+        phrase_along script k seen (Ok close.value.line.text) (Makes submitted ∷ []) h.fits (subst P (sym there) (t.fits, tt, ap (λ (y : Sight). y.ended) t.leads))
     after_leads h (Err e) is =
         let answer : Result (List ℕ) ReadlineError = Err e in
-        subst (λ asks. let turns = turns_along s indent answer k [] info asks in TurnsLead s.prompt seen turns × EndsLine answer turns) (append-nil said.asks)
-        (subst (λ turns. TurnsLead s.prompt seen turns × EndsLine answer turns) (sym (phrase_along script k [] info answer [])) (h.fits, (refl, refl)))
+        subst (λ asks. LeadsAlong s indent answer k seen asks) (append-nil said.asks) (phrase_along script k seen answer [] h.fits tt)
 
-  line_leads : (n : ℕ) (custom : Custom) (k : LineState) (steps : List EditStep) (info : Option (List ℕ)) (x : Sight) → LeadsHere k steps info x → LedFrom k steps info x (played_from s indent (turns_script n custom) k)
+  line_leads : (n : ℕ) (custom : Custom) (k : LineState) (x : Sight) → SeenAs k x → LedFrom k x (played_from s indent (turns_script n custom) k)
   unfolding turns_script turn_script
-  line_leads zero custom k steps info x h = (fits_both s.prompt x steps [] h.fits tt, (refl, refl))
-  line_leads (suc n) custom k steps info x h =
-      let stands = info_after steps info in
+  line_leads zero custom k x h = (tt, tt, tt)
+  line_leads (suc n) custom k x h =
       let script = turn_phrase s indent (suc n) custom k in
-      let led = after_leads n custom (line_leads n custom) k stands script (said_leads s indent (suc n) custom k stands) _ refl in
-      let rest = subst (LedFrom k [] stands (sight_of s k.value stands)) (sym (played_then (line_plan s indent) (turned_on (turns_script n custom)) (spoken s indent script) k)) led in
-      ((h, refl, rest.0), rest.1)
+      let led = after_leads n custom (line_leads n custom) k x.info script (said_leads s indent (suc n) custom k x.info) _ refl in
+      let rest = subst (LedFrom k (sight_of s k.value x.info)) (sym (played_then (line_plan s indent) (turned_on (turns_script n custom)) (spoken s indent script) k)) led in
+      let p = played_from s indent ((then) (spoken s indent script) (turned_on (turns_script n custom))) k in
+      (tt, h, subst (λ y. LedFrom k y p) (sym h) rest)
 
 pub lines_lead : LinesLead
 unfolding line_script
@@ -245,4 +264,5 @@ lines_lead n s custom indent input r c =
     let e = line_begun s (first_value s) in
     let first = asks_lead Line s (first_value s) no_sight in
     let seen = first.leads ∙ ap (sight_of s e.value) (sym (hint_stands s (first_value s) true s.prompt None)) in
-    line_leads s indent n custom (kept e.value input r c) e.steps None no_sight (record { fits = (tt, first.fits); leads = seen })
+    let k = kept e.value input r c in
+    ((tt, first.fits), tt, line_leads s indent n custom k (sight_all no_sight e.steps) (seen_as s indent k _ _ seen))

@@ -31,7 +31,7 @@ module _ {R : Type 0} (canvas : Canvas R) (r : Ruler) (s : Setting) (indent : �
   abbrev w : World LineAsk LineAnswer (LineStage R) ReadlineError
   w = line_world canvas r s indent
 
-  -- answered or refused as its own answer says, before what its answer leads to
+  -- answered or failed as its own answer says, before what its answer leads to
   pub answered_goes : {X : Type 0} (ask : LineAsk) (later : LineAnswer ask → LineScript X) (x : LineStage R) (y : LineStage R) (z : LineStage R) (a : LineAnswer ask) (result : Result X ReadlineError)
       → Answered canvas r s indent x ask (Ok a) y → Goes w (later a) y result z → Goes w (Asks ask later) x result z
   answered_goes ask later x y z a result made goes = inl (a, y, made, goes)

@@ -69,7 +69,7 @@ module _ {Out H Hi K T : Type 0} {renderer : renderers.Renderer.Ghosts Out} {com
       edit_then (entry_shown index entry pos) refreshed (updating_in_group entry pos) (at_place index (value_of s)) s m t s.recorded m.recorded answer result refl refl wrote
       (rest ∙ ap (λ at. record (value_of s) { line = m.recorded.line; held = held_on m.recorded.changes m.recorded.line.text; history = at }) place) same stays h
 
-  -- memory was wanting for it
+  -- memory ran out for it
   pub entry_refused : {A E : Type 0} (index : ℕ) (entry : List ℕ) (pos : ℕ) (s t : State Out H Hi K T renderer completer candidate hinter hint highlighter validator history) (result : Result A ReadlineError) (fault : E)
       → IsErrAnd result (λ x. x ≡ Memory) → t.ctx.place ≡ index → EditsRecorded {A = ⊤} (updating_in_group entry pos s.recorded.line) s.recorded t.recorded (Err fault)
       → value_of t ≡ record (value_of s) { line = t.recorded.line; held = held_on t.recorded.changes t.recorded.line.text; history = t.ctx.place }

@@ -1,4 +1,4 @@
--- A refused edit is a display's refusal.
+-- An edit that fails, as the display's error.
 use Rattle.std.specs.Prelude.{Bool}
 use Rattle.line_config.specs.declared.errors.ReadlineError.{ReadlineError}
 use Rattle.line_config.specs.declared.errors.ReadlineError.TheVariants.{Display, Helper, Memory}

@@ -19,8 +19,7 @@ use Rattle.line_buffer.specs.declared.types.At.TheVariants.{Start}
 use Rattle.line_buffer.specs.declared.types.Word.TheVariants.{Big}
 use Rattle.line_buffer.specs.declared.types.WordAction.{WordAction}
 use Rattle.line_buffer.specs.declared.types.WordAction.TheVariants.{Capitalize, Lowercase, Uppercase}
-use Rattle.line_config.specs.Scripts.{Ends}
-use Rattle.line_edits.specs.Steps.{made, answering}
+use Rattle.line_edits.specs.Steps.{made, answering, doing_nothing}
 use Rattle.line_edits.specs.Edits.{clusters_after, replacing, replacing_if_any, by, yanking, deleting, overwriting, transposing_chars_in_group, transposing_words_in_group, editing_word_in_group}
 use Rattle.line_edits.specs.Written.{Written, group_opened, group_closed}
 use Rattle.line_help.specs.Hints.{Hinted}
@@ -207,7 +206,7 @@ exchange_grows c n v =
     let taken : Written = by (deleting n) (group_opened (written_of v)) in
     insert_grows c (clusters_after n v.line) taken.line ∙ deletion_grows (range_of (ForwardChar n) v.line) v.line
 
-any_grows : (b : Bool) (c n : ℕ) (v : Value) → (made (if b then answering true (replacing c n v.line) else Ends false) (written_of v)).line.growth ≡ v.line.growth
+any_grows : (b : Bool) (c n : ℕ) (v : Value) → (made (if b then answering true (replacing c n v.line) else doing_nothing false) (written_of v)).line.growth ≡ v.line.growth
 any_grows true c n v = exchange_grows c n v
 any_grows false c n v = refl
 

@@ -1,4 +1,4 @@
--- Motions by rows, or through the history where there is no such row.
+-- Motions by rows, or through the history if there is no such row.
 use Rattle.std.proofs.Common.{◌≡◌, ℕ, Bool, true, false, List, [], refl, sym, ap, subst, if◌then◌else◌}
 use Rattle.std.specs.Prelude.{Option, is_some, Result, Err, IsErrAnd}
 use Rattle.line_buffer.specs.Columns.{line_up, line_down}
@@ -26,7 +26,7 @@ either b edit other s v = if b then edit s v else other s v
 
 module _ {Out H Hi K T : Type 0} {renderer : renderers.Renderer.Ghosts Out} {completer : completions.Completer.Ghosts H K} {candidate : completions.Candidate.Ghosts K}
     {hinter : hints.Hinter.Ghosts H T} {hint : hints.Hint.Ghosts T} {highlighter : highlights.Highlighter.Ghosts H} {validator : verdicts.Validator.Ghosts H} {history : histories.History.Ghosts Hi} where
-  -- a motion that isn't made has no step that is refused
+  -- a motion that isn't made has no step that fails
   either_cut : {A B : Type 0} (b : Bool) (edit other : Transition) (s t : State Out H Hi K T renderer completer candidate hinter hint highlighter validator history) (e : ReadlineError)
       → (b ≡ false → (edit (setting_of s) (value_of s)).steps ≡ []) → Does {A = A} edit s t (Err e) → Does {A = B} (either b edit other) s t (Err e)
   either_cut true edit other s t e none h = record { value = tt; calls = tt; layout = tt; stays = h.stays; reason = h.reason; stops = h.stops }

@@ -1,7 +1,7 @@
 -- Whole lines, computed from their keys: the calls asked of a display whose characters have one column each, and the outcome.
 use Rattle.std.proofs.Common.{◌≡◌, ℕ, ◌+◌, Bool, true, false, List, [], ◌∷◌, ◌++◌, length, Some, None, refl}
 use Rattle.std.specs.Fmt.{digits}
-use Rattle.std.specs.Prelude.{codes, Ok, Err, if◌then◌else◌}
+use Rattle.std.specs.Prelude.{codes, Result, Ok, Err, if◌then◌else◌}
 use Rattle.unicode_segmentation.proofs.Computing.{unicode_segmentation}
 use Rattle.line_buffer.specs.Columns.{line_up, line_down}
 use Rattle.line_buffer.specs.Rows.{behind_newlines}
@@ -30,8 +30,9 @@ use Rattle.line_keys.specs.declared.key.KeyEvent.{KeyEvent}
 use Rattle.line_record.specs.Ring.{Ring}
 use Rattle.line_editor.specs.Calls.{Call, Ruler}
 use Rattle.line_editor.specs.Calls.Call.{Draw, Move, Write, Beep}
-use Rattle.line_editor.specs.Courses.{Turn, steps_in, LineReport}
-use Rattle.line_editor.specs.LineScripts.{kept, reported_from, turn_script, turns_script, line_script}
+use Rattle.line_config.specs.Played.{Played}
+use Rattle.line_config.specs.declared.errors.ReadlineError.{ReadlineError}
+use Rattle.line_editor.specs.LineScripts.{LineAsk, LineState, kept, played_from, steps_along, turn_script, turns_script, line_script}
 use Rattle.line_editor.specs.Redraws.{fresh}
 use Rattle.line_editor.specs.Steps.{asked}
 use Rattle.line_editor.specs.Values.{Setting, EditStep, first_value}
@@ -62,13 +63,6 @@ emacs = record { mode = Emacs; input_mode = Inserting; last = Noop; search = Non
 abbrev nothing_bound : Custom
 nothing_bound = record { answers = λ e. None; begins = λ keys. false }
 
-abbrev all_steps : List Turn → List EditStep
-all_steps [] = []
-all_steps (turn ∷ turns) = steps_in turn ++ all_steps turns
-
-abbrev calls : LineReport → List Call
-calls t = (asked plain (fresh Unicode) (all_steps t.turns)).calls
-
 -- the input ends after these keys
 abbrev pressed : List KeyEvent → Coming
 pressed [] = Ends End
@@ -98,17 +92,24 @@ draw line old = Draw own line (length line) None (Some old) (own_laid (2 + lengt
 
 -- whatever the ring holds
 module _ (r : Ring) where
-  abbrev line : List (List ℕ) → Custom → List KeyEvent → LineReport
+  -- its calls, and its outcome
+  record LineRow : Type 0 where
+    calls : List Call
+    outcome : Result (List ℕ) ReadlineError
+
+  abbrev line : List (List ℕ) → Custom → List KeyEvent → LineRow
   line entries custom ks =
       let s = with_entries entries in
-      reported_from s 2 (line_script 12 custom) (kept (first_value s) emacs r (pressed ks))
+      let k = kept (first_value s) emacs r (pressed ks) in
+      let p = played_from s 2 (line_script 12 custom) k in
+      record { calls = (asked plain (fresh Unicode) (steps_along s 2 k p.asks)).calls; outcome = p.answer }
 
   -- ---- a typed, left, enter
 
-  abbrev a_left_enter : LineReport
+  abbrev a_left_enter : LineRow
   a_left_enter = line [] nothing_bound (typed 0x61 ∷ key_with Left none ∷ key_with Enter none ∷ [])
 
-  a_left_enter_calls : calls a_left_enter ≡ draw [] (fresh Unicode) ∷ Write (codes "a") ∷ Move (at 3) (at 2) ∷ Move (at 2) (at 3) ∷ []
+  a_left_enter_calls : a_left_enter.calls ≡ draw [] (fresh Unicode) ∷ Write (codes "a") ∷ Move (at 3) (at 2) ∷ Move (at 2) (at 3) ∷ []
   unfolding unicode_segmentation line_script turns_script turn_script answered following needing with_read from_key asking becoming deciding and_then counting followed emacs_action common_action
   a_left_enter_calls = refl
 
@@ -118,10 +119,10 @@ module _ (r : Ring) where
 
   -- ---- a count of two before x: its prompt, the session's own again, and both characters in one drawing
 
-  abbrev two_x : LineReport
+  abbrev two_x : LineRow
   two_x = line [] nothing_bound (key_with (Char 0x32) alt ∷ typed 0x78 ∷ [])
 
-  two_x_calls : calls two_x ≡ draw [] (fresh Unicode) ∷ Draw (codes "(arg: 2) ") [] 0 None (Some (own_laid 2)) (laid false 9 9 9) None ∷ draw [] (laid false 9 9 9) ∷ draw (codes "xx") (own_laid 2) ∷ []
+  two_x_calls : two_x.calls ≡ draw [] (fresh Unicode) ∷ Draw (codes "(arg: 2) ") [] 0 None (Some (own_laid 2)) (laid false 9 9 9) None ∷ draw [] (laid false 9 9 9) ∷ draw (codes "xx") (own_laid 2) ∷ []
   unfolding unicode_segmentation line_script turns_script turn_script answered following needing with_read from_key asking becoming deciding and_then counting followed emacs_action common_action digits
   two_x_calls = refl
 
@@ -131,10 +132,10 @@ module _ (r : Ring) where
 
   -- ---- a lone word transposed from its start: the cursor goes after it, by a whole drawing
 
-  abbrev lone_word : LineReport
+  abbrev lone_word : LineRow
   lone_word = line [] nothing_bound (typed 0x77 ∷ key_with (Char 0x41) ctrl ∷ key_with (Char 0x74) alt ∷ [])
 
-  lone_word_calls : calls lone_word ≡ draw [] (fresh Unicode) ∷ Write (codes "w") ∷ Move (at 3) (at 2) ∷ draw (codes "w") (laid true 2 2 3) ∷ []
+  lone_word_calls : lone_word.calls ≡ draw [] (fresh Unicode) ∷ Write (codes "w") ∷ Move (at 3) (at 2) ∷ draw (codes "w") (laid true 2 2 3) ∷ []
   unfolding unicode_segmentation line_script turns_script turn_script answered following needing with_read from_key asking becoming deciding and_then counting followed emacs_action common_action after_words before_words starts_of ends_of
   lone_word_calls = refl
 
@@ -146,7 +147,7 @@ module _ (r : Ring) where
     begins = λ ks. begins_with ks (single (key_with (Char 0x4F) ctrl));
   }
 
-  search_calls : calls (line [] ctrl_o (key_with (Char 0x4F) ctrl ∷ [])) ≡ draw [] (fresh Unicode) ∷ Beep ∷ []
+  search_calls : (line [] ctrl_o (key_with (Char 0x4F) ctrl ∷ [])).calls ≡ draw [] (fresh Unicode) ∷ Beep ∷ []
   unfolding unicode_segmentation line_script turns_script turn_script answered following needing with_read from_key asking becoming deciding and_then counting followed emacs_action common_action
   search_calls = refl
 
@@ -161,11 +162,11 @@ module _ (r : Ring) where
   abbrev down : KeyEvent
   down = key_with Down none
 
-  abbrev up_and_down : LineReport
+  abbrev up_and_down : LineRow
   up_and_down = line entries nothing_bound (typed 0x63 ∷ typed 0x75 ∷ typed 0x72 ∷ up ∷ up ∷ up ∷ down ∷ down ∷ key_with Enter none ∷ [])
 
   -- the third step up draws nothing
-  up_and_down_calls : calls up_and_down
+  up_and_down_calls : up_and_down.calls
       ≡ draw [] (fresh Unicode) ∷ Write (codes "c") ∷ Write (codes "u") ∷ Write (codes "r")
       ∷ draw (codes "line1") (own_laid 5) ∷ draw (codes "line0") (own_laid 7) ∷ draw (codes "line1") (own_laid 7) ∷ draw (codes "cur") (own_laid 7) ∷ []
   unfolding unicode_segmentation line_script turns_script turn_script answered following needing with_read from_key asking becoming deciding and_then counting followed emacs_action common_action line_up line_down behind_newlines

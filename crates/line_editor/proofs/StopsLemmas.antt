@@ -13,7 +13,7 @@ use Rattle.line_editor.specs.Calls.Call.{Help}
 use Rattle.line_editor.specs.Completing.{updates}
 use Rattle.line_editor.specs.Redraws.{Redraw, Asked, asked_by, then_asked}
 use Rattle.line_editor.specs.States.{fails_by, IsHelpFault}
-use Rattle.line_editor.specs.Steps.{one, asked, Surface, surface, refusal, SameBeside, Unhelped, StepMade, Stops}
+use Rattle.line_editor.specs.Steps.{one, asked, Surface, surface, SameBeside, Unhelped, StepMade, Stops}
 use Rattle.line_editor.specs.Values.{Value, EditStep, written_of, rewritten, helped}
 use Rattle.line_editor.specs.Values.EditStep.{Draws, Edits, TakesBack, Takes}
 
@@ -28,7 +28,7 @@ refused_by : {R : Type 0} (canvas : Canvas R) (call : Call) (old new : R) → dr
 refused_by canvas (Help fails) old new is h = absurd (true≢false (sym is))
 refused_by canvas _ old new is h = h
 
--- the first one was refused
+-- the first one failed
 pub broken_refused : {R : Type 0} (canvas : Canvas R) (call : Call) (calls : List Call) (old new : R) → draws call ≡ true → canvas.refused old call new → BrokenOff canvas (call ∷ calls) old new
 unfolding BrokenOff
 broken_refused canvas call calls old new is h = inl (refused_by canvas call old new is h)
@@ -67,42 +67,42 @@ help_layout r l v (Some reply) = refl
 -- ---- where steps stop
 
 module _ {R : Type 0} (canvas : Canvas R) (r : Ruler) where
-  -- nowhere where there are none
+  -- nowhere if there are none
   pub never_stops : {Z : Type 0} (fault : ReadlineError) (v : Value) (old new : Surface R) → Stops canvas r [] old fault v new → Z
   unfolding Stops
-  never_stops fault v old new h = absurd (cc)
+  never_stops fault v old new h = absurd h
 
   -- at a drawing
   pub stops_drawing : (stands : Value) (marks : Option Marks) (x : Redraw) (more : List EditStep) (old new : Surface R) (fault : ReadlineError) (v : Value)
       → fault ≡ Display → BrokenOff canvas (asked_by r marks old.layout x).calls old.out new.out → new.layout ≡ old.layout → v ≡ stands
       → Stops canvas r (Draws stands marks x ∷ more) old fault v new
   unfolding Stops
-  stops_drawing stands marks x more old new fault v is broken layout value = inr (refusal fault v, (is, broken, layout, value), refl)
+  stops_drawing stands marks x more old new fault v is broken layout value = inr (is, broken, layout, value)
 
   -- another drawing asks the same
   pub stops_drawn_as : (stands : Value) (marks : Option Marks) (x y : Redraw) (old new : Surface R) (fault : ReadlineError) (v : Value)
       → asked_by r marks old.layout x ≡ asked_by r marks old.layout y → Stops canvas r (Draws stands marks x ∷ []) old fault v new → Stops canvas r (Draws stands marks y ∷ []) old fault v new
   unfolding Stops
-  stops_drawn_as stands marks x y old new fault v same (inl (none, between, made, h)) = absurd (cc)
-  stops_drawn_as stands marks x y old new fault v same (inr (e, (is, broken, layout, value), at)) =
-      inr (e, (is, subst (λ (a : Asked). BrokenOff canvas a.calls old.out new.out) same broken, layout, value), at)
+  stops_drawn_as stands marks x y old new fault v same (inl (between, made, h)) = absurd h
+  stops_drawn_as stands marks x y old new fault v same (inr (is, broken, layout, value)) =
+      inr (is, subst (λ (a : Asked). BrokenOff canvas a.calls old.out new.out) same broken, layout, value)
 
   -- at an edit of the line
   pub stops_editing : (stands : Value) (edit : WriteSteps ⊤) (more : List EditStep) (old new : Surface R) (fault : ReadlineError) (v : Value)
       → fault ≡ Memory → new ≡ old → SameBeside stands v → StopsIn edit (written_of stands) (written_of v) → Stops canvas r (Edits stands edit ∷ more) old fault v new
   unfolding Stops
-  stops_editing stands edit more old new fault v is same value left = inr (refusal fault v, (is, same, value, left), refl)
+  stops_editing stands edit more old new fault v is same value left = inr (is, same, value, left)
 
-  -- where changes are taken back
+  -- if changes are undone
   pub stops_taking_back : (stands : Value) (more : List EditStep) (old new : Surface R) (fault : ReadlineError) (v : Value)
       → fault ≡ Memory → new ≡ old → v ≡ record stands { line = v.line; held = [] } → Stops canvas r (TakesBack stands ∷ more) old fault v new
   unfolding Stops
-  stops_taking_back stands more old new fault v is same value = inr (refusal fault v, (is, same, value), refl)
+  stops_taking_back stands more old new fault v is same value = inr (is, same, value)
 
   pub stops_taking : (stands : Value) (more : List EditStep) (old new : Surface R) (fault : ReadlineError) (v : Value)
       → fault ≡ Memory → new ≡ old → v ≡ stands → Stops canvas r (Takes stands ∷ more) old fault v new
   unfolding Stops
-  stops_taking stands more old new fault v is same value = inr (refusal fault v, (is, same, value), refl)
+  stops_taking stands more old new fault v is same value = inr (is, same, value)
 
   unhelped_by : {A : Type 0} (reply : Reply A) (fault : ReadlineError) → IsHelpFault (Some reply) fault → Unhelped (fails reply) reply.takes fault
   unhelped_by reply Helper why = why
@@ -114,15 +114,15 @@ module _ {R : Type 0} (canvas : Canvas R) (r : Ruler) where
       → IsHelpFault reply fault → new ≡ old → v ≡ stands → Stops canvas r (helped stands reply) old fault v new
   unfolding Stops
   stops_asking stands None old new fault v why same value = absurd why
-  stops_asking stands (Some reply) old new fault v why same value = inr (refusal fault v, (unhelped_by reply fault why, same, value), refl)
+  stops_asking stands (Some reply) old new fault v why same value = inr (unhelped_by reply fault why, same, value)
 
   -- behind a step that was made
   pub stops_after : (step : EditStep) (more : List EditStep) (old between new : Surface R) (fault : ReadlineError) (v : Value)
       → StepMade canvas r old step between → Stops canvas r more between fault v new → Stops canvas r (step ∷ more) old fault v new
   unfolding Stops
-  stops_after step more old between new fault v made h = inl (tt, between, made, h)
+  stops_after step more old between new fault v made h = inl (between, made, h)
 
-  -- memory for a mark was wanting, before a hook was asked for an edit
+  -- memory ran out for a mark, before a hook was called for an edit
   pub stops_marking : (stands : Value) (reply : Option (Reply ⊤)) (old new : Surface R) (fault : ReadlineError) (v : Value)
       → is_some reply ≡ true → fault ≡ Memory → new ≡ old → v ≡ stands → Stops canvas r (updates reply stands) old fault v new
   stops_marking stands None old new fault v some is same value = absurd (true≢false (sym some))
@@ -142,17 +142,17 @@ module _ {R : Type 0} (canvas : Canvas R) (r : Ruler) where
   stops_edited stands edit more old new v (Ok x) h = tt
   stops_edited stands edit more old new v (Err fault) h = stops_after (Edits stands edit) more old old new fault v (refl, refl) h
 
-  -- behind changes that were taken back
+  -- after changes that were undone
   pub stops_taken_back : {A : Type 0} (stands : Value) (more : List EditStep) (old new : Surface R) (v : Value) (result : Result A ReadlineError)
       → IfErr result (λ fault. Stops canvas r more old fault v new) → IfErr result (λ fault. Stops canvas r (TakesBack stands ∷ more) old fault v new)
   stops_taken_back stands more old new v (Ok x) h = tt
   stops_taken_back stands more old new v (Err fault) h = stops_after (TakesBack stands) more old old new fault v (refl, refl) h
 
-  -- more are to come after them
+  -- more follow them
   pub stops_before : (xs ys : List EditStep) (old new : Surface R) (fault : ReadlineError) (v : Value) → Stops canvas r xs old fault v new → Stops canvas r (xs ++ ys) old fault v new
   unfolding Stops
-  stops_before [] ys old new fault v h = absurd (cc)
-  stops_before (x ∷ xs) ys old new fault v (inl (none, between, made, h)) = inl (none, between, made, stops_before xs ys between new fault v h)
+  stops_before [] ys old new fault v h = absurd h
+  stops_before (x ∷ xs) ys old new fault v (inl (between, made, h)) = inl (between, made, stops_before xs ys between new fault v h)
   stops_before (x ∷ xs) ys old new fault v (inr h) = inr h
 
   pub stops_first : (step : EditStep) (more : List EditStep) (old new : Surface R) (fault : ReadlineError) (v : Value)
@@ -168,7 +168,7 @@ module _ {R : Type 0} (canvas : Canvas R) (r : Ruler) where
       let between : Surface R = surface parts.0 (one r l x).layout in
       stops_after x (xs ++ ys) (surface old l) between new fault v (parts.1, refl) (stops_behind xs ys (one r l x).layout parts.0 out new fault v parts.2 h)
 
--- ---- what a refused body goes by
+-- ---- what a failed body goes by
 
 pub ruleset drawings_stop = (stops_drawing, broken_refused)
 

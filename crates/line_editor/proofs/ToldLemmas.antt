@@ -1,33 +1,25 @@
 -- What a line's script comes to: where no fault comes it is the line that is meant, and a fault stops a beginning of it.
 use Rattle.std.proofs.Common.{◌≡◌, ◌⊎◌, inl, inr, ℕ, Bool, true, List, [], ◌∷◌, ◌++◌, refl, sym, ap, subst, ◌∙◌, append_assoc, append-nil}
-use Rattle.std.specs.Prelude.{⊤, Option, None, Result, Ok, Err, flat_map}
+use Rattle.std.specs.Prelude.{⊤, Result, Ok, Err}
 use Rattle.std.specs.List.{FoldsTo}
 use Rattle.line_buffer.specs.declared.layout.Layout.{Layout}
 use Rattle.line_config.specs.Played.{Plan, Played, asked_first, played_on, played}
 use Rattle.line_config.specs.Scripts.{Script, Ends, Asks, Goes, then}
-use Rattle.line_config.specs.declared.config.Config.{Config}
 use Rattle.line_config.specs.declared.errors.ReadlineError.{ReadlineError}
 use Rattle.line_config.specs.declared.errors.ReadlineError.TheVariants.{Display, Helper, Memory}
-use Rattle.line_keys.specs.Answers.{Custom}
-use Rattle.line_keys.specs.Coming.{Coming, left}
+use Rattle.line_keys.specs.Coming.{left}
 use Rattle.line_keys.specs.Feeds.{InputItem, Paste, IsReadFault}
-use Rattle.line_keys.specs.Phrases.{Input, steps, Reads}
-use Rattle.line_record.specs.Ring.{Ring}
+use Rattle.line_keys.specs.Phrases.{steps, Reads}
 use Rattle.line_editor.specs.Calls.{Canvas, Ruler, MadeIn}
-use Rattle.line_editor.specs.Commands.{outcome}
-use Rattle.line_editor.specs.Courses.{last_turn, steps_in, LineReport}
-use Rattle.line_editor.specs.LineScripts.{LineAsk, LineAnswer, LineScript, Begins, Keys, line_script, LineState, kept, effect_at, answer_at, left_at, line_plan, steps_along, played_from, turns_along, reported_from, LineStage, line_stage, DrawnBy, Stopped, line_world}
-use Rattle.line_editor.specs.Redraws.{Asked, fresh}
-use Rattle.line_editor.specs.Running.{kept_first, line_calls, line_meant, line_played, stage_first}
-use Rattle.line_editor.specs.Sights.{Sight, sight_of, info_after}
+use Rattle.line_editor.specs.LineScripts.{LineAsk, LineAnswer, LineScript, Keys, LineState, kept, effect_at, answer_at, left_at, line_plan, steps_along, played_from, LineStage, DrawnBy, Stopped, line_world}
+use Rattle.line_editor.specs.Redraws.{Asked}
 use Rattle.line_editor.specs.States.{reason_of}
-use Rattle.line_editor.specs.Steps.{asked, Surface, surface, Refusal, Unhelped, StepCut, Stops}
+use Rattle.line_editor.specs.Steps.{asked, Surface, Unhelped, StepCut, Stops}
 use Rattle.line_editor.specs.Values.{Value, Setting, EditStep}
 use Rattle.line_editor.specs.Values.EditStep.{Draws, Helped, Edits, TakesBack, Takes}
-use Rattle.line_config.proofs.ScriptLaws.{fault_or}
 use Rattle.line_editor.proofs.StopsLemmas.{asked_both, folds_both}
 
--- by the answer to an ask, and by its refusal
+-- by the answer to a request, and by its error
 pub played_each : {A B C E X : Type 0} (P : Played A C E X → Type 0) (next : B → Played A C E X) (ask : A) (c : C) → ((x : B) → P (asked_first ask (next x)))
     → ((e : E) → P (record { answer = Err e; asks = ask ∷ []; rest = c })) → (r : Result B E) → P (played_on next ask c r)
 played_each P next ask c answers stops (Ok x) = answers x
@@ -84,32 +76,6 @@ module _ (a : Setting) (indent : ℕ) where
   rest_along {X} (Asks ask later) k =
       let left = left_at a indent k ask in
       played_each (λ (p : PlayedOf X). left_along k p.asks ≡ p.rest) (λ x. played_from a indent (later x) left) ask left (λ x. rest_along (later x) left) (λ e. refl) (answer_at a indent k ask)
-
-  last_steps : (outcome : Result (List ℕ) ReadlineError) (steps : List EditStep) (x : Sight) → steps_in (last_turn outcome steps x) ++ [] ≡ steps ++ []
-  last_steps (Ok text) steps x = refl
-  last_steps (Err e) steps x = refl
-
-  -- the turns have all of the steps
-  pub turns_steps : (outcome : Result (List ℕ) ReadlineError) (k : LineState) (steps : List EditStep) (info : Option (List ℕ)) (asks : List LineAsk)
-      → flat_map steps_in (turns_along a indent outcome k steps info asks) ≡ steps ++ steps_along a indent k asks
-  turns_steps outcome k steps info [] = last_steps outcome steps (sight_of a k.value (info_after steps info))
-  turns_steps outcome k steps info (Begins ∷ asks) = ap (λ zs. steps ++ zs) (turns_steps outcome k [] (info_after steps info) asks)
-  turns_steps outcome k steps info (ask ∷ asks) =
-      let made = (effect_at a indent k ask).steps in
-      turns_steps outcome (left_at a indent k ask) (steps ++ made) info asks ∙ append_assoc steps made (steps_along a indent (left_at a indent k ask) asks)
-
-  pub record Comes (k : LineState) (p : PlayedOf (List ℕ)) (told : LineReport) : Type 0 where
-    pub steps_are : steps_along a indent k p.asks ≡ flat_map steps_in told.turns
-    pub left_is : left_along k p.asks ≡ p.rest
-
-  pub script_comes : (script : LineScript (List ℕ)) (k : LineState) → Comes k (played_from a indent script k) (reported_from a indent script k)
-  script_comes script k =
-      let p = played_from a indent script k in
-      record { steps_are = sym (turns_steps p.answer k [] None p.asks); left_is = rest_along script k }
-
-pub line_comes : (n : ℕ) (s : Setting) (custom : Custom) (config : Config) (r : Ring) (c : Coming)
-    → Comes s config.indent_size (kept_first s config r c) (line_played n s custom config r c) (line_meant n s custom config r c)
-line_comes n s custom config r c = script_comes s config.indent_size (line_script n custom) (kept_first s config r c)
 
 -- ---- what goes is all of it, or a fault stopped a beginning of it
 
@@ -215,18 +181,18 @@ module _ {R : Type 0} (canvas : Canvas R) (r : Ruler) where
   caused_by : (e f : ReadlineError) → e ≡ f → reason_of true ⊤ f → reason_of true ⊤ e
   caused_by e f is why = subst (reason_of true ⊤) (sym is) why
 
-  step_cause : (step : EditStep) (e : Refusal) (x y : Surface R) → StepCut canvas r x step e y → reason_of true ⊤ e.fault
-  step_cause (Draws v marks redraw) e x y h = caused_by e.fault Display h.0 refl
-  step_cause (Helped v fails takes) e x y h = unhelped_cause fails takes e.fault h.0
-  step_cause (Edits v edit) e x y h = caused_by e.fault Memory h.0 tt
-  step_cause (TakesBack v) e x y h = caused_by e.fault Memory h.0 tt
-  step_cause (Takes v) e x y h = caused_by e.fault Memory h.0 tt
+  step_cause : (step : EditStep) (e : ReadlineError) (left : Value) (x y : Surface R) → StepCut canvas r x step e left y → reason_of true ⊤ e
+  step_cause (Draws v marks redraw) e left x y h = caused_by e Display h.0 refl
+  step_cause (Helped v fails takes) e left x y h = unhelped_cause fails takes e h.0
+  step_cause (Edits v edit) e left x y h = caused_by e Memory h.0 tt
+  step_cause (TakesBack v) e left x y h = caused_by e Memory h.0 tt
+  step_cause (Takes v) e left x y h = caused_by e Memory h.0 tt
 
   steps_cause : (steps : List EditStep) (e : ReadlineError) (v : Value) (x y : Surface R) → Stops canvas r steps x e v y → reason_of true ⊤ e
   unfolding Stops
-  steps_cause [] e v x y h = absurd (cc)
-  steps_cause (step ∷ steps) e v x y (inl (none, between, made, h)) = steps_cause steps e v between y h
-  steps_cause (step ∷ steps) e v x y (inr (f, h, is)) = caused_by e f.fault (ap (λ (q : Result ⊤ Refusal). (fault_or f q).fault) is) (step_cause step f x y h)
+  steps_cause [] e v x y h = absurd h
+  steps_cause (step ∷ steps) e v x y (inl (between, made, h)) = steps_cause steps e v between y h
+  steps_cause (step ∷ steps) e v x y (inr h) = step_cause step e v x y h
 
   unread_cause : (item : InputItem) (e : ReadlineError) → IsReadFault item e → reason_of true ⊤ e
   unread_cause Paste Memory h = tt
@@ -236,46 +202,3 @@ module _ {R : Type 0} (canvas : Canvas R) (r : Ruler) where
   stopped_cause a indent ask x y e (inl (stops, leaves)) = steps_cause (effect_at a indent x.kept ask).steps e y.kept.value x.drawn y.drawn stops
   stopped_cause a indent (Keys (Reads item)) x y e (inr (unread, same)) = unread_cause item e unread
   stopped_cause a indent _ x y e (inr (unread, same)) = absurd unread
-
-module _ {R : Type 0} (canvas : Canvas R) (r : Ruler) (s : Setting) (n : ℕ) (custom : Custom) (config : Config) (out new : R) (ring ring' : Ring) (c c' : Coming) (result : Result (List ℕ) ReadlineError) where
-  abbrev told : LineReport
-  told = line_meant n s custom config ring c
-
-  abbrev first : LineStage R
-  first = stage_first out r s config ring c
-
-  abbrev last : Value → Input → Layout → LineStage R
-  last value input layout = line_stage (surface new layout) (kept value input ring' c')
-
-  -- it was read and drawn whole, or a fault stopped it
-  pub record WholeLine : Type 0 where
-    pub outcome_is : result ≡ told.outcome
-    pub ring_is : ring' ≡ told.ring
-    pub rest_is : c' ≡ told.rest
-    pub calls : FoldsTo (MadeIn canvas) out (line_calls r told.turns) new
-
-  pub record CutLine : Type 0 where
-    pub value : Value
-    pub input : Input
-    pub layout : Layout
-    pub stopped : StoppedIn canvas r s config.indent_size (line_played n s custom config ring c) first (last value input layout) result
-    pub cause : reason_of true ⊤ stopped.fault
-
-  pub line_went : (value : Value) (input : Input) (layout : Layout) → Goes (line_world canvas r s config.indent_size) (line_script n custom) first result (last value input layout) → WholeLine ⊎ CutLine
-  line_went value input layout goes = by (went canvas r s config.indent_size (line_script n custom) first (last value input layout) result goes)
-    where
-      by : Went canvas r s config.indent_size (line_played n s custom config ring c) first (last value input layout) result → WholeLine ⊎ CutLine
-      by (inl h) =
-          inl (record {
-            outcome_is = sym h.answer_is;
-            ring_is = ap (λ (k : LineState). k.ring) (sym h.rest_is);
-            rest_is = ap (λ (k : LineState). k.coming) (sym h.rest_is);
-            calls = subst (λ (steps : List EditStep). FoldsTo (MadeIn canvas) out (asked r (fresh r.mode) steps).calls new) (line_comes n s custom config ring c).steps_are h.drawn.0;
-          })
-      by (inr h) = inr (record {
-        value = value;
-        input = input;
-        layout = layout;
-        stopped = h;
-        cause = stopped_cause canvas r s config.indent_size h.ask h.at (last value input layout) h.fault h.stopped;
-      })

@@ -23,8 +23,7 @@ use Rattle.line_buffer.specs.declared.types.WordAction.{WordAction}
 use Rattle.line_buffer.specs.declared.types.WordAction.TheVariants.{Capitalize, Lowercase, Uppercase}
 use Rattle.line_buffer.proofs.ReplayedLemmas.{replayed_all-one, replayed_insertion, replayed_replacement, yank_pop_replayed}
 use Rattle.line_buffer.proofs.SpanLemmas.{IsLater, place_forward-later, deletion_replays}
-use Rattle.line_config.specs.Scripts.{Ends}
-use Rattle.line_edits.specs.Steps.{WriteSteps, made, answering}
+use Rattle.line_edits.specs.Steps.{WriteSteps, made, answering, doing_nothing}
 use Rattle.line_edits.specs.Edits.{clusters_after, replacing, replacing_if_any, by, yanking, putting_behind, updating, popping, deleting, exchanging, writing_over, overwriting, transposing_chars, transposing_chars_in_group, transposing_words, transposing_words_in_group, editing_word, editing_word_in_group}
 use Rattle.line_edits.specs.Written.{Written, group_opened, group_closed}
 use Rattle.line_help.specs.Hints.{Hinted}
@@ -251,7 +250,7 @@ char_reached c n s v first ok r =
     let w = written_of v in
     let count = clusters_after n v.line in
     let some = is_some (place_forward n v.line) in
-    drawn_reached some s (rewritten (by (replacing_if_any c n)) v) first (made_reached first some (answering true (replacing c n v.line)) (Ends false) w
+    drawn_reached some s (rewritten (by (replacing_if_any c n)) v) first (made_reached first some (answering true (replacing c n v.line)) (doing_nothing false) w
     (group_reaches (by (exchanging c n count)) w first (λ k. typing_reaches c count (by (deleting n) (group_opened w)) first (deleting_reaches first (group_opened w) ok.utf8 ok.boundary k n)) r) r)
 
 over_reached : (c : ℕ) (s : Setting) (v : Value) (first : List ℕ) → Sound v → Reached first v → Reached first (overwrite_char c s v).value

@@ -1,4 +1,4 @@
--- All items of a record taken back give the text that it reaches.
+-- Undoing all items of a record gives the text that it reaches.
 use Rattle.std.proofs.Common.{◌≡◌, ℕ, zero, suc, ◌≤◌, max, Bool, true, false, List, [], ◌∷◌, length, drop, Ok, refl, sym, ap, subst, arith, ◌∙◌, if◌then◌else◌}
 use Rattle.std.specs.Prelude.{Result, IsErrAnd}
 use Rattle.line_buffer.specs.Line.{Line}
@@ -73,7 +73,7 @@ items_rest (suc n) (Group oldest newer ∷ items) l h = cc
 
 module _ {Out H Hi K T : Type 0} {renderer : renderers.Renderer.Ghosts Out} {completer : completions.Completer.Ghosts H K} {candidate : completions.Candidate.Ghosts K}
     {hinter : hints.Hinter.Ghosts H T} {hint : hints.Hint.Ghosts T} {highlighter : highlights.Highlighter.Ghosts H} {validator : verdicts.Validator.Ghosts H} {history : histories.History.Ghosts Hi} where
-  -- where memory was wanting nothing is drawn
+  -- if memory ran out nothing is drawn
   undo_stops : (n : ℕ) (s t : State Out H Hi K T renderer completer candidate hinter hint highlighter validator history) (b : Bool)
       → value_of t ≡ record (value_of s) { line = t.recorded.line; held = [] } → surface_of t ≡ surface_of s
       → Stops renderer.canvas (renderer.canvas.ruler s.out) (if b then then_do (taking_back n) refreshed (setting_of s) (value_of s) else unmarking n (setting_of s) (value_of s)).steps (surface_of s) Memory (value_of t) (surface_of t)
@@ -93,7 +93,7 @@ module _ {Out H Hi K T : Type 0} {renderer : renderers.Renderer.Ghosts Out} {com
     stops = undo_stops n s t (has_step (max n 1) (value_of s).held) (left ∙ ap (λ k. record (value_of s) { line = t.recorded.line; held = held_on k t.recorded.line.text }) forgotten) same;
   })
 
-  -- where marks alone are taken back nothing is drawn
+  -- if only marks are undone nothing is drawn
   pub unmade_does : {A : Type 0} (n : ℕ) (s t : State Out H Hi K T renderer completer candidate hinter hint highlighter validator history) (x : A)
       → has_step (max n 1) (held_on s.recorded.changes s.recorded.line.text) ≡ false
       → t.recorded.line ≡ line_back (max n 1) (held_on s.recorded.changes s.recorded.line.text) s.recorded.line

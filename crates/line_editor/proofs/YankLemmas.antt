@@ -100,7 +100,7 @@ module _ {Out H Hi K T : Type 0} {renderer : renderers.Renderer.Ghosts Out} {com
       (yank_is false vi text anchor n (setting_of s) (value_of s) (ap (λ y. y || steps_over anchor s.recorded.line) (is_put false text n v old t.recorded put same wrote found) ∙ rests))
       (record { value = yanked_is vi false text n v (value_of t) old t.recorded put same wrote found rest refl refl; calls = out; layout = layout; stays = stays; reason = tt; stops = tt })
 
-  -- memory was wanting for it
+  -- memory ran out for it
   pub yank_refused : {A E : Type 0} (vi : Bool) (text : List ℕ) (anchor : Anchor) (n : ℕ) (s t : State Out H Hi K T renderer completer candidate hinter hint highlighter validator history) (old : RecordedLine)
       (result : Result A ReadlineError) (fault : E) → IsErrAnd result (λ x. x ≡ Memory) → written_in old ≡ written_of (there anchor (value_of s))
       → EditsRecorded {A = Option Bool} (yanking text n old.line) old t.recorded (Err fault) → is_some (yanked_in text n old.line).answer ≡ true

@@ -1,4 +1,4 @@
--- Lines that are to be accepted.
+-- How lines are accepted.
 use Rattle.std.specs.Prelude.{ℕ, ◌&&◌, ◌||◌, not, Bool, true, if◌then◌else◌, List, Option, Some, None, is_some, chars}
 use Rattle.std.specs.Char.{is_whitespace}
 use Rattle.std.specs.List.{list_all}
@@ -17,7 +17,7 @@ use Rattle.line_editor.specs.Redraws.{Redraw}
 use Rattle.line_editor.specs.Redraws.Redraw.{Drawn, Bared}
 use Rattle.line_editor.specs.Values.{Value, Setting, Transition, unchanged, then_do, redrawn, open_group, close_groups, verdict_reply, helped, without_hint, with_mark}
 
--- ---- before a line is accepted: without hint, highlighted character and a count's prompt
+-- ---- before a line is accepted: no hint, no highlighted character, no count's prompt
 
 abbrev pub bare_redraw : Setting → Value → Value → Redraw
 bare_redraw s before v =
@@ -31,9 +31,9 @@ bared v s = with_mark ForcedRefresh s (without_hint v)
 abbrev pub bare : Transition
 bare s v = redrawn (bare_redraw s v (bared v s)) s (bared v s)
 
--- ---- what the helper finds
+-- ---- the helper's verdict
 
--- a line of which nothing was found isn't whole
+-- without a verdict the line is incomplete
 abbrev pub verdict_given : Option ValidationResult → ValidationResult
 verdict_given None = Incomplete
 verdict_given (Some found) = found
@@ -53,7 +53,7 @@ verdict_told Incomplete draws = unchanged
 verdict_told (Invalid text) draws = told_if draws text Other
 verdict_told (Valid text) draws = told_if draws text ForcedRefresh
 
--- told where the groups have been closed
+-- shown after the groups have been closed
 abbrev pub closed_and_told : ValidationResult → Transition
 closed_and_told found s v =
     then_do close_groups (verdict_told found (closes v.held || is_some v.hint)) s v
@@ -61,11 +61,11 @@ closed_and_told found s v =
 abbrev pub verdict_asked : Transition
 verdict_asked s v = record { value = v; steps = helped v (verdict_reply s v) }
 
--- a group is opened, and the helper asked
+-- a group is opened, and the helper is called
 abbrev pub opened_and_asked : Transition
 opened_and_asked = then_do open_group verdict_asked
 
--- groups are closed by the way
+-- the groups are closed as well
 abbrev pub validate_by : Option (Reply ValidationResult) → Transition
 validate_by None = unchanged
 validate_by (Some reply) =
@@ -82,7 +82,7 @@ newline = then_do bare (insert_char 10 1)
 abbrev pub accept : Transition
 accept = then_do bare validate
 
--- a valid line is accepted, but text after the cursor may forbid it
+-- a valid line is accepted, except that text after the cursor may forbid it
 abbrev pub accepts_found : Bool → ValidationResult → Line → Bool
 accepts_found middle found l =
     is_valid found && (middle || list_all is_whitespace (chars (text_after l)))
@@ -90,7 +90,7 @@ accepts_found middle found l =
 abbrev pub accepts : Bool → Setting → Value → Bool
 accepts middle s v = accepts_found middle (verdict s v) v.line
 
--- a line that isn't accepted gets a newline, unless it is told what is wrong with it
+-- a line that isn't accepted gets a newline, unless a message is shown
 abbrev pub newline_if : Bool → ValidationResult → Transition
 newline_if accepted found s v =
     if accepted then unchanged s v else if is_valid found || not (has_message found)
@@ -99,6 +99,6 @@ newline_if accepted found s v =
 abbrev pub accept_or_insert : Bool → Transition
 accept_or_insert middle s v = then_do accept (newline_if (accepts middle s v) (verdict s v)) s v
 
--- an accepted line: the cursor after the text, then the display's after the drawing
+-- an accepted line: the cursor at the text's end, then the display's cursor behind the drawing
 abbrev pub submitted : Transition
 submitted = then_do (move_buffer_end ForcedRefresh) moved_to_end

@@ -1,4 +1,4 @@
--- What the key tables see of the editor's value, and what their asks make of it.
+-- The editor's value as the key tables see it, and the effect of their calls on it.
 use Rattle.std.specs.Prelude.{ℕ, List, Option, None, Some, is_some}
 use Rattle.line_help.specs.Hints.{Hinted}
 use Rattle.line_keys.specs.Refreshing.{Shown, Ask}
@@ -20,7 +20,7 @@ shown_in v = record {
   last_insert = last_inserted v.held;
 }
 
--- what is made where a phrase asks for it
+-- the effect of a phrase's call
 abbrev pub ask_effect : Ask → Transition
 ask_effect Line = refreshed
 ask_effect (Prompted prompt) = refreshed_behind prompt

@@ -1,5 +1,5 @@
--- The calls of a renderer and of the helper, what is known of a renderer, and what a call makes of
--- it.
+-- The calls of a renderer and of the helper, what is known of a renderer, and the effect of a call
+-- on it.
 use Rattle.std.specs.Prelude.{◌≡◌, ◌⊎◌, ℕ, Bool, List, [], ◌∷◌, Option, Result, OnOk, OnErr, IfErr, IsTrue, IsFalse}
 use Rattle.line_buffer.specs.declared.layout.GraphemeClusterMode.{GraphemeClusterMode}
 use Rattle.line_buffer.specs.declared.layout.Layout.{Layout}
@@ -8,13 +8,14 @@ use Rattle.line_config.specs.declared.errors.ReadlineError.{ReadlineError}
 use Rattle.line_config.specs.declared.errors.ReadlineError.TheVariants.{Display}
 use Rattle.line_keys.specs.declared.command.CmdKind.{CmdKind}
 
--- which characters a highlighter marks, by line, place and reason of the drawing
+-- which characters a highlighter marks, depending on the line, the place and the reason of the
+-- drawing
 abbrev pub Marks : Type 0
 Marks = List ℕ → ℕ → CmdKind → Bool
 
 pub data Call : Type 0 where
-  -- prompt, line and information drawn whole, in the place of an older drawing; without one only
-  -- what is new is drawn. A highlighter, if one is handed in, is known by its marks
+  -- prompt, line and information drawn in full, in place of an older drawing, if there is one. A
+  -- highlighter, if there is one, is represented by its marks
   Draw : (prompt text : List ℕ) (place : ℕ) (info : Option (List ℕ)) (old : Option Layout)
       (new : Layout) (marks : Option Marks) → Call
   Move : (old new : Position) → Call
@@ -26,11 +27,11 @@ pub data Call : Type 0 where
   -- a move, and the row erased from there to its end
   MoveAndClearToEol : (old new : Position) → Call
   ToLeftmost : Call
-  -- the helper is asked, and gives an answer or fails; nothing is drawn
+  -- a call of the helper, which answers or fails; nothing is drawn
   Help : (fails : Bool) → Call
 
--- what a renderer measures by: where the drawing of a text from a place on ends, the columns of a
--- row, how many rows there are, whether it draws in colours, and how it counts a cluster's columns
+-- a renderer's measures: where the drawing of a text from a place on ends, the numbers of columns
+-- and of rows, whether it draws in colours, and how it counts a cluster's columns
 pub record Ruler : Type 0 where
   pub measure : List ℕ → Position → Position
   pub columns : ℕ
@@ -38,15 +39,15 @@ pub record Ruler : Type 0 where
   pub colours : Bool
   pub mode : GraphemeClusterMode
 
--- what is known of a renderer: the step of a call that it makes, and of one that it refuses,
--- whether its display has failed, and its ruler
+-- what is known of a renderer: the effect of a call that succeeds, and of one that fails; whether
+-- its display has failed; and its measures
 pub record Canvas (R : Type 0) : Type 1 where
   pub made : R → Call → R → Type 0
   pub refused : R → Call → R → Type 0
   pub failed : R → Bool
   pub ruler : R → Ruler
 
--- a call is made, or refused since the display has failed
+-- a call succeeds, or fails because the display has failed
 pub record Makes {R A : Type 0} (canvas : Canvas R) (call : Call) (old new : R)
     (result : Result A ReadlineError) : Type 0 where
   pub made : OnOk result (canvas.made old call new)
@@ -55,24 +56,24 @@ pub record Makes {R A : Type 0} (canvas : Canvas R) (call : Call) (old new : R)
   pub failed : OnErr result (IsTrue (canvas.failed new))
   pub ruler : canvas.ruler new ≡ canvas.ruler old
 
--- a call is made: by the renderer, or by a helper that gives an answer
+-- a call succeeds: of the renderer, or of a helper that gives an answer
 abbrev pub MadeIn : {R : Type 0} → Canvas R → R → Call → R → Type 0
 MadeIn canvas old (Help fails) new = IsFalse fails × (new ≡ old)
 MadeIn canvas old call new = canvas.made old call new
 
--- a call is refused by the display; the helper's is none of its
+-- the display fails at a call; it has no part in the helper's
 abbrev pub RefusedIn : {R : Type 0} → Canvas R → R → Call → R → Type 0
 RefusedIn canvas old (Help fails) new = ⊥
 RefusedIn canvas old call new = canvas.refused old call new
 
--- the display broke these calls off: those before it were made, and the next one was refused
+-- the display broke off these calls: those before it succeeded, and the next one failed
 unfoldable pub BrokenOff : {R : Type 0} → Canvas R → List Call → R → R → Type 0
 BrokenOff canvas [] old new = ⊥
 BrokenOff {R} canvas (call ∷ calls) old new =
     RefusedIn canvas old call new
     ⊎ ((between : R) × MadeIn canvas old call between × BrokenOff canvas calls between new)
 
--- a call that writes nothing, whether it is made or refused: the renderer is as it was
+-- a call that writes nothing, whether it succeeds or fails: the renderer is as it was
 pub record Idles {R A : Type 0} (canvas : Canvas R) (old new : R)
     (result : Result A ReadlineError) : Type 0 where
   pub stays : new ≡ old

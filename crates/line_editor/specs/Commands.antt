@@ -1,4 +1,4 @@
--- What each command makes of the editor's value and of the ring, and how it ends.
+-- The effect of each command on the editor's value and on the ring, and how it ends.
 use Rattle.std.specs.Prelude.{◌≡◌, ◌⊎◌, ℕ, ◌==◌, Bool, true, false, if◌then◌else◌, Result, Ok, Err, slice_get, length, is_some}
 use Rattle.line_buffer.specs.Columns.{line_up, line_down}
 use Rattle.line_buffer.specs.declared.types.Anchor.TheVariants.{Before}
@@ -28,11 +28,11 @@ use Rattle.line_editor.specs.Yanking.{yank_text, yank_lent, pop_lent}
 use Rattle.line_editor.specs.declared.commands.Status.{Status}
 use Rattle.line_editor.specs.declared.commands.Status.TheVariants.{Proceed, Submit}
 
--- what a command is done with, beside the state
+-- what a command uses beside the state
 pub record Means : Type 0 where
   pub mode : EditMode
   pub input_mode : InputMode
-  -- by how many spaces a row is moved in or out
+  -- by how many spaces a row is indented or dedented
   pub indent_size : ℕ
   pub ring : Ring
 
@@ -47,7 +47,7 @@ means_of input indent r = record {
 abbrev pub in_vi_command : Means → Bool
 in_vi_command m = is_vi_command m.mode m.input_mode
 
--- up or down by rows; in the first row, and in the last one, through the history
+-- up or down by rows; in the first row and in the last one, through the history
 abbrev pub line_up_or_previous : ℕ → Transition
 line_up_or_previous n s v =
     if is_some (line_up s.mode s.column n v.line) then move_line_up n s v else history_step true s v
@@ -104,21 +104,21 @@ ring_after_command (Yank n anchor) v r = yanked r
 ring_after_command YankPop v r = turned r
 ring_after_command cmd v r = r
 
--- the same where the ring finds no memory for a text
+-- the same if the ring finds no memory for a text
 abbrev pub ring_without_text : Cmd → Value → Ring → Ring
 ring_without_text (Kill movement) v r = unkilled movement r
 ring_without_text (Replace movement text) v r = unkilled movement r
 ring_without_text (ViYankTo movement) v r = r
 ring_without_text cmd v r = ring_after_command cmd v r
 
--- a command that is refused leaves the ring that it makes, or, where memory is wanting, the one
--- without its text
+-- a command that fails leaves the ring that it makes, or, if memory ran out, the one without its
+-- text
 abbrev pub LeavesRing : Cmd → Value → Ring → Ring → ReadlineError → Type 0
 LeavesRing cmd v old new e =
     (new ≡ ring_after_command cmd v old)
     ⊎ ((e ≡ Memory) × (new ≡ ring_without_text cmd v old))
 
--- an empty line ends the session; in Vi another one is accepted
+-- an empty line ends the session; in Vi mode any other line is accepted
 abbrev pub end_of_file : Bool → Value → Result Status ReadlineError
 end_of_file emacs v =
     if length v.line.text == 0 then Err Eof else if emacs then Ok Proceed else Ok Submit

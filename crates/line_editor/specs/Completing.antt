@@ -1,4 +1,4 @@
--- Completion: the word before the cursor exchanged for what its candidates begin with.
+-- Completion: the word before the cursor replaced by the common prefix of its candidates.
 use Rattle.std.specs.Prelude.{◌≡◌, ◌⊎◌, ⊤, ℕ, Bool, ◌-◌, ◌==◌, ◌&&◌, ◌||◌, not, nat_le, nat_lt, if◌then◌else◌, List, [], ◌∷◌, map, length, Option, Some, None}
 use Rattle.std.specs.Option.{option_map_or}
 use Rattle.line_buffer.specs.Insertions.{is_inside_char}
@@ -13,13 +13,14 @@ use Rattle.line_editor.specs.Drawing.{beeped, refreshed}
 use Rattle.line_editor.specs.Values.EditStep.{Takes}
 use Rattle.line_editor.specs.Values.{Value, EditStep, Transition, unchanged, then_do, rewritten, helped, completion_reply, update_reply}
 
--- ---- what is put in place of the word
+-- ---- the text that replaces the word
 
--- a start that is no boundary at or before the cursor begins no word
+-- a start that is no character boundary at or before the cursor begins no word
 abbrev pub begins_word : ℕ → Line → Bool
 begins_word start l = nat_le start l.place && not (is_inside_char l.text start)
 
--- what so many candidates all begin with, where it is longer than the word, or there is only one
+-- the common prefix of `count` candidates, if it is longer than the word or there is only one
+-- candidate
 abbrev pub elected_by : ℕ → ℕ → Option (List ℕ) → Option (List ℕ)
 elected_by len count None = None
 elected_by len count (Some text) =
@@ -36,7 +37,7 @@ elected found l =
 
 -- ---- the command
 
--- the text from a start to the cursor exchanged
+-- the text from a start to the cursor replaced
 abbrev pub word_put : ℕ → List ℕ → Written → Written
 word_put start text w =
     edited (replacement start w.line.place text w.line.text ∷ [])
@@ -45,13 +46,13 @@ word_put start text w =
 abbrev pub word_replaced : ℕ → List ℕ → Written → Written
 word_replaced start text = in_group (word_put start text)
 
--- a refused exchange: for want of memory for the mark all is as it was; or the mark is set, and the
--- completer has refused
+-- a failed replacement: if the mark found no memory, all is as it was; otherwise the mark is set,
+-- and the completer failed
 abbrev pub LeavesWord : Reply ⊤ → Written → Written → HookFault → Type 0
 LeavesWord reply old new fault =
     ((fault ≡ Memory) × (new ≡ old)) ⊎ (IsFaultOf reply fault × (new ≡ group_opened old))
 
--- a mark is set, for which memory is taken, and the helper is asked for the exchange
+-- a mark is set, which takes memory, and the helper is called for the replacement
 abbrev pub updates : Option (Reply ⊤) → Value → List EditStep
 updates None v = []
 updates (Some reply) v = Takes v ∷ helped (rewritten group_opened v) (Some reply)
@@ -66,7 +67,7 @@ word_updated start text s v = record {
 abbrev pub word_completed : ℕ → List ℕ → Transition
 word_completed start text = then_do (word_updated start text) refreshed
 
--- what adds nothing beeps
+-- a completion that adds nothing beeps
 abbrev pub completed_with : ℕ → Option (List ℕ) → Transition
 completed_with start None = beeped
 completed_with start (Some text) = word_completed start text
@@ -74,12 +75,12 @@ completed_with start (Some text) = word_completed start text
 abbrev pub completed : Completion → Transition
 completed found s v = completed_with found.start (elected found v.line) s v
 
--- the helper's candidates, none where it fails
+-- the helper's candidates; none if it fails
 abbrev pub candidates_given : Option (Reply Completion) → Completion
 candidates_given None = nothing_offered
 candidates_given (Some reply) = option_map_or (λ found. found) reply.answer nothing_offered
 
--- the helper is asked for them
+-- the helper is called for them
 abbrev pub candidates_asked : Transition
 candidates_asked s v = record { value = v; steps = helped v (completion_reply s v) }
 

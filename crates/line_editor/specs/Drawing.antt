@@ -1,4 +1,4 @@
--- What is drawn of a value.
+-- The drawings of a value.
 use Rattle.std.specs.Prelude.{ℕ, ◌||◌, Bool, true, false, if◌then◌else◌, List, Option, None}
 use Rattle.line_keys.specs.declared.command.CmdKind.{CmdKind}
 use Rattle.line_keys.specs.declared.command.CmdKind.TheVariants.{Other}
@@ -10,7 +10,7 @@ use Rattle.line_editor.specs.Values.{Value, Setting, Transition, unchanged, then
 abbrev pub drawn : Setting → Value → Redraw
 drawn s v = Drawn s.prompt true v.line.text v.line.place (shown_hint v)
 
--- drawn after a prompt, with the hint that is kept
+-- drawn after a prompt, with the current hint
 abbrev pub drawn_behind : List ℕ → Bool → Transition
 drawn_behind prompt given s v =
     redrawn (Drawn prompt given v.line.text v.line.place (shown_hint v)) s v
@@ -22,15 +22,15 @@ repainted s v = drawn_behind s.prompt true s v
 abbrev pub drawn_with : Option (List ℕ) → Transition
 drawn_with info s v = redrawn (Drawn s.prompt true v.line.text v.line.place info) s v
 
--- the display's cursor moved to the text's
+-- the display's cursor moved to the text's cursor
 abbrev pub cursor_shown : Transition
 cursor_shown s v = redrawn (Moved v.line.text v.line.place) s v
 
--- the helper asked for a hint; nothing is drawn
+-- the helper called for a hint; nothing is drawn
 abbrev pub hint_asked : Transition
 hint_asked s v = record { value = with_hint s v; steps = helped v (hint_reply s v) }
 
--- and of highlighted characters
+-- and for highlighted characters
 abbrev pub asked_anew : Transition
 asked_anew s v = record {
   value = with_mark Other s (with_hint s v);
@@ -40,7 +40,7 @@ asked_anew s v = record {
 abbrev pub refreshed : Transition
 refreshed = then_do asked_anew repainted
 
--- where something changed
+-- if something changed
 abbrev pub refreshed_if : Bool → Transition
 refreshed_if changes s v = if changes then refreshed s v else unchanged s v
 
@@ -52,7 +52,7 @@ refreshed_behind prompt = then_do asked_anew (drawn_behind prompt false)
 abbrev pub told : Option (List ℕ) → CmdKind → Transition
 told text kind s v = drawn_with text s (with_mark kind s (without_hint v))
 
--- the cursor moved; where a character is highlighted, or was, the line is drawn without hint and
+-- the cursor moved; if a character is highlighted, or was, the line is drawn without hint and
 -- message
 abbrev pub cursor_moved : CmdKind → Transition
 cursor_moved kind s v =

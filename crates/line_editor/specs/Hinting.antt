@@ -1,4 +1,4 @@
--- The hint taken into the line.
+-- Accepting a hint.
 use Rattle.std.specs.Prelude.{ℕ, if◌then◌else◌, List, Option, Some, None, is_some}
 use Rattle.line_buffer.specs.Insertions.{yank as yanked_in}
 use Rattle.line_buffer.specs.Rows.{row_end}

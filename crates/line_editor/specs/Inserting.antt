@@ -1,4 +1,4 @@
--- Characters and texts put in, and clusters exchanged for characters.
+-- Insertions of characters and texts, and clusters replaced by characters.
 use Rattle.std.specs.Prelude.{ℕ, ◌==◌, ◌&&◌, not, Bool, if◌then◌else◌, List, length, is_some}
 use Rattle.line_buffer.specs.Clusters.{place_forward}
 use Rattle.line_buffer.specs.Insertions.{insert as insertion}
@@ -8,18 +8,18 @@ use Rattle.line_editor.specs.Drawing.{drawn, asked_anew, refreshed, refreshed_if
 use Rattle.line_editor.specs.Redraws.Redraw.{Typed}
 use Rattle.line_editor.specs.Values.{Value, Transition, unchanged, then_do, redrawn, rewritten, rewriting}
 
--- neither hint nor highlighted character
+-- neither a hint nor a highlighted character
 abbrev pub is_bare : Value → Bool
 is_bare v = not (is_some v.hint) && not v.marked
 
--- whether a character's byte alone may show it: one printable character, typed at the end of a
+-- whether a character's byte alone may show it: a single printable character, typed at the end of a
 -- plain line that is bare
 abbrev pub may_be_typed : ℕ → ℕ → Value → Bool
 may_be_typed c n v =
     (n == 1) && (is_bare v && typed_at_plain_end c v.line.text v.line.place)
 
--- a drawing of a character that was put in: where its byte alone may show it, and the line is bare
--- then too, that byte
+-- the drawing of an inserted character: its byte, if that alone may show it and the line is still
+-- bare
 abbrev pub put_shown : ℕ → Bool → Transition
 put_shown c alone s v =
     redrawn (if alone && is_bare v
@@ -35,13 +35,13 @@ insert_char c n s v =
     then then_do (rewriting (typing c n)) (inserted_shown c (may_be_typed c n v)) s v
     else unchanged s (rewritten (by (typing c n)) v)
 
--- a text at the cursor, which stays before it
+-- a text inserted at the cursor, which stays before it
 abbrev pub insert_text : List ℕ → Transition
 insert_text text s v =
     if length text == 0 then unchanged s v
     else then_do (rewriting (putting_behind text)) refreshed s v
 
--- drawn where a cluster stands after the cursor
+-- drawn if there is a cluster after the cursor
 abbrev pub replace_char : ℕ → ℕ → Transition
 replace_char c n s v =
     then_do (rewriting (replacing_if_any c n)) (refreshed_if (is_some (place_forward n v.line))) s v

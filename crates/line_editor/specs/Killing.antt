@@ -1,4 +1,4 @@
--- What is killed, and what is copied into the ring.
+-- Kills, and copies into the ring.
 use Rattle.std.specs.Prelude.{ℕ, ◌-◌, ◌&&◌, if◌then◌else◌, Bool, List, length, drop, Option, Some, None, is_some, option_map}
 use Rattle.std.specs.List.{list_all}
 use Rattle.line_buffer.specs.Range.{range_of, copied_range, span_text, kill_events}
@@ -12,12 +12,13 @@ use Rattle.line_editor.specs.Inserting.{is_bare, insert_text}
 use Rattle.line_editor.specs.Redraws.Redraw.{Taken}
 use Rattle.line_editor.specs.Values.{Value, Transition, unchanged, taking_memory, then_do, redrawn, rewritten, rewriting}
 
--- whether an erased rest of the row may show a kill: printable characters, taken from a bare line
+-- whether erasing the rest of the row may show a kill: printable characters, deleted from a bare
+-- line
 abbrev pub may_be_taken : List ℕ → Value → Bool
 may_be_taken killed v = is_bare v && list_all is_printable killed
 
--- a drawing of what so many bytes were taken from: where an erased rest of the row may show that,
--- and the line is bare then too, at the end of a plain text, that erasure
+-- the drawing after a deletion of `count` bytes: an erasure, if that may show it and the line is
+-- still bare, with the cursor at the end of a plain text
 abbrev pub taken_shown : ℕ → Bool → Transition
 taken_shown count alone s v =
     redrawn (if alone && (is_bare v && at_plain_end v.line.text v.line.place)
@@ -27,7 +28,7 @@ taken_shown count alone s v =
 abbrev pub killed_shown : ℕ → Bool → Transition
 killed_shown count alone = then_do asked_anew (taken_shown count alone)
 
--- the same, of what was taken from a value
+-- the same for a deletion from a value
 abbrev pub show_taken : Value → Transition
 show_taken before s v =
     killed_shown (length before.line.text - length v.line.text)
@@ -43,7 +44,7 @@ abbrev pub insert_text_if : Option (List ℕ) → Transition
 insert_text_if None = unchanged
 insert_text_if (Some text) = insert_text text
 
--- killed, and a text put there
+-- killed, and a text inserted there
 abbrev pub replace : Movement → Option (List ℕ) → Transition
 replace movement text = then_do (kill_effect movement) (insert_text_if text)
 
@@ -56,7 +57,7 @@ abbrev pub copied_by : Option (List ℕ) → Ring → Ring
 copied_by None r = r
 copied_by (Some text) r = killed text Append r
 
--- what is copied takes memory; nothing is drawn
+-- a copy takes memory; nothing is drawn
 abbrev pub copy_effect : Movement → Transition
 copy_effect movement s v =
     if is_some (copied_range movement v.line) then taking_memory s v else unchanged s v

@@ -1,4 +1,4 @@
--- A place in a line where the drawing of all before it is known to end.
+-- A place in a line for which it is known where the drawing of the text before it ends.
 use Rattle.std.specs.Prelude.{◌≡◌, ℕ, ◌≤◌, nat_le, if◌then◌else◌, List, take, length, Option, None, Some}
 use Rattle.std.specs.Option.{ForSome}
 use Rattle.std.proofs.Props.{props}
@@ -6,8 +6,8 @@ use Rattle.line_buffer.specs.declared.layout.Layout.{Layout}
 use Rattle.line_buffer.specs.declared.layout.Position.{Position}
 use Rattle.line_editor.specs.Calls.{Ruler}
 
--- the place stands in the text, and the drawing of the text before it ends there, measured so from
--- a start
+-- the place is in the text, and the drawing of the text before it, measured from a start, ends
+-- there
 pub record IsKnown (measure : List ℕ → Position → Position) (start : Position) (text : List ℕ)
     (known : Option (ℕ × Position)) : Type 0 where
   pub inside : ForSome known (λ k. k.0 ≤ length text)
@@ -17,11 +17,11 @@ pub IsKnown-prop : {measure : List ℕ → Position → Position} {start : Posit
     {known : Option (ℕ × Position)} → IsProp (IsKnown measure start text known)
 IsKnown-prop = Prim.hlevel props
 
--- measured by a ruler, from where a drawing's prompt ends
+-- with a renderer's measures, from where a drawing's prompt ends
 abbrev pub IsKnownOn : Ruler → Layout → List ℕ → Option (ℕ × Position) → Type 0
 IsKnownOn r l = IsKnown r.measure l.prompt_size
 
--- what is known, if it stands no further than a place
+-- the known place, if it isn't past another one
 abbrev pub known_within : ℕ → Option (ℕ × Position) → Option (ℕ × Position)
 known_within place None = None
 known_within place (Some known) = if nat_le known.0 place then Some known else None

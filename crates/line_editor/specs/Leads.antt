@@ -1,5 +1,5 @@
--- What commands want to be seen leads from the sight of the value before to that of the one after.
-use Rattle.std.specs.Prelude.{◌≡◌, ℕ, false, List, [], ◌∷◌, Option, Result, Ok, IsUtf8, IsCharBoundary}
+-- The drawings of commands lead from the sight of the value before to that of the value after.
+use Rattle.std.specs.Prelude.{◌≡◌, ⊤, ℕ, true, false, List, [], ◌∷◌, Option, Result, Ok, Err, IsUtf8, IsCharBoundary}
 use Rattle.line_config.specs.declared.errors.ReadlineError.{ReadlineError}
 use Rattle.line_keys.specs.Refreshing.{Ask}
 use Rattle.line_keys.specs.Refreshing.Ask.{Line, Message, Prompted, DoingInsert, DoneInserting}
@@ -14,33 +14,33 @@ use Rattle.line_record.specs.Ring.{Ring}
 use Rattle.line_editor.specs.Accepting.{submitted}
 use Rattle.line_editor.specs.Asks.{ask_effect}
 use Rattle.line_editor.specs.Commands.{Means, effect}
-use Rattle.line_editor.specs.Courses.{TurnsLead, EndsLine}
-use Rattle.line_editor.specs.LineScripts.{LineState, kept, line_script, made_from, played_from, reported_from, turn_script}
-use Rattle.line_editor.specs.Sights.{Sight, no_sight, sight_with, sight_of, ended_sight, info_after, FitsAll, Turns}
+use Rattle.line_editor.specs.LineScripts.{Begins, LineAsk, LineState, effect_at, kept, left_at, line_script, made_from, played_from, turn_script}
+use Rattle.line_editor.specs.Sights.{Sight, no_sight, sight_with, sight_of, ended_sight, info_after, sight_all, FitsAll, Turns}
 use Rattle.line_editor.specs.Redraws.{Redraw}
 use Rattle.line_editor.specs.Values.{Value, Setting, EditStep, Effect, first_value, shown_hint}
 use Rattle.line_editor.specs.Values.EditStep.{Draws}
 use Rattle.line_editor.specs.declared.commands.Status.{Status}
 
--- its text is of whole characters, its place between two of them
+-- its text is UTF-8, its place a character boundary
 pub record Sound (v : Value) : Type 0 where
   pub utf8 : IsUtf8 v.line.text
   pub boundary : IsCharBoundary v.line.text v.line.place
 
--- a record that gives a first text when all is taken back, each mark on the text that it was set at
+-- a record that gives a first text when all of it is undone, each mark on the text at which it was
+-- set
 abbrev pub Reaches : List ℕ → List Held → List ℕ → Type 0
 Reaches first [] text = text ≡ first
 Reaches first (Opened earlier ∷ held) text = (text ≡ earlier) × Reaches first held earlier
 Reaches first (Stepped earlier place newest joinable ∷ held) text = Reaches first held earlier
 
--- whatever information stands
+-- with any information
 abbrev pub Leads : Setting → Value → Effect → Type 0
 Leads s v e =
     (info : Option (List ℕ))
     → Turns s.prompt (sight_of s v info) e.steps
     (sight_of s e.value (info_after e.steps info))
 
--- the display's cursor is at the drawing's end then
+-- then the display's cursor is at the drawing's end
 abbrev pub LeadsToEnd : Setting → Value → Effect → Type 0
 LeadsToEnd s v e =
     (info : Option (List ℕ))
@@ -72,7 +72,7 @@ redraws_of [] = []
 redraws_of (Draws v marks x ∷ more) = x ∷ redraws_of more
 redraws_of (step ∷ more) = redraws_of more
 
--- whatever was seen, also a count's prompt; a mark draws nothing
+-- whatever was shown, even a count's prompt; a mark draws nothing
 abbrev pub AskLeads : Ask → Sight → Setting → Effect → Type 0
 AskLeads Line x s e = LeadsFrom x s e (shown_hint e.value)
 AskLeads (Message text kind) x s e = LeadsFrom x s e text
@@ -84,8 +84,8 @@ abbrev pub AsksLead : Type 0
 AsksLead =
     (ask : Ask) (s : Setting) (v : Value) (x : Sight) → AskLeads ask x s (ask_effect ask s v)
 
--- a turn's steps may be asked for where its value is seen; one that doesn't end the session leads
--- to its value after it
+-- a turn's steps are allowed if its value is shown; a turn that doesn't end the session leads to
+-- its value after it
 pub record TurnLeads (s : Setting) (v : Value) (info : Option (List ℕ))
     (outcome : Result Status ReadlineError) (made : Effect) : Type 0 where
   pub fits : FitsAll s.prompt (sight_of s v info) made.steps
@@ -98,12 +98,30 @@ EachTurnLeads =
     → let turn = turn_script n custom in
     TurnLeads s k.value info (played_from s indent turn k).answer (made_from s indent turn k)
 
--- whatever comes, a line's turns lead from a display that shows nothing of it, each to what it says
--- is to be seen; the one that accepts the line leads to the drawing's end
+module _ (s : Setting) (indent : ℕ) where
+  -- at the begin of a turn its value is shown, with the current information
+  abbrev pub BeginShows : LineAsk → LineState → Sight → Type 0
+  BeginShows Begins k x = x ≡ sight_of s k.value x.info
+  BeginShows ask k x = ⊤
+
+  -- an accepted line leaves the cursor at the drawing's end
+  abbrev pub EndShows : Result (List ℕ) ReadlineError → Sight → Type 0
+  EndShows (Ok text) x = x.ended ≡ true
+  EndShows (Err e) x = ⊤
+
+  -- the steps of each request fit what those before it lead to
+  abbrev pub LeadsAlong : Result (List ℕ) ReadlineError → LineState → Sight → List LineAsk → Type 0
+  LeadsAlong o k x [] = EndShows o x
+  LeadsAlong o k x (ask ∷ asks) =
+      let steps = (effect_at s indent k ask).steps in let y = sight_all x steps in
+      FitsAll s.prompt x steps × BeginShows ask k y × LeadsAlong o (left_at s indent k ask) y asks
+
+-- whatever the input is, the requests of a line lead, one after the other, from a display without
+-- the line
 abbrev pub LinesLead : Type 0
 LinesLead =
     (n : ℕ) (s : Setting) (custom : Custom) (indent : ℕ) (input : Input) (r : Ring)
     (coming : Coming)
     → let k = kept (first_value s) input r coming in
-    let line = reported_from s indent (line_script n custom) k in
-    TurnsLead s.prompt no_sight line.turns × EndsLine line.outcome line.turns
+    let line = played_from s indent (line_script n custom) k in
+    LeadsAlong s indent line.answer k no_sight line.asks

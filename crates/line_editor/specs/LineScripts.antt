@@ -1,5 +1,5 @@
--- A line as a script: what is asked in order, by whatever comes, and where a fault stops it.
-use Rattle.std.specs.Prelude.{◌≡◌, ◌⊎◌, ℕ, zero, suc, List, [], ◌∷◌, ◌++◌, Option, None, Result, Ok, Err}
+-- A line as a script: its requests in order, depending on the input, and where a fault stops it.
+use Rattle.std.specs.Prelude.{◌≡◌, ◌⊎◌, ℕ, zero, suc, List, [], ◌∷◌, ◌++◌, Result, Ok, Err}
 use Rattle.std.specs.List.{FoldsTo}
 use Rattle.line_config.specs.Played.{Plan, Played, played}
 use Rattle.line_config.specs.Scripts.{Script, Ends, Asks, World, then}
@@ -16,16 +16,14 @@ use Rattle.line_editor.specs.Accepting.{submitted}
 use Rattle.line_editor.specs.Asks.{shown_in, ask_effect}
 use Rattle.line_editor.specs.Calls.{Canvas, Ruler, MadeIn}
 use Rattle.line_editor.specs.Commands.{Means, means_of, effect, ring_after_command, LeavesRing, outcome}
-use Rattle.line_editor.specs.Courses.{Turn, Open, last_turn, LineReport}
 use Rattle.line_editor.specs.Drawing.{refreshed}
 use Rattle.line_editor.specs.NextCommand.{line_phrase, reset_by}
-use Rattle.line_editor.specs.Sights.{sight_of, info_after}
 use Rattle.line_editor.specs.Steps.{asked, Surface, Stops}
 use Rattle.line_editor.specs.Values.{Value, Setting, EditStep, Effect, Transition, unchanged, taking_memory, then_do}
 use Rattle.line_editor.specs.declared.commands.Status.{Status}
 use Rattle.line_editor.specs.declared.commands.Status.TheVariants.{Proceed, Submit}
 
--- what a turn begins with
+-- the state in which a turn begins
 pub record Beginning : Type 0 where
   pub input : Input
   pub shown : Shown
@@ -33,11 +31,11 @@ pub record Beginning : Type 0 where
 pub data LineAsk : Type 0 where
   -- a turn begins; nothing is made
   Begins : LineAsk
-  -- what a phrase asks
+  -- a request of a phrase
   Keys : (ask : KeyAsk) → LineAsk
-  -- a command is done
+  -- a command is run
   Obeys : (cmd : Cmd) → LineAsk
-  -- an edit of no command is made: a line's first drawing, and its close
+  -- an edit that belongs to no command: a line's first drawing, or its close
   Makes : (edit : Transition) → LineAsk
 
 abbrev pub LineAnswer : LineAsk → Type 0
@@ -75,16 +73,16 @@ unfoldable pub turns_script : ℕ → Custom → LineScript (List ℕ)
 turns_script zero custom = Asks (Keys (Refuses Memory)) (λ none. absurd none)
 turns_script (suc n) custom = then (turn_script (suc n) custom) (turned_on (turns_script n custom))
 
--- drawn when memory has been taken for a line
+-- drawn once memory has been taken for a line
 abbrev pub line_begun : Transition
 line_begun = then_do taking_memory refreshed
 
 unfoldable pub line_script : ℕ → Custom → LineScript (List ℕ)
 line_script n custom = Asks (Makes line_begun) (λ v. turns_script n custom)
 
--- ---- what each ask means
+-- ---- the meaning of each request
 
--- what goes on from ask to ask
+-- what is passed on from request to request
 pub record LineState : Type 0 where
   pub value : Value
   pub input : Input
@@ -111,7 +109,7 @@ module _ (s : Setting) (indent : ℕ) where
   effect_at k (Makes edit) = edit s k.value
   effect_at k ask = unchanged s k.value
 
-  -- its answer, or why it is refused: by the input, or by a command that ends the line
+  -- its answer, or why it fails: because of the input, or because of a command that ends the line
   abbrev pub answer_at : LineState → (ask : LineAsk) → Result (LineAnswer ask) ReadlineError
   answer_at k Begins = Ok (beginning k)
   answer_at k (Keys Needs) = Ok tt
@@ -133,7 +131,7 @@ module _ (s : Setting) (indent : ℕ) where
   }
   left_at k ask = record k { value = (effect_at k ask).value }
 
-  -- the steps of some, in order
+  -- the steps of some requests, in order
   abbrev pub steps_along : LineState → List LineAsk → List EditStep
   steps_along k [] = []
   steps_along k (ask ∷ asks) = (effect_at k ask).steps ++ steps_along (left_at k ask) asks
@@ -141,40 +139,20 @@ module _ (s : Setting) (indent : ℕ) where
   abbrev pub line_plan : Plan LineAsk LineAnswer LineState ReadlineError
   line_plan = record { answer = answer_at; left = left_at }
 
-  -- ---- what a script comes to, where no fault comes
+  -- ---- the result of a script without faults
 
   abbrev pub played_from : {X : Type 0} → LineScript X → LineState
       → Played LineAsk LineState ReadlineError X
   played_from script k = played line_plan script k
 
-  -- what it makes of the value
+  -- its effect on the value
   abbrev pub made_from : {X : Type 0} → LineScript X → LineState → Effect
   made_from script k = let p = played_from script k in
       record { value = p.rest.value; steps = steps_along k p.asks }
 
-  -- the turns of what is asked, each up to where the next one begins: of the first these steps
-  -- have been made, and this information stood before them
-  abbrev pub turns_along : Result (List ℕ) ReadlineError → LineState → List EditStep
-      → Option (List ℕ) → List LineAsk → List Turn
-  turns_along outcome k steps info [] =
-      last_turn outcome steps (sight_of s k.value (info_after steps info)) ∷ []
-  turns_along outcome k steps info (Begins ∷ asks) = let stands = info_after steps info in
-      Open steps (sight_of s k.value stands) ∷ turns_along outcome k [] stands asks
-  turns_along outcome k steps info (ask ∷ asks) =
-      turns_along outcome (left_at k ask) (steps ++ (effect_at k ask).steps) info asks
+-- ---- where a fault stops it
 
-  -- and what a line's script comes to
-  abbrev pub reported_from : LineScript (List ℕ) → LineState → LineReport
-  reported_from script k = let p = played_from script k in record {
-    turns = turns_along p.answer k [] None p.asks;
-    outcome = p.answer;
-    ring = p.rest.ring;
-    rest = p.rest.coming;
-  }
-
--- ---- and where a fault stops it
-
--- what a fault leaves of what is kept: the value, and of a command's ring, are as far as it came
+-- what a fault leaves: the value, and the ring of a command, as far as they came
 abbrev pub FaultLeaves : LineAsk → LineState → ReadlineError → LineState → Type 0
 FaultLeaves (Obeys cmd) k e l =
     (l ≡ record k { value = l.value; ring = l.ring })
@@ -186,7 +164,7 @@ abbrev pub IsUnreadText : LineAsk → ReadlineError → Type 0
 IsUnreadText (Keys (Reads item)) e = IsReadFault item e
 IsUnreadText ask e = ⊥
 
--- a renderer with what is kept of its drawing, and what goes on
+-- a renderer with the stored layout, and the state that is passed on
 pub record LineStage (R : Type 0) : Type 0 where
   pub drawn : Surface R
   pub kept : LineState
@@ -209,7 +187,7 @@ module _ {R : Type 0} (canvas : Canvas R) (r : Ruler) (s : Setting) (indent : �
       (answer_at s indent x.kept ask ≡ result) × (y.kept ≡ left_at s indent x.kept ask)
       × DrawnBy canvas r (effect_at s indent x.kept ask).steps x.drawn y.drawn
 
-  -- a fault stopped the edit, or a read, after which every read is refused
+  -- a fault stopped the edit, or a read, after which every read fails
   abbrev pub Stopped : LineStage R → LineAsk → ReadlineError → LineStage R → Type 0
   Stopped x ask e y =
       (Stops canvas r (effect_at s indent x.kept ask).steps x.drawn e y.kept.value y.drawn

@@ -19,7 +19,7 @@ use Rattle.line_keys.specs.declared.command.CmdKind.TheVariants.{MoveCursor}
 use Rattle.line_editor.specs.Drawing.{cursor_moved}
 use Rattle.line_editor.specs.Values.{Transition, unchanged, then_do, at_line}
 
--- where it moves, the display's cursor follows
+-- if it moves, the display's cursor follows
 abbrev pub cursor_moved_if : CmdKind → Bool → Line → Transition
 cursor_moved_if kind moves line s v =
     if moves then cursor_moved kind s (at_line line v) else unchanged s v
@@ -67,7 +67,7 @@ move_buffer_end kind s v =
     cursor_moved_if kind (not (v.line.place == length v.line.text))
     (record v.line { place = length v.line.text }) s v
 
--- from the row's start on to the next word, where the text begins with whitespace
+-- to the row's start, and if the text begins with whitespace from there to the next word
 abbrev pub move_to_first_print : Transition
 move_to_first_print s v =
     if begins_with_space v.line.text then then_do move_home (move_to_next_word Start Big 1) s v

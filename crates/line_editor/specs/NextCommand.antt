@@ -1,4 +1,5 @@
--- The next command of a line: a phrase, before which a group may begin, and the ring before it.
+-- The next command of a line: a phrase, after which a group may begin, and the ring before the
+-- command.
 use Rattle.std.specs.Prelude.{Bool, true, false, if◌then◌else◌}
 use Rattle.line_keys.specs.declared.command.Cmd.{Cmd}
 use Rattle.line_keys.specs.declared.command.Cmd.TheVariants.{Replace}

@@ -1,5 +1,4 @@
--- What an effect wants to be seen, and the calls that this gives on a display, with the layout that
--- is kept.
+-- The drawings of an effect, and the calls that they need on a display, with the layout to store.
 use Rattle.std.specs.Prelude.{ℕ, ◌+◌, ◌-◌, ◌==◌, ◌&&◌, not, nat_lt, nat_le, Bool, true, false, if◌then◌else◌, List, [], ◌∷◌, ◌++◌, take, Option, Some, None, is_some, encode_utf8}
 use Rattle.line_buffer.specs.Cells.{same_cell, origin}
 use Rattle.line_buffer.specs.declared.layout.GraphemeClusterMode.{GraphemeClusterMode}
@@ -8,18 +7,18 @@ use Rattle.line_buffer.specs.declared.layout.Position.{Position}
 use Rattle.line_editor.specs.Calls.{Call, Marks, Ruler}
 use Rattle.line_editor.specs.Calls.Call.{Draw, Move, Write, Beep, ClearScreen, MoveAndClearToEol}
 
--- it knows of no columns
+-- a redraw doesn't depend on columns
 pub data Redraw : Type 0 where
-  -- drawn whole; `given`: the prompt is the session's own
+  -- drawn in full; `given`: the prompt is the session's own
   Drawn : (prompt : List ℕ) (given : Bool) (text : List ℕ) (place : ℕ) (info : Option (List ℕ))
       → Redraw
   -- the cursor moved to a place of the shown text
   Moved : (text : List ℕ) (place : ℕ) → Redraw
   -- a printable character typed at the end of a plain line, with no information before or after it
   Typed : (prompt : List ℕ) (c : ℕ) (text : List ℕ) (place : ℕ) → Redraw
-  -- so many printable characters taken from the end of a plain line, with no information after it
+  -- `count` printable characters deleted at the end of a plain line, with no information after it
   Taken : (prompt : List ℕ) (count : ℕ) (text : List ℕ) (place : ℕ) → Redraw
-  -- drawn anew, without hint and message, only where another prompt than the session's own stands
+  -- redrawn, without hint and message, only if another prompt than the session's own is shown
   Bared : (prompt : List ℕ) (text : List ℕ) (place : ℕ) → Redraw
   -- the cursor moved to the drawing's end
   ToEnd : Redraw
@@ -46,7 +45,7 @@ fresh mode = record {
   has_info = false;
 }
 
--- the end is measured on the whole line
+-- the end is measured for the whole line
 abbrev pub layout_of : Ruler → Position → Bool → List ℕ → ℕ → Option (List ℕ) → Layout
 layout_of r start given text place info = record {
   grapheme_cluster_mode = r.mode;
@@ -99,15 +98,15 @@ taken_short l count = record {
   layout = record l { cursor = column_back count l.end; end = column_back count l.end };
 }
 
--- a byte that is written at a cell doesn't fill the row
+-- a byte written at a cell doesn't fill the row
 abbrev pub fits_in_row : ℕ → Position → Bool
 fits_in_row columns at = nat_lt (at.col + 1) columns
 
--- whether a typed character's byte alone can be written, by the layout that is kept
+-- whether only a typed character's byte can be written, by the stored layout
 abbrev pub may_type : Ruler → Layout → Bool
 may_type r l = not l.has_info && fits_in_row r.columns l.cursor
 
--- and the rest of the row erased alone
+-- and whether only the rest of the row can be erased
 abbrev pub may_take : Layout → ℕ → Bool
 may_take l count = not l.has_info && ((l.cursor.row == l.end.row) && nat_le count l.end.col)
 

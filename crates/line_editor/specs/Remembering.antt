@@ -1,4 +1,4 @@
--- The history: entries in place of the line, and the line that was left for them.
+-- The history: entries in place of the line, and the line that was saved for them.
 use Rattle.std.specs.Prelude.{ℕ, ◌+◌, ◌-◌, ◌==◌, Bool, true, false, if◌then◌else◌, List, [], ◌∷◌, take, length, Option, Some, None}
 use Rattle.line_edits.specs.Edits.{updating, updating_in_group, by}
 use Rattle.line_help.specs.Search.{Hit, entry_at, searched}
@@ -8,14 +8,14 @@ use Rattle.line_editor.specs.Drawing.{refreshed, beeped}
 use Rattle.line_editor.specs.Values.{Value, Setting, Transition, unchanged, then_do, rewritten, rewriting}
 use Rattle.line_editor.specs.Values.EditStep.{Takes}
 
--- the line kept for coming back to it
+-- the line saved, to come back to it
 abbrev pub saved_now : Value → Value
 saved_now v = record v { saved = record { text = v.line.text; place = v.line.place } }
 
 abbrev pub saving : Transition
 saving s v = record { value = saved_now v; steps = Takes v ∷ [] }
 
--- put back
+-- the saved line restored
 abbrev pub restored : Value → Value
 restored v = rewritten (by (updating v.saved.text v.saved.place)) v
 
@@ -28,7 +28,7 @@ at_place place v = record v { history = place }
 abbrev pub recalled : List ℕ → ℕ → Value → Value
 recalled entry place v = rewritten (by (updating_in_group entry place)) v
 
--- where the history's end is left the line is saved
+-- the line is saved when it leaves the history's end
 abbrev pub saved_on_leaving : Setting → Value → Value
 saved_on_leaving s v = if v.history == length s.entries then saved_now v else v
 
@@ -51,7 +51,7 @@ recall index (Some hit) s v = entry_shown index hit.entry (length hit.entry) s v
 abbrev pub come_back : Transition
 come_back s v = then_do restoring refreshed s (at_place (length s.entries) v)
 
--- an entry before the present one
+-- an entry before the current one
 abbrev pub recalled_earlier : ℕ → Transition
 recalled_earlier index s v =
     then_do saving_on_leaving (recall index (entry_at index s.entries)) s v
@@ -85,7 +85,7 @@ abbrev pub hit_shown : Option Hit → Transition
 hit_shown None s v = beeped s v
 hit_shown (Some hit) s v = entry_shown hit.idx hit.entry hit.pos s v
 
--- the place moves also where nothing is found
+-- the place moves even if nothing is found
 abbrev pub search_from : SearchDirection → ℕ → Transition
 search_from dir place s v =
     hit_shown (searched true (take v.line.place v.line.text) place dir s.entries) s

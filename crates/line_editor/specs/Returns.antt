@@ -1,4 +1,4 @@
--- The history's end left, and come back to; and all that was done to a line, taken back.
+-- Leaving the history's end and coming back to it; and the undo of all changes of a line.
 use Rattle.std.specs.Prelude.{◌≡◌, ⊤, ◌<◌, ◌≤◌, Bool, true, false, List, [], ◌∷◌, length, ℕ}
 use Rattle.line_keys.specs.Refreshing.{Ask}
 use Rattle.line_keys.specs.declared.command.Cmd.{Cmd}
@@ -8,7 +8,7 @@ use Rattle.line_editor.specs.Commands.{Means, effect}
 use Rattle.line_editor.specs.Values.{Value, Setting}
 use Rattle.line_editor.specs.Leads.{Reaches, Sound}
 
--- what changes a line's value: a command, or what the key tables ask
+-- what changes a line's value: a command, or a call of the key tables
 pub data ValueStep : Type 0 where
   Done : (means : Means) (cmd : Cmd) → ValueStep
   Asked : (ask : Ask) → ValueStep
@@ -21,7 +21,7 @@ abbrev pub value_after_all : Setting → List ValueStep → Value → Value
 value_after_all s [] v = v
 value_after_all s (step ∷ steps) v = value_after_all s steps (value_after s step v)
 
--- the commands that leave the history's end with the line saved: by one entry, or to the first
+-- the commands that leave the history's end and save the line: by one entry, or to the first
 abbrev pub leaving_by : Bool → Cmd
 leaving_by true = PreviousHistory
 leaving_by false = BeginningOfHistory
@@ -36,15 +36,15 @@ abbrev pub searches : ValueStep → Bool
 searches (Done means cmd) = is_search cmd
 searches (Asked ask) = false
 
--- each step is begun away from the history's end
+-- each step begins away from the history's end
 abbrev pub StaysAway : Setting → List ValueStep → Value → Type 0
 StaysAway s [] v = ⊤
 StaysAway s (step ∷ steps) v =
     (v.history < length s.entries) × (searches step ≡ false)
     × StaysAway s steps (value_after s step v)
 
--- where a line that may grow leaves the end, and after steps of which none is a search the place is
--- there again, line and cursor are as they were
+-- if a line that may grow leaves the end, and comes back to it by steps without a search, then line
+-- and cursor are as they were
 abbrev pub ComesBack : Type 0
 ComesBack =
     (s : Setting) (m : Means) (one : Bool) (steps : List ValueStep) (v : Value)
@@ -55,20 +55,20 @@ ComesBack =
     back.history ≡ length s.entries
     → (back.line.text ≡ v.line.text) × (back.line.place ≡ v.line.place)
 
--- an undo by as many items as the record has, or more, gives the text that the record reaches
+-- an undo by as many items as the record has, or more, restores the text that the record reaches
 abbrev pub UndoReaches : Type 0
 UndoReaches =
     (s : Setting) (m : Means) (v : Value) (n : ℕ) (first : List ℕ)
     → Reaches first v.held v.line.text → length v.held ≤ n
     → (effect m (Undo n) s v).value.line.text ≡ first
 
--- each step is begun on a text of whole characters, the cursor between two of them
+-- each step begins on a UTF-8 text, with the cursor at a character boundary
 abbrev pub BegunSound : Setting → List ValueStep → Value → Type 0
 BegunSound s [] v = ⊤
 BegunSound s (step ∷ steps) v = Sound v × BegunSound s steps (value_after s step v)
 
--- whatever is done from where nothing is held, an undo by as many items as are held then, or more,
--- gives the text that stood there: of a new line none
+-- whatever changes a line after its record was empty: an undo by as many items as are held, or
+-- more, restores the text of that time. For a new line it is empty
 abbrev pub UndoesAll : Type 0
 UndoesAll =
     (s : Setting) (steps : List ValueStep) (v : Value) (m : Means) (n : ℕ)

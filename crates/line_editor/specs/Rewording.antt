@@ -1,5 +1,4 @@
--- Clusters and words exchanged, words in other letters, rows moved in and out, and changes taken
--- back.
+-- Transpositions of clusters and words, changes of case, indentation, and undo.
 use Rattle.std.specs.Prelude.{ℕ, ◌==◌, ◌||◌, not, max, Bool, drop, if◌then◌else◌, [], ◌∷◌, is_some}
 use Rattle.line_buffer.specs.LetterCase.{word_to_edit}
 use Rattle.line_buffer.specs.Transpositions.{transposes_chars, transposes_words}
@@ -15,7 +14,7 @@ abbrev pub transpose_chars_effect : Transition
 transpose_chars_effect s v =
     then_do (rewriting transposing_chars_in_group) (refreshed_if (transposes_chars v.line)) s v
 
--- also where only the cursor moved
+-- even if only the cursor moved
 abbrev pub transpose_words_effect : ℕ → Transition
 transpose_words_effect n s v =
     let w = rewritten (by (transposing_words_in_group n)) v in
@@ -31,7 +30,7 @@ abbrev pub indent_effect : Movement → ℕ → Bool → Transition
 indent_effect movement amount dedent =
     then_do (rewriting (indenting movement amount dedent)) refreshed
 
--- marks taken back, from which the line stays
+-- undone marks, which leave the line
 abbrev pub unmarked : ℕ → Value → Value
 unmarked n v = record v { held = drop (max n 1) v.held }
 
@@ -41,7 +40,7 @@ unmarking n s v = record { value = unmarked n v; steps = TakesBack v ∷ [] }
 abbrev pub taking_back : ℕ → Transition
 taking_back n s v = record { value = rewritten (undone n) v; steps = TakesBack v ∷ [] }
 
--- where no step is among what is taken back, nothing is drawn
+-- if no undone item is a step, nothing is drawn
 abbrev pub undo : ℕ → Transition
 undo n s v =
     if has_step (max n 1) v.held then then_do (taking_back n) refreshed s v

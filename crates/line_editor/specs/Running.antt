@@ -1,5 +1,5 @@
--- A whole line: what is handed in for it, what is given back, and what was read and drawn.
-use Rattle.std.specs.Prelude.{◌≡◌, ⊤, ℕ, ◌<◌, ◌≤◌, Bool, List, Option, None, option_map, Result, Ok, Err, string_bytes, flat_map, if◌then◌else◌, IsTrue, IfErr, OnOk}
+-- A whole line: what is passed in for it, what is returned, and what was read and drawn.
+use Rattle.std.specs.Prelude.{◌≡◌, ⊤, ℕ, ◌<◌, ◌≤◌, Bool, List, Option, None, option_map, Result, Ok, Err, string_bytes, if◌then◌else◌, IsTrue, IfErr, OnOk}
 use Rattle.line_buffer.specs.Cells.{origin}
 use Rattle.line_buffer.specs.Line.{Line}
 use Rattle.line_buffer.specs.declared.layout.Layout.{Layout}
@@ -18,21 +18,20 @@ use Rattle.line_keys.specs.InputStates.{new_input}
 use Rattle.line_keys.specs.Phrases.{Input}
 use Rattle.line_keys.specs.declared.command.CmdKind.{CmdKind}
 use Rattle.line_record.specs.Ring.{Ring}
-use Rattle.line_editor.specs.Calls.{Call, Canvas, Ruler}
-use Rattle.line_editor.specs.Courses.{Turn, steps_in, LineReport}
-use Rattle.line_editor.specs.LineScripts.{LineState, LineAsk, LineStage, kept, line_script, line_world, played_from, line_stage, reported_from}
+use Rattle.line_editor.specs.Calls.{Canvas, Ruler}
+use Rattle.line_editor.specs.LineScripts.{LineState, LineAsk, LineStage, kept, line_script, line_world, played_from, line_stage}
 use Rattle.line_editor.specs.Redraws.{fresh}
-use Rattle.line_editor.specs.Steps.{asked, surface}
+use Rattle.line_editor.specs.Steps.{surface}
 use Rattle.line_editor.specs.Turning.{cause_of}
 use Rattle.line_editor.specs.Values.{Value, Setting, Hooks, first_value, hooks_by, IsFailing}
 use Rattle.line_editor.specs.declared.running.Ran.{Ran}
 
--- what a helper's hooks give, if there is one
+-- the replies of a helper's hooks, if there is one
 pub record Helping : Type 0 where
   pub hooks : Option Hooks
   pub marks : Option (List ℕ → ℕ → CmdKind → Bool)
 
--- what is handed in for a line
+-- what is passed in for a line
 abbrev pub setting_by : Ruler → List ℕ → Helping → List (List ℕ) → Setting
 setting_by r prompt helping entries = record {
   prompt = prompt;
@@ -43,7 +42,7 @@ setting_by r prompt helping entries = record {
   entries = entries;
 }
 
--- what goes on as a line begins: nothing is drawn, and nothing typed
+-- the state as a line begins: nothing is drawn, and nothing typed
 abbrev pub kept_first : Setting → Config → Ring → Coming → LineState
 kept_first s config ring coming =
     kept (first_value s) (new_input config.edit_mode) ring coming
@@ -52,22 +51,13 @@ abbrev pub stage_first : {R : Type 0} → R → Ruler → Setting → Config →
 stage_first out r s config ring coming =
     line_stage (surface out (fresh r.mode)) (kept_first s config ring coming)
 
--- its script, where no fault comes
+-- its script, without faults
 abbrev pub line_played : ℕ → Setting → Custom → Config → Ring → Coming
     → Played LineAsk LineState ReadlineError (List ℕ)
 line_played n s custom config ring c =
     played_from s config.indent_size (line_script n custom) (kept_first s config ring c)
 
--- the line that is meant: from an empty one at the history's end, by what comes
-abbrev pub line_meant : ℕ → Setting → Custom → Config → Ring → Coming → LineReport
-line_meant n s custom config ring c =
-    reported_from s config.indent_size (line_script n custom) (kept_first s config ring c)
-
--- the calls of its turns, on a display where nothing is drawn
-abbrev pub line_calls : Ruler → List Turn → List Call
-line_calls r turns = (asked r (fresh r.mode) (flat_map steps_in turns)).calls
-
--- a helper, if there is one, by what it gives
+-- a helper, if there is one, by its replies
 abbrev pub helping_by : {H : Type 0} → (H → Answers (Reply (Option Hinted)))
     → (H → List ℕ → Reply ValidationResult) → (H → Answers (Reply Completion))
     → (H → Line → ℕ → List ℕ → Reply ⊤) → (H → List ℕ → ℕ → CmdKind → Bool) → Option H → Helping
@@ -76,7 +66,7 @@ helping_by hint_of verdict_of completion_of update_of marks helper = record {
   marks = option_map marks helper;
 }
 
--- the text that an accepted line has, or why there is none
+-- the text of an accepted line, or why there is none
 abbrev pub text_or : {A : Type 0} → Result A ReadlineError → List ℕ → Result (List ℕ) ReadlineError
 text_or (Ok x) text = Ok text
 text_or (Err e) text = Err e
@@ -84,14 +74,14 @@ text_or (Err e) text = Err e
 abbrev pub outcome_of : {R H K T : Type 0} → Ran R H K T → Result (List ℕ) ReadlineError
 outcome_of ran = made_of string_bytes ran.outcome
 
--- THE relation of `run`: a line goes as its script says. More fuel than the reader has keys and
+-- the relation of `run`: a line goes as its script says. More fuel than the reader has keys and
 -- pastes is enough
 pub record Runs {R H K T : Type 0} (canvas : Canvas R) (helps : Option H → Helping)
     (custom : Custom)
     (prompt : List ℕ) (helper : Option H) (entries : List (List ℕ)) (config : Config) (out : R)
     (ring : Ring) (feed : KeyFeed) (ran : Ran R H K T) (ring' : Ring)
     (feed' : KeyFeed) : Type 0 where
-  -- how it stood at its end
+  -- its value at its end
   pub value : Value
   pub input : Input
   pub layout : Layout
@@ -104,10 +94,10 @@ pub record Runs {R H K T : Type 0} (canvas : Canvas R) (helps : Option H → Hel
   pub told : IsTrue feed'.told → IsTrue feed.told
   pub keeps : feed'.bound ≤ feed.bound
   pub falls : OnOk ran.outcome (feed'.bound < feed.bound)
-  -- what the helper gives and the ruler stay
+  -- the helper's replies and the measures stay
   pub helper_stays : IsTrue feed'.told → helps ran.helper ≡ helps helper
   pub ruler_stays : IsTrue feed'.told → canvas.ruler ran.out ≡ canvas.ruler out
-  -- why there is no line, whatever is told
+  -- why there is no line, in any case
   pub reason : IfErr ran.outcome (λ e.
       let hook = IsFailing (helps ran.helper).hooks in
       cause_of custom (canvas.failed ran.out) hook feed' e)

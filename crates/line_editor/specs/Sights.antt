@@ -1,4 +1,4 @@
--- What steps lead to, without a screen.
+-- What steps show, without a screen.
 use Rattle.std.specs.Prelude.{◌≡◌, ⊤, ℕ, ◌+◌, Bool, true, false, List, [], ◌∷◌, ◌++◌, length, Option, None}
 use Rattle.std.specs.List.{list_all}
 use Rattle.line_buffer.specs.Printable.{is_printable, at_plain_end, typed_at_plain_end, is_plain}
@@ -7,9 +7,8 @@ use Rattle.line_editor.specs.Redraws.Redraw.{Drawn, Moved, Typed, Taken, Bared, 
 use Rattle.line_editor.specs.Values.{Value, Setting, EditStep}
 use Rattle.line_editor.specs.Values.EditStep.{Draws}
 
--- prompt, line, place and information as they were last asked for; `given`: the prompt is the
--- session's own; `ended`: the cursor was sent to the drawing's end. An empty text counts as
--- information
+-- the prompt, line, place and information of the last drawing; `given`: the prompt is the session's
+-- own; `ended`: the cursor was moved to the drawing's end. An empty text counts as information
 pub record Sight : Type 0 where
   pub prompt : List ℕ
   pub line : List ℕ
@@ -51,7 +50,7 @@ sight_drawn x ToEnd = record {
 sight_drawn x Beeped = x
 sight_drawn x Cleared = no_sight
 
--- the other steps show nothing
+-- the other steps draw nothing
 abbrev pub sight : Sight → EditStep → Sight
 sight x (Draws v marks redraw) = sight_drawn x redraw
 sight x step = x
@@ -72,7 +71,7 @@ pub record TakenFits (x : Sight) (prompt : List ℕ) (count : ℕ) (text : List 
   pub printable : list_all is_printable killed ≡ true
   pub prompt_is : prompt ≡ x.prompt
 
--- where each redraw may be asked for; `own` is the session's prompt
+-- when each redraw is allowed; `own` is the session's prompt
 abbrev pub FitsDrawn : List ℕ → Sight → Redraw → Type 0
 FitsDrawn own x (Drawn prompt given text place info) = given ≡ true → prompt ≡ own
 FitsDrawn own x (Moved text place) = text ≡ x.line
@@ -95,12 +94,12 @@ abbrev pub FitsAll : List ℕ → Sight → List EditStep → Type 0
 FitsAll own x [] = ⊤
 FitsAll own x (r ∷ rs) = Fits own x r × FitsAll own (sight x r) rs
 
--- steps that lead from one to the other
+-- allowed steps that lead from one to the other
 pub record Turns (own : List ℕ) (x : Sight) (rs : List EditStep) (y : Sight) : Type 0 where
   pub fits : FitsAll own x rs
   pub leads : sight_all x rs ≡ y
 
--- ---- the information that stands, as a fold of the steps
+-- ---- the information shown, as a fold of the steps
 
 abbrev pub info_drawn : Option (List ℕ) → Redraw → Option (List ℕ)
 info_drawn info (Drawn prompt given text place new) = new
@@ -117,7 +116,7 @@ abbrev pub info_after : List EditStep → Option (List ℕ) → Option (List ℕ
 info_after [] info = info
 info_after (r ∷ rs) info = info_after rs (info_one info r)
 
--- what is to be seen of a value with some information
+-- what is to be shown of a value with some information
 abbrev pub sight_of : Setting → Value → Option (List ℕ) → Sight
 sight_of s v info = sight_as s.prompt v.line.text v.line.place info
 

@@ -1,5 +1,5 @@
--- What a state holds, as a value; what was handed in for it; what an edit makes of it; and how a
--- line begins.
+-- The value of a state, what was passed in for it, the effect of an edit on it, and how a line
+-- begins.
 use Rattle.std.specs.Prelude.{◌≡◌, ⊤, ℕ, Bool, false, if◌then◌else◌, List, Option, None, Some, option_map, Result, Ok, Err, string_bytes, IsTrue, IsFalse, IfErr, OnOk}
 use Rattle.std.specs.List.{FoldsTo}
 use Rattle.line_buffer.specs.Cells.{origin}
@@ -23,8 +23,8 @@ use Rattle.line_editor.specs.Values.{Value, Setting, Hooks, empty_at, hooks_by, 
 use Rattle.line_editor.specs.declared.renderer.Renderer as renderers
 use Rattle.line_editor.specs.declared.state.State.{State}
 
--- a call of a hook answers where it doesn't fail, or one of its faults: Helper where it fails,
--- Memory where it takes memory. Without helper it answers
+-- a call of a hook answers unless it fails, or returns one of its faults: Helper if it fails,
+-- Memory if it takes memory. Without a helper it answers
 abbrev pub fails_by : {A : Type 0} → Option (Reply A) → Bool
 fails_by None = false
 fails_by (Some reply) = fails reply
@@ -39,14 +39,14 @@ pub record Helps {A B : Type 0} (reply : Option (Reply A)) (result : Result B Re
   pub works : OnOk result (IsFalse (fails_by reply))
   pub fault : IfErr result (IsHelpFault reply)
 
--- why an edit is refused: the display has failed, a hook fails, or memory is wanting
+-- why an edit fails: the display has failed, a hook fails, or memory ran out
 abbrev pub reason_of : Bool → Type 0 → ReadlineError → Type 0
 reason_of failed hook Display = IsTrue failed
 reason_of failed hook Helper = hook
 reason_of failed hook Memory = ⊤
 reason_of failed hook why = ⊥
 
--- what the hooks of a helper give, by its traits
+-- the replies of a helper's hooks, by its traits
 abbrev pub hooks_of : {H K T : Type 0} → completers.Ghosts H K
     → hinters.Ghosts H T → validators.Ghosts H → H → Hooks
 hooks_of completer hinter validator =
@@ -83,7 +83,7 @@ module _ {Out H Hi K T : Type 0} {renderer : renderers.Ghosts Out}
     entries = history.entries s.ctx.history.now;
   }
 
-  -- what was handed in stays
+  -- what was passed in stays
   pub record Stays
       (s t : State Out H Hi K T renderer completer candidate hinter hint highlighter validator
       history) : Type 0 where
@@ -106,8 +106,8 @@ module _ {Out H Hi K T : Type 0} {renderer : renderers.Ghosts Out}
       → Surface Out
   surface_of s = surface s.out s.layout
 
-  -- an edit was made, with its calls in order; or it was refused for a reason, and its first steps
-  -- were made
+  -- an edit was made, with its calls in order; or it failed for a reason, and its first steps were
+  -- made
   pub record Does {A : Type 0} (edit : Transition)
       (s t : State Out H Hi K T renderer completer candidate hinter hint highlighter validator
       history) (result : Result A ReadlineError) : Type 0 where
@@ -125,14 +125,14 @@ module _ {Out H Hi K T : Type 0} {renderer : renderers.Ghosts Out}
     pub stops : IfErr result (λ fault. Stops renderer.canvas (renderer.canvas.ruler s.out)
         (edit (setting_of s) (value_of s)).steps (surface_of s) fault (value_of t) (surface_of t))
 
-  -- an edit that only draws: nothing but the display refuses it
+  -- an edit that only draws: only the display can make it fail
   pub record Renders {A : Type 0} (edit : Transition)
       (s t : State Out H Hi K T renderer completer candidate hinter hint highlighter validator
       history) (result : Result A ReadlineError) : Type 0 where
     pub does : Does edit s t result
     pub fault : IfErr result (λ e. e ≡ Display)
 
-  -- as a display of the key tables: an ask is an edit; one that is refused is one that was begun
+  -- a display for the key tables: a call is an edit; a failed one is an edit that was begun
   abbrev pub display_of : KnownDisplay
       (State Out H Hi K T renderer completer candidate hinter hint highlighter validator history)
   display_of = record {

@@ -1,8 +1,7 @@
--- What the steps of an edit ask of a renderer, and where a fault stops them.
-use Rattle.std.specs.Prelude.{◌≡◌, ⊤, Bool, List, [], ◌∷◌, Err, IsTrue}
+-- The calls on a renderer of an edit's steps, and where a fault stops them.
+use Rattle.std.specs.Prelude.{◌≡◌, ◌⊎◌, Bool, List, [], ◌∷◌, IsTrue}
 use Rattle.std.specs.List.{FoldsTo}
 use Rattle.line_buffer.specs.declared.layout.Layout.{Layout}
-use Rattle.line_config.specs.Scripts.{Script, Ends, Asks, World, Goes}
 use Rattle.line_config.specs.declared.errors.ReadlineError.{ReadlineError}
 use Rattle.line_config.specs.declared.errors.ReadlineError.TheVariants.{Display, Helper, Memory}
 use Rattle.line_edits.specs.Steps.{StopsIn}
@@ -12,7 +11,7 @@ use Rattle.line_editor.specs.Redraws.{Asked, asked_by, nothing_asked, then_asked
 use Rattle.line_editor.specs.Values.{Value, EditStep, written_of}
 use Rattle.line_editor.specs.Values.EditStep.{Draws, Helped, Edits, TakesBack, Takes}
 
--- ---- the calls of steps that are made
+-- ---- the calls of steps
 
 abbrev pub help_asked : Layout → Bool → Asked
 help_asked l fails = record { calls = Help fails ∷ []; layout = l }
@@ -30,7 +29,7 @@ asked r l (x ∷ xs) = then_asked (one r l x) (asked r (one r l x).layout xs)
 
 -- ---- where a fault stops them
 
--- a renderer, and what is kept of its drawing
+-- a renderer, and the stored layout
 pub record Surface (R : Type 0) : Type 0 where
   pub out : R
   pub layout : Layout
@@ -38,21 +37,13 @@ pub record Surface (R : Type 0) : Type 0 where
 abbrev pub surface : {R : Type 0} → R → Layout → Surface R
 surface out layout = record { out = out; layout = layout }
 
--- a fault, and the value that it leaves
-pub record Refusal : Type 0 where
-  pub fault : ReadlineError
-  pub value : Value
-
-abbrev pub refusal : ReadlineError → Value → Refusal
-refusal fault value = record { fault = fault; value = value }
-
 -- the helper fails, or finds no memory where it takes some
 abbrev pub Unhelped : Bool → Bool → ReadlineError → Type 0
 Unhelped fails takes Helper = IsTrue fails
 Unhelped fails takes Memory = IsTrue takes
 Unhelped fails takes why = ⊥
 
--- what an edit of line and record that was refused leaves: all else is as it was
+-- what a failed edit of line and record leaves: all else is as it was
 abbrev pub SameBeside : Value → Value → Type 0
 SameBeside v w = w ≡ record v { line = w.line; held = w.held }
 
@@ -62,37 +53,26 @@ StepMade canvas r s step t =
     FoldsTo (MadeIn canvas) s.out (one r s.layout step).calls t.out
     × (t.layout ≡ (one r s.layout step).layout)
 
--- one that is refused leaves the value that stands, and what is kept of the drawing. The display
--- refuses drawings alone, of which it has the first calls; memory is wanting for edits alone, and
--- where it says so
-abbrev pub StepCut : {R : Type 0} → Canvas R → Ruler → Surface R → EditStep → Refusal → Surface R
-    → Type 0
-StepCut canvas r s (Draws v marks x) e t =
-    (e.fault ≡ Display) × BrokenOff canvas (asked_by r marks s.layout x).calls s.out t.out
-    × (t.layout ≡ s.layout) × (e.value ≡ v)
-StepCut canvas r s (Helped v fails takes) e t =
-    Unhelped fails takes e.fault × (t ≡ s) × (e.value ≡ v)
-StepCut canvas r s (Edits v edit) e t =
-    (e.fault ≡ Memory) × (t ≡ s) × SameBeside v e.value
-    × StopsIn edit (written_of v) (written_of e.value)
-StepCut canvas r s (TakesBack v) e t =
-    (e.fault ≡ Memory) × (t ≡ s) × (e.value ≡ record v { line = e.value.line; held = [] })
-StepCut canvas r s (Takes v) e t = (e.fault ≡ Memory) × (t ≡ s) × (e.value ≡ v)
-
--- steps one after the other
-abbrev pub in_order : List EditStep → Script EditStep (λ step. ⊤) ⊤
-in_order [] = Ends tt
-in_order (step ∷ steps) = Asks step (λ none. in_order steps)
-
-abbrev pub edit_world : {R : Type 0} → Canvas R → Ruler
-    → World EditStep (λ step. ⊤) (Surface R) Refusal
-edit_world canvas r = record {
-  made = λ s step none t. StepMade canvas r s step t;
-  cut = λ s step e t. StepCut canvas r s step e t;
-}
+-- a step that fails leaves the value as it says, and the stored layout. The display fails only in
+-- drawings, and has their first calls. Memory runs out only in edits, and in steps that take some
+abbrev pub StepCut : {R : Type 0} → Canvas R → Ruler → Surface R → EditStep → ReadlineError → Value
+    → Surface R → Type 0
+StepCut canvas r s (Draws v marks x) fault value t =
+    (fault ≡ Display) × BrokenOff canvas (asked_by r marks s.layout x).calls s.out t.out
+    × (t.layout ≡ s.layout) × (value ≡ v)
+StepCut canvas r s (Helped v fails takes) fault value t =
+    Unhelped fails takes fault × (t ≡ s) × (value ≡ v)
+StepCut canvas r s (Edits v edit) fault value t =
+    (fault ≡ Memory) × (t ≡ s) × SameBeside v value
+    × StopsIn edit (written_of v) (written_of value)
+StepCut canvas r s (TakesBack v) fault value t =
+    (fault ≡ Memory) × (t ≡ s) × (value ≡ record v { line = value.line; held = [] })
+StepCut canvas r s (Takes v) fault value t = (fault ≡ Memory) × (t ≡ s) × (value ≡ v)
 
 -- the first of these steps were made, and this fault cut the next one, which left this value
 unfoldable pub Stops : {R : Type 0} → Canvas R → Ruler → List EditStep → Surface R → ReadlineError
     → Value → Surface R → Type 0
-Stops canvas r steps old fault value new =
-    Goes (edit_world canvas r) (in_order steps) old (Err (refusal fault value)) new
+Stops canvas r [] old fault value new = ⊥
+Stops {R} canvas r (step ∷ steps) old fault value new =
+    ((between : Surface R) × StepMade canvas r old step between
+    × Stops canvas r steps between fault value new) ⊎ StepCut canvas r old step fault value new

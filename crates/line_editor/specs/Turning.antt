@@ -1,4 +1,5 @@
--- What a command makes of a state and of the ring, and a line, or a part of it, also of what comes.
+-- The effect of a command on a state and on the ring; and of a line, or a part of it, also on the
+-- input.
 use Rattle.std.specs.Prelude.{◌≡◌, ◌⊎◌, ⊤, ℕ, ◌<◌, ◌≤◌, Bool, true, false, Result, Ok, Err, IsTrue, IfErr, OnOk}
 use Rattle.line_config.specs.Scripts.{World, Goes}
 use Rattle.line_config.specs.declared.errors.ReadlineError.{ReadlineError}
@@ -36,7 +37,7 @@ is_obeyed (Replace movement text) = false
 is_obeyed (ViYankTo movement) = false
 is_obeyed cmd = true
 
--- why a call that reads and edits is refused, whatever is told; commands end a line too
+-- why a call that reads and edits fails, in any case; commands end a line too
 abbrev pub cause_of : Custom → Bool → Type 0 → KeyFeed → ReadlineError → Type 0
 cause_of custom failed hook feed Eof = ⊤
 cause_of custom failed hook feed Interrupted = ⊤
@@ -55,7 +56,7 @@ module _ {Out H Hi K T : Type 0} {renderer : renderers.Ghosts Out}
     {hinter : hinters.Ghosts H T} {hint : hints.Ghosts T}
     {highlighter : highlighters.Ghosts H} {validator : validators.Ghosts H}
     {history : histories.Ghosts Hi} where
-  -- the command was done whole and ends as it says, or a fault stopped it
+  -- the command was run to its end and ends as it says, or a fault stopped it
   abbrev pub Executes : Cmd → Input → ℕ
       → State Out H Hi K T renderer completer candidate hinter hint highlighter validator history
       → Ring
@@ -76,7 +77,7 @@ module _ {Out H Hi K T : Type 0} {renderer : renderers.Ghosts Out}
       cause_of custom (renderer.canvas.failed t.out)
       (IsFailing (setting_of t).hooks) feed e
 
-  -- what goes on in a line, where a state is in it
+  -- what is passed on in a line, if it has this state
   abbrev pub stage_of :
       State Out H Hi K T renderer completer candidate hinter hint highlighter validator history
       → Input → Ring → Coming → LineStage Out
@@ -88,7 +89,7 @@ module _ {Out H Hi K T : Type 0} {renderer : renderers.Ghosts Out}
   world_of indent s =
       line_world renderer.canvas (renderer.canvas.ruler s.out) (setting_of s) indent
 
-  -- THE relation of a line, or of a part of it, from a state on: it goes as its script says. More
+  -- the relation of a line, or of a part of it, from a state on: it goes as its script says. More
   -- fuel than the reader has keys and pastes is enough
   pub record Takes {X : Type 0} (script : ℕ → Custom → LineScript X) (custom : Custom)
       (indent : ℕ)
@@ -104,6 +105,6 @@ module _ {Out H Hi K T : Type 0} {renderer : renderers.Ghosts Out}
     pub told : IsTrue feed'.told → IsTrue feed.told
     pub keeps : feed'.bound ≤ feed.bound
     pub falls : OnOk result (feed'.bound < feed.bound)
-    -- Emacs or Vi for good
+    -- always Emacs or always Vi
     pub mode : input'.mode ≡ input.mode
     pub reason : IfErr result (λ e. Cause custom t feed' e)

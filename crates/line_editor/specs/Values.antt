@@ -1,4 +1,4 @@
--- The editor's value, what is handed in for a line, and what an edit makes of the one by the other.
+-- The editor's value, what is passed in for a line, and the effect of an edit.
 use Rattle.std.specs.Prelude.{◌⊎◌, ⊤, ℕ, Bool, true, false, List, [], ◌∷◌, ◌++◌, Option, Some, None, length, ◌==◌, if◌then◌else◌, option_map, IsTrue, IsSomeAnd}
 use Rattle.line_buffer.specs.Line.{Line}
 use Rattle.line_buffer.specs.declared.layout.GraphemeClusterMode.{GraphemeClusterMode}
@@ -14,7 +14,7 @@ use Rattle.line_record.specs.Held.{Held}
 use Rattle.line_editor.specs.Calls.{Marks}
 use Rattle.line_editor.specs.Redraws.{Redraw}
 
--- the line that was left for the history
+-- the line saved on leaving the history's end
 pub record Saved : Type 0 where
   pub text : List ℕ
   pub place : ℕ
@@ -26,10 +26,10 @@ pub record Value : Type 0 where
   -- the place in the history
   pub history : ℕ
   pub hint : Option Hinted
-  -- a character was highlighted when this was last asked
+  -- a character was highlighted when the helper was last called for it
   pub marked : Bool
 
--- an empty line that grows as it needs to, at a place of the history
+-- an empty line that may grow without limit, at a place of the history
 abbrev pub empty_at : ℕ → Value
 empty_at history = record {
   line = record { text = []; place = 0; growth = true; limit = 4096 };
@@ -40,7 +40,7 @@ empty_at history = record {
   marked = false;
 }
 
--- what the hooks of a helper give
+-- the replies of a helper's hooks
 pub record Hooks : Type 0 where
   pub hints : Answers (Reply (Option Hinted))
   pub judge : List ℕ → Reply ValidationResult
@@ -59,11 +59,11 @@ hooks_by hint_of verdict_of completion_of update_of helper = record {
 
 pub record Setting : Type 0 where
   pub prompt : List ℕ
-  -- the column at which the prompt ends, and how clusters are counted: what motions up and down see
+  -- the column at which the prompt ends, and how clusters are counted: what motions up and down use
   -- of the display
   pub column : ℕ
   pub mode : GraphemeClusterMode
-  -- of the helper, if there is one; highlighted characters only where the display has colours
+  -- of the helper, if there is one; highlighted characters only if the display has colours
   pub hooks : Option Hooks
   pub marks : Option Marks
   -- the history, oldest first
@@ -73,15 +73,15 @@ pub record Setting : Type 0 where
 abbrev pub first_value : Setting → Value
 first_value s = empty_at (length s.entries)
 
--- what an edit does, in order; each step names the value that stands until it is made
+-- the steps of an edit, in order; each names the value that is current until it is made
 pub data EditStep : Type 0 where
   -- this is drawn, highlighted by these marks, if there are any
   Draws : (value : Value) (marks : Option Marks) (redraw : Redraw) → EditStep
-  -- the helper is asked, and gives an answer or fails; it may take memory
+  -- the helper is called, and answers or fails; it may take memory
   Helped : (value : Value) (fails takes : Bool) → EditStep
   -- this edit of line and record is made, which takes memory
   Edits : (value : Value) (edit : WriteSteps ⊤) → EditStep
-  -- changes are taken back from line and record
+  -- changes of line and record are undone
   TakesBack : (value : Value) → EditStep
   -- memory is taken for something else
   Takes : (value : Value) → EditStep
@@ -108,7 +108,7 @@ then_do first second s v =
 abbrev pub redrawn : Redraw → Transition
 redrawn x s v = record { value = v; steps = Draws v s.marks x ∷ [] }
 
--- memory is taken for what isn't kept in the value
+-- memory is taken for something that isn't part of the value
 abbrev pub taking_memory : Transition
 taking_memory s v = record { value = v; steps = Takes v ∷ [] }
 
@@ -127,7 +127,7 @@ rewriting edit s v = record {
   steps = Edits v (answering tt (edit v.line)) ∷ [];
 }
 
--- a group opened, for which memory is taken, and all groups closed, which nothing refuses
+-- a group opened, which takes memory, and all groups closed, which can't fail
 abbrev pub open_group : Transition
 open_group s v = record { value = rewritten group_opened v; steps = Takes v ∷ [] }
 
@@ -139,7 +139,7 @@ at_line line v = record v { line = line }
 
 -- ---- the helper's hooks
 
--- what it gives for a hint, of the line's text, for candidates, and for one that is put in
+-- its replies for a hint, for the line's text, for candidates, and for an inserted candidate
 abbrev pub hint_reply : Setting → Value → Option (Reply (Option Hinted))
 hint_reply s v = option_map (λ h. h.hints v.line.text v.line.place s.entries v.history) s.hooks
 
@@ -153,12 +153,12 @@ completion_reply s v =
 abbrev pub update_reply : ℕ → List ℕ → Setting → Value → Option (Reply ⊤)
 update_reply start text s v = option_map (λ h. h.updates v.line start text) s.hooks
 
--- a hook is asked, if there is a helper
+-- a hook is called, if there is a helper
 abbrev pub helped : {A : Type 0} → Value → Option (Reply A) → List EditStep
 helped v None = []
 helped v (Some reply) = Helped v (fails reply) reply.takes ∷ []
 
--- a hook fails at something
+-- a hook fails at some input
 pub record IsFailing (hooks : Option Hooks) : Type 0 where
   pub line : Line
   pub entries : List (List ℕ)
@@ -186,7 +186,7 @@ abbrev pub hint_by : Option (Reply (Option Hinted)) → Option Hinted
 hint_by None = None
 hint_by (Some reply) = hint_given reply.answer
 
--- the hint asked anew
+-- a new hint
 abbrev pub with_hint : Setting → Value → Value
 with_hint s v = record v { hint = hint_by (hint_reply s v) }
 
@@ -202,6 +202,6 @@ abbrev pub marked_by : Option Marks → List ℕ → ℕ → CmdKind → Bool
 marked_by None text place kind = false
 marked_by (Some marks) text place kind = marks text place kind
 
--- asked anew
+-- new marks
 abbrev pub with_mark : CmdKind → Setting → Value → Value
 with_mark kind s v = record v { marked = marked_by s.marks v.line.text v.line.place kind }

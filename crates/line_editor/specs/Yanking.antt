@@ -1,4 +1,4 @@
--- Texts yanked from the ring, and exchanged.
+-- Texts yanked from the ring, and replaced.
 use Rattle.std.specs.Prelude.{ℕ, ◌||◌, Bool, true, false, if◌then◌else◌, List, [], ◌∷◌, Option, Some, None, is_some}
 use Rattle.line_buffer.specs.Clusters.{place_forward, place_backward}
 use Rattle.line_buffer.specs.Insertions.{yank as yanked_in, can_take_before}
@@ -20,7 +20,7 @@ abbrev pub steps_over : Anchor → Line → Bool
 steps_over After l = is_some (place_forward 1 l)
 steps_over Before l = false
 
--- in Vi's command mode the cursor stands on the last cluster
+-- in Vi's command mode the cursor is on the last cluster
 abbrev pub behind_yank : Bool → Line → Line
 behind_yank true l = moved_to (place_backward 1 l) l
 behind_yank false l = l
@@ -43,14 +43,14 @@ yank_text vi text anchor n s v =
     then then_do (put_yanked vi text n) refreshed s before
     else unchanged s (yanked_by vi text n before)
 
--- where so many bytes stand before the cursor, from between two characters on
+-- if so many bytes precede the cursor, from a character boundary on
 abbrev pub pop_text : ℕ → List ℕ → Transition
 pop_text size text s v =
     if can_take_before size v.line
     then then_do (rewriting (popping_in_group size text)) refreshed s v
     else unchanged s v
 
--- ---- what the ring lends
+-- ---- the ring's text
 
 abbrev pub yank_lent : Bool → Anchor → ℕ → Option (List ℕ) → Transition
 yank_lent vi anchor n None = unchanged

@@ -1,4 +1,4 @@
-//! Lines that are to be accepted.
+//! Accepts lines.
 ghost use Rattle.std.specs.Prelude.{◌≡◌, IfOk, OnOk, option_copied};
 
 use crate::renderer::Renderer;
@@ -13,8 +13,8 @@ impl<'p, 'h, Out: Renderer, H: Helper + Drop, Hi: History> State<'p, 'h, Out, H,
     ghost use Rattle.line_editor.specs.Values.{verdict_reply};
     ghost use Rattle.line_editor.specs.Accepting.{bare, verdict, told_if, verdict_told, closed_and_told, opened_and_asked, validate, accepts_found, newline, accept, accepts, newline_if, accept_or_insert, submitted};
 
-    /// Draws the line as it was typed, without hint and highlighted character, where one stands or
-    /// the prompt isn't the session's own.
+    /// Draws the line as it was typed, without hint and highlighted character. Draws nothing if
+    /// there is neither and the session's own prompt is shown.
     pub(crate) fn bare_line(&mut self) -> Result<(), ReadlineError>
         ensures does { Does bare self.old self.new result }
     {
@@ -28,7 +28,7 @@ impl<'p, 'h, Out: Renderer, H: Helper + Drop, Hi: History> State<'p, 'h, Out, H,
         }
     }
 
-    /// What the helper finds of the line.
+    /// The helper's verdict on the line.
     fn judge(&self) -> Result<ValidationResult, ReadlineError>
         ensures verdict { IfOk result
             (λ found. found ≡ verdict (setting_of self.now) (value_of self.now)) }
@@ -45,8 +45,8 @@ impl<'p, 'h, Out: Renderer, H: Helper + Drop, Hi: History> State<'p, 'h, Out, H,
         }
     }
 
-    /// Tells what was found: of a line that isn't incomplete, where something is to be drawn anew
-    /// or there is a message.
+    /// Shows the verdict on a line that isn't incomplete, if something must be redrawn or there is
+    /// a message.
     fn tell_verdict(&mut self, found: &ValidationResult, draws: bool) -> Result<(), ReadlineError>
         ensures { Renders (verdict_told found.now draws) self.old self.new result }
     {
@@ -57,7 +57,7 @@ impl<'p, 'h, Out: Renderer, H: Helper + Drop, Hi: History> State<'p, 'h, Out, H,
         }
     }
 
-    /// Tells a message, if there is one or something is to be drawn anew.
+    /// Shows a message, if there is one or something must be redrawn.
     fn tell_if(
         &mut self,
         draws: bool,
@@ -73,7 +73,7 @@ impl<'p, 'h, Out: Renderer, H: Helper + Drop, Hi: History> State<'p, 'h, Out, H,
         }
     }
 
-    /// Closes the groups, and tells what was found.
+    /// Closes the groups, and shows the verdict.
     fn close_and_tell(&mut self, found: &ValidationResult) -> Result<(), ReadlineError>
         ensures { Renders (closed_and_told found.now) self.old self.new result }
     {
@@ -83,7 +83,7 @@ impl<'p, 'h, Out: Renderer, H: Helper + Drop, Hi: History> State<'p, 'h, Out, H,
         self.tell_verdict(found, draws)
     }
 
-    /// Opens a group, and asks the helper whether the line is whole.
+    /// Opens a group, and calls the helper to validate the line.
     fn open_and_ask(&mut self) -> Result<ValidationResult, ReadlineError>
         ensures does { Does opened_and_asked self.old self.new result }
         ensures verdict { IfOk result
@@ -95,9 +95,9 @@ impl<'p, 'h, Out: Renderer, H: Helper + Drop, Hi: History> State<'p, 'h, Out, H,
         Ok(found)
     }
 
-    /// Asks the helper whether the line is whole. Where a message came, or a group was closed or a
-    /// hint stands, the line is drawn without hint and with the message. Where the helper refuses,
-    /// the group that was opened for it stays open.
+    /// Calls the helper to validate the line. If there is a message, if a group was closed, or if a
+    /// hint is shown, the line is drawn without hint and with the message. If the helper fails, the
+    /// group opened for it stays open.
     pub fn validate(&mut self) -> Result<ValidationResult, ReadlineError>
         ensures does { Does validate self.old self.new result }
         ensures verdict { IfOk result
@@ -111,7 +111,7 @@ impl<'p, 'h, Out: Renderer, H: Helper + Drop, Hi: History> State<'p, 'h, Out, H,
         Ok(found)
     }
 
-    /// Draws the line as it was typed, and asks the helper whether it is whole.
+    /// Draws the line as it was typed, and calls the helper to validate it.
     pub(crate) fn accept(&mut self) -> Result<ValidationResult, ReadlineError>
         ensures does { Does accept self.old self.new result }
         ensures verdict { IfOk result
@@ -123,14 +123,14 @@ impl<'p, 'h, Out: Renderer, H: Helper + Drop, Hi: History> State<'p, 'h, Out, H,
         Ok(found)
     }
 
-    /// Whether a line of which this was found is accepted.
+    /// Whether a line with this verdict is accepted.
     fn accepts_line(&self, found: &ValidationResult, middle: bool) -> bool
         ensures { result ≡ accepts_found middle found.now self.now.recorded.line }
     {
         found.is_valid() && (middle || self.recorded.line.is_end_of_input())
     }
 
-    /// Inserts a newline where the line isn't accepted and nothing else is told.
+    /// Inserts a newline if the line isn't accepted and no message is shown.
     fn insert_newline(
         &mut self,
         accepted: bool,
@@ -145,7 +145,8 @@ impl<'p, 'h, Out: Renderer, H: Helper + Drop, Hi: History> State<'p, 'h, Out, H,
         }
     }
 
-    /// Accepts a valid line, and inserts a newline into any other; whether it is accepted.
+    /// Accepts a valid line, or inserts a newline into any other line. Returns whether it is
+    /// accepted.
     pub(crate) fn accept_or_insert(&mut self, middle: bool) -> Result<bool, ReadlineError>
         ensures does { Does (accept_or_insert middle) self.old self.new result }
         ensures accepted { IfOk result
@@ -165,8 +166,8 @@ impl<'p, 'h, Out: Renderer, H: Helper + Drop, Hi: History> State<'p, 'h, Out, H,
         self.edit_insert('\n', 1)
     }
 
-    /// The end of an accepted line: the cursor after the text, then the display's after the
-    /// drawing.
+    /// Ends an accepted line: moves the cursor to the text's end, then the display's cursor behind
+    /// the drawing.
     pub(crate) fn submit(&mut self) -> Result<(), ReadlineError>
         ensures { Renders submitted self.old self.new result }
     {
@@ -175,7 +176,7 @@ impl<'p, 'h, Out: Renderer, H: Helper + Drop, Hi: History> State<'p, 'h, Out, H,
     }
 }
 
-/// A text, if there is one.
+/// The text, if there is one.
 fn text_of(text: &Option<Text>) -> Option<&str>
     ensures { option_copied result ≡ text.now }
 {

@@ -1,4 +1,4 @@
-//! What a command makes of a line.
+//! The effect of commands on a line.
 ghost use Rattle.std.specs.Prelude.{◌≡◌, true, Ok};
 ghost use Rattle.line_keys.specs.InputStates.{input_of};
 ghost use Rattle.line_editor.specs.Commands.{means_of};
@@ -13,10 +13,10 @@ use line_help::{Helper, History, SearchDirection};
 use line_keys::{Cmd, Decides, InputState};
 use line_record::KillRing;
 
-/// Whether a line goes on.
+/// Whether a line continues.
 #[derive(Clone, Copy, Debug, PartialEq, Eq)]
 pub enum Status {
-    /// It goes on.
+    /// It continues.
     Proceed,
     /// It is accepted.
     Submit,
@@ -28,7 +28,7 @@ impl<'p, 'h, Out: Renderer, H: Helper + Drop, Hi: History> State<'p, 'h, Out, H,
     ghost use Rattle.line_editor.specs.States.{value_of, setting_of, Does};
     ghost use Rattle.line_editor.specs.Commands.{line_up_or_previous, line_down_or_next, effect, ring_after_command, outcome, end_of_file};
 
-    /// Moves up by rows; in the first row, one history entry back.
+    /// Moves up by rows; in the first row, to the previous history entry.
     fn line_up_or_previous(&mut self, n: RepeatCount) -> Result<(), ReadlineError>
         ensures does { Does (line_up_or_previous n) self.old self.new result }
     {
@@ -39,7 +39,7 @@ impl<'p, 'h, Out: Renderer, H: Helper + Drop, Hi: History> State<'p, 'h, Out, H,
         }
     }
 
-    /// Moves down by rows; in the last row, one history entry on.
+    /// Moves down by rows; in the last row, to the next history entry.
     fn line_down_or_next(&mut self, n: RepeatCount) -> Result<(), ReadlineError>
         ensures does { Does (line_down_or_next n) self.old self.new result }
     {
@@ -50,7 +50,7 @@ impl<'p, 'h, Out: Renderer, H: Helper + Drop, Hi: History> State<'p, 'h, Out, H,
         }
     }
 
-    /// The end of the input on an empty line; in Vi another line is accepted.
+    /// The end of the input on an empty line; in Vi mode any other line is accepted.
     fn end_of_file(&self, emacs: bool) -> Result<Status, ReadlineError>
         ensures { result ≡ end_of_file emacs (value_of self.now) }
     {
@@ -64,7 +64,7 @@ impl<'p, 'h, Out: Renderer, H: Helper + Drop, Hi: History> State<'p, 'h, Out, H,
         }
     }
 
-    /// Does what a command says that neither ends a line nor kills.
+    /// Runs a command that neither ends a line nor kills.
     fn obey<D: Decides>(
         &mut self,
         cmd: &Cmd,
@@ -124,7 +124,7 @@ impl<'p, 'h, Out: Renderer, H: Helper + Drop, Hi: History> State<'p, 'h, Out, H,
         }
     }
 
-    /// Does what a command says.
+    /// Runs a command.
     #[tactic(auto, using(crate::proofs::StopsLemmas::stops_taking, crate::proofs::ObeyLemmas::obeyed_proceeds))]
     fn perform<D: Decides>(
         &mut self,
@@ -178,8 +178,8 @@ impl<'p, 'h, Out: Renderer, H: Helper + Drop, Hi: History> State<'p, 'h, Out, H,
     }
 }
 
-/// Does what a command says. `Eof` and `Interrupted` are ends that commands have; any other refusal
-/// is a fault, after which the state's text and record still fit each other.
+/// Runs a command. `Eof` and `Interrupted` are a command's ways to end the line. Any other error is
+/// a fault; after it the state's text and record still fit each other.
 pub fn execute<'p, 'h, Out: Renderer, H: Helper + Drop, Hi: History, D: Decides>(
     cmd: Cmd,
     s: &mut State<'p, 'h, Out, H, Hi>,

@@ -15,8 +15,8 @@ use line_help::{Candidate, Completer, Helper, History, longest_common_prefix};
 use line_record::Changeset;
 use std::alloc::Global;
 
-/// What is put in place of a word of so many bytes: what all candidates begin with, where it is
-/// longer than the word, or there is one candidate.
+/// The text that replaces a word of `len` bytes: the common prefix of all candidates, if it is
+/// longer than the word or there is only one candidate.
 fn elected_among<C: Candidate>(candidates: &[C], len: usize) -> Option<&str>
     ensures { option_copied result ≡ elected_among len
         (map (λ c. (C.offers c).replacement) candidates.now) }
@@ -29,7 +29,7 @@ fn elected_among<C: Candidate>(candidates: &[C], len: usize) -> Option<&str>
     }
 }
 
-/// Whether a word may begin at a place: it is a boundary at or before the cursor.
+/// Whether a word may begin at a place: a character boundary at or before the cursor.
 fn begins_word(line: &LineBuffer, start: usize) -> bool
     ensures value { result ≡ begins_word start line.now }
     ensures order { IsTrue result → start ≤ line.now.place }
@@ -38,7 +38,7 @@ fn begins_word(line: &LineBuffer, start: usize) -> bool
     start <= line.pos() && line.as_str().is_char_boundary(start)
 }
 
-/// What is put in place of the word that begins at a place, if anything.
+/// The text that replaces the word at a place, if any.
 fn elected<'c, C: Candidate>(
     line: &LineBuffer,
     start: usize,
@@ -56,7 +56,7 @@ fn elected<'c, C: Candidate>(
     }
 }
 
-/// The completer puts a text in place of the line from a start to the cursor.
+/// The completer replaces the line from a start to the cursor by a text.
 fn put<C: Completer>(
     alloc: Global,
     completer: &C,
@@ -78,7 +78,7 @@ fn put<C: Completer>(
     completer.update(alloc, line, start, text, changes)
 }
 
-/// The same in one group, which stays open where the completer refuses.
+/// The same in one group, which stays open if the completer fails.
 fn put_in_group<C: Completer>(
     alloc: Global,
     completer: &C,
@@ -103,7 +103,7 @@ fn put_in_group<C: Completer>(
     Ok(())
 }
 
-/// The same of a line with its record.
+/// The same for a line with its record.
 fn update<C: Completer>(
     alloc: Global,
     completer: &C,
@@ -132,7 +132,7 @@ impl<'p, 'h, Out: Renderer, H: Helper + Drop, Hi: History> State<'p, 'h, Out, H,
     ghost use Rattle.line_editor.specs.Values.{completion_reply};
     ghost use Rattle.line_editor.specs.Completing.{candidates_given, complete, word_updated, word_completed};
 
-    /// The helper's candidates for the word before the cursor, and where it starts.
+    /// The helper's candidates for the word before the cursor, and where the word starts.
     fn candidates(&self) -> Result<(usize, Vec<H::Candidate>), ReadlineError>
         requires { is_some self.now.helper ≡ true }
         ensures found { IfOk result (λ found. completion_by H.Candidate.offers found
@@ -151,7 +151,7 @@ impl<'p, 'h, Out: Renderer, H: Helper + Drop, Hi: History> State<'p, 'h, Out, H,
         }
     }
 
-    /// The helper puts a text in place of the line from a start to the cursor.
+    /// The helper replaces the line from a start to the cursor by a text.
     fn update_word(&mut self, start: usize, text: &str) -> Result<(), ReadlineError>
         requires some { is_some self.old.helper ≡ true }
         requires order { start ≤ self.old.recorded.line.place }
@@ -170,7 +170,7 @@ impl<'p, 'h, Out: Renderer, H: Helper + Drop, Hi: History> State<'p, 'h, Out, H,
         }
     }
 
-    /// Exchanges the word that begins at a place, and draws the line.
+    /// Replaces the word at a place, and draws the line.
     fn complete_word(&mut self, start: usize, text: &str) -> Result<(), ReadlineError>
         requires some { is_some self.old.helper ≡ true }
         requires order { start ≤ self.old.recorded.line.place }
@@ -181,9 +181,9 @@ impl<'p, 'h, Out: Renderer, H: Helper + Drop, Hi: History> State<'p, 'h, Out, H,
         self.refresh()
     }
 
-    /// Exchanges the word before the cursor for what the helper's candidates begin with, undone as
-    /// one, or beeps where that adds nothing. Where the helper refuses the exchange, the group that
-    /// was opened for it stays open.
+    /// Replaces the word before the cursor by the common prefix of the helper's candidates, in one
+    /// group of undo. Beeps if that adds nothing. If the helper fails to replace it, the group
+    /// opened for it stays open.
     pub(crate) fn complete(&mut self) -> Result<(), ReadlineError>
         ensures does { Does complete self.old self.new result }
     {

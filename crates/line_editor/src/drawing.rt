@@ -1,4 +1,4 @@
-//! What a state draws.
+//! Draws a state.
 ghost use Rattle.std.specs.Prelude.{◌≡◌, ◌+◌, ◌<◌, ◌≤◌, Some, None, if◌then◌else◌, IfOk, IsTrue, option_map, option_copied};
 ghost use Rattle.line_buffer.specs.Cells.{origin};
 ghost use Rattle.line_editor.specs.Calls.{Makes};
@@ -13,7 +13,7 @@ use line_config::{HookFault, ReadlineError};
 use line_help::{Helper, Highlighter, Hint, Hinter, History};
 use line_keys::CmdKind;
 
-/// The text that a hint shows.
+/// The text of a hint.
 fn display_of<T: Hint>(hint: &Option<T>) -> Option<&str>
     ensures { option_copied result ≡ option_map (λ h. (T.says h).display) hint.now }
 {
@@ -23,7 +23,7 @@ fn display_of<T: Hint>(hint: &Option<T>) -> Option<&str>
     }
 }
 
-/// The helper, where the display has colours.
+/// The helper, if the display has colours.
 pub(crate) fn highlighter_of<H: Highlighter>(helper: &Option<H>, colours: bool) -> Option<&H>
     ensures value { option_copied result ≡ (if colours then helper.now else None) }
     ensures marks { option_map H.marks (option_copied result)
@@ -32,7 +32,7 @@ pub(crate) fn highlighter_of<H: Highlighter>(helper: &Option<H>, colours: bool) 
     if colours { helper.as_ref() } else { None }
 }
 
-/// Whether a helper highlights a character, where the display has colours.
+/// Whether a helper highlights a character, if the display has colours.
 fn marked_by<H: Helper>(
     helper: &mut Option<H>,
     colours: bool,
@@ -53,7 +53,7 @@ fn marked_by<H: Helper>(
     false
 }
 
-/// Whether nothing stands after the line, and a character after the cursor doesn't fill the row.
+/// Whether nothing is shown after the line, and a character after the cursor doesn't fill the row.
 fn may_type<Out: Renderer>(out: &Out, layout: &Layout) -> bool
     ensures value { result ≡ may_type (Out.canvas.ruler out.now) layout.now }
     ensures room { IsTrue result → layout.now.cursor.col + 1 ≤ 65535 }
@@ -63,7 +63,7 @@ fn may_type<Out: Renderer>(out: &Out, layout: &Layout) -> bool
     !layout.has_info && col < columns && col + 1 < columns
 }
 
-/// Whether nothing stands after the line, and so many columns of the cursor's row end it.
+/// Whether nothing is shown after the line, and its last `count` columns are in the cursor's row.
 fn may_take(layout: &Layout, count: usize) -> bool
     ensures value { result ≡ may_take layout.now count }
     ensures room { IsTrue result → count ≤ layout.now.end.col }
@@ -71,7 +71,8 @@ fn may_take(layout: &Layout, count: usize) -> bool
     !layout.has_info && layout.cursor.row == layout.end.row && count <= usize::from(layout.end.col)
 }
 
-/// Draws a line and what stands after it over an older drawing. Answers the layout of the new one.
+/// Draws a line, and what is shown after it, over an older drawing. Returns the layout of the new
+/// one.
 fn draw_over<Out: Renderer, H: Highlighter>(
     out: &mut Out,
     old: Layout,
@@ -111,7 +112,7 @@ impl<'p, 'h, Out: Renderer, H: Helper + Drop, Hi: History> State<'p, 'h, Out, H,
     ghost use Rattle.line_editor.specs.Calls.Call.{ToLeftmost};
     ghost use Rattle.line_keys.specs.declared.command.CmdKind.TheVariants.{Other};
 
-    /// The helper's hint, if it has one that shows anything.
+    /// The helper's hint, if it has one that isn't empty.
     fn found_hint(&self) -> Result<Option<H::Hint>, ReadlineError>
         ensures value { IfOk result (λ hint. option_map H.Hint.says hint
             ≡ (with_hint (setting_of self.now) (value_of self.now)).hint) }
@@ -135,7 +136,7 @@ impl<'p, 'h, Out: Renderer, H: Helper + Drop, Hi: History> State<'p, 'h, Out, H,
         }
     }
 
-    /// Asks the helper for the hint. Nothing is drawn.
+    /// Calls the helper for the hint. Nothing is drawn.
     pub fn hint(&mut self) -> Result<(), ReadlineError>
         ensures does { Does hint_asked self.old self.new result }
         ensures helps { Helps (hint_reply (setting_of self.old) (value_of self.old)) result }
@@ -144,7 +145,7 @@ impl<'p, 'h, Out: Renderer, H: Helper + Drop, Hi: History> State<'p, 'h, Out, H,
         Ok(())
     }
 
-    /// Asks the helper whether a character is highlighted, where the display has colours.
+    /// Calls the helper to learn whether a character is highlighted, if the display has colours.
     pub(crate) fn mark(&mut self, kind: CmdKind)
         ensures value { value_of self.new
             ≡ with_mark kind (setting_of self.old) (value_of self.old) }
@@ -157,7 +158,7 @@ impl<'p, 'h, Out: Renderer, H: Helper + Drop, Hi: History> State<'p, 'h, Out, H,
         self.highlight_char = marked;
     }
 
-    /// Draws the line after a prompt, with the hint that is kept.
+    /// Draws the line after a prompt, with the current hint.
     pub(crate) fn draw(&mut self, prompt: &str, given: bool) -> Result<(), ReadlineError>
         ensures { Renders (drawn_behind prompt.now given) self.old self.new result }
     {
@@ -196,7 +197,7 @@ impl<'p, 'h, Out: Renderer, H: Helper + Drop, Hi: History> State<'p, 'h, Out, H,
         Ok(())
     }
 
-    /// Draws the line with the hint that is kept. All is drawn anew, whatever the kind.
+    /// Draws the line with the current hint. Everything is redrawn, whatever the kind.
     pub fn repaint(&mut self, _kind: RefreshKind) -> Result<(), ReadlineError>
         ensures { Renders repainted self.old self.new result }
     {
@@ -204,7 +205,7 @@ impl<'p, 'h, Out: Renderer, H: Helper + Drop, Hi: History> State<'p, 'h, Out, H,
         self.draw(prompt, true)
     }
 
-    /// Asks the helper for the hint, and whether a character is highlighted.
+    /// Calls the helper for the hint and for highlighted characters.
     pub(crate) fn ask_anew(&mut self) -> Result<(), ReadlineError>
         ensures does { Does asked_anew self.old self.new result }
     {
@@ -239,7 +240,7 @@ impl<'p, 'h, Out: Renderer, H: Helper + Drop, Hi: History> State<'p, 'h, Out, H,
         self.draw_with(message)
     }
 
-    /// Moves the display's cursor to the text's.
+    /// Moves the display's cursor to the text's cursor.
     pub(crate) fn show_cursor(&mut self) -> Result<(), ReadlineError>
         ensures { Renders cursor_shown self.old self.new result }
     {
@@ -254,8 +255,8 @@ impl<'p, 'h, Out: Renderer, H: Helper + Drop, Hi: History> State<'p, 'h, Out, H,
         Ok(())
     }
 
-    /// Moves the display's cursor to the text's. Where a character is highlighted, or was until
-    /// now, the line is drawn in its place, without hint and message.
+    /// Moves the display's cursor to the text's cursor. If a character is highlighted, or was until
+    /// now, the line is redrawn instead, without hint and message.
     pub fn move_cursor(&mut self, kind: CmdKind) -> Result<(), ReadlineError>
         ensures { Renders (cursor_moved kind) self.old self.new result }
     {
@@ -280,7 +281,7 @@ impl<'p, 'h, Out: Renderer, H: Helper + Drop, Hi: History> State<'p, 'h, Out, H,
         Ok(())
     }
 
-    /// Moves the display's cursor to its row's first cell. What is kept of the drawing stays.
+    /// Moves the display's cursor to the first cell of its row. The stored layout stays.
     pub fn move_cursor_at_leftmost(&mut self) -> Result<(), ReadlineError>
         ensures makes { Makes Out.canvas ToLeftmost self.old.out self.new.out result }
         ensures value { value_of self.new ≡ value_of self.old }
@@ -297,7 +298,7 @@ impl<'p, 'h, Out: Renderer, H: Helper + Drop, Hi: History> State<'p, 'h, Out, H,
         Ok(())
     }
 
-    /// Erases the display. What is kept of the drawing is as before the first one.
+    /// Erases the display. The stored layout is as before the first drawing.
     pub fn clear_screen(&mut self) -> Result<(), ReadlineError>
         ensures { Renders cleared self.old self.new result }
     {
@@ -315,7 +316,7 @@ impl<'p, 'h, Out: Renderer, H: Helper + Drop, Hi: History> State<'p, 'h, Out, H,
         self.refresh()
     }
 
-    /// Shows a character that was typed at the end: its byte alone, where nothing stands after it
+    /// Shows a character typed at the end. It writes its byte alone, if nothing is shown after it
     /// and it doesn't fill its row.
     pub(crate) fn show_short_typed(&mut self, ch: char) -> Result<(), ReadlineError>
         ensures { Renders (λ s v. redrawn (Typed s.prompt ch v.line.text v.line.place) s v)
@@ -331,8 +332,8 @@ impl<'p, 'h, Out: Renderer, H: Helper + Drop, Hi: History> State<'p, 'h, Out, H,
         self.draw_with(None)
     }
 
-    /// Shows that so many characters were taken from the end: the rest of the row is erased, where
-    /// they stood in it and nothing stands after them.
+    /// Shows that `count` characters were deleted at the end. It erases the rest of the row, if
+    /// they were in it and nothing is shown after them.
     pub(crate) fn show_short_taken(&mut self, count: usize) -> Result<(), ReadlineError>
         ensures { Renders (λ s v. redrawn (Taken s.prompt count v.line.text v.line.place) s v)
             self.old self.new result }
@@ -350,7 +351,7 @@ impl<'p, 'h, Out: Renderer, H: Helper + Drop, Hi: History> State<'p, 'h, Out, H,
         self.draw_with(None)
     }
 
-    /// Draws the line without hint where another prompt than its own stands.
+    /// Draws the line without hint if another prompt than its own is shown.
     pub(crate) fn show_bare(&mut self) -> Result<(), ReadlineError>
         ensures { Renders (λ s v. redrawn (Bared s.prompt v.line.text v.line.place) s v)
             self.old self.new result }

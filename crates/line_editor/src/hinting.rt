@@ -1,4 +1,4 @@
-//! The hint taken into the line.
+//! Accepts hints.
 ghost use Rattle.std.specs.Prelude.{◌≡◌, option_map, option_copied, IfOk};
 
 use crate::renderer::Renderer;
@@ -21,7 +21,7 @@ impl<'p, 'h, Out: Renderer, H: Helper + Drop, Hi: History> State<'p, 'h, Out, H,
         self.refresh()
     }
 
-    /// Takes the hint into the line at the row's end.
+    /// Inserts the hint into the line at the row's end.
     pub(crate) fn complete_hint(&mut self) -> Result<(), ReadlineError>
         ensures does { Does complete_hint self.old self.new result }
     {

@@ -1,4 +1,4 @@
-//! Characters and texts put in.
+//! Inserts characters and texts.
 ghost use Rattle.std.specs.Prelude.{◌≡◌};
 ghost use Rattle.line_buffer.specs.Printable.{at_plain_end};
 
@@ -14,7 +14,7 @@ impl<'p, 'h, Out: Renderer, H: Helper + Drop, Hi: History> State<'p, 'h, Out, H,
     ghost use Rattle.line_editor.specs.States.{value_of, setting_of, Does};
     ghost use Rattle.line_editor.specs.Inserting.{is_bare, may_be_typed, inserted_shown, insert_char, insert_text, replace_char, overwrite_char};
 
-    /// Whether neither a hint nor a highlighted character stands.
+    /// Whether neither a hint nor a highlighted character is shown.
     pub(crate) fn is_bare(&self) -> bool
         ensures { result ≡ is_bare (value_of self.now) }
     {
@@ -28,16 +28,16 @@ impl<'p, 'h, Out: Renderer, H: Helper + Drop, Hi: History> State<'p, 'h, Out, H,
         self.recorded.line.is_cursor_at_end() && self.recorded.plain
     }
 
-    /// Whether a character's byte alone may show it: one printable character, typed at the end of a
-    /// plain line that is bare.
+    /// Whether a character's byte alone may show it: a single printable character, typed at the end
+    /// of a plain line that is bare.
     fn may_be_typed(&self, ch: char, n: RepeatCount) -> bool
         ensures { result ≡ may_be_typed ch n (value_of self.now) }
     {
         n == 1 && (self.is_bare() && (is_printable(ch) && self.is_at_plain_end()))
     }
 
-    /// Shows a character that was inserted, with a new hint: by its byte alone where that may show
-    /// it, and the line is bare then too.
+    /// Shows an inserted character, with a new hint. It writes its byte alone if that may show it
+    /// and the line is still bare.
     fn show_inserted(&mut self, ch: char, alone: bool) -> Result<(), ReadlineError>
         ensures does { Does (inserted_shown ch alone) self.old self.new result }
     {
@@ -50,7 +50,7 @@ impl<'p, 'h, Out: Renderer, H: Helper + Drop, Hi: History> State<'p, 'h, Out, H,
         }
     }
 
-    /// Inserts a character so many times. At the end of the line its byte alone is drawn where that
+    /// Inserts a character `n` times. At the end of the line only its byte is written, if that
     /// shows it.
     pub fn edit_insert(&mut self, ch: char, n: RepeatCount) -> Result<(), ReadlineError>
         ensures does { Does (insert_char ch n) self.old self.new result }
@@ -66,7 +66,7 @@ impl<'p, 'h, Out: Renderer, H: Helper + Drop, Hi: History> State<'p, 'h, Out, H,
         self.show_inserted(ch, alone)
     }
 
-    /// Puts a text at the cursor, which stays before it.
+    /// Inserts a text at the cursor, which stays before it.
     pub fn edit_insert_text(&mut self, text: &str) -> Result<(), ReadlineError>
         ensures does { Does (insert_text text.now) self.old self.new result }
     {
@@ -78,7 +78,7 @@ impl<'p, 'h, Out: Renderer, H: Helper + Drop, Hi: History> State<'p, 'h, Out, H,
         self.refresh()
     }
 
-    /// Exchanges up to `n` clusters after the cursor for a character each.
+    /// Replaces up to `n` clusters after the cursor by a character each.
     pub fn edit_replace_char(&mut self, ch: char, n: RepeatCount) -> Result<(), ReadlineError>
         ensures does { Does (replace_char ch n) self.old self.new result }
     {
@@ -87,7 +87,7 @@ impl<'p, 'h, Out: Renderer, H: Helper + Drop, Hi: History> State<'p, 'h, Out, H,
         if replaced { self.refresh() } else { Ok(()) }
     }
 
-    /// Writes a character over the cluster at the cursor.
+    /// Overwrites the cluster at the cursor with a character.
     pub fn edit_overwrite_char(&mut self, ch: char) -> Result<(), ReadlineError>
         ensures does { Does (overwrite_char ch) self.old self.new result }
     {

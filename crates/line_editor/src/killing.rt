@@ -1,4 +1,4 @@
-//! What is killed, and what is copied into the ring.
+//! Kills texts, and copies texts into the ring.
 ghost use Rattle.std.specs.Prelude.{◌≡◌, ◌⊎◌, OnOk, IfErr, length, drop, is_some, IsTrue};
 ghost use Rattle.line_buffer.specs.Range.{kill_line, copied_range};
 ghost use Rattle.line_config.specs.declared.errors.ReadlineError.{ReadlineError};
@@ -18,8 +18,8 @@ impl<'p, 'h, Out: Renderer, H: Helper + Drop, Hi: History> State<'p, 'h, Out, H,
     ghost use Rattle.line_editor.specs.States.{value_of, setting_of, Does, Stays};
     ghost use Rattle.line_editor.specs.Killing.{may_be_taken, killed_shown, kill_effect, insert_text_if, replace, killed_into, copied_into};
 
-    /// Whether an erased rest of the row may show what a movement kills: printable characters,
-    /// taken from a bare line.
+    /// Whether erasing the rest of the row may show a movement's kill: printable characters,
+    /// deleted from a bare line.
     fn may_be_taken(&self, movement: &Movement) -> bool
         ensures { let left = (kill_line movement.now self.now.recorded.line).text in
             result ≡ may_be_taken (drop (length left) self.now.recorded.line.text)
@@ -28,8 +28,8 @@ impl<'p, 'h, Out: Renderer, H: Helper + Drop, Hi: History> State<'p, 'h, Out, H,
         self.is_bare() && self.recorded.line.has_printable_end(movement)
     }
 
-    /// Shows that so many bytes were killed, with a new hint: what they showed is erased where that
-    /// may show it, and the line is bare then too, with the cursor at the end of a plain text.
+    /// Shows that `count` bytes were killed, with a new hint. It erases them if that may show the
+    /// kill, and if the line is still bare, with the cursor at the end of a plain text.
     fn show_killed(&mut self, count: usize, alone: bool) -> Result<(), ReadlineError>
         ensures does { Does (killed_shown count alone) self.old self.new result }
     {
@@ -42,12 +42,12 @@ impl<'p, 'h, Out: Renderer, H: Helper + Drop, Hi: History> State<'p, 'h, Out, H,
         }
     }
 
-    /// Kills what a movement names; the ring is told first, the record last. At the end of the line
-    /// what was killed is erased where that is enough.
+    /// Kills what a movement names. The ring is notified first, the record last. At the end of the
+    /// line the killed text is only erased, if that is enough.
     ///
-    /// Where memory for the kill is refused, the line and its record stay; so does the ring, but
-    /// for the killed text where the record alone refused it. Where the hint or the drawing is
-    /// refused, the kill is made.
+    /// If memory for the kill runs out, the line and its record stay. So does the ring, except that
+    /// it has the killed text if only the record's allocation failed. If the hint or the drawing
+    /// fails, the kill is made.
     pub fn edit_kill(
         &mut self,
         movement: &Movement,
@@ -73,7 +73,7 @@ impl<'p, 'h, Out: Renderer, H: Helper + Drop, Hi: History> State<'p, 'h, Out, H,
         self.show_killed(count, alone)
     }
 
-    /// Puts a text at the cursor, if there is one.
+    /// Inserts a text at the cursor, if there is one.
     fn insert_some(&mut self, text: &Option<Text>) -> Result<(), ReadlineError>
         ensures does { Does (insert_text_if text.now) self.old self.new result }
     {
@@ -84,7 +84,7 @@ impl<'p, 'h, Out: Renderer, H: Helper + Drop, Hi: History> State<'p, 'h, Out, H,
         }
     }
 
-    /// Kills what a movement names, and puts a text there.
+    /// Kills what a movement names, and inserts a text there.
     pub(crate) fn edit_replace(
         &mut self,
         movement: &Movement,

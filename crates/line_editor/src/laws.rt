@@ -1,10 +1,10 @@
-//! Laws of the editor, each the contract of a function that does nothing.
+//! Laws of the editor. Each is the contract of a function that does nothing.
 
 ghost use Rattle.line_editor.specs.Leads.{CommandsLead, SubmittingLeads, AsksLead, EachTurnLeads, LinesLead};
 ghost use Rattle.line_editor.specs.Returns.{ComesBack, UndoReaches, UndoesAll};
 
-/// What a command wants to be seen leads from a display that shows the value before to one that
-/// shows the value after, so that nothing of an older drawing is left standing.
+/// The drawings of a command lead from a display that shows the value before to one that shows the
+/// value after. Nothing of an older drawing is left.
 pub fn commands_lead()
     ensures { CommandsLead }
 {}
@@ -14,38 +14,38 @@ pub fn submitting_leads()
     ensures { SubmittingLeads }
 {}
 
-/// What the key tables ask for leads to a display that shows the value, whatever stood there.
+/// The calls of the key tables lead to a display that shows the value, whatever it showed before.
 pub fn asks_lead()
     ensures { AsksLead }
 {}
 
-/// From a display that shows the value, whatever information stands, a turn leads to one that shows
-/// the value after it.
+/// From a display that shows the value, with any information, a turn leads to one that shows the
+/// value after it.
 pub fn turn_leads()
     ensures { EachTurnLeads }
 {}
 
-/// Whatever comes, the turns of a line lead, drawing after drawing, from a display that shows
-/// nothing of the line to what each turn says is to be seen, and the turn that accepts the line, or
-/// ends the session, is the last.
+/// Whatever the input is, the requests of a line lead, drawing after drawing, from a display without
+/// the line. At the begin of each turn its value is shown. An accepted line leaves the cursor at the
+/// end of its drawing.
 pub fn lines_lead()
     ensures { LinesLead }
 {}
 
-/// Where the history's end is left by a step back or to the first entry, and later its end is come
-/// back to with no search between, line and cursor are as they were.
+/// If a step back or to the first entry leaves the history's end, and the line comes back to it
+/// without a search, then line and cursor are as they were.
 pub fn come_back()
     ensures { ComesBack }
 {}
 
-/// An undo by as many items as the record has, or more, gives the text that the record begins on.
+/// An undo by as many items as the record has, or more, restores the text on which the record
+/// begins.
 pub fn undo_reaches()
     ensures { UndoReaches }
 {}
 
-/// Whatever commands and asks were done to a line since nothing was held for an undo, as on a new
-/// line, an undo by as many items as are held now, or more, gives the text that stood there then:
-/// on a new line none.
+/// Whatever commands and calls change a line after its record was empty, an undo by as many items
+/// as are recorded, or more, restores the text of that time. For a new line it is empty.
 pub fn undo_all()
     ensures { UndoesAll }
 {}

@@ -1,5 +1,5 @@
 //! The editor of a line: keys become commands, commands edit the line and its record, and a
-//! renderer is asked for exactly what is to be drawn.
+//! renderer draws exactly what has changed.
 #![tactic(auto)]
 
 mod accepting;

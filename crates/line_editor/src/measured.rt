@@ -1,4 +1,4 @@
-//! Where the drawing of the line up to a place ends, from a place where it is known.
+//! Where the drawing of the line up to a place ends, computed from a place for which this is known.
 ghost use Rattle.std.specs.Prelude.{◌≡◌, take, IsCharBoundary};
 ghost use Rattle.line_editor.specs.Known.{IsKnownOn, known_within};
 
@@ -7,8 +7,7 @@ use crate::state::State;
 use line_buffer::{Movement, Position};
 use line_help::{Helper, History};
 
-/// What is known, if it stands no further than a place: whatever changes behind that place leaves
-/// it.
+/// The known place, if it isn't past another one: changes after that one leave it.
 pub(crate) fn known_within(
     place: usize,
     known: Option<(usize, Position)>,
@@ -36,8 +35,8 @@ impl<'p, 'h, Out: Renderer, H: Helper + Drop, Hi: History> State<'p, 'h, Out, H,
         }
     }
 
-    /// What is known, taken back to before the characters that a movement back goes over, where
-    /// each is a byte.
+    /// The known place, moved back before the characters that a movement back passes, if each of
+    /// them is one byte.
     pub(crate) fn known_before(&self, movement: &Movement) -> Option<(usize, Position)>
         ensures { IsKnownOn (Out.canvas.ruler self.now.out) self.now.layout
             self.now.recorded.line.text result }

@@ -30,7 +30,7 @@ impl<'p, 'h, Out: Renderer, H: Helper + Drop, Hi: History> State<'p, 'h, Out, H,
         }
     }
 
-    /// Moves on by clusters.
+    /// Moves forward by clusters.
     pub fn edit_move_forward(&mut self, n: RepeatCount) -> Result<(), ReadlineError>
         ensures does { Does (move_forward n) self.old self.new result }
     {
@@ -106,7 +106,7 @@ impl<'p, 'h, Out: Renderer, H: Helper + Drop, Hi: History> State<'p, 'h, Out, H,
         }
     }
 
-    /// Moves on to a word.
+    /// Moves to a later word.
     pub fn edit_move_to_next_word(
         &mut self,
         at: At,
@@ -123,7 +123,7 @@ impl<'p, 'h, Out: Renderer, H: Helper + Drop, Hi: History> State<'p, 'h, Out, H,
         }
     }
 
-    /// Moves by a search to the n-th such character, or to the last where fewer stand.
+    /// Moves by a search to the n-th such character, or to the last one if there are fewer.
     pub fn edit_move_to(&mut self, search: CharSearch, n: RepeatCount) -> Result<(), ReadlineError>
         ensures does { Does (move_to search n) self.old self.new result }
     {
@@ -135,7 +135,7 @@ impl<'p, 'h, Out: Renderer, H: Helper + Drop, Hi: History> State<'p, 'h, Out, H,
         }
     }
 
-    /// The layout after the session's own prompt, of which motions by rows see the prompt's end.
+    /// The layout after the session's own prompt. Motions by rows use the prompt's end.
     fn prompt_layout(&self) -> Layout
         ensures mode { result.grapheme_cluster_mode ≡ (setting_of self.now).mode }
         ensures column { result.prompt_size.col ≡ (setting_of self.now).column }
@@ -146,7 +146,7 @@ impl<'p, 'h, Out: Renderer, H: Helper + Drop, Hi: History> State<'p, 'h, Out, H,
         layout
     }
 
-    /// Moves up by rows. Answers false in the first row.
+    /// Moves up by rows. Returns false in the first row.
     pub fn edit_move_line_up(&mut self, n: RepeatCount) -> Result<bool, ReadlineError>
         ensures does { Does (move_line_up n) self.old self.new result }
         ensures answer { IfOk result
@@ -163,7 +163,7 @@ impl<'p, 'h, Out: Renderer, H: Helper + Drop, Hi: History> State<'p, 'h, Out, H,
         Ok(true)
     }
 
-    /// Moves down by rows. Answers false in the last row.
+    /// Moves down by rows. Returns false in the last row.
     pub fn edit_move_line_down(&mut self, n: RepeatCount) -> Result<bool, ReadlineError>
         ensures does { Does (move_line_down n) self.old self.new result }
         ensures answer { IfOk result
@@ -180,7 +180,7 @@ impl<'p, 'h, Out: Renderer, H: Helper + Drop, Hi: History> State<'p, 'h, Out, H,
         Ok(true)
     }
 
-    /// Moves to the row's start, and on to the next word.
+    /// Moves to the row's start, and from there to the next word.
     fn edit_move_home_and_on(&mut self) -> Result<(), ReadlineError>
         ensures does { Does (then_do move_home (move_to_next_word Start Big 1))
             self.old self.new result }
@@ -189,7 +189,7 @@ impl<'p, 'h, Out: Renderer, H: Helper + Drop, Hi: History> State<'p, 'h, Out, H,
         self.edit_move_to_next_word(At::Start, Word::Big, 1)
     }
 
-    /// The same where the text begins with whitespace; else to the row's start alone.
+    /// The same if the text begins with whitespace; otherwise only to the row's start.
     fn edit_move_to_first_print(&mut self) -> Result<(), ReadlineError>
         ensures does { Does move_to_first_print self.old self.new result }
     {
@@ -200,7 +200,7 @@ impl<'p, 'h, Out: Renderer, H: Helper + Drop, Hi: History> State<'p, 'h, Out, H,
         }
     }
 
-    /// Moves as a movement says.
+    /// Moves by a movement.
     pub(crate) fn edit_move(&mut self, movement: &Movement) -> Result<(), ReadlineError>
         ensures does { Does (move_by movement.now) self.old self.new result }
     {

@@ -11,14 +11,14 @@ use line_help::{Helper, History};
 use line_keys::{Cmd, Decides, InputState, RawReader, Refresher};
 use line_record::KillRing;
 
-/// Whether a command changes a range for what is typed next, all of which is undone as one.
+/// Whether a command changes a range by the text typed next, all of which is undone as one.
 fn begins_group(cmd: &Cmd) -> bool
     ensures { result ≡ begins_group cmd.now }
 {
     matches!(cmd, Cmd::Replace(..))
 }
 
-/// Ends a run of kills before a command that is none of it.
+/// Ends a run of kills before a command that doesn't continue it.
 pub(crate) fn reset_for(ring: &mut KillRing, cmd: &Cmd)
     ensures { ring.new ≡ reset_by cmd.now ring.old }
 {
@@ -31,8 +31,8 @@ impl<'p, 'h, Out: Renderer, H: Helper + Drop, Hi: History> State<'p, 'h, Out, H,
     ghost use Rattle.line_editor.specs.Asks.{shown_in};
     ghost use Rattle.line_editor.specs.States.{value_of, display_of};
 
-    /// The next command: the keys and pastes that it is made of are read, and no more. A group is
-    /// begun where it changes a range for what is typed next.
+    /// The next command. Only its own keys and pastes are read. A group begins if the command
+    /// changes a range by the text typed next.
     pub fn next_cmd<R: RawReader, D: Decides>(
         &mut self,
         input_state: &mut InputState<'_, D>,

@@ -14,7 +14,7 @@ use line_keys::{Decides, InputState, RawReader};
 use line_record::KillRing;
 
 impl<'p, 'h, Out: Renderer, H: Helper + Drop, Hi: History> State<'p, 'h, Out, H, Hi> {
-    /// Turns until one ends the line. Where one accepts it, the cursor goes to its end.
+    /// Turns until one ends the line. If one accepts it, the cursor goes to its end.
     fn turns<R: RawReader, D: Decides>(
         &mut self,
         input_state: &mut InputState<'_, D>,

@@ -1,4 +1,4 @@
-//! A state as what the key tables see.
+//! A state as the key tables see it.
 ghost use Rattle.std.specs.Prelude.{◌≡◌, IfErr, OnOk, Ok, Err};
 
 use crate::renderer::Renderer;
@@ -12,7 +12,7 @@ impl<'p, 'h, Out: Renderer, H: Helper + Drop, Hi: History> State<'p, 'h, Out, H,
     ghost use Rattle.line_editor.specs.States.{Does};
     ghost use Rattle.line_editor.specs.Values.{open_group, close_groups};
 
-    /// Opens a group: what is changed until it is closed is undone as one.
+    /// Opens a group: all changes until it is closed are undone as one.
     pub(crate) fn open_group(&mut self) -> Result<(), ReadlineError>
         ensures does { Does open_group self.old self.new result }
     {

@@ -1,4 +1,4 @@
-//! The history in place of the line.
+//! Shows history entries in place of the line.
 ghost use Rattle.std.specs.Prelude.{◌≡◌, ◌<◌, ◌≤◌, length, IsCharBoundary};
 
 use crate::renderer::Renderer;
@@ -12,7 +12,7 @@ impl<'p, 'h, Out: Renderer, H: Helper + Drop, Hi: History> State<'p, 'h, Out, H,
     ghost use Rattle.line_editor.specs.States.{setting_of, Does};
     ghost use Rattle.line_editor.specs.Remembering.{saving, restoring, come_back, previous_entry, next_entry, first_entry, last_line, history_step, history_end, entry_shown, recalled_earlier, saving_on_leaving, search_from, history_search};
 
-    /// Keeps the line for coming back to it.
+    /// Saves the line to come back to it.
     pub fn backup(&mut self) -> Result<(), ReadlineError>
         ensures does { Does saving self.old self.new result }
     {
@@ -21,7 +21,7 @@ impl<'p, 'h, Out: Renderer, H: Helper + Drop, Hi: History> State<'p, 'h, Out, H,
         Ok(())
     }
 
-    /// Puts the kept line back, as one change.
+    /// Restores the saved line, as one change.
     pub fn restore(&mut self) -> Result<(), ReadlineError>
         ensures does { Does restoring self.old self.new result }
     {
@@ -31,7 +31,7 @@ impl<'p, 'h, Out: Renderer, H: Helper + Drop, Hi: History> State<'p, 'h, Out, H,
         Ok(())
     }
 
-    /// Back to the line that was left.
+    /// Goes back to the saved line.
     fn come_back(&mut self) -> Result<(), ReadlineError>
         ensures does { Does come_back self.old self.new result }
     {
@@ -41,7 +41,7 @@ impl<'p, 'h, Out: Renderer, H: Helper + Drop, Hi: History> State<'p, 'h, Out, H,
         self.refresh()
     }
 
-    /// Keeps the line where the history's end is left.
+    /// Saves the line if it leaves the history's end.
     fn backup_on_leaving(&mut self) -> Result<(), ReadlineError>
         ensures does { Does saving_on_leaving self.old self.new result }
     {
@@ -52,7 +52,7 @@ impl<'p, 'h, Out: Renderer, H: Helper + Drop, Hi: History> State<'p, 'h, Out, H,
         }
     }
 
-    /// Shows an entry in place of the line, as one change, the cursor at a place of it.
+    /// Shows an entry in place of the line, as one change, with the cursor at a place of it.
     fn show_entry(&mut self, index: usize, entry: &str, pos: usize) -> Result<(), ReadlineError>
         requires index { index ≤ length (setting_of self.old).entries }
         requires boundary { IsCharBoundary entry.now pos }
@@ -64,7 +64,7 @@ impl<'p, 'h, Out: Renderer, H: Helper + Drop, Hi: History> State<'p, 'h, Out, H,
         self.refresh()
     }
 
-    /// Shows an earlier entry, the cursor at its end.
+    /// Shows an earlier entry, with the cursor at its end.
     fn recall_earlier(&mut self, index: usize, dir: SearchDirection) -> Result<(), ReadlineError>
         requires { index < length (setting_of self.old).entries }
         ensures does { Does (recalled_earlier index) self.old self.new result }
@@ -103,8 +103,8 @@ impl<'p, 'h, Out: Renderer, H: Helper + Drop, Hi: History> State<'p, 'h, Out, H,
         self.show_entry(place + 1, found.entry, found.entry.len())
     }
 
-    /// One entry back, or one on. Leaving the history's end keeps the line, coming back to it
-    /// restores it.
+    /// Goes to the previous entry, or to the next one. Leaving the history's end saves the line;
+    /// coming back to it restores it.
     pub fn edit_history_next(&mut self, prev: bool) -> Result<(), ReadlineError>
         ensures does { Does (history_step prev) self.old self.new result }
     {
@@ -134,7 +134,7 @@ impl<'p, 'h, Out: Renderer, H: Helper + Drop, Hi: History> State<'p, 'h, Out, H,
         self.come_back()
     }
 
-    /// The first entry, or the line that was left.
+    /// Goes to the first entry, or to the saved line.
     pub fn edit_history(&mut self, first: bool) -> Result<(), ReadlineError>
         ensures does { Does (history_end first) self.old self.new result }
     {
@@ -145,7 +145,7 @@ impl<'p, 'h, Out: Renderer, H: Helper + Drop, Hi: History> State<'p, 'h, Out, H,
         }
     }
 
-    /// The nearest entry from a place on that begins with the text before the cursor.
+    /// Shows the nearest entry from a place on that begins with the text before the cursor.
     fn search_from(&mut self, dir: SearchDirection, place: usize) -> Result<(), ReadlineError>
         requires { place ≤ length (setting_of self.old).entries }
         ensures does { Does (search_from dir place) self.old self.new result }
@@ -160,8 +160,8 @@ impl<'p, 'h, Out: Renderer, H: Helper + Drop, Hi: History> State<'p, 'h, Out, H,
         self.show_entry(found.idx, entry_of(found.entry), found.pos)
     }
 
-    /// The nearest entry before or after the present one that begins with the text before the
-    /// cursor. The place in the history moves by one also where there is none.
+    /// Shows the nearest entry before or after the current one that begins with the text before the
+    /// cursor. The place in the history moves by one even if there is none.
     pub fn edit_history_search(&mut self, dir: SearchDirection) -> Result<(), ReadlineError>
         ensures does { Does (history_search dir) self.old self.new result }
     {
@@ -184,7 +184,7 @@ impl<'p, 'h, Out: Renderer, H: Helper + Drop, Hi: History> State<'p, 'h, Out, H,
     }
 }
 
-/// The text of an entry, which its history lends.
+/// The text of an entry, borrowed from its history.
 fn entry_of<'a>(text: &'a str) -> &'a str
     ensures { result.now ≡ text.now }
 {

@@ -1,4 +1,4 @@
-//! What draws a line.
+//! The trait of renderers.
 ghost use Rattle.std.specs.Prelude.{◌≡◌, true, take, Some, OnErr, IfErr, IsTrue, IsCharBoundary, option_copied, option_map};
 ghost use Rattle.line_buffer.specs.Printable.{is_plain};
 ghost use Rattle.line_editor.specs.Known.{IsKnown};
@@ -11,20 +11,19 @@ use line_buffer::{GraphemeClusterMode, Layout, LineBuffer, Position, Unit};
 use line_config::ReadlineError;
 use line_help::Highlighter;
 
-/// How much is drawn anew.
+/// How much is redrawn.
 #[derive(Clone, Copy, Debug, PartialEq, Eq)]
 pub enum RefreshKind {
-    /// What is after the cursor, where nothing stands.
+    /// The text after the cursor, if nothing is shown there.
     Min,
-    /// All that was drawn before is erased first.
+    /// Everything; the old drawing is erased first.
     All,
 }
 
 /// Draws a line on a display.
 ///
-/// `canvas` is what is known of it: the step of each call that it makes, and of one that it
-/// refuses, whether the display has failed, and what it measures by. A call is refused only since
-/// the display has failed.
+/// `canvas` is what is known of it: the effect of each call that succeeds, and of one that fails;
+/// whether the display has failed; and its measures. A call fails only if the display has failed.
 pub trait Renderer: Drop {
     ghost canvas: { Canvas Self };
 
@@ -32,10 +31,11 @@ pub trait Renderer: Drop {
     fn move_cursor(&mut self, old: Position, new: Position) -> Result<(), ReadlineError>
         ensures { Makes canvas (Move old new) self.old self.new result };
 
-    /// Draws prompt, line, and hint or message after it. Without an old layout nothing is erased:
-    /// the cursor is on the prompt's first cell, and the cells from there on are blank.
+    /// Draws the prompt, the line, and the hint or message after it. Without an old layout nothing
+    /// is erased: then the cursor must be on the prompt's first cell, and the cells from there on
+    /// blank.
     ///
-    /// A highlighter is handed in where the display has colours.
+    /// A highlighter is given if the display has colours.
     fn refresh_line<H: Highlighter>(
         &mut self,
         prompt: &str,
@@ -53,15 +53,15 @@ pub trait Renderer: Drop {
     fn write_and_flush(&mut self, text: &str) -> Result<(), ReadlineError>
         ensures { Makes canvas (Write text.now) self.old self.new result };
 
-    /// Sounds the bell, where the display is to be heard.
+    /// Rings the bell, if the display is audible.
     fn beep(&mut self) -> Result<(), ReadlineError>
         ensures { Makes canvas Beep self.old self.new result };
 
-    /// Erases all, the cursor to the first cell.
+    /// Erases the display, and moves the cursor to the first cell.
     fn clear_screen(&mut self) -> Result<(), ReadlineError>
         ensures { Makes canvas ClearScreen self.old self.new result };
 
-    /// Erases the rows of a drawing, and all below.
+    /// Erases the rows of a drawing, and all rows below.
     fn clear_rows(&mut self, layout: &Layout) -> Result<(), ReadlineError>
         ensures { Makes canvas (ClearRows layout.now) self.old self.new result };
 
@@ -73,11 +73,11 @@ pub trait Renderer: Drop {
     fn move_and_clear_to_eol(&mut self, old: Position, new: Position) -> Result<(), ReadlineError>
         ensures { Makes canvas (MoveAndClearToEol old new) self.old self.new result };
 
-    /// Moves the cursor to its row's first cell, if the display left it elsewhere.
+    /// Moves the cursor to the first cell of its row, if the display left it elsewhere.
     fn move_cursor_at_leftmost(&mut self) -> Result<(), ReadlineError>
         ensures { Makes canvas ToLeftmost self.old self.new result };
 
-    /// What is drawn from now on is shown at once, when the update ends. Nothing is written.
+    /// Starts an update that is shown at once when it ends. Nothing is written.
     fn begin_synchronized_update(&mut self) -> Result<(), ReadlineError>
         ensures { Idles canvas self.old self.new result }
     {
@@ -85,7 +85,7 @@ pub trait Renderer: Drop {
         Ok(())
     }
 
-    /// Nothing is written.
+    /// Ends the update. Nothing is written.
     fn end_synchronized_update(&mut self) -> Result<(), ReadlineError>
         ensures { Idles canvas self.old self.new result }
     {
@@ -93,15 +93,15 @@ pub trait Renderer: Drop {
         Ok(())
     }
 
-    /// Asks the display for its size anew. Nothing is written, and the size is as it was.
+    /// Reads the display's size again. Nothing is written, and the size stays as it was.
     fn update_size(&mut self)
         ensures { self.new ≡ self.old };
 
-    /// How many columns a row has.
+    /// The number of columns of a row.
     fn get_columns(&self) -> Unit
         ensures { result ≡ (canvas.ruler self.now).columns };
 
-    /// How many rows there are.
+    /// The number of rows.
     fn get_rows(&self) -> Unit
         ensures { result ≡ (canvas.ruler self.now).rows };
 
@@ -113,11 +113,12 @@ pub trait Renderer: Drop {
     fn grapheme_cluster_mode(&self) -> GraphemeClusterMode
         ensures { result ≡ (canvas.ruler self.now).mode };
 
-    /// Where the drawing of a text from a place on ends.
+    /// Where the drawing of a text ends that starts at a place.
     fn calculate_position(&self, text: &str, orig: Position) -> Position
         ensures { result ≡ (canvas.ruler self.now).measure text.now orig };
 
-    /// Where the drawing of a plain text up to a place ends, from a place where it is known to end.
+    /// Where the drawing of a plain text up to a place ends, computed from a place for which this
+    /// is known.
     fn position_from(
         &self,
         text: &str,
@@ -133,8 +134,8 @@ pub trait Renderer: Drop {
         self.calculate_position(&text[..place], start)
     }
 
-    /// The layout of a line after a prompt that ends at `prompt_size`, with a hint or message
-    /// after it. The end is that of the whole drawing.
+    /// The layout of a line after a prompt that ends at `prompt_size`, with a hint or message after
+    /// it. Its end is that of the whole drawing.
     fn compute_layout(
         &self,
         prompt_size: Position,

@@ -1,4 +1,4 @@
-//! Transpositions, letters in another case, indentation, and changes taken back.
+//! Transpositions, changes of case, indentation, and undo.
 
 use crate::renderer::Renderer;
 use crate::state::State;
@@ -12,7 +12,7 @@ impl<'p, 'h, Out: Renderer, H: Helper + Drop, Hi: History> State<'p, 'h, Out, H,
     ghost use Rattle.line_editor.specs.States.{Does};
     ghost use Rattle.line_editor.specs.Rewording.{transpose_chars_effect, transpose_words_effect, edit_word_effect, indent_effect, undo};
 
-    /// Exchanges the clusters around the cursor.
+    /// Transposes the clusters around the cursor.
     pub fn edit_transpose_chars(&mut self) -> Result<(), ReadlineError>
         ensures does { Does transpose_chars_effect self.old self.new result }
     {
@@ -21,8 +21,8 @@ impl<'p, 'h, Out: Renderer, H: Helper + Drop, Hi: History> State<'p, 'h, Out, H,
         if done { self.refresh() } else { Ok(()) }
     }
 
-    /// Exchanges the word at the cursor or after it with the one `n` words before it, as one step.
-    /// The line is drawn also where only the cursor moved.
+    /// Swaps the word at the cursor or after it with the one `n` words before it, as one step. The
+    /// line is drawn even if only the cursor moved.
     pub fn edit_transpose_words(&mut self, n: RepeatCount) -> Result<(), ReadlineError>
         ensures does { Does (transpose_words_effect n) self.old self.new result }
     {
@@ -36,7 +36,7 @@ impl<'p, 'h, Out: Renderer, H: Helper + Drop, Hi: History> State<'p, 'h, Out, H,
         }
     }
 
-    /// Sets a word's letters in another case.
+    /// Changes the case of a word.
     pub fn edit_word(&mut self, action: WordAction) -> Result<(), ReadlineError>
         ensures does { Does (edit_word_effect action) self.old self.new result }
     {
@@ -45,8 +45,8 @@ impl<'p, 'h, Out: Renderer, H: Helper + Drop, Hi: History> State<'p, 'h, Out, H,
         if done { self.refresh() } else { Ok(()) }
     }
 
-    /// Gives each row that a movement covers `amount` spaces, or takes as many whitespace
-    /// characters at most: a change a row.
+    /// Adds `amount` spaces to each row that a movement covers, or removes at most as many
+    /// whitespace characters: one change per row.
     pub fn edit_indent(
         &mut self,
         movement: &Movement,
@@ -60,7 +60,7 @@ impl<'p, 'h, Out: Renderer, H: Helper + Drop, Hi: History> State<'p, 'h, Out, H,
         self.refresh()
     }
 
-    /// Takes back what was recorded last.
+    /// Undoes the last changes.
     pub(crate) fn edit_undo(&mut self, n: RepeatCount) -> Result<(), ReadlineError>
         ensures does { Does (undo n) self.old self.new result }
     {

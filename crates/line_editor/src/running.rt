@@ -14,8 +14,8 @@ use line_keys::{Decides, EventMap, InputState, RawReader};
 use line_record::KillRing;
 use std::alloc::Global;
 
-/// What is left of a line: the renderer and the helper that were handed in, and the line's text or
-/// why there is none.
+/// What remains after a line: the renderer and the helper passed in, and the line's text or why
+/// there is none.
 #[derive(Drop)]
 pub struct Ran<Out: Renderer, H: Helper + Drop> {
     pub out: Out,
@@ -24,7 +24,7 @@ pub struct Ran<Out: Renderer, H: Helper + Drop> {
 }
 
 impl<Out: Renderer, H: Helper + Drop> Ran<Out, H> {
-    /// There was no memory for a line.
+    /// No memory was available for a line.
     fn unread(out: Out, helper: Option<H>) -> Self
         ensures { result ≡ record { out = out; helper = helper; outcome = Err Memory } }
     {
@@ -37,7 +37,7 @@ impl<Out: Renderer, H: Helper + Drop> Ran<Out, H> {
 }
 
 impl<'p, 'h, Out: Renderer, H: Helper + Drop, Hi: History> State<'p, 'h, Out, H, Hi> {
-    /// What is left where the line was read so.
+    /// What remains after the line was read.
     fn ran(self, read: Result<(), ReadlineError>) -> Ran<Out, H>
         ensures out { result.out ≡ self.entry.out }
         ensures helper { result.helper ≡ self.entry.helper }
@@ -59,10 +59,10 @@ impl<'p, 'h, Out: Renderer, H: Helper + Drop, Hi: History> State<'p, 'h, Out, H,
     }
 }
 
-/// Reads a line: its keys come from `reader`, and it is drawn on `out`, from the cursor's row on.
+/// Reads a line. Its keys come from `reader`, and it is drawn on `out`, from the cursor's row on.
 ///
-/// The renderer and the helper are given back on every way out, and the reader and the kill ring go
-/// on to the next line.
+/// The renderer and the helper are returned in every case. The reader and the kill ring can be used
+/// for the next line.
 pub fn run<R: RawReader, Out: Renderer, H: Helper + Drop, Hi: History, D: Decides>(
     alloc: Global,
     reader: &mut R,

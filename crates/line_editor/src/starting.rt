@@ -1,4 +1,4 @@
-//! A line's beginning.
+//! Starts lines.
 ghost use Rattle.std.specs.Prelude.{◌≡◌, [], true, false, None, IfOk, IfErr, if◌then◌else◌, option_copied};
 ghost use Rattle.line_config.specs.declared.errors.ReadlineError.TheVariants.{Memory};
 ghost use Rattle.line_record.specs.Items.{no_items};
@@ -14,7 +14,7 @@ use line_help::{Context, Helper, History};
 use line_record::Changeset;
 use std::alloc::Global;
 
-/// An empty line that grows as it needs to, with nothing recorded.
+/// An empty line that may grow without limit, with nothing recorded.
 pub(crate) fn empty_line(alloc: Global) -> Result<RecordedLine, ReadlineError>
     ensures line { IfOk result
         (λ r. r.line ≡ record { text = []; place = 0; growth = true; limit = 4096 }) }
@@ -45,7 +45,7 @@ impl<'p, 'h, Out: Renderer, H: Helper + Drop, Hi: History> State<'p, 'h, Out, H,
         Ok(State::of_parts(alloc, recorded, out, prompt, helper, ctx))
     }
 
-    /// The same of an empty line that stands already, so that no memory is taken.
+    /// The same with a given empty line, so that it takes no memory.
     pub(crate) fn of_parts(
         alloc: Global,
         recorded: RecordedLine,
@@ -75,7 +75,7 @@ impl<'p, 'h, Out: Renderer, H: Helper + Drop, Hi: History> State<'p, 'h, Out, H,
         }
     }
 
-    /// The helper, where the display has colours.
+    /// The helper, if the display has colours.
     pub fn highlighter(&self) -> Option<&H>
         ensures { option_copied result
             ≡ (if (Out.canvas.ruler self.now.out).colours then self.now.helper else None) }

@@ -15,7 +15,7 @@ impl<'p, 'h, Out: Renderer, H: Helper + Drop, Hi: History> State<'p, 'h, Out, H,
     ghost use Rattle.line_editor.specs.LineScripts.{turn_script};
     ghost use Rattle.line_editor.specs.Turning.{Takes};
 
-    /// One turn: the next command, and what it does.
+    /// One turn: the next command and its effect.
     pub(crate) fn turn<R: RawReader, D: Decides>(
         &mut self,
         input_state: &mut InputState<'_, D>,

@@ -1,4 +1,4 @@
-//! Texts yanked from the ring, and exchanged.
+//! Yanks texts from the ring, and replaces yanked texts.
 ghost use Rattle.std.specs.Prelude.{◌≡◌, slice_get};
 ghost use Rattle.line_editor.specs.Yanking.{anchored, steps_over, behind_yank};
 
@@ -10,7 +10,7 @@ use line_help::{Helper, History};
 use line_keys::{Decides, InputState};
 use line_record::KillRing;
 
-/// Steps over the cluster at the cursor where a text goes after it. Answers whether there is one.
+/// Steps over the cluster at the cursor if a text is to go after it. Returns whether there is one.
 fn step_on(line: &mut LineBuffer, anchor: Anchor) -> bool
     ensures line { line.new ≡ anchored anchor line.old }
     ensures text { line.new.text ≡ line.old.text }
@@ -22,7 +22,7 @@ fn step_on(line: &mut LineBuffer, anchor: Anchor) -> bool
     }
 }
 
-/// Steps back onto the last cluster, where Vi's command mode stands on it.
+/// Steps back onto the last cluster, as Vi's command mode does.
 fn step_back(line: &mut LineBuffer, vi_command: bool)
     ensures line { line.new ≡ behind_yank vi_command line.old }
     ensures text { line.new.text ≡ line.old.text }
@@ -39,7 +39,7 @@ impl<'p, 'h, Out: Renderer, H: Helper + Drop, Hi: History> State<'p, 'h, Out, H,
     ghost use Rattle.line_keys.specs.Modes.{is_vi_command};
     ghost use Rattle.line_record.specs.Ring.{yanked, turned, exchanged};
 
-    /// Puts a text in so many times, at the cursor or after the cluster at it.
+    /// Inserts a text `n` times, at the cursor or after the cluster at it.
     pub fn edit_yank<D: Decides>(
         &mut self,
         input_state: &InputState<'_, D>,
@@ -62,8 +62,7 @@ impl<'p, 'h, Out: Renderer, H: Helper + Drop, Hi: History> State<'p, 'h, Out, H,
         if stepped { self.refresh() } else { Ok(()) }
     }
 
-    /// Puts a text in place of the one that was yanked, where so many bytes stand before the
-    /// cursor.
+    /// Replaces the `yank_size` bytes before the cursor by a text, if there are as many.
     pub fn edit_yank_pop(&mut self, yank_size: usize, text: &str) -> Result<(), ReadlineError>
         ensures does { Does (pop_text yank_size text.now) self.old self.new result }
     {
@@ -75,7 +74,7 @@ impl<'p, 'h, Out: Renderer, H: Helper + Drop, Hi: History> State<'p, 'h, Out, H,
         self.refresh()
     }
 
-    /// Yanks what the ring lends.
+    /// Yanks the ring's text.
     pub(crate) fn yank_from<D: Decides>(
         &mut self,
         ring: &mut KillRing,
@@ -94,7 +93,7 @@ impl<'p, 'h, Out: Renderer, H: Helper + Drop, Hi: History> State<'p, 'h, Out, H,
         }
     }
 
-    /// Puts the turned slot's text in place of the yanked one.
+    /// Replaces the yanked text by that of the turned slot.
     pub(crate) fn pop_from(&mut self, ring: &mut KillRing) -> Result<(), ReadlineError>
         ensures does { Does (pop_lent (exchanged ring.old)) self.old self.new result }
         ensures ring { ring.new ≡ turned ring.old }

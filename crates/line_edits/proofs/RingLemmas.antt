@@ -1,4 +1,4 @@
--- What a kill that is refused leaves of line, record and ring.
+-- What a kill that fails leaves of line, record and ring.
 use Rattle.std.specs.Prelude.{Bool, true, false, if◌then◌else◌, Option, Some, None, is_some, Result, Ok, Err, OnErr, IsErrAnd, IsUtf8}
 use Rattle.std.proofs.Common.{◌≡◌, ◌⊎◌, inl, inr, ℕ, List, [], ◌∷◌, ◌++◌, refl, ap, ◌∙◌}
 use Rattle.line_buffer.specs.Edit.{StopsAt}
@@ -42,7 +42,7 @@ module _ {B : Type 0} (second second_refuses : B → Event → B → Type 0) whe
   abbrev Refused : Joined Ring B → Event → Joined Ring B → Type 0
   Refused = joined_refuses hears ring_refuses second_refuses
 
-  -- the ring after an event that was refused
+  -- the ring after an event that failed
   after_refusal : (e : Event) (u v : Joined Ring B) → Refused u e v → (v.first.now ≡ u.first.now) ⊎ (v.first.now ≡ ring_step e u.first.now)
   after_refusal e u v (names, inl kept) = inl kept.0.0
   after_refusal e u v (names, inr took) = inr took.0
@@ -77,7 +77,7 @@ module _ {B : Type 0} (second second_refuses : B → Event → B → Type 0) whe
   some_by false None l s t before after call = no_change call.done call.never call.refused call.split call.change
   some_by b (Some span) l s t before after call = refl
 
-  -- a kill that is refused takes something
+  -- a kill that fails deletes something
   pub some_killed : (movement : Movement) (l : Line) {s t : Joined Ring B} {before after : List ℕ}
       → StopsAmong (joined_takes hears second) (joined_refuses hears ring_refuses second_refuses) (kill_closing movement) (kill_events movement l) s t before after → is_some (range_of movement l) ≡ true
   some_killed movement l {s} {t} {before} {after} call = some_by (goes_by_clusters movement) (range_of movement l) l s t before after call

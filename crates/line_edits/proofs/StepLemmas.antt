@@ -1,60 +1,48 @@
--- Edits by their steps: what a call owes that was answered, or refused.
-use Rattle.std.specs.Prelude.{⊤, Result, Ok, Err, OnErr, IsErrAnd, IsUtf8}
-use Rattle.std.proofs.Common.{◌≡◌, ℕ, List, [], ◌∷◌, refl, sym, ap, ◌∙◌, inl, inr}
+-- Edits by their steps: what a call owes that succeeded, or failed.
+use Rattle.std.specs.Prelude.{Result, Ok, Err, OnErr, IsErrAnd, IsUtf8}
+use Rattle.std.proofs.Common.{◌≡◌, ℕ, List, [], ◌∷◌, ◌++◌, refl, ap, ◌∙◌, subst, inl, inr}
 use Rattle.std.proofs.lemmas.Result.{on_err_weaker}
 use Rattle.line_buffer.specs.Edit.{StopsAt}
 use Rattle.line_buffer.specs.Event.{Event}
 use Rattle.line_buffer.specs.Line.{Line}
 use Rattle.line_buffer.specs.Replay.{TellsOfChange, Reports, wants_or, carried_all}
 use Rattle.line_buffer.proofs.LeftLemmas.{stopped_first}
-use Rattle.line_config.specs.Scripts.{Ends, Asks, Goes, then}
-use Rattle.line_config.proofs.ScriptLaws.{then_goes, then_cut, ok_not_err}
 use Rattle.line_record.specs.Items.{Items, ItemsStand, RecordedIn, record_refuses, held_on, opened}
 use Rattle.line_record.specs.Course.{recorded_all}
 use Rattle.line_record.proofs.RunLemmas.{told_stand, told_held, stopped_stand, part_stopped, recorded_all-nil}
-use Rattle.line_edits.specs.Steps.{Tells, Leaves, StopsWithin, StopsIn, Rewrites, Edits, written_world, made, answer_of, doing, answering, grouping, WriteSteps, step_made}
+use Rattle.line_edits.specs.Steps.{WriteStep, Tells, Leaves, Closes, StopsWithin, StopsAlong, StopsIn, Rewrites, Edits, made, made_along, doing, in_turn, answering, grouping, WriteSteps, step_made}
 use Rattle.line_edits.specs.Written.{Written, Writes, written, written_in}
 use Rattle.line_edits.specs.declared.recorded_line.RecordedLine.{RecordedLine}
 
 -- ---- steps
 
-pub goes_made : {A : Type 0} (E : Type 0) (steps : WriteSteps A) (w : Written) → Goes (written_world E) steps w (Ok (answer_of steps)) (made steps w)
-goes_made E (Ends answer) w = (refl, refl)
-goes_made E (Asks step later) w = inl (tt, step_made step w, refl, goes_made E (later tt) (step_made step w))
+-- others follow them
+pub along_before : (steps more : List WriteStep) (w v : Written) → StopsAlong steps w v → StopsAlong (steps ++ more) w v
+along_before [] more w v h = absurd h
+along_before (step ∷ steps) more w v (inl h) = inl (along_before steps more (step_made step w) v h)
+along_before (step ∷ steps) more w v (inr h) = inr h
 
--- whatever the fault is
-pub goes_refused : {A E F : Type 0} (steps : WriteSteps A) (w v : Written) (e : E) (f : F) → Goes (written_world E) steps w (Err e) v → Goes (written_world F) steps w (Err f) v
-goes_refused (Ends answer) w v e f is = ok_not_err answer e (sym is.0)
-goes_refused (Asks step later) w v e f (inl (x, u, is, goes)) = inl (x, u, is, goes_refused (later x) u v e f goes)
-goes_refused (Asks step later) w v e f (inr (g, cut, is)) = inr (f, cut, refl)
+along_behind : (steps more : List WriteStep) (w v : Written) → StopsAlong more (made_along steps w) v → StopsAlong (steps ++ more) w v
+along_behind [] more w v h = h
+along_behind (step ∷ steps) more w v h = inl (along_behind steps more (step_made step w) v h)
 
--- steps of which others follow
-module _ {A B : Type 0} (steps : WriteSteps A) (next : A → WriteSteps B) where
-  pub stops_before : {w v : Written} → StopsIn steps w v → StopsIn (then steps next) w v
-  stops_before {w} {v} h = record { goes = then_cut (written_world _) steps next tt w v h.goes }
+module _ {A B : Type 0} (first : WriteSteps A) (second : WriteSteps B) where
+  pub stops_before : {w v : Written} → StopsIn first w v → StopsIn (in_turn first second) w v
+  stops_before {w} {v} h = record { stops = along_before first.steps second.steps w v h.stops }
 
-  pub stops_behind : {w v : Written} → StopsIn (next (answer_of steps)) (made steps w) v → StopsIn (then steps next) w v
-  stops_behind {w} {v} h = record { goes = then_goes (written_world _) steps next (answer_of steps) (Err tt) w (made steps w) v (goes_made _ steps w) h.goes }
-
--- another answer
-pub made_answering : {A B : Type 0} (answer : B) (steps : WriteSteps A) (w : Written) → made (answering answer steps) w ≡ made steps w
-made_answering answer (Ends a) w = refl
-made_answering answer (Asks step later) w = made_answering answer (later tt) (step_made step w)
-
-pub answered_is : {A B : Type 0} (answer : B) (steps : WriteSteps A) → answer_of (answering answer steps) ≡ answer
-answered_is answer (Ends a) = refl
-answered_is answer (Asks step later) = answered_is answer (later tt)
+  pub stops_behind : {w v : Written} → StopsIn second (made first w) v → StopsIn (in_turn first second) w v
+  stops_behind {w} {v} h = record { stops = along_behind first.steps second.steps w v h.stops }
 
 -- whatever would have been answered
-pub unanswered : {A B : Type 0} (answer : B) (steps : WriteSteps A) (w v : Written) → StopsIn steps w v → StopsIn (answering answer steps) w v
-unanswered answer steps w v stops = record { goes = then_cut (written_world ⊤) steps (λ a. Ends answer) tt w v stops.goes }
+pub unanswered : {A B : Type 0} (answer : B) (edit : WriteSteps A) (w v : Written) → StopsIn edit w v → StopsIn (answering answer edit) w v
+unanswered answer edit w v h = record { stops = h.stops }
 
-pub left_unanswered : {A B E : Type 0} (result : Result A E) (steps : WriteSteps B) (w v : Written) → OnErr result (StopsIn steps w v) → OnErr result (StopsIn (answering (tt {0}) steps) w v)
-left_unanswered result steps w v = on_err_weaker result (unanswered (tt {0}) steps w v)
+pub left_unanswered : {A B E : Type 0} (result : Result A E) (edit : WriteSteps B) (w v : Written) → OnErr result (StopsIn edit w v) → OnErr result (StopsIn (answering (tt {0}) edit) w v)
+left_unanswered result edit w v = on_err_weaker result (unanswered (tt {0}) edit w v)
 
 -- ---- a call
 
--- one that was refused has made the first of the steps, and the record stands
+-- one that failed has made the first steps, and the record stands
 pub rewrites_refused : {A E : Type 0} {steps : WriteSteps A} {before after : Line} {old new : Items} (e : E) (result : Result A E)
     → IsErrAnd result (λ x. x ≡ e) → ItemsStand new after.text → StopsIn steps (written before old) (written after new) → Rewrites steps before after old new result
 rewrites_refused e (Ok a) is stand stops = absurd is
@@ -73,10 +61,10 @@ written_is {A} {E} {edit} {answer} {before} {after} {old} {new} h =
 
 -- the cursor was moved before
 pub behind_move : {A E : Type 0} {steps : WriteSteps A} (before : Line) (place : ℕ) {after : Line} {old new : Items} (result : Result A E)
-    → Rewrites steps (record before { place = place }) after old new result → Rewrites (Asks (Leaves (record before { place = place })) (λ none. steps)) before after old new result
+    → Rewrites steps (record before { place = place }) after old new result → Rewrites (in_turn (doing (Leaves (record before { place = place })) (tt {0})) steps) before after old new result
 behind_move before place result h = record {
   writes = record { answers = h.writes.answers; line = h.writes.line; held = h.writes.held; stand = h.writes.stand };
-  left = on_err_weaker result (λ stops. record { goes = inl (tt, _, refl, stops.goes) }) h.left;
+  left = on_err_weaker result (λ h. record { stops = inl h.stops }) h.left;
 }
 
 -- ---- events
@@ -108,24 +96,24 @@ told_rewrites a utf8 stand is line told = record {
   left = tt;
 }
 
--- a refused one told it the first of them
+-- a failed one reported the first of them
 pub stopped_rewrites : {A E : Type 0} {events : List Event} {line : Line} {answer : A} {before after : Line} {old new : Items} (e : E) (result : Result A E)
     → IsErrAnd result (λ x. x ≡ e) → IsUtf8 before.text → ItemsStand old before.text → StopsAt RecordedIn (wants_or record_refuses) [] events old new before after
     → Rewrites (doing (Tells events line) answer) before after old new result
 stopped_rewrites e result is utf8 stand call =
-    rewrites_refused e result is (stopped_stand stand utf8 call.stops) (record { goes = inr (tt, stopped_among utf8 stand call, refl) })
+    rewrites_refused e result is (stopped_stand stand utf8 call.stops) (record { stops = inr (stopped_among utf8 stand call) })
 
 -- ---- groups
 
--- the edit was refused behind the mark
+-- the edit failed after the mark
 pub stopped_in_group : {A E : Type 0} (steps : WriteSteps A) (line : Line) (old : Items) {mid new : Items} {after : Line} → mid ≡ opened old → (e : E) (result : Result A E) → IsErrAnd result (λ x. x ≡ e) → ItemsStand new after.text
     → StopsIn steps (written line mid) (written after new) → Rewrites (grouping steps) line after old new result
-stopped_in_group steps line old {mid} {new} {after} marked e result is stand stops =
-    rewrites_refused e result is stand (record { goes = inl (tt, written line mid, ap (written line) marked, (stops_before steps _ stops).goes) })
+stopped_in_group steps line old {mid} {new} {after} marked e result is stand h =
+    rewrites_refused e result is stand (record { stops = inl (along_before steps.steps (Closes ∷ []) (written line (opened old)) (written after new) (subst (λ items. StopsAlong steps.steps (written line items) (written after new)) marked h.stops)) })
 
 -- ---- one change
 
--- it was refused, and the line stayed
+-- it failed, and the line stayed
 pub unchanged_rewrites : {A E : Type 0} {line : Line} {answer : A} (event : Event) {before after : Line} {old new : Items} (e : E) (result : Result A E) → IsErrAnd result (λ x. x ≡ e)
     → TellsOfChange event → IsUtf8 before.text → ItemsStand old before.text → wants_or record_refuses old event new → after ≡ before
     → Rewrites (doing (Tells (event ∷ []) line) answer) before after old new result

@@ -1,6 +1,6 @@
--- What a refused edit leaves: one of a single change, a kill, and a group.
-use Rattle.std.specs.Prelude.{⊤, Bool, true, false, if◌then◌else◌, Option, Some, None, Ok, Err}
-use Rattle.std.proofs.Common.{◌≡◌, ◌≤◌, ◌⊎◌, inl, inr, List, [], ◌∷◌, ◌++◌, length, refl, sym, ap, ◌∙◌, arith, length-append}
+-- What a failed edit leaves: one of a single change, a kill, and a group.
+use Rattle.std.specs.Prelude.{Bool, true, false, if◌then◌else◌, Option, Some, None}
+use Rattle.std.proofs.Common.{◌≡◌, ◌≤◌, inl, inr, List, [], ◌∷◌, ◌++◌, length, refl, ap, ◌∙◌, arith, length-append}
 use Rattle.line_buffer.specs.Event.{Event}
 use Rattle.line_buffer.specs.Event.Event.{StartKilling, StopKilling}
 use Rattle.line_buffer.specs.Line.{Line}
@@ -8,11 +8,9 @@ use Rattle.line_buffer.specs.Range.{range_of, goes_by_clusters, deletion_events}
 use Rattle.line_buffer.specs.Replay.{deletion, carried_all}
 use Rattle.line_buffer.specs.declared.range.Span.{Span}
 use Rattle.line_buffer.proofs.KeptLemmas.{no_change, deletion_few, insert_few, split_between, yank_few}
-use Rattle.line_config.specs.Scripts.{Goes}
-use Rattle.line_config.proofs.ScriptLaws.{err_in, ok_not_err, parted}
 use Rattle.line_record.specs.Course.{recorded_all}
 use Rattle.line_edits.specs.Edits.{RefusedChangesLeaveAll, RefusedGroupsStayOpen}
-use Rattle.line_edits.specs.Steps.{Tells, Closes, StopsWithin, StopsIn, written_world, after_events, doing, grouping}
+use Rattle.line_edits.specs.Steps.{WriteStep, Tells, Closes, StopsWithin, StopsAlong, StopsIn, after_events, doing, step_made}
 use Rattle.line_edits.specs.Written.{Written, group_opened}
 
 followed-none : (w : Written) → after_events [] w ≡ w
@@ -41,7 +39,7 @@ kill_within false (Some span) l {w} x =
 
 -- an edit of one step
 stopped_step : {A : Type 0} {events : List Event} {line : Line} {answer : A} {w v : Written} → StopsIn (doing (Tells events line) answer) w v → StopsWithin events w v
-stopped_step {answer = answer} h = elim h.goes [ inl made ↦ ok_not_err answer (tt {0}) (sym made.3.0) | inr cut ↦ cut.1 ]
+stopped_step h = elim h.stops [ inl none ↦ absurd none | inr refused ↦ refused ]
 
 pub refused_changes_leave_all : RefusedChangesLeaveAll
 refused_changes_leave_all = record {
@@ -52,15 +50,15 @@ refused_changes_leave_all = record {
   killed = λ movement w v h. kill_within (goes_by_clusters movement) (range_of movement w.line) w.line (stopped_step h);
 }
 
-pub refused_groups_stay_open : RefusedGroupsStayOpen
-refused_groups_stay_open steps w v h = by h.goes
-  where
-    within : (u : Written) → u ≡ group_opened w → ((b : Bool) × (t : Written) × Goes (written_world ⊤) steps u (Ok b) t × Goes (written_world ⊤) (doing Closes b) t (err_in Bool (tt {0})) v)
-        ⊎ ((e : ⊤) × Goes (written_world ⊤) steps u (Err e) v × (err_in Bool (tt {0}) ≡ Err e)) → StopsIn steps (group_opened w) v
-    within u made (inl (b, t, done, inl (x, z, closed, is))) = ok_not_err b (tt {0}) (sym is.0)
-    within u made (inl (b, t, done, inr (e, cut, is))) = absurd cut
-    within u made (inr (e, goes, is)) = record { goes = rw made at goes }
+-- closing marks never fails
+unclosed : (steps : List WriteStep) (w v : Written) → StopsAlong (steps ++ (Closes ∷ [])) w v → StopsAlong steps w v
+unclosed [] w v (inl h) = h
+unclosed [] w v (inr h) = h
+unclosed (step ∷ steps) w v (inl h) = inl (unclosed steps (step_made step w) v h)
+unclosed (step ∷ steps) w v (inr h) = inr h
 
-    by : Goes (written_world ⊤) (grouping steps) w (Err (tt {0})) v → (v ≡ w) ⊎ StopsIn steps (group_opened w) v
-    by (inr (e, cut, is)) = inl cut
-    by (inl (x, u, made, goes)) = inr (within u made (parted (written_world ⊤) (λ b. doing Closes b) steps u v (err_in Bool (tt {0})) goes))
+pub refused_groups_stay_open : RefusedGroupsStayOpen
+refused_groups_stay_open edit w v h = elim h.stops [
+  | inl within ↦ inr (record { stops = unclosed edit.steps (group_opened w) v within })
+  | inr refused ↦ inl refused
+]

@@ -1,4 +1,4 @@
--- What a refused undo leaves.
+-- What a failed undo leaves.
 use Rattle.std.specs.Prelude.{◌≡◌, ℕ, max, Result, Ok, Err, OnErr}
 use Rattle.line_buffer.specs.Line.{Line}
 use Rattle.line_record.specs.Items.{Items, BackInPart, no_items, last_changes}

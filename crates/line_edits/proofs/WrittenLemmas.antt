@@ -14,7 +14,7 @@ pub recorded_one : (e : Event) (text : List ℕ) (held : List Held) → recorded
 unfolding recorded_all
 recorded_one e text held = refl
 
--- where nothing is put in, nothing is told
+-- if nothing is inserted, nothing is reported
 by_room : (room : Bool) (told e : Event) (es : List Event) (added : List ℕ) (l : Line)
     → (if room then record { answer = Some (l.place == length l.text); events = told ∷ []; line = put_at_cursor added l } else no_insertion l).events ≡ e ∷ es
     → is_some (if room then record { answer = Some (l.place == length l.text); events = told ∷ []; line = put_at_cursor added l } else no_insertion l).answer ≡ true

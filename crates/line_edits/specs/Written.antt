@@ -1,4 +1,4 @@
--- A line with the record of its texts, and what a call makes of both.
+-- A line with the record of its texts, and the effect of a call on both.
 use Rattle.std.specs.Prelude.{◌≡◌, ◌∷◌, List, Result, IfOk, OnOk}
 use Rattle.line_buffer.specs.Event.{Event}
 use Rattle.line_buffer.specs.Line.{Line}
@@ -33,8 +33,8 @@ group_closed w = record { line = w.line; held = ended w.held }
 abbrev pub in_group : (Written → Written) → Written → Written
 in_group edit w = group_closed (edit (group_opened w))
 
--- a call that is answered has made the edit, and answers so; the record stands on the line's text
--- also where it was refused
+-- a call that succeeds has made the edit, and returns this answer; the record fits the line's text
+-- even if the call failed
 pub record Writes {A E : Type 0} (edit : Written → Written) (answer : A) (before after : Line)
     (old new : Items) (result : Result A E) : Type 0 where
   pub answers : IfOk result (λ a. a ≡ answer)

@@ -1,4 +1,4 @@
-//! Clusters exchanged for characters.
+//! Replaces clusters by characters.
 ghost use Rattle.std.specs.Prelude.{◌≡◌, ◌≤◌, IsCharBoundary, OnErr};
 ghost use Rattle.line_record.specs.Items.{ItemsStand};
 ghost use Rattle.line_edits.specs.Edits.{deleting, clusters_after, exchanging, replacing, replacing_if_any, putting_over, overwriting};
@@ -11,7 +11,7 @@ use line_buffer::{LineBuffer, OutOfMemory, RepeatCount, clusters_up_to, is_print
 use line_record::Changeset;
 use std::alloc::Global;
 
-/// How many of `n` clusters stand after the cursor.
+/// How many of `n` clusters are after the cursor.
 fn clusters_after(line: &LineBuffer, n: RepeatCount) -> RepeatCount
     ensures value { result ≡ clusters_after n line.now }
 {
@@ -88,8 +88,8 @@ fn put_over(
 }
 
 impl RecordedLine {
-    /// Exchanges up to `n` clusters after the cursor for a character each, in one group, the cursor
-    /// on the last one. Answers whether any stands there; else nothing is done.
+    /// Replaces up to `n` clusters after the cursor by a character each, in one group, with the
+    /// cursor on the last one. Returns false, and does nothing, if there is none.
     pub fn replace_chars(
         &mut self,
         alloc: Global,
@@ -107,8 +107,8 @@ impl RecordedLine {
         Ok(true)
     }
 
-    /// Writes a character over the cluster at the cursor. Answers whether one stands there; else
-    /// nothing is done.
+    /// Overwrites the cluster at the cursor with a character. Returns false, and does nothing, if
+    /// there is none.
     pub fn overwrite(&mut self, alloc: Global, ch: char) -> Result<bool, OutOfMemory>
         ensures { Edits (overwriting ch self.old.line) self.old self.new result }
     {

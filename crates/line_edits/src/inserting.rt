@@ -1,4 +1,4 @@
-//! Texts put in.
+//! Insertions.
 ghost use Rattle.std.specs.Prelude.{◌≡◌, ◌≤◌, ◌-◌, true, is_some, OnErr, IsCharBoundary};
 ghost use Rattle.line_buffer.specs.Insertions.{insert as insertion, yank as yanked_in};
 ghost use Rattle.line_record.specs.Items.{ItemsStand};
@@ -100,8 +100,8 @@ fn pop_told_in_group(
 }
 
 impl RecordedLine {
-    /// Inserts a character so many times. `None`: there is no room for it; else whether that is at
-    /// the text's end.
+    /// Inserts a character `n` times. Returns whether that is at the text's end, or `None` if it
+    /// doesn't fit.
     #[tactic(auto, using(crate::proofs::PlainLemmas::typed_plain, crate::proofs::StepLemmas::left_unanswered))]
     pub fn insert_char(
         &mut self,
@@ -120,7 +120,7 @@ impl RecordedLine {
         Ok(at_end)
     }
 
-    /// Puts a text at the cursor, which stays before it.
+    /// Inserts a text at the cursor, which stays before it.
     pub fn insert_text(&mut self, alloc: Global, text: &str) -> Result<(), OutOfMemory>
         ensures { Edits (putting_behind text.now self.old.line) self.old self.new result }
     {
@@ -132,8 +132,8 @@ impl RecordedLine {
         Ok(())
     }
 
-    /// Puts a text that isn't empty in so many times. `None`: it is empty, or there is no room for
-    /// it.
+    /// Inserts a text `n` times. Returns whether that is at the text's end, or `None` if the text
+    /// is empty or doesn't fit.
     pub fn yank(
         &mut self,
         alloc: Global,
@@ -152,8 +152,8 @@ impl RecordedLine {
         Ok(put)
     }
 
-    /// Puts a text in place of so many bytes before the cursor, in one group. They begin between
-    /// two characters.
+    /// Replaces the `yank_size` bytes before the cursor by a text, in one group. They must begin at
+    /// a character boundary.
     pub fn yank_pop(
         &mut self,
         alloc: Global,

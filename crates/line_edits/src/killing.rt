@@ -1,4 +1,4 @@
-//! What is killed.
+//! Kills.
 ghost use Rattle.std.specs.Prelude.{◌≡◌, ◌≤◌, true, length, is_some, OnOk, OnErr};
 ghost use Rattle.line_buffer.specs.Range.{range_of, kill_events};
 ghost use Rattle.line_record.specs.Items.{ItemsStand};
@@ -37,8 +37,8 @@ fn kill_told(
 }
 
 impl RecordedLine {
-    /// Kills what a movement names: the ring is told first, the record last. Answers whether it
-    /// names anything.
+    /// Kills what a movement names: the ring is notified first, the record last. Returns whether
+    /// the movement names anything.
     pub fn kill(
         &mut self,
         alloc: Global,

@@ -1,12 +1,12 @@
-//! Laws of refused edits, each the contract of a function that does nothing.
+//! Laws of failed edits. Each is the contract of a function that does nothing.
 ghost use Rattle.line_edits.specs.Edits.{RefusedChangesLeaveAll, RefusedGroupsStayOpen};
 
-/// An edit of one change that is refused leaves line and record as they were.
+/// An edit of one change that fails leaves line and record as they were.
 pub fn refused_changes()
     ensures { RefusedChangesLeaveAll }
 {}
 
-/// A group that is refused leaves all as it was, or its mark open, with what the refused edit left.
+/// A group that fails leaves all as it was, or leaves its mark open and what the failed edit left.
 pub fn refused_groups()
     ensures { RefusedGroupsStayOpen }
 {}

@@ -1,5 +1,4 @@
-//! Edits of a line that is followed by its record and a kill ring, as methods of the line with its
-//! record.
+//! Edits of a line that notify its record and a kill ring, as methods of the line with its record.
 #![tactic(auto)]
 
 pub mod exchanging;

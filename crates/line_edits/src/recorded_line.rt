@@ -9,20 +9,20 @@ use line_record::Changeset;
 
 /// A line with the record of its changes.
 ///
-/// The changes stand on the line's text at any time, also after a call that was refused.
+/// The changes always fit the line's text, even after a call that failed.
 #[derive(Drop)]
 pub struct RecordedLine {
     pub line: LineBuffer,
     /// What can be undone.
     pub changes: Changeset,
-    /// Whether the text is printable ASCII and newlines, so that a drawing needn't ask anew.
+    /// Whether the text is printable ASCII and newlines, so that a drawing needn't check again.
     pub plain: bool,
     ghost stand: { ItemsStand changes line.text } by { ItemsStand-prop changes line.text },
     ghost is_plain: { plain ≡ is_plain line.text },
 }
 
 impl RecordedLine {
-    /// A line of which nothing is recorded yet.
+    /// A line with no recorded changes.
     pub fn new(line: LineBuffer, changes: Changeset) -> Self
         requires { changes ≡ no_items }
         ensures line { result.line ≡ line }

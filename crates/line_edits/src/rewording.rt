@@ -1,4 +1,4 @@
-//! Clusters and words exchanged, words in other letters, rows moved in and out.
+//! Transposes clusters and words, changes the case of words, indents rows.
 ghost use Rattle.line_record.specs.Items.{ItemsStand};
 ghost use Rattle.line_edits.specs.Edits.{transposing_chars, transposing_chars_in_group, transposing_words, transposing_words_in_group, editing_word, editing_word_in_group, indenting};
 ghost use Rattle.line_edits.specs.Steps.{Edits, Rewrites};
@@ -115,7 +115,7 @@ fn rows_told(
 }
 
 impl RecordedLine {
-    /// Exchanges the clusters around the cursor, in one group. Answers whether there are two.
+    /// Transposes the clusters around the cursor, in one group. Returns whether there are two.
     #[tactic(auto, using(crate::proofs::StepLemmas::left_unanswered))]
     pub fn transpose_chars(&mut self, alloc: Global) -> Result<bool, OutOfMemory>
         ensures { Edits (transposing_chars_in_group self.old.line) self.old self.new result }
@@ -125,8 +125,8 @@ impl RecordedLine {
         done
     }
 
-    /// Exchanges the word at the cursor or after it with the one `n` words before it, in one group.
-    /// Answers whether there are two; else the cursor may have moved.
+    /// Swaps the word at the cursor or after it with the one `n` words before it, in one group.
+    /// Returns whether there are two; if not, the cursor may have moved.
     #[tactic(auto, using(crate::proofs::StepLemmas::left_unanswered))]
     pub fn transpose_words(&mut self, alloc: Global, n: RepeatCount) -> Result<bool, OutOfMemory>
         ensures { Edits (transposing_words_in_group n self.old.line) self.old self.new result }
@@ -136,8 +136,8 @@ impl RecordedLine {
         done
     }
 
-    /// Sets the letters of the word at the cursor or after it in another case, in one group.
-    /// Answers whether there is one.
+    /// Changes the case of the word at the cursor or after it, in one group. Returns whether there
+    /// is one.
     #[tactic(auto, using(crate::proofs::StepLemmas::left_unanswered))]
     pub fn edit_word(&mut self, alloc: Global, action: WordAction) -> Result<bool, OutOfMemory>
         ensures { Edits (editing_word_in_group action self.old.line) self.old self.new result }
@@ -147,8 +147,8 @@ impl RecordedLine {
         done
     }
 
-    /// Gives each row that a movement covers `amount` spaces, or takes as many whitespace
-    /// characters at most.
+    /// Adds `amount` spaces to each row that a movement covers, or removes at most as many
+    /// whitespace characters.
     pub fn indent(
         &mut self,
         alloc: Global,

@@ -1,4 +1,4 @@
-//! The whole text exchanged, and what was recorded taken back.
+//! Replaces the whole text, and undoes recorded changes.
 ghost use Rattle.std.specs.Prelude.{IsCharBoundary};
 ghost use Rattle.line_record.specs.Items.{ItemsStand};
 ghost use Rattle.line_edits.specs.Edits.{updating, updating_in_group, Undoes};
@@ -46,7 +46,7 @@ fn put_in_group(
 }
 
 impl RecordedLine {
-    /// Exchanges the whole text, the cursor at a place of the new one.
+    /// Replaces the whole text, with the cursor at a place of the new one.
     pub fn update(&mut self, alloc: Global, text: &str, pos: usize) -> Result<(), OutOfMemory>
         requires boundary { IsCharBoundary text.now pos }
         ensures { Edits (updating text.now pos self.old.line) self.old self.new result }
@@ -71,8 +71,7 @@ impl RecordedLine {
         done
     }
 
-    /// Takes back the last `n` items that were recorded, 0 acting as 1. Answers whether a change
-    /// was among them.
+    /// Undoes the last `n` recorded items, 0 acting as 1. Returns whether a change was among them.
     pub fn undo(&mut self, alloc: Global, n: RepeatCount) -> Result<bool, OutOfMemory>
         ensures { Undoes n self.old self.new result }
     {

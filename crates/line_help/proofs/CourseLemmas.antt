@@ -95,7 +95,7 @@ after_adding s now line r = by_case (ignored s r.entries line) refl where
         | inr lt ↦ taken (length (added s r.entries line)) e (min-eq_right (omega arith)) (omega arith) (all_are_new s r.entries r.rows r.unsaved line e r.turn r.fits r.few r.gives lt)
       ]
 
--- where nothing is new after the rows, they give the history
+-- if nothing is new after the rows, they give the history
 none_behind : (s : Settings) (rows entries : List (List ℕ)) → added_all s [] (rows ++ newest 0 entries) ≡ added_all s [] rows
 none_behind s rows entries = ap (λ xs. added_all s [] (rows ++ xs)) (none_new entries) ∙ ap (λ xs. added_all s [] xs) (append-nil rows)
 

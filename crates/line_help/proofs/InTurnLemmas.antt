@@ -92,7 +92,7 @@ in_turn_with s before (x ∷ lines) line t e =
       behind (y ∷ []) = refl
       behind (y ∷ (z ∷ xs)) = behind (z ∷ xs)
 
--- they all stand after what was there, as far as there is room
+-- they all stand after what was there, as far as there is space
 pub taken_in_turn : (s : Settings) (entries lines : List (List ℕ)) → InTurn s entries lines → added_all s (newest s.max_len entries) lines ≡ newest s.max_len (entries ++ lines)
 taken_in_turn s entries [] t = sym (ap (λ xs. newest s.max_len xs) (append-nil entries))
 taken_in_turn s entries (line ∷ lines) t =
@@ -125,7 +125,7 @@ none_of : (entries : List (List ℕ)) → length entries ≤ 0 → entries ≡ [
 none_of [] few = refl
 none_of (x ∷ entries) few = absurd (omega arith)
 
--- as many as there is room for take the place of all that was there
+-- as many as there is space for take the place of all that was there
 pub overwritten : (s : Settings) (entries lines : List (List ℕ)) → length entries ≤ s.max_len → InTurn s [] lines → length lines ≡ s.max_len → added_all s entries lines ≡ lines
 overwritten s entries [] fits t e = none_of entries (omega arith)
 overwritten s entries (line ∷ lines) fits t e = by_case (ignored s entries line) refl where

@@ -19,7 +19,7 @@ not_utf8 bytes never = by_answer (is_utf8 bytes) refl where
   by_answer true e = absurd (never (IsUtf8-from_is_utf8 bytes e))
   by_answer false e = e
 
--- bytes that were read as a text are one; bytes that were refused as a text are none
+-- bytes that were read as a text are one; bytes that failed as a text are none
 pub read_utf8 : {X E : Type 0} (P : X → Type 0) (Q : E → Type 0) (bytes : List ℕ) (read : Result X E) → MatchResult read P Q → IsOk read
     → ((x : X) → P x → IsUtf8 bytes) → is_utf8 bytes ≡ true
 read_utf8 P Q bytes (Ok x) p e makes = is_utf8-from_IsUtf8 bytes (makes x p)
@@ -111,7 +111,7 @@ pub bad_fault : (row : List ℕ) (result : Result Bool ReadlineError) → is_utf
 bad_fault row (Ok b) bad some e = tt
 bad_fault row (Err why) bad some e = (rw bad e, some)
 
--- a row for which memory is wanting is UTF-8; one that isn't taken for what it says isn't
+-- a row for which memory runs out is UTF-8; one that isn't taken for what it says isn't
 pub memory_row : (row : List ℕ) → row_fault row ≡ Memory → is_utf8 row ≡ true
 memory_row row e = good_if_memory (is_utf8 row) e
 
@@ -225,7 +225,7 @@ one_behind : (xs : List (List ℕ)) (row text : List ℕ) → behind_rows (lengt
 one_behind [] row text = refl
 one_behind (x ∷ xs) row text = one_behind xs row (behind_row text)
 
--- these rows were loaded, and this is still to come
+-- these rows were loaded, and this is left to read
 pub record Reached (escapes : Bool) (last : Last) (text coming : List ℕ) (before now : Filed) : Type 0 where
   pub loaded : List (List ℕ)
   pub split : text_rows last text ≡ loaded ++ text_rows last coming
@@ -292,7 +292,7 @@ rest_bad : (row : List ℕ) (rows : List (List ℕ)) (text : List ℕ) → is_ut
 unfolding rest_of
 rest_bad row rows text e = rw e refl
 
--- what a load leaves, behind a row that it takes, at a row that it doesn't, and where there is none
+-- what a load leaves, behind a row that it takes, at a row that it doesn't, and without a row
 pub left_more_text : (last : Last) (text coming row : List ℕ) → is_utf8 row ≡ true → text_rows last text ≡ row ∷ text_rows last coming → coming ≡ behind_row text
     → left_by_load last text ≡ left_by_load last coming
 unfolding rest_of

@@ -15,7 +15,7 @@ module _ {D A : Type 0} (held : D → List ℕ) (failed : D → Bool) (f : A →
       underway_on held failed all (f (get_or xs i d)) (flat_map f (drop (i + 1) xs))
       (subst (λ ys. Underway held failed all (flat_map f ys) a b) (drop_more xs i d l) u) took works
 
-  -- it was refused
+  -- it failed
   pub piece_refused : (i : ℕ) (d : A) {a b c : D} → i < length xs → From i a b → TakesSome held b c (f (get_or xs i d)) → TakesSome held a c all
   piece_refused i d {a = a} {b = b} l u some =
       underway_some held failed all (f (get_or xs i d)) (flat_map f (drop (i + 1) xs))

@@ -28,7 +28,7 @@ unpaired_found input bytes items message i same so_far within none not_opening c
     rw (nil_from_length items none, drop_more bytes i 0 within, ← not_opening, ← closing) refl in
     ap (λ text. Invalid (Some text)) told ∙ sym (ap (λ text. verdict_from [] text) (sym same) ∙ so_far ∙ step)
 
--- memory was wanting for it
+-- memory ran out for it
 pub wants_for : {A X : Type 0} (result : Result A HookFault) → IsErrAnd result (λ e. e ≡ Memory) → X → IfErr result (λ e. (e ≡ Memory) × X)
 wants_for (Ok x) is h = tt
 wants_for (Err e) is h = (is, h)

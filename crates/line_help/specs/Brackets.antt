@@ -36,9 +36,9 @@ partner_in (kind ∷ others) byte =
 abbrev pub partner : ℕ → ℕ
 partner byte = partner_in all_kinds byte
 
--- a text in which the brackets of some kinds are balanced, whatever else stands in it: it is empty,
--- or it begins with a byte that is none of these brackets, or with an opening bracket, a balanced
--- text and the closing bracket of that kind
+-- a text in which the brackets of some kinds are balanced, whatever else it has. It is empty, or
+-- begins with a byte that is none of these brackets, or with an opening bracket, a balanced text
+-- and the closing bracket of that kind
 pub data Balanced (kinds : List (ℕ × ℕ)) : List ℕ → Type 0 where
   empty : Balanced kinds []
   other : (byte : ℕ) (text : List ℕ) → opens_some kinds byte ≡ false
@@ -47,44 +47,44 @@ pub data Balanced (kinds : List (ℕ × ℕ)) : List ℕ → Type 0 where
       → Balanced kinds inner → Balanced kinds text
       → Balanced kinds (opening ∷ (inner ++ (closing ∷ text)))
 
--- ---- the bracket at the cursor, and the one that matches it
+-- ---- the bracket at the cursor, and its match
 
 abbrev pub where_it_is : (ℕ × ℕ → Bool) → Option (ℕ × ℕ) → Option (ℕ × ℕ)
 where_it_is test None = None
 where_it_is test (Some found) = if test found then Some found else None
 
--- the bracket that stands at a place, with the place
+-- the bracket at a place, with the place
 abbrev pub bracket_at : List ℕ → ℕ → Option (ℕ × ℕ)
 bracket_at line place =
     where_it_is (λ found. is_bracket found.0)
     (option_map (λ byte. (byte, place)) (slice_get line place))
 
--- the bracket at the cursor, else the one right before it
+-- the bracket at the cursor, or the one right before it
 abbrev pub bracket_near : List ℕ → ℕ → Option (ℕ × ℕ)
 bracket_near line pos =
     option_or (bracket_at line pos) (if pos == 0 then None else bracket_at line (pos - 1))
 
--- whether something stands on the side on which the bracket's match would be
+-- whether there is text on the side on which the bracket's match would be
 abbrev pub match_has_room : List ℕ → ℕ × ℕ → Bool
 match_has_room line found =
     if is_closing found.0 then not (found.1 == 0) else not (found.1 == length line - 1)
 
--- the bracket whose match is to be shown: with the cursor after the line, its last byte where that
--- closes, and else the bracket near the cursor, if its match has room
+-- the bracket whose match is to be shown. With the cursor after the line it is the last byte, if
+-- that closes; else the bracket near the cursor, if its match has space
 abbrev pub bracket_to_match : List ℕ → ℕ → Option (ℕ × ℕ)
 bracket_to_match line pos =
     if nat_le (length line) pos then where_it_is (λ found. is_closing found.0)
     (bracket_at line (length line - 1))
     else where_it_is (match_has_room line) (bracket_near line pos)
 
--- how many brackets stand open after a byte, where this many did before it; only those of one kind
+-- how many brackets are open after a byte, if this many were before it; only those of one kind
 -- count
 abbrev pub unclosed_behind : ℕ → ℕ → ℕ → ℕ → ℕ
 unclosed_behind same mate byte unclosed =
     if byte == mate then unclosed - 1 else if byte == same then unclosed + 1 else unclosed
 
--- how many bytes stand before the bracket `mate` with which the bracket `same` before these bytes
--- is matched
+-- how many bytes are before the bracket `mate` that matches the bracket `same` in front of these
+-- bytes
 abbrev pub bytes_between : ℕ → ℕ → ℕ → List ℕ → Option ℕ
 bytes_between same mate unclosed [] = None
 bytes_between same mate unclosed (byte ∷ bytes) = if (byte == mate) && (unclosed == 0) then Some 0
@@ -104,8 +104,8 @@ abbrev pub match_of : List ℕ → ℕ → ℕ → Option (ℕ × ℕ)
 match_of line pos bracket =
     option_map (λ place. (partner bracket, place)) (match_place line pos bracket)
 
--- what stands at the two places is a bracket and its match: between them the brackets of their kind
--- alone are balanced
+-- at the two places are a bracket and its match: between them the brackets of their kind are
+-- balanced
 abbrev pub MatchesBehind : List ℕ → ℕ → ℕ → ℕ → Type 0
 MatchesBehind line opening pos place =
     (between : List ℕ) × (after : List ℕ)
@@ -117,14 +117,13 @@ MatchesBefore line closing pos place =
     (before : List ℕ) × (between : List ℕ) × (take pos line ≡ before ++ (partner closing ∷ between))
     × Balanced ((partner closing, closing) ∷ []) between × (place ≡ length before)
 
--- what is answered as the match of an opening bracket matches it, and whatever matches it is
--- answered; so it is the only one
+-- the match of an opening bracket matches it, and nothing else matches it
 abbrev pub OpeningIsMatched : Type 0
 OpeningIsMatched =
     (line : List ℕ) (pos opening place : ℕ) → is_opening opening ≡ true
     → (match_place line pos opening ≡ Some place) ↔ MatchesBehind line opening pos place
 
--- the same of a closing bracket
+-- the same for a closing bracket
 abbrev pub ClosingIsMatched : Type 0
 ClosingIsMatched =
     (line : List ℕ) (pos closing place : ℕ) → is_closing closing ≡ true

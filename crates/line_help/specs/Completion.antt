@@ -1,5 +1,5 @@
--- What a completer answers: where the word starts, and what may stand in its place; and what an
--- update makes of the line.
+-- A completer's answer: where the word starts, and what may replace it; and the effect of an update
+-- on the line.
 use Rattle.std.specs.Prelude.{◌≡◌, ◌⊎◌, ℕ, List, [], map, Result, OnOk, OnErr, ◌==◌, Bool, false, if◌then◌else◌, ◌∷◌, length, reverse, Option, Some, None, encode_utf8_all, take, nat_eq, ◌≢◌, IsTrue, ◌++◌, IsUtf8, All, filter, drop, nat_lt}
 use Rattle.std.specs.Global.{Vec}
 use Rattle.line_buffer.specs.Event.{Event}
@@ -14,7 +14,7 @@ use Rattle.line_help.specs.declared.quotes.Quote.{Quote}
 use Rattle.line_help.specs.declared.quotes.Quote.TheVariants.{Single}
 use Rattle.line_keys.specs.Replies.{Reply}
 
--- a candidate: the text that is listed, and the one that is put into the line
+-- a candidate: the text to list, and the text to insert into the line
 pub record Offered : Type 0 where
   pub display : List ℕ
   pub replacement : List ℕ
@@ -23,19 +23,19 @@ pub record Completion : Type 0 where
   pub start : ℕ
   pub candidates : List Offered
 
--- a text that stands for itself
+-- a text to list and to insert
 abbrev pub text_offered : List ℕ → Offered
 text_offered text = record { display = text; replacement = text }
 
 abbrev pub nothing_offered : Completion
 nothing_offered = record { start = 0; candidates = [] }
 
--- where the word starts, with candidates, each by what it offers
+-- where the word starts, and the texts of its candidates
 abbrev pub completion_by : {C : Type 0} → (C → Offered) → ℕ × Vec C → Completion
 completion_by offers found = record { start = found.0; candidates = map offers found.1.items }
 
--- a text was put in place of the line from a place to the cursor, after the listener was told; or
--- the line stays, and the listener does, unless it refused the change
+-- a text replaced the line from a place to the cursor, after the listener was notified. Or the line
+-- stays, and so does the listener, unless it failed on the change
 pub record Updates {L A E : Type 0} (takes refuses : L → Event → L → Type 0)
     (start : ℕ) (elected : List ℕ) (listener listener' : L)
     (line line' : Line) (result : Result A E) : Type 0 where
@@ -53,13 +53,13 @@ abbrev pub is_escape : Option ℕ → ℕ → Bool
 is_escape None c = false
 is_escape (Some esc) c = c == esc
 
--- the same of the nearest character, where characters are read from the end
+-- whether the nearest character is the escape, if characters are read from the end
 abbrev pub is_escaped : Option ℕ → List ℕ → Bool
 is_escaped esc [] = false
 is_escaped esc (c ∷ cs) = is_escape esc c
 
--- what stands before the word, both read from the end: the word begins after the nearest break
--- character that has no escape before it
+-- the text before the word, both read from the end: the word begins after the nearest break
+-- character without an escape before it
 abbrev pub before_word : Option ℕ → (ℕ → Bool) → List ℕ → List ℕ
 before_word esc breaks [] = []
 before_word esc breaks (c ∷ []) = if breaks c then c ∷ [] else []
@@ -78,14 +78,14 @@ abbrev pub break_characters : List ℕ
 break_characters =
     32 ∷ 9 ∷ 10 ∷ 34 ∷ 92 ∷ 39 ∷ 96 ∷ 64 ∷ 36 ∷ 62 ∷ 60 ∷ 61 ∷ 59 ∷ 124 ∷ 38 ∷ 123 ∷ 40 ∷ 0 ∷ []
 
--- those that keep a meaning between double quotes: " $ \ `
+-- those that keep their meaning between double quotes: " $ \ `
 abbrev pub double_quote_characters : List ℕ
 double_quote_characters = 34 ∷ 36 ∷ 92 ∷ 96 ∷ []
 
 abbrev pub is_among : List ℕ → ℕ → Bool
 is_among cs c = list_any (λ d. c == d) cs
 
--- the longest beginning of a text, in whole characters, that another text has too
+-- the common prefix of two texts, in whole characters
 abbrev pub common_beginning : List ℕ → List ℕ → List ℕ
 common_beginning text other = take (last_cut text (common_prefix_len nat_eq text other)) text
 
@@ -97,25 +97,25 @@ abbrev pub unless_empty : List ℕ → Option (List ℕ)
 unless_empty [] = None
 unless_empty (b ∷ bs) = Some (b ∷ bs)
 
--- a sole text is its own longest beginning, also where it is empty
+-- the common prefix of a single text is the text, even if it is empty
 abbrev pub longest_common_prefix : List (List ℕ) → Option (List ℕ)
 longest_common_prefix [] = None
 longest_common_prefix (text ∷ []) = Some text
 longest_common_prefix (text ∷ (other ∷ others)) = unless_empty (common_to_all text (other ∷ others))
 
--- an escaped text, unescaped, is the text again, where the escape itself is escaped
+-- an escaped text, unescaped, is the text again, if the escape character is itself escaped
 abbrev pub EscapesComeBack : Type 0
 EscapesComeBack =
     (text : List ℕ) (esc : ℕ) (breaks : ℕ → Bool) (quote : Quote) → IsUtf8 text → IsScalar esc
     → IsTrue (breaks esc) → quote ≢ Single
     → unescaped (escaped text (Some esc) breaks quote) (Some esc) ≡ text
 
--- one text begins another
+-- one text is a prefix of another
 abbrev pub BeginsText : List ℕ → List ℕ → Type 0
 BeginsText front text = (rest : List ℕ) × (text ≡ front ++ rest)
 
--- what texts have in common is a text and begins each of them, and so does each text that begins
--- them all begin it
+-- the common prefix of texts is a text and a prefix of each, and each other text that is a prefix
+-- of all is a prefix of it
 abbrev pub CommonBeginningIsLongest : Type 0
 CommonBeginningIsLongest = (text : List ℕ) (others : List (List ℕ)) → IsUtf8 text →
     IsUtf8 (common_to_all text others)
@@ -130,14 +130,14 @@ last_word_start text = word_start None is_whitespace text
 abbrev pub words_for : List ℕ → List (List ℕ) → List (List ℕ)
 words_for beginning words = filter (λ word. starts_with nat_eq word beginning) words
 
--- what is completed for a text
+-- the completion of a text
 abbrev pub word_completion : List (List ℕ) → List ℕ → Completion
 word_completion words text = record {
   start = last_word_start text;
   candidates = map text_offered (words_for (drop (last_word_start text) text) words);
 }
 
--- in memory that its candidates take
+-- its candidates take memory
 abbrev pub word_reply : List (List ℕ) → List ℕ → Reply Completion
 word_reply words text =
     let found : Completion = word_completion words text in

@@ -19,20 +19,20 @@ loaded settings text = load_leaves End (text_rows End text) (nothing_filed setti
 abbrev pub history_made_of : Settings → List (List ℕ) → Filed
 history_made_of settings lines = all_saved (filed_with_all (nothing_filed settings) lines)
 
--- a history, and the text that was written of it
+-- a history, and the text that was written from it
 pub record WrittenHistory : Type 0 where
   pub text : List ℕ
   pub history : Filed
 
--- a line is added; what is saved takes the place of the text; what is new is appended to the text;
--- a new history is loaded from it
+-- a line is added; the saved text replaces the text; the new rows are appended to the text; a new
+-- history is loaded from it
 pub data HistoryStep : Type 0 where
   Adds : (line : List ℕ) → HistoryStep
   Saves : HistoryStep
   Appends : HistoryStep
   Loads : HistoryStep
 
--- nothing is saved where nothing is new: then the text stays
+-- nothing is saved if no entry is new: then the text stays
 abbrev pub after_step : Settings → HistoryStep → WrittenHistory → WrittenHistory
 after_step settings (Adds line) now =
     record { text = now.text; history = filed_with now.history line }
@@ -48,13 +48,13 @@ abbrev pub after_steps : Settings → List HistoryStep → WrittenHistory → Wr
 after_steps settings [] now = now
 after_steps settings (step ∷ steps) now = after_steps settings steps (after_step settings step now)
 
--- a history that these lines gave, when all of it was saved
+-- a history made of these lines, with all of it saved
 abbrev pub just_saved : Settings → List (List ℕ) → WrittenHistory
 just_saved settings lines =
     let history : Filed = history_made_of settings lines in
     record { text = saved_text history.kept.entries; history = history }
 
--- what is written can come back
+-- the written text can be loaded again
 abbrev pub CanStep : HistoryStep → WrittenHistory → Type 0
 CanStep (Adds line) now = Unit {0}
 CanStep Saves now = CanComeBack now.history.kept.entries
@@ -66,15 +66,15 @@ CanMake settings [] now = Unit {0}
 CanMake settings (step ∷ steps) now =
     CanStep step now × CanMake settings steps (after_step settings step now)
 
--- a saved text that isn't empty, loaded into a new history, gives what adding the saved entries
--- gives, and none is new
+-- a saved text that isn't empty, loaded into a new history, gives the same as adding the saved
+-- entries, and none is new
 abbrev pub Reload : Type 0
 Reload =
     (settings : Settings) (filed : Filed) → text_to_save filed ≢ [] → CanComeBack filed.kept.entries
     → loaded settings (text_to_save filed) ≡ history_made_of settings filed.kept.entries
 
--- so does a saved text with appended rows after it: it gives what adding the saved entries and then
--- the new ones gives
+-- so does a saved text followed by appended rows: it gives the same as adding the saved entries and
+-- then the new ones
 abbrev pub ReloadAppended : Type 0
 ReloadAppended =
     (settings : Settings) (saved later : Filed) → text_to_save saved ≢ []
@@ -83,8 +83,8 @@ ReloadAppended =
     → loaded settings (text_to_save saved ++ text_to_append later)
     ≡ history_made_of settings (saved.kept.entries ++ newest later.unsaved later.kept.entries)
 
--- under unchanged settings, whatever is added, saved, appended and loaded after a first save: where
--- nothing is new, the text, loaded into a new history, gives the history
+-- under unchanged settings, whatever is added, saved, appended and loaded after a first save: if no
+-- entry is new, the text, loaded into a new history, gives the history
 abbrev pub TextKeepsUp : Type 0
 TextKeepsUp =
     (settings : Settings) (lines : List (List ℕ)) (steps : List HistoryStep)

@@ -1,4 +1,4 @@
--- Names of files and folders for a path that is being typed.
+-- Names of files and folders for a partly typed path.
 use Rattle.std.specs.Prelude.{ℕ, ◌+◌, ◌-◌, ◌==◌, ◌||◌, Bool, true, false, not, List, [], ◌∷◌, ◌++◌, length, take, drop, map, filter, nat_eq, Option, Some, None, is_some, option_map, if◌then◌else◌}
 use Rattle.std.specs.List.{starts_with, suffix_len}
 use Rattle.std.specs.Ordering.{is_lt, nat_cmp}
@@ -18,13 +18,12 @@ abbrev pub sorted_by : {X : Type 0} → (X → X → Bool) → List X → List X
 sorted_by lt [] = []
 sorted_by lt (x ∷ xs) = placed_by lt x (sorted_by lt xs)
 
--- what a folder holds: a name, and whether a folder bears it
+-- an item of a folder: its name, and whether it is a folder
 pub record Named : Type 0 where
   pub name : List ℕ
   pub is_dir : Bool
 
--- a path that is being typed: where it starts in the line, what it says, and the quote that it
--- stands after
+-- a partly typed path: where it starts in the line, its text, and the quote before it
 pub record Typed : Type 0 where
   pub start : ℕ
   pub path : List ℕ
@@ -33,13 +32,13 @@ pub record Typed : Type 0 where
 abbrev pub typed_of : ℕ → List ℕ → Quote → Typed
 typed_of start path quote = record { start = start; path = path; quote = quote }
 
--- the characters that a name needs an escape before
+-- the characters before which a name needs an escape
 abbrev pub is_special : Quote → ℕ → Bool
 is_special Double c = is_among double_quote_characters c
 is_special Single c = is_among break_characters c
 is_special Unquoted c = is_among break_characters c
 
--- after an open quote the path is the rest; else it is the last word
+-- after an open quote the path is the rest; otherwise it is the last word
 abbrev pub quoted : ℕ → Quote → List ℕ → Typed
 quoted start Double text = typed_of start (unescaped (drop start text) (Some 92)) Double
 quoted start Single text = typed_of start (drop start text) Single
@@ -65,7 +64,7 @@ folder_of path = take (folder_len path) path
 abbrev pub name_of : List ℕ → List ℕ
 name_of path = drop (folder_len path) path
 
--- a name, with its folder and what needs an escape escaped; a slash after a folder
+-- a name, with its folder and with escapes; a slash after a folder
 abbrev pub slash_of : Bool → List ℕ
 slash_of true = 47 ∷ []
 slash_of false = []
@@ -80,7 +79,7 @@ offered_name quote folder named = record {
 abbrev pub name_begins : List ℕ → Named → Bool
 name_begins name named = starts_with nat_eq named.name name
 
--- each listed name that begins as the typed one, in the order of the list
+-- each listed name that begins with the typed one, in the order of the list
 abbrev pub offered_names : Quote → List ℕ → List ℕ → List Named → List Offered
 offered_names quote folder name all =
     map (offered_name quote folder) (filter (name_begins name) all)
@@ -91,15 +90,15 @@ unsorted_for typed all =
     offered_names typed.quote (folder_of typed.path) (name_of typed.path) all in
     record { start = typed.start; candidates = offered }
 
--- by what is displayed; those that display the same keep their order
+-- by what is displayed; items that are displayed alike keep their order
 abbrev pub displayed_before : Offered → Offered → Bool
 displayed_before x y = is_lt (slice_cmp nat_cmp x.display y.display)
 
 abbrev pub sorted : Completion → Completion
 sorted found = record found { candidates = sorted_by displayed_before found.candidates }
 
--- what is found for a text, by a list of what folders hold: nothing where the folder can't be
--- listed. Memory is taken for a path without its escapes, by the list, and for what it gives
+-- the candidates for a text, from a list of what folders contain: none if the folder can't be
+-- listed. Memory is taken for the path without its escapes, by the list, and for the candidates
 abbrev pub unsorted_completion : (List ℕ → Reply (List Named)) → List ℕ → Reply Completion
 unsorted_completion list text =
     let listed : Reply (List Named) = list (folder_of (typed_path text).path) in

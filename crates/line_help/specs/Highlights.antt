@@ -8,30 +8,30 @@ use Rattle.line_keys.specs.declared.command.CmdKind.TheVariants.{MoveCursor, Oth
 use Rattle.line_help.specs.Brackets.{bracket_to_match, match_of}
 use Rattle.line_keys.specs.Replies.{Reply, Replies, gives_at_once}
 
--- what a parameter of a control sequence is made of: digits and the signs : and ;
+-- the bytes of a parameter of a control sequence: digits and the signs : and ;
 abbrev pub is_style_parameter : ℕ → Bool
 is_style_parameter byte = nat_le 48 byte && nat_le byte 59
 
--- the control sequence that says how what follows it is drawn (SGR): ESC [, parameters, m
+-- the control sequence that sets how the following text is drawn (SGR): ESC [, parameters, m
 abbrev pub style_sequence : List ℕ → List ℕ
 style_sequence parameters = 27 ∷ (91 ∷ (parameters ++ (109 ∷ [])))
 
--- the part of the display that a text is shown in: the line, with the cursor's place in it; the
--- prompt, and whether it is the line's own; the hint; a candidate, and the way of completing
+-- the part of the display in which a text is shown: the line, with the cursor's place in it; the
+-- prompt, and whether it is the line's own; the hint; or a candidate, with the completion type
 pub data DisplayPart : Type 0 where
   OfLine : (place : ℕ) → DisplayPart
   OfPrompt : (own : Bool) → DisplayPart
   OfHint : DisplayPart
   OfCandidate : (completion : CompletionType) → DisplayPart
 
--- what is shown is the text with such sequences put in
+-- the shown text is the text with such sequences inserted
 pub data Styled : List ℕ → List ℕ → Type 0 where
   nothing : Styled [] []
   byte : (b : ℕ) (text shown : List ℕ) → Styled text shown → Styled (b ∷ text) (b ∷ shown)
   style : (parameters text shown : List ℕ) → list_all is_style_parameter parameters ≡ true
       → Styled text shown → Styled text (style_sequence parameters ++ shown)
 
--- a call answers what the text is shown as, and that is the text with styles put in
+-- a call returns the text as it is shown, which is the text with styles inserted
 pub record Highlights {A : Type 0} (bytes : A → List ℕ) (text : List ℕ) (shown : Reply (List ℕ))
     (result : Result A HookFault) : Type 0 where
   pub reply : Replies shown bytes result
@@ -50,8 +50,8 @@ with_bold_byte line None = line
 with_bold_byte line (Some found) =
     take found.1 line ++ (bold_blue ++ (found.0 ∷ (plain_again ++ drop (found.1 + 1) line)))
 
--- where the match of this bracket is shown, if there is a bracket, in a line of two bytes or more
--- that goes on to its place
+-- where the match of this bracket is shown, if there is a bracket, in a line of at least two bytes
+-- that reaches its place
 abbrev pub match_to_show : List ℕ → Option (ℕ × ℕ) → Option (ℕ × ℕ)
 match_to_show line None = None
 match_to_show line (Some bracket) =
@@ -62,7 +62,7 @@ match_to_show line (Some bracket) =
 abbrev pub with_match_shown : List ℕ → Option (ℕ × ℕ) → List ℕ
 with_match_shown line bracket = with_bold_byte line (match_to_show line bracket)
 
--- the line so, in memory that a match takes; all else as it is
+-- the line so, in memory that a match takes; every other text as it is
 abbrev pub shown_with_match : Option (ℕ × ℕ) → DisplayPart → List ℕ → Reply (List ℕ)
 shown_with_match bracket (OfLine place) text = record {
   answer = Some (with_match_shown text bracket);
@@ -70,7 +70,7 @@ shown_with_match bracket (OfLine place) text = record {
 }
 shown_with_match bracket part text = gives_at_once text
 
--- the bracket that is kept for the next drawing: none for a line's last one
+-- the bracket kept for the next drawing: none for the last drawing of a line
 abbrev pub kept_bracket : List ℕ → ℕ → CmdKind → Option (ℕ × ℕ)
 kept_bracket line pos MoveCursor = bracket_to_match line pos
 kept_bracket line pos Other = bracket_to_match line pos

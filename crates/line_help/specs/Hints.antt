@@ -1,27 +1,27 @@
--- Hints: what a hinter shows after a line.
+-- Hints, which a hinter shows after a line.
 use Rattle.std.specs.Prelude.{ℕ, ◌-◌, ◌==◌, ◌||◌, not, true, if◌then◌else◌, List, length, drop, bytes_eq, Option, Some, None, is_some, option_map}
 use Rattle.line_keys.specs.Replies.{Reply}
 use Rattle.line_help.specs.Search.{Hit, searched}
 use Rattle.line_help.specs.declared.search.SearchDirection.TheVariants.{Reverse}
 
--- a hint: the text that is shown, and the text that taking it puts in, if any
+-- a hint: the text to show, and the text that accepting it inserts, if any
 pub record Hinted : Type 0 where
   pub display : List ℕ
   pub completion : Option (List ℕ)
 
--- what a hinter gives, by line, place, entries of the history and place in the
--- history
+-- the reply of a hinter, depending on the line, the place, the history's entries and the place in
+-- the history
 abbrev pub Answers : Type 0 → Type 0
 Answers A = List ℕ → ℕ → List (List ℕ) → ℕ → A
 
 abbrev pub text_hint : List ℕ → Hinted
 text_hint text = record { display = text; completion = Some text }
 
--- where the search for a hint begins: at the last entry where the place is the end
+-- where the search for a hint begins: at the last entry if the place is the end
 abbrev pub hint_start : List (List ℕ) → ℕ → ℕ
 hint_start entries place = if place == length entries then place - 1 else place
 
--- the rest of the entry that was found, none where the entry is the line
+-- the rest of the entry that was found; none if the entry is the line
 abbrev pub rest_behind : List ℕ → Option Hit → Option (List ℕ)
 rest_behind line None = None
 rest_behind line (Some hit) =
@@ -32,7 +32,7 @@ abbrev pub history_hint : List ℕ → ℕ → List (List ℕ) → ℕ → Optio
 history_hint line pos entries place = if length line == 0 || not (pos == length line) then None
     else rest_behind line (searched true line (hint_start entries place) Reverse entries)
 
--- what `HistoryHinter` gives, in memory that a hint takes
+-- the reply of `HistoryHinter`; a hint takes memory
 abbrev pub hint_of_history : List ℕ → ℕ → List (List ℕ) → ℕ → Reply (Option Hinted)
 hint_of_history line pos entries place =
     let rest : Option (List ℕ) = history_hint line pos entries place in

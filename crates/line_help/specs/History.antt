@@ -11,7 +11,7 @@ use Rattle.std.specs.declared.alloc.Global.{Global}
 use Rattle.std.specs.VecDeque.Iter.{deque_iter_rest}
 use Rattle.line_help.specs.declared.history_iter.HistoryIter.{HistoryIter}
 
--- how many entries there are at most, and which lines are left out
+-- the most entries, and which lines are left out
 pub record Settings : Type 0 where
   pub max_len : ℕ
   pub ignore_space : Bool
@@ -22,7 +22,7 @@ pub record Kept : Type 0 where
   pub entries : List (List ℕ)
   pub settings : Settings
 
--- a history that is saved: how many of its entries, the newest, are still to be saved
+-- a history that can be saved: how many of its entries, the newest ones, are not saved yet
 pub record Filed : Type 0 where
   pub kept : Kept
   pub unsaved : ℕ
@@ -60,7 +60,7 @@ ignored settings entries line =
     || (settings.ignore_space && begins_with_space line))
     || (settings.ignore_dups && newest_is line entries)
 
--- the last so many of these
+-- the last n of these
 abbrev pub newest : ℕ → List (List ℕ) → List (List ℕ)
 newest count entries = drop (length entries - count) entries
 
@@ -79,7 +79,7 @@ unsaved_after settings entries line unsaved =
     if ignored settings entries line then unsaved
     else min (unsaved + 1) (length (added settings entries line))
 
--- what a line makes of a history that is saved
+-- the effect of a line on a history that can be saved
 abbrev pub filed_with : Filed → List ℕ → Filed
 filed_with filed line =
     let kept : Kept = filed.kept in record {
@@ -87,7 +87,7 @@ filed_with filed line =
       unsaved = unsaved_after kept.settings kept.entries line filed.unsaved;
     }
 
--- a call makes this of a value, or memory was wanting and the value stays
+-- a call has this effect on a value, or memory ran out and the value stays
 pub record Grows {V A : Type 0} (before wanted after : V) (result : Result A ReadlineError)
     : Type 0 where
   pub added : OnOk result (after ≡ wanted)

@@ -1,4 +1,4 @@
--- The text of a history: what is saved of a list of entries, and which list a text gives.
+-- The text of a history: what is saved of a list of entries, and which entries a text gives.
 use Rattle.std.specs.Prelude.{◌≡◌, ℕ, zero, suc, ◌==◌, ◌&&◌, Bool, true, false, if◌then◌else◌, List, [], ◌∷◌, ◌++◌, flat_map, bytes_eq, codes, Option, Some, None, option_map, unwrap_or, Result, Ok, Err, IsTrue, ⊤, IfErr, OnOk, OnErr, ◌⊎◌, ◌≤◌, length}
 use Rattle.std.specs.List.{list_any}
 use Rattle.std.specs.Str.{is_utf8}
@@ -21,7 +21,7 @@ escaped_byte b = if b == 10 then 92 ∷ 110 ∷ [] else if b == 92 then 92 ∷ 9
 abbrev pub escaped_entry : List ℕ → List ℕ
 escaped_entry text = flat_map escaped_byte text
 
--- each entry a row, which a newline closes
+-- each entry is a row, which ends in a newline
 abbrev pub row_of : List ℕ → List ℕ
 row_of entry = escaped_entry entry ++ 10 ∷ []
 
@@ -31,7 +31,7 @@ rows_text entries = flat_map row_of entries
 abbrev pub saved_text : List (List ℕ) → List ℕ
 saved_text entries = header ++ (10 ∷ rows_text entries)
 
--- what `save_to` and `append_to` write: nothing where no entry is new
+-- what `save_to` and `append_to` write: nothing if no entry is new
 abbrev pub text_to_save : Filed → List ℕ
 text_to_save filed = if filed.unsaved == 0 then [] else saved_text filed.kept.entries
 
@@ -39,7 +39,7 @@ abbrev pub text_to_append : Filed → List ℕ
 text_to_append filed =
     if filed.unsaved == 0 then [] else rows_text (newest filed.unsaved filed.kept.entries)
 
--- the text that an escaped one stands for: none where a backslash stands before anything else
+-- the text of a row with escapes; none if a backslash precedes anything else
 abbrev pub unescaped_row : List ℕ → Option (List ℕ)
 unescaped_row [] = Some []
 unescaped_row (b ∷ []) = if b == 92 then None else Some (b ∷ [])
@@ -48,7 +48,7 @@ unescaped_row (b ∷ (c ∷ bs)) = if b == 92
     else if c == 92 then option_map (λ text. 92 ∷ text) (unescaped_row bs) else None)
     else option_map (λ text. b ∷ text) (unescaped_row (c ∷ bs))
 
--- the entry of a row: the row as it stands where it has no escapes, or a wrong one
+-- the entry of a row: the row as it is if it has no escapes, or a wrong one
 abbrev pub entry_of : Bool → List ℕ → List ℕ
 entry_of false row = row
 entry_of true row = unwrap_or (unescaped_row row) row
@@ -57,27 +57,27 @@ abbrev pub begins_with_newline : List ℕ → Bool
 begins_with_newline [] = false
 begins_with_newline (b ∷ bs) = b == 10
 
--- a byte before the rows of what follows it. The last row need not be closed, but a failure of the
--- source leaves such a row out
+-- a byte before the rows of the following text. The last row needn't end in a newline, but a
+-- failure of the source drops such a row
 abbrev pub onto : List (List ℕ) → Last → ℕ → List (List ℕ)
 onto (row ∷ rows) last b = (b ∷ row) ∷ rows
 onto [] End b = (b ∷ []) ∷ []
 onto [] Failed b = []
 
--- the rows of a text after which this stands: they end at newlines, and a carriage return right
--- before a newline is no part of its row
+-- the rows of a text that this follows: they end at newlines, and a carriage return right before a
+-- newline isn't part of its row
 abbrev pub text_rows : Last → List ℕ → List (List ℕ)
 text_rows last [] = []
 text_rows last (b ∷ bs) = if b == 10 then [] ∷ text_rows last bs
     else if b == 13 && begins_with_newline bs then text_rows last bs
     else onto (text_rows last bs) last b
 
--- what stands behind the first row of a text: behind its newline, or nothing
+-- the text after the first row of a text: after its newline, or empty
 abbrev pub behind_row : List ℕ → List ℕ
 behind_row [] = []
 behind_row (b ∷ bs) = if b == 10 then bs else behind_row bs
 
--- behind the first so many
+-- the text after the first n rows
 abbrev pub behind_rows : ℕ → List ℕ → List ℕ
 behind_rows zero text = text
 behind_rows (suc n) text = behind_rows n (behind_row text)
@@ -87,7 +87,7 @@ abbrev pub good_rows : List (List ℕ) → List (List ℕ)
 good_rows [] = []
 good_rows (row ∷ rows) = if is_utf8 row then row ∷ good_rows rows else []
 
--- why a row isn't taken: it isn't UTF-8, or else memory is wanting
+-- why a row isn't added: it isn't UTF-8, or else memory ran out
 abbrev pub row_fault : List ℕ → ReadlineError
 row_fault row = if is_utf8 row then Memory else HistoryText
 
@@ -113,20 +113,20 @@ texts_of [] = []
 texts_of (row ∷ rows) =
     if bytes_eq row header then entries_of true rows else entries_of false (row ∷ rows)
 
--- bytes of a row were taken that were there, as many as stood before a newline
+-- buffered bytes of a row were taken, up to a newline
 pub record TakesPiece (old new : Feed) (before after : List ℕ) : Type 0 where
   pub piece : List ℕ
   pub given : GivesBytes old new piece
   pub row : after ≡ before ++ piece
   pub inside : list_any (λ b. b == 10) piece ≡ false
 
--- of a text at most a row was read, and this is still to come
+-- at most a row of a text was read, and this remains
 pub record LosesRow (text coming : List ℕ) : Type 0 where
   pub lost : List ℕ
   pub split : text ≡ lost ++ coming
   pub row : behind_row lost ≡ []
 
--- where a text's end was met, its source hasn't failed, and nothing is to come
+-- if a text's end was met, its source hasn't failed, and nothing remains
 abbrev pub EndIsMet : Bool → Feed → Type 0
 EndIsMet met feed =
     IsTrue met → (feed.failed ≡ false)
@@ -137,17 +137,17 @@ abbrev pub has_bad_row : List (List ℕ) → Bool
 has_bad_row [] = false
 has_bad_row (row ∷ rows) = if is_utf8 row then has_bad_row rows else true
 
--- each whole row that was read of a text is UTF-8, and this is still to come
+-- each whole row that was read from a text is UTF-8, and this remains
 pub record ReadsGood (text coming : List ℕ) : Type 0 where
   pub read : List ℕ
   pub split : text ≡ read ++ coming
   pub good : has_bad_row (text_rows Failed read) ≡ false
 
--- what reads on so behind this has done so from the text's start
+-- good rows read after this are good rows read from the text's start
 abbrev pub GoodUpTo : List ℕ → List ℕ → Type 0
 GoodUpTo text coming = (later : List ℕ) → ReadsGood coming later → ReadsGood text later
 
--- what reading rows answers: a row that isn't UTF-8 is met before the failure of the source
+-- the result of reading rows: a row that isn't UTF-8 comes before the failure of the source
 abbrev pub answer_at : Last → Bool → Result Bool ReadlineError
 answer_at End whole = Ok whole
 answer_at Failed whole = Err Reader
@@ -155,12 +155,12 @@ answer_at Failed whole = Err Reader
 abbrev pub rows_answer : Last → List (List ℕ) → Bool → Result Bool ReadlineError
 rows_answer last rows whole = if has_bad_row rows then Err HistoryText else answer_at last whole
 
--- the answer of a load: whether the header stood and no row was ignored
+-- the answer of a load: whether the header was there and no row was ignored
 abbrev pub load_answer : Last → List (List ℕ) → Filed → Result Bool ReadlineError
 load_answer last rows filed =
     rows_answer last rows (has_header rows && takes_all filed (texts_of (good_rows rows)))
 
--- the history after it: with all rows before a refusal, and with nothing new where there is none
+-- the history after it: with all rows before an error, and with no new entry if there is none
 abbrev pub left_at : Last → Filed → Filed
 left_at End filed = all_saved filed
 left_at Failed filed = filed
@@ -170,7 +170,7 @@ load_leaves last rows filed =
     let after : Filed = filed_with_all filed (texts_of (good_rows rows)) in
     if has_bad_row rows then after else left_at last after
 
--- whether such a result follows from the text alone: want of memory doesn't
+-- whether such a result follows from the text alone: running out of memory doesn't
 abbrev pub follows : Result Bool ReadlineError → Bool
 follows (Err Memory) = false
 follows result = true
@@ -186,16 +186,16 @@ without_return [] = []
 without_return (b ∷ []) = if b == 13 then [] else b ∷ []
 without_return (b ∷ (c ∷ bs)) = b ∷ without_return (c ∷ bs)
 
--- ---- what saving and appending do to a history and to the sink of its text
+-- ---- the effect of saving and appending on a history and on the sink of its text
 
--- a text is sent, and the sink's failure is refused by its own name
+-- a text is sent, and the sink's failure has its own error
 pub record SendsText {D : Type 0} (held : D → List ℕ) (failed : D → Bool) (text : List ℕ)
     (sink left : D) (result : Result ⊤ ReadlineError) : Type 0 where
   pub sends : Sends held failed text sink left result
   pub fault : IfErr result (λ e. e ≡ HistoryText)
 
--- where an entry is new, a text is sent, and none is new then; where the sink fails the history
--- stays as it is. Where no entry is new nothing is done, whether the sink has failed or not
+-- if an entry is new, a text is sent, and then none is new; if the sink fails, the history stays as
+-- it is. If no entry is new, nothing is done, whether the sink has failed or not
 pub record SavesNew {D : Type 0} (held : D → List ℕ) (failed : D → Bool) (text : List ℕ)
     (before after : Filed) (sink left : D) (result : Result ⊤ ReadlineError) : Type 0 where
   pub nothing : before.unsaved ≡ 0 → (result ≡ Ok tt) × (left ≡ sink)
@@ -204,16 +204,16 @@ pub record SavesNew {D : Type 0} (held : D → List ℕ) (failed : D → Bool) (
   pub kept : OnErr result (after ≡ before)
   pub fault : IfErr result (λ e. e ≡ HistoryText)
 
--- ---- what loading does to a history and to the source of its text
+-- ---- the effect of loading on a history and on the source of its text
 
--- what a load leaves of a text: nothing, or what stands behind the first row that isn't UTF-8
+-- what a load leaves of a text: nothing, or the text after the first row that isn't UTF-8
 abbrev pub left_by_load : Last → List ℕ → List ℕ
 left_by_load last text =
     let rows = text_rows last text in
     if has_bad_row rows then behind_rows (suc (length (good_rows rows))) text else []
 
--- a load that was refused: what these rows give was added, the next one, or as much of it as was
--- read, is lost, and this is still to come
+-- a load that failed: the texts of these rows were added; the next row, or as much of it as was
+-- read, is lost; and this remains
 pub record LoadsSome (texts : List (List ℕ) → List (List ℕ)) (last : Last) (text coming : List ℕ)
     (before after : Filed) : Type 0 where
   pub loaded : List (List ℕ)
@@ -223,8 +223,8 @@ pub record LoadsSome (texts : List (List ℕ) → List (List ℕ)) (last : Last)
   pub added : after ≡ filed_with_all before (texts loaded)
   pub left : LosesRow (behind_rows (length loaded) text) coming
 
--- answer, history and what is left follow from the text, but for want of memory; each refusal says
--- what of the text was loaded. All this of a source that gave what was said
+-- answer, history and remaining text follow from the text, unless memory ran out; each error says
+-- how much of the text was loaded. All this holds if the source agrees with the assumption
 pub record Loads (old new : Feed) (before after : Filed) (result : Result Bool ReadlineError)
     : Type 0 where
   pub answer : IsTrue new.told → IsTrue (follows result)

@@ -1,11 +1,11 @@
--- Escapes and quotes, as a shell reads them.
+-- Escapes and quotes, read like a shell does.
 use Rattle.std.specs.Prelude.{◌≡◌, ℕ, ◌+◌, ◌==◌, ◌&&◌, Bool, true, false, if◌then◌else◌, List, [], ◌∷◌, flat_map, Option, Some, None, encode_utf8_all, ◌≢◌, ◌⊎◌, ◌↔◌, ◌++◌, length}
 use Rattle.std.specs.Str.{chars}
 use Rattle.std.specs.Char.{IsScalar}
 use Rattle.line_help.specs.declared.quotes.Quote.{Quote}
 use Rattle.line_help.specs.declared.quotes.Quote.TheVariants.{Double, Single, None as Unquoted}
 
--- a closure answers by this test of characters
+-- a closure answers like this test of characters
 abbrev pub Tells : (ℕ → Bool → Type 0) → (ℕ → Bool) → Type 0
 Tells answers test = (c : ℕ) (answer : Bool) → IsScalar c → answers c answer → answer ≡ test c
 
@@ -40,8 +40,8 @@ escape_in Unquoted esc = esc
 abbrev pub escaped : List ℕ → Option ℕ → (ℕ → Bool) → Quote → List ℕ
 escaped text esc breaks quote = escaped_by (escape_in quote esc) text breaks
 
--- where one stands in a text: outside quotes, or after the quote at a place. A backslash escapes
--- outside and between double quotes
+-- whether a backslash is an escape, outside quotes or after the quote at a place: it is one
+-- outside, and between double quotes
 abbrev pub escapes_in : Quote → Bool
 escapes_in Double = true
 escapes_in Single = false
@@ -66,7 +66,7 @@ abbrev pub quote_after : ℕ → ℕ → Option (ℕ × Quote) → Option (ℕ �
 quote_after place b None = opened_at place b
 quote_after place b (Some within) = if closes_quote within.1 b then None else Some within
 
--- the quote that is open after these bytes, the first of which stands at a place
+-- the quote that is open after these bytes, which start at a place
 abbrev pub open_behind : Option (ℕ × Quote) → ℕ → List ℕ → Option (ℕ × Quote)
 open_behind within place [] = within
 open_behind within place (b ∷ []) = quote_after place b within
@@ -77,8 +77,8 @@ open_behind within place (b ∷ (c ∷ bs)) = if b == 92 && escapes_at within
 abbrev pub unclosed_quote : List ℕ → Option (ℕ × Quote)
 unclosed_quote text = open_behind None 0 text
 
--- what stands within a quote that such a mark closes: bytes other than the mark, and where a
--- backslash escapes, backslashes each with the byte after it
+-- the text between two such marks: bytes other than the mark, and, if a backslash is an escape,
+-- backslashes each with the byte after it
 pub data Within (mark : ℕ) (escaping : Bool) : List ℕ → Type 0 where
   nothing_within : Within mark escaping []
   byte_within : (b : ℕ) (text : List ℕ) → b ≢ mark → (escaping ≡ true → b ≢ 92)
@@ -86,9 +86,9 @@ pub data Within (mark : ℕ) (escaping : Bool) : List ℕ → Type 0 where
   pair_within : (b : ℕ) (text : List ℕ) → escaping ≡ true → Within mark escaping text
       → Within mark escaping (92 ∷ (b ∷ text))
 
--- a text whose quotes are all closed: bytes that are neither marks nor backslashes, backslashes
--- each with the byte after it, what stands between " and ", in which a backslash escapes, and what
--- stands between ' and ', in which it doesn't
+-- a text whose quotes are all closed. It consists of bytes that are neither marks nor backslashes,
+-- of backslashes each with the byte after it, and of quoted texts. A backslash is an escape between
+-- " and ", and not between ' and '
 pub data Closed : List ℕ → Type 0 where
   nothing_closed : Closed []
   byte_closed : (b : ℕ) (text : List ℕ) → b ≢ 34 → b ≢ 39 → b ≢ 92 → Closed text → Closed (b ∷ text)
@@ -98,11 +98,11 @@ pub data Closed : List ℕ → Type 0 where
   between_single : (inner text : List ℕ) → Within 39 false inner → Closed text
       → Closed (39 ∷ (inner ++ (39 ∷ text)))
 
--- such a text, or one with a backslash at its end, which has nothing to escape
+-- such a text, or one that ends in a backslash, which escapes nothing
 abbrev pub UpToBackslash : (List ℕ → Type 0) → List ℕ → Type 0
 UpToBackslash P text = P text ⊎ ((front : List ℕ) × (text ≡ front ++ (92 ∷ [])) × P front)
 
--- what a mark begins that is not closed
+-- the text after a mark that isn't closed
 abbrev pub Unclosed : Quote → ℕ → List ℕ → Type 0
 Unclosed Double mark rest = (mark ≡ 34) × UpToBackslash (Within 34 true) rest
 Unclosed Single mark rest = (mark ≡ 39) × Within 39 false rest
@@ -114,7 +114,7 @@ OpensAt text place quote = (front : List ℕ) × (mark : ℕ) × (rest : List �
     × (text ≡ front ++ (mark ∷ rest)) × (place ≡ length front) × Closed front
     × Unclosed quote mark rest
 
--- a quote is answered where it is open, and none where all are closed
+-- a quote is found if and only if it is open, and none is found if and only if all are closed
 abbrev pub UnclosedQuoteIsOpen : Type 0
 UnclosedQuoteIsOpen = (text : List ℕ) →
     ((place : ℕ) (quote : Quote) → (unclosed_quote text ≡ Some (place, quote))

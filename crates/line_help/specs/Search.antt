@@ -1,11 +1,11 @@
--- Searching in a history.
+-- Searches in a history.
 use Rattle.std.specs.Prelude.{◌≡◌, ◌<◌, ℕ, suc, ◌+◌, ◌==◌, ◌||◌, nat_le, Bool, true, false, if◌then◌else◌, List, [], ◌∷◌, length, take, drop, reverse, eqb, Option, Some, None, option_map, slice_get, IfSome, IsCharBoundary, ◌≢◌, ◌↔◌, ◌-◌, ◌≤◌, ◌++◌, All}
 use Rattle.std.specs.List.{starts_with}
 use Rattle.line_help.specs.declared.search.SearchResult.{SearchResult}
 use Rattle.line_help.specs.declared.search.SearchDirection.{SearchDirection}
 use Rattle.line_help.specs.declared.search.SearchDirection.TheVariants.{Forward, Reverse}
 
--- an entry that was found: its text, its place in the history, and the place in it, in bytes
+-- an entry found: its text, its index in the history, and the place in it, in bytes
 pub record Hit : Type 0 where
   pub entry : List ℕ
   pub idx : ℕ
@@ -14,17 +14,17 @@ pub record Hit : Type 0 where
 abbrev pub hit_of : SearchResult → Hit
 hit_of found = record { entry = found.entry.now; idx = found.idx; pos = found.pos }
 
--- where the term stands in the text for the first time, in bytes
+-- the first place of the term in the text, in bytes
 abbrev pub first_hit : List ℕ → List ℕ → Option ℕ
 first_hit term [] = if length term == 0 then Some 0 else None
 first_hit term (b ∷ bs) =
     if starts_with eqb (b ∷ bs) term then Some 0 else option_map suc (first_hit term bs)
 
--- after the term, where the text begins with it
+-- after the term, if the text begins with it
 abbrev pub hit_at_start : List ℕ → List ℕ → Option ℕ
 hit_at_start term text = if starts_with eqb text term then Some (length term) else None
 
--- what a term is to an entry: in it, or at its start
+-- the place of a term in an entry: anywhere, or at its start
 abbrev pub hit_by : Bool → List ℕ → List ℕ → Option ℕ
 hit_by false term text = first_hit term text
 hit_by true term text = hit_at_start term text
@@ -33,15 +33,14 @@ abbrev pub hit_or : Option ℕ → List ℕ → ℕ → Option Hit → Option Hi
 hit_or None entry idx other = other
 hit_or (Some pos) entry idx other = Some (record { entry = entry; idx = idx; pos = pos })
 
--- the first of these entries with a hit, where the first of them stands at this place in the
--- history
+-- the first of these entries with a hit, if the first of them has this index in the history
 abbrev pub first_from : (List ℕ → Option ℕ) → ℕ → List (List ℕ) → Option Hit
 first_from test idx [] = None
 first_from test idx (entry ∷ entries) =
     hit_or (test entry) entry idx (first_from test (idx + 1) entries)
 
--- the first of these entries with a hit, where they stand newest first: an entry's place is the
--- number of those after it
+-- the first of these entries with a hit, if they are newest first: an entry's index is the number
+-- of those after it
 abbrev pub first_back : (List ℕ → Option ℕ) → List (List ℕ) → Option Hit
 first_back test [] = None
 first_back test (entry ∷ entries) =
@@ -52,55 +51,52 @@ abbrev pub nearest : SearchDirection → (List ℕ → Option ℕ) → ℕ → L
 nearest Forward test start entries = first_from test start (drop start entries)
 nearest Reverse test start entries = first_back test (reverse (take (start + 1) entries))
 
--- what a search answers: nothing for the empty term or a place after the last entry
+-- the result of a search: nothing for an empty term or an index past the last entry
 abbrev pub searched : Bool → List ℕ → ℕ → SearchDirection → List (List ℕ) → Option Hit
 searched anchored term start direction entries =
     if length term == 0 || nat_le (length entries) start then None
     else nearest direction (hit_by anchored term) start entries
 
--- a search of these entries answers so; the place that it answers is one in an entry of them, and
--- no character stands across it
+-- a search of these entries has this result; the place in its entry is a character boundary
 pub record Finds (search : List (List ℕ) → Option Hit) (entries : List (List ℕ))
     (result : Option SearchResult) : Type 0 where
   pub found : option_map hit_of result ≡ search entries
   pub inside : IfSome result (λ hit. hit.idx < length entries)
   pub boundary : IfSome result (λ hit. IsCharBoundary hit.entry.now hit.pos)
 
--- the entry at a place, its hit at its start
+-- the entry at an index, with its hit at its start
 abbrev pub entry_at : ℕ → List (List ℕ) → Option Hit
 entry_at idx entries =
     option_map (λ entry. record { entry = entry; idx = idx; pos = 0 }) (slice_get entries idx)
 
--- the term stands in the entry at a place
+-- the term is in the entry at a place
 abbrev pub TermAt : List ℕ → List ℕ → ℕ → Type 0
 TermAt term entry pos =
     (front : List ℕ) × (rest : List ℕ) × (entry ≡ front ++ (term ++ rest)) × (pos ≡ length front)
 
--- the entry has the term: somewhere, or, for an anchored search, at its start
+-- the entry has the term: anywhere, or, for an anchored search, at its start
 abbrev pub HasTerm : Bool → List ℕ → List ℕ → Type 0
 HasTerm false term entry = (pos : ℕ) × TermAt term entry pos
 HasTerm true term entry = TermAt term entry 0
 
--- the place that is answered: the first one at which the term stands, or, for an anchored search,
--- the end of the term at the start
+-- the place of the hit: the first place of the term, or, for an anchored search, the end of the
+-- term at the start
 abbrev pub IsHit : Bool → List ℕ → List ℕ → ℕ → Type 0
 IsHit false term entry pos =
     TermAt term entry pos × ((other : ℕ) → TermAt term entry other → pos ≤ other)
 IsHit true term entry pos = TermAt term entry 0 × (pos ≡ length term)
 
--- from the place `start` on in the direction one comes to an entry after so many others
+-- the entry at `place` is the one at `start` or comes after it in the direction
 abbrev pub IsAhead : SearchDirection → ℕ → ℕ → Type 0
 IsAhead Forward start place = start ≤ place
 IsAhead Reverse start place = place ≤ start
 
--- the entries on the way to it, the one at `start` among them, where these stand before it and
--- after it
+-- the entries on the way to it, with the one at `start`, given the entries before it and after it
 abbrev pub on_the_way : SearchDirection → ℕ → List (List ℕ) → List (List ℕ) → List (List ℕ)
 on_the_way Forward start before after = drop start before
 on_the_way Reverse start before after = take (start - length before) after
 
--- the hit is one of an entry that stands in the history at the hit's place, and no entry on the way
--- to it has the term
+-- the hit's entry is at the hit's index in the history, and no entry on the way to it has the term
 pub record IsNearest (anchored : Bool) (term : List ℕ) (start : ℕ) (direction : SearchDirection)
     (entries : List (List ℕ)) (hit : Hit) : Type 0 where
   pub some : term ≢ []
@@ -114,7 +110,7 @@ pub record IsNearest (anchored : Bool) (term : List ℕ) (start : ℕ) (directio
   pub none_nearer : All (λ entry. ¬ HasTerm anchored term entry)
       (on_the_way direction start before after)
 
--- a search answers the nearest hit, and nothing where there is none
+-- a search returns the nearest hit, and nothing if there is none
 abbrev pub NearestIsFound : Type 0
 NearestIsFound =
     (anchored : Bool) (term : List ℕ) (start : ℕ) (direction : SearchDirection)

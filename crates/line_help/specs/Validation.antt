@@ -1,4 +1,4 @@
--- Validation: whether a text is a whole line.
+-- Validation: whether a text is a complete line.
 use Rattle.std.specs.Prelude.{ℕ, ◌==◌, Bool, true, false, if◌then◌else◌, List, [], ◌∷◌, ◌++◌, Some, None, codes, encode_utf8, ◌≡◌, ◌≢◌, ◌↔◌, ◌⊎◌}
 use Rattle.std.specs.List.{list_any}
 use Rattle.line_keys.specs.Replies.{Reply}
@@ -16,8 +16,8 @@ has_message (Invalid (Some message)) = true
 has_message (Valid (Some message)) = true
 has_message result = false
 
--- the messages: an open bracket that another one's closing bracket meets, and a closing bracket
--- where none is open
+-- the messages: for an open bracket that the closing bracket of another kind meets, and for a
+-- closing bracket if none is open
 abbrev pub not_closed : ℕ → List ℕ
 not_closed opening =
     codes "Mismatched brackets: '" ++ (encode_utf8 opening ++ codes "' is not properly closed")
@@ -25,12 +25,12 @@ not_closed opening =
 abbrev pub unpaired : ℕ → List ℕ
 unpaired closing = codes "Mismatched brackets: '" ++ (encode_utf8 closing ++ codes "' is unpaired")
 
--- what the end of the text finds, with these brackets open
+-- the verdict at the end of the text, with these brackets open
 abbrev pub verdict_at_end : List ℕ → ValidationResult
 verdict_at_end [] = Valid None
 verdict_at_end (opening ∷ others) = Incomplete
 
--- what is found of a closing bracket that doesn't close the innermost one of these open ones
+-- the verdict on a closing bracket that doesn't close the innermost one of these open ones
 abbrev pub mismatch : ℕ → List ℕ → ValidationResult
 mismatch closing [] = Invalid (Some (unpaired closing))
 mismatch closing (opening ∷ others) = Invalid (Some (not_closed opening))
@@ -43,7 +43,7 @@ abbrev pub without_innermost : List ℕ → List ℕ
 without_innermost [] = []
 without_innermost (opening ∷ others) = others
 
--- what is found of a text, where these brackets are open before it, the innermost first
+-- the verdict on a text, with these brackets open before it, the innermost first
 abbrev pub verdict_from : List ℕ → List ℕ → ValidationResult
 verdict_from unclosed [] = verdict_at_end unclosed
 verdict_from unclosed (byte ∷ text) = if is_opening byte then verdict_from (byte ∷ unclosed) text
@@ -54,30 +54,30 @@ verdict_from unclosed (byte ∷ text) = if is_opening byte then verdict_from (by
 abbrev pub bracket_verdict : List ℕ → ValidationResult
 bracket_verdict text = verdict_from [] text
 
--- what the validator by brackets gives of a text: memory is taken only where a bracket stands in it
+-- the reply of the validator by brackets: only a text with brackets takes memory
 abbrev pub bracket_reply : List ℕ → Reply ValidationResult
 bracket_reply text =
     record { answer = Some (bracket_verdict text); takes = list_any is_bracket text }
 
--- a text is valid where its brackets are balanced
+-- a text is valid if and only if its brackets are balanced
 abbrev pub ValidIsBalanced : Type 0
 ValidIsBalanced = (text : List ℕ) → (bracket_verdict text ≡ Valid None) ↔ Balanced all_kinds text
 
--- it is incomplete where they aren't, and something after it would balance them
+-- it is incomplete if and only if they aren't, and some text after it would balance them
 abbrev pub IncompleteIsBegun : Type 0
 IncompleteIsBegun =
     (text : List ℕ) → (bracket_verdict text ≡ Incomplete)
     ↔ ((¬ Balanced all_kinds text) × ((more : List ℕ) × Balanced all_kinds (text ++ more)))
 
--- it is invalid, with a message, where nothing after it would balance them
+-- it is invalid, with a message, if and only if no text after it would balance them
 abbrev pub InvalidIsLost : Type 0
 InvalidIsLost =
     (text : List ℕ) → ((message : List ℕ) × (bracket_verdict text ≡ Invalid (Some message)))
     ↔ ((more : List ℕ) → ¬ Balanced all_kinds (text ++ more))
 
--- what a message names is the first bracket with which nothing can balance the text: it closes, and
--- before it either all is balanced, so that it is unpaired, or the innermost open bracket is of
--- another kind, so that this one isn't closed
+-- a message names the first bracket after which nothing can balance the text. It is a closing one.
+-- Either all before it is balanced, so it is unpaired; or the innermost open bracket is of another
+-- kind, so that one isn't closed
 abbrev pub NamesWhatFails : List ℕ → ℕ → List ℕ → Type 0
 NamesWhatFails before closing message = (Balanced all_kinds before × (message ≡ unpaired closing))
     ⊎ ((front : List ℕ) × (opening : ℕ) × (inner : List ℕ) × (more : List ℕ)

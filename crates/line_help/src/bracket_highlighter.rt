@@ -1,4 +1,4 @@
-//! Highlighting the match of the bracket at the cursor.
+//! Highlights the bracket that matches the one at the cursor.
 ghost use Rattle.std.specs.Prelude.{◌≡◌, ◌<◌, ⊤, IfOk, IfSome, is_some, string_bytes, slice_get, Some, None};
 ghost use Rattle.line_help.specs.Highlights.{kept_bracket, match_to_show, shown_with_match, with_bold_byte};
 
@@ -11,7 +11,7 @@ use std::borrow::CowStr;
 use std::marker::Model;
 
 /// Shows the bracket that matches the one at the cursor in bold and blue. It keeps the bracket at
-/// the cursor from `highlight_char` to the drawing that follows.
+/// the cursor from `highlight_char` to the next drawing.
 #[derive(Clone, Copy, Debug)]
 pub struct MatchingBracketHighlighter {
     bracket: Option<(u8, usize)>,
@@ -28,14 +28,14 @@ impl Model for MatchingBracketHighlighter {
 }
 
 impl MatchingBracketHighlighter {
-    /// No bracket is kept.
+    /// A highlighter without a kept bracket.
     pub fn new() -> Self
         ensures { result ≡ None }
     {
         MatchingBracketHighlighter { bracket: None }
     }
 
-    /// The match that is to be shown, and its place.
+    /// The matching bracket to show, and its place.
     fn match_in(&self, line: &str) -> Option<(u8, usize)>
         ensures found { result ≡ match_to_show line.now self.now }
         ensures stands { IfSome result (λ found. slice_get line.now found.1 ≡ Some found.0) }
@@ -65,7 +65,7 @@ impl Highlighter for MatchingBracketHighlighter {
 
     ghost shown_as = { shown_with_match };
 
-    /// The line with the match of the kept bracket in bold and blue, if it has one.
+    /// The line with the match of the kept bracket in bold and blue, if there is one.
     fn highlight<'l>(
         &self,
         alloc: Global,
@@ -103,8 +103,8 @@ impl Highlighter for MatchingBracketHighlighter {
         Ok(CowStr::Borrowed(candidate))
     }
 
-    /// Keeps the bracket whose match is to be shown, and tells whether there is one. A line's last
-    /// drawing shows none.
+    /// Keeps the bracket whose match is to be shown, and returns whether there is one. The last
+    /// drawing of a line shows none.
     fn highlight_char(&mut self, line: &str, pos: usize, kind: CmdKind) -> bool
         ensures bracket { self.new ≡ kept_bracket line.now pos kind }
         ensures marks { result ≡ is_some (kept_bracket line.now pos kind) }

@@ -1,4 +1,4 @@
-//! Validation by brackets.
+//! Validates lines by their brackets.
 ghost use Rattle.std.specs.Prelude.{◌≡◌, ◌++◌, false, IsTrue, IfOk, IfErr, codes, encode_utf8};
 ghost use Rattle.std.specs.List.{list_any};
 ghost use Rattle.line_config.specs.declared.errors.HookFault.TheVariants.{Memory};
@@ -11,13 +11,13 @@ use line_config::HookFault;
 use line_keys::Text;
 use std::alloc::{AllocError, Global};
 
-/// A line may be accepted where its brackets are balanced. Where more closing brackets are wanted
-/// it is incomplete.
+/// A line may be accepted if its brackets are balanced. If closing brackets are missing, it is
+/// incomplete.
 #[derive(Clone, Copy, Debug, Default)]
 pub struct MatchingBracketValidator;
 
 impl MatchingBracketValidator {
-    /// A validator. It holds nothing.
+    /// A validator. It has no state.
     pub fn new() -> Self
         ensures { result ≡ record {} }
     {
@@ -44,8 +44,8 @@ impl Validator for MatchingBracketValidator {
 }
 
 /// Whether the brackets of a text are balanced. The first closing bracket that doesn't fit makes it
-/// invalid, with a message that names the innermost open bracket, or the closing one where none is
-/// open. Only a text with a bracket takes memory.
+/// invalid, with a message that names the innermost open bracket, or the closing one if none is
+/// open. Only a text with brackets takes memory.
 pub fn validate_brackets(alloc: Global, input: &str) -> Result<ValidationResult, HookFault>
     ensures verdict { IfOk result (λ found. found ≡ bracket_verdict input.now) }
     ensures fault { IfErr result (λ e. (e ≡ Memory)
@@ -78,7 +78,7 @@ pub fn validate_brackets(alloc: Global, input: &str) -> Result<ValidationResult,
     }
 }
 
-/// A message on one bracket.
+/// A message about one bracket.
 fn mismatch(alloc: Global, bracket: u8, fault: &str) -> Result<Text, AllocError>
     ensures { IfOk result (λ message. message
         ≡ codes "Mismatched brackets: '" ++ (encode_utf8 bracket ++ fault.now)) }

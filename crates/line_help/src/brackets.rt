@@ -1,4 +1,4 @@
-//! Brackets: the one at the cursor, and the one that matches it.
+//! Brackets: the one at the cursor, and its match.
 ghost use Rattle.std.specs.Prelude.{◌≡◌, ◌+◌, ◌-◌, ◌<◌, IfSome, Some, option_map, slice_get, length, take, drop, reverse};
 ghost use Rattle.line_help.specs.Brackets.{is_opening, is_closing, partner, bracket_at, bracket_near, bracket_to_match, bytes_between, match_of};
 
@@ -16,7 +16,7 @@ pub(crate) fn is_closing(byte: u8) -> bool
     matches!(byte, b')' | b']' | b'}')
 }
 
-/// The other bracket of a bracket's kind.
+/// The other bracket of the same kind.
 pub(crate) fn partner(bracket: u8) -> u8
     ensures { result ≡ partner bracket }
 {
@@ -31,7 +31,7 @@ pub(crate) fn partner(bracket: u8) -> u8
     }
 }
 
-/// The bracket that stands at a place, with the place.
+/// The bracket at a place, with the place.
 fn bracket_at(bytes: &[u8], place: usize) -> Option<(u8, usize)>
     ensures { result ≡ bracket_at bytes.now place }
 {
@@ -41,7 +41,7 @@ fn bracket_at(bytes: &[u8], place: usize) -> Option<(u8, usize)>
     }
 }
 
-/// The bracket at the cursor, else the one right before it.
+/// The bracket at the cursor, or the one right before it.
 fn bracket_near(bytes: &[u8], pos: usize) -> Option<(u8, usize)>
     ensures { result ≡ bracket_near bytes.now pos }
 {
@@ -52,10 +52,9 @@ fn bracket_near(bytes: &[u8], pos: usize) -> Option<(u8, usize)>
     }
 }
 
-/// The bracket whose match is to be shown, and its place: the one at the cursor, else the one right
-/// before it. After the line the cursor shows a closing bracket alone; elsewhere neither a closing
-/// bracket that begins the line nor an opening one that ends it is answered, as they can have no
-/// match.
+/// The bracket whose match is to be shown, and its place: the one at the cursor, or the one right
+/// before it. After the line, only a closing bracket is returned. Elsewhere a closing bracket at
+/// the line's start or an opening one at its end isn't returned, because it has no match.
 pub fn check_bracket(line: &str, pos: usize) -> Option<(u8, usize)>
     ensures { result ≡ bracket_to_match line.now pos }
 {
@@ -76,10 +75,10 @@ pub fn check_bracket(line: &str, pos: usize) -> Option<(u8, usize)>
     if has_room { Some((byte, place)) } else { None }
 }
 
-/// The bracket that matches `bracket` at `pos`, and its place: the first one after an opening
-/// bracket, the nearest before a closing one, with which none of that kind is left unclosed.
-/// Brackets of other kinds don't count. A byte that is no bracket has no match. What stands at
-/// `pos` itself isn't looked at.
+/// The bracket that matches `bracket` at `pos`, and its place. It is the first one after an opening
+/// bracket, or the nearest one before a closing bracket, that leaves none of that kind open.
+/// Brackets of other kinds don't count. A byte that is no bracket has no match. The byte at `pos`
+/// itself isn't read.
 pub fn find_matching_bracket(line: &str, pos: usize, bracket: u8) -> Option<(u8, usize)>
     ensures place { result ≡ match_of line.now pos bracket }
     ensures stands { IfSome result (λ found. slice_get line.now found.1 ≡ Some found.0) }

@@ -1,11 +1,11 @@
-//! What candidates have in common.
+//! The common prefix of candidates.
 ghost use Rattle.std.specs.Prelude.{◌≡◌, ◌≤◌, length, map, nat_eq, option_copied};
 ghost use Rattle.std.specs.List.{common_prefix_len};
 ghost use Rattle.line_help.specs.Completion.{common_beginning, longest_common_prefix};
 
 use crate::completion::Candidate;
 
-/// How many bytes two texts begin with alike.
+/// The length of the common prefix of two texts, in bytes.
 #[tactic(auto, using(crate::proofs::CommonPrefixLemmas::behind_other))]
 fn common_len(text: &[u8], other: &[u8]) -> usize
     ensures value { result ≡ common_prefix_len nat_eq text.now other.now }
@@ -18,7 +18,7 @@ fn common_len(text: &[u8], other: &[u8]) -> usize
     len
 }
 
-/// The longest beginning of a text, in whole characters, that another text has too.
+/// The common prefix of two texts, in whole characters.
 #[tactic(auto, using(crate::proofs::CommonPrefixLemmas::cut_at_floor))]
 fn common_beginning<'t>(text: &'t str, other: &str) -> &'t str
     ensures { result.now ≡ common_beginning text.now other.now }
@@ -28,8 +28,8 @@ fn common_beginning<'t>(text: &'t str, other: &str) -> &'t str
     &text[..end]
 }
 
-/// The longest beginning, in whole characters, that all replacements have; none where it is empty,
-/// but for a sole candidate, whose replacement it is.
+/// The common prefix of all replacements, in whole characters, or `None` if it is empty. For a
+/// single candidate it is its replacement.
 #[tactic(auto, using(crate::proofs::CommonPrefixLemmas::prefixes))]
 pub fn longest_common_prefix<C: Candidate>(candidates: &[C]) -> Option<&str>
     ensures { option_copied result ≡ longest_common_prefix

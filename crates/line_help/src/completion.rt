@@ -1,4 +1,4 @@
-//! Completion: what may stand in place of the word before the cursor.
+//! Completion: what may replace the word before the cursor.
 ghost use Rattle.std.specs.Prelude.{◌≡◌, ◌≤◌, ℕ, List, ⊤, IfOk, IfErr, IsCharBoundary, box_value};
 ghost use Rattle.line_buffer.specs.Line.{Line};
 ghost use Rattle.line_config.specs.declared.errors.HookFault.TheVariants.{Memory};
@@ -15,14 +15,14 @@ use std::marker::Model;
 
 /// A candidate.
 pub trait Candidate: Drop {
-    // What it offers.
+    // Its two texts.
     ghost offers: { Self → Offered };
 
-    /// The text that is listed.
+    /// The text to list.
     fn display(&self) -> &str
         ensures { result.now ≡ (offers self.now).display };
 
-    /// The text that is put into the line.
+    /// The text to insert into the line.
     fn replacement(&self) -> &str
         ensures { result.now ≡ (offers self.now).replacement };
 }
@@ -42,9 +42,9 @@ impl<T: AsStr + Drop> Candidate for T {
 /// A candidate whose two texts may differ.
 #[derive(Debug, Drop)]
 pub struct Pair {
-    /// The text that is listed.
+    /// The text to list.
     pub display: String,
-    /// The text that is put into the line.
+    /// The text to insert into the line.
     pub replacement: String,
 }
 
@@ -62,7 +62,7 @@ impl Model for Pair {
 }
 
 impl Pair {
-    /// The same candidate in memory of its own.
+    /// A copy of the candidate, in memory of its own.
     pub fn try_clone(&self, alloc: Global) -> Result<Self, HookFault>
         ensures same { IfOk result (λ pair. pair ≡ self.now) }
         ensures fault { IfErr result (λ e. e ≡ Memory) }
@@ -88,19 +88,20 @@ impl Candidate for Pair {
     }
 }
 
-/// What completes words.
+/// A completer of words.
 pub trait Completer {
-    /// A candidate of it.
+    /// The type of its candidates.
     type Candidate: Candidate;
 
-    // What it gives, by line, place, entries of the history and place in the history.
+    // Its reply, depending on the line, the place, the history's entries and the place in the
+    // history.
     ghost completion_of: { Self → List ℕ → ℕ → List (List ℕ) → ℕ → Reply Completion };
 
-    // Whether it puts a text into a line, by the line, the start and the text.
+    // Whether it inserts a text into a line, depending on the line, the start and the text.
     ghost update_of: { Self → Line → ℕ → List ℕ → Reply ⊤ };
 
     /// Where the word before the cursor at `pos` starts, in bytes, and the candidates for it. They
-    /// depend on nothing but line, place, entries and place in the history.
+    /// depend only on the line, the place, the history's entries and the place in the history.
     fn complete<Hi: History>(
         &self,
         alloc: Global,
@@ -112,7 +113,7 @@ pub trait Completer {
         ensures { Replies (completion_of self.now line.now pos (Hi.entries ctx.now.history.now)
             ctx.now.place) (completion_by Self.Candidate.offers) result };
 
-    /// Puts a candidate's replacement in place of the line from `start` to the cursor.
+    /// Replaces the line from `start` to the cursor by a candidate's replacement.
     fn update<L: ChangeListener>(
         &self,
         alloc: Global,
@@ -128,7 +129,7 @@ pub trait Completer {
         ensures reply { Replies (update_of self.now line.old start elected.now) itself result };
 }
 
-/// Puts a text in place of the line from `start` to the cursor.
+/// Replaces the line from `start` to the cursor by a text.
 pub fn update_line<L: ChangeListener>(
     alloc: Global,
     line: &mut LineBuffer,

@@ -1,10 +1,10 @@
-//! Where a line stands in the history.
+//! The place of a line in the history.
 ghost use Rattle.std.specs.Prelude.{◌≡◌, ◌≤◌, length};
 
 use crate::history::History;
 
-/// A history, and a place in it: that of the entry that is shown, or the end, the number of
-/// entries, where none is.
+/// A history, and a place in it: the index of the shown entry, or the number of entries if none is
+/// shown.
 #[derive(Drop)]
 pub struct Context<'h, Hi: History> {
     pub(crate) history: &'h Hi,
@@ -13,7 +13,7 @@ pub struct Context<'h, Hi: History> {
 }
 
 impl<'h, Hi: History> Context<'h, Hi> {
-    /// The place is the end.
+    /// A context with the place at the end.
     pub fn new(history: &'h Hi) -> Self
         ensures history { result.history.now ≡ history.now }
         ensures place { result.place ≡ length (Hi.entries history.now) }
@@ -37,7 +37,7 @@ impl<'h, Hi: History> Context<'h, Hi> {
         self.place
     }
 
-    /// Sets the place. It is at most the number of entries.
+    /// Sets the place, which must be at most the number of entries.
     pub fn set_history_index(&mut self, place: usize)
         requires { place ≤ length (Hi.entries self.old.history.now) }
         ensures place { self.new.place ≡ place }

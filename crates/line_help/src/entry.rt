@@ -34,8 +34,8 @@ impl Entry {
         })
     }
 
-    /// An entry of a text in the memory of this one, where that is neither too small nor more than
-    /// four times as much as the text takes; else this one comes back.
+    /// An entry with a new text in the memory of this one, if that is large enough and at most four
+    /// times as large as the text. If not, this entry is returned unchanged.
     pub(crate) fn replaced(self, text: &str) -> Result<Self, Self>
         ensures { MatchResult result (λ e. e ≡ text.now) (λ e. e ≡ self) }
     {

@@ -1,4 +1,4 @@
-//! Escapes in a saved history: a newline stands as `\n`, a backslash as two.
+//! Escapes in a saved history: a newline is written as `\n`, a backslash as two.
 ghost use Rattle.std.specs.Prelude.{◌≡◌, ◌==◌, [], IfOk, OnOk, option_map, unwrap_or, string_bytes};
 ghost use Rattle.std.specs.List.{list_any};
 ghost use Rattle.line_help.specs.HistoryText.{escaped_byte, row_of, unescaped_row, entry_of, SendsText};
@@ -6,14 +6,14 @@ ghost use Rattle.line_help.specs.HistoryText.{escaped_byte, row_of, unescaped_ro
 use line_config::{ReadlineError, Sink};
 use std::alloc::{AllocError, Global};
 
-/// Writes some bytes of a history's text.
+/// Writes bytes of a history's text.
 pub(crate) fn put<S: Sink>(sink: &mut S, bytes: &[u8]) -> Result<(), ReadlineError>
     ensures { SendsText S.held S.has_failed bytes.now sink.old sink.new result }
 {
     sink.write(bytes).map_err(|_| ReadlineError::HistoryText)
 }
 
-/// Passes on what was written.
+/// Passes on the written bytes.
 pub(crate) fn pass_on<S: Sink>(sink: &mut S) -> Result<(), ReadlineError>
     ensures sends { SendsText S.held S.has_failed [] sink.old sink.new result }
     ensures passes { OnOk result (S.waits sink.new ≡ []) }
@@ -32,7 +32,7 @@ fn put_escaped<S: Sink>(sink: &mut S, byte: u8) -> Result<(), ReadlineError>
     }
 }
 
-/// Writes an entry as a row, which a newline closes.
+/// Writes an entry as a row, which ends in a newline.
 pub(crate) fn write_row<S: Sink>(sink: &mut S, entry: &str) -> Result<(), ReadlineError>
     ensures { SendsText S.held S.has_failed (row_of entry.now) sink.old sink.new result }
 {
@@ -43,8 +43,8 @@ pub(crate) fn write_row<S: Sink>(sink: &mut S, entry: &str) -> Result<(), Readli
     put(sink, b"\n")
 }
 
-/// The text that a row with escapes stands for. There is none where a backslash stands before
-/// anything but `n` and a backslash.
+/// The text of a row with escapes, or `None` if a backslash precedes anything other than `n` and a
+/// backslash.
 #[tactic(auto, using(crate::proofs::EscapeLemmas::escape_steps))]
 pub(crate) fn unescaped(alloc: Global, row: &str) -> Result<Option<String>, AllocError>
     ensures { IfOk result (λ text. option_map string_bytes text ≡ unescaped_row row.now) }
@@ -73,15 +73,15 @@ pub(crate) fn unescaped(alloc: Global, row: &str) -> Result<Option<String>, Allo
     Ok(Some(text))
 }
 
-/// Whether a backslash stands in a row.
+/// Whether a row has a backslash.
 fn has_backslash(row: &str) -> bool
     ensures { result ≡ list_any (λ b. b == 92) row.now }
 {
     row.as_bytes().contains(&b'\\')
 }
 
-/// The entry of a row, where it isn't the row as it stands: a row stands for itself where it has no
-/// escapes, or a wrong one.
+/// The entry of a row, if it differs from the row. A row without escapes, or with a wrong one, is
+/// its own entry.
 #[tactic(auto, using(crate::proofs::EscapeLemmas::no_backslash))]
 pub(crate) fn unescaped_entry(
     alloc: Global,

@@ -1,4 +1,4 @@
-//! A history that is loaded and saved.
+//! A history that can be loaded and saved.
 
 use crate::escapes::{pass_on, put, unescaped_entry, write_row};
 use crate::history::History;
@@ -11,19 +11,19 @@ use std::alloc::Global;
 use std::marker::Model;
 use std::ops::Index;
 
-/// A history that can be loaded from a source and saved to a sink. It counts the entries that are
-/// new since it was last loaded, saved, appended or cleared.
+/// A history that can be loaded from a source and saved to a sink. It counts the entries added
+/// since it was last loaded, saved, appended or cleared.
 ///
-/// Its text has a row for each entry, after a first row `#V2`. In the rows a newline is written as
-/// `\n` and a backslash as two. A text without that first row is read too: its rows have no
-/// escapes.
+/// Its text has a first row `#V2`, and then a row for each entry. In the rows a newline is written
+/// as `\n` and a backslash as two. A text without that first row can be loaded too: its rows have
+/// no escapes.
 #[derive(Debug, Drop)]
 pub struct FileHistory {
     memory: MemHistory,
     unsaved: usize,
 }
 
-/// The history of a program that doesn't choose one.
+/// The history of a program that doesn't choose another one.
 pub type DefaultHistory = FileHistory;
 
 impl Model for FileHistory {
@@ -49,8 +49,8 @@ impl FileHistory {
         Self::with_config(alloc, &Config::default())
     }
 
-    /// A history with the settings for histories of a configuration: how many entries are kept, and
-    /// which lines are ignored.
+    /// A history with a configuration's settings: how many entries are kept, and which lines are
+    /// ignored.
     pub fn with_config(alloc: Global, config: &Config) -> Self
         ensures { result ≡ nothing_filed (settings_of config.now) }
     {
@@ -73,7 +73,7 @@ impl FileHistory {
     ghost use Rattle.std.specs.Prelude.{◌≡◌, ◌<◌, [], OnOk, drop};
     ghost use Rattle.line_help.specs.HistoryText.{rows_text, text_to_save, text_to_append, SavesNew, SendsText};
 
-    /// Writes the rows of the entries from the first one on, and passes on what was written.
+    /// Writes the rows of the entries from the first one on, and passes them on.
     fn write_rows<S: Sink>(&self, sink: &mut S, first: usize) -> Result<(), ReadlineError>
         ensures sends { SendsText S.held S.has_failed
             (rows_text (drop first self.now.kept.entries)) sink.old sink.new result }
@@ -85,9 +85,9 @@ impl FileHistory {
         pass_on(sink)
     }
 
-    /// Writes the whole text of the history, where an entry is new, and passes it on. Then none is
-    /// new. Where the sink fails the history stays as it is, and the sink has taken a beginning of
-    /// the text.
+    /// Writes the whole text of the history if an entry is new, and passes it on. Then no entry is
+    /// new. If the sink fails, the history stays as it is, and the sink has taken a prefix of the
+    /// text.
     pub fn save_to<S: Sink>(&mut self, sink: &mut S) -> Result<(), ReadlineError>
         ensures saves { SavesNew S.held S.has_failed (text_to_save self.old) self.old self.new
             sink.old sink.new result }
@@ -102,9 +102,9 @@ impl FileHistory {
         Ok(())
     }
 
-    /// Writes the rows of the new entries, where there are any, to go after a text that was saved
-    /// before, and passes them on. Then none is new. Where the sink fails the history stays as it
-    /// is, and the sink has taken a beginning of the rows.
+    /// Writes the rows of the new entries, if there are any, and passes them on. They continue a
+    /// text that was saved before. Then no entry is new. If the sink fails, the history stays as it
+    /// is, and the sink has taken a prefix of the rows.
     pub fn append_to<S: Sink>(&mut self, sink: &mut S) -> Result<(), ReadlineError>
         ensures saves { SavesNew S.held S.has_failed (text_to_append self.old) self.old self.new
             sink.old sink.new result }
@@ -212,7 +212,7 @@ impl History for FileHistory {
     }
 }
 
-/// The entry at a place, which is below the number of entries.
+/// The entry at an index, which must be less than the number of entries.
 impl Index<usize> for FileHistory {
     type Output = String;
 
@@ -251,7 +251,7 @@ impl FileHistory {
     ghost use Rattle.line_help.specs.History.{filed_with_all, takes_all};
     ghost use Rattle.line_help.specs.HistoryText.{after_first, entries_of, follows, header, good_rows, row_fault, rows_answer, text_rows, says_reader, EndIsMet, ReadsGood, Loads, LoadsSome, left_by_load};
 
-    // Adds the entry of a row, and answers whether it isn't ignored. An empty row has none.
+    // Adds the entry of a row, and returns whether it isn't ignored. An empty row has no entry.
     fn add_row(&mut self, alloc: Global, row: &[u8], escapes: bool) -> Result<bool, ReadlineError>
         ensures answer { IfOk result (λ b. b
             ≡ takes_all self.old (entries_of escapes (row.now ∷ []))) }
@@ -273,7 +273,7 @@ impl FileHistory {
         }
     }
 
-    // Takes the first row: the header, or a row without escapes. Answers whether it is the header.
+    // Adds the first row: the header, or a row without escapes. Returns whether it is the header.
     fn add_first(&mut self, alloc: Global, row: &[u8]) -> Result<bool, ReadlineError>
         ensures answer { IfOk result (λ b. b ≡ bytes_eq row.now header) }
         ensures added { OnOk result (self.new ≡ after_first self.old row.now) }
@@ -288,8 +288,8 @@ impl FileHistory {
         Ok(false)
     }
 
-    // Adds the entries of all rows that are to come. A row that stands whole in what the source has
-    // is lent by it.
+    // Adds the entries of all remaining rows. A row that is whole in the source's buffer is
+    // borrowed from it.
     fn load_rows<S: Source>(
         &mut self,
         alloc: Global,
@@ -344,13 +344,13 @@ impl FileHistory {
         }
     }
 
-    /// Adds the entries of a text, in order, and answers whether the text began with the first row
-    /// of a saved one and none of its rows was ignored. Then no entry is new. Nothing is read
-    /// behind the text's end.
+    /// Adds the entries of a text, in order. Returns whether the text began with the first row of a
+    /// saved one and none of its rows was ignored. Then no entry is new. Nothing is read past the
+    /// text's end.
     ///
-    /// It goes row by row. Where the source fails (`Reader`), a row isn't UTF-8 (`HistoryText`) or
-    /// memory is refused (`Memory`), the rows before stay, and their entries are new. The row that
-    /// was refused is gone from the source, and the rows behind it are still to come.
+    /// It goes row by row. It stops if the source fails (`Reader`), a row isn't UTF-8
+    /// (`HistoryText`) or an allocation fails (`Memory`). The rows before stay, and their entries
+    /// are new. The row at which it stopped is consumed; the rows after it remain in the source.
     #[tactic(auto, using(crate::proofs::LoadLemmas::load_steps))]
     pub fn load_from<S: Source>(
         &mut self,

@@ -1,4 +1,4 @@
-//! Completion of file names, over a list of what folders hold.
+//! Completion of file names, from lists of what folders contain.
 ghost use Rattle.std.specs.Prelude.{◌≡◌, ◌++◌, ℕ, List, length, take, IsTrue, IfOk, IfErr, IsCharBoundary, string_bytes, vec_items, Some};
 ghost use Rattle.std.specs.Cow.{cow_str_bytes};
 ghost use Rattle.line_config.specs.declared.errors.HookFault.TheVariants.{Memory};
@@ -19,10 +19,10 @@ use std::alloc::Global;
 use std::borrow::CowStr;
 use std::marker::Model;
 
-/// What a folder holds: a name, and whether a folder bears it.
+/// An item of a folder.
 #[derive(Debug, Drop)]
 pub struct Listed {
-    /// The name, without its folder.
+    /// The name, without the folder's.
     pub name: String,
     /// Whether it is a folder.
     pub is_dir: bool,
@@ -45,13 +45,13 @@ impl Listed {
     }
 }
 
-/// Lists what folders hold.
+/// Lists folders.
 pub trait Lister {
-    // What a folder holds, by its path; nothing is given where it can't be listed.
+    // The content of a folder, by its path; empty if the folder can't be listed.
     ghost held_in: { Self → List ℕ → Reply (List Named) };
 
-    /// What the folder `dir` holds, and nothing where there is no such folder. The path ends in a
-    /// slash, or is empty where no folder was typed.
+    /// The content of the folder `dir`, empty if there is no such folder. The path ends in a slash,
+    /// or is empty if no folder was typed.
     fn list(&self, alloc: Global, dir: &str) -> Result<Vec<Listed>, HookFault>
         ensures { Replies (held_in self.now dir.now) vec_items result };
 }
@@ -62,7 +62,7 @@ pub struct FilenameCompleter<L> {
     pub(crate) lister: L,
 }
 
-/// A path that is being typed.
+/// A partly typed path.
 #[derive(Drop)]
 struct TypedPath<'l> {
     start: usize,
@@ -70,10 +70,10 @@ struct TypedPath<'l> {
     quote: Quote,
 }
 
-/// The escape in paths.
+/// The escape character in paths.
 const ESCAPE_CHAR: Option<char> = Some('\\');
 
-/// The path that stands after a quote.
+/// The path after a quote.
 fn quoted<'l>(
     alloc: Global,
     text: &'l str,
@@ -93,7 +93,7 @@ fn quoted<'l>(
     Ok(TypedPath { start, path, quote })
 }
 
-/// The path at the end of a text: what stands after an open quote, else the last word.
+/// The path at the end of a text: the text after an open quote, or the last word.
 #[tactic(auto, using(crate::proofs::FileNameLemmas::behind_quote))]
 fn typed_path<'l>(alloc: Global, text: &'l str) -> Result<TypedPath<'l>, HookFault>
     ensures typed { IfOk result (λ typed. typed_of typed.start (cow_str_bytes typed.path)
@@ -138,7 +138,7 @@ fn escape_path(alloc: Global, path: String, quote: Quote) -> Result<String, Hook
     }
 }
 
-/// The candidate that a listed name gives.
+/// The candidate for a listed name.
 fn offered_name(
     alloc: Global,
     quote: Quote,
@@ -161,7 +161,7 @@ fn offered_name(
     })
 }
 
-/// The candidates that listed names give.
+/// The candidates for listed names.
 fn offered_names(
     alloc: Global,
     quote: Quote,
@@ -191,7 +191,7 @@ impl<L: Lister> FilenameCompleter<L> {
     }
 
     /// Where the path before `pos` starts, and a candidate for each name in its folder that begins
-    /// as it does, by name.
+    /// with the typed name, sorted by name.
     pub fn complete_path(
         &self,
         alloc: Global,
@@ -208,7 +208,7 @@ impl<L: Lister> FilenameCompleter<L> {
         Ok((start, pairs))
     }
 
-    /// The same in the order in which the lister gives the names.
+    /// The same in the order in which the lister returns the names.
     pub fn complete_path_unsorted(
         &self,
         alloc: Global,

@@ -6,9 +6,9 @@ use crate::highlight::Highlighter;
 use crate::hint::Hinter;
 use crate::validate::Validator;
 
-/// What completes, hints, highlights and validates.
+/// A completer, hinter, highlighter and validator.
 ///
-/// What `highlight_char` leaves of it answers the other calls as it did before.
+/// `highlight_char` doesn't change what the other calls answer.
 pub trait Helper: Completer + Hinter + Highlighter + Validator {
     ghost same_completions: { (before after : Self) → Self.Highlighter.kept before after
         → Self.Completer.completion_of after ≡ Self.Completer.completion_of before };
@@ -23,7 +23,7 @@ pub trait Helper: Completer + Hinter + Highlighter + Validator {
         → Self.Validator.verdict_of after ≡ Self.Validator.verdict_of before };
 }
 
-/// No candidates, no hints, no styles, and every text is valid.
+/// No candidates, no hints and no styles; every text is valid.
 impl Helper for () {
     ghost same_completions = { λ before after kept. refl };
 

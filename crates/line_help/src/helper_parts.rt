@@ -1,4 +1,4 @@
-//! A helper of parts, one for each of its calls.
+//! A helper made of parts, one for each task.
 ghost use Rattle.std.specs.Prelude.{◌≡◌, ℕ, List};
 ghost use Rattle.std.proofs.Common.{ap};
 
@@ -15,16 +15,16 @@ use line_keys::CmdKind;
 use std::alloc::Global;
 use std::borrow::CowStr;
 
-/// A helper that asks a part of its own for each answer: `()` where none is wanted.
+/// A helper with a part for each task; `()` for a task without a part.
 #[derive(Debug, Drop)]
 pub struct HelperParts<C, I, L, V> {
-    /// What completes.
+    /// Completes words.
     pub completer: C,
-    /// What hints.
+    /// Gives hints.
     pub hinter: I,
-    /// What highlights.
+    /// Highlights texts.
     pub highlighter: L,
-    /// What validates.
+    /// Validates lines.
     pub validator: V,
 }
 
@@ -76,7 +76,7 @@ impl<C, I: Hinter, L, V> Hinter for HelperParts<C, I, L, V> {
 impl<C, I, L: Highlighter, V> Highlighter for HelperParts<C, I, L, V> {
     ghost marks = { λ parts. L.marks parts.highlighter };
 
-    // the highlighter alone is another one afterwards
+    // only the highlighter may change
     ghost kept = { λ before after. (after.completer ≡ before.completer)
         × (after.hinter ≡ before.hinter) × (after.validator ≡ before.validator)
         × L.kept before.highlighter after.highlighter };

@@ -11,18 +11,19 @@ use line_keys::CmdKind;
 use std::alloc::{Allocator, Global};
 use std::borrow::CowStr;
 
-/// What highlights a line and what is shown with it, for a display with colours.
+/// Highlights a line and the texts shown with it, for a display with colours.
 ///
-/// A highlighted text is the text with control sequences put in that change how characters are
-/// drawn, and so takes up the same columns.
+/// A highlighted text is the text with inserted control sequences that change how characters are
+/// drawn. So it takes the same number of columns.
 pub trait Highlighter {
-    // Whether something in a line is highlighted, by line, place and reason of the drawing.
+    // Whether something in a line is highlighted, depending on the line, the place and the reason
+    // of the drawing.
     ghost marks: { Self → List ℕ → ℕ → CmdKind → Bool };
 
-    // What `highlight_char` leaves of the highlighter.
+    // How `highlight_char` may change the highlighter.
     ghost kept: { Self → Self → Type 0 };
 
-    // What a text is shown as in a part of the display.
+    // How a text is shown in a part of the display.
     ghost shown_as: { Self → DisplayPart → List ℕ → Reply (List ℕ) };
 
     /// The line, with the cursor at `pos`.
@@ -59,16 +60,15 @@ pub trait Highlighter {
         ensures { Highlights cow_str_bytes candidate.now
             (shown_as self.now (OfCandidate completion) candidate.now) result };
 
-    /// Whether something is highlighted in the line that is about to be drawn, with the cursor at
-    /// `pos`. The answer depends on nothing but line, place and reason, and no call changes what
-    /// later ones answer.
+    /// Whether something is highlighted in the line to draw, with the cursor at `pos`. The answer
+    /// depends only on the line, the place and the reason. No call changes later answers.
     fn highlight_char(&mut self, line: &str, pos: usize, kind: CmdKind) -> bool
         ensures marks { result ≡ marks self.old line.now pos kind }
         ensures same { marks self.new ≡ marks self.old }
         ensures kept { kept self.old self.new };
 }
 
-/// Nothing is highlighted: every text stays as it is.
+/// Highlights nothing: every text stays as it is.
 #[tactic(auto, using(crate::proofs::HighlightLemmas::plain))]
 impl Highlighter for () {
     ghost marks = { λ self line pos kind. false };
@@ -113,7 +113,7 @@ impl Highlighter for () {
     }
 }
 
-/// What the highlighter inside does.
+/// Calls the highlighter inside.
 impl<H: Highlighter, A: Allocator> Highlighter for Box<H, A> {
     ghost marks = { λ held. H.marks (box_value held) };
 

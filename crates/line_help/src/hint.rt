@@ -1,4 +1,4 @@
-//! Hints: texts that are shown after a line.
+//! Hints: texts shown after a line.
 ghost use Rattle.std.specs.Prelude.{◌≡◌, ◌≤◌, ℕ, List, Option, Some, None, option_map, option_copied, length};
 ghost use Rattle.line_help.specs.Hints.{Hinted, text_hint, hint_of_history};
 ghost use Rattle.line_keys.specs.Replies.{Reply, Replies, gives_at_once};
@@ -12,14 +12,15 @@ use std::convert::AsStr;
 
 /// A hint.
 pub trait Hint: Drop {
-    // What it says.
+    // Its two texts.
     ghost says: { Self → Hinted };
 
-    /// The text that is shown.
+    /// The text to show.
     fn display(&self) -> &str
         ensures { result.now ≡ (says self.now).display };
 
-    /// The text that is put into the line when the hint is taken. None: the hint can't be taken.
+    /// The text to insert into the line when the hint is accepted; `None` if the hint can't be
+    /// accepted.
     fn completion(&self) -> Option<&str>
         ensures { option_copied result ≡ (says self.now).completion };
 }
@@ -36,16 +37,17 @@ impl<T: AsStr + Drop> Hint for T {
     }
 }
 
-/// What gives hints.
+/// A source of hints.
 pub trait Hinter {
-    /// A hint of it.
+    /// The type of its hints.
     type Hint: Hint;
 
-    // What it gives, by line, place, entries of the history and place in the history.
+    // Its reply, depending on the line, the place, the history's entries and the place in the
+    // history.
     ghost hint_of: { Self → List ℕ → ℕ → List (List ℕ) → ℕ → Reply (Option Hinted) };
 
-    /// The hint for a line with the cursor at `pos`, in bytes. It depends on nothing but line,
-    /// place, entries and place in the history.
+    /// The hint for a line with the cursor at `pos`, in bytes. It depends only on the line, the
+    /// place, the history's entries and the place in the history.
     fn hint<Hi: History>(
         &self,
         alloc: Global,
@@ -76,13 +78,13 @@ impl Hinter for () {
 }
 
 /// Hints from the history: the rest of the nearest entry that begins with the line, at or before
-/// the place in the history. There is none unless the cursor is at the end of a line that isn't
-/// empty, nor where the nearest entry is the line.
+/// the place in the history. There is a hint only if the cursor is at the end of a line that isn't
+/// empty, and the nearest entry is longer than the line.
 #[derive(Clone, Copy, Debug, Default)]
 pub struct HistoryHinter;
 
 impl HistoryHinter {
-    /// A hinter. It holds nothing.
+    /// A hinter. It has no state.
     pub fn new() -> Self
         ensures { result ≡ record {} }
     {

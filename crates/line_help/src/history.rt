@@ -1,4 +1,4 @@
-//! What a history does.
+//! The trait of histories.
 ghost use Rattle.std.specs.Prelude.{◌≡◌, ◌==◌, ℕ, List, [], length, not, IsTrue, IfOk, IfErr, OnOk, OnErr, option_map, string_bytes, true, false};
 ghost use Rattle.line_config.specs.declared.errors.ReadlineError.TheVariants.{Memory};
 ghost use Rattle.line_help.specs.History.{Settings, ignored, added, newest};
@@ -8,22 +8,21 @@ use crate::search::{SearchDirection, SearchResult};
 use line_config::ReadlineError;
 use std::alloc::Global;
 
-/// The lines that were accepted, oldest first.
+/// The accepted lines, oldest first.
 pub trait History: Drop {
     // The entries, oldest first.
     ghost entries: { Self → List (List ℕ) };
 
     ghost settings: { Self → Settings };
 
-    /// The entry at `index`. The direction matters only to a history that can't reach each entry at
-    /// once.
+    /// The entry at `index`. The direction matters only to a history without random access.
     fn get(&self, index: usize, dir: SearchDirection) -> Option<SearchResult<'_>>
         ensures { option_map hit_of result ≡ entry_at index (entries self.now) };
 
-    /// Adds a line, and answers whether it did: a line is ignored where the history keeps no
-    /// entries, where it is empty, and, as the settings say, where it begins with whitespace or is
-    /// the newest entry. The oldest entry goes where the history is full. Memory is wanted only for
-    /// a line that isn't ignored.
+    /// Adds a line, and returns whether it did. A line is ignored if the history keeps no entries
+    /// or the line is empty. By the settings it is also ignored if it begins with whitespace or
+    /// equals the newest entry. If the history is full, its oldest entry is removed. Only a line
+    /// that isn't ignored takes memory.
     fn add(&mut self, alloc: Global, line: &str) -> Result<bool, ReadlineError>
         ensures answer { IfOk result (λ b. b
             ≡ not (ignored (settings self.old) (entries self.old) line.now)) }
@@ -34,7 +33,7 @@ pub trait History: Drop {
         ensures fault { IfErr result (λ e. (e ≡ Memory)
             × IsTrue (not (ignored (settings self.old) (entries self.old) line.now))) };
 
-    /// The same for a line that is handed over, whose text isn't copied.
+    /// The same for an owned line, whose text isn't copied.
     fn add_owned(&mut self, alloc: Global, line: String) -> Result<bool, ReadlineError>
         ensures answer { IfOk result (λ b. b
             ≡ not (ignored (settings self.old) (entries self.old) (string_bytes line))) }
@@ -45,36 +44,36 @@ pub trait History: Drop {
         ensures fault { IfErr result (λ e. (e ≡ Memory)
             × IsTrue (not (ignored (settings self.old) (entries self.old) (string_bytes line)))) };
 
-    /// How many entries there are.
+    /// The number of entries.
     fn len(&self) -> usize
         ensures { result ≡ length (entries self.now) };
 
-    /// Whether there is no entry.
+    /// Whether there are no entries.
     fn is_empty(&self) -> bool
         ensures { result ≡ (length (entries self.now) == 0) };
 
-    /// Sets how many entries are kept at most. The newest ones stay.
+    /// Sets the most entries to keep. The newest ones stay.
     fn set_max_len(&mut self, len: usize)
         ensures entries { entries self.new ≡ newest len (entries self.old) }
         ensures settings { settings self.new ≡ record (settings self.old) { max_len = len } };
 
-    /// Whether a line that is the newest entry is ignored.
+    /// Sets whether a line that equals the newest entry is ignored.
     fn ignore_dups(&mut self, yes: bool)
         ensures entries { entries self.new ≡ entries self.old }
         ensures settings { settings self.new ≡ record (settings self.old) { ignore_dups = yes } };
 
-    /// Whether a line that begins with whitespace is ignored.
+    /// Sets whether a line that begins with whitespace is ignored.
     fn ignore_space(&mut self, yes: bool)
         ensures entries { entries self.new ≡ entries self.old }
         ensures settings { settings self.new ≡ record (settings self.old) { ignore_space = yes } };
 
-    /// Takes all entries out.
+    /// Removes all entries.
     fn clear(&mut self)
         ensures entries { entries self.new ≡ [] }
         ensures settings { settings self.new ≡ settings self.old };
 
     /// The nearest entry that contains the term, from the entry at `start` on in the direction.
-    /// There is none for the empty term, nor from a place after the last entry.
+    /// `None` for an empty term, and if `start` is past the last entry.
     fn search(&self, term: &str, start: usize, dir: SearchDirection) -> Option<SearchResult<'_>>
         ensures { Finds (searched false term.now start dir) (entries self.now) result };
 

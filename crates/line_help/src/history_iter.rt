@@ -1,4 +1,4 @@
-//! Going over a history.
+//! Iterates over a history.
 
 use crate::entry::Entry;
 use crate::memory_history::MemHistory;

@@ -1,4 +1,4 @@
-//! What helps to edit a line: its history, completion, hints, highlighting, validation and prompts.
+//! Helpers of a line: history, completion, hints, highlighting, validation and prompts.
 #![tactic(auto)]
 
 pub mod bracket_highlighter;

@@ -12,7 +12,7 @@ use std::collections::VecDeque;
 use std::marker::Model;
 use std::ops::Index;
 
-/// A history that is gone with its program.
+/// A history that isn't saved.
 #[derive(Debug, Drop)]
 pub struct MemHistory {
     entries: VecDeque<Entry>,
@@ -48,8 +48,8 @@ impl MemHistory {
         Self::with_config(alloc, &Config::default())
     }
 
-    /// A history with the settings for histories of a configuration: how many entries are kept, and
-    /// which lines are ignored.
+    /// A history with a configuration's settings: how many entries are kept, and which lines are
+    /// ignored.
     pub fn with_config(alloc: Global, config: &Config) -> Self
         ensures { result ≡ nothing_kept (settings_of config.now) }
     {
@@ -90,8 +90,8 @@ impl MemHistory {
             || (self.ignore_dups && self.newest_is(line))
     }
 
-    // Puts a text after the entries, in the memory of the oldest one, which goes. Answers whether
-    // it fits there; where it doesn't all stays.
+    // Removes the oldest entry and appends a text in its memory. Returns false, and does nothing,
+    // if the text doesn't fit there.
     fn replace_oldest(&mut self, text: &str) -> bool
         ensures replaced { IsTrue result
             → self.new.entries ≡ drop 1 (self.old.entries ++ text.now ∷ []) }
@@ -113,7 +113,7 @@ impl MemHistory {
         }
     }
 
-    // Puts a copy of a text after the entries. The oldest one goes where there are too many.
+    // Appends a copy of a text. If there are too many entries, the oldest one is removed.
     fn insert_copy(&mut self, alloc: Global, text: &str) -> Result<(), ReadlineError>
         requires { 0 < self.old.settings.max_len }
         ensures { Grows self.old (entries_with self.old text.now) self.new result }
@@ -124,7 +124,7 @@ impl MemHistory {
         self.insert(Entry::copied(alloc, text)?)
     }
 
-    // Puts an entry after the others. The oldest one goes where there are too many.
+    // Appends an entry. If there are too many entries, the oldest one is removed.
     fn insert(&mut self, entry: Entry) -> Result<(), ReadlineError>
         requires { 0 < self.old.settings.max_len }
         ensures { Grows self.old (entries_with self.old entry) self.new result }
@@ -137,7 +137,7 @@ impl MemHistory {
     }
 }
 
-// The searches.
+// Searches.
 impl MemHistory {
     ghost use Rattle.std.specs.Prelude.{◌≤◌, length, drop, take, reverse};
     ghost use Rattle.line_help.specs.Search.{Finds, hit_by, first_from, first_back, searched};
@@ -264,7 +264,7 @@ impl History for MemHistory {
     }
 }
 
-/// The entry at a place, which is below the number of entries.
+/// The entry at an index, which must be less than the number of entries.
 impl Index<usize> for MemHistory {
     type Output = String;
 

@@ -1,4 +1,4 @@
-//! Parts of a helper that may be missing: such a one answers as `()` does.
+//! Parts of a helper that may be missing: a missing one answers like `()`.
 ghost use Rattle.std.specs.Prelude.{◌≡◌, None, false};
 ghost use Rattle.std.specs.Option.{option_map_or};
 ghost use Rattle.line_help.specs.Completion.{nothing_offered};
@@ -12,7 +12,7 @@ use line_buffer::{ChangeListener, LineBuffer};
 use line_config::HookFault;
 use std::alloc::Global;
 
-/// No candidates where there is no completer.
+/// No candidates if there is no completer.
 impl<C: Completer> Completer for Option<C> {
     type Candidate = C::Candidate;
 
@@ -50,7 +50,7 @@ impl<C: Completer> Completer for Option<C> {
     }
 }
 
-/// Every text is valid where there is no validator, and nothing is told.
+/// Every text is valid if there is no validator, without a message.
 impl<V: Validator> Validator for Option<V> {
     ghost use Rattle.line_help.specs.declared.validate.ValidationResult.TheVariants.{Valid};
 

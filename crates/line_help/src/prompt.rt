@@ -1,9 +1,9 @@
-//! Prompts: what stands before a line.
+//! Prompts: texts before a line.
 ghost use Rattle.std.specs.Prelude.{◌≡◌, ℕ, List, string_bytes};
 
 use std::convert::AsStr;
 
-/// A prompt in two versions, which are to take up the same columns.
+/// A prompt in two versions, which should take the same number of columns.
 pub trait Prompt {
     // The text without styles, and with them.
     ghost raw_text: { Self → List ℕ };
@@ -49,7 +49,7 @@ impl Prompt for String {
     }
 }
 
-/// The text without styles, and the one with them.
+/// The text without styles, and the text with them.
 impl<Raw: AsStr, Styled: AsStr> Prompt for (Raw, Styled) {
     ghost raw_text = { λ prompt. Raw.text prompt.0 };
 

@@ -1,4 +1,4 @@
-//! Escapes and quotes, as a shell reads them.
+//! Escapes and quotes, read like a shell does.
 ghost use Rattle.std.specs.Prelude.{◌≡◌, ℕ, Bool, true, false, IfOk, IfErr, IsSome, string_bytes};
 ghost use Rattle.std.specs.Cow.{cow_str_bytes};
 ghost use Rattle.line_config.specs.declared.errors.HookFault.TheVariants.{Memory};
@@ -19,7 +19,7 @@ pub enum Quote {
     None,
 }
 
-/// The text without its escapes: each stands for the character after it, and one at the end for
+/// The text without its escapes: each stands for the character after it; at the end it stands for
 /// nothing.
 #[tactic(auto, using(crate::proofs::QuoteLemmas::unescape_steps))]
 pub fn unescape<'s>(
@@ -48,7 +48,7 @@ pub fn unescape<'s>(
     Ok(CowStr::Owned(text))
 }
 
-/// The escape that counts there: none between single quotes.
+/// The escape character in this quote: none between single quotes.
 fn escape_in(quote: Quote, esc_char: Option<char>) -> Option<char>
     ensures { result ≡ escape_in quote esc_char }
 {
@@ -87,7 +87,7 @@ pub fn escape<F: Fn(char) -> bool + Drop>(
     Ok(text)
 }
 
-/// Whether a backslash escapes where this quote is open.
+/// Whether a backslash is an escape inside this quote.
 fn escapes_at(within: Option<(usize, Quote)>) -> bool
     ensures { result ≡ escapes_at within }
 {
@@ -113,7 +113,7 @@ fn quote_after(place: usize, byte: u8, within: Option<(usize, Quote)>) -> Option
     }
 }
 
-/// The place and kind of the quote that is open at the text's end.
+/// The place and kind of the quote that is open at the text's end, if there is one.
 pub(crate) fn find_unclosed_quote(text: &str) -> Option<(usize, Quote)>
     ensures { result ≡ unclosed_quote text.now }
 {

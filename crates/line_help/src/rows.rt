@@ -1,4 +1,4 @@
-//! Rows of a text that comes from a source.
+//! Reads a text from a source, row by row.
 ghost use Rattle.std.specs.Prelude.{◌≡◌, ◌<◌, ◌≤◌, ◌==◌, is_err, length, take, List, [], true, IsTrue, IfOk, IfErr, IfSome, Ok, Err, None, option_to_list, ◌++◌};
 ghost use Rattle.std.specs.List.{position_or_len};
 ghost use Rattle.line_config.specs.declared.device.Last.TheVariants.{End, Failed};
@@ -22,7 +22,7 @@ pub(crate) fn row_end(row: &[u8]) -> usize
     len
 }
 
-/// Takes the carriage return at the end off, if there is one.
+/// Removes the carriage return at the end, if there is one.
 fn drop_return(row: &mut Vec<u8>)
     ensures { row.new.items ≡ without_return row.old.items }
 {
@@ -50,7 +50,7 @@ fn next_byte<S: Source>(source: &mut S) -> Result<Option<u8>, ReadlineError>
     source.next_byte().map_err(|_| ReadlineError::Reader)
 }
 
-/// How many bytes stand before the first newline.
+/// The number of bytes before the first newline.
 #[tactic(auto, using(crate::proofs::RowLemmas::newline_at))]
 pub(crate) fn row_len(bytes: &[u8]) -> usize
     ensures { result ≡ position_or_len (λ b. b == 10) bytes.now }
@@ -58,8 +58,7 @@ pub(crate) fn row_len(bytes: &[u8]) -> usize
     memchr(b'\n', bytes).unwrap_or(bytes.len())
 }
 
-/// Takes what the source has of a row without being asked for more. Where that is refused for want
-/// of memory it takes nothing.
+/// Takes the part of a row that the source has buffered. If an allocation fails, it takes nothing.
 fn take_piece<S: Source>(source: &mut S, row: &mut Vec<u8>) -> Result<(), AllocError>
     ensures { TakesPiece (S.feed source.old) (S.feed source.new) row.old.items row.new.items }
 {
@@ -70,12 +69,12 @@ fn take_piece<S: Source>(source: &mut S, row: &mut Vec<u8>) -> Result<(), AllocE
     Ok(())
 }
 
-/// Reads the rows of a text, and nothing behind its end.
+/// Reads the rows of a text, and nothing past its end.
 #[derive(Drop)]
 pub(crate) struct RowReader {
-    /// The row that was read last.
+    /// The last row that was read.
     pub(crate) row: Vec<u8>,
-    /// The text's end was met.
+    /// Whether the text's end was met.
     pub(crate) ended: bool,
 }
 
@@ -95,8 +94,8 @@ impl RowReader {
         }
     }
 
-    /// Reads the next row, which a newline or the end of the text ends, and answers whether there
-    /// is one. A carriage return right before the newline is no part of it.
+    /// Reads the next row, which ends at a newline or at the text's end. Returns whether there is
+    /// one. A carriage return right before the newline isn't part of it.
     #[tactic(auto, using(crate::proofs::RowLemmas::row_ends))]
     pub(crate) fn read<S: Source>(&mut self, source: &mut S) -> Result<bool, ReadlineError>
         requires { EndIsMet self.old.ended (S.feed source.old) }

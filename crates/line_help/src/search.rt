@@ -9,14 +9,14 @@ pub enum SearchDirection {
     Reverse,
 }
 
-/// An entry that was found in a history.
+/// An entry found in a history.
 #[derive(Clone, Copy, Debug, PartialEq, Eq)]
 pub struct SearchResult<'a> {
     /// The entry's text.
     pub entry: &'a str,
-    /// The entry's place in the history, the oldest entry at 0.
+    /// The entry's index in the history; the oldest entry has index 0.
     pub idx: usize,
-    /// The place in the entry, in bytes: where the term begins, or after the term where the entry
-    /// begins with it.
+    /// The place in the entry, in bytes: where the term begins, or after the term if the entry had
+    /// to begin with it.
     pub pos: usize,
 }

@@ -6,14 +6,14 @@ use line_config::HookFault;
 use line_keys::Text;
 use std::alloc::Global;
 
-/// What a validator finds of a text.
+/// A validator's verdict on a text.
 #[derive(Debug, Drop, PartialEq, Eq)]
 pub enum ValidationResult {
-    /// More has to be typed.
+    /// More must be typed.
     Incomplete,
-    /// It can't be accepted as it is, with what is told of that, if anything.
+    /// The text can't be accepted as it is, with a message, if there is one.
     Invalid(Option<Text>),
-    /// It can be accepted, with what is told of that, if anything.
+    /// The text can be accepted, with a message, if there is one.
     Valid(Option<Text>),
 }
 
@@ -30,7 +30,7 @@ impl ValidationResult {
         }
     }
 
-    /// Whether something is told.
+    /// Whether there is a message.
     pub fn has_message(&self) -> bool
         ensures { result ≡ has_message self.now }
     {
@@ -42,14 +42,14 @@ impl ValidationResult {
     }
 }
 
-/// The text that is to be validated.
+/// The text to validate.
 #[derive(Clone, Copy, Debug)]
 pub struct ValidationContext<'i> {
     input: &'i str,
 }
 
 impl<'i> ValidationContext<'i> {
-    /// For this text.
+    /// A context for this text.
     pub fn new(input: &'i str) -> Self
         ensures { result.input.now ≡ input.now }
     {
@@ -64,17 +64,17 @@ impl<'i> ValidationContext<'i> {
     }
 }
 
-/// What says whether a line may be accepted.
+/// A validator decides whether a line may be accepted.
 pub trait Validator {
     ghost use Rattle.line_help.specs.declared.validate.ValidationResult.{ValidationResult};
 
-    // What it gives of a text.
+    // Its reply to a text.
     ghost verdict_of: { Self → List ℕ → Reply ValidationResult };
 
-    // Whether it would be asked while the line is typed.
+    // Whether it wants to be called while the line is typed.
     ghost while_typing: { Self → Bool };
 
-    /// What it finds of the text, which depends on nothing but the text.
+    /// Its verdict on the text, which depends only on the text.
     fn validate(
         &self,
         alloc: Global,
@@ -82,12 +82,12 @@ pub trait Validator {
     ) -> Result<ValidationResult, HookFault>
         ensures { Replies (verdict_of self.now ctx.now.input.now) itself result };
 
-    /// Whether it would be asked while the line is typed. Nothing asks it.
+    /// Whether it wants to be called while the line is typed. The editor ignores this.
     fn validate_while_typing(&self) -> bool
         ensures { result ≡ while_typing self.now };
 }
 
-/// Every text is valid, and nothing is told.
+/// Every text is valid, without a message.
 impl Validator for () {
     ghost use Rattle.line_help.specs.declared.validate.ValidationResult.TheVariants.{Valid};
 

@@ -31,7 +31,7 @@ pub(crate) fn ends_word(c: char) -> bool
     )
 }
 
-/// Whether a character keeps a meaning between double quotes.
+/// Whether a character keeps its meaning between double quotes.
 pub(crate) fn is_double_quote_char(c: char) -> bool
     ensures { result ≡ is_among double_quote_characters c }
 {
@@ -47,7 +47,7 @@ fn is_escape(esc_char: Option<char>, c: char) -> bool
     }
 }
 
-/// What stands before the last character, and that character.
+/// The text before the last character, and that character.
 fn split_last(text: &str) -> Option<(&str, char)>
     ensures last { MatchOption result (text.now ≡ []) (λ found. text.now
         ≡ found.0.now ++ encode_utf8 found.1) }
@@ -59,7 +59,7 @@ fn split_last(text: &str) -> Option<(&str, char)>
     Some((chars.as_str(), last))
 }
 
-/// What stands before an escape at the text's end.
+/// The text before an escape at its end.
 #[tactic(auto, using(crate::proofs::WordBeforeLemmas::text_ends))]
 fn strip_escape(text: &str, esc_char: Option<char>) -> Option<&str>
     ensures { MatchOption result (is_escaped esc_char (reverse (chars text.now)) ≡ false)
@@ -79,8 +79,8 @@ fn strip_escape(text: &str, esc_char: Option<char>) -> Option<&str>
 }
 
 /// The word that ends at a place in a line, and where it begins: after the last break character
-/// before the place that has no escape directly before it, or at the line's start where there is
-/// none. An escape that counts isn't looked at again.
+/// before the place that isn't escaped, or at the line's start. A character directly after an
+/// escape is escaped, and that escape isn't itself examined.
 pub fn extract_word<F: Fn(char) -> bool + Drop>(
     line: &str,
     pos: usize,

@@ -29,7 +29,7 @@ impl Model for WordCompleter {
 }
 
 impl WordCompleter {
-    /// A completer by these words.
+    /// A completer with these words.
     pub fn new(words: Vec<String>) -> Self
         ensures { result ≡ map string_bytes words.items }
     {

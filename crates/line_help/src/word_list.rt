@@ -1,4 +1,4 @@
-//! Words of a text, one a row.
+//! Words of a text, one per row.
 ghost use Rattle.std.specs.Prelude.{◌≡◌, ◌<◌, ◌++◌, ◌∷◌, [], length, true, false, map, string_bytes, IsTrue, IfErr, OnOk};
 ghost use Rattle.std.specs.Str.{is_utf8};
 ghost use Rattle.line_help.specs.HistoryText.{entries_of};
@@ -8,7 +8,7 @@ use crate::rows::RowReader;
 use line_config::{ReadlineError, Source};
 use std::alloc::Global;
 
-/// Adds the word of a row. An empty row has none.
+/// Adds the word of a row. An empty row has no word.
 fn push_word(alloc: Global, words: &mut Vec<String>, row: &[u8]) -> Result<(), ReadlineError>
     ensures added { OnOk result (map string_bytes words.new.items
         ≡ map string_bytes words.old.items ++ entries_of false (row.now ∷ [])) }
@@ -23,9 +23,9 @@ fn push_word(alloc: Global, words: &mut Vec<String>, row: &[u8]) -> Result<(), R
     Ok(())
 }
 
-/// The words of a text, one a row, in their order. Rows are cut as a history's are, and an empty
-/// one has no word. Refused where a row isn't UTF-8 (`NotUtf8`), the source fails (`Reader`) or
-/// memory is wanting. What stands behind a row that isn't UTF-8 is still to come.
+/// The words of a text, one per row, in their order. Rows are split like a history's, and an empty
+/// row has no word. Fails if a row isn't UTF-8 (`NotUtf8`), if the source fails (`Reader`) or if an
+/// allocation fails (`Memory`). The rows after one that isn't UTF-8 remain in the source.
 pub fn load_words<S: Source>(alloc: Global, source: &mut S) -> Result<Vec<String>, ReadlineError>
     ensures { IsTrue (S.feed source.new).told
         → LoadsWords (S.feed source.old) (S.feed source.new) result }

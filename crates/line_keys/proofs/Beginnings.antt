@@ -1,4 +1,4 @@
--- Some bound sequence begins with given keys exactly where some sequence of these keys and more is bound.
+-- Some bound sequence begins with given keys exactly if some sequence of these keys and more is bound.
 use Rattle.std.proofs.Common.{◌≡◌, ◌↔◌, Bool, true, false, cond, ◌||◌, List, [], ◌∷◌, ◌++◌, length, take, drop, refl, sym, ap, ◌∙◌, true≢false, Option, Some, IsTrue}
 use Rattle.std.specs.Prelude.{IsSome, option_map, find as first_passing}
 use Rattle.std.proofs.lemmas.List.{take-append-drop}

@@ -32,7 +32,7 @@ lt_under {a} {b} {n} falls lt = omega arith
 nothing_under : {a : ℕ} → a < zero → ⊥
 nothing_under {a} lt = omega arith
 
--- ---- the reason by who refused
+-- ---- the reason by what failed
 
 module _ {S : Type 0} (d : KnownDisplay S) (custom : Custom) (w : S) (f : KeyFeed) where
   pub reader_because : (e : ReadlineError) → IsReaderRefusal e → f.reason e → Because d custom w f e
@@ -167,7 +167,7 @@ module _ {S X : Type 0} (d : KnownDisplay S) (custom : Custom) where
   }
   needed_follows false s w i f e is taken = absurd (true≢false (sym taken))
 
-  -- want of memory, where it is taken
+  -- out of memory, if some is taken
   pub memory_follows : (s : Part X) (w : S) (i : Input) (f : KeyFeed) (e : ReadlineError) → e ≡ Memory → Follows d custom (needing true s) w i w i f f (Err e)
   memory_follows s w i f e is = needed_follows true s w i f e is refl
 

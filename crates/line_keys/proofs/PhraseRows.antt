@@ -61,7 +61,7 @@ made_of custom shown coming = played shown emacs coming (steps (phrase custom em
 abbrev made : Custom → List ℕ → Coming → Played Cmd
 made custom text coming = made_of custom (line_of text) coming
 
--- a phrase that asks nothing
+-- a phrase without an ask
 abbrev gives : Result Cmd ReadlineError → Coming → Played Cmd
 gives answer rest = record { answer = answer; input = emacs; asks = []; rest = rest }
 

@@ -1,5 +1,5 @@
--- A phrase played to its end, where only the input refuses, for worked rows: its answer, what is kept,
--- what was asked of the display in order, and what is left to come.
+-- A phrase played to its end, which only the input can fail, for worked rows: its answer, what is kept,
+-- what was asked of the display in order, and the remaining input.
 use Rattle.std.specs.Prelude.{List, [], ◌∷◌, Result, Ok, Err}
 use Rattle.line_config.specs.declared.errors.ReadlineError.{ReadlineError}
 use Rattle.line_config.specs.Played.{Played as PlayedBy, played as played_by}

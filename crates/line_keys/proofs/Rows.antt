@@ -81,7 +81,7 @@ numbered (k ∷ ks) n = (normal_event (single k), n) ∷ numbered ks (n + 1)
 six_bindings : map (λ k. find (single k) (numbered six 0)) six ≡ Some 0 ∷ Some 1 ∷ Some 2 ∷ Some 3 ∷ Some 4 ∷ Some 5 ∷ []
 six_bindings = refl
 
--- ---- commands made anew: 120 is `x`
+-- ---- commands repeated: 120 is `x`
 
 a_count_is_put_in : redone (Some 3) None (SelfInsert 1 120) ≡ SelfInsert 3 120
 a_count_is_put_in = refl

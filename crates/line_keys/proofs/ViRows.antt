@@ -44,7 +44,7 @@ typed (c ∷ text) = Pressed (key_with (Char c) none) (typed text)
 abbrev read_by : Input → Option (List ℕ) → Coming → Played Cmd
 read_by input last c = played (empty_line last) input c (steps (phrase nothing_bound input (empty_line last)) 9)
 
--- from command mode, where nothing is remembered
+-- from command mode, with nothing remembered
 abbrev commanded : List ℕ → Played Cmd
 commanded text = read_by (in_mode Command) None (typed text)
 
@@ -135,7 +135,7 @@ the_last_change_with_a_count = refl
 
 -- ---- what takes memory
 
--- a change is kept without memory, but for one that holds a text
+-- a change is kept without memory, except one that holds a text
 abbrev all_asked : Coming → List KeyAsk
 all_asked c = (played_all (empty_line None) (in_mode Command) c (steps (phrase nothing_bound (in_mode Command) (empty_line None)) 9)).asks
 

@@ -1,4 +1,4 @@
--- What each command is to the kill ring, to Vi's repetition, and to memory.
+-- What each command means for the kill ring, for Vi's repetition, and for memory.
 use Rattle.std.specs.Prelude.{◌≡◌, Bool, true, false, is_some, Result, IfOk, IfErr, IsTrue}
 use Rattle.line_config.specs.declared.errors.ReadlineError.{ReadlineError}
 use Rattle.line_config.specs.declared.errors.ReadlineError.TheVariants.{Memory}
@@ -10,9 +10,9 @@ use Rattle.line_keys.specs.declared.command.Cmd.TheVariants.{ClearScreen, Dedent
 pub record Standing : Type 0 where
   -- the ring is reset before it: a run of kills ends, and a yank can't be popped any more
   pub resets_ring : Bool
-  -- it changes the text, and can be made anew
+  -- it changes the text, and can be repeated
   pub is_change : Bool
-  -- it can be made anew
+  -- it can be repeated
   pub repeats : Bool
 
 abbrev pub marked : Bool → Bool → Bool → Standing
@@ -46,13 +46,13 @@ standing (Yank n a) = marked false true true
 standing YankPop = marked false false false
 standing cmd = marked true false false
 
--- it holds a text, for which each copy of it takes memory
+-- it contains a text, so each copy of it takes memory
 abbrev pub holds_text : Cmd → Bool
 holds_text (Insert n t) = true
 holds_text (Replace m t) = is_some t
 holds_text cmd = false
 
--- a call that makes a copy of this command: memory is wanted for its text alone
+-- a call that copies this command: only its text takes memory
 pub record Copied (cmd : Cmd) (result : Result Cmd ReadlineError) : Type 0 where
   pub ok : IfOk result (λ c. c ≡ cmd)
   pub err : IfErr result (λ e. (e ≡ Memory) × IsTrue (holds_text cmd))

@@ -1,5 +1,5 @@
--- The keys that both modes know, and what comes before the tables: bindings, and the keys that a
--- terminal would send as a signal or as the end of input.
+-- The keys of both modes, and what comes before the tables: bindings, and the keys that a terminal
+-- would turn into a signal or the end of input.
 use Rattle.std.specs.Prelude.{ℕ, ◌==◌, Bool, true, not, ◌&&◌, List, [], ◌∷◌, ◌++◌, length, codes, Option, Some, None, if◌then◌else◌}
 use Rattle.line_buffer.specs.declared.types.Movement.TheVariants.{BeginningOfLine, EndOfLine, BackwardChar, ForwardChar, BackwardWord, ForwardWord}
 use Rattle.line_buffer.specs.declared.types.Word.TheVariants.{Big}
@@ -37,7 +37,7 @@ signal_of k = look 1 true k signal_rows
 abbrev pub has_text : Shown → Bool
 has_text shown = not (length shown.line == 0)
 
--- a hint stands after the line, and the cursor right before it
+-- a hint is shown after the line, and the cursor is right before it
 abbrev pub at_hint : Shown → Bool
 at_hint shown = shown.hinted && (shown.place == length shown.line)
 
@@ -76,13 +76,13 @@ common_reading_rows = named BracketedPasteStart none (always Paste) ∷ []
 abbrev pub common_rows : EditMode → Shown → List (Row Action)
 common_rows mode shown = common_command_rows mode shown ++ common_reading_rows
 
--- what a key does in both modes, if a row has it
+-- the action of a key in both modes, if it has a row
 unfoldable pub common_action : EditMode → Shown → ℕ → Bool → KeyEvent → Option Action
 common_action mode shown n positive k = look n positive k (common_rows mode shown)
 
--- ---- a key that no row has
+-- ---- a key without a row
 
--- the command that a custom sequence is bound to, or none
+-- the command to which a custom sequence is bound, or none
 abbrev pub bound_command : Followed → Cmd
 bound_command (Bound cmd) = cmd
 bound_command (Unbound second) = Unknown
@@ -100,8 +100,8 @@ common s k = common_done s k (common_action s.input.mode s.shown s.n s.positive 
 
 -- ---- before the tables
 
--- the command of a key that the terminal has a meaning for; the end of input is one in an empty
--- line alone
+-- the command of a key that has a meaning for the terminal; the end of input counts only in an
+-- empty line
 abbrev pub if_empty : Shown → Option Cmd → Option Cmd
 if_empty shown (Some EndOfFile) = if has_text shown then None else Some EndOfFile
 if_empty shown cmd = cmd
@@ -113,7 +113,7 @@ abbrev pub command_or : Part Cmd → Option Cmd → Part Cmd
 command_or other (Some cmd) = answered cmd
 command_or other None = other
 
--- a bound command is made with this count, if there is one
+-- a bound command is repeated with this count, if there is one
 abbrev pub bound_or : Option ℕ → Situation → Part Cmd → Option Cmd → Part Cmd
 bound_or new s other (Some cmd) = anew_or cmd new s.shown cmd
 bound_or new s other None = other

@@ -1,4 +1,4 @@
--- Counts: signed numbers that are typed before a key, with a prompt for each digit.
+-- Counts: signed numbers typed before a key, with a prompt for each digit.
 use Rattle.std.specs.Fmt.{signed_decimal}
 use Rattle.std.specs.Prelude.{ℕ, ◌-◌, ◌==◌, nat_le, nat_lt, ℤ, pos, neg_ℤ, ◌+ℤ◌, ◌*ℤ◌, nat_abs, int_lt, Bool, true, not, ◌&&◌, List, ◌++◌, codes, if◌then◌else◌, Option, Some, None, option_map, zero, suc, ◌*◌, min}
 use Rattle.std.specs.Option.{option_or, option_and_then}
@@ -12,11 +12,11 @@ use Rattle.line_keys.specs.Keys.{none, alt, char_with}
 use Rattle.line_keys.specs.Phrases.{Needs, Shows, Reads, Steps, Part, Upto, answered, refused}
 use Rattle.line_keys.specs.Refreshing.{Line, Prompted}
 
--- a key, after the count that was typed before it, if there was one
+-- a key, after the typed count, if there is one
 abbrev pub Counted : Type 0
 Counted = Option ℤ × KeyEvent
 
--- how often a command is made: once where no count was typed, and where it is 0
+-- how often a command is repeated: once if no count was typed, and if it is 0
 abbrev pub how_often : Option ℤ → ℕ
 how_often None = 1
 how_often (Some c) = if nat_abs c == 0 then 1 else nat_abs c
@@ -29,8 +29,8 @@ abbrev pub is_plus : Option ℤ → Bool
 is_plus None = true
 is_plus (Some c) = not (is_negative c)
 
--- one more digit: after -1, which is what a minus alone stands for, it takes the place of the 1;
--- else it is added to ten times the count, of which four digits are enough
+-- one more digit: after -1, for which a minus alone stands, it replaces the 1; else it is added to
+-- ten times the count, up to four digits
 abbrev pub and_digit : ℤ → ℕ → ℤ
 and_digit c d =
     if is_negative c && (nat_abs c == 1) then neg_ℤ (pos d)
@@ -40,25 +40,25 @@ and_digit c d =
 abbrev pub prompt_for : ℤ → List ℕ
 prompt_for c = codes "(arg: " ++ (signed_decimal c ++ codes ") ")
 
--- the digit that a character is, 30 being 0 and 39 being 9
+-- the digit of a character: 30 is 0 and 39 is 9
 abbrev pub digit_char : ℕ → Option ℕ
 digit_char char = if nat_le 0x30 char && nat_le char 0x39 then Some (char - 0x30) else None
 
--- the digit that a key without modifiers is
+-- the digit of a key without modifiers
 abbrev pub digit_of : KeyEvent → Option ℕ
 digit_of k = option_and_then digit_char (char_with none k)
 
--- a count with one more character: a digit, or a minus (2D), which is dropped
+-- a count with one more character: a digit, or a minus (2D), which is ignored
 abbrev pub counted_char : ℤ → ℕ → Option ℤ
 counted_char c char = if char == 0x2D then Some c else option_map (and_digit c) (digit_char char)
 
--- a count with one more key of it, in Emacs mode also with Alt; any other key ends it
+-- a count with one more key, in Emacs mode also with Alt; any other key ends it
 abbrev pub counted_on : EditMode → ℤ → KeyEvent → Option ℤ
 counted_on Emacs c k =
     option_and_then (counted_char c) (option_or (char_with none k) (char_with alt k))
 counted_on Vi c k = option_map (and_digit c) (digit_of k)
 
--- the count that a character begins: a digit, or a minus, which alone stands for -1
+-- the count that a character starts: a digit, or a minus, which alone stands for -1
 abbrev pub begun_char : ℕ → Option ℤ
 begun_char char =
     if char == 0x2D then Some (neg_ℤ (pos 1)) else option_map pos (digit_char char)
@@ -66,15 +66,15 @@ begun_char char =
 abbrev pub begun_digit : ℕ → Option ℤ
 begun_digit d = if d == 0 then None else Some (pos d)
 
--- the count that a key begins: in Emacs mode with Alt, in Vi's command mode by a digit other than 0
+-- the count that a key starts: in Emacs mode with Alt, in Vi's command mode by a digit other than 0
 abbrev pub begun_by : EditMode → KeyEvent → Option ℤ
 begun_by Emacs k = option_and_then begun_char (char_with alt k)
 begun_by Vi k = option_and_then begun_digit (digit_of k)
 
 -- ---- a count and the key after it
 
--- what a key is to a count so far: one more of its keys, or the one after it, before which the line
--- is drawn anew
+-- what a key means after a count: one more of its keys, or the key after it, before which the line
+-- is redrawn
 abbrev pub counting_by : (ℤ → Steps Counted) → ℤ → KeyEvent → Option ℤ → Steps Counted
 counting_by more c k (Some d) = more d
 counting_by more c k None = Asks (Shows Line) (λ shown. Ends (Some c, k))
@@ -83,8 +83,7 @@ counting_by more c k None = Asks (Shows Line) (λ shown. Ends (Some c, k))
 abbrev pub prompting : ℤ → Steps Counted → Steps Counted
 prompting c next = Asks Needs (λ none. Asks (Shows (Prompted (prompt_for c))) (λ shown. next))
 
--- the rest of a count, with the keys that `on` says belong to it: before each further key a prompt
--- is asked for
+-- the rest of a count, with the keys that `on` accepts: before each further key a prompt is drawn
 abbrev pub counting_read : (ℤ → KeyEvent → Option ℤ) → ℤ → ℕ → Steps Counted
 counting_read on c zero = refused Memory
 counting_read on c (suc n) =
@@ -97,11 +96,11 @@ abbrev pub counting_or : EditMode → KeyEvent → Option ℤ → Part Counted
 counting_or mode k (Some c) = counting (counted_on mode) c
 counting_or mode k None = answered (None, k)
 
--- the key, or, where it begins a count, that count and the key after it
+-- the key; if it starts a count, the count and the key after it
 abbrev pub counted_key : EditMode → KeyEvent → Part Counted
 counted_key mode k = counting_or mode k (begun_by mode k)
 
--- the count, where one was typed
+-- the count, if one was typed
 abbrev pub typed_count : Option ℤ → Option ℕ
 typed_count = option_map nat_abs
 

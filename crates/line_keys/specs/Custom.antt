@@ -1,4 +1,4 @@
--- What custom bindings make of keys: of one, and of the sequence that it begins.
+-- The effect of custom bindings on keys: on one, and on the sequence that it starts.
 use Rattle.std.specs.Prelude.{ℕ, Bool, List, [], ◌∷◌, ◌++◌, slice_get, if◌then◌else◌}
 use Rattle.std.specs.Prelude.{Option, Some, None, option_map, zero, suc}
 use Rattle.line_config.specs.declared.errors.ReadlineError.TheVariants.{Memory}
@@ -17,7 +17,7 @@ use Rattle.line_keys.specs.Phrases.{Input, Reads, Steps, Part, Upto, needing, re
 use Rattle.line_keys.specs.Refreshing.{Shown}
 use Rattle.line_keys.specs.Replies.{Reply, taking}
 
--- all by which a key after its count is decided
+-- all that decides on a key after its count
 pub record Situation : Type 0 where
   pub custom : Custom
   pub input : Input
@@ -43,7 +43,7 @@ shown_for s e = record {
   seen = seen_of s.input.mode s.input.input_mode s.shown;
 }
 
--- the binding of one key, else that of any, for which the key's event is made in memory
+-- the binding of one key, else that of any key, for which the key's event is built in memory
 abbrev pub or_any : Custom → Option Meaning → Option Meaning
 or_any custom (Some meaning) = Some meaning
 or_any custom None = option_map (λ meaning s. taking (meaning s)) (custom.answers Any)
@@ -52,19 +52,20 @@ abbrev pub custom_answer : Situation → KeyEvent → Reply (Option Cmd)
 custom_answer s k =
     answer_by (or_any s.custom (s.custom.answers (single k))) (shown_for s (single k))
 
--- what a sequence of keys is bound to answers; the sequence is made in memory
+-- the answer of the binding of a sequence of keys; the sequence is built in memory
 abbrev pub sequence_answer : Situation → List KeyEvent → Reply (Option Cmd)
 sequence_answer s keys =
     taking (answer_by (s.custom.answers (KeySeq keys)) (shown_for s (KeySeq keys)))
 
--- ---- sequences: while the keys so far begin a bound one, or are it, one more is read
+-- ---- sequences: as long as a bound one starts with the keys so far, or equals them, one more is
+-- read
 
--- a command ends the sequence, and where there is none the sequence goes on
+-- a command ends the sequence; without one the sequence continues
 abbrev pub bound_by : Steps Followed → Option Cmd → Steps Followed
 bound_by more (Some cmd) = Ends (Bound cmd)
 bound_by more None = more
 
--- the keys read in vain are lost, but for the second
+-- the keys of an unbound sequence are lost, except for the second
 abbrev pub in_vain : List KeyEvent → Steps Followed
 in_vain keys = Ends (Unbound (slice_get keys 1))
 
@@ -80,6 +81,6 @@ following_upto s keys (suc n) =
 unfoldable pub following : Situation → List KeyEvent → Part Followed
 following s keys = Upto (following_upto s keys)
 
--- the sequence that begins with this key, which is kept in memory where a bound one begins so
+-- the sequence that starts with this key, which is stored in memory if a bound one starts so
 unfoldable pub followed : Situation → KeyEvent → Part Followed
 followed s k = needing (s.custom.begins (k ∷ [])) (following s (k ∷ []))

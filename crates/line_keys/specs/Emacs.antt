@@ -102,13 +102,13 @@ second_rows =
     ∷ named Esc none (always Abort)
     ∷ []
 
--- what a key does, if a row has it
+-- the action of a key, if it has a row
 unfoldable pub emacs_action : Shown → ℕ → Bool → KeyEvent → Option Action
 emacs_action shown n positive k = look n positive k (emacs_rows shown)
 
--- ---- what the keys do that read on
+-- ---- keys after which more is read
 
--- the move by a search for a character, if a character was typed
+-- the move by a search for a character, if one was typed
 abbrev pub move_to_char : ℕ → (ℕ → CharSearch) → Option ℕ → Cmd
 move_to_char n search (Some c) = Move (ViCharSearch n (search c))
 move_to_char n search None = Unknown
@@ -116,7 +116,7 @@ move_to_char n search None = Unknown
 abbrev pub second_command : ℕ → Bool → KeyEvent → Cmd
 second_command n positive k = unwrap_or (look n positive k second_rows) Unknown
 
--- after a sequence read in vain its second key decides, read now if it wasn't
+-- after an unbound sequence its second key decides; it is read now if it wasn't
 abbrev pub after_first_key : ℕ → Bool → Followed → Part Cmd
 after_first_key n positive (Bound cmd) = answered cmd
 after_first_key n positive (Unbound (Some k)) = answered (second_command n positive k)
@@ -135,7 +135,7 @@ emacs_done s k None = common s k
 abbrev pub emacs_command : Situation → KeyEvent → Part Cmd
 emacs_command s k = emacs_done s k (emacs_action s.shown s.n s.positive k)
 
--- a bound command is made as often as the count says
+-- a bound command is repeated as often as the count says
 abbrev pub emacs_decided : Situation → KeyEvent → Part Cmd
 emacs_decided s k = decided (Some s.n) s k (emacs_command s k)
 

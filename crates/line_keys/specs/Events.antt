@@ -1,4 +1,4 @@
--- Events: their keys, and the form in which bindings are kept.
+-- Events: their keys, and their normal form in bindings.
 use Rattle.std.specs.Prelude.{ℕ, Bool, false, List, [], ◌∷◌, map, Option, None, slice_get}
 use Rattle.std.specs.List.{starts_with}
 use Rattle.line_keys.specs.declared.key.KeyEvent.{KeyEvent}
@@ -19,7 +19,7 @@ abbrev pub normal_event : Event → Event
 normal_event (KeySeq keys) = KeySeq (map normal keys)
 normal_event e = e
 
--- the event is a sequence that begins with these keys, or is these
+-- the event is a sequence that starts with these keys, or equals them
 abbrev pub begins_with : List KeyEvent → Event → Bool
 begins_with keys (KeySeq sequence) = starts_with same_key sequence keys
 begins_with keys e = false

@@ -1,11 +1,11 @@
--- What is known of a reader of keys, and what each read makes of it.
+-- What is known of a reader of keys, and the effect of each read.
 use Rattle.std.specs.Prelude.{◌≡◌, ℕ, List, ◌<◌, ◌≤◌, ◌⊎◌, ⊤, Bool, Result, Err, IsTrue, IfErr, OnOk}
 use Rattle.line_config.specs.declared.errors.ReadlineError.{ReadlineError}
 use Rattle.line_config.specs.declared.errors.ReadlineError.TheVariants.{Memory, Eof, NotUtf8, PasteOutOfPlace, Reader}
 use Rattle.line_keys.specs.declared.key.KeyEvent.{KeyEvent}
 use Rattle.line_keys.specs.Coming.{Coming, key_at, paste_at, behind, left, left_by}
 
--- a reader's refusals; want of memory is one of a pasted text, and of every call after that
+-- a reader's errors; running out of memory is one of a pasted text, and of every call after that
 abbrev pub IsReaderRefusal : ReadlineError → Type 0
 IsReaderRefusal Eof = ⊤
 IsReaderRefusal NotUtf8 = ⊤
@@ -15,15 +15,15 @@ IsReaderRefusal Memory = ⊤
 IsReaderRefusal why = ⊥
 
 pub record KeyFeed : Type 1 where
-  -- what its reads gave so far is what was said of it, and this is still to come
+  -- the bytes given so far agree with those assumed, and this remains of them
   pub told : Bool
   pub coming : Coming
   -- it falls with each key and each paste
   pub bound : ℕ
-  -- what has happened where a call is refused
+  -- what has happened if a call fails
   pub reason : ReadlineError → Type 0
 
--- what is asked for
+-- what is requested
 pub data InputItem : Type 0 where
   Key : InputItem
   Paste : InputItem
@@ -32,24 +32,24 @@ abbrev pub InputOf : InputItem → Type 0
 InputOf Key = KeyEvent
 InputOf Paste = List ℕ
 
--- the answer where it is asked for
+-- the answer to a request
 abbrev pub item_at : (item : InputItem) → Coming → Result (InputOf item) ReadlineError
 item_at Key = key_at
 item_at Paste = paste_at
 
--- what a read may be refused for that no input gives: want of memory for a pasted text
+-- the faults of a read, which no input gives: a pasted text may run out of memory
 abbrev pub IsReadFault : InputItem → ReadlineError → Type 0
 IsReadFault Paste Memory = ⊤
 IsReadFault item why = ⊥
 
--- a read is answered as the input says, or cut by a fault, which is for good
+-- a read is answered as the input says, or cut by a fault, which is final
 abbrev pub ReadAs : {X : Type 0} → InputItem → Result X ReadlineError → Coming
     → Result X ReadlineError → Coming → Type 0
 ReadAs item given rest result c' =
     ((result ≡ given) × (c' ≡ left given rest))
     ⊎ ((e : ReadlineError) × IsReadFault item e × (result ≡ Err e) × (c' ≡ left_by e))
 
--- what a read of a reader makes of what comes: this answer, of what stands there
+-- the effect of a reader's read on the remaining input: this answer, from the front of it
 pub record ReadsBy {X : Type 0} (item : InputItem) (at : Coming → Result X ReadlineError)
     (feed feed' : KeyFeed)
     (result : Result X ReadlineError) : Type 0 where

@@ -10,7 +10,7 @@ use Rattle.line_keys.specs.Feeds.{KeyFeed, item_at, IsReadFault}
 use Rattle.line_keys.specs.Phrases.{Input, KeyAsk, Answer, Part, steps, Needs, Shows, Reads, Becomes, Refuses}
 use Rattle.line_keys.specs.Refreshing.{Ask, KnownDisplay, IsDrawFault}
 
--- what is asked is asked of a display, what is kept, and what comes
+-- the display, the memory of the state, and the remaining input
 pub record Stage (S : Type 0) : Type 0 where
   pub wrt : S
   pub input : Input
@@ -19,7 +19,7 @@ pub record Stage (S : Type 0) : Type 0 where
 abbrev pub stage : {S : Type 0} → S → Input → Coming → Stage S
 stage wrt input coming = record { wrt = wrt; input = input; coming = coming }
 
--- what each ask makes of them, and its answer
+-- the effect of each request on them, and its answer
 abbrev pub KeyMade : {S : Type 0} → KnownDisplay S → Stage S → (ask : KeyAsk) → Answer ask
     → Stage S → Type 0
 KeyMade d s Needs answer t = t ≡ s
@@ -30,8 +30,8 @@ KeyMade d s (Reads item) read t =
 KeyMade d s (Becomes input) answer t = t ≡ record s { input = input }
 KeyMade d s (Refuses why) answer t = ⊥
 
--- memory cuts only where it is taken; a read where the input refuses it, or a pasted text finds no
--- memory; an ask where the display refuses it
+-- memory cuts only a request that takes it. A read is cut if the input has none to give, or if a
+-- pasted text finds no memory. A call on the display is cut if it fails
 abbrev pub KeyCut : {S : Type 0} → KnownDisplay S → Stage S → KeyAsk → ReadlineError → Stage S
     → Type 0
 KeyCut d s Needs e t = (e ≡ Memory) × (t ≡ s)
@@ -45,18 +45,18 @@ KeyCut d s (Refuses why) e t = (e ≡ why) × (t ≡ s)
 abbrev pub key_world : {S : Type 0} → KnownDisplay S → World KeyAsk Answer (Stage S) ReadlineError
 key_world d = record { made = KeyMade d; cut = KeyCut d }
 
--- the steps of a part, with leave to read more often than there is something to read
+-- the steps of a part, allowed to read more often than there is something to read
 unfoldable pub Happens : {S X : Type 0} → KnownDisplay S → ℕ → Part X → Stage S
     → Result X ReadlineError → Stage S → Type 0
 Happens d bound part s result t =
     (n : ℕ) → bound < n → Goes (key_world d) (steps part n) s result t
 
--- the display refused some ask so
+-- some call on the display failed with this error
 abbrev pub Undrawn : {S : Type 0} → KnownDisplay S → S → ReadlineError → Type 0
 Undrawn {S} d wrt e = (before : S) × (ask : Ask) × d.refused before ask e wrt
 
--- why a call is refused, whatever is told: what has happened to the reader, an ask that the display
--- refused, a bound handler that fails; want of memory is anyone's
+-- why a call fails, in any case: what has happened to the reader, a failed call on the display, or
+-- a bound handler that fails. Any call may run out of memory
 abbrev pub Because : {S : Type 0} → KnownDisplay S → Custom → S → KeyFeed → ReadlineError → Type 0
 Because d custom wrt feed Interrupted = ⊥
 Because d custom wrt feed DisplayFault = Undrawn d wrt DisplayFault
@@ -67,7 +67,7 @@ Because d custom wrt feed Handler = HandlerFails custom
 Because d custom wrt feed Memory = ⊤
 Because d custom wrt feed why = feed.reason why
 
--- THE relation of a call that reads, asks and keeps
+-- the relation of a call that reads, draws and remembers
 pub record Follows {S X : Type 0} (d : KnownDisplay S) (custom : Custom) (part : Part X)
     (wrt : S) (input : Input) (wrt' : S) (input' : Input)
     (feed feed' : KeyFeed) (result : Result X ReadlineError) : Type 0 where
@@ -75,11 +75,11 @@ pub record Follows {S X : Type 0} (d : KnownDisplay S) (custom : Custom) (part :
       (stage wrt input feed.coming) result (stage wrt' input' feed'.coming)
   pub told : IsTrue feed'.told → IsTrue feed.told
   pub keeps : feed'.bound ≤ feed.bound
-  -- Emacs or Vi for good
+  -- always Emacs or always Vi
   pub mode : input'.mode ≡ input.mode
   pub reason : IfErr result (λ e. Because d custom wrt' feed' e)
 
--- no display is asked
+-- the display isn't called
 abbrev pub silent : KnownDisplay ⊤
 silent = record {
   shown =

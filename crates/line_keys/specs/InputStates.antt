@@ -1,4 +1,4 @@
--- The value of an input state, what it makes of a key's surroundings, and what its calls do.
+-- The value of an input state, the surroundings of a key, and the effect of its calls.
 use Rattle.std.specs.Prelude.{ℕ, Bool, None, Result}
 use Rattle.line_config.specs.declared.errors.ReadlineError.{ReadlineError}
 use Rattle.line_config.specs.declared.settings.EditMode.{EditMode}
@@ -22,24 +22,24 @@ input_of s = record {
   search = s.last_char_search;
 }
 
--- its bindings; a handler's meaning is handed in, since it comes with its box
+-- its bindings; a handler's meaning is a parameter, since it comes with its box
 abbrev pub custom_in : {D : Type 0} → InputState D → (D → Meaning) → Custom
 custom_in s means = custom_of s.custom_bindings.now means
 
 abbrev pub situation_in : {D : Type 0} → InputState D → (D → Meaning) → Shown → ℕ → Bool → Situation
 situation_in s means shown n positive = situation (custom_in s means) (input_of s) shown n positive
 
--- what a new state remembers: nothing
+-- the empty memory of a new state
 abbrev pub new_input : EditMode → Input
 new_input mode = record { mode = mode; input_mode = Insert; last = Noop; search = None }
 
--- a binding is asked, and the reply is as the situation says
+-- a binding is called, and replies as the situation says
 abbrev pub DecidesIn : {D A : Type 0} → (Situation → Reply A) → InputState D → (D → Meaning) → Shown
     → ℕ → Bool → Result A ReadlineError → Type 0
 DecidesIn reply s means shown n positive result =
     Decides (reply (situation_in s means shown n positive)) result
 
--- the part that the situation says is followed, and nothing is kept nor asked of the display
+-- the part that the situation says is followed; nothing is remembered, and the display isn't called
 abbrev pub FollowsIn : {D S X : Type 0} → (Situation → Part X) → InputState D → (D → Meaning)
     → KnownDisplay S → S → ℕ → Bool → KeyFeed → KeyFeed → Result X ReadlineError → Type 0
 FollowsIn part state means display wrt n positive feed feed' result =

@@ -1,4 +1,4 @@
--- Keys: what a character stands for, and the form in which a binding is kept.
+-- Keys: the key of a character, and the normal form of a key in bindings.
 use Rattle.std.specs.Prelude.{ℕ, ◌+◌, Bool, ◌||◌, ◌&&◌, nat_lt, ◌==◌, Option, Some, None, if◌then◌else◌}
 use Rattle.std.specs.Int.RustNames.{bit_and, bit_or}
 use Rattle.std.specs.Char.{is_control, is_ascii_control, is_ascii_lowercase, is_ascii_uppercase, to_ascii_uppercase}
@@ -50,11 +50,11 @@ char_in code = None
 abbrev pub char_with : Modifiers → KeyEvent → Option ℕ
 char_with m k = if k.1.0 == m.0 then char_in k.0 else None
 
--- a Tab, which with Shift is a key of its own
+-- a Tab; with Shift it is another key
 abbrev pub tab_key : Modifiers → KeyEvent
 tab_key m = if has_shift m then key_with BackTab (less_shift m) else key_with Tab m
 
--- what a control character stands for: U+0000 is Ctrl with @, and so on to U+001F, Ctrl with _
+-- the key of a control character: U+0000 is Ctrl with @, and so on to U+001F, Ctrl with _
 abbrev pub control_key : ℕ → Modifiers → KeyEvent
 control_key c m =
     if (c == 0x08) || (c == 0x7F) then key_with Backspace m
@@ -69,7 +69,7 @@ control_key c m =
 abbrev pub key_of : ℕ → Modifiers → KeyEvent
 key_of c m = if is_control c then control_key c m else key_with (Char c) (less_shift m)
 
--- the form of a character's key, by the first of the cases that fits
+-- the normal form of a character's key, by the first case that fits
 abbrev pub normal_char : ℕ → Modifiers → KeyEvent
 normal_char c m =
     if is_ascii_control c then key_of c m
@@ -82,6 +82,6 @@ normal_code (Char c) m = normal_char c m
 normal_code Tab m = tab_key m
 normal_code code m = key_with code m
 
--- the form in which a key is kept
+-- the normal form of a key
 abbrev pub normal : KeyEvent → KeyEvent
 normal k = normal_code k.0 k.1

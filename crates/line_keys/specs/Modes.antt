@@ -13,7 +13,7 @@ abbrev pub takes_commands : InputMode → Bool
 takes_commands Command = true
 takes_commands mode = false
 
--- Vi's keys are commands
+-- Vi is in command mode
 abbrev pub is_vi_command : EditMode → InputMode → Bool
 is_vi_command Emacs input_mode = false
 is_vi_command Vi input_mode = takes_commands input_mode

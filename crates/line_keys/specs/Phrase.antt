@@ -1,4 +1,4 @@
--- The phrase at the front of what comes.
+-- The phrase at the front of the remaining input.
 use Rattle.line_config.specs.declared.settings.EditMode.{EditMode}
 use Rattle.line_config.specs.declared.settings.EditMode.TheVariants.{Emacs, Vi}
 use Rattle.line_keys.specs.declared.key.KeyEvent.{KeyEvent}

@@ -1,5 +1,4 @@
--- Phrases: what one command takes of the input, asks of the display and keeps, step by step, and
--- its answer.
+-- Phrases: what one command reads, draws and remembers, step by step, and its answer.
 use Rattle.std.specs.Prelude.{ℕ, zero, suc, ⊤, Bool, true, false, List, Option, Some, None}
 use Rattle.line_config.specs.Scripts.{Script, Ends, Asks}
 use Rattle.line_buffer.specs.declared.types.CharSearch.{CharSearch}
@@ -14,7 +13,7 @@ use Rattle.line_keys.specs.Feeds.{InputItem, InputOf, Key, Paste}
 use Rattle.line_keys.specs.Refreshing.{Shown, Ask}
 use Rattle.line_keys.specs.Replies.{Reply}
 
--- what is kept from one command to the next
+-- what is remembered from one command to the next
 pub record Input : Type 0 where
   pub mode : EditMode
   pub input_mode : InputMode
@@ -28,13 +27,13 @@ pub record Input : Type 0 where
 pub data KeyAsk : Type 0 where
   -- memory is taken
   Needs : KeyAsk
-  -- asked of the display; what follows may depend on what is shown then
+  -- a call on the display; what follows may depend on what is shown then
   Shows : (ask : Ask) → KeyAsk
-  -- a key or a paste is taken
+  -- a key or a paste is read
   Reads : (item : InputItem) → KeyAsk
-  -- this is kept from now on
+  -- this is remembered from now on
   Becomes : (input : Input) → KeyAsk
-  -- nothing answers it: it is refused so
+  -- nothing answers it: it fails with this error
   Refuses : (why : ReadlineError) → KeyAsk
 
 abbrev pub Answer : KeyAsk → Type 0
@@ -50,7 +49,7 @@ Steps X = Script KeyAsk Answer X
 abbrev pub refused : {X : Type 0} → ReadlineError → Steps X
 refused why = Asks (Refuses why) (λ none. absurd none)
 
--- the steps, by how often they may read at most
+-- the steps, by the most reads that they may take
 pub data Part (X : Type 0) : Type 0 where
   Upto : (steps : ℕ → Steps X) → Part X
 
@@ -63,7 +62,7 @@ Phrase = Part Cmd
 unfoldable pub answered : {X : Type 0} → X → Part X
 answered x = Upto (λ n. Ends x)
 
--- memory is taken only where this is so
+-- memory is taken only if this holds
 abbrev pub needs_if : {X : Type 0} → Bool → Steps X → Steps X
 needs_if true later = Asks Needs (λ none. later)
 needs_if false later = later
@@ -71,7 +70,7 @@ needs_if false later = later
 unfoldable pub needing : {X : Type 0} → Bool → Part X → Part X
 needing takes next = Upto (λ n. needs_if takes (steps next n))
 
--- a command that is made of another one, with a copy of its text
+-- a command made from another one, with a copy of its text
 abbrev pub granted : Cmd → Part Cmd
 granted cmd = needing (holds_text cmd) (answered cmd)
 
@@ -86,7 +85,7 @@ with_read item next = Upto (reading_upto item next)
 abbrev pub with_key : {Y : Type 0} → (KeyEvent → Part Y) → Part Y
 with_key = with_read Key
 
--- one key is read, and this is made of it
+-- one key is read, and this is its result
 unfoldable pub from_key : {X : Type 0} → (KeyEvent → X) → Part X
 from_key f = with_key (λ k. answered (f k))
 
@@ -100,7 +99,7 @@ asking ask next = Upto (λ n. Asks (Shows ask) (λ shown. steps (next shown) n))
 unfoldable pub becoming : {X : Type 0} → Input → Part X → Part X
 becoming input next = Upto (λ n. Asks (Becomes input) (λ none. steps next n))
 
--- what a binding gives leads on; where it fails, so does the part
+-- a binding's answer leads on; if the binding fails, so does the part
 abbrev pub decided_by : {X Y : Type 0} → (X → Steps Y) → Option X → Steps Y
 decided_by next (Some x) = next x
 decided_by next None = refused Handler
@@ -125,7 +124,7 @@ after next input shown (Ends x) = next x input shown
 after next input shown (Asks ask later) =
     Asks ask (λ x. after next (kept_by ask input) (shown_by ask x shown) (later x))
 
--- a part, then what its answer leads to, to which all is shown and kept as the steps left it
+-- a part, then what its answer leads to, which sees the line and the memory as the steps left them
 unfoldable pub and_then : {X Y : Type 0} → Input → Shown → Part X → (X → Input → Shown → Part Y)
     → Part Y
 and_then input shown p next =

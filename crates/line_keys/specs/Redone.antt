@@ -1,4 +1,4 @@
--- Commands made anew: row by row, with a new count, if there is one, and the text that was inserted
+-- Repeated commands: row by row, with a new count, if there is one, and the text that was inserted
 -- last; and their movements.
 use Rattle.std.specs.Prelude.{ℕ, ◌==◌, List, [], length, min, Option, Some, None, unwrap_or, if◌then◌else◌}
 use Rattle.line_buffer.specs.declared.types.Movement.{Movement}
@@ -19,13 +19,13 @@ recounted new (LineUp n) = LineUp (unwrap_or new n)
 recounted new (LineDown n) = LineDown (unwrap_or new n)
 recounted new m = m
 
--- a typed character stands for all that was inserted with it
+-- a typed character stands for all text inserted with it
 abbrev pub typed_anew : ℕ → ℕ → Option (List ℕ) → Cmd
 typed_anew n c (Some text) = Insert n text
 typed_anew n c None = SelfInsert n c
 
--- what a text covers that was typed over a range: where that is no character yet, as many as the
--- text has bytes
+-- what a text typed over a range covers: if the range has no character yet, as many as the text has
+-- bytes
 abbrev pub covered : Option ℕ → Option (List ℕ) → Movement → Movement
 covered new last (ForwardChar n) =
     ForwardChar (if n == 0 then min (length (unwrap_or last [])) 65535 else unwrap_or new n)
@@ -45,7 +45,7 @@ redone new last (ViYankTo m) = ViYankTo (recounted new m)
 redone new last (Yank n anchor) = Yank (unwrap_or new n) anchor
 redone new last c = c
 
--- a command made anew; where it can't be, the other one
+-- a repeated command; if it can't be repeated, the other one
 abbrev pub anew : Cmd → Option ℕ → Shown → Cmd → Cmd
 anew other new shown cmd =
     if (standing cmd).repeats then redone new shown.last_insert cmd else other

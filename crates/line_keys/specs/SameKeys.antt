@@ -1,4 +1,4 @@
--- The tests by which keys are compared: they hold exactly of equal keys.
+-- The comparisons of keys: they hold if and only if the keys are the same.
 use Rattle.std.proofs.Common.{◌≡◌, List, eqb, refl, sym, ap, subst, true≢false, true}
 use Rattle.std.specs.Prelude.{Bool, Decides}
 use Rattle.std.specs.Cmp.{decided, IsEquivalence, unsigned_Decides}

@@ -1,10 +1,10 @@
--- Which prompt stands after the asks of a phrase: the session's own, or that of a count.
+-- Which prompt is shown after the calls of a phrase: the session's own, or that of a count.
 use Rattle.std.specs.Prelude.{Bool, true, false, IsTrue}
 use Rattle.line_config.specs.Scripts.{Ends, Asks}
 use Rattle.line_keys.specs.Phrases.{KeyAsk, Answer, Steps, Shows}
 use Rattle.line_keys.specs.Refreshing.{Ask, Line, Message, Prompted}
 
--- the session's own prompt stands after the ask, where it did or didn't before
+-- the session's own prompt is shown after the call, depending on whether it was before
 abbrev pub own_by : Bool → Ask → Bool
 own_by own Line = true
 own_by own (Message text kind) = true
@@ -15,7 +15,7 @@ abbrev pub own_by_key : Bool → KeyAsk → Bool
 own_by_key own (Shows ask) = own_by own ask
 own_by_key own ask = own
 
--- wherever the steps lead to an answer, the session's own prompt stands
+-- if the steps lead to an answer, the session's own prompt is shown
 abbrev pub Settles : {X : Type 0} → Bool → Steps X → Type 0
 Settles own (Ends x) = IsTrue own
 Settles own (Asks ask later) = (x : Answer ask) → Settles (own_by_key own ask) (later x)

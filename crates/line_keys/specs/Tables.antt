@@ -1,4 +1,4 @@
--- Tables from keys to what they do: rows, and how a key is looked up.
+-- Tables from keys to actions: rows, and the lookup of a key.
 use Rattle.std.specs.Prelude.{ℕ, ◌==◌, Bool, true, false, ◌&&◌, List, [], ◌∷◌, if◌then◌else◌}
 use Rattle.std.specs.Prelude.{Option, Some, None}
 use Rattle.line_buffer.specs.declared.types.Movement.{Movement}
@@ -9,12 +9,12 @@ use Rattle.line_keys.specs.declared.key.KeyCode.{KeyCode}
 use Rattle.line_keys.specs.declared.key.KeyCode.TheVariants.{BackTab, Backspace, BracketedPasteStart, Char, Delete, Down, End, Enter, Esc, Home, Left, Right, Tab, UnknownEscSeq, Up}
 use Rattle.line_keys.specs.declared.key.KeyEvent.{KeyEvent}
 
--- ---- what a row gives: by the count, which is its amount and whether it isn't negative
+-- ---- what a row gives, depending on the count: its amount and whether it isn't negative
 
 abbrev pub Giving : Type 0 → Type 0
 Giving X = ℕ → Bool → X
 
--- no count matters
+-- the count doesn't matter
 abbrev pub always : {X : Type 0} → X → Giving X
 always x n positive = x
 
@@ -22,7 +22,7 @@ always x n positive = x
 abbrev pub by_count : {X : Type 0} → (ℕ → X) → Giving X
 by_count gives n positive = gives n
 
--- the sign too: what a count gives that isn't negative, then what a negative one does
+-- the sign matters too: first for a count that isn't negative, then for a negative one
 abbrev pub by_sign : {X : Type 0} → (ℕ → X) → (ℕ → X) → Giving X
 by_sign plus minus n positive = if positive then plus n else minus n
 
@@ -37,14 +37,14 @@ kills give plus minus n positive = give (Kill (if positive then plus n else minu
 -- ---- rows
 
 pub record Row (X : Type 0) : Type 0 where
-  -- the keys that it is for: their codes, and their modifiers
+  -- its keys: their codes, and their modifiers
   pub fits : KeyCode → Bool
   pub modifiers : Modifiers
-  -- whether it stands
+  -- whether the row applies
   pub stands : Bool
   pub gives : KeyCode → Giving X
 
--- a row's code is the key's: of the codes that stand in tables
+-- a row's code is the key's: of the codes in tables
 abbrev pub is_code : KeyCode → KeyCode → Bool
 is_code (Char c) (Char d) = c == d
 is_code BackTab BackTab = true
@@ -88,7 +88,7 @@ first_of (c ∷ cs) = c
 abbrev pub char : {X : Type 0} → List ℕ → Modifiers → Giving X → Row X
 char text modifiers gives = named (Char (first_of text)) modifiers gives
 
--- the key of each character, which what it gives depends on
+-- the key of each character; what the row gives depends on it
 abbrev pub each_char : {X : Type 0} → Modifiers → (ℕ → Giving X) → Row X
 each_char modifiers gives = record {
   fits = is_char;
@@ -97,16 +97,16 @@ each_char modifiers gives = record {
   gives = λ code. gives (char_of code);
 }
 
--- a row that stands only on a condition
+-- a row that applies only on a condition
 abbrev pub only : {X : Type 0} → Bool → Row X → Row X
 only stands r = record r { stands = stands }
 
--- ---- look-up
+-- ---- lookup
 
 abbrev pub has_key : {X : Type 0} → KeyCode → ℕ → Row X → Bool
 has_key code bits r = (bits == r.modifiers.0) && (r.fits code && r.stands)
 
--- what the first row gives that has the key
+-- the first row that has the key
 abbrev pub first_row : {X : Type 0} → ℕ → Bool → KeyCode → ℕ → List (Row X) → Option X
 first_row n positive code bits [] = None
 first_row n positive code bits (r ∷ rows) =

@@ -52,7 +52,7 @@ pub record Remembers (is : Bool) (cmd : Cmd) (input input' : Input)
   pub err : IfErr result
       (λ e. (e ≡ Memory) × IsTrue is × IsTrue (holds_text cmd) × (input' ≡ input))
 
--- in command mode each change is the last one
+-- in command mode each change is remembered as the last one
 abbrev pub changed : Cmd → Input → Shown → Part Cmd
 changed cmd input shown = remembering (standing cmd).is_change cmd input
 
@@ -60,13 +60,13 @@ abbrev pub is_typing : Cmd → Bool
 is_typing (SelfInsert n c) = true
 is_typing cmd = false
 
--- what typed characters go on with: other typed ones, or the change that they replace
+-- what typed characters continue: other typed ones, or the change that they replace
 abbrev pub goes_on : Cmd → Bool
 goes_on (SelfInsert n c) = true
 goes_on (Replace m text) = true
 goes_on cmd = false
 
--- in insert mode too, but for characters that go on with the last one
+-- in insert mode too, except for characters that continue the last one
 abbrev pub is_new : Cmd → Input → Bool
 is_new cmd input = (standing cmd).is_change && not (is_typing cmd && goes_on input.last)
 
@@ -75,7 +75,7 @@ typed cmd input shown = remembering (is_new cmd input) cmd input
 
 -- ---- command mode
 
--- a change turns to insert mode before its motion is read
+-- a change switches to insert mode before its motion is read
 abbrev pub changes : Operator → Bool
 changes operators.Change = true
 changes other = false
@@ -104,11 +104,11 @@ abbrev pub move_or : Cmd → Option Movement → Cmd
 move_or other (Some m) = Move m
 move_or other None = other
 
--- the character that takes the place of those under the cursor
+-- the character that replaces those under the cursor
 abbrev pub key_replacement : ℕ → KeyEvent → Cmd
 key_replacement n k = unwrap_or (look n true k replacing_rows) Unknown
 
--- what no row has is common
+-- a key without a row is common to both modes
 abbrev pub command_done : Option ℕ → Situation → KeyEvent → Option Action → Part Cmd
 command_done new s k (Some (action.Give cmd)) = answered cmd
 command_done new s k (Some (action.Insert cmd)) =
@@ -130,7 +130,7 @@ command_done new s k None = common s k
 unfoldable pub command_table : Option ℕ → Situation → KeyEvent → Part Cmd
 command_table new s k = command_done new s k (action_of s.n k)
 
--- a bound command comes with the count if one was typed
+-- a bound command gets the count if one was typed
 abbrev pub vi_command_decided : Option ℕ → Situation → KeyEvent → Part Cmd
 vi_command_decided new s k =
     decided new s k (and_then s.input s.shown (command_table new s k) changed)
@@ -150,7 +150,7 @@ abbrev pub typed_in : InputMode → ℕ → Cmd
 typed_in Overwriting c = Overwrite c
 typed_in mode c = SelfInsert 1 c
 
--- inserting is done: what follows is shown to command mode
+-- inserting ends: what follows is shown to command mode
 abbrev pub leaving : Input → (Input → Shown → Part Cmd) → Part Cmd
 leaving input next =
     becoming (in_mode Command input) (asking DoneInserting (next (in_mode Command input)))
@@ -167,7 +167,7 @@ insert_done custom input shown k None = common (situation custom input shown 1 t
 unfoldable pub insert_table : Custom → Input → Shown → KeyEvent → Part Cmd
 insert_table custom input shown k = insert_done custom input shown k (insert_action shown k)
 
--- a handler is shown no count
+-- a handler isn't shown a count
 unfoldable pub vi_insert : Custom → KeyEvent → Input → Shown → Part Cmd
 vi_insert custom k input shown =
     decided None (situation custom input shown 0 true) k

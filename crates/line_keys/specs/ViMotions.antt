@@ -46,7 +46,7 @@ motion_rows =
     ∷ char (codes "-") none (by_count (λ n. Go (LineUp n)))
     ∷ []
 
--- a change takes no blanks after a word
+-- a change doesn't include blanks after a word
 abbrev pub change_motion_rows : List (Row Motion)
 change_motion_rows =
     char (codes "w") none (by_count (λ n. Go (ForwardWord n AfterEnd Vi)))
@@ -58,7 +58,7 @@ motion_of changing n k =
     if changing then option_or (look n true k change_motion_rows) (look n true k motion_rows)
     else look n true k motion_rows
 
--- a key that is no motion gives none, and so does a search where none is kept
+-- a key that is no motion gives none, and neither does a search if none is remembered
 abbrev pub motion_done : ℕ → Input → Option Motion → Part (Option Movement)
 motion_done n input (Some (Go movement)) = answered (Some movement)
 motion_done n input (Some (Seek search)) = sought search n input
@@ -73,16 +73,16 @@ change = key_with (Char 0x63) none
 abbrev pub motion_by : KeyEvent → ℕ → Input → KeyEvent → Part (Option Movement)
 motion_by operator n input k = motion_done n input (motion_of (same_key operator change) n k)
 
--- a second count is multiplied with the operator's
+-- a second count is multiplied by the operator's
 abbrev pub counted_motion : KeyEvent → ℕ → Counted → Input → Shown → Part (Option Movement)
 counted_motion operator n f input shown = motion_by operator (multiplied n f.0) input f.1
 
--- the operator's key again is the row
+-- the operator's key again stands for the row
 abbrev pub motion_after : KeyEvent → ℕ → Input → Shown → KeyEvent → Part (Option Movement)
 motion_after operator n input shown k =
     if same_key k operator then answered (Some WholeLine)
     else and_then input shown (counted_key input.mode k) (counted_motion operator n)
 
--- the motion after an operator's key, where the operator has this count
+-- the motion after an operator's key, if the operator has this count
 abbrev pub vi_motion : KeyEvent → ℕ → Input → Shown → Part (Option Movement)
 vi_motion operator n input shown = with_key (motion_after operator n input shown)

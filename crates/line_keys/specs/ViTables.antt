@@ -37,13 +37,13 @@ vi_insert_rows shown =
     ∷ each_char alt (λ c. always (inserting.Command c))
     ∷ []
 
--- what a key of insert and replace mode does, if a row has it
+-- the action of a key in insert and replace mode, if it has a row
 unfoldable pub insert_action : Shown → KeyEvent → Option InsertAction
 insert_action shown k = look 1 true k (vi_insert_rows shown)
 
 -- ---- command mode
 
--- motions, and rows of history where no row of the line is left
+-- motions; up and down lead to the history if there is no further row
 abbrev pub vi_move_rows : List (Row Action)
 vi_move_rows =
     char (codes "h") none (by_count (λ n. Give (Move (BackwardChar n))))
@@ -67,7 +67,7 @@ vi_move_rows =
     ∷ char (codes "-") none (by_count (λ n. Give (LineUpOrPreviousHistory n)))
     ∷ []
 
--- edits that wait for no motion, and the rest
+-- edits without a motion, and other rows
 abbrev pub vi_edit_rows : List (Row Action)
 vi_edit_rows =
     char (codes "x") none (by_count (λ n. Give (Kill (ForwardChar n))))
@@ -99,7 +99,7 @@ vi_turn_rows =
     ∷ char (codes "S") ctrl (always (action.Turn Insert ForwardSearchHistory))
     ∷ []
 
--- keys that read on, or go by what is kept
+-- keys after which more is read, or which use the last search or change
 abbrev pub vi_reading_rows : List (Row Action)
 vi_reading_rows =
     char (codes "f") none (always (action.Search Forward))
@@ -120,7 +120,7 @@ vi_reading_rows =
 abbrev pub vi_command_rows : List (Row Action)
 vi_command_rows = vi_move_rows ++ (vi_edit_rows ++ (vi_turn_rows ++ vi_reading_rows))
 
--- what a key of command mode does, if a row has it
+-- the action of a key in command mode, if it has a row
 unfoldable pub action_of : ℕ → KeyEvent → Option Action
 action_of n k = look n true k vi_command_rows
 

@@ -1,4 +1,4 @@
-//! Events and what is bound to them.
+//! Bindings of events.
 
 ghost use Rattle.std.specs.Prelude.{◌≡◌, ◌↔◌, ◌++◌, List, IsTrue, IsSome, IfOk, IfErr, IfSome, OnOk, OnErr, MatchResult, [], option_copied, option_map, position};
 ghost use Rattle.line_keys.specs.declared.key.KeyEvent.{KeyEvent};
@@ -15,13 +15,13 @@ use std::alloc::Global;
 use std::marker::Model;
 use std::mem;
 
-/// What each key sequence and each other event is bound to.
+/// The bindings of key sequences and other events.
 pub type Bindings = EventMap<EventHandler>;
 
-/// Events and what is bound to each, one thing at most.
+/// Events, each bound to at most one thing.
 ///
-/// An event is bound in its normal form, and looked for as it is given. Contracts see the pairs in
-/// the order in which the events were bound.
+/// An event is bound in its normal form, but looked up as given. Contracts see the pairs in the
+/// order in which the events were bound.
 #[derive(Drop)]
 pub struct EventMap<H> {
     entries: Vec<(Event, H)>,
@@ -40,7 +40,7 @@ impl<H> Model for EventMap<H> {
 }
 
 impl<H: Drop> EventMap<H> {
-    /// Nothing is bound.
+    /// An empty map.
     pub fn new(alloc: Global) -> Result<Self, ReadlineError>
         ensures { MatchResult result (λ b. b ≡ []) (λ _. ⊥) }
     {
@@ -56,8 +56,8 @@ impl<H: Drop> EventMap<H> {
         self.entries.is_empty()
     }
 
-    /// Binds an event in its normal form, and gives back what it was bound to. Only one that isn't
-    /// bound yet takes memory, and where that is refused all stays as it is.
+    /// Binds an event in its normal form, and returns its old binding. Only an event that isn't
+    /// bound yet takes memory; if the allocation fails, nothing changes.
     pub fn bind_sequence(&mut self, event: Event, handler: H) -> Result<Option<H>, ReadlineError>
         ensures old { IfOk result (λ old. old ≡ find (normal_event event) self.old) }
         ensures bound { let before = λ (o : Event). find o self.old in
@@ -70,7 +70,7 @@ impl<H: Drop> EventMap<H> {
         bind_in(&mut self.entries, event.normalize(), handler)
     }
 
-    /// Takes the binding of an event's normal form away, and gives it back.
+    /// Removes the binding of an event's normal form, and returns it.
     pub fn unbind_sequence(&mut self, event: Event) -> Option<H>
         ensures old { result ≡ find (normal_event event) self.old }
         ensures unbound { let before = λ (o : Event). find o self.old in
@@ -79,7 +79,7 @@ impl<H: Drop> EventMap<H> {
         unbind_in(&mut self.entries, event.normalize())
     }
 
-    /// What an event is bound to.
+    /// The binding of an event.
     #[tactic(auto, using(crate::proofs::Places::found_at, crate::proofs::Places::found_nowhere))]
     pub fn get(&self, event: &Event) -> Option<&H>
         ensures found { option_copied result ≡ find event.now self.now }
@@ -91,7 +91,7 @@ impl<H: Drop> EventMap<H> {
         }
     }
 
-    /// What one key is bound to, with its event, which needn't be made to find it.
+    /// The binding of one key, with its event, which needn't be built for the lookup.
     #[tactic(auto, using(crate::proofs::Steps::entry))]
     pub(crate) fn entry_of(&self, key: KeyEvent) -> Option<&(Event, H)>
         ensures found { option_map (λ b. b.1) (option_copied result) ≡ find (single key) self.now }
@@ -103,7 +103,7 @@ impl<H: Drop> EventMap<H> {
         }
     }
 
-    /// Whether a bound sequence begins with these keys, or is these.
+    /// Whether a bound sequence starts with these keys, or equals them.
     pub fn begins(&self, keys: &[KeyEvent]) -> bool
         ensures value { result ≡ begins keys.now self.now }
         ensures bound { IsTrue result
@@ -112,7 +112,7 @@ impl<H: Drop> EventMap<H> {
         self.some_begins(keys)
     }
 
-    // Whether some entry's event begins with these keys.
+    // Whether the event of some entry starts with these keys.
     fn some_begins(&self, keys: &[KeyEvent]) -> bool
         ensures { result ≡ begins keys.now self.now }
     {
@@ -120,21 +120,21 @@ impl<H: Drop> EventMap<H> {
     }
 }
 
-// The place of an event.
+// The index of an event.
 fn place<H>(entries: &[(Event, H)], event: &Event) -> Option<usize>
     ensures { result ≡ position (has_event event.now) entries.now }
 {
     entries.iter().position(|b| b.0 == *event)
 }
 
-// The place of a key's event.
+// The index of a key's event.
 fn place_of_key<H>(entries: &[(Event, H)], key: KeyEvent) -> Option<usize>
     ensures { result ≡ position (has_event (single key)) entries.now }
 {
     entries.iter().position(|b| b.0.is_key(key))
 }
 
-// Binds an event, and gives back what it was bound to.
+// Binds an event, and returns its old binding.
 fn bind_in<H: Drop>(
     entries: &mut Vec<(Event, H)>,
     event: Event,
@@ -160,7 +160,7 @@ fn bind_in<H: Drop>(
     }
 }
 
-// Takes the binding of an event away, and gives it back.
+// Removes the binding of an event, and returns it.
 fn unbind_in<H: Drop>(entries: &mut Vec<(Event, H)>, event: Event) -> Option<H>
     ensures old { result ≡ find event entries.old.items }
     ensures unbound { let before = λ (o : Event). find o entries.old.items in

@@ -1,4 +1,4 @@
-//! What the editor can be told to do.
+//! The commands of the editor.
 
 ghost use Rattle.std.specs.Prelude.{◌≡◌, IfOk, IfErr, IsSome};
 ghost use Rattle.line_config.specs.declared.errors.ReadlineError.{ReadlineError};
@@ -9,7 +9,7 @@ use line_buffer::{Anchor, Movement, RepeatCount};
 use line_config::ReadlineError;
 use std::alloc::Global;
 
-/// A command, by readline's names.
+/// A command, with readline's names.
 #[derive(Debug, PartialEq, Eq, Drop)]
 pub enum Cmd {
     /// abort
@@ -28,7 +28,7 @@ pub enum Cmd {
     CompleteBackward,
     /// complete-hint
     CompleteHint,
-    /// Takes indentation from the rows of a range.
+    /// Dedents the rows of a range.
     Dedent(Movement),
     /// downcase-word
     DowncaseWord,
@@ -44,7 +44,7 @@ pub enum Cmd {
     HistorySearchForward,
     /// Indents the rows of a range.
     Indent(Movement),
-    /// Inserts a text, that many times.
+    /// Inserts a text `n` times.
     Insert(RepeatCount, Text),
     /// The signal that Ctrl-C sends.
     Interrupt,
@@ -57,9 +57,9 @@ pub enum Cmd {
     /// next-history
     NextHistory,
     Noop,
-    /// Draws the line anew.
+    /// Redraws the line.
     Repaint,
-    /// Writes over the cluster at the cursor.
+    /// Overwrites the cluster at the cursor.
     Overwrite(char),
     /// previous-history
     PreviousHistory,
@@ -67,7 +67,7 @@ pub enum Cmd {
     QuotedInsert,
     /// vi-change-char
     ReplaceChar(RepeatCount, char),
-    /// vi-change-to: kills a range, and puts the text there that was typed over it, once that is
+    /// vi-change-to: kills a range, and inserts the text that was typed over it, once that is
     /// known.
     Replace(Movement, Option<Text>),
     /// reverse-search-history
@@ -82,7 +82,7 @@ pub enum Cmd {
     TransposeWords(RepeatCount),
     /// undo
     Undo(RepeatCount),
-    /// A key that means nothing.
+    /// A key without a meaning.
     Unknown,
     /// upcase-word
     UpcaseWord,
@@ -92,15 +92,15 @@ pub enum Cmd {
     Yank(RepeatCount, Anchor),
     /// yank-pop
     YankPop,
-    /// Moves up so many rows; in the first row, previous-history.
+    /// Moves up by n rows; in the first row, previous-history.
     LineUpOrPreviousHistory(RepeatCount),
-    /// Moves down so many rows; in the last row, next-history.
+    /// Moves down by n rows; in the last row, next-history.
     LineDownOrNextHistory(RepeatCount),
     /// Inserts a newline.
     Newline,
-    /// Accepts a valid line, and inserts a newline into any other.
+    /// Accepts a valid line, and inserts a newline into any other line.
     AcceptOrInsertLine {
-        /// Whether a valid line is accepted also where text follows the cursor.
+        /// Whether a valid line is accepted even if text follows the cursor.
         accept_in_the_middle: bool,
     },
 }
@@ -108,7 +108,7 @@ pub enum Cmd {
 impl Cmd {
     ghost use Rattle.line_keys.specs.Commands.{standing, Copied};
 
-    /// A copy of the command. Memory is wanted for its text alone.
+    /// A copy of the command. Only its text takes memory.
     pub fn try_clone(&self, alloc: Global) -> Result<Self, ReadlineError>
         ensures { Copied self.now result }
     {
@@ -168,7 +168,7 @@ impl Cmd {
     }
 
     /// Whether the kill ring is reset before this command: a run of kills ends, and a yanked text
-    /// can't be exchanged any more.
+    /// can't be replaced any more.
     pub const fn should_reset_kill_ring(&self) -> bool
         ensures { result ≡ (standing self.now).resets_ring }
     {
@@ -185,7 +185,7 @@ impl Cmd {
         }
     }
 
-    /// Whether the command changes the text in a way that Vi's `.` can make anew.
+    /// Whether the command changes the text in a way that Vi's `.` can repeat.
     pub const fn is_repeatable_change(&self) -> bool
         ensures { result ≡ (standing self.now).is_change }
     {
@@ -203,7 +203,7 @@ impl Cmd {
         )
     }
 
-    /// Whether the command can be made anew: a move, or a change that Vi's `.` makes anew.
+    /// Whether the command can be repeated: a move, or a change that Vi's `.` repeats.
     pub const fn is_repeatable(&self) -> bool
         ensures { result ≡ (standing self.now).repeats }
     {
@@ -225,7 +225,7 @@ fn copied(alloc: Global, text: &Option<Text>) -> Result<Option<Text>, ReadlineEr
     }
 }
 
-/// The movement with a new count, if there is one and it takes one.
+/// The movement with a new count, if one is given and the movement has a count.
 pub(crate) fn recounted(movement: &Movement, new: Option<RepeatCount>) -> Movement
     ensures { result ≡ recounted new movement.now }
 {
@@ -247,23 +247,23 @@ pub(crate) fn recounted(movement: &Movement, new: Option<RepeatCount>) -> Moveme
     }
 }
 
-/// Why a line is drawn.
+/// Why a line is redrawn.
 #[derive(Clone, Copy, Debug, PartialEq, Eq)]
 pub enum CmdKind {
     /// The cursor moved.
     MoveCursor,
     Other,
-    /// The last drawing of a line, without hint and highlighted bracket.
+    /// The last drawing of a line, without a hint and without a highlighted bracket.
     ForcedRefresh,
 }
 
-/// What Vi does with a character that is typed.
+/// What Vi does with a typed character.
 #[derive(Clone, Copy, PartialEq, Eq)]
 pub enum InputMode {
     /// It is a command.
     Command,
     /// It is inserted.
     Insert,
-    /// It is written over the text.
+    /// It overwrites the text.
     Replace,
 }

@@ -1,4 +1,4 @@
-//! What a binding is bound to: a sequence of keys, or anything.
+//! What can be bound: a sequence of keys, or any key.
 
 ghost use Rattle.std.specs.Prelude.{◌≡◌, List, [], ◌∷◌, slice_get, option_copied, map};
 ghost use Rattle.line_config.specs.Refusals.{OrMemory};
@@ -12,7 +12,7 @@ use std::fmt;
 use std::hash::{Hash, Hasher};
 use std::marker::Model;
 
-/// A sequence of keys. A `Vec` becomes one, and is had back, without memory.
+/// A sequence of keys. It is converted from a `Vec` and back without an allocation.
 #[derive(Drop)]
 pub struct Keys {
     inner: Vec<KeyEvent>,
@@ -43,21 +43,21 @@ impl Keys {
         Keys::try_from_slice(alloc, self.as_slice())
     }
 
-    /// The keys, lent.
+    /// The keys, borrowed.
     pub fn as_slice(&self) -> &[KeyEvent]
         ensures { result.now ≡ self.now }
     {
         self.inner.as_slice()
     }
 
-    /// The keys, in the memory that they have.
+    /// The keys, without a copy.
     pub fn into_vec(self) -> Vec<KeyEvent>
         ensures { result.items ≡ self }
     {
         self.inner
     }
 
-    /// Each key in the form in which bindings are kept.
+    /// Each key in the normal form of bindings.
     pub fn normalize(self) -> Self
         ensures { result ≡ map normal self }
     {
@@ -117,14 +117,14 @@ impl fmt::Debug for Keys {
     }
 }
 
-/// What can be bound.
+/// An event that can be bound.
 #[derive(Debug, PartialEq, Eq, Hash, Drop)]
 pub enum Event {
-    /// Each single key that isn't bound itself.
+    /// Any single key that isn't bound itself.
     Any,
     /// Keys, one after the other.
     KeySeq(Keys),
-    /// A mouse's, which no terminal sends here.
+    /// A mouse event, which no terminal sends here.
     Mouse(),
 }
 
@@ -151,7 +151,7 @@ impl Event {
         }
     }
 
-    /// The key number `i`, from 0 on.
+    /// The key with index `i`.
     pub fn get(&self, i: usize) -> Option<&KeyEvent>
         ensures { option_copied result ≡ key_number self.now i }
     {
@@ -161,7 +161,7 @@ impl Event {
         }
     }
 
-    /// Whether the event is that of one key, which is this.
+    /// Whether the event is this single key.
     pub(crate) fn is_key(&self, key: KeyEvent) -> bool
         ensures { result ≡ same_event self.now (single key) }
     {
@@ -171,7 +171,7 @@ impl Event {
         }
     }
 
-    /// Whether the event is a sequence that begins with these keys, or is these.
+    /// Whether the event is a sequence that starts with these keys, or equals them.
     pub(crate) fn begins_with(&self, keys: &[KeyEvent]) -> bool
         ensures { result ≡ begins_with keys.now self.now }
     {
@@ -181,8 +181,7 @@ impl Event {
         }
     }
 
-    /// The event in the form in which bindings are kept: each key as `KeyEvent::normalize` gives
-    /// it.
+    /// The event in the normal form of bindings: each key as `KeyEvent::normalize` returns it.
     pub fn normalize(self) -> Self
         ensures { result ≡ normal_event self }
     {

@@ -1,4 +1,4 @@
-//! The keys that are held down with another.
+//! Modifier keys.
 
 ghost use Rattle.std.specs.Prelude.{◌≡◌, ◌==◌, ⊤, [], ◌∷◌, codes};
 ghost use Rattle.std.specs.Int.RustNames.{bit_and, bit_or, bit_xor};
@@ -8,7 +8,7 @@ use bitflags::{Flag, Flags, parser};
 use std::fmt;
 use std::ops::{BitOr, BitXor};
 
-/// A set of modifier keys: a bit for each.
+/// A set of modifier keys, with a bit for each.
 #[derive(Clone, Copy, PartialEq, Eq, Hash)]
 pub struct Modifiers(u8);
 
@@ -92,7 +92,7 @@ impl Modifiers {
         self.0 |= other.0;
     }
 
-    /// Takes all of `other` out.
+    /// Removes all of `other`.
     pub fn remove(&mut self, other: Modifiers)
         ensures { self.new.0 ≡ without 8 self.old.0 other.0 }
     {

@@ -1,4 +1,4 @@
-//! What a binding does.
+//! What bindings do.
 
 ghost use Rattle.std.specs.Prelude.{◌≡◌, option_copied};
 ghost use Rattle.line_keys.specs.Handling.{Meaning};
@@ -11,7 +11,7 @@ use line_buffer::RepeatCount;
 use line_config::{EditMode, HookFault, ReadlineError};
 use std::alloc::Global;
 
-/// What a handler is shown of the editor.
+/// The state of the editor that a handler can read.
 #[derive(Clone, Copy)]
 pub struct EventContext<'r> {
     mode: EditMode,
@@ -25,7 +25,7 @@ pub struct EventContext<'r> {
 impl<'r> EventContext<'r> {
     ghost use Rattle.line_keys.specs.Handling.{seen_in, seen_of};
 
-    /// What a line shows, in these modes.
+    /// The state of a line, in these modes.
     pub fn new<W: Refresher>(mode: EditMode, input_mode: InputMode, wrt: &'r W) -> Self
         ensures { seen_in result ≡ seen_of mode input_mode (W.display.shown wrt.now) }
     {
@@ -46,21 +46,21 @@ impl<'r> EventContext<'r> {
         self.mode
     }
 
-    /// Vi's mode, which in Emacs mode says nothing.
+    /// Vi's mode; meaningless in Emacs mode.
     pub fn input_mode(&self) -> InputMode
         ensures { result ≡ self.now.input_mode }
     {
         self.input_mode
     }
 
-    /// Whether a hint stands after the line.
+    /// Whether a hint is shown after the line.
     pub fn has_hint(&self) -> bool
         ensures { result ≡ self.now.has_hint }
     {
         self.has_hint
     }
 
-    /// What the hint would add to the line, if it would add anything.
+    /// The text that the hint would add to the line, if it would add any.
     pub fn hint_text(&self) -> Option<&str>
         ensures { option_copied result ≡ option_copied self.now.hint_text }
     {
@@ -74,7 +74,7 @@ impl<'r> EventContext<'r> {
         self.line
     }
 
-    /// The place of the cursor, in bytes.
+    /// The cursor's place, in bytes.
     pub fn pos(&self) -> usize
         ensures { result ≡ self.now.pos }
     {
@@ -82,18 +82,17 @@ impl<'r> EventContext<'r> {
     }
 }
 
-/// A binding whose command depends on what is shown.
+/// A binding whose command depends on the editor's state.
 pub trait ConditionalEventHandler: Drop {
     ghost use Rattle.line_keys.specs.Handling.{showing};
 
     ghost meaning: { Self → Meaning };
 
-    /// The command for the event `evt`, or `None` for what the key does unbound. `n` is the count
-    /// that was typed, 1 where none was and 0 for a key in Vi's insert mode, and `positive` its
-    /// sign.
+    /// The command for the event `evt`, or `None` for the key's unbound meaning. `n` is the typed
+    /// count: 1 if none was typed, and 0 for a key in Vi's insert mode. `positive` is its sign.
     ///
-    /// The answer depends on nothing but the arguments, and so does whether it fails. Memory is
-    /// wanted only where the meaning takes some.
+    /// The answer depends only on the arguments, and so does a failure. It may run out of memory
+    /// only if its meaning takes memory.
     fn handle(
         &self,
         alloc: Global,
@@ -105,24 +104,24 @@ pub trait ConditionalEventHandler: Drop {
         ensures { Replies (meaning self.now (showing evt.now n positive ctx.now)) itself result };
 }
 
-/// What is bound to an event.
+/// The binding of an event.
 #[derive(Drop)]
 pub enum EventHandler {
     /// Always this command.
     Simple(Cmd),
-    /// The command depends on what is shown.
+    /// The command depends on the editor's state.
     Conditional(Box<dyn ConditionalEventHandler>),
 }
 
-/// What decides on a command: an `EventHandler`, or a type that stands for one.
+/// A type that decides on a command: an `EventHandler`, or a stand-in for one.
 pub trait Decides: Drop {
     ghost use Rattle.line_keys.specs.Answers.{Decides as Decision};
     ghost use Rattle.line_keys.specs.Handling.{showing};
 
     ghost decides: { Self → Meaning };
 
-    /// The command for the event `evt`, or `None` for what the key does unbound: what a handler
-    /// answers of its arguments, whose failure is the refusal `Handler`.
+    /// The command for the event `evt`, or `None` for the key's unbound meaning: the handler's
+    /// answer to its arguments. The handler's failure is the error `Handler`.
     fn decide(
         &self,
         alloc: Global,

@@ -1,21 +1,21 @@
-//! Keys as the key tables and bindings name them.
+//! Keys, as the key tables and bindings name them.
 
 ghost use Rattle.std.specs.Prelude.{◌≡◌};
 ghost use Rattle.line_keys.specs.Keys.{key_of, normal, ctrl, alt, none};
 
 use crate::flags::Modifiers;
 
-/// A key, apart from what is held down with it.
+/// A key without its modifiers.
 #[derive(Clone, Copy, Debug, PartialEq, Eq, Hash)]
 pub enum KeyCode {
-    /// A sequence of characters that begins as a key does and is none.
+    /// A character sequence that starts like a key and is none.
     UnknownEscSeq,
     Backspace,
     /// Tab with Shift.
     BackTab,
-    /// A pasted text follows.
+    /// The start of a pasted text.
     BracketedPasteStart,
-    /// The end of a pasted text, where none was begun.
+    /// The end of a pasted text without a start.
     BracketedPasteEnd,
     Char(char),
     Delete,
@@ -28,7 +28,7 @@ pub enum KeyCode {
     Home,
     Insert,
     Left,
-    /// A control character that is no other key.
+    /// A control character that isn't any other key.
     Null,
     PageDown,
     PageUp,
@@ -37,7 +37,7 @@ pub enum KeyCode {
     Up,
 }
 
-/// A key that was pressed, with its modifiers.
+/// A pressed key, with its modifiers.
 #[derive(Clone, Copy, Debug, PartialEq, Eq, Hash)]
 pub struct KeyEvent(pub KeyCode, pub Modifiers);
 
@@ -50,7 +50,7 @@ impl KeyEvent {
 
     /// The key that sends the character `c`.
     ///
-    /// A control character stands for the key that bears its name (U+007F is Backspace), or for the
+    /// A control character stands for the key with its name (U+007F is Backspace), or for the
     /// character 64 higher with Ctrl. Any other character is itself, without Shift, since its case
     /// says as much.
     pub fn new(c: char, mut mods: Modifiers) -> Self
@@ -92,10 +92,10 @@ impl KeyEvent {
         KeyEvent::new(c, Modifiers::ALT)
     }
 
-    /// The key by which a binding is kept, by the first of these that fits: Ctrl with a small
-    /// letter is Ctrl with the capital, a capital letter needs no Shift, and Tab with Shift is
-    /// `BackTab`. So Ctrl and Shift with a small letter keep their Shift, as in rustyline; no
-    /// terminal sends such a key.
+    /// The normal form of a key, in which it is bound, by the first rule that fits. Ctrl with a
+    /// lowercase letter is Ctrl with the uppercase one. An uppercase letter needs no Shift. Tab
+    /// with Shift is `BackTab`. So Ctrl and Shift with a lowercase letter keep their Shift, as in
+    /// rustyline; no terminal sends such a key.
     pub fn normalize(key: Self) -> Self
         ensures { result ≡ normal key }
     {

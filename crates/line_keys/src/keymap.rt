@@ -21,7 +21,7 @@ use line_buffer::CharSearch;
 use line_config::{Config, EditMode, ReadlineError};
 use std::alloc::Global;
 
-/// Makes commands of keys, and keeps what Vi's commands hand on to later ones.
+/// Turns keys into commands, and keeps the state that Vi's commands share.
 #[derive(Drop)]
 pub struct InputState<'b, D: Decides = EventHandler> {
     pub(crate) mode: EditMode,
@@ -40,7 +40,7 @@ impl<'b, D: Decides> InputState<'b, D> {
     ghost use Rattle.line_keys.specs.Phrase.{phrase, phrase_from};
     ghost use Rattle.line_keys.specs.Modes.{is_emacs, is_vi_command};
 
-    /// A state in the mode of the configuration, which remembers nothing.
+    /// A state in the mode of the configuration, with an empty memory.
     pub fn new(
         _alloc: Global,
         config: &Config,
@@ -65,17 +65,17 @@ impl<'b, D: Decides> InputState<'b, D> {
         self.mode == EditMode::Emacs
     }
 
-    /// Whether the keys are commands of Vi.
+    /// Whether Vi is in command mode.
     pub fn is_vi_cmd_mode(&self) -> bool
         ensures { result ≡ is_vi_command self.now.mode self.now.input_mode }
     {
         self.input_mode == InputMode::Command && self.mode == EditMode::Vi
     }
 
-    /// The next command: the keys and pastes that it is made of are read, and no more.
+    /// The next command. Only its own keys and pastes are read.
     ///
-    /// `single_esc_abort` is handed to the reader. Where `ignore_external_print` is set the first
-    /// key is asked for as a key, else as a report of the terminal.
+    /// `single_esc_abort` is passed to the reader. If `ignore_external_print` is set, the first key
+    /// is read as a key, otherwise as a report of the terminal.
     #[tactic(auto, using(crate::proofs::Steps::one_key))]
     pub fn next_cmd<R: RawReader, W: Refresher>(
         &mut self,
@@ -97,7 +97,7 @@ impl<'b, D: Decides> InputState<'b, D> {
         self.begun(alloc, rdr, wrt, key)
     }
 
-    // The command that begins with this key.
+    // The command that starts with this key.
     #[tactic(auto, using(crate::proofs::Following::as_follows))]
     fn begun<R: RawReader, W: Refresher>(
         &mut self,

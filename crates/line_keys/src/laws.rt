@@ -1,4 +1,4 @@
-//! Laws of the definitions, each the contract of a function that does nothing.
+//! Laws of the definitions. Each is the contract of a function that does nothing.
 
 ghost use Rattle.std.specs.Prelude.{◌≡◌, ◌↔◌, IsTrue};
 ghost use Rattle.line_keys.specs.declared.key.KeyEvent.{KeyEvent};
@@ -14,7 +14,7 @@ use crate::events::Event;
 use crate::key::KeyEvent;
 use std::hash::Hash;
 
-/// `==` holds exactly of keys that are one, and such keys are hashed alike.
+/// `==` holds if and only if the keys are the same, and then they have the same hash.
 #[tactic(auto, using(crate::proofs::Steps::key_equality))]
 pub fn key_equality()
     ensures values { (a b : KeyEvent) → IsTrue (⟦<KeyEvent as PartialEq>⟧.eq a b) ↔ (a ≡ b) }
@@ -22,7 +22,7 @@ pub fn key_equality()
         → ⟦<KeyEvent as Hash>⟧.hash_input a ≡ ⟦<KeyEvent as Hash>⟧.hash_input b }
 {}
 
-/// `==` holds exactly of events that are one, and such events are hashed alike.
+/// `==` holds if and only if the events are the same, and then they have the same hash.
 #[tactic(auto, using(crate::proofs::Steps::event_equality))]
 pub fn event_equality()
     ensures values { (a b : Event) → IsTrue (⟦<Event as PartialEq>⟧.eq a b) ↔ (a ≡ b) }
@@ -30,7 +30,8 @@ pub fn event_equality()
         → ⟦<Event as Hash>⟧.hash_input a ≡ ⟦<Event as Hash>⟧.hash_input b }
 {}
 
-/// A phrase that gives a command leaves the session's own prompt: a count's is drawn over.
+/// After a phrase that gives a command the session's own prompt is shown again: the prompt of a
+/// count is replaced.
 #[tactic(auto, using(crate::proofs::Settling::phrase_settles))]
 pub fn phrases_settle()
     ensures { (custom : Custom) (input : Input) (shown : Shown) (n : ℕ)

@@ -1,5 +1,5 @@
-//! What reader, key tables and editor share: keys, commands, the bindings from the one to the
-//! other, and the traits over which a command is read.
+//! What reader, key tables and editor share: keys, commands, bindings, and the traits of reader and
+//! display over which a command is read.
 #![tactic(auto)]
 
 pub mod binding;

@@ -1,4 +1,4 @@
-//! Commands made anew, as by Vi's `.`.
+//! Repeats commands, as Vi's `.` does.
 
 ghost use Rattle.std.specs.Prelude.{◌≡◌, length, min, unwrap_or, []};
 ghost use Rattle.line_keys.specs.declared.command.Cmd.TheVariants.{Noop, Replace};
@@ -13,8 +13,8 @@ use line_config::ReadlineError;
 use std::alloc::Global;
 
 impl Cmd {
-    /// The command made anew, with another count if one is given, where it can be made anew; else
-    /// itself.
+    /// The command as it is repeated, with another count if one is given; the command itself if it
+    /// can't be repeated.
     pub(crate) fn made_anew<W: Refresher>(
         self,
         alloc: Global,
@@ -30,8 +30,8 @@ impl Cmd {
         }
     }
 
-    /// The command made anew, with another count if one is given; `Noop` where it can't be made
-    /// anew.
+    /// The command as it is repeated, with another count if one is given; `Noop` if it can't be
+    /// repeated.
     pub(crate) fn repeated<W: Refresher>(
         &self,
         alloc: Global,
@@ -47,12 +47,12 @@ impl Cmd {
         }
     }
 
-    /// The command as it is made anew, with another count if one is given.
+    /// The command as it is repeated, with another count if one is given.
     ///
-    /// What was typed is typed anew as the text that was inserted last. A replacement whose text
-    /// wasn't known takes that text, and where it covered no characters yet, as many as the text
-    /// has bytes, at most 65,535. A command that can't be made anew stays as it is. Memory is
-    /// wanted for the text of what is made alone.
+    /// Typed characters are repeated as the text that was inserted last. A replacement whose text
+    /// wasn't known gets that text; if it covered no characters, it covers as many as the text has
+    /// bytes, at most 65,535. Other commands stay as they are. Only the text of the result takes
+    /// memory.
     pub fn redo<W: Refresher>(
         &self,
         alloc: Global,
@@ -82,7 +82,7 @@ impl Cmd {
     }
 }
 
-// What was typed, with what was typed after it.
+// The typed character, with the text typed after it.
 fn typed(n: RepeatCount, c: char, last: Option<Text>) -> Cmd
     ensures { result ≡ typed_anew n c last }
 {
@@ -92,7 +92,7 @@ fn typed(n: RepeatCount, c: char, last: Option<Text>) -> Cmd
     }
 }
 
-// A replacement by what was typed over it.
+// A replacement by the text that was typed over it.
 fn typed_over(movement: &Movement, new: Option<RepeatCount>, last: Option<Text>) -> Cmd
     ensures { result ≡ Replace (covered new last movement.now) last }
 {
@@ -103,7 +103,7 @@ fn typed_over(movement: &Movement, new: Option<RepeatCount>, last: Option<Text>)
     Cmd::Replace(covered, last)
 }
 
-// How many bytes the text has, up to the greatest count.
+// The number of bytes of the text, at most the greatest count.
 fn bytes_in(last: &Option<Text>) -> RepeatCount
     ensures { result ≡ min (length (unwrap_or last.now [])) 65535 }
 {

@@ -1,4 +1,4 @@
-//! A text inside a command.
+//! Texts inside commands.
 
 ghost use Rattle.std.specs.Prelude.{◌≡◌, string_bytes};
 ghost use Rattle.line_config.specs.Refusals.{OrMemory};
@@ -8,8 +8,8 @@ use std::alloc::Global;
 use std::fmt;
 use std::marker::Model;
 
-/// A text, which contracts see as its bytes. A `String` becomes one, and is had back, without
-/// memory.
+/// A text, which contracts see as its bytes. It is converted from a `String` and back without an
+/// allocation.
 #[derive(Drop)]
 pub struct Text {
     inner: String,
@@ -39,14 +39,14 @@ impl Text {
         Text::try_from_str(alloc, self.as_str())
     }
 
-    /// The text, lent.
+    /// The text, borrowed.
     pub fn as_str(&self) -> &str
         ensures { result.now ≡ self.now }
     {
         self.inner.as_str()
     }
 
-    /// The text, in the memory that it has.
+    /// The text, without a copy.
     pub fn into_string(self) -> String
         ensures { string_bytes result ≡ self }
     {

@@ -1,4 +1,4 @@
-//! The side of the terminal from which keys come.
+//! The terminal's input: keys.
 
 ghost use Rattle.std.specs.Prelude.{◌≡◌, Option};
 ghost use Rattle.line_keys.specs.Coming.{key_at, press_at, paste_at};
@@ -11,7 +11,7 @@ use crate::texts::Text;
 use line_config::ReadlineError;
 use std::alloc::Global;
 
-/// What a terminal reports.
+/// A report of a terminal.
 #[derive(Clone, Copy, Debug, PartialEq, Eq)]
 pub enum Event {
     KeyPress(KeyEvent),
@@ -19,25 +19,25 @@ pub enum Event {
 
 /// A source of keys and pasted texts.
 ///
-/// `feed` is what is known of it. Where it is `told`, what its reads gave so far is what was said
-/// of it, and `coming` is what is still to come of that: so the answer of a call is known where the
-/// reader is told after the call. `bound` falls with each key and each paste, so that every loop
-/// which reads ends. `reason` is what has happened to the reader where it refuses a call. `kept` is
-/// what it has read ahead.
+/// `feed` is what is known of it. If it is `told`, the bytes given so far agree with those assumed,
+/// and `coming` is what remains of these. So the answer of a call is known if the reader is told
+/// after the call. `bound` falls with each key and each paste, so every loop that reads ends.
+/// `reason` is what has happened to the reader if a call fails. `kept` is what it has read ahead.
 ///
-/// A refusal other than the end of input is for good: every later call is refused in the same way.
+/// Any error other than the end of input is final: every later call returns it again.
 pub trait RawReader {
-    /// What `unbuffer` gives back.
+    /// What `unbuffer` returns.
     type Buffer;
 
     ghost feed: { Self → KeyFeed };
 
     ghost kept: { Self → Option Self.Buffer };
 
-    /// The next key. `single_esc_abort` tells readers that wait for the rest of a sequence not to
-    /// do so after Esc.
+    /// The next key. `single_esc_abort` tells a reader that waits for the rest of a sequence not to
+    /// wait after Esc.
     ///
-    /// Where a pasted text is announced, the refusal is `PasteOutOfPlace` and nothing is read.
+    /// If a pasted text was announced and not read, the error is `PasteOutOfPlace` and nothing is
+    /// read.
     fn next_key(&mut self, single_esc_abort: bool) -> Result<KeyEvent, ReadlineError>
         ensures { ReadsBy Key key_at (feed self.old) (feed self.new) result };
 
@@ -50,21 +50,21 @@ pub trait RawReader {
         Ok(Event::KeyPress(key))
     }
 
-    /// The next character, whatever keys it would belong to. What is left to come after it each
-    /// reader says for itself.
+    /// The next character, whatever key it would belong to. Each reader says for itself what
+    /// remains after it.
     fn next_char(&mut self) -> Result<char, ReadlineError>
         ensures { SomeRead (feed self.old) (feed self.new) result };
 
-    /// The text that the key `BracketedPasteStart` announced, asked for right after that key. At
-    /// any other time the refusal is `PasteOutOfPlace` and nothing is read.
+    /// The text that the key `BracketedPasteStart` announced. It must be read right after that key;
+    /// at any other time the error is `PasteOutOfPlace` and nothing is read.
     fn read_pasted_text(&mut self, alloc: Global) -> Result<Text, ReadlineError>
         ensures { ReadsBy Paste paste_at (feed self.old) (feed self.new) result };
 
-    /// The command of a key that a terminal would send as a signal or as the end of input.
+    /// The command of a key that a terminal would turn into a signal or the end of input.
     fn find_binding(&self, key: &KeyEvent) -> Option<Cmd>
         ensures { result ≡ signal_of key.now };
 
-    /// Gives up the reader, and gives back what it had read ahead.
+    /// Consumes the reader, and returns what it had read ahead.
     fn unbuffer(self) -> Option<Self::Buffer>
         ensures { result ≡ kept self };
 }

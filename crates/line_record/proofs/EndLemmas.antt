@@ -170,7 +170,7 @@ group_pushed (c ∷ cs) older h = ap (λ x. x ∷ older) (item_from_closed c cs)
 pub ended_nothing : (items : List Item) (text : List ℕ) → EndedAs items [] items text → EndedBy false items items text
 ended_nothing items text e = record { answer = e.closes; held = e.held; stand = e.stand }
 
--- no mark stands where none is the oldest
+-- no mark stands if none is the oldest
 pub mark_none : (items : List Item) → oldest_mark items ≡ None → has_open items ≡ false
 unfolding has_open
 mark_none [] e = refl

@@ -82,7 +82,7 @@ back_apart cs l = sym (back_over cs l (detached l))
 pub ahead_apart : (cs : List Change) (l : Line) → taking_over l (lines_ahead cs (detached l)) ≡ lines_ahead cs l
 ahead_apart cs l = sym (ahead_over cs l (detached l))
 
--- a refusal that leaves the line as it was: none of the changes is taken back
+-- a failure that leaves the line as it was: none of the changes is undone
 pub nothing_undone : {E : Type 0} (n : ℕ) (old new : Items) (before after : Line) (e : E) (result : Result Bool E) → IsErrAnd result (λ x. x ≡ e) → 0 < length (last_changes n old.done) → after ≡ before
     → UndoesItems n old new before after result
 nothing_undone n old new before after e (Ok b) is some kept = absurd is

@@ -15,7 +15,7 @@ use Rattle.line_record.specs.Course.RecordCall.{Told, Begun, Ended, TakenBack, M
 use Rattle.line_record.specs.Laws.{stays_open, AllStayOpen, UndoTakesTheGroupBack}
 use Rattle.line_record.proofs.RecordLaws.{no_mark}
 
--- the text of the oldest of some steps, or the present one where there is none
+-- the text of the oldest of some steps, or the current one without steps
 text_begun : List Held → List ℕ → List ℕ
 text_begun [] text = text
 text_begun (Opened earlier ∷ held) text = text_begun held text

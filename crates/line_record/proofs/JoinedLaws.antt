@@ -22,7 +22,7 @@ refusals_leave_no_unmade_change {A} first first_refuses closing events s t befor
       ahead = both.0.ahead ∙ ap (ahead_all closing) both.1.ahead;
     }
 
--- the record's changes stand on the line's text, where both were told, and where one refused
+-- the record's changes stand on the line's text, if both were told, and if one failed
 pub joined_stand : {A : Type 0} (first : A → Event → A → Type 0) {events : List Event} {s t : Joined A Items} {before after : List ℕ} → ItemsStand s.second.now before → IsUtf8 before
     → Reports (joined_takes first RecordedIn) events s t before after → ItemsStand t.second.now after
 joined_stand {A} first h u r = (part_told (joined_takes first RecordedIn) (λ j. j.second.now) (λ x e y k. k.1.1) h u r).stand

@@ -16,7 +16,7 @@ use Rattle.line_record.specs.Ring.RingCall.{Taken, Heard, Ended, Lent}
 use Rattle.line_record.specs.Laws.{RingHoldsTheLastRuns}
 use Rattle.line_record.proofs.RingLemmas.{put_there}
 
--- the slots from the present one back, and round to the one after it, are the first of the runs
+-- the slots from the current one back, and round to the one after it, are the first of the runs
 record Filled (size : ℕ) (runs slots : List (List ℕ)) (place : ℕ) : Type 0 where
   front : List (List ℕ)
   newest : List ℕ
@@ -142,7 +142,7 @@ round_again n text runs slots place f e =
     empty [] h = refl
     empty (x ∷ xs) h = cc
 
--- a kill that takes the slot after the present one
+-- a kill that takes the slot after the current one
 next_slot : (n : ℕ) (text : List ℕ) (runs slots : List (List ℕ)) (place : ℕ) (f : Filled (suc n) runs slots place) → (place + 1 ≡ suc n → ⊥)
     → (rest : List (List ℕ)) → rest ≡ f.rest → Filled (suc n) (text ∷ runs) (put_text (place + 1) text slots) (place + 1)
 next_slot n text runs slots place f e [] is =
@@ -347,7 +347,7 @@ new_holds : (n : ℕ) → Holds (suc n) no_kills (new_ring (suc n))
 unfolding is_kill
 new_holds n = record { sized = refl; killing = refl; running = refl; slots = inl (record { none = refl; no_slots = refl; start = refl; stopped = refl }) }
 
--- what is held, read from the present slot back
+-- what is held, read from the current slot back
 record Read (size : ℕ) (runs slots : List (List ℕ)) (place : ℕ) : Type 0 where
   all : reverse (take (suc place) slots) ++ reverse (drop (suc place) slots) ≡ take size runs
   first : slice_get slots place ≡ slice_get runs 0

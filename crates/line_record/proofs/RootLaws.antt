@@ -26,7 +26,7 @@ MarksSit : List Held → List ℕ → Type 0
 MarksSit [] text = Unit {0}
 MarksSit (h ∷ held) text = MarkSits h text × MarksSit held (text_of h)
 
--- what can be made anew begins on the present text, one item after the other
+-- what can be redone begins on the current text, one item after the other
 AheadFits : List Undone → List ℕ → Type 0
 AheadFits [] text = Unit {0}
 AheadFits (u ∷ ahead) text = (text_of u.held ≡ text) × MarkSits u.held u.text × AheadFits ahead u.text
@@ -113,7 +113,7 @@ ended_rooted first (Stepped earlier place newest joinable ∷ held) text h =
     let whole : HeldRooted first held earlier = record { begun = h.begun; marks = h.marks.1 } in
     step_ended (closes held) (has_mark held) first text earlier place newest joinable held refl (ended_rooted first held earlier whole) whole
 
--- items undone, and one made anew
+-- items undone, and one redone
 back_rooted : (n : ℕ) (first : List ℕ) (held : List Held) (ahead : List Undone) (text : List ℕ) → Rooted first held ahead text
     → Rooted first (drop n held) (ahead_back n held text ahead) (text_back n held text)
 unfolding MarksSit AheadFits

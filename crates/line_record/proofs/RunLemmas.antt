@@ -90,7 +90,7 @@ module _ {S : Type 0} (takes : S → Event → S → Type 0) (part : S → Items
       → RecordedAll events (part s) (part t) before after
   part_told {events} {s} {t} {before} {after} h u r = all_recorded events s t before after r.told r.replays h u
 
-  -- after a refusal the record is that of the events that the line made, and of what closed the call
+  -- after a failure the record is that of the events that the line made, and of what closed the call
   pub part_stopped : {closing events : List Event} {s t : S} {before after : List ℕ} → (refuses : S → Event → S → Type 0) → ((x : S) (e : Event) (y : S) → refuses x e y → part y ≡ part x)
       → ItemsStand (part s) before → IsUtf8 before → (p : StopsAmong takes (wants_or refuses) closing events s t before after)
       → RecordedAll closing (part p.between) (part t) after after × RecordedAll p.done (part s) (part p.between) before after

@@ -1,4 +1,4 @@
--- Several changes taken back or made anew, one after the other.
+-- Several changes undone or redone, one after the other.
 use Rattle.std.proofs.Common.{◌≡◌, ℕ, zero, suc, ◌+◌, ◌<◌, List, [], ◌∷◌, ◌++◌, length, take, drop, map, refl, sym, ap, subst, ◌∙◌, arith, get_or, add-one, append_assoc, drop-cons}
 use Rattle.std.proofs.Math.Seq.{take-append_seam, drop-append_seam, take-suc}
 use Rattle.std.proofs.lemmas.List.{take-append-drop, drop-map, map-append, length-map, get_or-map}
@@ -14,7 +14,7 @@ pub lines_ahead_text : (cs : List Change) (l : Line) → (lines_ahead cs l).text
 lines_ahead_text [] l = refl
 lines_ahead_text (c ∷ cs) l = lines_ahead_text cs (made_anew_in c l)
 
--- of a line but for its place
+-- of a line except its place
 pub lines_back_but_place : (cs : List Change) (l : Line) (p : ℕ) → record (lines_back cs l) { place = p } ≡ record l { text = all_taken_back cs l.text; place = p }
 lines_back_but_place [] l p = refl
 lines_back_but_place (c ∷ cs) l p = ap (λ m. record (taken_back_in c m) { place = p }) (lines_back_but_place cs l p)
@@ -28,7 +28,7 @@ pub lines_ahead-append : (cs ds : List Change) (l : Line) → lines_ahead (cs ++
 lines_ahead-append [] ds l = refl
 lines_ahead-append (c ∷ cs) ds l = lines_ahead-append cs ds (made_anew_in c l)
 
--- the newest of the changes that are left is taken back
+-- the newest of the changes that are left is undone
 pub record BackTurn {A : Type 0} (f : A → Change) (xs earlier : List A) (x : A) (first l : Line) : Type 0 where
   pub stands : StandsIn (f x) l.text
   pub left : earlier ≡ take (length earlier) xs
@@ -52,7 +52,7 @@ back_turn f xs left earlier x first l is cases line stand =
       line = ap (taken_back_in (f x)) here ∙ sym (ap (λ cs. lines_back cs first) from);
     }
 
--- the oldest of the changes that are left is made anew
+-- the oldest of the changes that are left is redone
 pub record AheadTurn {A : Type 0} (f : A → Change) (xs : List A) (i : ℕ) (x : A) (first l : Line) : Type 0 where
   pub fits : FitsIn (f x) l.text
   pub line : made_anew_in (f x) l ≡ lines_ahead (take (i + 1) (map f xs)) first

@@ -60,7 +60,7 @@ many_change_is zero items = refl
 many_change_is (suc n) [] = refl
 many_change_is (suc n) (x ∷ items) = ap (λ b. is_step_item x || b) (many_change_is n items)
 
--- the changes that a part leaves, one at least, and those that it takes back
+-- the changes that a part leaves, one at least, and those that it undoes
 record PartOf (n k j : ℕ) (items : List Item) (l : Line) : Type 0 where
   left : List Change
   back : List Change
@@ -135,7 +135,7 @@ some_ahead (x ∷ items) zero (suc (suc end)) le some = absurd (omega (arith, le
 some_ahead (x ∷ items) (suc done) zero le some = absurd (omega (arith, some))
 some_ahead (x ∷ items) (suc done) (suc end) le some = some_ahead items done end (omega (arith, le)) some
 
--- changes that were taken back can be made anew
+-- changes that were undone can be redone
 pub record TakenBack (cs : List Change) (text : List ℕ) : Type 0 where
   pub utf8 : IsUtf8 (all_taken_back cs text)
   pub fit : AllFitIn cs (all_taken_back cs text)
@@ -152,7 +152,7 @@ was_taken_back (c ∷ cs) text h u =
       back = ap (all_made_anew cs) x.back ∙ below.back;
     }
 
--- changes that were made anew can be taken back
+-- changes that were redone can be undone
 record MadeAnew (cs : List Change) (text : List ℕ) : Type 0 where
   stand : AllStandIn cs (all_made_anew cs text)
   back : all_taken_back cs (all_made_anew cs text) ≡ text
@@ -346,7 +346,7 @@ undone_as n first last before after undone f h u =
       stand = subst (λ s. ItemsStand s after.text) (sym items) (subst (λ (l : Line). ItemsStand many l.text) (sym line) (x.stand, x.fit h.1));
     }
 
--- what a refusal leaves of an undo
+-- what a failure leaves of an undo
 nearest_part : (j : ℕ) (items : List Item) (l : Line) → lines_back (drop j (nearest_changes items)) l ≡ part_back 0 j items l
 nearest_part zero [] l = refl
 nearest_part (suc j) [] l = refl

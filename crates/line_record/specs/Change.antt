@@ -1,4 +1,4 @@
--- A change of a text, and what taking it back and making it anew do.
+-- A change of a text, and how it is undone and redone.
 use Rattle.std.specs.Prelude.{◌≡◌, ℕ, ◌+◌, List, [], ◌∷◌, length, slice_range, IsUtf8, IsCharBoundary}
 use Rattle.std.specs.List.{replace_range}
 
@@ -12,19 +12,19 @@ place_of (Inserted at text) = at
 place_of (Deleted at text) = at
 place_of (Replaced at before after) = at
 
--- what stood there
+-- the old text at its place
 abbrev pub removed_of : Change → List ℕ
 removed_of (Inserted at text) = []
 removed_of (Deleted at text) = text
 removed_of (Replaced at before after) = before
 
--- what has stood there since
+-- the new text at its place
 abbrev pub added_of : Change → List ℕ
 added_of (Inserted at text) = text
 added_of (Deleted at text) = []
 added_of (Replaced at before after) = after
 
--- one text at a place exchanged for another
+-- a text at a place replaced by another
 abbrev pub exchanged_at : ℕ → List ℕ → List ℕ → List ℕ → List ℕ
 exchanged_at at from to text = replace_range text at (at + length from) to
 
@@ -34,30 +34,30 @@ taken_back c text = exchanged_at (place_of c) (added_of c) (removed_of c) text
 abbrev pub made_anew : Change → List ℕ → List ℕ
 made_anew c text = exchanged_at (place_of c) (removed_of c) (added_of c) text
 
--- the cursor after the text that was put back, or at the place of an insertion
+-- the cursor after the restored text, or at the place of an insertion
 abbrev pub undo_place : Change → ℕ
 undo_place c = place_of c + length (removed_of c)
 
--- the cursor after the text that was put in anew, or at the place of a deletion
+-- the cursor after the text that was inserted again, or at the place of a deletion
 abbrev pub redo_place : Change → ℕ
 redo_place c = place_of c + length (added_of c)
 
--- a text stands at a place, between characters, and another may take its place
+-- a text is at a place, on character boundaries, and another may replace it
 pub record StandsAt (at : ℕ) (from to text : List ℕ) : Type 0 where
   pub start : IsCharBoundary text at
   pub end : IsCharBoundary text (at + length from)
   pub bytes : slice_range text at (at + length from) ≡ from
   pub utf8 : IsUtf8 to
 
--- the change can be taken back from the text
+-- the change can be undone on the text
 abbrev pub StandsIn : Change → List ℕ → Type 0
 StandsIn c text = StandsAt (place_of c) (added_of c) (removed_of c) text
 
--- the change can be made anew on the text
+-- the change can be redone on the text
 abbrev pub FitsIn : Change → List ℕ → Type 0
 FitsIn c text = StandsAt (place_of c) (removed_of c) (added_of c) text
 
--- the text before several changes, the first of which was made first
+-- the text before several changes, given in the order in which they were made
 abbrev pub all_taken_back : List Change → List ℕ → List ℕ
 all_taken_back [] text = text
 all_taken_back (c ∷ cs) text = taken_back c (all_taken_back cs text)

@@ -1,4 +1,4 @@
--- The course of a line: what is done to it and its record, call by call, and the texts that it had.
+-- The history of a line: the calls on the line and its record, and the texts that it had.
 use Rattle.std.specs.Prelude.{◌≡◌, ℕ, ◌⊎◌, List, [], ◌∷◌, drop}
 use Rattle.line_buffer.specs.Event.{Event}
 use Rattle.line_buffer.specs.Replay.{replayed}

@@ -1,12 +1,12 @@
--- A line's text in two lists of bytes, and the line that it comes from and goes back into.
+-- A line's text in two lists of bytes, and how it comes from a line and goes back into one.
 use Rattle.std.specs.Prelude.{ℕ, false, List, ◌++◌, reverse}
 use Rattle.line_buffer.specs.Line.{Line}
 
--- the bytes before a gap, and those after it from the text's end
+-- the bytes before a gap, and those after it in reverse
 abbrev pub seamed : List ℕ → List ℕ → List ℕ
 seamed before after = before ++ reverse after
 
--- text and cursor alone
+-- only the text and the cursor
 abbrev pub detached : Line → Line
 detached l = record { text = l.text; place = l.place; growth = false; limit = 0 }
 

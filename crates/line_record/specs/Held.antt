@@ -1,4 +1,4 @@
--- The record of texts: steps and open marks, the newest first, and what each call makes of it.
+-- The record of texts: steps and open marks, the newest first, and the effect of each call on it.
 use Rattle.std.specs.Prelude.{ℕ, zero, suc, ◌+◌, ◌==◌, ◌&&◌, ◌||◌, not, Bool, true, false, if◌then◌else◌, List, [], ◌∷◌, ◌++◌, ◌-◌, drop, length, encode_utf8, Option, Some, None}
 use Rattle.unicode_segmentation.specs.Grapheme.{graphemes}
 use Rattle.unicode_segmentation.specs.Segments.{is_alphanumeric}
@@ -9,8 +9,8 @@ use Rattle.line_buffer.specs.Words.{is_alphanumeric_cluster}
 use Rattle.line_record.specs.Change.{Change, undo_place, redo_place}
 use Rattle.line_record.specs.Change.Change.{Inserted, Deleted, Replaced}
 
--- an open mark keeps the text that it was set at; a step keeps the text before it, the place that
--- undoing it gives, its newest change, and whether a change may join that one
+-- an open mark keeps the text at which it was set. A step keeps the text before it, the place that
+-- an undo restores, its newest change, and whether a change may be joined to that one
 pub data Held : Type 0 where
   Opened : (text : List ℕ) → Held
   Stepped : (text : List ℕ) (place : ℕ) (newest : Change) (joinable : Bool) → Held
@@ -19,11 +19,11 @@ abbrev pub text_of : Held → List ℕ
 text_of (Opened text) = text
 text_of (Stepped text place newest joinable) = text
 
--- one cluster, its characters all alphanumeric
+-- one cluster of alphanumeric characters
 abbrev pub is_one_alphanumeric : List ℕ → Bool
 is_one_alphanumeric text = (length (graphemes true text) == 1) && is_alphanumeric_cluster text
 
--- the change that an event tells of; an empty one is none
+-- the change that an event reports, if it isn't empty
 abbrev pub change_of : Event → Option Change
 change_of (Delete at text direction) = if length text == 0 then None else Some (Deleted at text)
 change_of (InsertChar at c) = Some (Inserted at (encode_utf8 c))
@@ -54,7 +54,7 @@ joined_replacement at before after (Replaced place was is) =
     if at == place + length is then Some (Replaced place (was ++ before) (is ++ after)) else None
 joined_replacement at before after other = None
 
--- the change that an event makes with the one right before it, if it joins that one
+-- the change of an event and the change right before it as one, if they can be joined
 abbrev pub joined_to : Event → Change → Option Change
 joined_to (Delete at text direction) d = joined_deletion at text d
 joined_to (InsertChar at c) d = joined_char at c d
@@ -65,7 +65,7 @@ joined_to e d = None
 abbrev pub step_of : Change → List ℕ → Held
 step_of c text = Stepped text (undo_place c) c true
 
--- a change that joins adds no step and leaves the step's text
+-- a joined change adds no step and keeps the step's text
 abbrev pub stepped_on : Option Change → Change → List ℕ → List ℕ → Held → List Held → List Held
 stepped_on (Some joined) c text earlier newest held = step_of joined earlier ∷ held
 stepped_on None c text earlier newest held = step_of c text ∷ (newest ∷ held)
@@ -98,14 +98,14 @@ closes [] = false
 closes (Opened text ∷ held) = closes held
 closes (Stepped text place newest joinable ∷ held) = has_mark held
 
--- a newer change taken into the step that closes a group
+-- a newer change added to the step that closes a group
 abbrev pub grouped : Change → List Held → List Held
 grouped c [] = []
 grouped c (Opened text ∷ held) = Opened text ∷ held
 grouped c (Stepped text place newest joinable ∷ held) = Stepped text place c false ∷ held
 
--- the marks are closed: they go, and the steps newer than the oldest of them become one, which
--- nothing joins
+-- the marks are closed: they go, and the steps newer than the oldest of them become one, to which
+-- nothing is joined
 abbrev pub ended : List Held → List Held
 ended [] = []
 ended (Opened text ∷ held) = ended held
@@ -114,7 +114,7 @@ ended (Stepped text place newest joinable ∷ held) =
     else if has_mark held then Stepped text place newest false ∷ ended held
     else Stepped text place newest joinable ∷ held
 
--- undoing by some items: the text of the last of them, and the place of the last step among them
+-- undo by some items: the text of the last of them, and the place of the last step among them
 abbrev pub undone_line : Held → Line → Line
 undone_line (Opened text) l = record l { text = text }
 undone_line (Stepped text place newest joinable) l = record l { text = text; place = place }
@@ -133,7 +133,7 @@ text_back zero held text = text
 text_back (suc n) [] text = text
 text_back (suc n) (h ∷ held) text = text_back n held (text_of h)
 
--- the first n items, and the text at which the last of them stood last
+-- the first n items, and the last text that the last of them had
 abbrev pub first_held : ℕ → List Held → List Held
 first_held n held = drop (length held - n) held
 
@@ -145,7 +145,7 @@ has_step zero held = false
 has_step (suc n) [] = false
 has_step (suc n) (h ∷ held) = is_step h || has_step n held
 
--- an item that was undone: as it was held, and the text that making it anew gives
+-- an undone item: as it was held, and the text after its redo
 pub record Undone : Type 0 where
   pub held : Held
   pub text : List ℕ
@@ -156,7 +156,7 @@ ahead_back (suc n) [] text ahead = ahead
 ahead_back (suc n) (h ∷ held) text ahead =
     ahead_back n held (text_of h) (record { held = h; text = text } ∷ ahead)
 
--- making an item anew: a step's cursor goes after its newest change, a mark leaves it
+-- the redo of an item: a step's cursor goes after its newest change, a mark leaves it
 abbrev pub remade_line : Undone → Line → Line
 remade_line u l =
     elim u.held [
@@ -177,7 +177,7 @@ abbrev pub held_ahead : List Undone → List Held → List Held
 held_ahead [] held = held
 held_ahead (u ∷ ahead) held = u.held ∷ held
 
--- the text that was put in last, if the newest item put one in
+-- the text that was inserted last, if the newest item inserted one
 abbrev pub inserted_by : Change → Option (List ℕ)
 inserted_by (Inserted at text) = Some text
 inserted_by (Deleted at text) = None

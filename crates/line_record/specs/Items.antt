@@ -1,5 +1,5 @@
--- The record's value: the changes done and undone, each side nearest first; the texts that they
--- hold on a line's text; and what undoing and making anew make of the record and its line.
+-- The record's value: the changes done and undone, each side nearest first, and the texts that they
+-- stand for on a line's text. Also the effect of undo and redo on the record and its line.
 use Rattle.std.specs.Prelude.{◌≡◌, ◌<◌, ◌≤◌, ℕ, Bool, true, false, List, [], ◌∷◌, ◌++◌, drop, length, ◌-◌, Option, Some, None, is_some, IsUtf8, zero, suc, take, reverse, Result, IfOk, OnOk, OnErr}
 use Rattle.line_buffer.specs.Event.{Event}
 use Rattle.line_buffer.specs.Event.Event.{StartKilling, StopKilling}
@@ -12,8 +12,8 @@ use Rattle.std.specs.Coded.{Unit-prop, ×_prop}
 use Rattle.std.proofs.Props.{props}
 use Rattle.std.specs.List.{list_any}
 
--- an open mark, a change that others may join, or a closed group with its oldest change and the
--- newer ones in order
+-- an open mark, a change to which others may be joined, or a closed group with its oldest change
+-- and the newer ones in order
 pub data Item : Type 0 where
   Open : Item
   Lone : (change : Change) → Item
@@ -37,19 +37,19 @@ before_item x text = all_taken_back (changes_of x) text
 abbrev pub after_item : Item → List ℕ → List ℕ
 after_item x text = all_made_anew (changes_of x) text
 
--- the line with a change taken back, the cursor at the change's place
+-- the line after the undo of a change, the cursor at the change's place
 abbrev pub taken_back_in : Change → Line → Line
 taken_back_in c l = record l { text = taken_back c l.text; place = undo_place c }
 
 abbrev pub made_anew_in : Change → Line → Line
 made_anew_in c l = record l { text = made_anew c l.text; place = redo_place c }
 
--- the line with several changes taken back, the newest first
+-- the line after the undo of several changes, the newest first
 abbrev pub lines_back : List Change → Line → Line
 lines_back [] l = l
 lines_back (c ∷ cs) l = taken_back_in c (lines_back cs l)
 
--- the line with several changes made anew, the oldest first
+-- the line after the redo of several changes, the oldest first
 abbrev pub lines_ahead : List Change → Line → Line
 lines_ahead [] l = l
 lines_ahead (c ∷ cs) l = lines_ahead cs (made_anew_in c l)
@@ -78,7 +78,7 @@ abbrev pub UndoneFit : List Item → List ℕ → Type 0
 UndoneFit [] text = Unit {0}
 UndoneFit (x ∷ items) text = AllFitIn (changes_of x) text × UndoneFit items (after_item x text)
 
--- the changes done can be taken back from the text, and those undone can be made anew on it
+-- the changes done can be undone on the text, and those undone can be redone on it
 abbrev pub ItemsStand : Items → List ℕ → Type 0
 ItemsStand s text = DoneStand s.done text × UndoneFit s.undone text
 
@@ -104,7 +104,7 @@ abbrev pub group_of : List Change → List Item → List Item
 group_of [] older = older
 group_of (c ∷ cs) older = Group c cs ∷ older
 
--- closing the marks leaves other items, which hold what is asked for
+-- closing the marks leaves other items, which hold the requested texts
 pub record EndedBy (closed : Bool) (items after : List Item) (text : List ℕ) : Type 0 where
   pub answer : closed ≡ closes (done_held items text)
   pub held : done_held after text ≡ ended (done_held items text)
@@ -151,11 +151,11 @@ abbrev pub noted_if : Event → Option Change → List Item → List Item
 noted_if e None items = items
 noted_if e (Some c) items = noted e c items
 
--- an event noted: what was undone can't be redone any more
+-- a recorded event: the undone changes can't be redone any more
 abbrev pub told_of : Event → Items → Items
 told_of e s = record { done = noted_if e (change_of e) s.done; undone = [] }
 
--- a change that isn't empty may be refused, and the record stays as it was
+-- recording a change that isn't empty may fail, and the record stays as it was
 abbrev pub record_refuses : Items → Event → Items → Type 0
 record_refuses s e t = (t ≡ s) × (is_some (change_of e) ≡ true)
 
@@ -164,8 +164,8 @@ ahead_after StartKilling ahead = ahead
 ahead_after StopKilling ahead = ahead
 ahead_after e ahead = []
 
--- what an event makes of the record: wherever its changes stand, they stand after it, and the
--- record of texts follows
+-- the effect of an event on the record: if its changes can be undone and redone, they still can be
+-- after it, and the record of texts follows
 pub record Recorded (e : Event) (before after : List ℕ) (s t : Items) : Type 0 where
   pub stand : ItemsStand t after
   pub held : held_on t after ≡ recorded_in e before (held_on s before)
@@ -201,26 +201,26 @@ UndoneFit-prop (x ∷ items) text =
 pub ItemsStand-prop : (s : Items) (text : List ℕ) → IsProp (ItemsStand s text)
 ItemsStand-prop s text = ×_prop (DoneStand-prop s.done text) (UndoneFit-prop s.undone text)
 
--- the newest of several changes were taken back, and the first ones, one at least, were not
+-- the newest of several changes were undone; at least one, the first, was not
 pub record BackInPart (changes : List Change) (before after : Line) : Type 0 where
   pub left : ℕ
   pub some : 0 < left
   pub inside : left ≤ length changes
   pub line : after ≡ lines_back (drop left changes) before
 
--- the oldest of several changes were made anew, and the last ones, one at least, were not
+-- the oldest of several changes were redone; at least one, the last, was not
 pub record AnewInPart (changes : List Change) (before after : Line) : Type 0 where
   pub made : ℕ
   pub inside : made < length changes
   pub line : after ≡ lines_ahead (take made changes) before
 
--- changes are taken back, the newest first, or in part
+-- changes are undone, the newest first, all or some
 pub record TakesBack {A E : Type 0} (changes : List Change) (before after : Line)
     (result : Result A E) : Type 0 where
   pub line : OnOk result (after ≡ lines_back changes before)
   pub part : OnErr result (BackInPart changes before after)
 
--- changes are made anew, the oldest first, or in part
+-- changes are redone, the oldest first, all or some
 pub record MakesAnew {A E : Type 0} (changes : List Change) (before after : Line)
     (result : Result A E) : Type 0 where
   pub line : OnOk result (after ≡ lines_ahead changes before)
@@ -242,7 +242,7 @@ pub record UndoesItems {E : Type 0} (n : ℕ) (old new : Items) (before after : 
   })
   pub back : TakesBack (last_changes n old.done) before after result
 
--- the nearest item undone is made anew, if there is one, and the answer is whether it is a change
+-- the nearest undone item is redone, if there is one, and the answer is whether it is a change
 pub record RedoesItem {E : Type 0} (old new : Items) (before after : Line)
     (result : Result (Option Bool) E) : Type 0 where
   pub answer : IfOk result (λ o. o ≡ nearest_is_change old.undone)

@@ -13,27 +13,27 @@ use Rattle.line_record.specs.Course.{RecordCall, Course, begun_with, after_call,
 use Rattle.line_record.specs.Course.RecordCall.{Told, Begun, Ended, TakenBack}
 use Rattle.line_record.specs.Ring.{RingCall, no_kills, all_kills_after, ring_after_all, newest_first, Ring, IsRing, new_ring, ring_all}
 
--- whatever was done to a line with a new record, an undo leaves a text that the line had before
+-- whatever is done to a line with a new record, an undo leaves a text that the line had before
 abbrev pub UndoLeavesAnEarlierText : Type 0
 UndoLeavesAnEarlierText =
     (calls : List RecordCall) (text : List ℕ) (n : ℕ) →
     let c = after_calls calls (begun_with text) in
     IsAmong (text_back n c.held c.text) c.seen
 
--- undoing everything gives the text that the line had when its record was new; so a record of no
--- items stands on that text
+-- undoing everything restores the text that the line had when its record was new; so a record
+-- without items is on that text
 abbrev pub UndoOfAllGivesTheFirstText : Type 0
 UndoOfAllGivesTheFirstText =
     (calls : List RecordCall) (text : List ℕ) →
     let c = after_calls calls (begun_with text) in
     text_back (length c.held) c.held c.text ≡ text
 
--- the text after all that was done, from a text on
+-- the text after all items, made on a text
 abbrev pub text_after_all : List Item → List ℕ → List ℕ
 text_after_all [] text = text
 text_after_all (x ∷ items) text = after_item x (text_after_all items text)
 
--- the recorded changes, made on the text before the first of them, give the line's text
+-- the recorded changes, made on the text before the first of them, lead to the line's text
 abbrev pub RecordGivesTheText : Type 0
 RecordGivesTheText =
     (s : Items) (text : List ℕ) → ItemsStand s text → IsUtf8 text →
@@ -55,8 +55,8 @@ abbrev pub AllStayOpen : List RecordCall → Type 0
 AllStayOpen [] = Unit {0}
 AllStayOpen (call ∷ calls) = (stays_open call ≡ true) × AllStayOpen calls
 
--- a group that no other is around, in which something was recorded, is undone as one: text and
--- record are those that its begin found
+-- a group that isn't nested and recorded something is undone as one: text and record are those from
+-- before the group
 abbrev pub UndoTakesTheGroupBack : Type 0
 UndoTakesTheGroupBack =
     (c : Course) (calls : List RecordCall) → has_mark c.held ≡ false → AllStayOpen calls →
@@ -64,7 +64,7 @@ UndoTakesTheGroupBack =
     let undone = after_call (TakenBack 1) (after_call Ended inside) in
     closes inside.held ≡ true → (undone.text ≡ c.text) × (undone.held ≡ c.held)
 
--- what was undone last, made anew, gives back the text from before, and the record
+-- redoing what was undone last restores the text and the record from before
 abbrev pub RedoGivesTheTextBack : Type 0
 RedoGivesTheTextBack =
     (h : Held) (held : List Held) (ahead : List Undone) (l : Line) →
@@ -72,7 +72,7 @@ RedoGivesTheTextBack =
     ((line_ahead undone (line_back 1 (h ∷ held) l)).text ≡ l.text)
     × (held_ahead undone held ≡ h ∷ held)
 
--- kills from the cursor on or up to it
+-- kills from the cursor or up to it
 abbrev pub is_directed : Movement → Bool
 is_directed EndOfLine = true
 is_directed BeginningOfLine = true
@@ -97,12 +97,12 @@ ring_killed [] l r = r
 ring_killed (m ∷ movements) l r =
     ring_killed movements (kill_line m l) (ring_all (kill_events m l) r)
 
--- one of the kills takes something
+-- one of the kills deletes something
 abbrev pub some_taken : List Movement → Line → Bool
 some_taken [] l = false
 some_taken (m ∷ movements) l = is_some (range_of m l) || some_taken movements (kill_line m l)
 
--- a run of such kills, then one yank, restores the text
+-- a run of such kills, and then one yank, restore the text
 abbrev pub KillsComeBack : Type 0
 KillsComeBack =
     (movements : List Movement) (l : Line) (r : Ring) → AllDirected movements

@@ -1,4 +1,4 @@
--- What the entries of a log stand for.
+-- The meaning of the entries of a log.
 use Rattle.std.specs.Prelude.{◌≤◌, ℕ, zero, suc, Bool, if◌then◌else◌, List, [], ◌∷◌, ◌++◌, map, take, length, slice_range, encode_utf8, Option, None, option_map, IsUtf8, ◌≡◌, slice_get, unwrap_or}
 use Rattle.line_buffer.specs.Event.{Event}
 use Rattle.line_buffer.specs.Event.Event.{Delete, InsertChar, InsertStr, Replace}
@@ -10,17 +10,17 @@ use Rattle.line_record.specs.declared.entry.Kind.{Kind}
 use Rattle.line_record.specs.declared.entry.Kind.TheVariants.{Insertion, Deletion, Replacement}
 
 module _ {A S : Type 0} (first last : S → ℕ) (Fits : List A → S → Type 0) where
-  -- they adjoin, in their order, from a place of the list to another
+  -- spans adjoin, in their order, from a place of the list to another
   abbrev pub Adjoin : List A → ℕ → List S → ℕ → Type 0
   Adjoin all from [] to = from ≡ to
   Adjoin all from (s ∷ spans) to =
       (first s ≡ from) × (from ≤ last s) × Fits all s × Adjoin all (last s) spans to
 
--- where the span of an index begins, or the end of all where there is none
+-- where the span of an index begins; the end of all spans if there is none
 abbrev pub place_of_span : {S : Type 0} → (S → ℕ) → List S → ℕ → ℕ → ℕ
 place_of_span first spans n to = unwrap_or (option_map first (slice_get spans n)) to
 
--- a change by its kind, the text that stood at its place, and the one that has stood there since
+-- a change by its kind, its old text and its new text
 abbrev pub edit_from : Kind → ℕ → List ℕ → List ℕ → Change
 edit_from Insertion at removed added = Inserted at added
 edit_from Deletion at removed added = Deleted at removed
@@ -33,7 +33,7 @@ edit_in text x =
 abbrev pub edits_in : List ℕ → List Entry → List Change
 edits_in text entries = map (edit_in text) entries
 
--- the old text stands before the new one, and each begins and ends between characters
+-- the old text comes before the new one, and each is on character boundaries
 pub record Spelt (text : List ℕ) (x : Entry) : Type 0 where
   pub removed : x.start ≤ x.middle
   pub added : x.middle ≤ x.end
@@ -46,7 +46,7 @@ pub record Spelt (text : List ℕ) (x : Entry) : Type 0 where
 abbrev pub IsLog : List ℕ → List Entry → Type 0
 IsLog text entries = Adjoin (λ x. x.start) (λ x. x.end) Spelt text 0 entries (length text)
 
--- the change that an event tells of, even where it is empty
+-- the change that an event reports, even an empty one
 abbrev pub change_told : Event → Change
 change_told (InsertChar at c) = Inserted at (encode_utf8 c)
 change_told (InsertStr at text) = Inserted at text
@@ -54,7 +54,7 @@ change_told (Delete at text direction) = Deleted at text
 change_told (Replace at before after) = Replaced at before after
 change_told mark = Inserted 0 []
 
--- a change with more text: the old before or after its own, the new after its own
+-- a change with more text: the old text before or after its own, the new text after its own
 abbrev pub grown_old : Bool → List ℕ → List ℕ → List ℕ
 grown_old before removed text = if before then removed ++ text else text ++ removed
 
@@ -64,7 +64,7 @@ grown at before removed added (Deleted place text) = Deleted at (grown_old befor
 grown at before removed added (Replaced place was is) =
     Replaced at (grown_old before removed was) (is ++ added)
 
--- the changes up to that of an index, which an event joins, if it does
+-- the changes up to that of an index, to which an event's change is joined, if possible
 abbrev pub joined_at : Event → ℕ → List Change → Option (List Change)
 joined_at e n [] = None
 joined_at e zero (d ∷ edits) = option_map (λ j. j ∷ []) (joined_to e d)

@@ -1,5 +1,5 @@
--- A kill ring: slots that hold killed texts, the place of the one that would be yanked, and the
--- last action. The kills that it was told of: runs in a list, the newest first, which knows of no
+-- A kill ring: slots of killed texts, the place of the slot that a yank returns, and the last
+-- action. And the kills that were reported to it: a list of runs, the newest first, which has no
 -- slots.
 use Rattle.std.specs.Prelude.{◌≡◌, ℕ, ◌+◌, ◌-◌, ◌==◌, ◌<◌, ◌≤◌, Bool, true, false, List, [], ◌∷◌, ◌++◌, length, if◌then◌else◌, nat_lt, Option, Some, None, slice_set, slice_index_or, suc, take, drop, reverse}
 use Rattle.std.specs.List.{fold}
@@ -19,7 +19,7 @@ pub record Ring : Type 0 where
   pub last : Action
   pub killing : Bool
 
--- no more slots than the size, the place on one of them, and a text to join to after a kill
+-- no more slots than the size, the place at one of them, and a text to join to after a kill
 pub record IsRing (count size place : ℕ) (last : Action) : Type 0 where
   pub few : count ≤ size
   pub inside : 0 < count → place < count
@@ -29,16 +29,16 @@ pub record IsRing (count size place : ℕ) (last : Action) : Type 0 where
 abbrev pub new_ring : ℕ → Ring
 new_ring size = record { slots = []; size = size; place = 0; last = Other; killing = false }
 
--- a text joined to the one in a slot
+-- a text joined to the text in a slot
 abbrev pub joined_text : Mode → List ℕ → List ℕ → List ℕ
 joined_text Append text slot = slot ++ text
 joined_text Prepend text slot = text ++ slot
 
--- the slot after a place, past the last size the first
+-- the slot after a place; after the last one the first
 abbrev pub slot_after : ℕ → ℕ → ℕ → ℕ
 slot_after count size place = if count == 0 then 0 else if place + 1 == size then 0 else place + 1
 
--- a text put in a slot, or after the last one
+-- a text stored in a slot, or after the last one
 abbrev pub put_text : ℕ → List ℕ → List (List ℕ) → List (List ℕ)
 put_text place text slots =
     if nat_lt place (length slots) then slice_set slots place text else slots ++ text ∷ []
@@ -56,19 +56,19 @@ killed_after Kill text mode r =
     }
 killed_after last text mode r = killed_anew text r
 
--- a kill after a kill joins the text of its slot, any other takes the next slot; a ring of no slots
--- keeps nothing
+-- a kill after a kill is joined to the text of its slot, any other takes the next slot; a ring
+-- without slots keeps nothing
 abbrev pub killed : List ℕ → Mode → Ring → Ring
 killed text mode r =
     if r.size == 0 then record r { last = Kill } else killed_after r.last text mode r
 
--- the present slot was lent
+-- the current slot was lent
 abbrev pub yanked : Ring → Ring
 yanked r =
     if length r.slots == 0 then r
     else record r { last = Yank (length (slice_index_or r.slots r.place [])) }
 
--- one slot back, before the first the last one
+-- one slot back; before the first one the last
 abbrev pub slot_before : ℕ → ℕ → ℕ
 slot_before count place = if place == 0 then count - 1 else place - 1
 
@@ -83,7 +83,7 @@ turned_after last r = r
 abbrev pub turned : Ring → Ring
 turned r = turned_after r.last r
 
--- the length of what was yanked, and the text in its place
+-- the length of the yanked text, and the text that replaces it
 abbrev pub exchanged_after : Action → Ring → Option (ℕ × List ℕ)
 exchanged_after (Yank count) r =
     if length r.slots == 0 then None
@@ -104,26 +104,26 @@ ring_step StopKilling r = record r { killing = false }
 ring_step (Delete at text direction) r = if r.killing then killed text (mode_of direction) r else r
 ring_step e r = r
 
--- a ring that has slots keeps what is deleted between the two marks
+-- a ring that has slots keeps texts deleted between the two marks
 abbrev pub Keeps : Event → Ring → Type 0
 Keeps (Delete at text direction) r = (r.killing ≡ true) × (0 < r.size)
 Keeps e r = ⊥
 
--- it refuses only what it would keep, and stays as it was
+-- it fails only on what it would keep, and stays as it was
 abbrev pub ring_refuses : Ring → Event → Ring → Type 0
 ring_refuses r e q = (q ≡ r) × Keeps e r
 
 abbrev pub ring_all : List Event → Ring → Ring
 ring_all events r = fold (λ s e. ring_step e s) r events
 
--- what is done to a ring, but for turning it
+-- the calls of a ring, except the one that turns it
 pub data RingCall : Type 0 where
   Taken : (text : List ℕ) (mode : Mode) → RingCall
   Heard : (event : Event) → RingCall
   Ended : RingCall
   Lent : RingCall
 
--- the texts of all runs of kills, whether the newest run goes on, and whether deletions are kills
+-- the texts of all runs of kills, whether the newest run continues, and whether deletions are kills
 pub record Kills : Type 0 where
   pub runs : List (List ℕ)
   pub running : Bool
@@ -132,7 +132,7 @@ pub record Kills : Type 0 where
 abbrev pub no_kills : Kills
 no_kills = record { runs = []; running = false; killing = false }
 
--- a kill joins the run that goes on, or begins one
+-- a kill is joined to the run that continues, or begins one
 abbrev pub run_with : Bool → List ℕ → Mode → List (List ℕ) → List (List ℕ)
 run_with false text mode runs = text ∷ runs
 run_with true text mode [] = text ∷ []
@@ -158,7 +158,7 @@ unfoldable pub all_kills_after : List RingCall → Kills → Kills
 all_kills_after [] k = k
 all_kills_after (call ∷ calls) k = all_kills_after calls (kills_after call k)
 
--- the same calls of a ring
+-- the effect of the same calls on a ring
 abbrev pub ring_after : RingCall → Ring → Ring
 ring_after (Taken text mode) r = killed text mode r
 ring_after (Heard e) r = ring_step e r
@@ -169,6 +169,6 @@ unfoldable pub ring_after_all : List RingCall → Ring → Ring
 ring_after_all [] r = r
 ring_after_all (call ∷ calls) r = ring_after_all calls (ring_after call r)
 
--- the texts of a ring from its present slot back, and round to the slot after it
+-- the texts of a ring from its current slot back, and round to the slot after it
 abbrev pub newest_first : Ring → List (List ℕ)
 newest_first r = reverse (take (suc r.place) r.slots) ++ reverse (drop (suc r.place) r.slots)

@@ -1,4 +1,4 @@
--- How a ring ends that has lent a text out.
+-- The state of a ring after it has lent a text.
 use Rattle.std.specs.Prelude.{◌≡◌, ⊤}
 use Rattle.std.specs.Borrow.{follows_so, Fml, MutBor}
 use mathlib.Core.Option.{none}

@@ -1,5 +1,4 @@
--- Two listeners that are told in turn: what an event makes of both, and what a refusal leaves of
--- them.
+-- Two listeners that are notified in turn: the effect of an event on both, and of an error of one.
 use Rattle.std.specs.Prelude.{◌≡◌, ◌⊎◌, ℕ, List, IsUtf8}
 use Rattle.line_buffer.specs.Event.{Event}
 use Rattle.line_buffer.specs.Replay.{StopsAmong, wants_or}
@@ -20,7 +19,7 @@ module _ {A B : Type 0} where
       SameNames s.first s.second t.first t.second
       × (first s.first.now e t.first.now × second s.second.now e t.second.now)
 
-  -- the first one refuses, and the second isn't told; or the second one refuses
+  -- the first one fails, and the second isn't notified; or the second one fails
   abbrev pub joined_refuses : (A → Event → A → Type 0) → (A → Event → A → Type 0)
       → (B → Event → B → Type 0) → Joined A B → Event → Joined A B → Type 0
   joined_refuses first first_refuses second_refuses s e t =
@@ -28,8 +27,8 @@ module _ {A B : Type 0} where
       × ((first_refuses s.first.now e t.first.now × (t.second.now ≡ s.second.now))
       ⊎ (first s.first.now e t.first.now × second_refuses s.second.now e t.second.now))
 
--- a call of several events that was refused, seen from a record that is told last: it holds the
--- changes that the line made, and no other, and what those leave of what can be redone
+-- a failed call of several events, seen from a record that is notified last: it holds exactly the
+-- changes that the line made, and what can be redone after them
 pub record HoldsWhatWasMade {S : Type 0} {takes refuses : S → Event → S
     → Type 0} {closing events : List Event} {s t : S} {before after : List ℕ}
     (part : S → Items) (call : StopsAmong takes refuses closing events s t before after) : Type 0

@@ -6,9 +6,9 @@ use line_buffer::{Direction, OutOfMemory};
 use std::alloc::Global;
 use std::marker::Model;
 
-/// What was changed in a line, for undoing it and for making it anew. Changes may be grouped: a
-/// group is undone as one. The steps after the first `done` are undone, and `mark` is the index of
-/// the oldest open mark before them.
+/// The changes of a line, for undo and redo. Changes may be grouped: a group is undone as one. The
+/// steps after the first `done` are undone, and `mark` is the index of the oldest open mark before
+/// them.
 #[derive(Debug, Drop)]
 pub struct Changeset {
     pub(crate) steps: Steps,
@@ -36,8 +36,8 @@ impl Changeset {
     ghost use Rattle.line_record.specs.Items.{no_items, opened, truncated, told_of, ItemsStand, RecordedIn, record_refuses, held_on};
     ghost use Rattle.line_record.specs.Steps.{event_of};
 
-    /// A record in which nothing stands. It takes no memory yet, and never refuses: the answer has
-    /// the form of rustyline's calls that make a part of the editor, all of which may want memory.
+    /// An empty record. It allocates nothing yet and never fails. It returns a `Result` like
+    /// rustyline's other constructors of the editor's parts, which may all run out of memory.
     pub fn new(alloc: Global) -> Result<Self, OutOfMemory>
         ensures { IsOkAnd result (λ c. c ≡ no_items) }
     {
@@ -48,7 +48,7 @@ impl Changeset {
         })
     }
 
-    /// The same record in memory of its own.
+    /// A copy of the record, in memory of its own.
     pub fn try_clone(&self, alloc: Global) -> Result<Self, OutOfMemory>
         ensures { IfOk result (λ c. c ≡ self.now) }
     {
@@ -59,7 +59,7 @@ impl Changeset {
         })
     }
 
-    /// Sets the mark that begins a group. Answers how many items stood before it: steps and open
+    /// Sets the mark that begins a group. Returns the number of items before it: steps and open
     /// marks.
     pub fn begin(&mut self, alloc: Global) -> Result<usize, OutOfMemory>
         ensures answer { IfOk result (λ n. (text : List ℕ) → n ≡ length (held_on self.old text)) }
@@ -73,8 +73,8 @@ impl Changeset {
         Ok(before)
     }
 
-    /// Closes all open marks: what was recorded since the oldest of them is one step from now on.
-    /// Answers whether there is such a step, and never refuses.
+    /// Closes all open marks: the changes recorded since the oldest of them become one step.
+    /// Returns whether there is such a step, and never fails.
     pub fn end(&mut self, alloc: Global) -> Result<bool, OutOfMemory>
         ensures answer { IsOkAnd result (λ closed. (text : List ℕ) → ItemsStand self.old text
             → closed ≡ closes (held_on self.old text)) }
@@ -102,7 +102,7 @@ impl Changeset {
         self.mark = mark_within(self.mark, kept);
     }
 
-    /// The text that was put in last: `None` where the last item is a mark or took text out.
+    /// A copy of the text that was inserted last; `None` if the last item is a mark or a deletion.
     pub fn last_insert(&self, alloc: Global) -> Result<Option<String>, OutOfMemory>
         ensures text { IfOk result (λ o. (text : List ℕ) → option_map string_bytes o
             ≡ last_inserted (held_on self.now text)) }
@@ -115,7 +115,7 @@ impl Changeset {
         Ok(Some(String::from_str(alloc, text)?))
     }
 
-    /// `last_insert`, lent.
+    /// `last_insert`, borrowed.
     pub fn last_insert_text(&self) -> Option<&str>
         ensures { (text : List ℕ) → option_copied result ≡ last_inserted (held_on self.now text) }
     {
@@ -125,7 +125,7 @@ impl Changeset {
         }
     }
 
-    /// Records that a character was put in at `idx`.
+    /// Records the insertion of a character at `idx`.
     pub fn insert(&mut self, alloc: Global, idx: usize, c: char) -> Result<(), OutOfMemory>
         ensures ok { OnOk result (self.new ≡ told_of (InsertChar idx c) self.old) }
         ensures recorded { OnOk result (RecordedIn self.old (InsertChar idx c) self.new) }
@@ -134,7 +134,7 @@ impl Changeset {
         self.note(alloc, Report::Char { at: idx, c })
     }
 
-    /// Records that a text was put in at `idx`.
+    /// Records the insertion of a text at `idx`.
     pub fn insert_str(&mut self, alloc: Global, idx: usize, text: &str) -> Result<(), OutOfMemory>
         ensures ok { OnOk result (self.new ≡ told_of (InsertStr idx text.now) self.old) }
         ensures recorded { OnOk result (RecordedIn self.old (InsertStr idx text.now) self.new) }
@@ -143,7 +143,7 @@ impl Changeset {
         self.note(alloc, Report::Text { at: idx, text })
     }
 
-    /// Records that a text was taken out at `idx`.
+    /// Records the deletion of a text at `idx`.
     pub fn delete(&mut self, alloc: Global, idx: usize, text: &str) -> Result<(), OutOfMemory>
         ensures ok { OnOk result (self.new ≡ told_of (Delete idx text.now Forward) self.old) }
         ensures recorded { OnOk result (RecordedIn self.old (Delete idx text.now Forward)
@@ -186,7 +186,7 @@ impl Changeset {
         )
     }
 
-    /// Records what is told, joined to the change before it where it joins.
+    /// Records a change, joined to the change before it if the two can be joined.
     pub(crate) fn note(&mut self, alloc: Global, report: Report<'_>) -> Result<(), OutOfMemory>
         ensures ok { OnOk result (self.new ≡ told_of (event_of report.entry) self.old) }
         ensures recorded { OnOk result (RecordedIn self.old (event_of report.entry) self.new) }
@@ -202,7 +202,7 @@ ghost use Rattle.std.specs.Prelude.{◌≡◌, ℕ, List, take, reverse, None};
 ghost use Rattle.line_record.specs.Items.{EndedBy};
 ghost use Rattle.line_record.specs.Steps as marked;
 
-/// Closes the open marks of the first `done` steps, the oldest of which is given; false where
+/// Closes the open marks of the first `done` steps; `mark` is the oldest of them. Returns false if
 /// nothing was recorded since.
 fn close(steps: &mut Steps, done: usize, mark: Option<usize>) -> bool
     requires { marked.IsRecord steps.old done mark }
@@ -219,7 +219,7 @@ fn close(steps: &mut Steps, done: usize, mark: Option<usize>) -> bool
     }
 }
 
-/// The oldest mark, with one more item after so many.
+/// The oldest mark after one more item, which has `before` items before it.
 pub(crate) fn mark_with(mark: Option<usize>, is_mark: bool, before: usize) -> Option<usize>
     ensures { result ≡ marked.mark_with mark is_mark before }
 {

@@ -1,9 +1,9 @@
-//! The lines in which changes are taken back and made anew.
+//! The lines in which changes are undone and redone.
 
 use line_buffer::{LineBuffer, NoListener, OutOfMemory};
 use std::alloc::Global;
 
-/// A line in which one text can be exchanged for another. `value` is that line.
+/// A line in which one text can be replaced by another. `value` is that line.
 pub trait EditedLine {
     ghost use Rattle.std.specs.Prelude.{◌≡◌, ◌+◌, length, OnOk, OnErr};
     ghost use Rattle.line_buffer.specs.Line.{Line};
@@ -11,7 +11,7 @@ pub trait EditedLine {
 
     ghost value: { Self → Line };
 
-    /// Exchanges one text at a place for another, the cursor after it.
+    /// Replaces a text at a place by another, with the cursor after it.
     fn exchange(
         &mut self,
         alloc: Global,

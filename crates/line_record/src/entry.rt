@@ -1,4 +1,4 @@
-//! The changes of a record, whose texts stand in one log.
+//! The changes of a record, with their texts in one log.
 
 use crate::edited_line::EditedLine;
 use crate::report::Report;
@@ -14,7 +14,7 @@ pub enum Kind {
     Replacement,
 }
 
-/// A change by its place in the line and its spans of the log, all in bytes: the old text from
+/// A change: its place in the line and its ranges of the log, all in bytes. The old text is from
 /// `start` to `middle`, the new one from there to `end`.
 #[derive(Clone, Copy, Debug)]
 pub struct Entry {
@@ -33,7 +33,7 @@ impl Entry {
     ghost use Rattle.line_record.specs.Logged.{edit_from, edit_in, Spelt, change_told, grown};
     ghost use Rattle.line_record.specs.Steps.{event_of};
 
-    /// Where more of the old text is put in: before its own, or after it.
+    /// Where more of the old text is added: before it, or after it.
     pub fn seam(&self, before: bool) -> usize
         ensures { result ≡ (if before then self.now.start else self.now.middle) }
     {
@@ -60,7 +60,7 @@ impl Entry {
         }
     }
 
-    /// The text that this change put in, if it is no deletion.
+    /// The text that this change inserted, or `None` if it is a deletion.
     pub fn inserted<'a>(&self, log: &'a str) -> Option<&'a str>
         requires { Spelt log.now self.now }
         ensures { option_copied result ≡ inserted_by (edit_in log.now self.now) }
@@ -71,7 +71,7 @@ impl Entry {
         }
     }
 
-    /// Puts back what stood there before, the cursor after it.
+    /// Undoes the change, with the cursor after the old text.
     fn take_back<L: EditedLine>(
         &self,
         alloc: Global,
@@ -87,7 +87,7 @@ impl Entry {
         line.exchange(alloc, self.at, self.added(log), self.removed(log))
     }
 
-    /// Puts in again what was there after the change, the cursor after it.
+    /// Redoes the change, with the cursor after the new text.
     fn make_anew<L: EditedLine>(
         &self,
         alloc: Global,
@@ -103,8 +103,8 @@ impl Entry {
         line.exchange(alloc, self.at, self.removed(log), self.added(log))
     }
 
-    /// Whether what is told joins this change, which was the last before it: the place of the two
-    /// together, and whether the old text that is told comes before this one's.
+    /// Joins a reported change to this one, if it was the last before it. Returns the place of the
+    /// two together, and whether the reported old text comes before this one's.
     pub fn joined(&self, report: Report<'_>) -> Option<(usize, bool)>
         requires { self.now.middle ≤ self.now.end }
         ensures { (removed added : List ℕ) → length added ≡ self.now.end - self.now.middle →
@@ -142,15 +142,14 @@ ghost use Rattle.line_record.specs.Change.{AllStandIn, AllFitIn};
 ghost use Rattle.line_record.specs.Logged.{edits_in, Spelt};
 ghost use Rattle.line_record.specs.Items.{TakesBack, MakesAnew};
 
-/// A place stands so many bytes after another.
+/// Whether a place is `length` bytes after another.
 fn follows(place: usize, before: usize, length: usize) -> bool
     ensures { result ≡ (place == before + length) }
 {
     before <= place && place - before == length
 }
 
-/// Takes changes back, the newest first. After a refusal some of them are taken back, the newest
-/// ones.
+/// Undoes changes, the newest first. After an error some of them are undone, the newest ones.
 pub(crate) fn take_back<L: EditedLine>(
     alloc: Global,
     log: &str,
@@ -170,7 +169,7 @@ pub(crate) fn take_back<L: EditedLine>(
     Ok(())
 }
 
-/// Makes changes anew, the oldest first. After a refusal some of them are made, the oldest ones.
+/// Redoes changes, the oldest first. After an error some of them are redone, the oldest ones.
 pub(crate) fn make_anew<L: EditedLine>(
     alloc: Global,
     log: &str,

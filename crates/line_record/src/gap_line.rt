@@ -1,4 +1,4 @@
-//! A line whose text is changed at one place after another, each near the one before it.
+//! A line whose text is changed at several places, each near the last one.
 
 use crate::edited_line::EditedLine;
 use line_buffer::{LineBuffer, NoListener, OutOfMemory};
@@ -6,8 +6,9 @@ use std::alloc::{AllocError, Global};
 use std::marker::Model;
 use std::str;
 
-/// The text of a line, with a gap where it was changed last, and the cursor. What stands after the
-/// gap is kept from its end. So a change costs its own texts and the way from the change before it.
+/// The text of a line, with a gap where it was changed last, and the cursor. The text after the gap
+/// is stored in reverse. So a change costs its own texts and the distance from the change before
+/// it.
 #[derive(Drop)]
 pub struct GapLine {
     before: Vec<u8>,
@@ -37,7 +38,7 @@ impl GapLine {
     ghost use Rattle.std.specs.Prelude.{◌≡◌, IfOk, OnOk, OnErr};
     ghost use Rattle.line_record.specs.Gap.{detached, taking_over};
 
-    /// Text and cursor of a line, the gap after the text.
+    /// The text and cursor of a line, with the gap after the text.
     pub fn new(alloc: Global, line: &LineBuffer) -> Result<Self, OutOfMemory>
         ensures { IfOk result (λ g. g ≡ detached line.now) }
     {
@@ -51,7 +52,7 @@ impl GapLine {
         })
     }
 
-    /// Gives a line this text and this cursor.
+    /// Replaces a line's text and cursor by these.
     pub fn write(self, alloc: Global, line: &mut LineBuffer) -> Result<(), OutOfMemory>
         ensures line { OnOk result (line.new ≡ taking_over line.old self) }
         ensures kept { OnErr result (line.new ≡ line.old) }
@@ -93,7 +94,7 @@ impl EditedLine for GapLine {
 ghost use Rattle.std.specs.Prelude.{◌≡◌, ◌-◌, ◌≤◌, ◌++◌, length, take, drop, reverse, OnOk, OnErr};
 ghost use Rattle.line_record.specs.Gap.{seamed};
 
-/// Moves the gap between two lists, of which the second one is kept from its end, to a place.
+/// Moves the gap between two lists to a place. The second list is stored in reverse.
 fn move_gap(before: &mut Vec<u8>, after: &mut Vec<u8>, to: usize) -> Result<(), AllocError>
     requires { to ≤ length (seamed before.old.items after.old.items) }
     ensures before { OnOk result (before.new.items ≡ take to (seamed before.old.items
@@ -112,7 +113,7 @@ fn move_gap(before: &mut Vec<u8>, after: &mut Vec<u8>, to: usize) -> Result<(), 
     }
 }
 
-/// Passes so many bytes from the end of one list to that of another, the last one first.
+/// Moves `count` bytes from the end of one list to the end of another, the last one first.
 fn pass(from: &mut Vec<u8>, to: &mut Vec<u8>, count: usize) -> Result<(), AllocError>
     requires { count ≤ length from.old.items }
     ensures from { OnOk result (from.new.items ≡ take (length from.old.items - count)

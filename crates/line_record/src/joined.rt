@@ -1,10 +1,10 @@
-//! Two listeners of one line.
+//! Two listeners to one line.
 
 use line_buffer::{ChangeListener, DeleteListener, Direction, OutOfMemory};
 use std::alloc::Global;
 
-/// Tells two listeners of each event, the first one first. Where the first refuses, the second
-/// isn't told: so a record that comes last never holds a change that the line didn't make.
+/// Notifies two listeners of each event, in order. If the first one fails, the second isn't
+/// notified. So a record that comes last never holds a change that the line didn't make.
 #[derive(Drop)]
 pub struct Joined<'a, A: DeleteListener, B: DeleteListener> {
     pub first: &'a mut A,

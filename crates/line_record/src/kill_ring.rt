@@ -1,10 +1,10 @@
-//! The kill ring: killed texts, for yanking them again.
+//! The kill ring: killed texts, to yank them again.
 
 use line_buffer::{ChangeListener, DeleteListener, Direction, Mode, OutOfMemory};
 use std::alloc::Global;
 use std::marker::Model;
 
-/// What a ring was last asked for, a yank with the number of bytes that it gave.
+/// The last action on a ring; for a yank, with the number of bytes that it returned.
 #[derive(Clone, Copy, Debug, PartialEq, Eq)]
 pub enum Action {
     Other,
@@ -12,7 +12,7 @@ pub enum Action {
     Yank(usize),
 }
 
-/// Killed texts in slots that are used in turn. Consecutive kills go to one slot.
+/// Killed texts in slots that are used in turn. Consecutive kills share a slot.
 #[derive(Debug, Drop)]
 pub struct KillRing {
     slots: Vec<String>,
@@ -46,7 +46,7 @@ impl KillRing {
     ghost use Rattle.std.specs.Borrow.{sem};
     ghost use Rattle.line_record.specs.RingLends.{ends_as};
 
-    /// An empty ring of `size` slots; one of none keeps nothing.
+    /// An empty ring of `size` slots. A ring without slots keeps nothing.
     pub fn new(alloc: Global, size: usize) -> Result<Self, OutOfMemory>
         ensures ring { IfOk result (λ r. r ≡ new_ring size) }
         ensures refused { OnErr result (0 < size) }
@@ -61,14 +61,14 @@ impl KillRing {
         })
     }
 
-    /// Ends a run of kills: the next one goes to a slot of its own.
+    /// Ends a run of kills: the next kill starts a new slot.
     pub fn reset(&mut self)
         ensures { self.new ≡ record self.old { last = Other } }
     {
         self.last_action = Action::Other;
     }
 
-    /// Takes a killed text down.
+    /// Stores a killed text. A kill right after a kill is joined to its text.
     pub fn kill(&mut self, alloc: Global, text: &str, mode: Mode) -> Result<(), OutOfMemory>
         ensures ok { OnOk result (self.new ≡ killed text.now mode self.old) }
         ensures kept { OnErr result (self.new ≡ self.old) }
@@ -88,7 +88,7 @@ impl KillRing {
         Ok(())
     }
 
-    /// The slot that the next kill takes, where it joins none.
+    /// The slot that the next kill takes, if it isn't joined to the last one.
     fn next_index(&self) -> usize
         ensures value { result ≡ slot_after (length self.now.slots) self.now.size self.now.place }
         ensures inside { result ≤ length self.now.slots }
@@ -107,14 +107,14 @@ impl KillRing {
         &self.slots
     }
 
-    /// The present slot, which a yank gives; 0 where none is filled.
+    /// The current slot, which a yank returns; 0 if none is filled.
     pub fn place(&self) -> usize
         ensures { result ≡ self.now.place }
     {
         self.index
     }
 
-    /// Lends the text of the present slot.
+    /// Borrows the text of the current slot.
     pub fn yank(&mut self) -> Option<&str>
         ensures value { option_copied result ≡ slice_get self.old.slots self.old.place }
         ensures* ring { sem 𝓛 (ends_as self.entry (yanked self.old)) }
@@ -126,8 +126,8 @@ impl KillRing {
         Some(self.slots[self.index].as_str())
     }
 
-    /// After a yank, turns one slot back and lends its text, with the number of bytes that the last
-    /// yank gave.
+    /// After a yank, turns one slot back and borrows its text. Also returns the number of bytes
+    /// that the last yank returned.
     pub fn yank_pop(&mut self) -> Option<(usize, &str)>
         ensures value { option_map (λ p. (p.0, p.1.now)) result ≡ exchanged self.old }
         ensures* ring { sem 𝓛 (ends_as self.entry (turned self.old)) }
@@ -151,7 +151,7 @@ impl KillRing {
 ghost use Rattle.std.specs.Prelude.{◌≡◌, ◌<◌, ◌≤◌, map, [], length, string_bytes, slice_set, slice_index_or, vec_len, OnOk, OnErr};
 ghost use Rattle.line_record.specs.Ring.{joined_text, put_text};
 
-/// Joins a text to the one in a slot.
+/// Joins a text to the text in a slot.
 fn join_slot(
     slots: &mut Vec<String>,
     index: usize,
@@ -182,7 +182,7 @@ fn join(slot: &mut String, text: &str, mode: Mode) -> Result<(), OutOfMemory>
     Ok(())
 }
 
-/// Puts a text in a slot, or in a new one after the last.
+/// Puts a text into a slot, or into a new one after the last.
 fn put_slot(
     alloc: Global,
     slots: &mut Vec<String>,
@@ -238,7 +238,7 @@ impl DeleteListener for KillRing {
     }
 }
 
-/// Hears of every change, and passes over all but deletions.
+/// Is notified of every change, and ignores all except deletions.
 impl ChangeListener for KillRing {
     fn insert_char(&mut self, _alloc: Global, _idx: usize, _c: char) -> Result<(), OutOfMemory> {
         Ok(())

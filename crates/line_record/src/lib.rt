@@ -1,5 +1,5 @@
-//! What becomes of the events of a line: the kill ring, which brings killed text back, and the undo
-//! record, which brings earlier texts back.
+//! What follows the events of a line: the kill ring, which restores killed text, and the undo
+//! record, which restores earlier texts.
 #![tactic(auto)]
 
 pub mod changeset;

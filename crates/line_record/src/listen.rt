@@ -1,4 +1,4 @@
-//! The record as a listener of a line.
+//! The record as a listener to a line.
 
 use crate::changeset::Changeset;
 use crate::report::Report;

@@ -7,7 +7,7 @@ use line_buffer::OutOfMemory;
 use std::alloc::Global;
 use std::marker::Model;
 
-/// The changes of a record, the oldest first, with all their texts in one.
+/// The changes of a record, the oldest first, with all their texts in one string.
 #[derive(Debug, Drop)]
 pub struct Log {
     text: String,
@@ -44,7 +44,7 @@ impl Log {
         }
     }
 
-    /// The same changes in memory of their own.
+    /// A copy of the log, in memory of its own.
     pub fn try_clone(&self, alloc: Global) -> Result<Self, OutOfMemory>
         ensures { IfOk result (λ l. l ≡ self.now) }
     {
@@ -70,7 +70,7 @@ impl Log {
         self.entries.truncate(n);
     }
 
-    /// The first `n` changes, and one more.
+    /// Keeps the first `n` changes, and adds one more.
     pub fn record(
         &mut self,
         n: usize,
@@ -105,7 +105,8 @@ impl Log {
         Ok(())
     }
 
-    /// The changes up to that of an index, what is told joined to it; false where it joins none.
+    /// Keeps the changes up to that of an index, and joins a reported change to that one. Returns
+    /// false if it can't be joined.
     pub fn join(&mut self, index: usize, report: Report<'_>) -> Result<bool, OutOfMemory>
         requires { index < length self.old }
         ensures answer { IfOk result (λ joined. joined
@@ -122,8 +123,8 @@ impl Log {
         Ok(true)
     }
 
-    /// The changes up to that of an index, which takes more text in: the old before or after its
-    /// own, the new after its own.
+    /// Keeps the changes up to that of an index, and adds more text to that one: the old text
+    /// before or after its own, the new text after its own.
     fn grow(
         &mut self,
         index: usize,
@@ -156,7 +157,7 @@ impl Log {
         Ok(())
     }
 
-    /// The text that a change put in, if it is no deletion.
+    /// The text that a change inserted, or `None` if it is a deletion.
     pub fn inserted(&self, index: usize) -> Option<&str>
         requires { index < length self.now }
         ensures { (d : Change) → option_copied result
@@ -165,8 +166,7 @@ impl Log {
         self.entries[index].inserted(&self.text)
     }
 
-    /// Takes changes back, the newest first. After a refusal some of them are taken back, the
-    /// newest ones.
+    /// Undoes changes, the newest first. After an error some of them are undone, the newest ones.
     pub fn take_back<L: EditedLine>(
         &self,
         alloc: Global,
@@ -183,8 +183,7 @@ impl Log {
         take_back(alloc, &self.text, &self.entries[first..last], line)
     }
 
-    /// Makes changes anew, the oldest first. After a refusal some of them are made, the oldest
-    /// ones.
+    /// Redoes changes, the oldest first. After an error some of them are redone, the oldest ones.
     pub fn make_anew<L: EditedLine>(
         &self,
         alloc: Global,
@@ -207,7 +206,7 @@ ghost use Rattle.std.specs.String.{string_len, string_capacity};
 ghost use Rattle.std.specs.List.{insert_slice};
 ghost use Rattle.line_record.specs.Logged.{place_of_span};
 
-/// Puts a text in at a place. Where it is empty nothing is moved.
+/// Inserts a text at a place. An empty text moves no bytes.
 fn put_in(text: &mut String, at: usize, added: &str) -> Result<(), OutOfMemory>
     requires { IsCharBoundary (string_bytes text.old) at }
     ensures bytes { OnOk result (string_bytes text.new
@@ -224,7 +223,7 @@ fn put_in(text: &mut String, at: usize, added: &str) -> Result<(), OutOfMemory>
     Ok(())
 }
 
-/// Where the entry of an index begins, or the end of all.
+/// Where the entry of an index begins; the end of all entries if there is none.
 fn place(entries: &[Entry], n: usize, end: usize) -> usize
     ensures { result ≡ place_of_span (λ x. x.start) entries.now n end }
 {

@@ -1,9 +1,9 @@
-//! The changes that a record is told of.
+//! The changes that are reported to a record.
 
 use crate::entry::Kind;
 use line_buffer::Direction;
 
-/// A change as it is told, its texts borrowed. Places are in bytes.
+/// A reported change, with its texts borrowed. Places are in bytes.
 #[derive(Clone, Copy)]
 pub enum Report<'a> {
     Char {
@@ -33,7 +33,7 @@ impl<'a> Report<'a> {
     ghost use Rattle.line_record.specs.Logged.{edit_from, change_told};
     ghost use Rattle.line_record.specs.Steps.{event_of};
 
-    /// Nothing is put in, and nothing taken out.
+    /// Whether nothing is inserted and nothing deleted.
     pub fn is_empty(self) -> bool
         ensures { result ≡ not (is_some (change_of (event_of self.entry))) }
     {
@@ -45,7 +45,7 @@ impl<'a> Report<'a> {
         }
     }
 
-    /// What it does.
+    /// The kind of the change.
     pub fn kind(self) -> Kind
         ensures { let told = change_told (event_of self.entry) in
             is_some (change_of (event_of self.entry)) ≡ true → change_of (event_of self.entry)
@@ -69,7 +69,7 @@ impl<'a> Report<'a> {
         }
     }
 
-    /// The text that was taken out.
+    /// The deleted text.
     pub fn removed(self) -> &'a str
         ensures { result.now ≡ removed_of (change_told (event_of self.entry)) }
     {
@@ -80,7 +80,7 @@ impl<'a> Report<'a> {
         }
     }
 
-    /// The text that was put in; `room` is for that of a character.
+    /// The inserted text; `room` is a buffer for the text of a character.
     pub fn added(self, room: &'a mut [u8; 4]) -> &'a str
         ensures { result.now ≡ added_of (change_told (event_of self.entry)) }
     {

@@ -1,4 +1,4 @@
-//! The steps of a record, over one log: open marks, lone changes and closed groups.
+//! The steps of a record over one log: open marks, single changes and closed groups.
 
 use crate::edited_line::EditedLine;
 use crate::log::Log;
@@ -7,8 +7,8 @@ use line_buffer::OutOfMemory;
 use std::alloc::Global;
 use std::marker::Model;
 
-/// The changes from `first` up to `last`, which are undone together. A step without any is the open
-/// mark of a group, and only a step of one change that isn't closed is joined.
+/// The changes from `first` up to `last`, which are undone together. A step without changes is the
+/// open mark of a group. Changes are joined only to a step of one change that isn't closed.
 #[derive(Clone, Copy, Debug)]
 pub struct Step {
     pub closed: bool,
@@ -19,7 +19,7 @@ pub struct Step {
 impl Step {
     ghost use Rattle.std.specs.Prelude.{◌≡◌, ◌-◌, ◌≤◌, ◌==◌, ◌&&◌, not};
 
-    /// One change that others may join.
+    /// Whether the step is one change that others may join.
     fn is_lone(&self) -> bool
         requires { self.now.first ≤ self.now.last }
         ensures { result ≡ (not self.now.closed && (self.now.last - self.now.first == 1)) }
@@ -65,7 +65,7 @@ impl Steps {
         }
     }
 
-    /// The same steps in memory of their own.
+    /// A copy of the steps, in memory of its own.
     pub fn try_clone(&self, alloc: Global) -> Result<Self, OutOfMemory>
         ensures { IfOk result (λ s. s ≡ self.now) }
     {
@@ -82,7 +82,7 @@ impl Steps {
         self.steps.len()
     }
 
-    /// Keeps the first `n`.
+    /// Keeps the first `n` steps.
     pub fn truncate(&mut self, n: usize)
         ensures { self.new ≡ take n self.old }
     {
@@ -91,7 +91,7 @@ impl Steps {
         self.steps.truncate(n);
     }
 
-    /// The first `n`, and an open mark.
+    /// Keeps the first `n` steps, and adds an open mark.
     pub fn open(&mut self, n: usize) -> Result<(), OutOfMemory>
         ensures ok { OnOk result (self.new ≡ take n self.old ++ Open ∷ []) }
         ensures kept { OnErr result (self.new ≡ self.old) }
@@ -108,7 +108,8 @@ impl Steps {
         Ok(())
     }
 
-    /// The first `n` with what is told after them, joined to the last where it joins.
+    /// Keeps the first `n` steps, and adds a reported change, joined to the last step if the two
+    /// can be joined.
     pub fn note(&mut self, n: usize, report: Report<'_>) -> Result<(), OutOfMemory>
         requires { n ≤ length self.old }
         ensures ok { OnOk result (reverse self.new ≡ noted_if (event_of report.entry)
@@ -126,7 +127,7 @@ impl Steps {
         self.add(n, report)
     }
 
-    /// The first `n`, and what is told as a step of its own.
+    /// Keeps the first `n` steps, and adds a reported change as a step of its own.
     fn add(&mut self, n: usize, report: Report<'_>) -> Result<(), OutOfMemory>
         requires { is_some (change_of (event_of report)) ≡ true }
         ensures ok { OnOk result (option_map (λ c. take n self.old ++ Lone c ∷ [])
@@ -148,7 +149,8 @@ impl Steps {
         Ok(())
     }
 
-    /// The steps up to that of an index, what is told joined to it; false where it joins none.
+    /// Keeps the steps up to that of an index, and joins a reported change to that one. Returns
+    /// false if it can't be joined.
     fn join(&mut self, index: usize, report: Report<'_>) -> Result<bool, OutOfMemory>
         requires { index < length self.old }
         ensures answer { IfOk result (λ joined. joined ≡ is_some
@@ -169,8 +171,8 @@ impl Steps {
         Ok(true)
     }
 
-    /// The first `n`, of which those from an index on become one that nothing joins, or go where
-    /// they have no changes. Answers whether they have.
+    /// Keeps the first `n` steps, and makes those from `index` on one closed step. Steps without
+    /// changes are dropped instead. Returns whether there is such a closed step.
     pub fn close(&mut self, n: usize, index: usize) -> bool
         requires order { index < n }
         requires inside { n ≤ length self.old }
@@ -194,7 +196,7 @@ impl Steps {
         true
     }
 
-    /// The open mark of a group stands at an index.
+    /// Whether the step of an index is the open mark of a group.
     pub fn is_mark(&self, index: usize) -> bool
         requires { index < length self.now }
         ensures { result ≡ is_open (slice_index_or self.now index Open) }
@@ -203,7 +205,7 @@ impl Steps {
         step.first == step.last
     }
 
-    /// How many changes the steps have that begin at one index and end before another.
+    /// The number of changes of the steps from `first` up to `end`.
     pub fn change_count(&self, first: usize, end: usize) -> usize
         ensures { result ≡ length (gathered (drop first (take end self.now))) }
     {
@@ -214,7 +216,7 @@ impl Steps {
         self.steps[end - 1].last - self.steps[first].first
     }
 
-    /// The text that the newest change of a step put in, if it put one in.
+    /// The text that the newest change of a step inserted, if it inserted one.
     pub fn inserted(&self, index: usize) -> Option<&str>
         requires { index < length self.now }
         ensures { option_copied result ≡ item_inserted (slice_index_or self.now index Open) }
@@ -226,8 +228,8 @@ impl Steps {
         self.log.inserted(step.last - 1)
     }
 
-    /// Takes a step's changes back, the newest first. After a refusal some of them are taken back,
-    /// the newest ones.
+    /// Undoes a step's changes, the newest first. After an error some of them are undone, the
+    /// newest ones.
     pub fn take_back<L: EditedLine>(
         &self,
         alloc: Global,
@@ -244,7 +246,7 @@ impl Steps {
         self.log.take_back(alloc, step.first, step.last, line)
     }
 
-    /// Makes a step's changes anew, the oldest first. After a refusal some of them are made, the
+    /// Redoes a step's changes, the oldest first. After an error some of them are redone, the
     /// oldest ones.
     pub fn make_anew<L: EditedLine>(
         &self,
@@ -266,7 +268,7 @@ impl Steps {
 ghost use Rattle.std.specs.Prelude.{◌≡◌};
 ghost use Rattle.line_record.specs.Logged.{place_of_span};
 
-/// Where the step of an index begins, or the end of all.
+/// Where the step of an index begins; the end of all steps if there is none.
 fn place(steps: &[Step], n: usize, end: usize) -> usize
     ensures { result ≡ place_of_span (λ s. s.first) steps.now n end }
 {

@@ -1,4 +1,4 @@
-//! Undoing what was recorded, and making it anew.
+//! Undo and redo.
 
 use crate::changeset::{Changeset, mark_with, mark_within};
 use crate::edited_line::EditedLine;
@@ -6,7 +6,7 @@ use crate::gap_line::GapLine;
 use line_buffer::{LineBuffer, OutOfMemory, RepeatCount};
 use std::alloc::Global;
 
-/// So many changes are made in the line itself, where each moves the text after it.
+/// At most this many changes are made in the line itself. Each of them moves the text after it.
 const FEW: usize = 8;
 
 impl Changeset {
@@ -14,10 +14,9 @@ impl Changeset {
     ghost use Rattle.line_record.specs.Held.{line_back, has_step, ahead_back, line_ahead, has_step_ahead, held_ahead};
     ghost use Rattle.line_record.specs.Items.{no_items, undo_one, nearest_changes, nearest_is_change, BackInPart, AnewInPart, ItemsStand, DoneStand, UndoneFit, held_on, ahead_on, TakesBack, UndoesItems, RedoesItem, last_changes};
 
-    /// Takes the last `n` items back: steps, and open marks. 0 acts as 1. Answers whether a step
-    /// was among them. The cursor goes to the place of the oldest of their changes, after what was
-    /// put back there. After a refusal a part of the changes is taken back, and nothing is recorded
-    /// any more.
+    /// Undoes the last `n` items: steps and open marks. 0 acts as 1. Returns whether a step was
+    /// among them. The cursor goes to the place of their oldest change, after the text that was
+    /// restored there. After an error some of the changes are undone, and the record is empty.
     pub fn undo(
         &mut self,
         alloc: Global,
@@ -49,7 +48,7 @@ impl Changeset {
         }
     }
 
-    /// `undo_items` in the line itself, or apart from it where there are many changes.
+    /// `undo_items` in the line itself, or in a line with a gap if there are many changes.
     fn undo_last(
         &mut self,
         alloc: Global,
@@ -68,8 +67,8 @@ impl Changeset {
         }
     }
 
-    /// `undo_items` by a line with a gap, so that many changes cost no more than the way between
-    /// them.
+    /// `undo_items` in a line with a gap, so that many changes cost no more than the distances
+    /// between them.
     fn undo_apart(
         &mut self,
         alloc: Global,
@@ -86,7 +85,7 @@ impl Changeset {
         Ok(undone)
     }
 
-    /// Takes the last `n` items back, and answers whether a step was among them.
+    /// Undoes the last `n` items, and returns whether a step was among them.
     fn undo_items<L: EditedLine>(
         &mut self,
         alloc: Global,
@@ -106,7 +105,7 @@ impl Changeset {
         Ok(undone)
     }
 
-    /// Takes the last item back, if there is one; true where it is a step.
+    /// Undoes the last item, if there is one. Returns true if it is a step.
     fn undo_item<L: EditedLine>(
         &mut self,
         alloc: Global,
@@ -128,9 +127,9 @@ impl Changeset {
         Ok(Some(!is_mark))
     }
 
-    /// Makes the item anew that was undone last, if there is one; true where it is a step. The
-    /// cursor goes after what its newest change puts in. After a refusal a part of the changes is
-    /// made, and nothing is recorded any more.
+    /// Redoes the item that was undone last, if there is one. Returns true if it is a step. The
+    /// cursor goes after the text that its newest change inserts. After an error some of the
+    /// changes are redone, and the record is empty.
     pub fn redo(&mut self, alloc: Global, line: &mut LineBuffer) -> Result<bool, OutOfMemory>
         requires { ItemsStand self.old line.old.text }
         ensures answer { IfOk result (λ b. b ≡ has_step_ahead (ahead_on self.old line.old.text)) }
@@ -156,7 +155,7 @@ impl Changeset {
         }
     }
 
-    /// `redo_item` in the line itself, or apart from it where there are many changes.
+    /// `redo_item` in the line itself, or in a line with a gap if there are many changes.
     fn redo_next(
         &mut self,
         alloc: Global,
@@ -176,7 +175,7 @@ impl Changeset {
         }
     }
 
-    /// `redo_item` by a line with a gap.
+    /// `redo_item` in a line with a gap.
     fn redo_apart(
         &mut self,
         alloc: Global,
@@ -192,7 +191,7 @@ impl Changeset {
         Ok(redone)
     }
 
-    /// Makes the nearest undone item anew, if there is one; true where it is a step.
+    /// Redoes the nearest undone item, if there is one. Returns true if it is a step.
     fn redo_item<L: EditedLine>(
         &mut self,
         alloc: Global,
@@ -212,7 +211,7 @@ impl Changeset {
         Ok(Some(!is_mark))
     }
 
-    /// Nothing is recorded any more.
+    /// Empties the record.
     fn forget(&mut self)
         ensures { self.new ≡ no_items }
     {

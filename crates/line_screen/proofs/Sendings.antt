@@ -27,7 +27,7 @@ module _ {D : Type 0} (held : D → List ℕ) (failed : D → Bool) where
   sends_to_cut Q column columns xs ys {a = a} {b = b} {r = Ok x} refused fails some = absurd refused
   sends_to_cut Q column columns xs ys {a = a} {b = b} {r = Err e} refused fails some = record { sends = sends_cut held failed Q xs ys {a = a} {b = b} {r = Err e} refused fails some; next = tt; inside = tt }
 
-  -- ---- a cluster: room for it, its text, and the end of a full row
+  -- ---- a cluster: a row that has space for it, its text, and the end of a full row
   module _ (columns width col : ℕ) (cluster : List ℕ) where
     abbrev room : List ℕ
     room = break_unless (nat_le (col + width) columns)

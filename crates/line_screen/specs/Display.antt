@@ -1,6 +1,6 @@
--- What bytes mean on a display: the part of ECMA-48 that a line editor sends. The display has rows
--- without end, each of so many columns, and `wide` says of a text whether it is one cluster that
--- can stand on it, and on how many columns.
+-- The meaning of bytes on a display: the part of ECMA-48 that a line editor sends. The display has
+-- unlimited rows of `columns` columns. `wide` says of a text whether it is one cluster that fits on
+-- a row, and how many columns it takes.
 use Rattle.std.specs.Prelude.{ℕ, ◌+◌, ◌-◌, ◌*◌, ◌==◌, nat_lt, nat_le, Bool, true, not, ◌&&◌, ◌||◌, List, [], ◌∷◌, ◌++◌, Option, Some, None, if◌then◌else◌}
 use Rattle.std.specs.List.{list_all, filter}
 use Rattle.line_buffer.specs.Cells.{origin}
@@ -9,15 +9,15 @@ pub use Rattle.line_buffer.specs.Printable.{is_printable}
 
 -- ---- cells
 
--- a cluster, the cell where it begins, and the number of its cells; every cell that no cluster
--- stands on is blank
+-- a cluster, the cell where it begins, and the number of its cells; every cell without a cluster is
+-- blank
 pub record Placed : Type 0 where
   pub row : ℕ
   pub col : ℕ
   pub width : ℕ
   pub bytes : List ℕ
 
--- the cursor stands after the last cell of its row where its column is the number of columns
+-- the cursor is after the last cell of its row if its column is the number of columns
 pub record Display : Type 0 where
   pub placed : List Placed
   pub cursor : Position
@@ -25,7 +25,7 @@ pub record Display : Type 0 where
 abbrev pub blank : Display
 blank = record { placed = []; cursor = origin }
 
--- a cluster stands in a place's row and ends at the place or before, or stands in a row above
+-- a cluster is in a place's row and ends at the place or before, or is in a row above
 abbrev pub ends_before : Position → Placed → Bool
 ends_before at p = nat_lt p.row at.row || ((p.row == at.row) && nat_le (p.col + p.width) at.col)
 
@@ -41,7 +41,7 @@ abbrev pub touches : Position → ℕ → Placed → Bool
 touches at width p =
     (p.row == at.row) && (nat_lt p.col (at.col + width) && nat_lt at.col (p.col + p.width))
 
--- ---- what a piece of text does
+-- ---- the effect of a piece of text
 
 abbrev pub right : ℕ → Position → Position
 right width at = record { col = at.col + width; row = at.row }
@@ -64,7 +64,7 @@ abbrev pub then_put : Option Display → (Display → Option Display) → Option
 then_put None f = None
 then_put (Some d) f = f d
 
--- a cell for each
+-- one cell for each
 abbrev pub put_letters : ℕ → List ℕ → Display → Option Display
 put_letters columns [] d = Some d
 put_letters columns (c ∷ cs) d = then_put (put_cells columns 1 (c ∷ []) d) (put_letters columns cs)
@@ -81,8 +81,8 @@ put_run columns wide run d =
 
 -- ---- bytes, one after the other
 
--- what was read: a display, and after it the run of text that is still open; then the sequence that
--- is begun, if one is. What has no meaning is lost, with all that follows.
+-- what was read: a display, and after it the run of text that is still open; or a sequence that
+-- isn't finished. If bytes have no meaning, neither has anything that follows.
 pub data DisplayReading : Type 0 where
   Text : (display : Display) (run : List ℕ) → DisplayReading
   Escape : (display : Display) → DisplayReading
@@ -90,14 +90,14 @@ pub data DisplayReading : Type 0 where
   Number : (display : Display) (count : ℕ) → DisplayReading
   Lost : DisplayReading
 
--- no control character of ASCII
+-- no ASCII control character
 abbrev pub is_text : ℕ → Bool
 is_text byte = nat_le 0x20 byte && not (byte == 0x7F)
 
 abbrev pub is_digit : ℕ → Bool
 is_digit byte = nat_le 0x30 byte && nat_le byte 0x39
 
--- a number is written without zeros at its front, so it is at least 1
+-- a number is written without leading zeros, so it is at least 1
 abbrev pub begins_number : ℕ → Bool
 begins_number byte = nat_le 0x31 byte && nat_le byte 0x39
 
@@ -107,8 +107,8 @@ at_cursor at d = record { placed = d.placed; cursor = at }
 abbrev pub is_inside : ℕ → Display → Bool
 is_inside columns d = nat_lt d.cursor.col columns
 
--- CR goes to the row's start, LF a row down, BEL changes nothing; after the last cell only CR may
--- come, and ESC
+-- CR goes to the row's start, LF a row down, BEL changes nothing; after the last cell only CR or
+-- ESC may come
 abbrev pub after_control : ℕ → Display → ℕ → DisplayReading
 after_control columns d byte =
     if byte == 0x0D then Text (at_cursor (record { col = 0; row = d.cursor.row }) d) []
@@ -121,15 +121,16 @@ after_control columns d byte =
 abbrev pub stays_in_row : Position → Placed → Bool
 stays_in_row at p = not (p.row == at.row) || nat_le (p.col + p.width) at.col
 
--- what a place leaves, if it is inside no cluster
+-- the display after an erasure, if the cursor is inside no cluster
 abbrev pub erased : (Position → Placed → Bool) → Display → DisplayReading
 erased stays d =
     if list_all (λ p. not (is_cut d.cursor p)) d.placed
     then Text (record { placed = filter (stays d.cursor) d.placed; cursor = d.cursor }) []
     else Lost
 
--- ESC [ m (SGR) changes no cell; ESC [ J (ED) leaves all that begins before the cursor, and
--- ESC [ K (EL) all but what ends after it in its row; ESC [ H (CUP) goes to the first cell
+-- ESC [ m (SGR) changes no cell. ESC [ J (ED) keeps everything that begins before the cursor. ESC [
+-- K (EL) keeps everything except what ends after the cursor in its row. ESC [ H (CUP) goes to the
+-- first cell
 abbrev pub plain_sequence : ℕ → Display → ℕ → DisplayReading
 plain_sequence columns d byte =
     if byte == 0x6D then Text d []
@@ -139,8 +140,8 @@ plain_sequence columns d byte =
     else if byte == 0x48 then Text (at_cursor origin d) []
     else Lost
 
--- ESC [ n A (CUU) up, B (CUD) down, C (CUF) right, D (CUB) left, staying inside; rows have no last
--- one
+-- ESC [ n A (CUU) up, B (CUD) down, C (CUF) right, D (CUB) left, without leaving the display; there
+-- is no last row
 abbrev pub moves_inside : ℕ → Position → ℕ → ℕ → Bool
 moves_inside columns at count final =
     if final == 0x41 then nat_le count at.row
@@ -188,11 +189,11 @@ settled columns wide reading = None
 abbrev pub start : DisplayReading
 start = Text blank []
 
--- what bytes mean on a display that was blank, where they mean something
+-- the meaning of bytes on a blank display, if they have one
 abbrev pub meaning : ℕ → (List ℕ → Option ℕ) → List ℕ → Option Display
 meaning columns wide bytes = settled columns wide (read columns wide start bytes)
 
--- a cell of a display: blank, the first one of a cluster, or a further one
+-- a cell of a display: blank, the first of a cluster, or a further one
 pub data Cell : Type 0 where
   Blank : Cell
   Head : (bytes : List ℕ) → Cell

@@ -1,4 +1,4 @@
-//! Drawing straight to a sink: each function writes its bytes and keeps nothing.
+//! Drawings, written straight to a sink: each function writes its bytes and stores nothing.
 
 pub(crate) mod sequences;
 pub(crate) mod text;

@@ -1,4 +1,4 @@
-//! The terminal's two sides: bytes to keys, and drawings to bytes with what they mean on a display.
+//! The terminal: bytes become keys, and drawings become bytes with a meaning on a display.
 #![tactic(auto)]
 
 mod characters;

@@ -12,11 +12,11 @@ use line_config::{BellStyle, DeviceFailed, ReadlineError, Sink};
 use line_editor::Renderer;
 use line_help::Highlighter;
 
-/// Draws a line on rows of so many columns by writing to a sink.
+/// Draws a line on rows of cells by writing to a sink.
 ///
-/// A call writes its bytes piece by piece, keeps none of them and takes no memory. One that writes
-/// flushes the sink at its end. It answers `Display` where the sink failed, and nowhere else; the
-/// sink has then taken a beginning of the call's bytes.
+/// A call writes its bytes piece by piece, stores none of them and takes no memory. A call that
+/// writes flushes the sink at its end. It returns `Display` if the sink fails, and only then; the
+/// sink has then taken a prefix of the call's bytes.
 #[derive(Drop)]
 pub struct ScreenRenderer<D> {
     sink: D,
@@ -25,7 +25,7 @@ pub struct ScreenRenderer<D> {
 }
 
 impl<D: Sink> ScreenRenderer<D> {
-    /// A screen of so many columns. Nothing is written.
+    /// A screen with `columns` columns. Nothing is written.
     pub fn new(
         sink: D,
         columns: Unit,
@@ -48,7 +48,7 @@ impl<D: Sink> ScreenRenderer<D> {
         }
     }
 
-    /// From now on rows have so many columns. Nothing is written.
+    /// Sets the number of columns for further calls. Nothing is written.
     pub fn set_columns(&mut self, columns: Unit)
         requires low { 2 ≤ columns }
         requires high { columns ≤ 1000 }
@@ -77,12 +77,12 @@ impl<D: Sink> ScreenRenderer<D> {
 impl<D: Sink + Drop> Renderer for ScreenRenderer<D> {
     ghost canvas = { canvas_of D.held D.waits D.has_failed };
 
-    /// Writes nothing where the two cells are one.
+    /// Writes nothing if the two cells are the same.
     fn move_cursor(&mut self, old: Position, new: Position) -> Result<(), ReadlineError> {
         answer(go(&mut self.sink, old, new))
     }
 
-    /// There are no colours, so no highlighter is asked.
+    /// There are no colours, so the highlighter isn't called.
     fn refresh_line<H: Highlighter>(
         &mut self,
         prompt: &str,
@@ -108,7 +108,7 @@ impl<D: Sink + Drop> Renderer for ScreenRenderer<D> {
         answer(send_flushed(&mut self.sink, text.as_bytes()))
     }
 
-    /// Sounds the bell, where the screen is to be heard.
+    /// Rings the bell, if the screen is audible.
     fn beep(&mut self) -> Result<(), ReadlineError> {
         match self.bell_style {
             BellStyle::Audible => answer(send_flushed(&mut self.sink, b"\x07")),
@@ -129,7 +129,7 @@ impl<D: Sink + Drop> Renderer for ScreenRenderer<D> {
         answer(send_flushed(&mut self.sink, b"\x1B[K"))
     }
 
-    /// The bytes of both go out together.
+    /// The bytes of both are passed on together.
     fn move_and_clear_to_eol(&mut self, old: Position, new: Position) -> Result<(), ReadlineError> {
         answer(move_and_erase(&mut self.sink, old, new))
     }
@@ -139,14 +139,14 @@ impl<D: Sink + Drop> Renderer for ScreenRenderer<D> {
         Ok(())
     }
 
-    /// The size is as it was given.
+    /// The size stays as it was given.
     fn update_size(&mut self) {}
 
     fn get_columns(&self) -> Unit {
         self.grid.columns
     }
 
-    /// As many rows as can be counted, 65,535: there is no last one.
+    /// The most rows that can be counted, 65,535: there is no last row.
     fn get_rows(&self) -> Unit {
         Unit::MAX
     }
@@ -175,7 +175,7 @@ impl<D: Sink + Drop> Renderer for ScreenRenderer<D> {
     }
 }
 
-/// The display's refusal in the place of its device's.
+/// The display's error in place of its device's.
 fn answer(done: Result<(), DeviceFailed>) -> Result<(), ReadlineError>
     ensures { result ≡ display_answer done }
 {

@@ -1,5 +1,5 @@
-//! What `line_buffer` promises, at work: tables of text in which each row is a call on a line, with what it answers, the
-//! line then, and what its listener is told.
+//! The promises of `line_buffer` at work. In the tables of text each row is a call on a line, with
+//! its answer, the line then, and the events for its listener.
 
 mod arguments;
 mod columns;

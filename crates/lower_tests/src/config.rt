@@ -1,5 +1,5 @@
-//! What `line_config` promises, at work: its devices over readers and writers that give and take in pieces or fail, and
-//! tables of its settings and texts.
+//! The promises of `line_config` at work: its devices over readers and writers that transfer pieces
+//! or fail, and tables of its settings and texts.
 
 mod devices;
 mod settings;

@@ -1,5 +1,5 @@
-//! Tests of the four lowest libraries, each in a module of its own: texts, the undo record and the kill ring,
-//! settings and devices, keys and the commands that they give.
+//! Tests of the four lowest libraries, each in its own module: texts, the undo record and the kill
+//! ring, settings and devices, keys and their commands.
 #![tactic(auto)]
 
 #[cfg(test)]

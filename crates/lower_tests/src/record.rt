@@ -1,4 +1,5 @@
-//! What `line_record` promises, at work: tables of text in which each row is a call, with what it answers and leaves.
+//! The promises of `line_record` at work: tables of text in which each row is a call, with its
+//! answer and what it leaves.
 
 mod changes;
 mod ring;

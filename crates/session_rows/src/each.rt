@@ -1,4 +1,5 @@
-//! Sessions of which all that they leave is told. The word `reads:` says what a reader does at its calls, as `reads:2,1..`.
+//! Sessions whose results are all written out. The word `reads:` says what a reader does at its
+//! calls, as `reads:2,1..`.
 
 ghost use Rattle.std.specs.Prelude.{◌≡◌, false};
 
@@ -17,7 +18,7 @@ fn put_bytes(said: &mut String, bytes: &[u8]) -> Result<(), AllocError> {
     Ok(())
 }
 
-/// Tells how a session ended, its lines, the text of its history and the bytes of its display.
+/// Writes how a session ended, its lines, the text of its history and the bytes of its display.
 fn tell_left(said: &mut String, left: &Left) -> Result<(), AllocError> {
     let ending = left.ending;
     write!(said, "{ending:?}")?;
@@ -27,7 +28,7 @@ fn tell_left(said: &mut String, left: &Left) -> Result<(), AllocError> {
     said.push_str("\n")
 }
 
-/// What a reader with these turns does at its calls: a comma stands for a blank.
+/// The turns of a reader: a comma stands for a blank.
 fn turns_of(alloc: Global, words: &str) -> Result<String, AllocError> {
     let mut turns = String::new(alloc);
     for c in words.chars() {
@@ -36,7 +37,7 @@ fn turns_of(alloc: Global, words: &str) -> Result<String, AllocError> {
     Ok(turns)
 }
 
-/// What a session over a reader with these keys and turns leaves.
+/// The result of a session over a reader with these keys and turns.
 fn left_of_reads<'r>(
     alloc: Global,
     setting: &Setting<'_>,
@@ -65,9 +66,10 @@ fn tell_row(
     }
 }
 
-/// Tells of each session of rows with these settings, in a line each: its ending, and after points in hexadecimal its lines,
-/// the text of its history and the bytes of its display; or why it wasn't opened. Memory that is wanting for a row's keys,
-/// or for what is told, is no session's refusal, but the call's own.
+/// The results of each session of rows with these settings, one line each. A line has the ending,
+/// the lines, the text of the history and the bytes of the display, separated by points and all but
+/// the ending in hexadecimal. Or it says why the session wasn't opened. If memory runs out for a
+/// row's keys or for the results, that is no error of a session but the call's own.
 pub fn told_of_each(alloc: Global, settings: &str, rows: &str) -> Result<String, AllocError> {
     let setting = setting_of(settings);
     let mut said = String::new(alloc);

@@ -1,5 +1,5 @@
-//! What plays whole sessions that stand as rows of text. A row is played over memory, by `run` and by
-//! `read_line`, and over a reader that gives a byte at a read.
+//! Plays whole sessions written as rows of text. A row is played over memory, by `run` and by
+//! `read_line`, and over a reader that gives one byte per read.
 #![tactic(auto)]
 
 pub mod each;

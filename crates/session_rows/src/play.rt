@@ -1,4 +1,4 @@
-//! Sessions, and what came of them.
+//! Sessions, and their results.
 
 ghost use Rattle.std.specs.Prelude.{◌≡◌, false};
 
@@ -21,7 +21,7 @@ use stand_ins::tray::Tray;
 use std::alloc::{AllocError, Global};
 use std::cell::Cell;
 
-/// What a session over sinks in memory left.
+/// The result of a session over sinks in memory.
 #[derive(Drop)]
 pub struct Left {
     pub ending: Ending,
@@ -40,7 +40,7 @@ fn config_of(setting: &Setting<'_>) -> Result<Config, ReadlineError> {
     Ok(config)
 }
 
-/// The texts that a session is opened with.
+/// The texts with which a session is opened.
 #[derive(Drop)]
 struct Opening {
     loaded: Vec<u8>,
@@ -55,7 +55,7 @@ fn opening_of(alloc: Global, setting: &Setting<'_>) -> Result<Opening, ReadlineE
     })
 }
 
-/// How a session takes keys.
+/// How a session gets its keys.
 #[derive(Drop)]
 struct Keyed {
     config: Config,
@@ -70,7 +70,7 @@ fn keyed_by(alloc: Global, setting: &Setting<'_>) -> Result<Keyed, ReadlineError
     })
 }
 
-/// What a session is begun with, besides its devices.
+/// What a session is opened with, besides its devices.
 #[derive(Drop)]
 struct Begun {
     opening: Opening,
@@ -91,7 +91,8 @@ fn begun_with(alloc: Global, setting: &Setting<'_>) -> Result<Begun, ReadlineErr
     })
 }
 
-/// A session to its ending, by `read_line` and `finish`. Each line that is handed back is put into `handed`.
+/// A session to its ending, by `read_line` and `finish`. Each returned line is appended to
+/// `handed`.
 fn asked<H: Helper, S: Source + Drop, D: Sink + Drop, L: Sink + Drop, T: Sink + Drop, B: Decides>(
     session: Session<S, H, D, L, T, B>,
     prompt: &str,
@@ -114,7 +115,7 @@ where
     Ok(session.finish(ReadlineError::Eof))
 }
 
-/// Puts a line, or answers why there is none.
+/// Appends a line, or returns why there is none.
 fn put_read(
     lines: &mut Vec<u8>,
     read: Result<String, ReadlineError>,
@@ -151,7 +152,7 @@ where
     requires lines { L.has_failed lines ≡ false }
     requires text { T.has_failed text ≡ false }
 {
-    // Handlers are boxed here: a function that handed them out could promise nothing of them.
+    // Handlers are boxed here: a function that returned them could promise nothing about them.
     let mut bindings = Bindings::new(alloc)?;
     for bound in keyed.bound {
         let Bound { event, action } = bound;
@@ -181,7 +182,8 @@ where
     }
 }
 
-/// A session over these devices, to its ending, and what was handed back of it; or why none was opened.
+/// A session over these devices, to its ending, and the lines that it returned; or why none was
+/// opened.
 fn handed_back<S: Source + Drop, D: Sink + Drop, L: Sink + Drop, T: Sink + Drop>(
     alloc: Global,
     setting: &Setting<'_>,
@@ -231,8 +233,8 @@ pub fn ended<S: Source + Drop, D: Sink + Drop, L: Sink + Drop, T: Sink + Drop>(
     handed_back(alloc, setting, source, display, lines, text, &mut handed)
 }
 
-/// Tells of the lines that were handed back too, where they aren't those that the sink of lines holds, but for one that it
-/// tore. Where they are, and of a session that was run, no memory is taken.
+/// Also writes the returned lines, if they differ from those in the sink of lines, except for one
+/// that a failure cut. If they don't differ, and for a session that was run, it takes no memory.
 fn tell_handed(setting: &Setting<'_>, left: &mut Left, handed: &[u8]) -> Result<(), AllocError> {
     let torn = left.ending == Ending::Lines && left.lines.as_slice().starts_with(handed);
     let same = left.lines.as_slice() == handed;
@@ -243,7 +245,7 @@ fn tell_handed(setting: &Setting<'_>, left: &mut Left, handed: &[u8]) -> Result<
     left.lines.extend_from_slice(handed)
 }
 
-/// What a session left in sinks that fail.
+/// The result of a session over sinks that fail.
 fn left_in_trays<S: Source + Drop>(
     alloc: Global,
     setting: &Setting<'_>,
@@ -265,7 +267,7 @@ fn left_in_trays<S: Source + Drop>(
     Ok(left)
 }
 
-/// What stands after a session, copied.
+/// What a session leaves, copied.
 pub fn copied(
     alloc: Global,
     ending: Ending,
@@ -284,8 +286,8 @@ pub fn copied(
     })
 }
 
-/// What a session over a source of keys left. Over sinks that don't fail nothing of it is copied: of a session that is run,
-/// memory can be wanting before a key is read, and not after that.
+/// The result of a session over a source of keys. Over sinks that don't fail nothing of it is
+/// copied: for a session that is run, memory can run out before a key is read, but not after that.
 pub fn left_of<S: Source + Drop>(
     alloc: Global,
     setting: &Setting<'_>,
@@ -314,7 +316,7 @@ pub fn left_of<S: Source + Drop>(
     Ok(left)
 }
 
-/// What was left, in words.
+/// A result, in words.
 fn told(alloc: Global, left: &Left) -> Result<String, AllocError> {
     let lines = pictured_bytes(alloc, &left.lines)?;
     let saved = pictured_bytes(alloc, &left.saved)?;
@@ -323,7 +325,7 @@ fn told(alloc: Global, left: &Left) -> Result<String, AllocError> {
     format!(in alloc; "{lines} | ends {ending:?} | saves {saved} | shows {shown}")
 }
 
-/// Whether it is what a row says. Where lines aren't added to the history, nothing is saved.
+/// Whether it is what a row says. If lines aren't added to the history, nothing must be saved.
 fn is_wanted(
     alloc: Global,
     setting: &Setting<'_>,
@@ -352,7 +354,7 @@ fn shows(alloc: Global, left: &Left, row: Row<'_>) -> Result<bool, AllocError> {
     }
 }
 
-/// What the keys of a row leave over memory.
+/// The result of a row's keys over memory.
 fn left_over_memory(
     alloc: Global,
     setting: &Setting<'_>,
@@ -366,7 +368,7 @@ fn left_over_memory(
     left_of(alloc, setting, source)
 }
 
-/// A byte at each of so many reads, and then none but a failure; or a byte at each read.
+/// One byte at each of so many reads, and then only a failure; or one byte at each read.
 fn turns_of(alloc: Global, broken: Option<usize>) -> Result<String, AllocError> {
     let Some(count) = broken else {
         return String::from_str(alloc, "1..");
@@ -379,7 +381,7 @@ fn turns_of(alloc: Global, broken: Option<usize>) -> Result<String, AllocError> 
     Ok(turns)
 }
 
-/// What the keys of a row leave that are read a byte at a time.
+/// The result of a row's keys, read one byte at a time.
 fn left_by_reads(alloc: Global, setting: &Setting<'_>, keys: &str) -> Result<Left, ReadlineError> {
     let keys = typed(alloc, keys)?;
     let broken = faults_of(setting.all).keys;
@@ -392,7 +394,7 @@ fn left_by_reads(alloc: Global, setting: &Setting<'_>, keys: &str) -> Result<Lef
     left_of(alloc, setting, ReadSource::new(reader))
 }
 
-/// What was found, where it isn't what the row says.
+/// The result, if it isn't what the row says.
 fn unless_wanted(
     alloc: Global,
     setting: &Setting<'_>,
@@ -405,8 +407,8 @@ fn unless_wanted(
     Ok(Some(told(alloc, left)?))
 }
 
-/// Plays a row over memory, by `run` and by `read_line`, and then a byte at a read; what was found, where it isn't what the
-/// row says.
+/// Plays a row over memory, by `run` and by `read_line`, and then one byte per read. Returns the
+/// result if it isn't what the row says.
 fn differs(
     alloc: Global,
     setting: &Setting<'_>,
@@ -423,12 +425,12 @@ fn differs(
     Ok(unless_wanted(alloc, setting, &left, row)?)
 }
 
-/// What came of the sessions of a table.
+/// The result of a table's sessions.
 #[derive(Drop)]
 pub struct Played {
-    /// How many sessions were played.
+    /// The number of sessions played.
     pub count: usize,
-    /// Each row whose session differs from what it says, with what was found.
+    /// Each row whose session differs from what it says, with the result.
     pub told: String,
 }
 

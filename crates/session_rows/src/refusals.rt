@@ -1,6 +1,6 @@
-//! Sessions in which each byte that is read, each write and each flush fails in turn, until none is met; and sessions of
-//! which a growth is refused. What stands then is held against the whole session, and a next one is run over what came
-//! back.
+//! Sessions in which each read of a byte, each write and each flush fails in turn, until no call is
+//! left; and sessions with a failed allocation. The result is compared with that of the whole
+//! session, and a next session is run over the returned devices.
 
 ghost use Rattle.std.specs.Prelude.{◌≡◌, false};
 
@@ -12,13 +12,13 @@ use stand_ins::sources::Faltering;
 use stand_ins::tray::Tray;
 use std::alloc::Global;
 
-/// What a session over devices of the tests left.
+/// The result of a session over devices of the tests.
 type Left<'a> = Ended<Faltering<'a>, Tray, Tray, Tray>;
 
 /// More calls than any of the sessions makes.
 const MOST: usize = 1000;
 
-/// What fails in a session.
+/// A device that fails.
 #[derive(Clone, Copy)]
 enum Device {
     Keys,
@@ -30,7 +30,7 @@ enum Device {
 const DEVICES: [Device; 4] = [Device::Keys, Device::Display, Device::Lines, Device::Text];
 
 impl Device {
-    /// This device fails at a call.
+    /// The device fails at this call.
     fn failing_at(self, call: usize) -> Faults {
         let call = Some(call);
         match self {
@@ -53,7 +53,7 @@ impl Device {
         }
     }
 
-    /// What a session ends with where it fails.
+    /// The ending of a session in which it fails.
     fn ending(self) -> Ending {
         match self {
             Device::Keys => Ending::Reader,
@@ -64,7 +64,7 @@ impl Device {
     }
 }
 
-/// A session over keys, some of whose devices fail.
+/// A session over keys, with some devices that fail.
 fn tried<'a>(
     alloc: Global,
     setting: &Setting<'_>,
@@ -84,22 +84,23 @@ fn rows_in(text: &[u8]) -> usize {
     count
 }
 
-/// Whether a text ends where a row does.
+/// Whether a text ends at a row's end.
 fn is_of_rows(text: &[u8]) -> bool {
     text.is_empty() || text.ends_with(b"\n")
 }
 
-/// How many entries a setting has loaded.
+/// The number of entries that a setting loads.
 fn loaded_by(setting: &Setting<'_>) -> usize {
     setting.loaded.split('␊').count().saturating_sub(2)
 }
 
-/// What follows a line, where a text begins with it.
+/// The text after a line, if it begins with that.
 fn behind_line<'t>(text: &'t [u8], line: &str) -> Option<&'t [u8]> {
     text.strip_prefix(line.as_bytes())?.strip_prefix(b"\n")
 }
 
-/// Whether a history has what it had, and of these lines each, and then one more at most, of which a part may stand.
+/// Whether a history has its old entries and each of these lines, and after them at most one more,
+/// which may be written in part.
 fn keeps(history: &FileHistory, loaded: usize, lines: &[u8]) -> bool {
     let mut left = lines;
     let mut is_over = false;
@@ -121,7 +122,7 @@ fn keeps(history: &FileHistory, loaded: usize, lines: &[u8]) -> bool {
     left.is_empty()
 }
 
-/// Whether the rows of the history were saved once, where any is new.
+/// Whether the rows of the history were saved once, if any is new.
 fn saved_once(left: &Left<'_>, loaded: usize) -> bool {
     let entries = left.history.len();
     let wanted = if entries > loaded {
@@ -132,7 +133,7 @@ fn saved_once(left: &Left<'_>, loaded: usize) -> bool {
     rows_in(left.text.bytes()) == wanted
 }
 
-/// Whether a device was asked for more after it had failed.
+/// Whether a device was called after it had failed.
 fn was_asked_again(left: &Left<'_>) -> bool {
     left.source.asked_again()
         || left.display.asked_again()
@@ -140,7 +141,7 @@ fn was_asked_again(left: &Left<'_>) -> bool {
         || left.text.asked_again()
 }
 
-/// What is wrong with what a session left that a fault cut short, if anything.
+/// What is wrong with the result of a session that a fault cut short, if anything.
 fn wrong_in(setting: &Setting<'_>, whole: &Left<'_>, cut: &Left<'_>) -> Option<&'static str> {
     let loaded = loaded_by(setting);
     if !whole.display.bytes().starts_with(cut.display.bytes()) {
@@ -174,7 +175,7 @@ fn sound(sink: Tray) -> Tray
     if sink.failed() { sink_of(None) } else { sink }
 }
 
-/// What of the keys is left to come, with what was read ahead.
+/// The keys that remain, with what was read ahead.
 fn to_come<'a>(keys: &'a [u8], left: &Left<'_>) -> &'a [u8] {
     let count = left
         .source
@@ -184,7 +185,7 @@ fn to_come<'a>(keys: &'a [u8], left: &Left<'_>) -> &'a [u8] {
     &keys[keys.len().saturating_sub(count)..]
 }
 
-/// Whether a further line is kept and saved.
+/// Whether one more line is added to the history and saved.
 fn keeps_a_line(alloc: Global, history: &mut FileHistory) -> Result<bool, ReadlineError> {
     let mut text = sink_of(None);
     let added = history.add(alloc, "a further line")?;
@@ -192,7 +193,7 @@ fn keeps_a_line(alloc: Global, history: &mut FileHistory) -> Result<bool, Readli
     Ok(added && rows_in(text.bytes()) == history.len().saturating_add(1))
 }
 
-/// A session over these keys and the devices that came back.
+/// A session over these keys and the returned devices.
 fn next_over<'a>(
     alloc: Global,
     setting: &Setting<'_>,
@@ -211,7 +212,7 @@ fn ends_as(next: &Left<'_>, alone: &Left<'_>) -> bool {
         && next.text.bytes().ends_with(alone.text.bytes())
 }
 
-/// Whether a session did as one over new devices.
+/// Whether a session did the same as one over new devices.
 fn did_as_new(
     alloc: Global,
     setting: &Setting<'_>,
@@ -222,7 +223,7 @@ fn did_as_new(
     Ok(ends_as(next, &alone))
 }
 
-/// Whether a next session over the devices that came back does as one over new devices.
+/// Whether a next session over the returned devices does the same as one over new devices.
 fn goes_on(
     alloc: Global,
     setting: &Setting<'_>,
@@ -234,7 +235,7 @@ fn goes_on(
     did_as_new(alloc, setting, keys, &next)
 }
 
-/// What is wrong with what such a session left, and with its history as it goes on.
+/// What is wrong with the result of such a session, and with its history as it is used further.
 fn wrong_before_the_next(
     alloc: Global,
     setting: &Setting<'_>,
@@ -251,15 +252,15 @@ fn wrong_before_the_next(
     }
 }
 
-/// What came of a session with a fault in it.
+/// The result of a session with a fault in it.
 enum Came {
-    /// The fault wasn't met, and the session is the whole one.
+    /// The fault didn't occur, and the session is the whole one.
     Whole,
     Right,
     Wrong(&'static str),
 }
 
-/// What comes after a session that a fault cut short.
+/// The result after a session that a fault cut short.
 fn came_after(
     alloc: Global,
     setting: &Setting<'_>,
@@ -277,7 +278,7 @@ fn came_after(
     }
 }
 
-/// What came of a session that ended as the whole one.
+/// The result of a session that ended like the whole one.
 fn came_whole(whole: &Left<'_>, again: &Left<'_>) -> Came {
     let is_same = again.display.bytes() == whole.display.bytes()
         && again.lines.bytes() == whole.lines.bytes()
@@ -308,8 +309,8 @@ fn play_failing(
     came_after(alloc, setting, keys, whole, cut)
 }
 
-/// Has each call of a device fail in turn, until none does; and tells of the first that isn't right. It answers how many
-/// failed.
+/// Makes each call of a device fail in turn, until none does, and writes the first wrong result.
+/// Returns how many failed.
 fn play_each(
     alloc: Global,
     setting: &Setting<'_>,
@@ -333,7 +334,7 @@ fn play_each(
     Ok(MOST)
 }
 
-/// Has each call of each device fail in turn. It answers how many failed, and tells what isn't right.
+/// Makes each call of each device fail in turn. Returns how many failed, and writes what is wrong.
 fn play_row(
     alloc: Global,
     setting: &Setting<'_>,
@@ -373,7 +374,8 @@ fn play_text(
     Ok(())
 }
 
-/// Plays the sessions of rows with these settings, each call of each device failing in turn. They are counted by calls.
+/// Plays the sessions of rows with these settings, with each call of each device failing in turn.
+/// They are counted by calls.
 pub fn play_refused(alloc: Global, settings: &str, rows: &str) -> Result<Played, ReadlineError> {
     let setting = setting_of(settings);
     let mut played = Played {
@@ -386,15 +388,16 @@ pub fn play_refused(alloc: Global, settings: &str, rows: &str) -> Result<Played,
     Ok(played)
 }
 
-/// Plays a session of which a growth may be refused, and says in a word what came of it: `done` where none was, `refused`
-/// where one was, `not judged` where one was before or after it, or else what is wrong.
+/// Plays a session in which an allocation may fail, and returns the result in a word. It is `done`
+/// if none failed, `refused` if one did, `not judged` if one failed before or after it, or else
+/// what is wrong.
 pub fn play_grown(alloc: Global, settings: &str, row: &str) -> &'static str {
     match grown(alloc, &setting_of(settings), row) {
         Ok(Came::Whole) => "done",
         Ok(Came::Right) => "refused",
         Ok(Came::Wrong(wrong)) => wrong,
         Err(ReadlineError::Memory) => "not judged",
-        Err(_) => "a refusal by another name",
+        Err(_) => "an error by another name",
     }
 }
 
@@ -414,7 +417,7 @@ fn grown_over(alloc: Global, setting: &Setting<'_>, keys: &[u8]) -> Result<Came,
     grown_again(alloc, setting, keys, &whole)
 }
 
-/// Plays the session again, as the whole one or cut short by a growth.
+/// Plays the session again, whole or cut short by a failed allocation.
 fn grown_again(
     alloc: Global,
     setting: &Setting<'_>,

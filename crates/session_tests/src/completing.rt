@@ -1,4 +1,4 @@
-//! Names of files completed at the keys, over a lister of the tests.
+//! Completion of file names with keys, over a lister for tests.
 
 ghost use Rattle.std.specs.Prelude.{[], ◌∷◌, false, if◌then◌else◌, bytes_eq, codes};
 ghost use Rattle.line_keys.specs.Replies.{gives_unless};
@@ -14,7 +14,8 @@ use stand_ins::tables::meant_bytes;
 use std::alloc::Global;
 use std::test::Fail;
 
-/// A folder with one file, whose name has a space in it. Another one fails to be listed, and for a third memory is wanting.
+/// A folder with one file, whose name has a space in it. Another folder can't be listed, and for a
+/// third one memory runs out.
 #[derive(Drop)]
 struct Folder;
 
@@ -42,7 +43,7 @@ impl Lister for Folder {
     }
 }
 
-// What a session over these keys leaves where names of that folder complete.
+// The result of a session over these keys, with completion of names in that folder.
 fn left_of(alloc: Global, keys: &[u8]) -> Result<Left, ReadlineError> {
     let helper = HelperParts {
         completer: FilenameCompleter::new(Folder),
@@ -72,7 +73,7 @@ fn left_of(alloc: Global, keys: &[u8]) -> Result<Left, ReadlineError> {
     })
 }
 
-/// Types each row's keys. A row may have the display behind a bar.
+/// Types each row's keys. A row may have the display after a bar.
 #[derive(Drop)]
 struct Typed;
 
@@ -101,7 +102,7 @@ fn paths_with_a_space(rt: HostRuntime) -> Result<(), Fail> {
     rows_hold(rt.alloc(), &mut Typed, rows)
 }
 
-/// The lines before stand, and of the one in hand nothing more is drawn.
+/// The lines before stay, and nothing more of the current one is drawn.
 #[test]
 fn folders_that_cannot_be_listed(rt: HostRuntime) -> Result<(), Fail> {
     let rows = "

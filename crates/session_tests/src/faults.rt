@@ -1,4 +1,4 @@
-//! Devices that fail: the ending, and what stands before it.
+//! Failing devices: the ending, and what was done before it.
 
 ghost use Rattle.std.specs.Prelude.{◌≡◌, false};
 
@@ -16,7 +16,7 @@ use std::alloc::{AllocError, Global};
 use std::process::Abort;
 use std::test::Fail;
 
-/// Sessions over sources that fail later and later: the keys until then, and what is drawn of them.
+/// Sessions over sources that fail later and later: the keys until then, and their drawings.
 #[derive(Drop)]
 struct Cut {
     keys: String,
@@ -24,7 +24,7 @@ struct Cut {
 }
 
 impl Cut {
-    /// Types a row's key: what it draws stands after the bar.
+    /// Types a row's key: its drawing comes after the bar.
     fn type_key(&mut self, alloc: Global, row: &str) -> Result<(), AllocError> {
         let (key, drawn) = row.split_once(" | ").unwrap_or((row, ""));
         let key = meant(alloc, field(key))?;
@@ -32,14 +32,14 @@ impl Cut {
         self.shown.push_str(field(drawn))
     }
 
-    /// What a session leaves over a source that says where it fails.
+    /// The result of a session over a source that says where it fails.
     fn steady(&self, alloc: Global) -> Result<String, Fail> {
         let source = SliceSource::failing_after(self.keys.as_bytes());
         let left = left_of(alloc, &plain(), source)?;
         Ok(told(alloc, &left, self.shown.as_str())?)
     }
 
-    /// What one leaves over a source of more bytes that fails at some call.
+    /// The result of a session over a source of more bytes that fails at some call.
     fn faltering(&self, alloc: Global) -> Result<String, Fail> {
         let further = format!(in alloc; "{}\rab\r", self.keys)?;
         let source = Faltering::failing_at(further.as_bytes(), self.keys.len());
@@ -57,7 +57,7 @@ impl Player for Cut {
     }
 }
 
-/// What both sources lead to, where they lead to the same.
+/// The result with both sources, if it is the same.
 fn both_told(alloc: Global, steady: &str, faltering: &str) -> Result<String, AllocError> {
     if steady == faltering {
         String::from_str(alloc, steady)
@@ -66,7 +66,7 @@ fn both_told(alloc: Global, steady: &str, faltering: &str) -> Result<String, All
     }
 }
 
-/// A byte that is read, what is then drawn, and the ending and what lines are written by then.
+/// A byte of the input, the drawing for it, and the ending and the lines written by then.
 #[test]
 fn source_that_fails_after_each_byte(rt: HostRuntime) -> Result<(), Fail> {
     let rows = "
@@ -93,7 +93,8 @@ const TWO_LINES: &[u8] = b"ab\rcd\r";
 /// A drawing or a row's end for each piece.
 const TWO_LINES_SHOWN: &str = "{} a b ␍␊ {} c d ␍␊ {} ␍␊";
 
-/// What a session over two lines leaves in these sinks, and whether its display failed in a flush.
+/// The result of a session over two lines with these sinks, and whether its display failed in a
+/// flush.
 fn two_lines_into(alloc: Global, display: Tray, lines: Tray) -> Result<(Left, bool), ReadlineError>
     requires display { ⟦<Tray as Sink>⟧.has_failed display ≡ false }
     requires lines { ⟦<Tray as Sink>⟧.has_failed lines ≡ false }
@@ -105,7 +106,7 @@ fn two_lines_into(alloc: Global, display: Tray, lines: Tray) -> Result<(Left, bo
     Ok((left, end.display.failed_in_flush()))
 }
 
-/// A sink with room for all.
+/// A sink with enough space.
 fn roomy() -> Tray
     ensures { ⟦<Tray as Sink>⟧.has_failed result ≡ false }
 {
@@ -121,7 +122,8 @@ fn first_pieces(alloc: Global, count: usize) -> Result<Vec<u8>, AllocError> {
     Ok(bytes)
 }
 
-/// The lines that stand where so many display bytes have passed: a line stands where its row's end has.
+/// The lines written after so many display bytes were passed on: a line is written if its row's end
+/// was.
 fn lines_after(alloc: Global, passed: usize) -> Result<&'static [u8], AllocError> {
     if passed < first_pieces(alloc, 4)?.len() {
         return Ok(b"");
@@ -132,8 +134,8 @@ fn lines_after(alloc: Global, passed: usize) -> Result<&'static [u8], AllocError
     Ok(b"ab\ncd\n")
 }
 
-/// Whether a session whose display failed has drawn the first bytes, and written the lines for them. A line stands where
-/// the flush after its drawing's end has passed.
+/// Whether a session whose display failed has drawn the first bytes, and written the lines for
+/// them. A line is written if the flush after its drawing's end succeeded.
 fn is_cut(alloc: Global, left: &Left, in_flush: bool) -> Result<bool, AllocError> {
     let taken = left.shown.as_slice();
     let passed = taken.len().saturating_sub(usize::from(in_flush));
@@ -161,7 +163,8 @@ fn is_whole(alloc: Global, left: &Left) -> Result<bool, AllocError> {
     Ok(left.shown == all && left.lines.as_slice() == b"ab\ncd\n".as_slice())
 }
 
-/// Sees that a session has drawn and written all, or what it may have where its display failed at a call.
+/// Checks that a session has drawn and written everything, or what it may have if its display
+/// failed at a call.
 fn whole_or_cut(
     rt: &(impl AllocGlobal + Abort),
     left: &Left,
@@ -176,7 +179,8 @@ fn whole_or_cut(
     Ok(Some(in_flush))
 }
 
-/// A session whose display fails at a call: whether that was a flush, or `None` where the session ends before it.
+/// A session whose display fails at a call. Returns whether that was a flush, or `None` if the
+/// session ends before it.
 fn display_failing_at(rt: &(impl AllocGlobal + Abort), call: usize) -> Result<Option<bool>, Fail> {
     let (left, in_flush) = two_lines_into(rt.alloc(), Tray::failing_at(call), roomy())?;
     whole_or_cut(rt, &left, in_flush, call)
@@ -198,7 +202,7 @@ fn display_that_fails_at_each_call(rt: HostRuntime) -> Result<(), Fail> {
     panic!(rt; "a session over so few keys has ended by now")
 }
 
-/// A session whose display has room for so many bytes.
+/// A session whose display has space for so many bytes.
 fn display_with_room(rt: &(impl AllocGlobal + Abort), room: usize) -> Result<(), Fail> {
     let (left, _) = two_lines_into(rt.alloc(), Tray::with_room(room), roomy())?;
     assert_eq!(rt; left.shown.len(), room);
@@ -213,7 +217,7 @@ fn display_that_is_full(rt: HostRuntime) -> Result<(), Fail> {
     Ok(())
 }
 
-/// Sessions over a sink of lines that fails at a call, or has room for so many bytes.
+/// Sessions over a sink of lines that fails at a call, or has space for so many bytes.
 #[derive(Drop)]
 struct Lines;
 
@@ -260,7 +264,7 @@ fn lines_that_are_full(rt: HostRuntime) -> Result<(), Fail> {
     rows_hold(rt.alloc(), &mut Lines, rows)
 }
 
-/// A history that is no text is refused before any key is read.
+/// A history that isn't UTF-8 is rejected before any key is read.
 #[test]
 fn history_that_is_no_text(rt: HostRuntime) -> Result<(), Fail> {
     let source = SliceSource::new(b"a");
@@ -272,7 +276,7 @@ fn history_that_is_no_text(rt: HostRuntime) -> Result<(), Fail> {
 /// The devices of a session that is not opened.
 type Back = Unopened<SliceSource<'static>, SliceSource<'static>, VecSink, VecSink, VecSink>;
 
-/// What comes back where the history is no text.
+/// What is returned if the history isn't UTF-8.
 fn not_opened(alloc: Global) -> Result<Back, Fail> {
     let bindings = Bindings::new(alloc)?;
     let opened = Session::open(
@@ -297,7 +301,7 @@ fn goes_on_unread(back: &mut Back) -> bool {
         && back.source.next_byte() == Ok(Some(b'x'))
 }
 
-/// All that was not read comes back.
+/// Everything that was not read is returned.
 #[test]
 fn devices_of_a_session_that_is_not_opened(rt: HostRuntime) -> Result<(), Fail> {
     let mut back = not_opened(rt.alloc())?;

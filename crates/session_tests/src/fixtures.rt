@@ -1,4 +1,4 @@
-//! What the tests share: what a session left, in words.
+//! Shared by the tests: the result of a session, in words.
 
 use keyline::Ending;
 use session_rows::play::Left;
@@ -6,12 +6,12 @@ use session_words::notation::{Setting, display_meant, setting_of};
 use stand_ins::tables::{or_nothing, pictured_bytes};
 use std::alloc::{AllocError, Global};
 
-/// Emacs, 80 columns, the prompt `> `, and a history that begins empty and stays so.
+/// Emacs, 80 columns, the prompt `> `, and a history that begins empty and isn't changed.
 pub(crate) fn plain() -> Setting<'static> {
     setting_of("")
 }
 
-/// An ending and lines, as rows tell them.
+/// An ending and lines, as rows have them.
 pub(crate) fn ending_and_lines(
     alloc: Global,
     ending: Ending,
@@ -22,7 +22,8 @@ pub(crate) fn ending_and_lines(
     format!(in alloc; "{ending:?} {lines}")
 }
 
-/// What a session left: the ending and the lines, and the display's bytes where they are others than these.
+/// The result of a session: the ending and the lines, and the display's bytes if they differ from
+/// these.
 pub(crate) fn told(alloc: Global, left: &Left, shown: &str) -> Result<String, AllocError> {
     let mut said = ending_and_lines(alloc, left.ending, &left.lines)?;
     if left.shown != display_meant(alloc, shown)? {

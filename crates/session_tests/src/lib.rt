@@ -1,4 +1,4 @@
-//! What `keyline` promises, at work: worked sessions, and sessions over devices that fail.
+//! The promises of `keyline` at work: worked sessions, and sessions over failing devices.
 #![tactic(auto)]
 
 #[cfg(test)]

@@ -1,4 +1,4 @@
-//! Sessions over readers and writers of std: keys in pieces, and devices that share one log.
+//! Sessions over std's readers and writers: keys in pieces, and devices that share one log.
 
 use crate::fixtures::{plain, told};
 use keyline::{
@@ -13,7 +13,7 @@ use std::alloc::{AllocError, Global};
 use std::cell::{Cell, RefCell};
 use std::test::Fail;
 
-/// The keys `a c Left b Enter d Enter`, by a reader with a row's turns.
+/// The keys `a c Left b Enter d Enter`, from a reader with a row's turns.
 #[derive(Drop)]
 struct Reading;
 
@@ -30,7 +30,7 @@ impl Player for Reading {
     }
 }
 
-/// The second line is begun where the reader doesn't fail before.
+/// The second line begins if the reader doesn't fail before.
 #[test]
 fn keys_in_pieces(rt: HostRuntime) -> Result<(), Fail> {
     let rows = "
@@ -70,7 +70,7 @@ fn keeps_two(source: ReadSource<Pieces<'_>>) -> bool {
     unread.as_slice() == b"bc".as_slice() && reader.bytes == b"d".as_slice()
 }
 
-/// Esc that is bound to what Ctrl-C does.
+/// Esc bound to the command of Ctrl-C.
 fn esc_bound(alloc: Global) -> Result<Bindings, ReadlineError> {
     let mut bindings = Bindings::new(alloc)?;
     let event = Event::from_key(alloc, KeyEvent::ESC)?;
@@ -78,7 +78,7 @@ fn esc_bound(alloc: Global) -> Result<Bindings, ReadlineError> {
     Ok(bindings)
 }
 
-/// Whether a session has ended by Esc, and the byte after it stands before those that weren't read.
+/// Whether a session ended by Esc, and the byte after it comes before those that weren't read.
 fn hands_back<L: Sink, T: Sink>(end: &mut Ended<SliceSource<'_>, VecSink, L, T>) -> bool {
     end.ending == Ending::Interrupted
         && end.ahead == Some(b'b')
@@ -99,7 +99,7 @@ fn ends_at_esc(alloc: Global, bindings: Bindings) -> Result<bool, ReadlineError>
     Ok(hands_back(&mut end))
 }
 
-/// Esc ends the session as soon as the byte that follows shows that it stands alone.
+/// Esc ends the session as soon as the following byte shows that it is alone.
 #[test]
 fn byte_after_the_last_esc_is_handed_back(rt: HostRuntime) -> Result<(), Fail> {
     let bindings = esc_bound(rt.alloc())?;
@@ -107,7 +107,7 @@ fn byte_after_the_last_esc_is_handed_back(rt: HostRuntime) -> Result<(), Fail> {
     Ok(())
 }
 
-/// A session over devices that write into one log.
+/// A session over devices that write to one log.
 fn logged(alloc: Global, log: &Log) -> Result<Ending, ReadlineError> {
     let source = ReadSource::new(LoggedReader {
         bytes: b"ab\r",

@@ -1,4 +1,4 @@
-//! A session after another. What sessions do stands in the rows of `sessions_program`.
+//! One session after another. Other sessions are in the rows of `sessions_program`.
 
 use crate::fixtures::plain;
 use keyline::{Ended, ReadlineError, Sink, SliceSource, Source, VecSink};
@@ -9,17 +9,18 @@ use std::alloc::{AllocError, Global};
 use std::process::Abort;
 use std::test::Fail;
 
-/// What a session over memory leaves.
+/// The result of a session over memory.
 type Left = Ended<SliceSource<'static>, VecSink, VecSink, VecSink>;
 
-/// A session that leaves keys.
+/// A session that leaves some keys.
 fn first(alloc: Global) -> Result<Left, ReadlineError> {
     let source = SliceSource::new(b"a\r\x04b\r");
     let (display, lines) = (VecSink::new(alloc), VecSink::new(alloc));
     ended(alloc, &plain(), source, display, lines, VecSink::new(alloc))
 }
 
-/// A session over the devices of another one, which has written its line, and none of which has failed.
+/// A session over the devices of another one, which has written its line, and none of which has
+/// failed.
 fn next(alloc: Global, left: Left) -> Result<Left, Fail> {
     let (source, display, lines) = (left.source, left.display, left.lines);
     if source.failed() || display.failed() || lines.failed() {
@@ -31,7 +32,7 @@ fn next(alloc: Global, left: Left) -> Result<Left, Fail> {
     raised(ended(alloc, &plain(), source, display, lines, VecSink::new(alloc)))
 }
 
-/// Whether both sessions stand on lines and display, and no key is left.
+/// Whether both sessions have their lines and drawings, and no key remains.
 fn is_of_both(alloc: Global, left: &mut Left) -> Result<bool, AllocError> {
     let wanted = display_meant(alloc, "{} a ␍␊ {} ␍␊ {} b ␍␊ {} ␍␊")?;
     Ok(

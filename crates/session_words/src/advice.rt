@@ -1,8 +1,10 @@
-//! A helper of sessions that answers as it is told to, whatever would be right.
+//! A helper for sessions that answers as its words say, right or wrong.
 //!
-//! The word `advised` asks for it. What it is told are the words `hint:`, `taken:` (what the hint adds to the line),
-//! `hint-from:`, `verdict:`, `later:`, `later-from:`, `message:`, `offers:` (a candidate, or two with a comma between them),
-//! `start:`, `marked:`, `hint-fails:`, `verdict-fails:`, `completion-fails:`, `update-fails:` and `wants-memory`.
+//! The word `advised` asks for it. Its words for hints are `hint:`, `taken:` (what the hint adds to
+//! the line), `hint-from:` and `marked:`. Those for verdicts are `verdict:`, `later:`,
+//! `later-from:` and `message:`. Those for completion are `offers:` (a candidate, or two with a
+//! comma between them) and `start:`. Those for faults are `hint-fails:`, `verdict-fails:`,
+//! `completion-fails:`, `update-fails:` and `wants-memory`.
 
 ghost use Rattle.std.specs.Prelude.{◌≡◌, ◌==◌, nat_le, option_copied, option_map, length, None, Some, false, if◌then◌else◌, IfErr};
 ghost use Rattle.line_help.specs.Completion.{text_offered};
@@ -20,7 +22,7 @@ use line_keys::{CmdKind, Text};
 use std::alloc::{AllocError, Global};
 use std::borrow::CowStr;
 
-/// What is found of a text; those that tell do so by the adviser's message.
+/// The verdict on a text; those with a message have the adviser's.
 #[derive(Clone, Copy)]
 pub enum Verdict {
     Incomplete,
@@ -38,7 +40,7 @@ pub enum Offer<'a> {
     Two(&'a str, &'a str),
 }
 
-/// A hint, and what it adds to the line where it can be taken.
+/// A hint, and what it adds to the line if it can be accepted.
 #[derive(Clone, Copy, Drop)]
 pub struct Said<'a> {
     display: &'a str,
@@ -57,10 +59,11 @@ impl Hint for Said<'_> {
     }
 }
 
-/// A helper with one hint for lines of so many bytes or more, one verdict for texts of fewer bytes and one for longer ones,
-/// and candidates that are the same for every word, which begins at one place. A character is highlighted where the cursor
-/// is at `marked_at`. From a text of so many bytes on hinter, validator and completer fail, or want memory; the completer
-/// puts none of so many bytes in.
+/// A helper with fixed answers. It has one hint for lines of at least so many bytes, and one
+/// verdict for shorter texts and another one for longer texts. Its candidates are the same for
+/// every word, which begins at one place. A character is highlighted if the cursor is at
+/// `marked_at`. For texts of at least so many bytes hinter, validator and completer fail, or run
+/// out of memory; the completer inserts no text of so many bytes.
 #[derive(Clone, Copy, Drop)]
 pub struct Adviser<'a> {
     hint: Option<Said<'a>>,
@@ -295,7 +298,7 @@ fn text_after(alloc: Global, words: &str, beginning: &str) -> Result<Option<Stri
     }
 }
 
-/// The texts that a setting has for an adviser.
+/// The texts of a setting's adviser.
 pub fn texts_of(alloc: Global, words: &str) -> Result<Texts, AllocError> {
     Ok(Texts {
         hint: text_after(alloc, words, "hint:")?,
@@ -336,7 +339,7 @@ impl Texts {
         }
     }
 
-    /// The adviser that a setting asks for.
+    /// The adviser of a setting.
     pub fn adviser(&self, words: &str) -> Adviser<'_> {
         Adviser {
             hint: self.hint(),

@@ -1,10 +1,10 @@
-//! A helper of sessions.
+//! A helper for sessions.
 
 use crate::notation::{Setting, text_meant};
 use line_help::{HelperParts, HistoryHinter, MatchingBracketValidator, WordCompleter};
 use std::alloc::{AllocError, Global};
 
-/// Completion by words, hints of the history, and lines whose brackets are balanced.
+/// Completion by words, hints from the history, and validation of brackets.
 pub type Aide = HelperParts<
     Option<WordCompleter>,
     HistoryHinter,
@@ -23,7 +23,7 @@ fn completer_of(alloc: Global, listed: &str) -> Result<Option<WordCompleter>, Al
     Ok(Some(WordCompleter::new(words)))
 }
 
-/// The helper that a setting asks for.
+/// The helper of a setting.
 pub fn aide_of(alloc: Global, setting: &Setting<'_>) -> Result<Option<Aide>, AllocError> {
     let completer = completer_of(alloc, setting.words)?;
     if completer.is_none() && !setting.helped {

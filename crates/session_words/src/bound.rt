@@ -1,5 +1,6 @@
-//! Keys that a setting binds: `bind:C-X→b⇒Kill·ForwardChar·2` binds Ctrl-X and then `b`, and `bind:any⇒Count` each key that
-//! has no binding of its own. Between two words of a command stands a dot.
+//! Keys bound by a setting: `bind:C-X→b⇒Kill·ForwardChar·2` binds Ctrl-X and then `b`, and
+//! `bind:any⇒Count` any key without a binding of its own. The words of a command are separated by
+//! dots.
 
 ghost use Rattle.std.specs.Prelude.{◌≡◌};
 
@@ -13,12 +14,12 @@ use stand_ins::key_names::key_named;
 use stand_ins::tables::word_and_rest;
 use std::alloc::{AllocError, Global};
 
-/// A handler of one kind or another.
+/// The handlers of the tests.
 #[derive(Drop)]
 pub enum Answering {
     OneWay(OneWay),
     HintOrKill(HintOrKill),
-    /// One command, whatever it is shown.
+    /// Always this command.
     Always(Cmd),
 }
 
@@ -53,21 +54,21 @@ impl ConditionalEventHandler for Answering {
     }
 }
 
-/// What is bound: a command, or a handler.
+/// A binding: a command, or a handler.
 #[derive(Drop)]
 pub enum Action {
     Command(Cmd),
     Handler(Answering),
 }
 
-/// An event, and what is bound to it.
+/// An event, and its binding.
 #[derive(Drop)]
 pub struct Bound {
     pub event: Event,
     pub action: Action,
 }
 
-/// The keys with these names, with an arrow between two.
+/// The keys with these names, separated by arrows.
 fn event_named(alloc: Global, names: &str) -> Result<Event, ReadlineError> {
     if names == "any" {
         return Ok(Event::Any);
@@ -120,7 +121,7 @@ fn bound_as(alloc: Global, keys: &str, words: &str) -> Result<Bound, ReadlineErr
     })
 }
 
-/// Puts so many characters, from 一 on, each bound to what puts it in twice.
+/// Adds so many characters, from 一 on, each bound to a command that inserts it twice.
 fn put_many(alloc: Global, all: &mut Vec<Bound>, count: usize) -> Result<(), ReadlineError> {
     for c in ('一'..='\u{9FFF}').take(count) {
         let twice = format!(in alloc; "{c}{c}")?;
@@ -132,7 +133,7 @@ fn put_many(alloc: Global, all: &mut Vec<Bound>, count: usize) -> Result<(), Rea
     Ok(())
 }
 
-/// All that the words of a setting bind.
+/// All bindings of a setting's words.
 pub fn bound_by(alloc: Global, words: &str) -> Result<Vec<Bound>, ReadlineError> {
     let mut all = Vec::new(alloc);
     put_many(alloc, &mut all, number_after(words, "many:", 0))?;

@@ -1,6 +1,7 @@
-//! Devices that fail by the words of a setting: `lines@3` is the fourth call of the sink of lines, counted over writes and
-//! flushes, which takes half of what it is handed, and `lines@once` takes nothing at all. So it is with `display`, and with
-//! `text`, which is the history's. `keys@3` fails after three bytes, and `keys@end` after all.
+//! Devices that fail as the words of a setting say. `lines@3` is the fourth call of the sink of
+//! lines, counted over writes and flushes, which takes half of its bytes. With `lines@once` it
+//! takes nothing at all. The same holds for `display`, and for `text`, which is the history's.
+//! `keys@3` fails after three bytes, and `keys@end` after all.
 
 ghost use Rattle.std.specs.Prelude.{◌≡◌, false};
 

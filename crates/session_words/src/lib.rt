@@ -1,4 +1,4 @@
-//! The words in which tests write sessions: rows, settings, and what a setting binds, who helps and what fails by it.
+//! The words in which tests write sessions: rows, settings, bindings, helpers and faults.
 #![tactic(auto)]
 
 pub mod advice;

@@ -1,26 +1,28 @@
 //! The notation of sessions.
 //!
-//! A row has keys, ` = `, and the lines that are written; then, after ` | `, what else is looked at: `ends`, where it isn't
-//! the end of the input, `saves` and `shows`. Keys are parted by blanks: `C-a` is Ctrl, `M-b` is Esc and then `b`, `Left` is
-//! what a terminal sends, and any other word is itself. Lines are parted by blanks too; `""` is an empty one. A control
-//! character stands as its picture, a blank as `␠`. Where lines aren't added to the history, nothing is to be saved. A line
-//! without ` = ` is a comment, and so is one that begins with `#`. Settings are words, as `vi`, `columns:4` or `words:al,alp`.
+//! A row has keys, ` = `, and the lines that are written. After ` | ` comes what else is checked:
+//! `ends`, unless it is the end of the input, `saves` and `shows`. Keys are separated by blanks:
+//! `C-a` is Ctrl, `M-b` is Esc and then `b`, `Left` is what a terminal sends, and any other word is
+//! itself. Lines are separated by blanks too; `""` is an empty one. A control character is written
+//! as its picture, a blank as `␠`. If lines aren't added to the history, nothing must be saved. A
+//! line without ` = ` is a comment, and so is one that begins with `#`. Settings are words such as
+//! `vi`, `columns:4` or `words:al,alp`.
 
 use line_buffer::GraphemeClusterMode;
 use line_config::EditMode;
 use stand_ins::tables::meant_bytes;
 use std::alloc::{AllocError, Global};
 
-/// How the lines of a session are asked for.
+/// How the lines of a session are read.
 #[derive(Clone, Copy, PartialEq, Eq)]
 pub enum Asking {
     /// By `run`.
     Run,
-    /// By `read_line`, until a line is refused, and then by `finish`.
+    /// By `read_line` until it fails, and then by `finish`.
     ReadLine,
 }
 
-/// What a session is opened with.
+/// The settings of a session.
 #[derive(Clone, Copy)]
 pub struct Setting<'a> {
     pub asking: Asking,
@@ -29,7 +31,7 @@ pub struct Setting<'a> {
     pub helped: bool,
     /// Whether the helper is an adviser.
     pub advised: bool,
-    /// The words that complete, with a comma between two.
+    /// The words to complete, separated by commas.
     pub words: &'a str,
     pub columns: u16,
     pub clusters: GraphemeClusterMode,
@@ -37,9 +39,9 @@ pub struct Setting<'a> {
     pub prompt: &'a str,
     /// The text of the history, with pictures.
     pub loaded: &'a str,
-    /// What a reader does at its calls, with a comma between two.
+    /// What a reader does at its calls, separated by commas.
     pub reads: &'a str,
-    /// All words, among them those of bindings and of an adviser.
+    /// All words, including those of bindings and of an adviser.
     pub all: &'a str,
 }
 
@@ -47,7 +49,7 @@ fn has(words: &str, wanted: &str) -> bool {
     words.split_whitespace().any(|word| word == wanted)
 }
 
-/// What stands after a beginning, in the first word that has it.
+/// The text after a prefix, in the first word that has it.
 pub fn after<'a>(words: &'a str, beginning: &str) -> Option<&'a str> {
     for word in words.split_whitespace() {
         if let Some(rest) = word.strip_prefix(beginning) {
@@ -57,7 +59,7 @@ pub fn after<'a>(words: &'a str, beginning: &str) -> Option<&'a str> {
     None
 }
 
-/// The number after a beginning, where a word has it.
+/// The number after a prefix, if a word has it.
 pub fn number_after(words: &str, beginning: &str, otherwise: usize) -> usize {
     match after(words, beginning) {
         Some(digits) => digits.parse().unwrap_or(otherwise),
@@ -65,7 +67,7 @@ pub fn number_after(words: &str, beginning: &str, otherwise: usize) -> usize {
     }
 }
 
-/// The text that is meant by one with pictures and numbers of bytes; none where the bytes are no text.
+/// The text of one with pictures and numbers of bytes; `None` if the bytes aren't UTF-8.
 pub fn text_meant(alloc: Global, shown: &str) -> Result<String, AllocError> {
     match String::from_utf8(meant_bytes(alloc, shown)?) {
         Ok(text) => Ok(text),
@@ -81,7 +83,7 @@ fn clusters_named(name: &str) -> GraphemeClusterMode {
     }
 }
 
-/// Emacs mode, 80 columns, the prompt `> `, and what these words say.
+/// Emacs mode, 80 columns, the prompt `> `, and the settings of these words.
 pub fn setting_of(words: &str) -> Setting<'_> {
     let digits = after(words, "columns:").unwrap_or("80");
     let prompt = if has(words, "bare") { "" } else { "> " };
@@ -111,7 +113,7 @@ pub fn field(text: &str) -> &str {
     if text == "nothing" { "" } else { text }
 }
 
-/// A row: what is typed, and what comes of it where it is looked at.
+/// A row: the keys, and those of its results that are checked.
 #[derive(Clone, Copy)]
 pub struct Row<'a> {
     pub keys: &'a str,
@@ -121,7 +123,7 @@ pub struct Row<'a> {
     pub shows: Option<&'a str>,
 }
 
-/// What stands after a name in a part of what a row wants.
+/// The text after a name in a part of a row's expected results.
 fn part_of<'a>(wanted: &'a str, name: &str) -> Option<&'a str> {
     for part in wanted.split(" | ") {
         if let Some(rest) = part.strip_prefix(name) {
@@ -131,7 +133,7 @@ fn part_of<'a>(wanted: &'a str, name: &str) -> Option<&'a str> {
     None
 }
 
-/// What a line of a table says, where it is a row.
+/// A line of a table as a row, if it is one.
 pub fn row_of(text: &str) -> Option<Row<'_>> {
     let (keys, wanted) = text.split_once(" = ")?;
     if keys.trim_start().starts_with('#') {
@@ -147,12 +149,12 @@ pub fn row_of(text: &str) -> Option<Row<'_>> {
     })
 }
 
-/// What the keys with names send.
+/// The bytes of named keys.
 const NAMED: &str =
     "nothing: Enter:␍ Tab:␉ Backspace:␡ Esc:␛ Left:␛[D Right:␛[C Up:␛[A Down:␛[B Home:␛[H End:␛[F \
     Delete:␛[3~ Paste:␛[200~ Pasted:␛[201~";
 
-/// What a named key sends.
+/// The bytes of a named key.
 fn named(word: &str) -> Option<&'static str> {
     for entry in NAMED.split_whitespace() {
         if let Some((name, sent)) = entry.split_once(':')
@@ -185,7 +187,7 @@ fn put_key(alloc: Global, bytes: &mut Vec<u8>, word: &str) -> Result<(), AllocEr
     bytes.extend_from_slice(meant_bytes(alloc, shown)?.as_slice())
 }
 
-/// The bytes that are typed.
+/// The bytes of typed keys.
 pub fn typed(alloc: Global, keys: &str) -> Result<Vec<u8>, AllocError> {
     let mut bytes = Vec::new(alloc);
     for word in keys.split_whitespace() {
@@ -210,13 +212,13 @@ pub fn lines_meant(alloc: Global, words: &str) -> Result<Vec<u8>, AllocError> {
     Ok(bytes)
 }
 
-/// What a drawing begins with: CR, ESC [ J, and the prompt between two ESC [ m.
+/// The beginning of a drawing: CR, ESC [ J, and the prompt between two ESC [ m.
 const BEFORE_THE_LINE: &[u8] = b"\r\x1B[J\x1B[m> \x1B[m";
 
-/// What stands after the line in a drawing.
+/// The end of a drawing, after the line.
 const AFTER_THE_LINE: &[u8] = b"\x1B[m\x1B[m";
 
-/// Puts a piece of display bytes after others.
+/// Appends a piece of display bytes.
 fn put_piece(alloc: Global, bytes: &mut Vec<u8>, piece: &str) -> Result<(), AllocError> {
     for byte in meant_bytes(alloc, piece)? {
         match byte {
@@ -228,7 +230,8 @@ fn put_piece(alloc: Global, bytes: &mut Vec<u8>, piece: &str) -> Result<(), Allo
     Ok(())
 }
 
-/// Display bytes: `{ab}` is a drawing of the line `ab` in the first row, blanks are nothing, and the rest stands for itself.
+/// Display bytes: `{ab}` is a drawing of the line `ab` in the first row, blanks are nothing, and
+/// the rest stands for itself.
 pub fn display_meant(alloc: Global, shown: &str) -> Result<Vec<u8>, AllocError> {
     let mut bytes = Vec::new(alloc);
     for piece in shown.split_whitespace() {

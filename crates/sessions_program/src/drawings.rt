@@ -1,4 +1,4 @@
-//! Lines drawn on standard output, each a case with a name. A test shows them on a terminal.
+//! Lines drawn on standard output, each a named case. A test shows them on a terminal.
 
 use anyhow::{Result, bail};
 use line_buffer::{GraphemeClusterMode, Layout, LineBuffer, NoListener, Position};
@@ -7,7 +7,8 @@ use line_editor::Renderer;
 use line_screen::ScreenRenderer;
 use std::alloc::Global;
 
-/// A line on so many columns, with the line's text before the cursor, and what stands after the line.
+/// A line on rows of so many columns, with the line's text before the cursor, and what follows the
+/// line.
 #[derive(Clone, Copy)]
 struct Case<'a> {
     columns: u16,
@@ -75,7 +76,7 @@ fn draw<Out: Renderer>(alloc: Global, screen: &mut Out, case: Case, old: Layout)
     Ok(new)
 }
 
-/// Draws the case of that name.
+/// Draws the case with that name.
 pub fn draw_named(rt: &HostRuntime, name: &str) -> Result<()> {
     let Some(case) = case_of(name) else {
         bail!("no such case");

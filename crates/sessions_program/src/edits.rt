@@ -1,6 +1,7 @@
-//! Each edit of a line, with a listener that makes the events it is told on a text of its own, each call of the undo
-//! record and of the kill ring, and each call of a history. A row for each says whether it was done or refused, and
-//! whether what it left is right. `tests/edit_growth.py` runs this with each growth of memory refused in turn.
+//! Each edit of a line, each call of the undo record and of the kill ring, and each call of a
+//! history. The listener of an edit makes its events on its own text. A row for each says whether
+//! it succeeded or failed, and whether its result is right. `tests/edit_growth.py` runs this with
+//! each allocation failing in turn.
 
 pub(crate) mod commands;
 mod desk;
@@ -74,7 +75,7 @@ const EDITS: [(Edit, &str); 20] = [
     (Edit::Dedent, "dedent"),
 ];
 
-/// Makes an edit that puts text in, or another one; whether it was done.
+/// Makes an edit that inserts text, or another one; whether it succeeded.
 fn change(alloc: Global, edit: Edit, line: &mut LineBuffer, shadow: &mut Shadow) -> bool {
     match edit {
         Edit::Update => line.update(alloc, LONG, 4, shadow).is_ok(),
@@ -119,7 +120,7 @@ fn exchange(alloc: Global, edit: Edit, line: &mut LineBuffer, shadow: &mut Shado
     }
 }
 
-/// A line of the text with its cursor at the place, and leave to grow.
+/// A line of the text with its cursor at the place, which may grow.
 fn start(alloc: Global) -> Result<LineBuffer, OutOfMemory> {
     let mut line = LineBuffer::with_capacity(alloc, TEXT.len())?.can_growth(true);
     line.insert_str(alloc, 0, TEXT, &mut NoListener)?;
@@ -129,7 +130,7 @@ fn start(alloc: Global) -> Result<LineBuffer, OutOfMemory> {
     Ok(line)
 }
 
-/// How an edit ended, and a mark where what it left is wrong.
+/// How an edit ended, and a mark if its result is wrong.
 fn judged(
     alloc: Global,
     edit: Edit,
@@ -156,7 +157,7 @@ fn check(rt: &impl Print, alloc: Global, edit: Edit, name: &str) -> io::Result<(
     println!(rt; "{name}: {word}{mark}")
 }
 
-/// Makes all these calls, and tells of each.
+/// Makes all these calls, and writes a row for each.
 pub(crate) fn check_all(rt: &HostRuntime) -> io::Result<()> {
     for (edit, name) in &EDITS {
         check(rt, rt.alloc(), *edit, name)?;

@@ -1,11 +1,13 @@
-//! Without an argument, plays the sessions that stand in files of `data/`, tells each session that differs from what its row
-//! says, and how many there were, makes each edit, and then draws a line. With the argument `each`, tells what each session
-//! leaves that stands on standard input; with `growths`, plays those in which each growth is to be refused, and says of each
-//! whether one was; with `calls`, makes each edit; with a name in `.txt`, plays the sessions of that file; with another one,
-//! draws the line that it names.
+//! Without an argument, plays the sessions in the files of `data/`, prints each session that
+//! differs from its row, and their number, makes each edit, and then draws a line. With the
+//! argument `each`, prints the result of each session read from standard input. With `growths`,
+//! plays the sessions in which each allocation is to fail, and prints for each whether one did.
+//! With `calls`, makes each edit. With a name in `.txt`, plays the sessions of that file. With
+//! another name, draws the line of that name.
 //!
-//! With the word `edits` and steps, makes these edits of `line_edits`, and with `commands`, the entries of a history, words to
-//! complete and steps, these commands of `execute`; after each step it tells what stands.
+//! With the word `edits` and steps, makes these edits of `line_edits`. With `commands`, the entries
+//! of a history, words to complete and steps, runs these commands of `execute`. After each step it
+//! prints the state.
 #![tactic(auto)]
 
 mod drawings;
@@ -26,7 +28,7 @@ const FILES: [&str; 6] = [
     REFUSED,
 ];
 
-/// The file of the sessions in which each byte, write, flush and growth fails in turn.
+/// The file of the sessions in which each byte, write, flush and allocation fails in turn.
 const REFUSED: &str = "refusals.txt";
 
 /// Plays the rows of a part of a file, which begins with its settings, as they are or with each call failing in turn.
@@ -39,7 +41,7 @@ fn play_part(rt: &HostRuntime, part: &str, failing: bool) -> Result<Played> {
     }
 }
 
-/// Plays the sessions of a file, and answers how many they are, or how many calls failed.
+/// Plays the sessions of a file, and returns how many they are, or how many calls failed.
 fn play_file(rt: &HostRuntime, name: &str, failing: bool) -> Result<usize> {
     let text = fs::read_to_string(rt, name)?;
     let mut count: usize = 0;
@@ -53,7 +55,7 @@ fn play_file(rt: &HostRuntime, name: &str, failing: bool) -> Result<usize> {
     Ok(count)
 }
 
-/// Tells what each session of standard input leaves.
+/// Prints the result of each session of standard input.
 fn tell_each(rt: &HostRuntime) -> Result<()> {
     let text = io::read_to_string(rt.alloc(), rt.stdin())?;
     for part in text.split("\n:") {
@@ -63,14 +65,14 @@ fn tell_each(rt: &HostRuntime) -> Result<()> {
     Ok(())
 }
 
-/// Plays the sessions of a file, and tells how many they are.
+/// Plays the sessions of a file, and prints how many they are.
 fn play_told(rt: &HostRuntime, name: &str) -> Result<()> {
     let count = play_file(rt, name, false)?;
     println!(rt; "{name}: {count} sessions")?;
     Ok(())
 }
 
-/// Plays the rows of a part of a file, in which a growth is to be refused.
+/// Plays the rows of a part of a file, in which an allocation is to fail.
 fn grow_part(rt: &HostRuntime, part: &str) -> Result<()> {
     let (settings, rows) = part.split_once('\n').unwrap_or((part, ""));
     for row in rows.lines() {
@@ -82,7 +84,7 @@ fn grow_part(rt: &HostRuntime, part: &str) -> Result<()> {
     Ok(())
 }
 
-/// Plays the sessions in which a growth is to be refused.
+/// Plays the sessions in which an allocation is to fail.
 fn grow(rt: &HostRuntime) -> Result<()> {
     let text = fs::read_to_string(rt, REFUSED)?;
     for part in text.split("\n:") {

@@ -1,10 +1,10 @@
 //! What a statement gives.
 
-use crate::table;
-use keyline::ReadlineError;
+use crate::{mistake, table};
 use sqlite::{Connection, Error, MemStore, Row, Statement};
 use sqlite_value::value::ValueRef;
 use std::alloc::{AllocError, Global};
+use std::io;
 
 /// The names of the tables; none where they can't be read.
 pub(crate) fn tables(alloc: Global, conn: &mut Connection<MemStore>) -> Vec<String> {
@@ -22,20 +22,24 @@ fn add_tables(conn: &mut Connection<MemStore>, names: &mut Vec<String>) -> Resul
     Ok(())
 }
 
-/// Runs a statement and prints its rows, how many it changed, or why it was refused.
+/// Prints the names of the tables, one in a row.
+pub(crate) fn print_tables(rt: &HostRuntime, conn: &mut Connection<MemStore>) -> io::Result<()> {
+    for name in tables(rt.alloc(), conn).iter() {
+        println!(rt; "{name}")?;
+    }
+    Ok(())
+}
+
+/// Runs a statement and prints its rows, how many it changed, or why it failed.
 pub(crate) fn print(
     rt: &HostRuntime,
     conn: &mut Connection<MemStore>,
     sql: &str,
-) -> Result<(), ReadlineError> {
-    let printed = match run(rt.alloc(), conn, sql) {
+) -> io::Result<()> {
+    match run(rt.alloc(), conn, sql) {
         Ok(Answer::Rows(rows)) => table::print(rt, rows.as_slice()),
         Ok(Answer::Changed(rows)) => println!(rt; "{rows} changed"),
-        Err(error) => println!(rt; "error: {error}"),
-    };
-    match printed {
-        Ok(()) => Ok(()),
-        Err(_) => Err(ReadlineError::Lines),
+        Err(error) => mistake::print(rt, sql, &error),
     }
 }
 

@@ -2,72 +2,121 @@
 #![tactic(auto)]
 
 mod answer;
+mod arguments;
 mod keys;
+mod mistake;
+mod requests;
 mod statements;
 mod table;
 
+use crate::arguments::{Asked, USAGE, read_arguments};
+use crate::requests::{COMMANDS, Request, request_of};
 use crate::statements::Statements;
+use anyhow::{Context, Result, bail};
 use keyline::{
-    Ending, HelperParts, LineEditor, ReadlineError, StandardEditor, WordCompleter, standard_builder,
+    Ending, HelperParts, LineEditor, ReadlineError, SliceSource, StandardEditor, VecSink,
+    WordCompleter, standard_builder,
 };
+use keyline_files::{load_history, save_history};
 use sqlite::Connection;
+use std::io::IsTerminal;
 use std::process::ExitCode;
 
-type Help = HelperParts<WordCompleter, (), (), Statements>;
+/// What a terminal shows before the first prompt.
+const GREETING: &str = "A database in memory: .help lists commands, .quit leaves.";
+
+/// The status if an argument is wrong.
+const WRONG_ARGUMENTS: u8 = 2;
+
+type Help = HelperParts<WordCompleter, Statements, (), Statements>;
+
+/// An editor whose history's text can be saved.
+type Editor = StandardEditor<Help, VecSink>;
 
 /// Completes the names of tables, and waits for the end of a statement.
 fn helper(tables: Vec<String>) -> Help {
     HelperParts {
         completer: WordCompleter::new(tables),
-        hinter: (),
+        hinter: Statements,
         highlighter: (),
         validator: Statements,
     }
 }
 
-/// Reads statements and answers them, until `.quit` or the end of the input.
-fn converse(rt: &HostRuntime, editor: &mut StandardEditor<Help>) -> Result<(), ReadlineError> {
-    let mut conn = Connection::open_in_memory(rt.alloc())?;
-    let mut statement = String::new(rt.alloc());
-    for _ in 0..u64::MAX {
-        let prompt = if statement.is_empty() {
-            "sql> "
-        } else {
-            "...> "
-        };
-        match editor.read_line(prompt) {
-            Ok(line) => statement.push_str(line.as_str())?,
-            Err(ReadlineError::Interrupted) => statement.clear(),
-            Err(_) => break,
-        }
-        match statement.as_str().trim_end() {
-            ".quit" => break,
-            text if text.starts_with('.') || text.ends_with(';') => {
-                answer::print(rt, &mut conn, text)?;
-                editor.set_helper(Some(helper(answer::tables(rt.alloc(), &mut conn))));
-                statement.clear();
-            }
-            _ => {}
-        }
-    }
-    Ok(())
-}
-
-/// Opens the editor, and ends it when all is answered.
-fn console(rt: &HostRuntime) -> Result<Ending, ReadlineError> {
+/// An editor over the standard streams, with the lines of a history's text.
+fn editor_with(rt: &HostRuntime, old: &[u8]) -> Result<Editor, ReadlineError> {
     let bindings = keys::bindings(rt.alloc())?;
     let session = standard_builder(rt)
         .bindings(bindings)
         .helper(helper(Vec::new(rt.alloc())))
+        .history(SliceSource::new(old), VecSink::new(rt.alloc()))
         .open()?;
-    let mut editor = LineEditor::new(session);
+    Ok(LineEditor::new(session))
+}
+
+/// Reads statements and answers them, until `.quit` or the end of the input.
+fn converse(rt: &HostRuntime, editor: &mut Editor) -> Result<()> {
+    let mut conn = Connection::open_in_memory(rt.alloc())?;
+    let mut text = String::new(rt.alloc());
+    for _ in 0..u64::MAX {
+        let prompt = if text.is_empty() { "sql> " } else { "...> " };
+        match editor.read_line(prompt) {
+            Ok(line) => text.push_str(line.as_str())?,
+            Err(ReadlineError::Interrupted) => text.clear(),
+            Err(_) => break,
+        }
+        match request_of(text.as_str()) {
+            Request::More => continue,
+            Request::Quit => break,
+            Request::Help => print!(rt; "{COMMANDS}")?,
+            Request::Tables => answer::print_tables(rt, &mut conn)?,
+            Request::Unknown(word) => requests::refuse(rt, word)?,
+            Request::Statement(sql) => answer::print(rt, &mut conn, sql)?,
+        }
+        editor.set_helper(Some(helper(answer::tables(rt.alloc(), &mut conn))));
+        text.clear();
+    }
+    Ok(())
+}
+
+/// Converses in lines, with the history that the file at the path keeps, if one is given.
+fn console(rt: &HostRuntime, path: Option<&str>) -> Result<()> {
+    if rt.stdin().is_terminal() {
+        eprintln!(rt; "{GREETING}")?;
+    }
+    let old = match path {
+        Some(path) => load_history(rt, path).context("the history does not load")?,
+        None => Vec::new(rt.alloc()),
+    };
+    let mut editor = editor_with(rt, &old)?;
     let answered = converse(rt, &mut editor);
-    let ending = editor.finish().ending;
+    let ended = editor.finish();
+    if let Some(path) = path {
+        save_history(rt, path, ended.text_to_save()).context("the history is not saved")?;
+    }
     answered?;
-    Ok(ending)
+    match ended.ending {
+        Ending::Eof => Ok(()),
+        ending => bail!("{}", ending.text()),
+    }
+}
+
+/// Does what the arguments ask for, and answers the status.
+fn run(rt: &HostRuntime) -> Result<ExitCode> {
+    match read_arguments(rt)? {
+        Asked::Console(path) => console(rt, path.as_deref())?,
+        Asked::Help => print!(rt; "{USAGE}")?,
+        Asked::Unknown => {
+            eprint!(rt; "sql_console: unknown arguments\n{USAGE}")?;
+            return Ok(ExitCode::from(WRONG_ARGUMENTS));
+        }
+    }
+    Ok(ExitCode::SUCCESS)
 }
 
 fn main(rt: HostRuntime) -> ExitCode {
-    let ending = console(&rt).unwrap_or_else(Ending::from);
-    ExitCode::from(ending.status())
+    run(&rt).unwrap_or_else(|error| {
+        let _ = eprintln!(rt; "sql_console: {error:#}");
+        ExitCode::FAILURE
+    })
 }

@@ -2,10 +2,28 @@
 
 ghost use Rattle.std.specs.Prelude.{◌≡◌, false};
 ghost use Rattle.line_keys.specs.Replies.{gives_at_once};
-ghost use Rattle.sql_console.specs.Statements.{ends_line, is_whole, statement_verdict};
+ghost use Rattle.sql_console.specs.Statements.{ends_line, has_empty_row, hint_in, how_it_ends, is_whole, statement_verdict};
 
-use keyline::{HookFault, ValidationContext, ValidationResult, Validator};
+use keyline::{
+    Context, Hint, Hinter, History, HookFault, ValidationContext, ValidationResult, Validator,
+};
 use std::alloc::Global;
+
+/// It stands in the empty last row of a statement.
+#[derive(Clone, Copy, Debug, Drop)]
+pub(crate) struct HowItEnds;
+
+impl Hint for HowItEnds {
+    ghost says = { λ self. how_it_ends };
+
+    fn display(&self) -> &str {
+        "(; ends the statement)"
+    }
+
+    fn completion(&self) -> Option<&str> {
+        None
+    }
+}
 
 /// A line goes on, row after row, until it ends in a semicolon. An empty row hands over those
 /// before it, and a word for the console itself, which begins with a dot, is whole at once.
@@ -22,6 +40,13 @@ fn is_whole(text: &[u8]) -> bool
     ensures { result ≡ is_whole text.now }
 {
     text.is_empty() || text[0] == b'.' || ends_line(text[text.len() - 1])
+}
+
+/// Whether nothing is in the last row, and another is before it.
+fn has_empty_row(text: &[u8]) -> bool
+    ensures { result ≡ has_empty_row text.now }
+{
+    !text.is_empty() && text[text.len() - 1] == b'\n'
 }
 
 impl Validator for Statements {
@@ -43,5 +68,25 @@ impl Validator for Statements {
 
     fn validate_while_typing(&self) -> bool {
         false
+    }
+}
+
+impl Hinter for Statements {
+    type Hint = HowItEnds;
+
+    ghost hint_of = { λ self text place entries at. gives_at_once (hint_in text place) };
+
+    fn hint<Hi: History>(
+        &self,
+        _alloc: Global,
+        line: &str,
+        pos: usize,
+        _ctx: &Context<'_, Hi>,
+    ) -> Result<Option<HowItEnds>, HookFault> {
+        if pos == line.len() && has_empty_row(line.as_bytes()) {
+            Ok(Some(HowItEnds))
+        } else {
+            Ok(None)
+        }
     }
 }

@@ -1,4 +1,4 @@
--- What the handlers of the tests answer.
+-- The answers of the tests' handlers.
 use Rattle.std.specs.Prelude.{ℕ, ◌==◌, ◌&&◌, nat_lt, length, Some, None, false, if◌then◌else◌}
 use Rattle.line_buffer.specs.declared.types.Movement.TheVariants.{ForwardChar, BackwardChar}
 use Rattle.line_keys.specs.declared.command.Cmd.TheVariants.{CompleteHint, Kill, TransposeWords, Undo}

@@ -1,4 +1,4 @@
--- A reader of which nothing is known but how much it has left.
+-- A reader of which only the number of remaining items is known.
 use Rattle.std.specs.Prelude.{⊤, false}
 use Rattle.line_keys.specs.Coming.{Ends, End}
 use Rattle.line_keys.specs.Feeds.{KeyFeed}

@@ -1,4 +1,4 @@
--- What the readers and lines of the tests mean.
+-- The meaning of the tests' readers and lines.
 use Rattle.std.specs.Prelude.{⊤, ◌≡◌, [], ◌∷◌, ◌++◌, false, true, None, Some, map, is_some, length}
 use Rattle.line_config.specs.declared.errors.ReadlineError.{ReadlineError}
 use Rattle.line_config.specs.declared.errors.ReadlineError.TheVariants.{Reader, Display, Memory}
@@ -41,18 +41,18 @@ shown_of l = record {
   last_insert = l.inserted;
 }
 
--- one more request is kept
+-- one more request is recorded
 abbrev pub MakesRequest : PlainLine → Ask → PlainLine → Type 0
 MakesRequest before a after =
     map request_made after.requests.items
     ≡ map request_made before.requests.items ++ (a ∷ [])
 
--- a message takes the hint's place
+-- a message replaces the hint
 abbrev pub shown_after : Shown → Ask → Shown
 shown_after s (ask.Message text kind) = record s { hinted = false; completion = None }
 shown_after s a = s
 
--- memory may be wanting at any call; the display fails where no more requests are answered
+-- memory may run out at any call; the display fails if no more requests succeed
 abbrev pub HasReason : PlainLine → ReadlineError → Type 0
 HasReason l Memory = ⊤
 HasReason l Display = l.answered ≡ Some 0

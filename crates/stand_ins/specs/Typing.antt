@@ -1,4 +1,4 @@
--- What a test types, as what is to come from a reader.
+-- What a test types, as the remaining input of a reader.
 use Rattle.std.specs.Prelude.{Bool, true, false, List, [], ◌∷◌, Option, Some, None, if◌then◌else◌}
 use Rattle.line_config.specs.declared.errors.ReadlineError.{ReadlineError}
 use Rattle.line_config.specs.declared.errors.ReadlineError.TheVariants.{Eof, NotUtf8, PasteOutOfPlace, Reader, Memory}
@@ -36,7 +36,7 @@ abbrev pub key_list_refusal : ReadlineError → Option ReadlineError → Option 
 key_list_refusal Eof before = before
 key_list_refusal why before = Some why
 
--- a kept refusal is one of a reader, and not the end of the input
+-- a kept error is one of a reader, and not the end of the input
 abbrev pub is_key_list_refusal : Option ReadlineError → Bool
 is_key_list_refusal None = true
 is_key_list_refusal (Some NotUtf8) = true

@@ -1,12 +1,12 @@
-//! Commands and movements by their names: `Kill ForwardWord 2 Start Vi`, `SelfInsert 1 x`, `Insert 2 ab c`. A control
-//! character or a blank at an end stands as its picture.
+//! Commands and movements by their names: `Kill ForwardWord 2 Start Vi`, `SelfInsert 1 x`, `Insert
+//! 2 ab c`. A control character, or a blank at an end, is written as its picture.
 
 use crate::tables::{meant, named, word_and_rest};
 use line_buffer::{Anchor, At, CharSearch, Movement, RepeatCount, Word};
 use line_keys::{Cmd, Text};
 use std::alloc::Global;
 
-// The character that a word means.
+// The character of a word.
 fn char_named(alloc: Global, word: &str) -> Option<char> {
     let text = meant(alloc, word).ok()?;
     text.as_str().chars().next()
@@ -41,7 +41,7 @@ fn search_named(name: &str, c: char) -> CharSearch {
     }
 }
 
-// A movement that takes a count.
+// A movement with a count.
 fn counted_movement(alloc: Global, name: &str, n: RepeatCount, rest: &str) -> Option<Movement> {
     let (first, second) = word_and_rest(rest);
     let movement = match name {
@@ -69,7 +69,7 @@ const MOVEMENTS: [(&str, Movement); 7] = [
     ("EndOfBuffer", Movement::EndOfBuffer),
 ];
 
-/// The movement with these words.
+/// The movement with this name.
 pub fn movement_named(alloc: Global, words: &str) -> Option<Movement> {
     let (name, rest) = word_and_rest(words);
     if let Some(movement) = named(&MOVEMENTS, name) {
@@ -79,7 +79,7 @@ pub fn movement_named(alloc: Global, words: &str) -> Option<Movement> {
     counted_movement(alloc, name, count_named(count)?, rest)
 }
 
-// A command that is a word alone.
+// A command of one word.
 fn bare_command(name: &str) -> Option<Cmd> {
     let cmd = match name {
         "Abort" => Cmd::Abort,
@@ -95,7 +95,7 @@ fn bare_command(name: &str) -> Option<Cmd> {
     Some(cmd)
 }
 
-// One that accepts the line or puts a newline into it.
+// A command that accepts the line or inserts a newline.
 fn accepting_command(name: &str) -> Option<Cmd> {
     let cmd = match name {
         "AcceptLine" => Cmd::AcceptLine,
@@ -111,7 +111,7 @@ fn accepting_command(name: &str) -> Option<Cmd> {
     Some(cmd)
 }
 
-// One that goes through the history.
+// A command of the history.
 fn history_command(name: &str) -> Option<Cmd> {
     let cmd = match name {
         "BeginningOfHistory" => Cmd::BeginningOfHistory,
@@ -127,7 +127,7 @@ fn history_command(name: &str) -> Option<Cmd> {
     Some(cmd)
 }
 
-// One that changes what the cursor stands at.
+// A command that changes the text at the cursor.
 fn changing_command(name: &str) -> Option<Cmd> {
     let cmd = match name {
         "CapitalizeWord" => Cmd::CapitalizeWord,
@@ -144,7 +144,7 @@ fn changing_command(name: &str) -> Option<Cmd> {
     Some(cmd)
 }
 
-// A command that takes a movement, and perhaps a text after `with`.
+// A command with a movement, and perhaps a text after `with`.
 fn moving_command(alloc: Global, name: &str, rest: &str) -> Option<Cmd> {
     match name {
         "Replace" => replacement(alloc, rest),
@@ -178,7 +178,7 @@ fn command_over(name: &str, movement: Movement) -> Option<Cmd> {
     Some(cmd)
 }
 
-// A command that takes a count.
+// A command with a count.
 fn counted_command(alloc: Global, name: &str, n: RepeatCount, rest: &str) -> Option<Cmd> {
     let cmd = match name {
         "Yank" => Cmd::Yank(n, anchor_named(rest)),
@@ -199,7 +199,7 @@ fn anchor_named(name: &str) -> Anchor {
     }
 }
 
-// A command that takes a count and a character.
+// A command with a count and a character.
 fn typing_command(name: &str, n: RepeatCount, c: char) -> Option<Cmd> {
     match name {
         "SelfInsert" => Some(Cmd::SelfInsert(n, c)),
@@ -208,8 +208,8 @@ fn typing_command(name: &str, n: RepeatCount, c: char) -> Option<Cmd> {
     }
 }
 
-/// The command with these words. The text of a `Replace` stands after `with`; `AcceptAtEndOrInsertLine` is the command
-/// that doesn't accept in the middle.
+/// The command with this name. The text of a `Replace` follows `with`; `AcceptAtEndOrInsertLine` is
+/// the command that doesn't accept in the middle.
 pub fn command_named(alloc: Global, words: &str) -> Option<Cmd> {
     let (name, rest) = word_and_rest(words);
     if let Some(cmd) = bare_command(name) {

@@ -1,12 +1,14 @@
-//! Readers and writers of std that give and take in pieces, are interrupted or fail, and that write down what they did.
+//! Readers and writers of std that transfer pieces, are interrupted or fail, and that log their
+//! calls.
 
 use crate::tables::word_and_rest;
 use std::cell::{Cell, RefCell};
 use std::io;
 use std::io::{ErrorKind, Read, Write};
 
-/// What a reader or a writer does at its calls, a word for each: the most bytes that it gives or takes, `interrupted` or
-/// `broken`. A word that ends in `..` is for all calls from there on; after the last word it gives or takes all there is.
+/// What a reader or a writer does at its calls, one word per call: the most bytes to transfer,
+/// `interrupted` or `broken`. A word that ends in `..` applies to all calls from there on; after
+/// the last word a call transfers everything.
 #[derive(Drop)]
 pub struct Turns<'a> {
     left: &'a str,
@@ -14,12 +16,12 @@ pub struct Turns<'a> {
 }
 
 impl<'a> Turns<'a> {
-    /// The turns, with the place where calls are counted.
+    /// The turns, with the counter of calls.
     pub fn new(words: &'a str, calls: &'a Cell<usize>) -> Self {
         Turns { left: words, calls }
     }
 
-    /// How many bytes this call gives or takes at most.
+    /// The most bytes of this call.
     fn next(&mut self) -> io::Result<usize> {
         self.calls.set(self.calls.get().saturating_add(1));
         let (word, behind) = word_and_rest(self.left);
@@ -77,7 +79,7 @@ impl Write for Taker<'_> {
     }
 }
 
-/// What several devices did, in its order: an entry is a name, a colon, the bytes and a semicolon.
+/// What several devices did, in order: an entry is a name, a colon, the bytes and a semicolon.
 pub type Log = RefCell<Vec<u8>>;
 
 fn note(log: &Log, name: &str, bytes: &[u8]) -> io::Result<()> {
@@ -90,7 +92,7 @@ fn note(log: &Log, name: &str, bytes: &[u8]) -> io::Result<()> {
     Ok(())
 }
 
-/// A reader that gives one byte at a call, and writes down `read`.
+/// A reader that gives one byte per call, and logs `read`.
 #[derive(Drop)]
 pub struct LoggedReader<'a> {
     pub bytes: &'a [u8],
@@ -108,7 +110,7 @@ impl Read for LoggedReader<'_> {
     }
 }
 
-/// A writer that writes down what it takes under its name, and each flush.
+/// A writer that logs the bytes it takes under its name, and each flush.
 #[derive(Drop)]
 pub struct LoggedWriter<'a> {
     pub name: &'static str,

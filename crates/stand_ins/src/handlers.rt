@@ -7,16 +7,16 @@ use line_config::HookFault;
 use line_keys::{Cmd, ConditionalEventHandler, Event, EventContext};
 use std::alloc::Global;
 
-/// Answers in one way, whatever it is shown.
+/// Always answers in the same way.
 #[derive(Drop)]
 pub enum OneWay {
-    /// What it is shown of the count: `Undo` of it, or `TransposeWords` where it is negative.
+    /// The count that it is shown: `Undo` of it, or `TransposeWords` if it is negative.
     Count,
     /// No command.
     Nothing,
-    /// That it failed.
+    /// A failure.
     Fails,
-    /// That it wants memory.
+    /// Out of memory.
     WantsMemory,
 }
 
@@ -43,10 +43,10 @@ impl ConditionalEventHandler for OneWay {
     }
 }
 
-/// Takes the hint at the end of the line, kills what follows elsewhere, and fails in an empty line.
+/// Accepts the hint at the end of the line, elsewhere kills the rest, and fails in an empty line.
 #[derive(Drop)]
 pub struct HintOrKill {
-    /// Answers nothing where the count is greater.
+    /// Answers nothing if the count is greater.
     pub most: RepeatCount,
 }
 

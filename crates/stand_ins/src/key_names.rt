@@ -1,4 +1,5 @@
-//! Keys by their names: `x`, `Esc`, `F5`, and with `C-`, `A-` and `S-` before it, in this order, for Ctrl, Alt and Shift.
+//! Keys by their names: `x`, `Esc`, `F5`, with a prefix `C-`, `A-` and `S-`, in this order, for
+//! Ctrl, Alt and Shift.
 
 use crate::tables::named;
 use line_keys::{KeyCode, KeyEvent, Modifiers};
@@ -35,7 +36,8 @@ const HELD: [(&str, Modifiers); 3] = [
     ("S-", Modifiers::SHIFT),
 ];
 
-// The name in the table. One that isn't there shows: an empty one would pass where a row wants nothing.
+// The name in the table. A missing name is visible: an empty one would pass if a row expects
+// nothing.
 fn name_of(code: KeyCode) -> &'static str {
     for (name, named) in &NAMED {
         if *named == code {

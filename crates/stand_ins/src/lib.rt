@@ -1,4 +1,4 @@
-//! What tests stand on: what stands in for the real thing, and the notation of their tables.
+//! The base of the tests: stand-ins for the real devices, and the notation of tables.
 #![tactic(auto)]
 
 pub mod commands;

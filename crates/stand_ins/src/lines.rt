@@ -5,7 +5,7 @@ use crate::tables::{line_and_place, marked};
 use line_buffer::{LineBuffer, NoListener, OutOfMemory};
 use std::alloc::Global;
 
-/// The line that a table shows, with leave to grow; without a bar the cursor is at its end.
+/// The line in a table's notation, which may grow. Without a bar the cursor is at its end.
 pub fn line_of(alloc: Global, shown: &str) -> Result<LineBuffer, OutOfMemory> {
     let (text, place) = line_and_place(alloc, shown)?;
     let mut line = LineBuffer::with_capacity(alloc, 8)?.can_growth(true);
@@ -16,7 +16,7 @@ pub fn line_of(alloc: Global, shown: &str) -> Result<LineBuffer, OutOfMemory> {
     Ok(line)
 }
 
-/// A line as tables show it.
+/// A line in a table's notation.
 pub fn shown_of(alloc: Global, line: &LineBuffer) -> Result<String, OutOfMemory> {
     raised(marked(alloc, line.as_str(), line.pos()))
 }

@@ -1,4 +1,4 @@
-//! A reader that keeps how it was asked.
+//! A reader that records how it was called.
 
 ghost use Rattle.std.specs.Prelude.{◌≡◌, ◌<◌, ◌≤◌, IfErr, OnOk};
 ghost use Rattle.line_config.specs.declared.errors.ReadlineError.{ReadlineError};
@@ -8,11 +8,11 @@ use line_keys::tty::Event as Report;
 use line_keys::{Cmd, KeyCode, KeyEvent, Modifiers, RawReader, Text};
 use std::alloc::Global;
 
-/// Gives one `x` after the other, and keeps how each was asked for.
+/// Gives one `x` after the other, and records how each was requested.
 #[derive(Drop)]
 pub struct Listener {
     pub left: u8,
-    /// Asked for as a report of the terminal, and not as a key.
+    /// Whether a report of the terminal was requested, and not a key.
     pub report: bool,
     pub single_esc_abort: bool,
 }

@@ -8,7 +8,7 @@ use line_keys::RawReader;
 use line_keys::tty::Event as Report;
 use std::alloc::Global;
 
-// What each call tells: a key by its name, and a text with pictures.
+// Writes the result of each call: a key by its name, and a text with pictures.
 
 fn tell_char<R: RawReader>(reader: &mut R, said: &mut String) -> Result<(), ReadlineError> {
     let c = reader.next_char()?;
@@ -42,8 +42,8 @@ fn tell_key<R: RawReader>(
     raised(write_key(said, key))
 }
 
-/// Makes a call, and tells what it answers: `key`, `wait`, `char` or `paste`. With `+` after it, a single Esc doesn't wait
-/// for what may follow.
+/// Makes a call, and writes its result: `key`, `wait`, `char` or `paste`. With `+` after it, a
+/// single Esc doesn't wait for more.
 pub fn tell_call<R: RawReader>(
     alloc: Global,
     reader: &mut R,

@@ -7,21 +7,21 @@ use line_config::ReadlineError;
 use line_keys::{Cmd, KeyCode, KeyEvent, Modifiers, RawReader, Text};
 use std::alloc::Global;
 
-/// What a test types.
+/// An item that a test types.
 #[derive(Drop)]
 pub enum Typed {
     Key(KeyEvent),
     Paste(Text),
 }
 
-/// What comes after all that a test types.
+/// What follows the items that a test types.
 #[derive(Clone, Copy)]
 pub enum After {
     /// The end of the input.
     End,
     /// Bytes that are no character.
     Bad,
-    /// A source that fails.
+    /// A failing source.
     Failed,
 }
 
@@ -41,7 +41,7 @@ impl After {
 #[derive(Drop)]
 pub struct KeyList<'t> {
     typed: &'t [Typed],
-    /// A pasted text is announced after the list, and is cut off.
+    /// A cut-off pasted text is announced after the list.
     cut: bool,
     after: After,
     refused: Option<ReadlineError>,
@@ -64,14 +64,14 @@ impl<'t> KeyList<'t> {
         }
     }
 
-    /// What was not read yet.
+    /// The items that were not read yet.
     pub fn left(&self) -> &[Typed]
         ensures { result.now ≡ self.now.typed.now }
     {
         self.typed
     }
 
-    // Keeps a refusal, unless it is the end of the input.
+    // Keeps an error, unless it is the end of the input.
     fn refuse(&mut self, why: ReadlineError) -> ReadlineError
         requires { IsReaderRefusal why }
         ensures why { result ≡ why }

@@ -1,4 +1,4 @@
-//! A line without a display, which keeps what it is asked.
+//! A line without a display, which records the requests to it.
 
 ghost use Rattle.std.specs.Prelude.{◌≡◌};
 
@@ -16,14 +16,14 @@ pub enum Request {
     DoneInserting,
 }
 
-/// A text with a cursor and perhaps a hint. A message takes the place of the hint.
+/// A text with a cursor and perhaps a hint. A message replaces the hint.
 #[derive(Drop)]
 pub struct PlainLine {
     alloc: Global,
-    /// How many more requests are answered, if not all: the display fails at the next one.
+    /// How many more requests succeed before the display fails; `None` for all.
     pub answered: Option<u32>,
     pub text: Text,
-    /// The place of the cursor, in bytes.
+    /// The cursor's place, in bytes.
     pub pos: usize,
     pub hint: Option<Text>,
     pub inserted: Option<Text>,
@@ -55,7 +55,7 @@ impl PlainLine {
         }
     }
 
-    // Keeps a request.
+    // Records a request.
     fn keep(&mut self, request: Request) -> Result<(), ReadlineError>
         ensures ok { OnOk result (MakesRequest self.old (request_made request) self.new) }
         ensures shows { OnOk result (shown_of self.new ≡ shown_of self.old) }

@@ -4,13 +4,13 @@ use crate::tables::{call_and_answer, or_nothing};
 use std::alloc::Global;
 use std::test::Fail;
 
-/// What makes a row's call.
+/// Makes the call of a row.
 pub trait Player {
-    /// Makes the call, and tells what it answers.
+    /// Makes the call, and returns its answer.
     fn play(&mut self, alloc: Global, call: &str) -> Result<String, Fail>;
 }
 
-/// Makes each row's call, and compares what it answers. `nothing` stands for an empty text, and so does no answer.
+/// Makes each row's call, and compares its answer. `nothing` stands for an empty text or no answer.
 pub fn rows_hold<P: Player>(alloc: Global, player: &mut P, table: &str) -> Result<(), Fail> {
     for row in table.lines() {
         if let Some((call, answer)) = call_and_answer(row) {
@@ -28,7 +28,7 @@ pub fn trimmed(alloc: Global, text: &str) -> Result<String, Fail> {
     raised(String::from_str(alloc, text.trim()))
 }
 
-/// Refuses a text that isn't the one that is wanted.
+/// Fails if a text isn't the expected one.
 pub fn same(found: &str, wanted: &str) -> Result<(), Fail> {
     if found == wanted {
         Ok(())
@@ -37,7 +37,8 @@ pub fn same(found: &str, wanted: &str) -> Result<(), Fail> {
     }
 }
 
-/// An answer, its error turned into the caller's as `?` turns it. As a last call this costs the prover half of `Ok(call()?)`.
+/// An answer, its error converted to the caller's like `?` does. As a last call this costs the
+/// prover half of `Ok(call()?)`.
 pub fn raised<T, E, F: From<E>>(answer: Result<T, E>) -> Result<T, F> {
     match answer {
         Ok(value) => Ok(value),

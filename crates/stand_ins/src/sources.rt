@@ -1,11 +1,11 @@
-//! A source of the tests, which fails as they ask.
+//! A source for tests that fails when they say so.
 
 ghost use Rattle.std.specs.Prelude.{◌≡◌, nat_lt, if◌then◌else◌, false, length, take, true, IsTrue, []};
 ghost use Rattle.line_config.specs.declared.device.Last.TheVariants.{End, Failed};
 
 use line_config::{DeviceFailed, Source};
 
-/// A source over a slice that fails after so many bytes, where there are as many.
+/// A source over a slice that fails after so many bytes, unless it ends before.
 #[derive(Drop)]
 pub struct Faltering<'a> {
     bytes: &'a [u8],
@@ -16,7 +16,7 @@ pub struct Faltering<'a> {
 }
 
 impl<'a> Faltering<'a> {
-    /// A source whose call with this number fails, counted from 0, unless the bytes end before it.
+    /// A source that fails at the call with this number, counted from 0, unless it ends before.
     pub fn failing_at(bytes: &'a [u8], call: usize) -> Self
         ensures { (⟦<Faltering<'a> as Source>⟧.feed result).failed ≡ false }
     {
@@ -33,7 +33,7 @@ impl<'a> Faltering<'a> {
         self.bytes
     }
 
-    /// Whether anything was asked of it after it had failed.
+    /// Whether it was called after it had failed.
     pub fn asked_again(&self) -> bool {
         self.asked_again
     }

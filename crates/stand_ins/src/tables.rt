@@ -1,11 +1,11 @@
 //! The notation of tables of text.
 //!
-//! A row has a call, ` = `, and what it answers. A control character stands as its picture: `␛` is ESC, `␍` is CR, `␊` is
-//! LF; `␠` is a blank that would be lost at an end.
+//! A row has a call, ` = `, and its answer. A control character is written as its picture: `␛` is
+//! ESC, `␍` is CR, `␊` is LF; `␠` is a blank that would be lost at an end.
 
 use std::alloc::{AllocError, Global};
 
-/// The call of a row, and what it answers: nothing where no ` = ` stands in it. A blank line is no row.
+/// The call of a row, and its answer; `None` for a row without ` = `. A blank line is no row.
 pub fn call_and_answer(row: &str) -> Option<(&str, &str)> {
     if row.trim().is_empty() {
         return None;
@@ -14,13 +14,13 @@ pub fn call_and_answer(row: &str) -> Option<(&str, &str)> {
     Some((call.trim(), answer.trim()))
 }
 
-/// The first word, and what stands after it.
+/// The first word, and the text after it.
 pub fn word_and_rest(text: &str) -> (&str, &str) {
     let (word, rest) = text.split_once(' ').unwrap_or((text, ""));
     (word, rest.trim_start_matches(' '))
 }
 
-/// What a word means by a table.
+/// The meaning of a word in a table.
 pub fn named<T: Copy>(table: &[(&str, T)], word: &str) -> Option<T> {
     for (name, value) in table {
         if *name == word {
@@ -30,7 +30,7 @@ pub fn named<T: Copy>(table: &[(&str, T)], word: &str) -> Option<T> {
     None
 }
 
-// The character that a picture shows. Any other character shows itself.
+// The character of a picture. Any other character stands for itself.
 fn shown_by(picture: char) -> char {
     match u32::from(picture) {
         code @ 0x2400..=0x2420 => char::from_u32(code - 0x2400).unwrap_or(picture),
@@ -39,7 +39,7 @@ fn shown_by(picture: char) -> char {
     }
 }
 
-/// The picture of a control character. Any other character shows itself.
+/// The picture of a control character. Any other character stands for itself.
 pub(crate) fn picture_of(c: char) -> char {
     match c {
         '\0'..='\x1f' => char::from_u32(u32::from(c) + 0x2400).unwrap_or(c),
@@ -48,7 +48,7 @@ pub(crate) fn picture_of(c: char) -> char {
     }
 }
 
-/// The text that is meant by one with pictures.
+/// The text with its pictures replaced by their characters.
 pub fn meant(alloc: Global, shown: &str) -> Result<String, AllocError> {
     let mut text = String::new(alloc);
     push_meant(&mut text, shown)?;
@@ -77,7 +77,7 @@ pub(crate) fn push_pictured(shown: &mut String, text: &str) -> Result<(), AllocE
     Ok(())
 }
 
-/// Puts the bytes that stand between `‹` and `›`.
+/// Appends the bytes between `‹` and `›`.
 fn push_bytes(alloc: Global, bytes: &mut Vec<u8>, named: &str) -> Result<(), AllocError> {
     if let Some((count, shown)) = named.split_once('*') {
         let text = meant(alloc, shown)?;
@@ -92,7 +92,8 @@ fn push_bytes(alloc: Global, bytes: &mut Vec<u8>, named: &str) -> Result<(), All
     Ok(())
 }
 
-/// The bytes that are meant: a text with pictures, in which `‹c3 28›` is the bytes C3 and 28, and `‹3*ab›` is `ababab`.
+/// The bytes of a text with pictures, in which `‹c3 28›` is the bytes C3 and 28, and `‹3*ab›` is
+/// `ababab`.
 pub fn meant_bytes(alloc: Global, shown: &str) -> Result<Vec<u8>, AllocError> {
     let mut bytes = Vec::new(alloc);
     for piece in shown.split('‹') {
@@ -103,7 +104,7 @@ pub fn meant_bytes(alloc: Global, shown: &str) -> Result<Vec<u8>, AllocError> {
     Ok(bytes)
 }
 
-/// Bytes with pictures, and those that are no text by their numbers.
+/// Bytes with pictures; those that aren't UTF-8 by their numbers.
 pub fn pictured_bytes(alloc: Global, bytes: &[u8]) -> Result<String, AllocError> {
     let mut shown = String::new(alloc);
     for chunk in bytes.utf8_chunks() {
@@ -115,7 +116,8 @@ pub fn pictured_bytes(alloc: Global, bytes: &[u8]) -> Result<String, AllocError>
     Ok(shown)
 }
 
-/// A line and a place in it, in bytes, which a bar marks: `ab|` is the end of `ab`, and `ab|+5` five bytes after it.
+/// A line and a place in it, in bytes, marked by a bar: `ab|` is the end of `ab`, and `ab|+5` five
+/// bytes after it.
 pub fn line_and_place(alloc: Global, marked: &str) -> Result<(String, usize), AllocError> {
     let (before, behind) = marked.split_once('|').unwrap_or((marked, ""));
     let mut line = meant(alloc, before)?;

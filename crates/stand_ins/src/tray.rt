@@ -1,4 +1,4 @@
-//! A sink of the tests, which fails as they ask.
+//! A sink for tests that fails when they say so.
 
 ghost use Rattle.std.specs.Prelude.{◌≡◌, ◌≤◌, ◌++◌, false, take, length};
 ghost use Rattle.stand_ins.specs.declared.tray.TheConstants.{SIZE};
@@ -7,8 +7,8 @@ use line_config::{DeviceFailed, Sink};
 
 const SIZE: usize = 2048;
 
-/// A sink in a fixed array. It fails where the array or its room is full, having taken what fits,
-/// and at the call with the number `failing_call`, having taken half.
+/// A sink in a fixed array. It fails when the array or its space is full, after taking what fits. At
+/// the call with the number `failing_call` it fails after taking half.
 #[derive(Drop)]
 pub struct Tray {
     bytes: [u8; SIZE],
@@ -23,7 +23,7 @@ pub struct Tray {
 }
 
 impl Tray {
-    /// A sink with room for so many bytes, and no more than its array has.
+    /// A sink with space for so many bytes, at most those of its array.
     pub fn with_room(room: usize) -> Tray
         ensures { ⟦<Tray as Sink>⟧.has_failed result ≡ false }
     {
@@ -39,7 +39,7 @@ impl Tray {
         }
     }
 
-    /// A sink whose call with this number fails, counted from 0 over writes and flushes.
+    /// A sink that fails at the call with this number, counted from 0 over writes and flushes.
     pub fn failing_at(call: usize) -> Tray
         ensures { ⟦<Tray as Sink>⟧.has_failed result ≡ false }
     {
@@ -66,7 +66,7 @@ impl Tray {
         self.failed_in_flush
     }
 
-    /// Whether anything was asked of it after it had failed.
+    /// Whether it was called after it had failed.
     pub fn asked_again(&self) -> bool {
         self.asked_again
     }
@@ -80,7 +80,7 @@ impl Tray {
         fails
     }
 
-    // Takes as many of the bytes as there is room for, and no more than `most`.
+    // Takes as many of the bytes as fit, and at most `most`.
     fn put(&mut self, bytes: &[u8], most: usize) -> usize
         ensures held { take self.new.len self.new.bytes
             ≡ take self.old.len self.old.bytes ++ take result bytes.now }

@@ -1,4 +1,4 @@
-//! Drawings as they go to a sink, byte by byte.
+//! Drawings as they are written to a sink, byte by byte.
 
 use crate::screen::sinks::{FailsAfter, Gathers};
 use line_buffer::{GraphemeClusterMode, Layout, LineBuffer, Position};
@@ -11,7 +11,7 @@ use stand_ins::tables::{meant, pictured_bytes, word_and_rest};
 use std::alloc::{AllocError, Global};
 use std::test::Fail;
 
-/// A line with its cursor, and what stands around it.
+/// A line with its cursor, and the texts around it.
 #[derive(Clone, Copy)]
 struct Shown<'a> {
     prompt: &'a str,
@@ -35,7 +35,7 @@ fn layout_of<Out: Renderer>(screen: &Out, shown: Shown) -> Layout {
     screen.compute_layout(prompt_size, true, shown.line, shown.info)
 }
 
-/// Draws in the place of an older drawing, or without one.
+/// Draws in place of an older drawing, or without one.
 fn draw_over<Out: Renderer>(
     screen: &mut Out,
     shown: Shown,
@@ -45,14 +45,15 @@ fn draw_over<Out: Renderer>(
     screen.refresh_line(shown.prompt, shown.line, shown.info, old, new, None::<&()>)
 }
 
-/// Draws over a drawing whose cursor stands in its first row.
+/// Draws over a drawing with its cursor in its first row.
 fn draw<Out: Renderer>(screen: &mut Out, shown: Shown) -> Result<(), ReadlineError> {
     let old = Layout::new(screen.grapheme_cluster_mode());
     let new = layout_of(screen, shown);
     draw_over(screen, shown, Some(old), &new)
 }
 
-// Columns, prompt, the line with its cursor, and a hint or message, each but the last without a blank; the bytes.
+// Columns, prompt, the line with its cursor, and a hint or message, none with a blank except the
+// last; the bytes.
 const LINES: &str = "
     80 >␠ |             = ␍␛[J␛[m> ␛[m␛[m␛[m
     80 >␠ ab|c          = ␍␛[J␛[m> ␛[mabc␛[m␛[m␛[1D
@@ -68,7 +69,8 @@ const LINES: &str = "
     80 >␠ a|␊b          = ␍␛[J␛[m> ␛[ma␍␊b␛[m␛[m␛[1A␛[2C
 ";
 
-// A wide cluster at the margin, and one that is wider than the row; no width, and control characters past ASCII.
+// A wide cluster at the margin, and one wider than the row; no width, and control characters beyond
+// ASCII.
 const MARGINS: &str = "
     3 >␠ 漢|            = ␍␛[J␛[m> ␛[m␍␊␛[m漢␛[m␛[m␛[m
     2 none \u{17D8}|    = ␍␛[J␛[m␛[m␛[m?␛[m␛[m␛[m
@@ -76,7 +78,7 @@ const MARGINS: &str = "
     80 none a\u{85}␡|   = ␍␛[J␛[m␛[ma␛[m?␛[m␛[m?␛[m␛[m␛[m
 ";
 
-/// What the rows of a table ask.
+/// The calls of a table's rows.
 #[derive(Drop)]
 enum Ask {
     Drawing,
@@ -97,14 +99,14 @@ impl Player for Ask {
     }
 }
 
-// The bytes of a drawing on so many columns.
+// The bytes of a drawing on rows of so many columns.
 fn bytes_of(alloc: Global, columns: u16, shown: Shown) -> Result<String, ReadlineError> {
     let mut screen = screen(VecSink::new(alloc), columns, BellStyle::Audible);
     draw(&mut screen, shown)?;
     raised(pictured_bytes(alloc, screen.into_sink().bytes()))
 }
 
-// The prompt that a word means.
+// The prompt of a word.
 fn prompt_of(alloc: Global, word: &str) -> Result<String, AllocError> {
     match word {
         "none" => Ok(String::new(alloc)),
@@ -143,7 +145,8 @@ fn draws_lines(rt: HostRuntime) -> Result<(), Fail> {
     rows_hold(rt.alloc(), &mut Ask::Drawing, MARGINS)
 }
 
-// Draws the longer line over the other, that one without an older drawing, and clears its rows; the bytes.
+// Draws the longer line over the other one, which has no older drawing, and clears its rows; the
+// bytes.
 fn drawn_over(alloc: Global, shown: Shown, longer: Shown) -> Result<String, ReadlineError> {
     let mut screen = screen(VecSink::new(alloc), 4, BellStyle::Audible);
     let layout = layout_of(&screen, shown);
@@ -238,7 +241,7 @@ fn bell_of(word: &str) -> BellStyle {
     }
 }
 
-// The bytes that a row's call sends.
+// The bytes of a row's call.
 fn sent(alloc: Global, call: &str) -> Result<String, ReadlineError> {
     let (bell, call) = word_and_rest(call);
     let (call, text) = word_and_rest(call);
@@ -264,7 +267,7 @@ fn keeps_its_size(screen: &mut ScreenRenderer<VecSink>) -> bool {
         && !screen.failed()
 }
 
-// What a call that is refused answers, and the calls after it.
+// Whether a failed call, and the calls after it, return the error.
 fn refused(screen: &mut ScreenRenderer<FailsAfter>, line: &LineBuffer) -> bool {
     let shown = Shown {
         prompt: "> ",
@@ -278,7 +281,7 @@ fn refused(screen: &mut ScreenRenderer<FailsAfter>, line: &LineBuffer) -> bool {
         && screen.clear_screen() == refusal
 }
 
-// Whether every call is refused after so many writes.
+// Whether every call fails after so many writes.
 fn refusals_told(alloc: Global, writes: &str) -> Result<String, ReadlineError> {
     let line = line_of(alloc, "|e\\u{301}\\u{6F22}ab")?;
     let writes = writes.parse().unwrap_or(u32::MAX);
@@ -291,7 +294,7 @@ fn refusals_told(alloc: Global, writes: &str) -> Result<String, ReadlineError> {
     raised(String::from_str(alloc, told))
 }
 
-// How many writes a sink takes, and what a drawing and the calls after it answer.
+// How many writes of a sink succeed, and the answers of a drawing and the calls after it.
 const FAILED_WRITES: &str = "
     0   = refused
     1   = refused
@@ -313,7 +316,7 @@ fn answers_each_failed_write(rt: HostRuntime) -> Result<(), Fail> {
     rows_hold(rt.alloc(), &mut Ask::FailedWrite, FAILED_WRITES)
 }
 
-// Calls, and whether they write anything; nothing waits after them.
+// Calls, and whether they write anything; nothing is buffered after them.
 const PASSED_ON: &str = "
     refresh_line ab     = written
     refresh_inside ab   = written
@@ -327,7 +330,7 @@ const PASSED_ON: &str = "
     stay                = nothing
 ";
 
-// What a row's call leaves waiting.
+// What a row's call leaves buffered.
 fn passed_on(alloc: Global, call: &str) -> Result<String, ReadlineError> {
     let (call, text) = word_and_rest(call);
     let line = line_of(alloc, text)?;

@@ -7,7 +7,8 @@ use stand_ins::tables::{meant, word_and_rest};
 use std::alloc::{AllocError, Global};
 use std::test::Fail;
 
-// Columns, mode, the row and the column from which a text is measured, and the text; the row and the column of its end.
+// Columns, mode, the row and the column from which a text is measured, and the text; the row and
+// the column of its end.
 const PLACES: &str = "
     2 unicode 0:0 ab                                = 1:0
     2 unicode 0:0 ab␊c                              = 2:1
@@ -54,7 +55,7 @@ impl Player for Ends {
     }
 }
 
-// Where a row's text ends on so many columns.
+// Where a row's text ends on rows of so many columns.
 fn end_measured(alloc: Global, columns: &str, call: &str) -> Result<String, AllocError> {
     let (mode, call) = word_and_rest(call);
     let (from, text) = word_and_rest(call);

@@ -11,7 +11,7 @@ use stand_ins::tables::{meant_bytes, pictured, pictured_bytes, word_and_rest};
 use std::alloc::{AllocError, Global};
 use std::test::Fail;
 
-// Asks for a key, and tells its name.
+// Requests a key, and writes its name.
 fn tell_key<R: RawReader>(reader: &mut R, said: &mut String) -> Result<(), ReadlineError> {
     let key = reader.next_key(false)?;
     write_key(said, key)?;
@@ -19,7 +19,7 @@ fn tell_key<R: RawReader>(reader: &mut R, said: &mut String) -> Result<(), Readl
     Ok(())
 }
 
-// Asks for a pasted text, and tells it.
+// Requests a pasted text, and writes it.
 fn tell_text<R: RawReader>(
     alloc: Global,
     reader: &mut R,
@@ -31,7 +31,7 @@ fn tell_text<R: RawReader>(
     Ok(())
 }
 
-// Asks for a text after a PasteStart, where texts are asked for, and else for a key.
+// Requests a text after a PasteStart, if texts are read, and otherwise a key.
 fn tell_next<R: RawReader>(
     alloc: Global,
     reader: &mut R,
@@ -45,7 +45,7 @@ fn tell_next<R: RawReader>(
     }
 }
 
-// Asks until the reader refuses, and tells the refusal, which it has to answer again.
+// Reads until the reader fails, and writes the error, which it must return again.
 fn tell_all<R: RawReader>(
     alloc: Global,
     reader: &mut R,
@@ -72,8 +72,8 @@ fn tell_refusal<R: RawReader>(
     Ok(())
 }
 
-/// What a reader gives until it refuses, which it does then again: keys by their names, and, where they are asked for,
-/// pasted texts as `text:ab`.
+/// What a reader gives until it fails, which it then does again: keys by their names, and, if texts
+/// are read, pasted texts as `text:ab`.
 pub(crate) fn given<S: Source + Drop>(
     alloc: Global,
     source: S,
@@ -86,7 +86,7 @@ pub(crate) fn given<S: Source + Drop>(
     Ok(said)
 }
 
-// What two readers gave, where it is the same.
+// What two readers gave, if it is the same.
 fn agreed(alloc: Global, one: String, other: &str) -> Result<String, AllocError> {
     if one.as_str() == other {
         Ok(one)
@@ -95,7 +95,7 @@ fn agreed(alloc: Global, one: String, other: &str) -> Result<String, AllocError>
     }
 }
 
-/// What the bytes are read as: as they are, and one a read.
+/// What the bytes are read as: all at once, and one per read.
 pub(crate) fn read_as(
     alloc: Global,
     bytes: &[u8],
@@ -118,7 +118,7 @@ pub(crate) fn read_in_both_modes(
     agreed(alloc, emacs, vi.as_str())
 }
 
-/// The same of a source that fails after the bytes.
+/// The same for a source that fails after the bytes.
 pub(crate) fn read_until_a_failure(
     alloc: Global,
     bytes: &[u8],
@@ -139,7 +139,7 @@ pub(crate) fn read_until_a_failure(
     agreed(alloc, emacs, vi.as_str())
 }
 
-/// What the rows of a table ask.
+/// The calls of a table's rows.
 #[derive(Drop)]
 enum Ask {
     Keys,
@@ -173,7 +173,7 @@ fn read_by_modes(alloc: Global, call: &str, texts: bool) -> Result<String, Alloc
     }
 }
 
-// Asked for keys alone.
+// Only keys are read.
 const KEYS: &str = "
     emacs ␛a                    = A-a Eof
     emacs ␛␛[D                  = Esc Left Eof
@@ -202,7 +202,7 @@ const KEYS: &str = "
     both ab␛[                   = a b Eof
 ";
 
-// Longer forms than need be, surrogates, numbers beyond the last character, and bytes that begin none.
+// Overlong forms, surrogates, numbers beyond the last character, and bytes that begin none.
 const NO_CHARACTERS: &str = "
     both ‹80›                   = NotUtf8
     both ‹bf›                   = NotUtf8
@@ -224,7 +224,7 @@ const NO_CHARACTERS: &str = "
     both ‹f0 9f 98›(            = NotUtf8
 ";
 
-// Asked for the text after each PasteStart.
+// The text after each PasteStart is read.
 const TEXTS: &str = "
     both ␛[200~␛[201~␊          = PasteStart text: C-J Eof
     both ␛[200~a␊b␛[201~␊       = PasteStart text:a␊b C-J Eof
@@ -251,7 +251,8 @@ fn bytes_read_as_keys_and_texts(rt: HostRuntime) -> Result<(), Fail> {
     rows_hold(rt.alloc(), &mut Ask::Texts, TEXTS)
 }
 
-// How many bytes of a text come, and what they are read as by their end and by a failure.
+// How many bytes of a text there are, and what they are read as if they end and if the source
+// fails.
 const CUT_TEXTS: &str = "
     6   = PasteStart Eof, PasteStart Reader
     7   = PasteStart Eof, PasteStart Reader
@@ -271,7 +272,7 @@ const CUT_TEXTS: &str = "
     21  = PasteStart Eof, PasteStart Reader
 ";
 
-// What bytes are read as by their end and by a failure after them.
+// What bytes are read as if they end and if the source fails after them.
 fn cut_off_told(alloc: Global, bytes: &[u8]) -> Result<String, AllocError> {
     let by_end = read_in_both_modes(alloc, bytes, true)?;
     let by_failure = read_until_a_failure(alloc, bytes, true)?;
@@ -288,7 +289,8 @@ fn cut_text_told(alloc: Global, count: &str) -> Result<String, AllocError> {
     }
 }
 
-// A text that is cut off is refused as the bytes end: by their end, inside a character, or by a failure.
+// Reading a cut-off text fails as the bytes end: at their end, inside a character, or with a
+// failure.
 #[test]
 fn texts_are_cut_off_anywhere(rt: HostRuntime) -> Result<(), Fail> {
     rows_hold(rt.alloc(), &mut Ask::CutText, CUT_TEXTS)
@@ -327,7 +329,7 @@ fn number_told(alloc: Global, bytes: &[u8]) -> Result<String, AllocError> {
     format!(in alloc; "{:x}", u32::from(c))
 }
 
-// Whether they are none where their end or a failure cuts them off.
+// Whether they are none if their end or a failure cuts them off.
 fn is_cut_off(front: &[u8]) -> bool {
     let mut ended = KeyReader::new(SliceSource::new(front), EditMode::Vi);
     let mut failing = KeyReader::new(SliceSource::failing_after(front), EditMode::Vi);
@@ -346,7 +348,7 @@ fn all_cut_off(bytes: &[u8]) -> bool {
     true
 }
 
-// The number of the character that a row's bytes are, and the first bytes of which are none.
+// The number of the character of a row's bytes, of which no first bytes are one.
 fn character_told(alloc: Global, bytes: &str) -> Result<String, AllocError> {
     let bytes = meant_bytes(alloc, bytes)?;
     if !all_cut_off(&bytes) {
@@ -360,8 +362,8 @@ fn characters_are_read(rt: HostRuntime) -> Result<(), Fail> {
     rows_hold(rt.alloc(), &mut Ask::Character, CHARACTERS)
 }
 
-// Calls of a reader of bytes, one after the other; what they answer, what the reader has read ahead then, and what it leaves
-// of the bytes. `+` is for a single Esc that doesn't wait.
+// Calls of a reader of bytes, one after the other; their answers, what the reader has read ahead
+// then, and the bytes that it leaves. `+` is for a single Esc that doesn't wait.
 const CALLS: &str = "
     emacs ␛[200~a␛[201~ : wait key+ paste = PasteStart PasteOutOfPlace PasteOutOfPlace , leaves a␛[201~
     emacs ␛[200~a␛[201~ : wait char = PasteStart PasteOutOfPlace , leaves a␛[201~
@@ -383,7 +385,7 @@ fn tell_kept(said: &mut String, kept: Option<u8>) -> Result<(), AllocError> {
     }
 }
 
-// What a source has left.
+// The rest of a source.
 fn rest_of<S: Source>(alloc: Global, source: &mut S) -> Result<String, AllocError> {
     let mut bytes = Vec::new(alloc);
     for _ in 0..100 {
@@ -395,7 +397,7 @@ fn rest_of<S: Source>(alloc: Global, source: &mut S) -> Result<String, AllocErro
     pictured_bytes(alloc, &bytes)
 }
 
-// Makes a call, and tells what it answers.
+// Makes a call, and writes its answer.
 fn tell_answer<R: RawReader>(
     alloc: Global,
     reader: &mut R,
@@ -420,7 +422,7 @@ fn tell_answers<R: RawReader>(
     Ok(())
 }
 
-// What a source has left, and what was read ahead of it.
+// The rest of a source, and what was read ahead from it.
 fn tell_parts<S: Source>(
     alloc: Global,
     said: &mut String,
@@ -434,7 +436,7 @@ fn tell_parts<S: Source>(
     write!(said, ", leaves {rest}")
 }
 
-// Makes the calls, and tells what is after them.
+// Makes the calls, and writes the result.
 fn called(alloc: Global, bytes: &[u8], mode: EditMode, calls: &str) -> Result<String, AllocError> {
     let mut reader = KeyReader::new(SliceSource::new(bytes), mode);
     let mut said = String::new(alloc);
@@ -449,7 +451,7 @@ fn called(alloc: Global, bytes: &[u8], mode: EditMode, calls: &str) -> Result<St
     Ok(said)
 }
 
-// What a row's calls answer.
+// The answers of a row's calls.
 fn calls_told(alloc: Global, call: &str) -> Result<String, AllocError> {
     let (mode, call) = word_and_rest(call);
     let (bytes, calls) = call.split_once(" : ").unwrap_or((call, ""));
@@ -473,7 +475,7 @@ fn tell_command(key: KeyEvent, cmd: &Cmd, said: &mut String) -> Result<(), Alloc
     write!(said, " {cmd:?}, ")
 }
 
-// Tells the command of a key, where it is one of the reader's own.
+// Writes the command of a key, if it is one of the reader's own.
 fn tell_binding<R: RawReader>(
     reader: &R,
     key: KeyEvent,
@@ -493,7 +495,7 @@ const HELD: [Modifiers; 5] = [
     Modifiers::CTRL_SHIFT,
 ];
 
-// The same of the keys of a character.
+// The same for the keys of a character.
 fn tell_bindings<R: RawReader>(reader: &R, c: char, said: &mut String) -> Result<(), AllocError> {
     for mods in &HELD {
         tell_binding(reader, KeyEvent(KeyCode::Char(c), *mods), said)?;
@@ -501,7 +503,7 @@ fn tell_bindings<R: RawReader>(reader: &R, c: char, said: &mut String) -> Result
     Ok(())
 }
 
-// The commands of Enter and of the keys of all characters of ASCII that are printed.
+// The commands of Enter and of the keys of all printable ASCII characters.
 fn bindings_told<R: RawReader>(alloc: Global, reader: &R) -> Result<String, AllocError> {
     let mut said = String::new(alloc);
     tell_own(reader, &mut said)?;

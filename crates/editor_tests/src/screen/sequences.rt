@@ -54,7 +54,7 @@ const PLAIN: &str = "
     ␛[[E    = F5
 ";
 
-// Sequences that look like these and have no name.
+// Similar sequences without a key.
 const NAMELESS: &str = "
     ␛OX         = UnknownEscSeq
     ␛OE         = UnknownEscSeq
@@ -94,7 +94,7 @@ const NAMELESS: &str = "
     ␛[!!A       = UnknownEscSeq
 ";
 
-// The number of what is held down stands in place of `@`.
+// `@` stands for the number of the modifiers.
 const MODIFIED: &str = "
     ␛[1;@A      = Up
     ␛[1;@B      = Down
@@ -128,7 +128,7 @@ const MODIFIED: &str = "
     ␛[24;@~     = F12
 ";
 
-/// Reads sequences with a number in place of `@`, each a key before which the prefix stands.
+/// Reads sequences with a number in place of `@`, each a key with a prefix.
 #[derive(Drop)]
 struct Sequences {
     number: &'static str,
@@ -142,7 +142,7 @@ impl Player for Sequences {
     }
 }
 
-// The key that a sequence is, without the prefix; where bytes of it were no such key, what they are read as.
+// The key of a sequence, without the prefix; if it isn't one such key, what it is read as.
 fn key_told(alloc: Global, sequence: &str, prefix: &str) -> Result<String, AllocError> {
     let bytes = meant_bytes(alloc, sequence)?;
     if !all_cut_off(alloc, &bytes)? {
@@ -153,7 +153,7 @@ fn key_told(alloc: Global, sequence: &str, prefix: &str) -> Result<String, Alloc
     String::from_str(alloc, key.strip_prefix(prefix).unwrap_or("another key"))
 }
 
-// Whether a sequence is no key where it is cut off after a byte, by the end and by a failure.
+// Whether a sequence is no key if it is cut off after a byte, by the end and by a failure.
 fn is_cut_off(alloc: Global, front: &[u8]) -> Result<bool, AllocError> {
     let by_end = read_in_both_modes(alloc, front, false)?;
     let by_failure = read_until_a_failure(alloc, front, false)?;
@@ -170,7 +170,8 @@ fn all_cut_off(alloc: Global, bytes: &[u8]) -> Result<bool, AllocError> {
     Ok(true)
 }
 
-// Reads the sequences in both modes: whole, one byte a read, and cut after each byte by the end and by a failure.
+// Reads the sequences in both modes: whole, one byte per read, and cut after each byte by the end
+// and by a failure.
 fn each_key(
     alloc: Global,
     table: &str,
@@ -193,7 +194,7 @@ fn sequences_have_their_keys(rt: HostRuntime) -> Result<(), Fail> {
     each_key(rt.alloc(), MODIFIED, "8", "C-A-S-")
 }
 
-// What each byte after ESC [ comes to: the first and the last byte of a row.
+// The result of each byte after ESC [: the first and the last byte of a row.
 const FIRST: &str = "
     00 1f = UnknownEscSeq Eof
     20 3f = Eof
@@ -238,14 +239,15 @@ struct After {
 }
 
 impl After {
-    // What a byte comes to.
+    // The result of a byte.
     fn read(&self, alloc: Global, byte: u8) -> Result<String, AllocError> {
         let mut bytes = meant_bytes(alloc, self.front)?;
         bytes.push(byte)?;
         read_as(alloc, &bytes, EditMode::Emacs, false)
     }
 
-    // What the first byte comes to, and the bytes after it to the last one too.
+    // The result of the first byte, and whether the bytes after it have the same up to the last
+    // one.
     fn read_all(&self, alloc: Global, first: u8, last: u8) -> Result<String, AllocError> {
         let said = self.read(alloc, first)?;
         for byte in first..=last {

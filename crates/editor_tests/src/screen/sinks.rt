@@ -1,4 +1,4 @@
-//! Sinks that fail, and that know what waits in them.
+//! Sinks that fail, and sinks that know what they have buffered.
 
 ghost use Rattle.std.specs.Prelude.{[], false, if◌then◌else◌};
 
@@ -51,7 +51,7 @@ impl Sink for FailsAfter {
     }
 }
 
-/// A sink that knows whether something waits to be passed on.
+/// A sink that knows whether it has something buffered.
 #[derive(Drop)]
 pub(crate) struct Gathers {
     waiting: bool,

@@ -3,7 +3,7 @@
 use std::io;
 use std::io::Read;
 
-/// Gives one byte a read.
+/// Gives one byte per read.
 #[derive(Drop)]
 pub(crate) struct OneByOne<'b> {
     pub(crate) bytes: &'b [u8],

@@ -1,4 +1,4 @@
-//! The keys that both modes know.
+//! The keys of both modes.
 
 ghost use Rattle.std.specs.Prelude.{◌≡◌, ℕ, Bool, option_map, if◌then◌else◌};
 ghost use Rattle.line_keys.specs.Common.{bound_command, terminal_command};
@@ -28,7 +28,7 @@ use std::alloc::Global;
 pub enum Action {
     /// Gives a command.
     Give(Cmd),
-    /// Inserts the pasted text, which is read.
+    /// Inserts a pasted text, which is read first.
     Paste,
 }
 
@@ -36,7 +36,7 @@ impl<D: Decides> InputState<'_, D> {
     ghost use Rattle.line_keys.specs.InputStates.{FollowsIn};
     ghost use Rattle.line_keys.specs.Common.{common, sequence};
 
-    /// The command of a key that the mode's own table doesn't have.
+    /// The command of a key that isn't in the mode's own table.
     #[tactic(auto, using(crate::proofs::Steps::read_answered))]
     pub(crate) fn common<R: RawReader, W: Refresher>(
         &self,
@@ -79,7 +79,7 @@ impl<D: Decides> InputState<'_, D> {
     }
 }
 
-// The command that a custom sequence is bound to.
+// The command to which a custom sequence is bound.
 fn bound_command(followed: Followed) -> Cmd
     ensures { result ≡ bound_command followed }
 {
@@ -89,8 +89,8 @@ fn bound_command(followed: Followed) -> Cmd
     }
 }
 
-/// The command of a key that the terminal has a meaning for. The end of input is one in an empty
-/// line alone.
+/// The command of a key that has a meaning for the terminal. The end of input counts only in an
+/// empty line.
 pub(crate) fn term_binding<R: RawReader, W: Refresher>(
     rdr: &R,
     wrt: &W,
@@ -133,7 +133,7 @@ pub(crate) fn forward_char(n: RepeatCount, positive: bool) -> Movement
     )
 }
 
-// What a key does in both modes, if a row has it.
+// The action of a key in both modes, if it has a row.
 #[tactic(auto, using(crate::proofs::Steps::common_tables))]
 fn common_action<W: Refresher>(
     mode: EditMode,
@@ -151,7 +151,7 @@ fn common_action<W: Refresher>(
     }
 }
 
-// The row whose key reads on.
+// The row of a key after which more is read.
 fn reading_row(key: KeyEvent) -> Option<Action>
     ensures { (n : ℕ) (positive : Bool)
         → result ≡ look n positive key common_reading_rows }

@@ -1,4 +1,4 @@
-//! Counts that are typed before a key: signed numbers.
+//! Counts typed before a key: signed numbers.
 
 ghost use Rattle.std.specs.Prelude.{◌≡◌, ◌≤◌, ◌-◌, IfSome, string_bytes};
 ghost use Rattle.line_config.specs.Refusals.{OrMemory};
@@ -16,7 +16,7 @@ use line_buffer::RepeatCount;
 use line_config::{EditMode, ReadlineError};
 use std::alloc::Global;
 
-/// How often a command is made.
+/// How often a command is repeated.
 pub(crate) fn times(count: Option<i16>) -> RepeatCount
     ensures { result ≡ how_often count }
 {
@@ -36,8 +36,8 @@ pub(crate) fn is_positive(count: Option<i16>) -> bool
     }
 }
 
-// The count with one more digit. After a minus alone, which stands for -1, the digit takes the
-// place of the 1.
+// The count with one more digit. After a minus alone, which stands for -1, the digit replaces the
+// 1.
 fn with_digit(count: i16, digit: RepeatCount) -> i16
     requires { digit ≤ 9 }
     ensures { result ≡ and_digit count digit }
@@ -58,7 +58,7 @@ fn prompt(alloc: Global, count: i16) -> Result<String, ReadlineError>
     Ok(format!(in alloc; "(arg: {count}) ")?)
 }
 
-// The digit that a character is.
+// The digit of a character.
 fn digit(c: char) -> RepeatCount
     requires low { 48 ≤ c }
     requires high { c ≤ 57 }
@@ -68,7 +68,7 @@ fn digit(c: char) -> RepeatCount
     c as RepeatCount - 48
 }
 
-// The count that a key begins in Emacs mode: Alt with a digit or with a minus.
+// The count that a key starts in Emacs mode: Alt with a digit or with a minus.
 fn emacs_begun_by(key: KeyEvent) -> Option<i16>
     ensures { result ≡ begun_by Emacs key }
 {
@@ -79,7 +79,7 @@ fn emacs_begun_by(key: KeyEvent) -> Option<i16>
     }
 }
 
-// The count that a key begins in Vi's command mode: a digit other than 0.
+// The count that a key starts in Vi's command mode: a digit other than 0.
 fn vi_begun_by(key: KeyEvent) -> Option<i16>
     ensures { result ≡ begun_by Vi key }
 {
@@ -89,7 +89,7 @@ fn vi_begun_by(key: KeyEvent) -> Option<i16>
     }
 }
 
-// The count that a key begins.
+// The count that a key starts.
 fn begun_by(mode: EditMode, key: KeyEvent) -> Option<i16>
     ensures { result ≡ begun_by mode key }
 {
@@ -99,8 +99,7 @@ fn begun_by(mode: EditMode, key: KeyEvent) -> Option<i16>
     }
 }
 
-// The count with one more key of it in Emacs mode, if it is one: a digit, or a minus, which is
-// dropped.
+// The count with one more key in Emacs mode, if the key is a digit, or a minus, which is ignored.
 fn emacs_counted_on(count: i16, key: KeyEvent) -> Option<i16>
     ensures { result ≡ counted_on Emacs count key }
 {
@@ -113,7 +112,7 @@ fn emacs_counted_on(count: i16, key: KeyEvent) -> Option<i16>
     }
 }
 
-// The digit that a key without modifiers is.
+// The digit of a key without modifiers.
 fn digit_of(key: KeyEvent) -> Option<RepeatCount>
     ensures value { result ≡ digit_of key }
     ensures small { IfSome result (λ d. d ≤ 9) }
@@ -124,7 +123,7 @@ fn digit_of(key: KeyEvent) -> Option<RepeatCount>
     }
 }
 
-// The count with one more key of it in Vi mode, if it is a digit.
+// The count with one more key in Vi mode, if the key is a digit.
 fn vi_counted_on(count: i16, key: KeyEvent) -> Option<i16>
     ensures { result ≡ counted_on Vi count key }
 {
@@ -134,7 +133,7 @@ fn vi_counted_on(count: i16, key: KeyEvent) -> Option<i16>
     }
 }
 
-// The count with one more key of it.
+// The count with one more key.
 fn counted_on(mode: EditMode, count: i16, key: KeyEvent) -> Option<i16>
     ensures { result ≡ counted_on mode count key }
 {
@@ -149,7 +148,7 @@ impl<D: Decides> InputState<'_, D> {
     ghost use Rattle.line_keys.specs.Counts.{counted_key, counting, counted_on};
     ghost use Rattle.line_keys.specs.Follows.{Follows};
 
-    /// The key, or, where it begins a count, that count and the key after it.
+    /// The key; if it starts a count, the count and the key after it.
     #[tactic(auto, using(crate::proofs::Steps::answer))]
     pub(crate) fn counted_key<R: RawReader, W: Refresher>(
         &self,

@@ -13,12 +13,12 @@ use line_buffer::RepeatCount;
 use line_config::ReadlineError;
 use std::alloc::Global;
 
-/// What came of a sequence of keys.
+/// The result of a sequence of keys.
 #[derive(Drop)]
 pub enum Followed {
     /// It is bound to this command.
     Bound(Cmd),
-    /// It isn't, and its second key, if it was read, was this.
+    /// It isn't bound. Its second key was this, if one was read.
     Unbound(Option<KeyEvent>),
 }
 
@@ -29,7 +29,7 @@ impl<D: Decides> InputState<'_, D> {
     ghost use Rattle.line_keys.specs.Custom.{or_any};
     ghost use Rattle.line_keys.specs.Events.{single};
 
-    /// The command of the key's own binding, else of that of any key.
+    /// The command of the key's own binding, or of the binding of any key.
     pub(crate) fn custom_binding<W: Refresher>(
         &self,
         alloc: Global,
@@ -50,7 +50,7 @@ impl<D: Decides> InputState<'_, D> {
         }
     }
 
-    // The command of the binding of any key, for which the key's event is made.
+    // The command of the binding of any key, for which the key's event is built.
     fn any_binding<W: Refresher>(
         &self,
         alloc: Global,
@@ -71,7 +71,7 @@ impl<D: Decides> InputState<'_, D> {
         }
     }
 
-    // What a handler answers of an event.
+    // A handler's answer to an event.
     fn decided<W: Refresher>(
         &self,
         alloc: Global,
@@ -88,8 +88,8 @@ impl<D: Decides> InputState<'_, D> {
         handler.decide(alloc, event, n, positive, &ctx)
     }
 
-    /// The command that a sequence of keys is bound to, which begins with this key: while the keys
-    /// so far begin a bound sequence, or are it, one more is read.
+    /// The command bound to a sequence of keys that starts with this key. As long as a bound
+    /// sequence starts with the keys so far, or equals them, one more key is read.
     #[tactic(auto, using(crate::proofs::Steps::turns))]
     pub(crate) fn custom_seq_binding<R: RawReader, W: Refresher>(
         &self,
@@ -119,7 +119,7 @@ impl<D: Decides> InputState<'_, D> {
         Ok(Followed::Unbound(second))
     }
 
-    // The command that exactly these keys are bound to.
+    // The command bound to exactly these keys.
     fn sequence_command<W: Refresher>(
         &self,
         alloc: Global,

@@ -27,14 +27,14 @@ use line_buffer::{At, Movement, RepeatCount, Word};
 use line_config::ReadlineError;
 use std::alloc::Global;
 
-/// What a key of Emacs mode does.
+/// The action of a key in Emacs mode.
 #[derive(Drop)]
 pub enum Action {
     /// Gives a command.
     Give(Cmd),
-    /// Moves to the character that is typed next.
+    /// Moves to the next typed character.
     Seek(Search),
-    /// Reads one more key, which has rows of its own.
+    /// Reads one more key, which has its own rows.
     LeadOn,
 }
 
@@ -47,7 +47,7 @@ impl<D: Decides> InputState<'_, D> {
     ghost use Rattle.line_keys.specs.Counts.{how_often, is_plus};
     ghost use Rattle.line_keys.specs.Follows.{Follows};
 
-    /// The command that begins with this key.
+    /// The command that starts with this key.
     #[tactic(auto, using(crate::proofs::Steps::part_then))]
     pub(crate) fn emacs<R: RawReader, W: Refresher>(
         &self,
@@ -92,7 +92,7 @@ impl<D: Decides> InputState<'_, D> {
         }
     }
 
-    // What the key's row says, or what is common to both modes.
+    // The action of the key's row, or the one common to both modes.
     #[tactic(auto, using(crate::proofs::Steps::one_read))]
     fn emacs_command<R: RawReader, W: Refresher>(
         &self,
@@ -114,7 +114,7 @@ impl<D: Decides> InputState<'_, D> {
         }
     }
 
-    // The command of a custom sequence, else that of the second key, which is read if it wasn't.
+    // The command of a custom sequence, or that of the second key, which is read if it wasn't.
     #[tactic(auto, using(crate::proofs::Steps::part_then_read))]
     fn ctrl_x<R: RawReader, W: Refresher>(
         &self,
@@ -137,7 +137,7 @@ impl<D: Decides> InputState<'_, D> {
     }
 }
 
-// The command of the second key after Ctrl-X, which wasn't read yet.
+// The command of the second key after Ctrl-X, which is read first.
 #[tactic(auto, using(crate::proofs::KeyReads::made_of_read, crate::proofs::KeyReads::not_made))]
 fn read_second<R: RawReader>(
     rdr: &mut R,
@@ -175,7 +175,7 @@ fn second_command(key: KeyEvent, n: RepeatCount, positive: bool) -> Cmd
     }
 }
 
-// The move to the character that is typed next.
+// The move to the next typed character.
 #[tactic(auto, using(crate::proofs::KeyReads::made_of_read, crate::proofs::KeyReads::not_made))]
 fn char_search<R: RawReader>(
     rdr: &mut R,
@@ -222,7 +222,7 @@ fn ahead(n: RepeatCount, positive: bool) -> Movement
     )
 }
 
-// What a key does, if a row has it.
+// The action of a key, if it has a row.
 #[tactic(auto, using(crate::proofs::Steps::emacs_tables))]
 fn emacs_action<W: Refresher>(
     wrt: &W,
@@ -253,7 +253,7 @@ fn typed_row(key: KeyEvent, n: RepeatCount, positive: bool) -> Option<Cmd>
     }
 }
 
-// The rows whose keys read on.
+// The rows of keys after which more is read.
 fn reading_row(key: KeyEvent, positive: bool) -> Option<Action>
     ensures { (n : ℕ) → result ≡ look n positive key emacs_reading_rows }
 {
@@ -289,7 +289,7 @@ fn emacs_row<W: Refresher>(wrt: &W, key: KeyEvent, n: RepeatCount, positive: boo
     }
 }
 
-// The rows without modifiers. A hint is taken where the cursor stands right before it.
+// The rows without modifiers. A hint is accepted if the cursor is right before it.
 fn plain_row<W: Refresher>(wrt: &W, code: KeyCode, n: RepeatCount, positive: bool) -> Option<Cmd>
     ensures { let rows = emacs_command_rows (W.display.shown wrt.now) in
         option_map Give result ≡ first_row n positive code 0 rows }

@@ -35,7 +35,7 @@ impl<D: Decides> InputState<'_, D> {
     ghost use Rattle.line_keys.specs.Vi.{is_new, operation, typed, vi_command, vi_counted};
     ghost use Rattle.line_keys.specs.Vi.{vi_insert, vi_phrase};
 
-    /// The command that begins with this key.
+    /// The command that starts with this key.
     #[tactic(auto, using(crate::proofs::Following::as_follows))]
     pub(crate) fn vi<R: RawReader, W: Refresher>(
         &mut self,
@@ -57,7 +57,7 @@ impl<D: Decides> InputState<'_, D> {
         }
     }
 
-    // The command that begins with this key in command mode.
+    // The command that starts with this key in command mode.
     #[tactic(auto, using(crate::proofs::Steps::part_then), unfolding(crate::specs::Vi::vi_command))]
     fn vi_command<R: RawReader, W: Refresher>(
         &mut self,
@@ -103,7 +103,7 @@ impl<D: Decides> InputState<'_, D> {
         }
     }
 
-    // The command of the table, which is remembered if it is a change.
+    // The command of the table. A change is remembered.
     #[tactic(auto, using(crate::proofs::Steps::part_remembered))]
     fn vi_changed<R: RawReader, W: Refresher>(
         &mut self,
@@ -126,7 +126,7 @@ impl<D: Decides> InputState<'_, D> {
         self.changed_by(alloc, cmd)
     }
 
-    // What the key's row says, or what is common to both modes.
+    // The action of the key's row, or the one common to both modes.
     #[tactic(auto, using(crate::proofs::Steps::action), unfolding(crate::specs::Vi::command_table))]
     fn vi_done<R: RawReader, W: Refresher>(
         &mut self,
@@ -173,8 +173,8 @@ impl<D: Decides> InputState<'_, D> {
         }
     }
 
-    // The command of an operator with its motion. A change turns to insert mode before its motion
-    // is read.
+    // The command of an operator with its motion. A change switches to insert mode before its
+    // motion is read.
     #[tactic(auto, using(crate::proofs::Steps::operation))]
     fn vi_operation<R: RawReader, W: Refresher>(
         &mut self,
@@ -209,7 +209,7 @@ impl<D: Decides> InputState<'_, D> {
         }
     }
 
-    // Each change is the last one.
+    // Each change is remembered as the last one.
     fn changed_by(&mut self, alloc: Global, cmd: Cmd) -> Result<Cmd, ReadlineError>
         ensures remembers { let is = (standing cmd).is_change in
             Remembers is cmd (input_of self.old) (input_of self.new) result }
@@ -221,7 +221,7 @@ impl<D: Decides> InputState<'_, D> {
         Ok(cmd)
     }
 
-    // The command that begins with this key in insert and replace mode.
+    // The command that starts with this key in insert and replace mode.
     #[tactic(auto, using(crate::proofs::Steps::decision), unfolding(crate::specs::Vi::vi_insert))]
     fn vi_insert<R: RawReader, W: Refresher>(
         &mut self,
@@ -246,7 +246,7 @@ impl<D: Decides> InputState<'_, D> {
         }
     }
 
-    // The command of the table, which is remembered if it is a change of its own.
+    // The command of the table. A new change is remembered.
     #[tactic(auto, using(crate::proofs::Steps::part_remembered))]
     fn vi_typed<R: RawReader, W: Refresher>(
         &mut self,
@@ -268,7 +268,7 @@ impl<D: Decides> InputState<'_, D> {
         self.typed_by(alloc, cmd)
     }
 
-    // What the key's row says, or what is common to both modes.
+    // The action of the key's row, or the one common to both modes.
     #[tactic(auto, using(crate::proofs::Steps::leaving), unfolding(crate::specs::Vi::insert_table))]
     fn vi_inserted<R: RawReader, W: Refresher>(
         &mut self,
@@ -301,7 +301,7 @@ impl<D: Decides> InputState<'_, D> {
         }
     }
 
-    // Each change is the last one, but for typed characters that go on with it.
+    // Each change is remembered as the last one, except for typed characters that continue it.
     fn typed_by(&mut self, alloc: Global, cmd: Cmd) -> Result<Cmd, ReadlineError>
         ensures remembers { let is = is_new cmd (input_of self.old) in
             Remembers is cmd (input_of self.old) (input_of self.new) result }
@@ -323,7 +323,7 @@ fn move_or(other: Cmd, movement: Option<Movement>) -> Cmd
     }
 }
 
-// What a typed character does.
+// The command of a typed character.
 fn typed_in(mode: InputMode, c: char) -> Cmd
     ensures { result ≡ typed_in mode c }
 {
@@ -333,7 +333,7 @@ fn typed_in(mode: InputMode, c: char) -> Cmd
     }
 }
 
-// The character that is typed next, in place of those under the cursor.
+// The next typed character replaces those under the cursor.
 #[tactic(auto, using(crate::proofs::KeyReads::made_of_read, crate::proofs::KeyReads::not_made))]
 fn replacement<R: RawReader>(rdr: &mut R, n: RepeatCount) -> Result<Cmd, ReadlineError>
     ensures { let given = from_key_at (key_replacement n) in
@@ -343,7 +343,7 @@ fn replacement<R: RawReader>(rdr: &mut R, n: RepeatCount) -> Result<Cmd, Readlin
     Ok(replaced_by(key, n))
 }
 
-// What the key after the one for replacing gives.
+// The command of the key after the one for replacing.
 fn replaced_by(key: KeyEvent, n: RepeatCount) -> Cmd
     ensures { result ≡ key_replacement n key }
 {

@@ -1,4 +1,5 @@
-//! A text on rows of cells: a full row is left at once, and what doesn't fit goes to the next row.
+//! Draws a text on rows of cells: a full row is left at once, and what doesn't fit goes to the next
+//! row.
 
 ghost use Rattle.std.specs.Prelude.{◌≡◌, ◌≤◌, ◌<◌, ◌∷◌, ◌==◌, ◌+◌, nat_le, true, IsTrue, OnOk, OnErr, IfOk, length, map, chars, encode_utf8};
 ghost use Rattle.std.specs.List.{list_all};
@@ -16,7 +17,7 @@ use line_buffer::{Unit, is_printable_text};
 use line_config::{DeviceFailed, Sink};
 use unicode_segmentation::UnicodeSegmentation;
 
-/// Leaves a full row. Answers the column, as each function here does.
+/// Leaves a full row. Returns the column, like each function here.
 fn leave_full<D: Sink>(sink: &mut D, grid: Grid, col: Unit) -> Result<Unit, DeviceFailed>
     requires inside { col ≤ grid.columns }
     ensures { SendsTo (break_if (col == grid.columns))
@@ -30,7 +31,7 @@ fn leave_full<D: Sink>(sink: &mut D, grid: Grid, col: Unit) -> Result<Unit, Devi
     Ok(col)
 }
 
-/// Goes to the next row where so many columns don't fit after `col`.
+/// Goes to the next row if so many columns don't fit after `col`.
 fn make_room<D: Sink>(
     sink: &mut D,
     grid: Grid,
@@ -51,8 +52,8 @@ fn make_room<D: Sink>(
     Ok(0)
 }
 
-/// The text of a cluster between two sequences that change nothing. One of two or three bytes, as
-/// most letters have, is sent at once.
+/// The text of a cluster between two sequences without effect. A cluster of two or three bytes, as
+/// most letters have, is one write.
 fn send_fenced<D: Sink>(sink: &mut D, cluster: &str) -> Result<(), DeviceFailed>
     ensures { Sends D.held D.has_failed (fenced cluster.now) sink.old sink.new result }
 {
@@ -86,7 +87,7 @@ fn send_wide<D: Sink>(
     leave_full(sink, grid, start + width)
 }
 
-/// Printable characters of ASCII, a column for each, that fit in the row.
+/// Printable ASCII characters, one column each, that fit in the row.
 fn send_run<D: Sink>(
     sink: &mut D,
     grid: Grid,
@@ -102,7 +103,7 @@ fn send_run<D: Sink>(
     leave_full(sink, grid, col + letters.len() as Unit)
 }
 
-/// A cluster, or a question mark in the place of one that a display can't hold.
+/// A cluster, or a question mark in place of one that doesn't fit on the display.
 fn send_cluster<D: Sink>(
     sink: &mut D,
     grid: Grid,
@@ -204,7 +205,7 @@ fn send_chars<D: Sink>(
     Ok(col)
 }
 
-/// A row of the text: by characters where all are printable ASCII, else by clusters.
+/// A row of the text: by characters if all are printable ASCII, otherwise by clusters.
 fn send_row<D: Sink>(sink: &mut D, grid: Grid, start: Unit, row: &str) -> Result<Unit, DeviceFailed>
     requires inside { start < grid.columns }
     ensures { SendsItems (row_items (cluster_width grid.mode grid.columns) row.now) start
@@ -237,7 +238,7 @@ fn send_next_row<D: Sink>(
     send_row(sink, grid, 0, row)
 }
 
-/// A text from a column on. One of printable ASCII is one row, and is looked at no further.
+/// A text from a column on. A text of printable ASCII is one row, and isn't examined further.
 #[tactic(auto, using(crate::proofs::Items::letter_items))]
 pub(crate) fn send_text<D: Sink>(
     sink: &mut D,

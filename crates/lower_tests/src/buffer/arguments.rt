@@ -106,7 +106,7 @@ impl<'a> Arguments<'a> {
         }
     }
 
-    /// The count, 1 where none was given.
+    /// The count, 1 if none was given.
     pub(crate) fn n(&self) -> RepeatCount {
         self.count.unwrap_or(1)
     }
@@ -161,7 +161,7 @@ fn search_of(word: &str) -> Option<CharSearch> {
     }
 }
 
-/// Whether rows are to be taken out, and by how much.
+/// Whether rows are to be dedented, and by how much.
 fn indentation_of(word: &str) -> Option<(bool, u8)> {
     let (dedent, amount) = match word.strip_prefix('<') {
         Some(amount) => (true, amount),

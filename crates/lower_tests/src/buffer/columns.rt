@@ -67,7 +67,7 @@ const JOINED_EMOJI_ABOVE: &str = "
     '👩\u{200D}🔬z␊abcde|f' move_to_line_up 1 0 NoZwj = true '👩\u{200D}🔬z|␊abcdef'
     ";
 
-/// The columns of each row's text by each mode.
+/// The columns of each row's text in each mode.
 #[derive(Clone, Copy, Drop)]
 struct Widths;
 
@@ -81,7 +81,7 @@ impl Player for Widths {
     }
 }
 
-/// A text, and its columns by each mode: `Unicode`, `WcWidth` and `NoZwj`.
+/// A text, and its columns in each mode: `Unicode`, `WcWidth` and `NoZwj`.
 #[test]
 fn columns_by_mode(rt: HostRuntime) -> Result<(), Fail> {
     let rows = "
@@ -108,7 +108,7 @@ fn repeated(alloc: Global, count: usize) -> Result<String, Fail> {
     Ok(text)
 }
 
-/// Moves up from the end of a row of 70,000 and one of one character, and down again.
+/// Moves up from the end of a row of 70,000 characters and one of one character, and down again.
 fn long_rows_crossed(rt: &(impl AllocGlobal + Abort), text: &str) -> Result<(), Fail> {
     let mut line = line_of(rt.alloc(), text)?;
     let layout = layout(GraphemeClusterMode::Unicode, 2);
@@ -117,7 +117,7 @@ fn long_rows_crossed(rt: &(impl AllocGlobal + Abort), text: &str) -> Result<(), 
     Ok(())
 }
 
-/// Whether each mode tells the most columns.
+/// Whether each mode returns the most columns.
 fn has_most_columns(text: &str) -> bool {
     GraphemeClusterMode::Unicode.width(text) == 65_535
         && GraphemeClusterMode::WcWidth.width(text) == 65_535

@@ -1,4 +1,4 @@
-//! Edits of a line, with the events that they tell.
+//! Edits of a line, with their events.
 
 use crate::buffer::table::{plays, plays_on};
 use line_buffer::{LineBuffer, NoListener, OutOfMemory};
@@ -36,7 +36,7 @@ const TEXTS_YANKED: &str = "
           yank 3 'xy' = Some(true) 'xyxyxy|' insert_str 0 'xyxyxy'
     ";
 
-/// Inserts as many as can be; what the call answers, the length and the place then.
+/// Inserts as many as possible; the call's answer, the length and the place then.
 fn most_inserted(
     alloc: Global,
     mut line: LineBuffer,
@@ -58,12 +58,12 @@ fn characters_inserted(rt: HostRuntime) -> Result<(), Fail> {
     Ok(())
 }
 
-/// Plays rows on a line of four bytes without leave to grow; the line then.
+/// Plays rows on a line of four bytes that can't grow; the line then.
 fn plays_without_leave(alloc: Global, rows: &str) -> Result<LineBuffer, Fail> {
     plays_on(alloc, LineBuffer::with_capacity(alloc, 4)?, rows)
 }
 
-/// Lines of four bytes without leave to grow.
+/// Lines of four bytes that can't grow.
 #[test]
 fn lines_without_leave_to_grow(rt: HostRuntime) -> Result<(), Fail> {
     let rows = "

@@ -1,5 +1,5 @@
-//! Kills and copies by each movement, with the events that they tell. A row is a movement; after `=` stand what it
-//! copies, whether it killed, the line then, and the events.
+//! Kills and copies by each movement, with their events. A row is a movement; after `=` come the
+//! copied text, whether it killed, the line then, and the events.
 
 use crate::buffer::arguments::Arguments;
 use crate::buffer::log::Log;
@@ -15,13 +15,13 @@ fn movement_of(call: &str) -> Result<Movement, Fail> {
     arguments.movement(arguments.name)
 }
 
-/// What a movement copies.
+/// The text that a movement copies.
 fn copied(alloc: Global, line: &LineBuffer, movement: &Movement) -> Result<String, OutOfMemory> {
     let copy = line.copy(alloc, movement)?;
     raised(quoted(alloc, copy.as_ref()))
 }
 
-/// What a kill answers after a copy: `refused` where the listener refused it.
+/// The answer of a kill after a copy: `refused` if the listener failed.
 fn answer_told(
     alloc: Global,
     copy: &str,
@@ -33,7 +33,7 @@ fn answer_told(
     }
 }
 
-/// Copies and kills by a movement, and answers what is then written.
+/// Copies and kills by a movement, and returns the answer of the row.
 fn killed(
     alloc: Global,
     line: &mut LineBuffer,
@@ -46,7 +46,7 @@ fn killed(
     written(alloc, answer.as_str(), line, &log)
 }
 
-/// Plays each row on a line of its own, the one that is shown where the row has none.
+/// Plays each row on its own line, or on this one if the row has none.
 #[derive(Clone, Copy, Drop)]
 struct Killing {
     shown: &'static str,
@@ -160,7 +160,7 @@ fn parts_deleted_without_a_kill(rt: HostRuntime) -> Result<(), Fail> {
     plays(rt.alloc(), &[rows])
 }
 
-/// A kill that its listener refuses is closed, and leaves the line as it was.
+/// A kill whose listener fails is closed, and leaves the line as it was.
 #[test]
 fn refused_kills_are_closed(rt: HostRuntime) -> Result<(), Fail> {
     let rows = "

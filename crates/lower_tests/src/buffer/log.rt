@@ -1,4 +1,4 @@
-//! A listener that writes down what it is told, and refuses deletions where a test asks for it.
+//! A listener that logs its events, and fails on deletions if a test says so.
 
 use line_buffer::{ChangeListener, DeleteListener, Direction, OutOfMemory};
 use std::alloc::Global;
@@ -18,7 +18,7 @@ impl Log {
         }
     }
 
-    /// A log that refuses each deletion.
+    /// A log that fails on each deletion.
     pub(crate) fn refusing(alloc: Global) -> Self {
         Log {
             events: String::new(alloc),

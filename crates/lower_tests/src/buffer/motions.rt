@@ -172,7 +172,7 @@ const ENDS_OF_INPUT: &str = "
     'a|\u{A0}b' is_end_of_input = false 'a|\u{A0}b'
     ";
 
-/// What a copy of a line is: shown, by its text, and as a text.
+/// A copy of a line: in the notation of tables, as its text, and as a string.
 fn copy_told(alloc: Global, line: &LineBuffer) -> Result<String, OutOfMemory> {
     let copy = line.try_clone(alloc)?;
     let shown = value_told(alloc, &copy)?;

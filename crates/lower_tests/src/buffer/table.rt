@@ -1,6 +1,6 @@
-//! How a table is played. A row is `'ab|c' call = answer 'a|bc' events`: the line before, with `|` at the cursor, the
-//! call, what it answers, the line then, and what the listener was told. Without a line of its own a row goes on with the
-//! line that the row before it left.
+//! How a table is played. A row is `'ab|c' call = answer 'a|bc' events`: the line before, with `|`
+//! at the cursor, the call, its answer, the line then, and the events of the listener. A row
+//! without a line continues with the line that the row before it left.
 
 use crate::buffer::arguments::Arguments;
 use crate::buffer::log::Log;
@@ -44,7 +44,7 @@ pub(crate) fn plays_on(alloc: Global, line: LineBuffer, rows: &str) -> Result<Li
     Ok(desk.line)
 }
 
-/// Takes the line that a row begins with, where it has one, and answers the call.
+/// Takes the line with which a row begins, if it has one, and returns the call.
 pub(crate) fn begun<'a>(
     alloc: Global,
     line: &mut LineBuffer,
@@ -58,7 +58,7 @@ pub(crate) fn begun<'a>(
     Ok(call)
 }
 
-/// What a call answered, the line then, and the events.
+/// The answer of a call, the line then, and the events.
 pub(crate) fn written(
     alloc: Global,
     answer: &str,
@@ -79,7 +79,7 @@ pub(crate) fn quoted(alloc: Global, text: Option<&String>) -> Result<String, All
     }
 }
 
-/// Makes a call, and answers what is then written.
+/// Makes a call, and returns the answer of its row.
 fn step(alloc: Global, line: &mut LineBuffer, call: &str) -> Result<String, Fail> {
     let a = Arguments::of(call);
     let mut log = Log::new(alloc);
@@ -87,7 +87,7 @@ fn step(alloc: Global, line: &mut LineBuffer, call: &str) -> Result<String, Fail
     raised(written(alloc, answer.as_str(), line, &log))
 }
 
-/// Makes a call, and answers what it answers.
+/// Makes a call, and returns its answer.
 fn answer(
     alloc: Global,
     line: &mut LineBuffer,
@@ -108,7 +108,7 @@ fn told(alloc: Global, answer: bool) -> Result<String, AllocError> {
     String::from_str(alloc, if answer { "true" } else { "false" })
 }
 
-/// Makes a motion; `None` where the call is another one.
+/// Makes a motion; `None` if the call is another one.
 fn moved(line: &mut LineBuffer, a: &Arguments<'_>) -> Option<bool> {
     let n = a.n();
     Some(match a.name {
@@ -123,7 +123,7 @@ fn moved(line: &mut LineBuffer, a: &Arguments<'_>) -> Option<bool> {
     })
 }
 
-/// Moves to an end, or answers where the cursor is; `None` where the call is another one.
+/// Moves to an end, or returns where the cursor is; `None` if the call is another one.
 fn moved_to_an_end(line: &mut LineBuffer, name: &str) -> Option<bool> {
     Some(match name {
         "move_home" => line.move_home(),
@@ -143,7 +143,7 @@ pub(crate) fn layout(mode: GraphemeClusterMode, col: RepeatCount) -> Layout {
     layout
 }
 
-/// Makes a deletion; `None` where the call is another one.
+/// Makes a deletion; `None` if the call is another one.
 fn taken(
     alloc: Global,
     line: &mut LineBuffer,
@@ -161,7 +161,7 @@ fn taken(
     Ok(Some(taken?))
 }
 
-/// Makes a deletion of so many; `None` where the call is another one.
+/// Makes a deletion with a count; `None` if the call is another one.
 fn taken_by_count(
     alloc: Global,
     line: &mut LineBuffer,
@@ -179,7 +179,7 @@ fn taken_by_count(
     Ok(Some(taken?))
 }
 
-/// Makes a change of what stands, or another call.
+/// Makes a replacement, or another call.
 fn changed(
     alloc: Global,
     line: &mut LineBuffer,
@@ -195,7 +195,7 @@ fn changed(
     Ok(told(alloc, changed?)?)
 }
 
-/// Moves rows in or out.
+/// Indents or dedents rows.
 fn indented(
     alloc: Global,
     line: &mut LineBuffer,
@@ -207,7 +207,7 @@ fn indented(
     raised(told(alloc, indented))
 }
 
-/// Takes text out, and answers it.
+/// Deletes text, and returns it.
 fn deleted(
     alloc: Global,
     line: &mut LineBuffer,
@@ -224,12 +224,12 @@ fn next_told(alloc: Global, line: &LineBuffer, a: &Arguments<'_>) -> Result<Stri
     format!(in alloc; "{place:?}")
 }
 
-/// What a call answers that puts text in.
+/// The answer of a call that inserts text.
 fn put_told(alloc: Global, put: Option<bool>) -> Result<String, AllocError> {
     format!(in alloc; "{put:?}")
 }
 
-/// Makes one of the calls that answer no truth.
+/// Makes one of the calls that don't return a boolean.
 fn asked(
     alloc: Global,
     line: &mut LineBuffer,
@@ -245,7 +245,7 @@ fn asked(
     }
 }
 
-/// Puts text in at the cursor.
+/// Inserts text at the cursor.
 fn put(
     alloc: Global,
     line: &mut LineBuffer,
@@ -260,7 +260,7 @@ fn put(
     }
 }
 
-/// Exchanges as many bytes before the cursor.
+/// Replaces as many bytes before the cursor.
 fn popped(
     alloc: Global,
     line: &mut LineBuffer,
@@ -274,7 +274,7 @@ fn popped(
     raised(line.yank_pop(alloc, size, a.text, log))
 }
 
-/// Exchanges the whole text, or puts some in by `replace`. Answers nothing.
+/// Replaces the whole text, or inserts some by `replace`. Returns nothing.
 fn exchanged(
     alloc: Global,
     line: &mut LineBuffer,

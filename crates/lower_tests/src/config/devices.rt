@@ -1,5 +1,5 @@
-//! The devices over memory, and over readers and writers that give and take in pieces, are interrupted, or fail. The rows
-//! begin with the turns of the reader or the writer, a word for each call.
+//! The devices over memory, and over readers and writers that transfer pieces, are interrupted, or
+//! fail. The rows begin with the turns of the reader or the writer, a word for each call.
 
 use line_config::{
     DeviceFailed, ReadSource, Recorded, Sink, SliceSource, Source, VecSink, WriteSink,
@@ -12,7 +12,7 @@ use std::cell::Cell;
 use std::io::Write;
 use std::test::Fail;
 
-/// Takes what a source gives to its end or its failure, and answers whether it was the end.
+/// Takes the bytes of a source to its end or its failure, and returns whether it was the end.
 fn took_all<S: Source>(source: &mut S, bytes: &mut Vec<u8>) -> Result<bool, AllocError> {
     for _ in 0..100_000 {
         match source.next_byte() {
@@ -24,7 +24,7 @@ fn took_all<S: Source>(source: &mut S, bytes: &mut Vec<u8>) -> Result<bool, Allo
     Ok(false)
 }
 
-/// Refuses a source that failed otherwise than at the end of what it gave, or not for good.
+/// Fails if a source failed otherwise than after its last byte, or not for good.
 fn ends_for_good<S: Source>(source: &mut S, at_end: bool) -> Result<(), Fail> {
     let failed = source.failed();
     if source.next_byte().is_err() == at_end || failed == at_end {
@@ -33,7 +33,7 @@ fn ends_for_good<S: Source>(source: &mut S, at_end: bool) -> Result<(), Fail> {
     Ok(())
 }
 
-/// The same, of a source that counts its calls. After its end or its failure it asks no more.
+/// The same for a source whose calls are counted. After its end or its failure it makes no more.
 fn stays_ended<S: Source>(source: &mut S, at_end: bool, calls: &Cell<usize>) -> Result<(), Fail> {
     let asked = calls.get();
     ends_for_good(source, at_end)?;
@@ -43,7 +43,7 @@ fn stays_ended<S: Source>(source: &mut S, at_end: bool, calls: &Cell<usize>) -> 
     Ok(())
 }
 
-/// What a source gives, and how it ends, for good.
+/// The bytes of a source, and how it ends, for good.
 fn told<S: Source>(alloc: Global, source: &mut S, calls: &Cell<usize>) -> Result<String, Fail> {
     let mut bytes = Vec::new(alloc);
     let at_end = took_all(source, &mut bytes)?;
@@ -58,7 +58,7 @@ fn given_told(alloc: Global, bytes: &[u8], at_end: bool) -> Result<String, Alloc
     format!(in alloc; "{given}, {last}")
 }
 
-/// What a source over memory gives, and how it ends.
+/// The bytes of a source over memory, and how it ends.
 fn told_of_memory(alloc: Global, mut source: SliceSource<'_>) -> Result<String, Fail> {
     told(alloc, &mut source, &Cell::new(0))
 }
@@ -95,7 +95,7 @@ fn memory_sinks(rt: HostRuntime) {
     assert!(rt; holds_three(VecSink::new(rt.alloc())));
 }
 
-/// What the rows of a table ask.
+/// The calls of a table's rows.
 #[derive(Clone, Copy, Drop)]
 enum Ask {
     Read,
@@ -119,7 +119,7 @@ fn letters<'a>(turns: &'a str, calls: &'a Cell<usize>) -> Pieces<'a> {
     }
 }
 
-/// What a source gives over a reader with these turns, and how it ends.
+/// The bytes of a source over a reader with these turns, and how it ends.
 fn read_by(alloc: Global, turns: &str) -> Result<String, Fail> {
     let calls = Cell::new(0);
     told(alloc, &mut ReadSource::new(letters(turns, &calls)), &calls)
@@ -139,7 +139,7 @@ fn reads_in_pieces(rt: HostRuntime) -> Result<(), Fail> {
     rows_hold(rt.alloc(), &mut Ask::Read, rows)
 }
 
-/// Tells four bytes, each with the number of calls so far.
+/// Writes four bytes, each with the number of calls so far.
 fn tell_four<S: Source>(
     source: &mut S,
     calls: &Cell<usize>,
@@ -189,7 +189,7 @@ fn hands_back_what_was_read(rt: HostRuntime) {
     assert!(rt; hands_back());
 }
 
-/// Bytes of every value, more than the arrays of the adapters hold.
+/// Bytes of every value, more than the arrays of the adapters contain.
 fn long_text(alloc: Global) -> Result<Vec<u8>, AllocError> {
     let mut text = Vec::new(alloc);
     push_numbers(&mut text)?;
@@ -203,7 +203,7 @@ fn push_numbers(text: &mut Vec<u8>) -> Result<(), AllocError> {
     Ok(())
 }
 
-/// What a source gives to its end over a reader of these bytes.
+/// The bytes of a source to its end, over a reader of these bytes.
 fn read_to_end(alloc: Global, text: &[u8]) -> Result<Vec<u8>, Fail> {
     let calls = Cell::new(0);
     let mut source = ReadSource::new(Pieces {
@@ -271,7 +271,7 @@ fn write_three(sink: &mut WriteSink<Taker<'_>>) -> Result<(), DeviceFailed> {
     sink.write(b"c")
 }
 
-/// Writes three letters, and tells the calls of the writer before the flush and after it.
+/// Writes three letters, and writes the calls of the writer before the flush and after it.
 fn tell_flush(
     sink: &mut WriteSink<Taker<'_>>,
     calls: &Calls,
@@ -333,7 +333,7 @@ fn writes_once_for_each_flush(rt: HostRuntime) -> Result<(), Fail> {
     same(said.as_str(), wanted)
 }
 
-/// What a writer has taken of `ab` and these bytes, once they are flushed.
+/// What a writer has taken of `ab` and these bytes, after a flush.
 fn taken_of(alloc: Global, text: &[u8]) -> Result<Vec<u8>, Fail> {
     let calls = Calls::none();
     let mut sink = sink_over(alloc, "5 interrupted", "", &calls);
@@ -365,7 +365,7 @@ fn writes_more_than_its_array(rt: HostRuntime) -> Result<(), Fail> {
     Ok(())
 }
 
-/// Refuses a failed sink that takes more, or asks its writer once more.
+/// Fails if a failed sink takes more, or calls its writer again.
 fn fails_for_good(sink: &mut WriteSink<Taker<'_>>, calls: &Calls) -> Result<(), Fail> {
     let asked = calls.counts();
     if sink.write(b"e").is_err() && sink.flush().is_err() && calls.counts() == asked {
@@ -375,7 +375,7 @@ fn fails_for_good(sink: &mut WriteSink<Taker<'_>>, calls: &Calls) -> Result<(), 
     }
 }
 
-/// Flushes, and answers whether that passed, else for good.
+/// Flushes, and returns whether that succeeded; if not, it failed for good.
 fn passed(sink: &mut WriteSink<Taker<'_>>, calls: &Calls) -> Result<bool, Fail> {
     let passed = sink.flush().is_ok();
     if sink.failed() == passed {
@@ -387,13 +387,14 @@ fn passed(sink: &mut WriteSink<Taker<'_>>, calls: &Calls) -> Result<bool, Fail> 
     Ok(passed)
 }
 
-/// Writes four letters, and answers whether the flush passed, else for good.
+/// Writes four letters, and returns whether the flush succeeded; if not, it failed for good.
 fn wrote(sink: &mut WriteSink<Taker<'_>>, calls: &Calls) -> Result<bool, Fail> {
     sink.write(b"abcd")?;
     passed(sink, calls)
 }
 
-/// What a writer with these turns takes of `abcd`, what stays unsent, and whether the flush passed.
+/// What a writer with these turns takes of `abcd`, what stays unsent, and whether the flush
+/// succeeded.
 fn written_by(alloc: Global, turns: &str) -> Result<String, Fail> {
     let (turns, flushes) = turns.split_once(" | ").unwrap_or((turns, ""));
     let calls = Calls::none();
@@ -433,7 +434,7 @@ fn writes_that_take_a_part_or_fail(rt: HostRuntime) -> Result<(), Fail> {
     rows_hold(rt.alloc(), &mut Ask::Written, rows)
 }
 
-/// What a writer that is recorded took of `abcd` in one call, and how many bytes it answered.
+/// What a recorded writer took of `abcd` in one call, and the number of bytes that it returned.
 fn recorded(alloc: Global, calls: &Calls) -> Result<(Vec<u8>, usize), Fail> {
     let mut writer = Recorded::new(Taker {
         taken: Vec::new(alloc),

@@ -14,7 +14,7 @@ fn shown<D: Debug + Drop>(alloc: Global, value: D) -> Result<String, AllocError>
     format!(in alloc; "{value:?}")
 }
 
-/// What the getter of this name answers.
+/// The answer of the getter with this name.
 fn answer(alloc: Global, config: &Config, name: &str) -> Result<String, AllocError> {
     match name {
         "max_history_size" => shown(alloc, config.max_history_size()),
@@ -29,7 +29,7 @@ fn answer(alloc: Global, config: &Config, name: &str) -> Result<String, AllocErr
     }
 }
 
-/// The same of the settings for completion and drawing.
+/// The same for the settings of completion and drawing.
 fn drawing_answer(alloc: Global, config: &Config, name: &str) -> Result<String, AllocError> {
     match name {
         "completion_type" => shown(alloc, config.completion_type()),
@@ -44,7 +44,7 @@ fn drawing_answer(alloc: Global, config: &Config, name: &str) -> Result<String, 
     }
 }
 
-/// The same of the settings for the terminal.
+/// The same for the settings of the terminal.
 fn terminal_answer(alloc: Global, config: &Config, name: &str) -> Result<String, AllocError> {
     match name {
         "behavior" => shown(alloc, config.behavior()),
@@ -176,7 +176,8 @@ const ALL_SET: &str = "
     enable_signals = true
     ";
 
-/// What is behind the setters of [`ALL_SET`]: a setting without one, and one that the builder has no call for.
+/// Checks [`ALL_SET`] and the two other settings: one without a setter, and one for which the
+/// builder has no call.
 fn all_set(alloc: Global, config: Config, behind: &str) -> Result<(), Fail> {
     answers(alloc, &config, ALL_SET)?;
     answers(alloc, &config, behind)
@@ -244,7 +245,7 @@ fn calls_of_the_builder(rt: HostRuntime) -> Result<(), Fail> {
     all_set(rt.alloc(), built()?, behind)
 }
 
-/// What follows from Vi mode, and then from Emacs mode.
+/// The timeouts in Vi mode, and then in Emacs mode.
 fn timeouts() -> (Option<u16>, Option<u16>) {
     let mut config = Builder::new().edit_mode(EditMode::Vi).build();
     let in_vi = config.keyseq_timeout();
@@ -257,7 +258,7 @@ fn timeouts_of_the_modes(rt: HostRuntime) {
     assert!(rt; timeouts() == (Some(500), None));
 }
 
-/// Refusals, each of which a row names.
+/// Errors, each named by a row.
 #[derive(Clone, Copy, Drop)]
 struct Refusals {
     left: &'static [ReadlineError],
@@ -270,7 +271,7 @@ fn is_named(alloc: Global, refusal: ReadlineError, name: &str) -> Result<bool, A
 
 impl Player for Refusals {
     fn play(&mut self, alloc: Global, name: &str) -> Result<String, Fail> {
-        let (refusal, left) = self.left.split_first().ok_or("no refusal is left")?;
+        let (refusal, left) = self.left.split_first().ok_or("no error is left")?;
         self.left = left;
         if is_named(alloc, *refusal, name)? {
             raised(format!(in alloc; "{refusal}"))

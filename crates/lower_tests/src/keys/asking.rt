@@ -1,4 +1,4 @@
-//! How the first key of a command is asked for.
+//! How the first key of a command is requested.
 
 use crate::keys::telling::line_marked;
 use line_config::{Config, EditMode, ReadlineError};
@@ -8,7 +8,7 @@ use stand_ins::rows::{Player, raised, rows_hold};
 use std::alloc::Global;
 use std::test::Fail;
 
-// How the first key is asked for: as a report or not, and with which flag.
+// How the first key is requested: as a report or not, and with which flag.
 fn asked(
     alloc: Global,
     mode: EditMode,
@@ -46,7 +46,8 @@ fn ask(
     }
 }
 
-// The mode, whether Esc alone ends a line, and whether the first key is asked for by key; how it is asked for.
+// The mode, whether Esc alone ends a line, and whether the first key is requested as a key; how it
+// is requested.
 const ASKED: &str = "
     Emacs            = report
     Emacs key        = key
@@ -58,7 +59,7 @@ const ASKED: &str = "
     Vi abort key     = key
 ";
 
-/// How the first key is asked for.
+/// How the first key is requested.
 #[derive(Clone, Copy, Drop)]
 struct FirstKey;
 

@@ -1,4 +1,4 @@
-//! Handlers by their names, and keys that are bound, as tables name them.
+//! Handlers by their names, and bound keys, as tables name them.
 
 use crate::keys::typing::event;
 use line_config::ReadlineError;
@@ -27,7 +27,7 @@ fn one_way(alloc: Global, name: &str) -> Result<EventHandler, ReadlineError> {
     Ok(EventHandler::Conditional(handler))
 }
 
-// Binds keys to a handler; without keys, any. It answers what was bound to them.
+// Binds keys to a handler, or any key without keys. Returns the old binding.
 fn bind(
     alloc: Global,
     bindings: &mut Bindings,
@@ -38,7 +38,7 @@ fn bind(
     bindings.bind_sequence(event, handler)
 }
 
-/// The command with these words, which have to name one.
+/// The command with this name, which must exist.
 pub(crate) fn command_of(alloc: Global, words: &str) -> Result<Cmd, ReadlineError> {
     match command_named(alloc, words) {
         Some(cmd) => Ok(cmd),
@@ -46,7 +46,7 @@ pub(crate) fn command_of(alloc: Global, words: &str) -> Result<Cmd, ReadlineErro
     }
 }
 
-/// Binds keys to the command with these words; without keys, any.
+/// Binds keys to the command with this name, or any key without keys.
 pub(crate) fn bind_command(
     alloc: Global,
     bindings: &mut Bindings,
@@ -57,7 +57,7 @@ pub(crate) fn bind_command(
     bind(alloc, bindings, keys, handler)
 }
 
-/// Binds keys to the handler of this name; without keys, any.
+/// Binds keys to the handler with this name, or any key without keys.
 pub(crate) fn bind_handler(
     alloc: Global,
     bindings: &mut Bindings,

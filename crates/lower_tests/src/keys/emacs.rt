@@ -4,7 +4,7 @@ use crate::keys::tables::{each_count, plays};
 use line_config::EditMode;
 use std::test::Fail;
 
-// Keys of a count, what the display is asked for them, and the count.
+// Keys of a count, the requests to the display for them, and the count.
 const COUNTS: &str = "
                         |                                                 | 1
     A-0                 | <0> <line>                                      | 1
@@ -18,7 +18,7 @@ const COUNTS: &str = "
     A-- 9 9 9 9 9       | <-1> <-9> <-81> <-801> <-8001> <-8001> <line>   | -8001
 ";
 
-// Keys, the command, and the command where the count is negative.
+// Keys, the command, and the command if the count is negative.
 const EMACS: &str = "
     then: SelfInsert(1, 'q')
     x             | SelfInsert(n, 'x')                   | Unknown
@@ -157,7 +157,7 @@ const TYPED_COUNTS: &str = "
     A-2 x                | <2> <line> SelfInsert(2, 'x') in Emacs mode
 ";
 
-// Where the input ends or is no key, in the middle of a phrase.
+// The input ends, or has no key, in the middle of a phrase.
 const CUT: &str = "
                          | Eof left 0
     !bad                 | NotUtf8 left 0

@@ -23,7 +23,7 @@ fn shown<D: Debug>(alloc: Global, value: &D) -> Result<String, AllocError> {
     format!(in alloc; "{value:?}")
 }
 
-// What was bound, or is: a command.
+// The old or current binding: a command.
 fn handler_told(alloc: Global, handler: Option<&EventHandler>) -> Result<String, AllocError> {
     match handler {
         Some(EventHandler::Simple(cmd)) => shown(alloc, cmd),
@@ -67,7 +67,7 @@ const SIX_KEYS: &str = "
     get C-Tab                 = Undo(5)
 ";
 
-// Whether bindings have a sequence that begins with a key.
+// Whether bindings have a sequence that starts with a key.
 fn begun_told(alloc: Global, bindings: &Bindings, key: &str) -> Result<String, AllocError> {
     match key_named(key) {
         Some(key) => shown(alloc, &bindings.begins(&[key])),
@@ -134,7 +134,7 @@ fn bindings_call_by_call(rt: HostRuntime) -> Result<(), Fail> {
     binds(rt.alloc(), SIX_KEYS)
 }
 
-/// What the rows of a table ask.
+/// The calls of a table's rows.
 #[derive(Clone, Copy, Drop)]
 enum Ask {
     Form,
@@ -156,7 +156,7 @@ impl Player for Ask {
     }
 }
 
-// A character and its key; a key and its one form.
+// A character and its key; a key and its normal form.
 const KEYS: &str = "
     new ␛                   = Esc
     from ␉                  = Tab
@@ -201,7 +201,8 @@ fn keys_have_one_form(rt: HostRuntime) -> Result<(), Fail> {
     rows_hold(rt.alloc(), &mut Ask::Form, KEYS)
 }
 
-// A count, a line with its cursor and a hint after it, if there is one; what the handler bound to any key answers.
+// A count, a line with its cursor and a hint after it, if there is one; the answer of the handler
+// bound to any key.
 const DECIDED: &str = "
     -3 ab|                  = Ok(Some(Kill(BackwardChar(3))))
     1 ab| c                 = Ok(Some(CompleteHint))
@@ -219,7 +220,7 @@ fn line_of(alloc: Global, shown: &str) -> Result<PlainLine, ReadlineError> {
     Ok(line)
 }
 
-// What is bound to any key answers at this line.
+// The answer of the binding of any key at this line.
 fn decided(
     alloc: Global,
     bindings: &Bindings,
@@ -256,7 +257,7 @@ fn decision_at(
     raised(decision(alloc, bindings, n, positive, &line))
 }
 
-/// What is bound to any key, asked at a line.
+/// The binding of any key, called at a line.
 #[derive(Drop)]
 struct Decider {
     bindings: Bindings,
@@ -280,7 +281,7 @@ fn a_boxed_handler_is_asked(rt: HostRuntime) -> Result<(), Fail> {
     rows_hold(rt.alloc(), &mut Decider { bindings }, DECIDED)
 }
 
-// A count, a text that was inserted before, and a command; the command made anew.
+// A count, a text that was inserted before, and a command; the repeated command.
 const MADE_ANEW: &str = "
     3 none SelfInsert 1 x                  = SelfInsert(3, 'x')
     none abc SelfInsert 1 x                = Insert(1, \"abc\")
@@ -328,7 +329,7 @@ fn line_behind_long(alloc: Global) -> Result<PlainLine, ReadlineError> {
     Ok(line)
 }
 
-// A replacement by its movement and how long its text is.
+// A replacement by its movement and the length of its text.
 fn length_told(alloc: Global, cmd: &Cmd) -> Result<String, AllocError> {
     match cmd {
         Cmd::Replace(movement, Some(text)) => {
@@ -339,7 +340,7 @@ fn length_told(alloc: Global, cmd: &Cmd) -> Result<String, AllocError> {
     }
 }
 
-// The replacement of what was typed over.
+// The replacement of the text typed over.
 fn typed_over(alloc: Global, line: &PlainLine) -> Result<String, ReadlineError> {
     let replacement = Cmd::Replace(Movement::ForwardChar(0), None);
     let again = replacement.redo(alloc, None, line)?;
@@ -357,7 +358,8 @@ fn a_text_of_any_length_is_typed_over(rt: HostRuntime) -> Result<(), Fail> {
     same(said.as_str(), "ForwardChar(65535) 70000")
 }
 
-// What is typed, and calls of the reader, one after the other. A refusal stays, but for the end of the input.
+// What is typed, and calls of the reader, one after the other. An error is final, except for the
+// end of the input.
 const READERS: &str = "
     PasteStart text:a␊b Enter : wait paste key+ key+ key+ = PasteStart a␊b Enter Eof Eof
     PasteStart text:a␊b Enter : key key paste = PasteStart PasteOutOfPlace PasteOutOfPlace
@@ -365,7 +367,7 @@ const READERS: &str = "
     !bad : char = NotUtf8
 ";
 
-// Makes the calls, and tells what they answer.
+// Makes the calls, and writes their answers.
 fn read(alloc: Global, row: &str) -> Result<String, Fail> {
     let Some((words, calls)) = row.split_once(" : ") else {
         return Err(Fail::new("no calls"));
@@ -399,7 +401,7 @@ fn readers_call_by_call(rt: HostRuntime) -> Result<(), Fail> {
     rows_hold(rt.alloc(), &mut Ask::Reader, READERS)
 }
 
-// What a reader knows a key for, and what it gives back.
+// The keys for which a reader has a command, and what it returns.
 const SIGNALS: &str = "
     C-c                     = None
     C-C                     = Some(Interrupt)
@@ -422,7 +424,7 @@ fn a_reader_knows_signals(rt: HostRuntime) -> Result<(), Fail> {
     rows_hold(rt.alloc(), &mut Ask::Signal, SIGNALS)
 }
 
-// Calls of a line with the hint `c`; the request that it keeps, and the hint then.
+// Calls of a line with the hint `c`; the request that it records, and the hint then.
 const REQUESTS: &str = "
     prompt (arg: 2)         = Some(Prompt(\"(arg: 2)\")) Some(\"c\") true
     line                    = Some(Line) Some(\"c\") true
@@ -449,7 +451,7 @@ fn kept(alloc: Global, line: &PlainLine) -> Result<String, AllocError> {
     format!(in alloc; "{last:?} {hint:?} {has_hint}")
 }
 
-/// A line that is asked for drawings.
+/// A line with requests for drawings.
 #[derive(Drop)]
 struct Asked {
     line: PlainLine,

@@ -1,11 +1,12 @@
-//! Tables of keys and what they lead to.
+//! Tables of keys and their commands.
 //!
-//! A row has keys, ` | `, and what they lead to. A row that begins with one of these words sets what stands there for the
-//! rows after it: `line: a|b` the line, with a bar at its cursor; `hint: c` the hint after it; `inserted: kl` the text that
-//! was inserted last; `answered: 3` how many requests the display answers before it fails, all of them where no number
-//! stands there; `bind: C-O = Undo 3` and `ask: C-O = Count` bind keys to a command or a handler, and any key where no
-//! keys are named; `unbind:` takes all bindings off; from `modes:` on, the mode that a command leaves is told after it;
-//! `then: Noop` is the command of the key `q` that a row with a count ends with.
+//! A row has keys, ` | `, and their commands. A row that begins with one of these words is a
+//! setting for the rows after it. `line: a|b` sets the line, with a bar at its cursor; `hint: c`
+//! the hint after it; `inserted: kl` the text that was inserted last. `answered: 3` sets how many
+//! requests succeed before the display fails; without a number all do. `bind: C-O = Undo 3` and
+//! `ask: C-O = Count` bind keys to a command or a handler, and any key if no keys are named;
+//! `unbind:` removes all bindings. From `modes:` on, the mode that a command leaves is written
+//! after it. `then: Noop` is the command of the key `q` with which a row with a count ends.
 
 use crate::keys::commands::{bind_command, bind_handler};
 use crate::keys::telling::told;
@@ -25,15 +26,15 @@ pub struct Desk<'t> {
     pub line: &'t str,
     pub hint: Option<&'t str>,
     pub inserted: Option<&'t str>,
-    /// How many requests the display answers, if not all.
+    /// How many requests succeed before the display fails; `None` for all.
     pub answered: Option<u32>,
-    /// Whether the mode is told after each command.
+    /// Whether the mode is written after each command.
     pub modes: bool,
     then: &'t str,
 }
 
 impl<'t> Desk<'t> {
-    /// The cursor between the two characters of a line; nothing is bound.
+    /// The cursor between the two characters of a line, and no bindings.
     pub(crate) fn new(alloc: Global, mode: EditMode) -> Result<Self, ReadlineError> {
         Ok(Desk {
             alloc,
@@ -48,7 +49,7 @@ impl<'t> Desk<'t> {
         })
     }
 
-    // Does what a row says that has no ` | `.
+    // Applies a row without ` | `.
     fn set(&mut self, row: &'t str) -> Result<(), Fail> {
         let (word, rest) = word_and_rest(row);
         match word {
@@ -75,7 +76,7 @@ impl<'t> Desk<'t> {
     }
 }
 
-// What was bound before doesn't matter.
+// The old binding doesn't matter.
 fn done(old: Result<Option<EventHandler>, ReadlineError>) -> Result<(), Fail> {
     match old {
         Ok(_) => Ok(()),
@@ -83,13 +84,13 @@ fn done(old: Result<Option<EventHandler>, ReadlineError>) -> Result<(), Fail> {
     }
 }
 
-/// What takes the parts of a text.
+/// Takes the parts of a text.
 pub(crate) trait TakesParts<'t> {
     /// Takes a part, as it stands in the text.
     fn take(&mut self, part: &'t str) -> Result<(), Fail>;
 }
 
-/// Hands over each part of a text, parted by a mark.
+/// Passes on each part of a text, separated by a mark.
 pub(crate) fn each_part<'t, T: TakesParts<'t>>(
     taker: &mut T,
     text: &'t str,
@@ -101,7 +102,7 @@ pub(crate) fn each_part<'t, T: TakesParts<'t>>(
     Ok(())
 }
 
-/// A line of a table that is no row of it has to be blank.
+/// Fails if a line of a table that is no row isn't blank.
 pub(crate) fn is_blank(line: &str) -> Result<(), Fail> {
     if line.trim().is_empty() {
         Ok(())
@@ -110,7 +111,8 @@ pub(crate) fn is_blank(line: &str) -> Result<(), Fail> {
     }
 }
 
-/// Types the keys, and compares what they lead to. How the first key of a phrase is asked for makes no difference.
+/// Types the keys, and compares their commands. How the first key of a phrase is requested makes no
+/// difference.
 pub(crate) fn leads_to(desk: &Desk<'_>, keys: &str, wanted: &str) -> Result<(), Fail> {
     leads_by(desk, false, keys, wanted)?;
     leads_by(desk, true, keys, wanted)
@@ -134,7 +136,7 @@ impl<'t> TakesParts<'t> for Desk<'t> {
     }
 }
 
-/// Types the keys of each row, for each table from the desk as it stands at first.
+/// Types the keys of each row, starting each table with the desk as it is.
 pub(crate) fn plays(alloc: Global, mode: EditMode, tables: &[&str]) -> Result<(), Fail> {
     for table in tables {
         plays_anew(alloc, mode, table)?;
@@ -177,9 +179,9 @@ impl<'t> TakesParts<'t> for Counting<'t> {
     }
 }
 
-/// Each row has keys and a command, and perhaps the command where the count is negative. `n` in parentheses stands for
-/// the count's amount. Each row of `counts` has keys, what the display is asked for them, and the count. After all the
-/// key `q` is typed.
+/// Each row has keys and a command, and perhaps the command for a negative count. `n` in
+/// parentheses stands for the count's amount. Each row of `counts` has keys, the requests to the
+/// display for them, and the count. At last the key `q` is typed.
 pub(crate) fn each_count(
     alloc: Global,
     mode: EditMode,
@@ -190,7 +192,7 @@ pub(crate) fn each_count(
     each_part(&mut Counting { desk, counts }, table, '\n')
 }
 
-/// Keys that are typed with each count, and the commands where it is positive and where it is negative.
+/// Keys that are typed with each count, and the commands if it is positive and if it is negative.
 #[derive(Drop)]
 struct Counted<'d> {
     desk: &'d Desk<'d>,
@@ -200,7 +202,7 @@ struct Counted<'d> {
 }
 
 impl Counted<'_> {
-    // The command with the count, and what the key after it means.
+    // The command with the count, and that of the key after it.
     fn command(&self, count: &str) -> Result<String, AllocError> {
         let (command, amount) = match count.strip_prefix('-') {
             Some(amount) => (self.minus, amount),
@@ -221,7 +223,7 @@ impl Counted<'_> {
         format!(in self.desk.alloc; "{count} {keys} q")
     }
 
-    // What it leads to.
+    // Its commands.
     fn led(&self, asked: &str, count: &str) -> Result<String, AllocError> {
         let command = self.command(count)?;
         format!(in self.desk.alloc; "{asked} {command}")

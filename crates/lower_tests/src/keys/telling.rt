@@ -1,4 +1,4 @@
-//! What typed keys lead to, in words.
+//! The commands of typed keys, in words.
 
 use crate::keys::tables::Desk;
 use crate::keys::typing::{Input, typed};
@@ -10,7 +10,7 @@ use stand_ins::rows::raised;
 use stand_ins::tables::line_and_place;
 use std::alloc::{AllocError, Global};
 
-/// A line with its cursor, as a bar marks it.
+/// A line with its cursor, marked by a bar.
 pub(crate) fn line_marked(alloc: Global, marked: &str) -> Result<PlainLine, ReadlineError> {
     let (text, pos) = line_and_place(alloc, marked)?;
     let mut line = PlainLine::new(alloc, Text::from(text));
@@ -18,7 +18,7 @@ pub(crate) fn line_marked(alloc: Global, marked: &str) -> Result<PlainLine, Read
     Ok(line)
 }
 
-// The line that stands there when keys are typed.
+// The line at which keys are typed.
 fn line_at(desk: &Desk<'_>) -> Result<PlainLine, ReadlineError> {
     let mut line = line_marked(desk.alloc, desk.line)?;
     line.answered = desk.answered;
@@ -39,7 +39,7 @@ fn copied(alloc: Global, text: Option<&str>) -> Result<Option<Text>, ReadlineErr
     }
 }
 
-/// Keys that are typed at a desk.
+/// Keys typed at a desk.
 #[derive(Drop)]
 struct Typing<'d> {
     desk: &'d Desk<'d>,
@@ -63,7 +63,7 @@ impl<'d> Typing<'d> {
         })
     }
 
-    // Tells each phrase.
+    // Writes each phrase.
     fn tell(&mut self, line: &mut PlainLine, said: &mut String) -> Result<(), ReadlineError> {
         for _ in 0..100 {
             if self.tell_phrase(line, said)? {
@@ -73,7 +73,7 @@ impl<'d> Typing<'d> {
         Ok(())
     }
 
-    // Tells one phrase, and answers whether it was the last.
+    // Writes one phrase, and returns whether it was the last.
     fn tell_phrase(
         &mut self,
         line: &mut PlainLine,
@@ -86,7 +86,7 @@ impl<'d> Typing<'d> {
         raised(self.tell_all(line, said, &answer))
     }
 
-    // Tells what was asked of the display, and then the answer.
+    // Writes the requests to the display, and then the answer.
     fn tell_all(
         &self,
         line: &mut PlainLine,
@@ -119,7 +119,7 @@ impl<'d> Typing<'d> {
         Ok(last)
     }
 
-    // The mode that a command leaves, where it is told.
+    // The mode that a command leaves, if it is to be written.
     fn mode(&self) -> &'static str {
         if !self.desk.modes {
             ""
@@ -133,8 +133,9 @@ impl<'d> Typing<'d> {
     }
 }
 
-/// The commands of what is typed, parted by `; `. Before each command stands what was asked of the display for it, as
-/// `<line>`, or `<7>` for the prompt of the count 7. A refusal is the last, with how many keys and pastes it leaves.
+/// The commands of the input, separated by `; `. Before each command come the requests to the
+/// display for it, as `<line>`, or `<7>` for the prompt of the count 7. An error is the last, with
+/// the number of keys and pastes that remain.
 pub(crate) fn told(
     desk: &Desk<'_>,
     first_by_key: bool,
@@ -167,7 +168,7 @@ fn tell_typed(
     typing.tell(line, said)
 }
 
-// Tells what was asked of the display, and forgets it.
+// Writes the requests to the display, and forgets them.
 fn tell_requests(said: &mut String, line: &mut PlainLine) -> Result<(), AllocError> {
     for request in &line.requests {
         tell_request(said, request)?;
@@ -186,7 +187,7 @@ fn tell_request(said: &mut String, request: &Request) -> Result<(), AllocError> 
     }
 }
 
-// The prompt of a count by the count alone, any other whole.
+// The prompt of a count by only the count, any other in full.
 fn tell_prompt(said: &mut String, prompt: &str) -> Result<(), AllocError> {
     match count_in(prompt) {
         Some(n) => write!(said, "<{n}> "),

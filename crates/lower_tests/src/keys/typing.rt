@@ -1,4 +1,4 @@
-//! What is typed, by names.
+//! Input, by names.
 
 use line_config::ReadlineError;
 use line_keys::{Event, KeyEvent, Keys, Text};
@@ -9,7 +9,7 @@ use stand_ins::tables::meant;
 use std::alloc::{AllocError, Global};
 use std::test::Fail;
 
-/// The event of keys by their names; without any, any event.
+/// The event of keys with these names; any event without names.
 pub(crate) fn event(alloc: Global, words: &str) -> Result<Event, ReadlineError> {
     let mut keys = Vec::new(alloc);
     name_keys(&mut keys, words)?;
@@ -29,18 +29,19 @@ fn name_keys(keys: &mut Vec<KeyEvent>, words: &str) -> Result<(), ReadlineError>
     Ok(())
 }
 
-/// What a row of a table types.
+/// The input of a table's row.
 #[derive(Drop)]
 pub struct Input {
     pub typed: Vec<Typed>,
-    /// A pasted text is announced after the keys, and is cut off.
+    /// A cut-off pasted text is announced after the keys.
     pub cut: bool,
     pub after: After,
 }
 
-/// Keys by their names, parted by blanks. `text:ab` is the pasted text `ab`. What comes after the keys is the end of
-/// the input, or bytes that are no character after `!bad`, or a failing source after `!failed`; before these, `!cut`
-/// is a pasted text without its end. A word that names nothing is refused.
+/// Keys by their names, separated by blanks. `text:ab` is the pasted text `ab`. After the keys
+/// comes the end of the input, or bytes that are no character after `!bad`, or a failing source
+/// after `!failed`. Before these, `!cut` is a pasted text without its end. An unknown word is an
+/// error.
 pub(crate) fn typed(alloc: Global, words: &str) -> Result<Input, ReadlineError> {
     let mut input = Input {
         typed: Vec::new(alloc),

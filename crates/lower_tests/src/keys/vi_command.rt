@@ -8,7 +8,8 @@ use stand_ins::rows::{raised, same};
 use std::alloc::Global;
 use std::test::Fail;
 
-// Keys of a count, what the display is asked for them, and the count. Esc leaves insert mode, in which a line begins.
+// Keys of a count, the requests to the display for them, and the count. Esc leaves insert mode, in
+// which a line begins.
 const COUNTS: &str = "
     Esc           | <done> Move(BackwardChar(1));                                     | 1
     Esc 1         | <done> Move(BackwardChar(1)); <1> <line>                          | 1
@@ -129,7 +130,7 @@ fn each_key_of_command_mode(rt: HostRuntime) -> Result<(), Fail> {
     each_count(rt.alloc(), EditMode::Vi, COUNTS, COMMANDS)
 }
 
-// What `0` does where no count is typed, and what ends a count.
+// The command of `0` if no count is typed, and what ends a count.
 const NO_COUNT: &str = "
     Esc 0 q              | <done> Move(BackwardChar(1)); Move(BeginningOfLine); Unknown
     Esc 0 5 x            | <done> Move(BackwardChar(1)); Move(BeginningOfLine); <5> <line> Kill(ForwardChar(5))
@@ -141,7 +142,7 @@ const NO_COUNT: &str = "
     Esc f C-C x          | <done> Move(BackwardChar(1)); Unknown; Kill(ForwardChar(1))
 ";
 
-// Where the input ends or is no key, in the middle of a phrase of command mode.
+// The input ends, or has no key, in the middle of a phrase of command mode.
 const CUT: &str = "
     Esc 5                | <done> Move(BackwardChar(1)); <5> Eof left 0
     Esc 5 0 !bad         | <done> Move(BackwardChar(1)); <5> <50> NotUtf8 left 0
@@ -159,7 +160,7 @@ const CUT: &str = "
     Esc PasteStart !cut  | <done> Move(BackwardChar(1)); Eof left 0
 ";
 
-// Searches of a character, as they are remembered.
+// Searches for a character, as they are remembered.
 const SEARCHES: &str = "
     A-f x ; , 3 ; , ,    | <done> Move(ViCharSearch(1, Forward('x'))); Move(ViCharSearch(1, Forward('x'))); Move(ViCharSearch(1, Backward('x'))); <3> <line> Move(ViCharSearch(3, Forward('x'))); Move(ViCharSearch(1, Backward('x'))); Move(ViCharSearch(1, Backward('x')))
     A-t x ; ,            | <done> Move(ViCharSearch(1, ForwardBefore('x'))); Move(ViCharSearch(1, ForwardBefore('x'))); Move(ViCharSearch(1, BackwardAfter('x')))
@@ -173,7 +174,7 @@ const SEARCHES: &str = "
     A-; d ; d ,          | <done> Noop; Unknown; Unknown
 ";
 
-// Changes made anew by `.`, where no text was inserted before, and where the text `kl` was.
+// Changes repeated by `.`, without a text inserted before, and with the text `kl`.
 const DOTS: &str = "
     k l A-. 2 .          | SelfInsert(1, 'k'); SelfInsert(1, 'l'); <done> SelfInsert(1, 'k'); <2> <line> SelfInsert(2, 'k')
     A-R Esc .            | <done> Replace(ForwardChar(0), None); <done> Move(BackwardChar(1)); Replace(ForwardChar(0), None)
@@ -211,7 +212,7 @@ const DOTS: &str = "
     C-W x A-.            | Kill(BackwardWord(1, Big)); SelfInsert(1, 'x'); <done> Insert(1, \"kl\")
 ";
 
-// What keys lead to where this text was inserted before.
+// The commands of keys if this text was inserted before.
 fn told_behind(alloc: Global, inserted: &str) -> Result<String, ReadlineError> {
     let mut desk = Desk::new(alloc, EditMode::Vi)?;
     desk.inserted = Some(inserted);

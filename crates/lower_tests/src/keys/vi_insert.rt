@@ -94,7 +94,7 @@ const MODES: &str = "
     x Esc R Esc          | SelfInsert(1, 'x') in insert mode; <done> Move(BackwardChar(1)) in command mode; Replace(ForwardChar(0), None) in insert mode; <done> Move(BackwardChar(1)) in command mode
 ";
 
-// Where the input ends or is no key, in the middle of a phrase of insert mode.
+// The input ends, or has no key, in the middle of a phrase of insert mode.
 const CUT: &str = "
                          | Eof left 0
     !bad                 | NotUtf8 left 0
@@ -127,7 +127,7 @@ const CONDITIONS: &str = "
     Right                | Move(ForwardChar(1))
 ";
 
-// Bindings, first in insert mode and then, after ALT with `u`, in command mode.
+// Bindings, first in insert mode and then, after Alt with `u`, in command mode.
 const BOUND: &str = "
     bind: C-O          = SelfInsert 2 y
     bind: C-T          = Kill BackwardChar 2

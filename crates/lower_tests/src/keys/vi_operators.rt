@@ -1,11 +1,11 @@
-//! Vi: operators and the ranges that they take.
+//! Vi: operators and their ranges.
 
 use crate::keys::tables::{Desk, TakesParts, each_part, is_blank, leads_to, three_columns};
 use line_config::EditMode;
 use std::alloc::AllocError;
 use std::test::Fail;
 
-// Operators, the command for a range, and what the key `q` means after it.
+// Operators, the command for a range, and the command of the key `q` after it.
 const OPERATORS: &str = "
     d | Kill(RANGE)          | Unknown
     y | ViYankTo(RANGE)      | Unknown
@@ -14,7 +14,8 @@ const OPERATORS: &str = "
     c | Replace(RANGE, None) | SelfInsert(1, 'q')
 ";
 
-// Counts around an operator, which `@` stands for, what the display is asked for them, and their product.
+// Counts around an operator, for which `@` stands, the requests to the display for them, and their
+// product.
 const COUNTS: &str = "
     @                     |                                            | 1
     3 @                   | <3> <line>                                 | 3
@@ -26,7 +27,7 @@ const COUNTS: &str = "
     9 9 9 9 9 @ 9 9 9 9 9 | <9> <99> <999> <9999> <9999> <line> <9> <99> <999> <9999> <9999> <line> | 65535
 ";
 
-// What may follow an operator, and the range; then the range for `c`, where that is another one.
+// The keys after an operator, and the range; then the range for `c`, if that is another one.
 const MOTIONS: &str = "
     $         | EndOfLine
     ^         | ViFirstPrint
@@ -52,7 +53,7 @@ const MOTIONS: &str = "
     W         | ForwardWord(n, Start, Big) | ForwardWord(n, AfterEnd, Big)
 ";
 
-// What gives an operator up.
+// The keys that cancel an operator.
 const NO_MOTIONS: &str = "
     ; | , | q | x | i | a | p | u | . | r | G | D | s | é |
     f Esc | T C-G | t A-x | F Enter | Esc | Enter | C-C | C-D | C-W | C-G | C-U |
@@ -69,12 +70,12 @@ struct Operator<'t> {
     after: &'t str,
 }
 
-/// An operator that is typed with counts around it.
+/// An operator typed with counts around it.
 #[derive(Clone, Copy, Drop)]
 struct Operating<'t> {
     desk: &'t Desk<'t>,
     operator: Operator<'t>,
-    // The keys of the counts, what the display is asked for them, and their product.
+    // The keys of the counts, the requests to the display for them, and their product.
     counts: &'t str,
     asked: &'t str,
     product: &'t str,
@@ -88,7 +89,7 @@ impl Operating<'_> {
         format!(in alloc; "Esc {operator} {keys} q")
     }
 
-    // What that leads to.
+    // The expected commands.
     fn wanted(&self, command: &str) -> Result<String, AllocError> {
         let (asked, after) = (self.asked, self.operator.after);
         let gap = if asked.is_empty() { "" } else { " " };
@@ -142,7 +143,7 @@ impl<'t> TakesParts<'t> for Motions<'_> {
     }
 }
 
-/// The keys that give an operator up.
+/// The keys that cancel an operator.
 #[derive(Clone, Copy, Drop)]
 struct OtherKeys<'t> {
     operating: Operating<'t>,
@@ -154,8 +155,8 @@ impl<'t> TakesParts<'t> for OtherKeys<'_> {
     }
 }
 
-/// The operators' keys. The operator's own one names the whole line, but nothing after a second count; the others name
-/// nothing.
+/// The operators' keys. The operator's own key names the whole line, except after a second count;
+/// the others name nothing.
 #[derive(Clone, Copy, Drop)]
 struct OperatorKeys<'t> {
     operating: Operating<'t>,
@@ -171,7 +172,7 @@ impl<'t> TakesParts<'t> for OperatorKeys<'_> {
     }
 }
 
-// Types all that may follow. `0` is the line's beginning, but after a second count a digit.
+// Types all keys that may follow. `0` is the line's beginning, but a digit after a second count.
 fn each_key(operating: Operating<'_>) -> Result<(), Fail> {
     each_part(&mut Motions { operating }, MOTIONS, '\n')?;
     each_part(&mut OtherKeys { operating }, NO_MOTIONS, '|')?;

@@ -1,5 +1,5 @@
-//! A record by itself, told of changes. A row is a call, after `=` what it answers, and the last insertion as the
-//! record has it then, or `none`.
+//! A record by itself, notified of changes. A row is a call; after `=` come its answer, and the
+//! last insertion as the record has it then, or `none`.
 
 use line_buffer::OutOfMemory;
 use line_record::Changeset;
@@ -9,7 +9,7 @@ use std::alloc::Global;
 use std::fmt::Display;
 use std::test::Fail;
 
-/// Tells of a change: a place, and one text or two; `''` is no text.
+/// Reports a change: a place, and one text or two; `''` is an empty text.
 fn told(alloc: Global, changes: &mut Changeset, call: &str, words: &str) -> Result<(), Fail> {
     let (place, texts) = word_and_rest(words);
     let place = place.parse::<usize>()?;
@@ -26,7 +26,7 @@ fn told(alloc: Global, changes: &mut Changeset, call: &str, words: &str) -> Resu
     })
 }
 
-/// An answer, with a blank behind it.
+/// An answer, followed by a blank.
 fn answered<D: Display + Drop>(
     alloc: Global,
     answer: Result<D, OutOfMemory>,
@@ -35,7 +35,7 @@ fn answered<D: Display + Drop>(
     raised(format!(in alloc; "{answer} "))
 }
 
-/// Makes a call, and answers what it answers.
+/// Makes a call, and returns its answer.
 fn made(alloc: Global, changes: &mut Changeset, call: &str) -> Result<String, Fail> {
     let (call, words) = word_and_rest(call);
     match call {
@@ -49,7 +49,7 @@ fn made(alloc: Global, changes: &mut Changeset, call: &str) -> Result<String, Fa
     }
 }
 
-/// Tells the last insertion, which two calls answer.
+/// Writes the last insertion, which two calls return.
 fn tell_last(alloc: Global, changes: &Changeset, shown: &mut String) -> Result<(), Fail> {
     let last = changes.last_insert(alloc)?;
     let copied = last.as_ref().map(|text| text.as_str());
@@ -62,7 +62,7 @@ fn tell_last(alloc: Global, changes: &Changeset, shown: &mut String) -> Result<(
     Ok(())
 }
 
-/// A record that is told of each row's change.
+/// A record that gets each row's change.
 #[derive(Drop)]
 struct Recorded {
     changes: Changeset,
@@ -96,7 +96,7 @@ fn changes_recorded_by_themselves(rt: HostRuntime) -> Result<(), Fail> {
     copy_stands(rt.alloc(), &mut first)
 }
 
-/// A copy stays as it is where the record changes.
+/// A copy stays as it is when the record changes.
 fn copy_stands(alloc: Global, first: &mut Recorded) -> Result<(), Fail> {
     let changes = first.changes.try_clone(alloc)?;
     rows_hold(alloc, first, "delete 0 x = none\ntruncate 1 = ab")?;

@@ -1,4 +1,4 @@
-//! The kill ring. A row is a call and, where it answers, what it answers.
+//! The kill ring. A row is a call and its answer, if it has one.
 
 use crate::record::undo::edited;
 use line_buffer::{DeleteListener, Direction, Mode, OutOfMemory};
@@ -8,12 +8,12 @@ use stand_ins::tables::word_and_rest;
 use std::alloc::{AllocError, Global};
 use std::test::Fail;
 
-/// A yanked text, and `none` where there is none.
+/// A yanked text, or `none`.
 fn yanked(alloc: Global, text: Option<&str>) -> Result<String, AllocError> {
     String::from_str(alloc, text.unwrap_or("none"))
 }
 
-/// A yanked text, and the size of the one that it takes the place of.
+/// A yanked text, and the size of the one that it replaces.
 fn popped(alloc: Global, popped: Option<(usize, &str)>) -> Result<String, AllocError> {
     match popped {
         Some((size, text)) => format!(in alloc; "{size} {text}"),
@@ -21,7 +21,7 @@ fn popped(alloc: Global, popped: Option<(usize, &str)>) -> Result<String, AllocE
     }
 }
 
-/// Makes a call that answers nothing, if it is one.
+/// Makes a call without an answer, if it is one.
 fn done(
     alloc: Global,
     ring: &mut KillRing,
@@ -40,7 +40,7 @@ fn done(
     })
 }
 
-/// Makes a call, and answers what it answers.
+/// Makes a call, and returns its answer.
 fn made(alloc: Global, ring: &mut KillRing, call: &str, text: &str) -> Result<String, Fail> {
     match call {
         "yank" => raised(yanked(alloc, ring.yank())),
@@ -62,7 +62,7 @@ impl Player for Played {
     }
 }
 
-/// Makes each row's call on a new ring of so many slots.
+/// Makes each row's call on a new ring with so many slots.
 fn ring_plays(alloc: Global, size: usize, rows: &str) -> Result<(), Fail> {
     let ring = KillRing::new(alloc, size)?;
     rows_hold(alloc, &mut Played { ring }, rows)
@@ -128,7 +128,7 @@ fn rings_of_none_and_of_one(rt: HostRuntime) -> Result<(), Fail> {
     ring_plays(rt.alloc(), 1, one)
 }
 
-/// Kills the numbers below 61, each for itself.
+/// Kills the numbers below 61, each separately.
 fn many_killed(alloc: Global, ring: &mut KillRing) -> Result<(), OutOfMemory> {
     for n in 0..61 {
         ring.reset();

@@ -1,5 +1,5 @@
-//! A line with its undo record, and with a kill ring. A row is a call, and after `=` what it answers and the line then,
-//! with `|` at the cursor. `line` begins with another line and a record in which nothing stands.
+//! A line with its undo record, and with a kill ring. A row is a call; after `=` come its answer
+//! and the line then, with `|` at the cursor. `line` begins with another line and an empty record.
 
 ghost use Rattle.line_record.specs.Items.{ItemsStand, ItemsStand-prop};
 
@@ -22,7 +22,7 @@ struct Desk {
 }
 
 impl Desk {
-    /// A line that a table shows, and nothing in its record.
+    /// A line in a table's notation, with an empty record.
     fn new(alloc: Global, shown: &str) -> Result<Self, OutOfMemory> {
         let line = line_of(alloc, shown)?;
         let changes = Changeset::new(alloc)?;
@@ -89,7 +89,7 @@ impl Desk {
         self.changes.redo(self.alloc, &mut self.line)
     }
 
-    /// Makes a call that answers nothing, if it is one and has the number that it takes.
+    /// Makes a call without an answer, if it is one and has its number.
     fn edit(&mut self, call: &str, text: &str, n: Option<u16>) -> Option<Result<(), OutOfMemory>> {
         match (call, n) {
             ("put", _) => Some(self.put(text)),
@@ -112,7 +112,7 @@ impl Desk {
         Some(Ok(()))
     }
 
-    /// Makes a call, and answers what it answers.
+    /// Makes a call, and returns its answer.
     fn ask(&mut self, call: &str, text: &str) -> Result<String, Fail> {
         let n: Option<u16> = text.parse().ok();
         let answer = match (call, n) {
@@ -125,7 +125,7 @@ impl Desk {
         raised(told(self.alloc, answer))
     }
 
-    /// Makes a call, and answers what it answers and the line then.
+    /// Makes a call, and returns its answer and the line then.
     fn step(&mut self, call: &str, text: &str) -> Result<String, Fail> {
         let answer = self.ask(call, text)?;
         let shown = shown_of(self.alloc, &self.line)?;
@@ -133,7 +133,7 @@ impl Desk {
     }
 }
 
-/// An answer, with a blank behind it.
+/// An answer, followed by a blank.
 fn told<D: Display + Drop>(
     alloc: Global,
     answer: Result<D, OutOfMemory>,
@@ -142,7 +142,7 @@ fn told<D: Display + Drop>(
     raised(format!(in alloc; "{answer} "))
 }
 
-/// What a call answers that answers nothing; a word that is no call is refused.
+/// The answer of a call without a result; an unknown word is an error.
 pub(crate) fn edited(
     alloc: Global,
     call: &str,
@@ -165,7 +165,7 @@ impl Player for Desk {
     }
 }
 
-/// Makes the call of each row, for each table on the empty line at first.
+/// Makes the call of each row; each table starts with the empty line.
 fn plays(alloc: Global, tables: &[&str]) -> Result<(), Fail> {
     for table in tables {
         plays_anew(alloc, table)?;
@@ -300,7 +300,7 @@ const EACH_KIND_MADE_ANEW: &str = "
     undo 65535 = false one| two
     ";
 
-/// A line, and what hears of its changes: a ring, and a record beside it.
+/// A line with its listeners: a ring and a record.
 #[derive(Drop)]
 struct Heard {
     line: LineBuffer,
@@ -309,7 +309,7 @@ struct Heard {
 }
 
 impl Heard {
-    /// A line that a table shows, of which nothing was heard.
+    /// A line in a table's notation, with new listeners.
     fn new(alloc: Global, shown: &str) -> Result<Self, OutOfMemory> {
         let line = line_of(alloc, shown)?;
         let ring = KillRing::new(alloc, 2)?;
@@ -321,7 +321,8 @@ impl Heard {
     }
 }
 
-/// Kills what stands behind the cursor, first at the line's end and then at its start; whether that was nothing, and all.
+/// Kills the text after the cursor, first at the line's end and then at its start. Returns whether
+/// that was nothing, and then all.
 fn killed_whole(
     alloc: Global,
     line: &mut LineBuffer,
@@ -366,7 +367,7 @@ fn changed_in_turn(
     Ok(())
 }
 
-/// Whether the ring has what was killed, and the record what was put in last.
+/// Whether the ring has the killed text, and the record the text inserted last.
 fn each_hears_its_own(alloc: Global, heard: &mut Heard) -> Result<bool, OutOfMemory> {
     let mut both = Joined {
         first: &mut heard.ring,
@@ -380,7 +381,8 @@ fn each_hears_its_own(alloc: Global, heard: &mut Heard) -> Result<bool, OutOfMem
     )
 }
 
-/// A ring hears of every change of a line beside its record, and keeps what is killed alone.
+/// A ring is notified of every change of a line together with its record, and keeps only killed
+/// texts.
 #[test]
 fn ring_beside_the_record(rt: HostRuntime) -> Result<(), Fail> {
     let mut heard = Heard::new(rt.alloc(), "")?;

@@ -1,5 +1,5 @@
-//! Commands of a line, by their names, over a renderer that takes no memory. Its bytes go to standard error, and among them
-//! what stands after each step.
+//! Commands of a line, by their names, over a renderer that takes no memory. Its bytes go to
+//! standard error, and the state after each step with them.
 
 use crate::edits::words::tell_ring;
 use line_buffer::GraphemeClusterMode;
@@ -19,7 +19,7 @@ use std::io::{self, Stderr};
 
 const COLUMNS: u16 = 20;
 
-/// Completion by words, hints of the history, and lines whose brackets are balanced.
+/// Completion by words, hints from the history, and validation of brackets.
 type Aide = HelperParts<WordCompleter, HistoryHinter, (), MatchingBracketValidator>;
 
 type Edited<'h> = State<'static, 'h, ScreenRenderer<WriteSink<Stderr>>, Aide, MemHistory>;
@@ -32,7 +32,7 @@ fn history_of(alloc: Global, entries: &str) -> Result<MemHistory, ReadlineError>
     Ok(history)
 }
 
-/// The helper that completes by these words, and none where there is no word.
+/// The helper that completes these words; `None` without a word.
 fn helper_of(alloc: Global, listed: &str) -> Result<Option<Aide>, ReadlineError> {
     if listed.is_empty() {
         return Ok(None);
@@ -49,7 +49,7 @@ fn helper_of(alloc: Global, listed: &str) -> Result<Option<Aide>, ReadlineError>
     }))
 }
 
-/// Takes away the room that line and record have beyond what stands in them.
+/// Removes the spare capacity of line and record.
 fn tighten(alloc: Global, state: &mut Edited<'_>) -> Result<(), ReadlineError> {
     let recorded = &mut state.recorded;
     recorded.line = recorded.line.try_clone(alloc)?;
@@ -57,7 +57,7 @@ fn tighten(alloc: Global, state: &mut Edited<'_>) -> Result<(), ReadlineError> {
     Ok(())
 }
 
-/// Makes a command, as a turn of a line does.
+/// Runs a command, like a turn of a line does.
 fn make(
     state: &mut Edited<'_>,
     input: &InputState<'_>,
@@ -93,7 +93,7 @@ fn prepare(alloc: Global, state: &mut Edited<'_>, step: &str) -> Option<Result<(
     }
 }
 
-/// Makes a step, and answers how it ended.
+/// Makes a step, and returns how it ended.
 fn step_on(
     alloc: Global,
     state: &mut Edited<'_>,
@@ -184,8 +184,8 @@ fn play_over(
     play_with(rt, &mut state, steps)
 }
 
-/// Makes the steps on a line over a history with these entries and a helper with these words, and tells after each of them
-/// what stands then.
+/// Makes the steps on a line over a history with these entries and a helper with these words, and
+/// prints the state after each of them.
 pub(crate) fn play(
     rt: &HostRuntime,
     entries: &str,

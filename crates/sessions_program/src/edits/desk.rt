@@ -1,4 +1,4 @@
-//! A line with its undo record, and a kill ring that is told of its kills first.
+//! A line with its undo record, and a kill ring that is notified of its kills first.
 
 ghost use Rattle.line_record.specs.Items.{ItemsStand, ItemsStand-prop};
 ghost use Rattle.line_record.specs.Together.{SameNames};
@@ -7,10 +7,10 @@ use line_buffer::{LineBuffer, Movement, NoListener, OutOfMemory, Word, WordActio
 use line_record::{Changeset, Joined, KillRing};
 use std::alloc::Global;
 
-/// What stands on the line when a case begins.
+/// The text of the line when a case begins.
 pub const START: &str = "one two three ";
 
-/// How many items the record has then: the letters of two words, a group, a letter and a kill.
+/// The number of the record's items then: the letters of two words, a group, a letter and a kill.
 pub const ITEMS: usize = 5;
 
 #[derive(Drop)]
@@ -23,7 +23,7 @@ pub struct Desk {
 }
 
 impl Desk {
-    /// A line on which `START` was typed, and what was killed behind it.
+    /// A line on which `START` was typed, and text after it killed.
     pub(crate) fn new(alloc: Global) -> Result<Self, OutOfMemory> {
         let mut desk = Desk::empty(alloc)?;
         desk.type_group()?;
@@ -57,7 +57,7 @@ impl Desk {
         self.kill_word_back()
     }
 
-    /// Takes away the room that the line has beyond its text.
+    /// Removes the spare capacity of the line.
     pub(crate) fn tighten(&mut self) -> Result<(), OutOfMemory> {
         self.line = self.line.try_clone(self.alloc)?;
         Ok(())
@@ -111,7 +111,7 @@ impl Desk {
         Ok(())
     }
 
-    /// The text between two places exchanged for another.
+    /// Replaces the text between two places by another.
     pub(crate) fn replace(
         &mut self,
         from: usize,
@@ -181,7 +181,7 @@ impl Desk {
         self.changes.redo(self.alloc, &mut self.line)
     }
 
-    /// Whether the text put in last, copied, is this one.
+    /// Whether the text inserted last, copied, is this one.
     pub(crate) fn last_insert_is(&self, text: &str) -> Result<bool, OutOfMemory> {
         match self.changes.last_insert(self.alloc)? {
             Some(inserted) => Ok(inserted.as_str() == text),
@@ -189,23 +189,23 @@ impl Desk {
         }
     }
 
-    /// Whether a copy of the record put the same text in last.
+    /// Whether a copy of the record has the same text inserted last.
     pub(crate) fn copies_record(&self) -> Result<bool, OutOfMemory> {
         let copy = self.changes.try_clone(self.alloc)?;
         Ok(copy.last_insert_text() == self.changes.last_insert_text())
     }
 
-    /// Whether the ring's present slot holds this text.
+    /// Whether the ring's current slot has this text.
     pub(crate) fn yanks(&mut self, text: &str) -> bool {
         self.ring.yank() == Some(text)
     }
 
-    /// Whether the cursor stands between two characters.
+    /// Whether the cursor is at a character boundary.
     pub(crate) fn has_cursor(&self) -> bool {
         self.line.as_str().is_char_boundary(self.line.pos())
     }
 
-    /// Whether nothing is recorded, so that nothing can be undone or made anew.
+    /// Whether nothing is recorded, so that nothing can be undone or redone.
     pub(crate) fn has_no_record(&mut self) -> Result<bool, OutOfMemory> {
         let inserted = self.changes.last_insert_text().is_some();
         let undone = self.undo(1)?;

@@ -1,4 +1,5 @@
-//! Calls of histories that take memory, each with what has to stand after it, done or refused.
+//! Calls of histories that take memory, each with its required result if it succeeds and if it
+//! fails.
 
 use crate::edits::row_sink::RowSink;
 use line_config::{HookFault, ReadlineError, SliceSource, VecSink};
@@ -20,7 +21,7 @@ const LINES: [&str; 10] = [
     "a last one that is longer than all of them, with many words in it, so that what holds a row of the text grows again",
 ];
 
-/// A text with escapes, wrong ones among them, its entries, and the rows that are saved of them.
+/// A text with escapes, some of them wrong, its entries, and the rows that are saved for them.
 const ESCAPED: &[u8] =
     b"#V2\na\\nb\nc\\\\\nd\\e\r\n\na row that takes more room than those\\nbefore it\nf\\";
 
@@ -63,7 +64,7 @@ const CALLS: [(Call, &str); 7] = [
     (Call::Hint, "history hint"),
 ];
 
-/// Whether all was done, and whether it stands as it has to.
+/// Whether everything was done, and whether the result is as required.
 #[derive(Clone, Copy)]
 struct Came {
     done: bool,
@@ -82,7 +83,7 @@ fn has_entries(history: &FileHistory, entries: &[&str]) -> bool {
     true
 }
 
-/// Whether just these rows are still to be appended.
+/// Whether exactly these rows are still to be appended.
 fn has_new(history: &mut FileHistory, rows: &[&str]) -> bool {
     let mut sink = RowSink::new(rows);
     history.append_to(&mut sink).is_ok() && sink.are_taken()
@@ -101,7 +102,7 @@ fn add(
     history.add_owned(alloc, text)
 }
 
-/// Adds the lines, each once, up to a refusal: how many, and whether each answer is right.
+/// Adds the lines, each once, until one fails: how many, and whether each answer is right.
 fn add_lines(alloc: Global, history: &mut FileHistory, owned: bool) -> (usize, bool) {
     let mut count = 0usize;
     for line in &LINES {
@@ -114,7 +115,8 @@ fn add_lines(alloc: Global, history: &mut FileHistory, owned: bool) -> (usize, b
     (count, true)
 }
 
-/// Adds the lines up to a refusal. Those before it are the entries, as far as there is room, and all of them are new.
+/// Adds the lines until one fails. Those before it are the entries, as far as the history keeps
+/// them, and all of them are new.
 fn add_all(alloc: Global, size: usize, owned: bool) -> Came {
     let mut history = FileHistory::new(alloc);
     history.set_max_len(size);
@@ -128,7 +130,7 @@ fn add_all(alloc: Global, size: usize, owned: bool) -> Came {
     }
 }
 
-/// Loads after an entry that was saved. A refusal leaves the rows before it, which are new.
+/// Loads after an entry that was saved. A failed load leaves the rows before it, which are new.
 fn load(alloc: Global) -> Option<Came> {
     let mut history = with_saved(alloc, &["old"])?;
     let answer = history.load_from(alloc, &mut SliceSource::new(ESCAPED));
@@ -169,14 +171,14 @@ fn with_new(alloc: Global, lines: &[&str]) -> Option<FileHistory> {
     Some(history)
 }
 
-/// Saves to memory. A growth of the sink that is refused is its failure, and leaves all entries new.
+/// Saves to memory. A failed allocation of the sink is its failure, and leaves all entries new.
 fn save(alloc: Global) -> Option<Came> {
     let mut history = with_new(alloc, &LINES)?;
     let answer = history.save_to(&mut VecSink::new(alloc));
     Some(written(&mut history, answer))
 }
 
-/// The same for entries that are appended.
+/// The same for appended entries.
 fn append(alloc: Global) -> Option<Came> {
     let mut history = with_new(alloc, &LINES)?;
     let answer = history.append_to(&mut VecSink::new(alloc));

@@ -1,5 +1,6 @@
-//! Each call that the undo record and the kill ring hear of, with each growth of memory that it wants refused: whether line,
-//! record and ring stand together then, and whether what was recorded can still be undone and made anew.
+//! Each call that notifies the undo record and the kill ring, with each of its allocations failing.
+//! Checks whether line, record and ring agree then, and whether the recorded changes can still be
+//! undone and redone.
 
 use crate::edits::desk::{Desk, ITEMS, START};
 use line_buffer::{LineBuffer, OutOfMemory};
@@ -9,7 +10,7 @@ use std::io;
 const LONG: &str =
     "a long text that takes more room than a line, a slot of a ring or a step of a record has left";
 
-/// The texts that the line of some case has at some time, so that no undo may leave another.
+/// The texts that the lines of the cases have at some time, so that no undo may leave another one.
 const TEXTS: [&str; 12] = [
     "",
     "one",
@@ -78,12 +79,12 @@ const CASES: [(Case, &str); 21] = [
 ];
 
 impl Case {
-    /// A refusal may leave a part of the call done.
+    /// After an error the call may be done in part.
     fn goes_by_parts(self) -> bool {
         matches!(self, Case::Update | Case::TransposeWords | Case::Indent)
     }
 
-    /// A refusal leaves no record.
+    /// After an error the record is empty.
     fn rewinds(self) -> bool {
         matches!(
             self,
@@ -91,7 +92,7 @@ impl Case {
         )
     }
 
-    /// What the ring lends before the call and after it.
+    /// The ring's text before the call and after it.
     fn slots(self) -> (&'static str, &'static str) {
         match self {
             Case::Kill => ("four", "three "),
@@ -161,7 +162,7 @@ impl Case {
     }
 }
 
-/// Another kill, so that the ring goes round at the next.
+/// Another kill, so that the next one starts again at the first slot.
 fn kill_round(desk: &mut Desk) -> Result<(), OutOfMemory> {
     desk.end_run();
     desk.kill_word_back()?;
@@ -181,7 +182,7 @@ fn is_known(text: &str) -> bool {
     TEXTS.iter().any(|known| *known == text)
 }
 
-/// Whether undoing item by item leaves nothing but known texts and ends at the empty one.
+/// Whether undoing item by item leaves only known texts and ends at the empty one.
 fn is_undone(desk: &mut Desk) -> Result<bool, OutOfMemory> {
     let mut known = true;
     for _ in 0..ALL {
@@ -204,7 +205,8 @@ fn undone_and_anew(desk: &mut Desk) -> Result<bool, OutOfMemory> {
     Ok(known)
 }
 
-/// Whether all can be undone, and making all anew gives the present text back, or after an undo the one before it.
+/// Whether everything can be undone, and redoing everything restores the current text, or after an
+/// undo the one before it.
 fn comes_back(case: Case, desk: &mut Desk) -> Result<bool, OutOfMemory> {
     let now = desk.copy_of_line()?;
     let last = if case.rewinds() { START } else { now.as_str() };
@@ -212,7 +214,7 @@ fn comes_back(case: Case, desk: &mut Desk) -> Result<bool, OutOfMemory> {
     Ok(known && desk.text() == last)
 }
 
-/// Whether what a refused call left is what it promises.
+/// Whether the result of a failed call is what it promises.
 fn is_left(case: Case, desk: &mut Desk, before: &LineBuffer) -> Result<bool, OutOfMemory> {
     if case.rewinds() {
         return Ok(is_known(desk.text()) && desk.has_no_record()?);
@@ -228,21 +230,21 @@ fn begun(case: Case, alloc: Global) -> Result<(Desk, LineBuffer), OutOfMemory> {
     Ok((desk, before))
 }
 
-/// Whether what a call left is right that was done.
+/// Whether the result of a call that succeeded is right.
 fn is_done(case: Case, desk: &mut Desk) -> Result<bool, OutOfMemory> {
     let (_, new) = case.slots();
     let right = desk.yanks(new);
     Ok(comes_back(case, desk)? && right)
 }
 
-/// Whether what a call left is right that was refused.
+/// Whether the result of a call that failed is right.
 fn is_refused(case: Case, desk: &mut Desk, before: &LineBuffer) -> Result<bool, OutOfMemory> {
     let (old, new) = case.slots();
     let right = desk.yanks(old) || desk.yanks(new);
     Ok(is_left(case, desk, before)? && right)
 }
 
-/// How the call ended, and whether what it left is right.
+/// How the call ended, and whether its result is right.
 fn judged(
     case: Case,
     desk: &mut Desk,

@@ -2,7 +2,7 @@
 
 use line_config::{DeviceFailed, Log, Sink};
 
-/// Rows, each closed by a newline, and how far they were met.
+/// Rows, each ending in a newline, how far they were compared, and whether all bytes matched.
 #[derive(Drop)]
 struct Comparison<'a> {
     rows: &'a [&'a str],
@@ -57,7 +57,7 @@ impl<'a> RowSink<'a> {
         }
     }
 
-    /// Whether it took just these rows.
+    /// Whether it took exactly these rows.
     pub(crate) fn are_taken(&self) -> bool {
         let met = &self.comparison;
         met.same && met.row == met.rows.len() && met.at == 0

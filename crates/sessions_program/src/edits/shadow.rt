@@ -1,12 +1,12 @@
-//! A listener that makes each event on a text of its own.
+//! A listener that makes each event on its own text.
 
 use line_buffer::{ChangeListener, DeleteListener, Direction, LineBuffer, NoListener, OutOfMemory};
 use std::alloc::Global;
 
-/// Room for the texts of the tests, so that the listener itself needs no growth later.
+/// Capacity for the texts of the tests, so that the listener itself needs no allocation later.
 const ROOM: usize = 4096;
 
-/// The text that the events make, whether each of them fitted it, and whether each kill was ended.
+/// The text of the events, whether each of them fitted it, and whether each kill was ended.
 #[derive(Drop)]
 pub struct Shadow {
     line: LineBuffer,
@@ -25,7 +25,7 @@ impl Shadow {
         })
     }
 
-    /// Whether the events make this text, and no kill is left open.
+    /// Whether the events lead to this text, and no kill is left open.
     pub(crate) fn agrees(&self, text: &str) -> bool {
         self.fitted && !self.killing && self.line.as_str() == text
     }

@@ -1,5 +1,6 @@
-//! Edits of a line with its record, a kill ring and the mark of a plain text, by the names of their calls, a number and what
-//! stands after it: `insert_char 2 x`, `update 1 abc`, `edit_word 0 Uppercase`, `kill 0 WholeLine`.
+//! Edits of a line with its record, a kill ring and the mark of a plain text. A step is the name of
+//! a call, a number and a text: `insert_char 2 x`, `update 1 abc`, `edit_word 0 Uppercase`, `kill 0
+//! WholeLine`.
 
 use crate::edits::words::{first_char, parts, tell_ring, word_of};
 use line_buffer::{LineBuffer, Movement, OutOfMemory, RepeatCount, WordAction};
@@ -9,10 +10,10 @@ use stand_ins::commands::movement_named;
 use std::alloc::Global;
 use std::io;
 
-/// How many columns a row is moved by.
+/// By how many columns a row is indented.
 const INDENT: u8 = 2;
 
-/// Puts a text in, or tells that no such edit has this name.
+/// Inserts a text, or returns that no such edit has this name.
 fn put(
     alloc: Global,
     recorded: &mut RecordedLine,
@@ -32,7 +33,7 @@ fn put(
     Some(done)
 }
 
-/// Puts a text in place of another, if a character begins at the place that the number names.
+/// Inserts a text in place of another, if the place of the number is a character boundary.
 fn put_over(
     alloc: Global,
     recorded: &mut RecordedLine,
@@ -53,7 +54,7 @@ fn put_over(
     Some(done)
 }
 
-/// Exchanges or rewords what stands there, or takes back what was recorded.
+/// Replaces or rewords the text, or undoes recorded changes.
 fn reword(
     alloc: Global,
     recorded: &mut RecordedLine,
@@ -98,14 +99,14 @@ impl Slate {
         })
     }
 
-    /// Takes away the room that line and record have beyond what stands in them.
+    /// Removes the spare capacity of line and record.
     fn tighten(&mut self) -> Result<(), OutOfMemory> {
         self.recorded.line = self.recorded.line.try_clone(self.alloc)?;
         self.recorded.changes = self.recorded.changes.try_clone(self.alloc)?;
         Ok(())
     }
 
-    /// Makes anew what was taken back last.
+    /// Redoes what was undone last.
     fn redo(&mut self) -> bool {
         let recorded = &mut self.recorded;
         let made = recorded
@@ -136,7 +137,7 @@ impl Slate {
             .is_ok()
     }
 
-    /// Makes an edit that takes a movement.
+    /// Makes an edit with a movement.
     fn makes_over(&mut self, name: &str, words: &str) -> Option<bool> {
         let movement = movement_named(self.alloc, words)?;
         match name {
@@ -147,7 +148,7 @@ impl Slate {
         }
     }
 
-    /// Makes a step by its name: whether it was done, or nothing where it has none.
+    /// Makes a step by its name: whether it succeeded, or `None` if the name is unknown.
     fn makes(&mut self, name: &str, n: RepeatCount, text: &str) -> Option<bool> {
         match name {
             "at" => Some(self.stands_at(usize::from(n))),
@@ -161,7 +162,7 @@ impl Slate {
         }
     }
 
-    /// Sets the cursor, where a character begins there.
+    /// Sets the cursor, if the place is a character boundary.
     fn stands_at(&mut self, pos: usize) -> bool {
         let is_boundary = self.recorded.line.as_str().is_char_boundary(pos);
         if is_boundary {
@@ -181,7 +182,7 @@ impl Slate {
     }
 }
 
-/// Makes the steps, and tells after each of them what stands then.
+/// Makes the steps, and prints the state after each of them.
 pub(crate) fn play(rt: &HostRuntime, alloc: Global, steps: &[String]) -> io::Result<()> {
     let Ok(mut slate) = Slate::new(alloc) else {
         return eprintln!(rt; "not begun");

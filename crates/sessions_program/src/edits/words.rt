@@ -1,11 +1,11 @@
-//! What steps are made of, and what is told after them.
+//! The parts of steps, and what is printed after them.
 
 use line_buffer::RepeatCount;
 use line_record::KillRing;
 use stand_ins::tables::word_and_rest;
 use std::io;
 
-/// A step's name, its number, and what stands after it.
+/// A step's name, its number, and the text after it.
 pub(crate) fn parts(step: &str) -> (&str, RepeatCount, &str) {
     let (name, rest) = word_and_rest(step);
     let (number, text) = word_and_rest(rest);
@@ -25,7 +25,7 @@ pub(crate) fn word_of(done: Option<bool>) -> &'static str {
     }
 }
 
-/// Tells a ring's texts and its present slot, and ends what is told.
+/// Prints a ring's texts and its current slot, and ends the line.
 pub(crate) fn tell_ring(rt: &HostRuntime, ring: &KillRing) -> io::Result<()> {
     for text in ring.texts() {
         eprint!(rt; "\t{}", text.as_str())?;

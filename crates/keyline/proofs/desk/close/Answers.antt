@@ -1,4 +1,4 @@
--- The new row after an ending was refused.
+-- The new row after an ending failed.
 use Rattle.std.proofs.Common.{rules, ◌∙◌, ap}
 use Rattle.std.specs.Prelude.{string_bytes}
 use Rattle.line_keys.specs.Coming.{made_of}

@@ -1,4 +1,4 @@
--- Each call that fails leaves a beginning of the line written.
+-- Each call that fails leaves a prefix of the line written.
 use Rattle.std.proofs.Common.{[], ◌∷◌, ◌++◌, refl}
 use Rattle.line_config.proofs.Taking.{takes_then, takes_write, takes_flush, some_of_write, some_of_all, some_then, sends_cut, sends_refused}
 use Rattle.keyline.proofs.desk.send_line.Goals as goal

@@ -6,7 +6,7 @@ ghost use Rattle.line_keys.specs.Counts.{multiplied, typed_count};
 use crate::keymap::count::times;
 use line_buffer::RepeatCount;
 
-/// The count, where one was typed.
+/// The count, if one was typed.
 pub(crate) fn typed_count(count: Option<i16>) -> Option<RepeatCount>
     ensures { result ≡ typed_count count }
 {

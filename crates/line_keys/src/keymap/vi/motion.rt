@@ -43,20 +43,20 @@ impl Search {
     }
 }
 
-/// What a key is after an operator.
+/// The meaning of a key after an operator.
 #[derive(Drop)]
 pub enum Motion {
     /// By a movement.
     Go(Movement),
-    /// To the character that is typed next.
+    /// To the next typed character.
     Seek(Search),
-    /// The search that is kept, once more.
+    /// The last search again.
     Again,
-    /// The search that is kept, the other way.
+    /// The last search in the other direction.
     Back,
 }
 
-/// The search the other way.
+/// The search in the other direction.
 pub(crate) fn opposite(search: Option<CharSearch>) -> Option<CharSearch>
     ensures { result ≡ opposite_of search }
 {
@@ -111,7 +111,7 @@ fn motion_row(key: KeyEvent, n: RepeatCount) -> Option<Motion>
     }
 }
 
-// The rows of motions of a change, which takes no blanks after a word.
+// The rows of motions of a change, which doesn't include blanks after a word.
 fn change_row(key: KeyEvent, n: RepeatCount) -> Option<Motion>
     ensures { result ≡ look n true key change_motion_rows }
 {
@@ -126,7 +126,7 @@ fn change_row(key: KeyEvent, n: RepeatCount) -> Option<Motion>
     }
 }
 
-// What a key is after an operator, which may be a change.
+// The meaning of a key after an operator, which may be a change.
 #[tactic(auto, using(crate::proofs::Steps::motions), unfolding(crate::specs::ViMotions::motion_of))]
 fn motion_of(changing: bool, key: KeyEvent, n: RepeatCount) -> Option<Motion>
     ensures { result ≡ motion_of changing n key }
@@ -146,7 +146,7 @@ impl<D: Decides> InputState<'_, D> {
     ghost use Rattle.line_keys.specs.ViMotions.{motion_by, vi_motion};
     ghost use Rattle.line_keys.specs.ViSearches.{sought};
 
-    /// The motion after an operator's key; none where another key follows.
+    /// The motion after an operator's key; `None` if another key follows.
     #[tactic(auto, using(crate::proofs::Steps::motion))]
     pub(crate) fn vi_cmd_motion<R: RawReader, W: Refresher>(
         &mut self,
@@ -195,7 +195,7 @@ impl<D: Decides> InputState<'_, D> {
         }
     }
 
-    /// The movement to the character that is typed next, whose search is remembered.
+    /// The movement to the next typed character. The search is remembered.
     #[tactic(auto, using(crate::proofs::Steps::search))]
     pub(crate) fn vi_char_search<R: RawReader>(
         &mut self,

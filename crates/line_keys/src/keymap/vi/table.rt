@@ -16,31 +16,31 @@ use crate::keymap::vi::motion::Search;
 use crate::refresh::Refresher;
 use line_buffer::{Anchor, At, Movement, RepeatCount, Word};
 
-/// What a key of command mode does.
+/// The action of a key in command mode.
 #[derive(Drop)]
 pub enum Action {
     /// Gives a command.
     Give(Cmd),
-    /// Turns to insert mode, which the display is told, and gives a command.
+    /// Switches to insert mode, notifies the display, and gives a command.
     Insert(Cmd),
-    /// Turns to a mode and gives a command, which itself begins what is undone as one.
+    /// Switches to a mode and gives a command, which itself starts a group of undo.
     Turn(InputMode, Cmd),
-    /// Makes a command of the motion after it. A change turns to insert mode before its motion is
+    /// Combines with the motion after it. A change switches to insert mode before its motion is
     /// read.
     Operate(Operator),
-    /// Moves to the character that is typed next.
+    /// Moves to the next typed character.
     Search(Search),
-    /// Moves by the search that is kept, once more.
+    /// Moves by the last search again.
     Again,
-    /// Moves by the search that is kept, the other way.
+    /// Moves by the last search in the other direction.
     Back,
-    /// Makes the last change once more.
+    /// Repeats the last change.
     Repeat,
-    /// Puts the character that is typed next in the place of those under the cursor.
+    /// Replaces the characters under the cursor by the next typed one.
     Replace,
 }
 
-/// What a motion follows.
+/// An operator, which is followed by a motion.
 #[derive(Clone, Copy, PartialEq, Eq)]
 pub enum Operator {
     Change,
@@ -53,7 +53,7 @@ pub enum Operator {
 impl Operator {
     ghost use Rattle.line_keys.specs.Vi.{command_of};
 
-    /// What the operator makes of a motion.
+    /// The operator's command for a motion.
     pub fn command(self, motion: Option<Movement>) -> Cmd
         ensures { result ≡ operated (command_of self) motion }
     {
@@ -70,16 +70,16 @@ impl Operator {
     }
 }
 
-/// What a key of insert and replace mode does.
+/// The action of a key in insert and replace mode.
 #[derive(Drop)]
 pub enum InsertAction {
     /// Gives a command.
     Give(Cmd),
-    /// Types a character, in replace mode over the one at the cursor.
+    /// Types a character; in replace mode it overwrites the one at the cursor.
     Typed(char),
-    /// Turns to command mode, which the display is told, and gives a command.
+    /// Switches to command mode, notifies the display, and gives a command.
     Leave(Cmd),
-    /// Turns to command mode likewise, and this character's key is read there.
+    /// Switches to command mode in the same way, where this character's key is then read.
     Command(char),
 }
 
@@ -100,7 +100,7 @@ pub(crate) fn vi_insert_row<W: Refresher>(wrt: &W, key: KeyEvent) -> Option<Inse
         }
         E(K::Char('I'), M::CTRL) | E(K::Tab, M::NONE) => Some(D::Give(Cmd::Complete)),
         E(K::BackTab, M::NONE) => Some(D::Give(Cmd::CompleteBackward)),
-        // A hint is taken where the cursor stands before it.
+        // A hint is accepted if the cursor is right before it.
         E(K::Right, M::NONE) if wrt.has_hint() && wrt.is_cursor_at_end() => {
             Some(D::Give(Cmd::CompleteHint))
         }
@@ -146,7 +146,7 @@ fn vi_move_row(key: KeyEvent, n: RepeatCount) -> Option<Cmd>
     }
 }
 
-// The rows of edits that wait for no motion, and the rest.
+// The rows of edits without a motion, and other rows.
 fn vi_edit_row(key: KeyEvent, n: RepeatCount) -> Option<Cmd>
     ensures { option_map Give result ≡ look n true key vi_edit_rows }
 {
@@ -202,14 +202,14 @@ fn vi_turn_row(key: KeyEvent, n: RepeatCount) -> Option<Action>
     }
 }
 
-// To insert mode, where what is typed takes the range's place.
+// Switches to insert mode, where typed text replaces the range.
 fn replacing(range: Movement) -> Action
     ensures { result ≡ Turn Insert (Replace range None) }
 {
     Action::Turn(InputMode::Insert, Cmd::Replace(range, None))
 }
 
-// The rows whose keys read on, or go by what is kept.
+// The rows of keys after which more is read, or which use the last search or change.
 fn vi_reading_row(key: KeyEvent) -> Option<Action>
     ensures { (n : ℕ) → result ≡ look n true key vi_reading_rows }
 {
@@ -234,7 +234,7 @@ fn vi_reading_row(key: KeyEvent) -> Option<Action>
     }
 }
 
-/// What a key of command mode does, by the count.
+/// The action of a key in command mode, with the count.
 #[tactic(auto, using(crate::proofs::Steps::tables))]
 pub(crate) fn vi_command_row(key: KeyEvent, n: RepeatCount) -> Option<Action>
     ensures { result ≡ action_of n key }

@@ -3,13 +3,11 @@ use Rattle.std.proofs.Common.{List, ℕ, refl, subst, ap, ◌∙◌}
 use Rattle.std.specs.Prelude.{string_bytes}
 use Rattle.line_editor.specs.Running.{helping_by}
 use Rattle.line_keys.specs.Coming.{made_of}
-use Rattle.line_screen.proofs.CallLemmas.{columns_in}
 use Rattle.keyline.specs.Desks.{TakesLine}
 use Rattle.keyline.specs.Known.{known_by}
 use Rattle.keyline.specs.Opened.{given_in}
 use Rattle.keyline.specs.Plays.{Finishes}
 use Rattle.keyline.proofs.LinesLemmas.{along, underway_nowhere, underway_ok, underway_err}
-use Rattle.keyline.proofs.SessionCourse.{sessions_show}
 use Rattle.keyline.proofs.session.Session.run.Goals as goal
 
 pub loop-why-init : goal.loop-why-init
@@ -27,15 +25,11 @@ returns-in-Err g c =
     let line = subst P (c.as_str.ensures.value ∙ ap string_bytes c.replace-prompt.ensures.value) c.read_line-next.ensures.takes in
     let lines = underway_err k _ _ _ self.desk now.desk next.desk _ c.loop-why.invariant.0 line c.in-Err.why (ap (made_of string_bytes) c.in-Err.is) in
     let text = along {y = record now { desk = next.desk }} c.read_line-next.ensures.others (λ s. s.text) ∙ c.loop-why.invariant.1 in
-    let columns = columns_in self.desk.out in
     record {
-      shows = sessions_show _ _ columns.0 columns.1;
-      plays = record {
-        last = next.desk;
-        why = c.in-Err.why;
-        takes = lines;
-        finishes = subst (λ text. Finishes g.T.Sink.held g.T.Sink.has_failed next.desk text c.in-Err.why c.finish.result) text c.finish.ensures;
-      };
+      last = next.desk;
+      why = c.in-Err.why;
+      takes = lines;
+      finishes = subst (λ text. Finishes g.T.Sink.held g.T.Sink.has_failed next.desk text c.in-Err.why c.finish.result) text c.finish.ensures;
     }
 
 pub loop-why-preserved-in-Ok : goal.loop-why-preserved-in-Ok

@@ -1,5 +1,5 @@
--- A beginning of the bytes was taken, and the rest of them is still to be. The room there was is
--- still there, but for them; so where all of them fit, none was sent.
+-- A prefix of the bytes was taken, and the rest of them is still to be. The space there was is
+-- still there, except for them; so if all of them fit, none was sent.
 use Rattle.std.proofs.Common.{◌≡◌, ◌≤◌, ◌+◌, ◌++◌, List, ℕ, length}
 use Rattle.line_config.specs.Adapters.{recorded_of, room_of, taken}
 use Rattle.line_config.specs.Recorded.{Notes}

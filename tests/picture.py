@@ -1,0 +1,192 @@
+#!/usr/bin/env python3
+"""The session that README shows: tmux runs ./keyline, is sent the keys of each row, and is asked for what it shows.
+
+    tests/picture.py            compares README's session and docs/session.svg with what tmux shows
+    tests/picture.py --write    types README's keys, and writes what tmux shows into README and docs/session.svg
+
+README has the session under "## What it looks like": first the commands of a shell, of which the last runs ./keyline.
+Then each row has keys, and beside them what is shown after them, from the line's first row on; a bar is the cursor.
+`rt ci` builds the program first.
+"""
+import os
+import re
+import shlex
+import sys
+import tempfile
+import time
+import xml.sax.saxutils
+
+from checks import TOP, Failed, placed_script, run_all, same
+from drawings import Terminal
+from shown import PATIENCE, key, pictured, until_taken
+
+README = os.path.join(TOP, "README.md")
+PICTURE = os.path.join(TOP, "docs", "session.svg")
+BLOCK = re.compile(r"(?<=^## What it looks like\n).*?^```text\n(.*?)^```$", re.M | re.S)
+PROMPT = "> "
+COLUMNS, ROWS = 56, 8
+# Where what is shown begins in a row of the session.
+MARGIN = 18
+
+# Of the picture, in pixels and seconds.
+CELL, ROW, LEFT, TOP_ROW, FRAME = 8.4, 19, 16, 62, 1.8
+
+STYLE = """  <style>
+    text {{ font: 14px "DejaVu Sans Mono", Menlo, Consolas, monospace; white-space: pre }}
+    .keys {{ fill: #9ecbff }} .shown {{ fill: #e6edf3 }} .cursor {{ fill: #7ee787; opacity: 0.55 }}
+    .frame {{ animation: shown {cycle:g}s step-end infinite }}
+    @keyframes shown {{ 0% {{ opacity: 1 }} {share:.3f}% {{ opacity: 0 }} 100% {{ opacity: 0 }} }}
+  </style>
+"""
+
+
+def read(path):
+    with open(path, encoding="utf-8") as it:
+        return it.read()
+
+
+def write(path, text):
+    with open(path, "w", encoding="utf-8") as it:
+        it.write(text)
+
+
+def key_bytes(words):
+    """What is sent for a row's keys: the bytes of keys that have a name, or else the text as it is typed."""
+    named = [word.replace("Ctrl-", "C-") for word in words.split()]
+    codes = [key(word) for word in named]
+    is_named = all(len(word) > 1 and code != word.encode() for word, code in zip(named, codes))
+    return b"".join(codes) if is_named else words.encode()
+
+
+def parted(block):
+    """The shell's commands, and the steps: keys with the rows that are shown after them."""
+    commands, steps = [], []
+    for line in block.splitlines():
+        if line.startswith("$ "):
+            commands.append(line[2:])
+        elif line.strip():
+            keys, row = line[:MARGIN].strip(), line[MARGIN:]
+            if keys:
+                steps.append((keys, []))
+            steps[-1][1].append(row)
+    return commands, steps
+
+
+class Play:
+    """The session on a terminal, and the screens that it has shown so far: each as its rows and the cursor's cell."""
+
+    def __init__(self, terminal):
+        self.terminal, self.screens = terminal, []
+        self.top = 0
+
+    def show(self, wanted):
+        """Waits until the terminal shows these rows from the line's top on, if they are known, and else for its rest."""
+        end = time.monotonic() + PATIENCE
+        while True:
+            rows, (row, column) = screen = self.terminal.shown()
+            if wanted is None:
+                time.sleep(1)
+                if screen == self.terminal.shown():
+                    break
+            elif (rows[self.top:], (row - self.top, column)) == wanted:
+                break
+            elif time.monotonic() > end:
+                raise Failed(f"wanted {wanted}, shown {screen}")
+            else:
+                time.sleep(0.02)
+        self.screens.append(screen)
+        return with_bar(screen, self.top)
+
+    def step(self, keys, wanted):
+        self.top = last_prompt(self.screens[-1][0])
+        self.terminal.ask("send-keys", "-H", *(f"{byte:02x}" for byte in key_bytes(keys)))
+        return self.show(wanted)
+
+
+def last_prompt(rows):
+    """The row in which the line that is open begins."""
+    return max(at for at, row in enumerate(rows) if row.startswith(PROMPT.strip()))
+
+
+def with_bar(screen, top):
+    """The rows of a screen from one on, with a bar where the cursor stands."""
+    rows, (row, column) = screen
+    rows = rows + [""] * (row + 1 - len(rows))
+    rows[row] = f"{rows[row][:column]:{column}}|{rows[row][column:]}"
+    return rows[top:]
+
+
+def play(commands, steps, known):
+    """Plays the session, and answers what each step shows and all screens."""
+    *before, run = commands
+    script = placed_script()
+    with tempfile.TemporaryDirectory() as folder:
+        run = run.replace("./keyline", shlex.quote(script), 1)
+        shell = "; ".join([f"cd {shlex.quote(folder)}", *before, f"exec {run}"])
+        terminal = Terminal(folder, COLUMNS, f"sh -c {shlex.quote(shell)}")
+        try:
+            until_taken(terminal)
+            shows = Play(terminal)
+            shows.show(pictured(f"{PROMPT}|"))
+            rows = [(keys, shows.step(keys, pictured(" / ".join(wanted)) if known else None)) for keys, wanted in steps]
+        finally:
+            terminal.close()
+    return rows, shows.screens
+
+
+def block_of(commands, steps):
+    """The text of the session, as README has it."""
+    lines = [*(f"$ {command}" for command in commands), ""]
+    for keys, rows in steps:
+        lines += [f"{heading:{MARGIN}}{row}" for heading, row in zip([keys, *[""] * len(rows)], rows)]
+    return "".join(f"{line}\n" for line in lines)
+
+
+def frame(number, count, keys, screen):
+    """One screen of the picture, shown for its share of a cycle. A viewer without animations shows the last one."""
+    rows, (row, column) = screen
+    y = lambda at: TOP_ROW + ROW * at
+    cells = [f'    <text class="keys" x="{LEFT}" y="28">{xml.sax.saxutils.escape(keys)}</text>\n']
+    cells += [
+        f'    <text class="shown" x="{LEFT}" y="{y(at)}" textLength="{CELL * len(text):g}">{xml.sax.saxutils.escape(text)}</text>\n'
+        for at, text in enumerate(rows) if text
+    ]
+    cells.append(f'    <rect class="cursor" x="{LEFT + CELL * column:g}" y="{y(row) - 14}" width="{CELL}" height="{ROW}"/>\n')
+    opacity = 1 if number == count - 1 else 0
+    return f'  <g class="frame" opacity="{opacity}" style="animation-delay: {(number - count) * FRAME:g}s">\n{"".join(cells)}  </g>\n'
+
+
+def picture_of(captions, screens):
+    """The session as an SVG: what tmux showed, one screen after the other."""
+    width, height = 2 * LEFT + CELL * COLUMNS, TOP_ROW + ROW * (ROWS - 1) + 12
+    style = STYLE.format(cycle=FRAME * len(screens), share=100 / len(screens))
+    frames = "".join(frame(at, len(screens), *it) for at, it in enumerate(zip(captions, screens)))
+    return (
+        f'<svg xmlns="http://www.w3.org/2000/svg" viewBox="0 0 {width:g} {height:g}" width="{width:g}" height="{height:g}">\n'
+        "  <title>A session of keyline: the keys, and what the terminal shows after them</title>\n"
+        f'{style}  <rect width="100%" height="100%" rx="8" fill="#0d1117"/>\n'
+        f'  <line x1="0" y1="40" x2="{width:g}" y2="40" stroke="#30363d"/>\n{frames}</svg>\n'
+    )
+
+
+def readme_shows_what_tmux_shows():
+    commands, steps = parted(BLOCK.search(read(README))[1])
+    _, screens = play(commands, steps, True)
+    same("docs/session.svg", read(PICTURE), picture_of([commands[-1], *(keys for keys, _ in steps)], screens))
+
+
+def renew():
+    readme = read(README)
+    block = BLOCK.search(readme)
+    commands, steps = parted(block[1])
+    steps, screens = play(commands, steps, False)
+    write(README, readme[: block.start(1)] + block_of(commands, steps) + readme[block.end(1) :])
+    write(PICTURE, picture_of([commands[-1], *(keys for keys, _ in steps)], screens))
+
+
+if __name__ == "__main__":
+    os.environ["LC_ALL"] = "C.UTF-8"
+    if sys.argv[1:] == ["--write"]:
+        renew()
+    else:
+        run_all([readme_shows_what_tmux_shows])
