@@ -1,47 +1,77 @@
 -- A session over memory that its keys ended is the definition's.
-use Rattle.std.proofs.Common.{◌≡◌, ℕ, ◌+◌, ◌<◌, Bool, true, false, IsTrue, List, [], ◌++◌, Option, None, length, inl, inr, refl, sym, ap, subst, ◌∙◌, arith, Result, Ok, Err}
+use Rattle.std.proofs.Common.{◌≡◌, ℕ, ◌+◌, ◌<◌, Bool, true, false, IsTrue, List, [], ◌∷◌, ◌++◌, Option, length, refl, sym, ap, subst, ◌∙◌, arith}
 use Rattle.std.specs.Prelude.{flat_map}
 use Rattle.line_config.specs.Feed.{AlwaysTold, Feed, fresh_feed}
 use Rattle.line_config.specs.declared.config.Config.{Config}
 use Rattle.line_config.specs.declared.device.Last.TheVariants.{End}
 use Rattle.line_config.specs.declared.errors.ReadlineError.{ReadlineError}
-use Rattle.line_config.specs.declared.errors.ReadlineError.TheVariants.{Eof, Interrupted, NotUtf8, PasteOutOfPlace, Reader, Display, Lines, HistoryText, Helper, Handler, Memory}
+use Rattle.line_config.specs.declared.errors.ReadlineError.TheVariants.{Eof, Interrupted, NotUtf8, PasteOutOfPlace, Display, Lines, Helper, Memory}
 use Rattle.line_help.specs.History.{Filed}
 use Rattle.line_help.specs.HistoryText.{text_to_save}
 use Rattle.line_keys.specs.Answers.{Custom}
 use Rattle.line_keys.specs.Coming.{Coming}
+use Rattle.line_keys.specs.Feeds.{Paste}
 use Rattle.line_record.specs.Ring.{Ring, new_ring}
 use Rattle.line_screen.specs.Calls.{Screen, screen_of}
 use Rattle.line_screen.specs.Input.{chars_of}
 use Rattle.line_screen.specs.KeyGrammar.{read_from}
 use Rattle.line_screen.specs.Reader.{coming_by, feed_in, kept_of, source_of}
 use Rattle.line_screen.specs.Reading.{kept_count, with_kept}
-use Rattle.keyline.specs.Desks.{desk_feed, session_state_of, work_of}
+use Rattle.keyline.specs.Desks.{GoesShown, desk_feed, session_state_of, work_of}
 use Rattle.keyline.specs.Endings.{ending_of}
 use Rattle.keyline.specs.Known.{Known}
-use Rattle.keyline.specs.Playing.{IsStopped, Reads, Work, ending_after}
-use Rattle.keyline.specs.Plays.{Opens, PlaysSession, RunsSession, loaded_from}
+use Rattle.keyline.specs.Playing.{AreDone, IsStopped, Stands, Went, Work, ending_after}
+use Rattle.keyline.specs.Plays.{Opens, RunsSession, loaded_from}
 use Rattle.keyline.specs.Program.{EditHelper, edit_helping}
-use Rattle.keyline.specs.SessionScripts.{SessionEvent, Draws, Helped, Hears, Keeps, Writes, bytes_drawn, left_to_come, lines_kept, lines_written, session_script, without_fault}
-use Rattle.keyline.specs.Sessions.{Given, SessionState, coming_from, each, given_of, lines_text, remembered, screen_by, session}
-use Rattle.keyline.specs.Shows.{Displays}
-use Rattle.keyline.specs.Transcripts.{IsTranscript, ReadsOn, Transcribes, given_by, is_cut, start_by, word_helper}
+use Rattle.keyline.specs.Events.{Event, Takes, Helped, Draws, Hears, Breaks, Keeps, Writes, bytes_drawn, left_to_come, lines_kept, lines_written, session}
+use Rattle.keyline.specs.Sessions.{Given, SessionState, coming_from, each, given_of, lines_text, remembered, screen_by}
+use Rattle.keyline.specs.Shows.{EachShown}
+use Rattle.keyline.specs.Transcripts.{Transcribes, given_by, is_cut, start_by, word_helper}
 use Rattle.keyline.specs.declared.desk.Desk.{Desk}
 use Rattle.keyline.specs.declared.over_memory.Transcript.{Transcript}
 use Rattle.keyline.specs.declared.session.Ended.{Ended}
-use Rattle.keyline.proofs.EventLaw.{events_tell, sessions_come}
 
 -- no fault ends a session so
-no_fault : {D L : Type 0} (shown : D → List ℕ) (written_in : L → List ℕ) (adds : Bool) (x y : Work D L) (event : SessionEvent) (why : ReadlineError)
+no_fault : {D L : Type 0} (shown : D → List ℕ) (written_in : L → List ℕ) (adds : Bool) (x y : Work D L) (event : Event) (why : ReadlineError)
     → is_cut (ending_of why) ≡ false → IsStopped shown written_in adds x event why y → ⊥
-no_fault shown written_in adds x y (Draws bytes) Display is h = absurd (cc)
-no_fault shown written_in adds x y (Draws bytes) Memory is h = absurd (cc)
-no_fault shown written_in adds x y (Helped fails) Helper is h = absurd (cc)
-no_fault shown written_in adds x y (Helped fails) Memory is h = absurd (cc)
-no_fault shown written_in adds x y (Hears rest) Memory is h = absurd (cc)
+no_fault shown written_in adds x y Takes Memory is h = absurd (cc)
+no_fault shown written_in adds x y (Helped fails takes) Helper is h = absurd (cc)
+no_fault shown written_in adds x y (Helped fails takes) Memory is h = absurd (cc)
+no_fault shown written_in adds x y (Draws redraw (bytes ∷ more)) Display is h = absurd (cc)
+no_fault shown written_in adds x y (Hears Paste) Memory is h = absurd (cc)
+no_fault shown written_in adds x y Breaks Display is h = absurd (cc)
 no_fault shown written_in adds x y (Keeps line) Memory is h = absurd (cc)
 no_fault shown written_in adds x y (Writes line) Lines is h = absurd (cc)
 no_fault shown written_in adds x y _ _ is h = absurd h
+
+append_nothing : {A : Type 0} (xs : List A) → xs ++ [] ≡ xs
+append_nothing [] = refl
+append_nothing (x ∷ xs) = ap (λ ys. x ∷ ys) (append_nothing xs)
+
+module _ {D L : Type 0} (shown : D → List ℕ) (written_in : L → List ℕ) (adds : Bool) (why answer : ReadlineError) where
+  abbrev FaultIs : ReadlineError → Type 0
+  FaultIs e = why ≡ e
+
+  none_left : (others : List Event) (at new : Work D L) → is_cut (ending_of why) ≡ false → Stands shown written_in adds others at new (why ≡ answer) FaultIs
+      → (others ≡ []) × (why ≡ answer) × (new ≡ at)
+  none_left [] at new by_keys (is, same) = (refl, is, same)
+  none_left (event ∷ others) at new by_keys (e, stopped, is) = absurd (no_fault shown written_in adds at new event e (subst (λ w. is_cut (ending_of w) ≡ false) is by_keys) stopped)
+
+  -- all events were done
+  record AllDone (events done : List Event) (old new : Work D L) : Type 0 where
+    pub answer_is : why ≡ answer
+    pub done_is : done ≡ events
+    pub are_done : AreDone shown written_in adds events old new
+
+  all_done : (events : List Event) (old new : Work D L) (w : Went shown written_in adds events old new (why ≡ answer) FaultIs) → is_cut (ending_of why) ≡ false → AllDone events w.done old new
+  all_done events old new w by_keys =
+      let left = none_left w.others w.at new by_keys w.stands in
+      let done_is : w.done ≡ events = sym (w.split ∙ (ap (λ o. w.done ++ o) left.0 ∙ append_nothing w.done)) in
+      record {
+        answer_is = left.1;
+        done_is = done_is;
+        are_done = subst (λ es. AreDone shown written_in adds es old new) done_is (subst (λ (at : Work D L). AreDone shown written_in adds w.done old at) (sym left.2) w.are_done);
+      }
 
 -- a history that was saved isn't why
 when_saved : (why : ReadlineError) → ending_after why true ≡ why
@@ -77,10 +107,9 @@ module _ {F S D L T : Type 0} (text_of : F → Feed) (k : Known S D L) (held : T
       always told text_of_is source_is none bare blank uncut works sound lines_are display_is history_is ending_is unread_is =
       let g = given_by config words custom prompt columns in
       let start = start_by config old keys in
-      let plays = runs.plays in
-      let end = plays.finishes in
-      let why = plays.why in
-      let last = plays.last in
+      let end = runs.finishes in
+      let why = runs.why in
+      let last = runs.last in
       let given_is : given_of config' custom' prompt' (screen_of desk.out) (edit_helping desk.helper) ≡ g =
       ap (λ (x : Config). given_of x custom' prompt' (screen_of desk.out) (edit_helping desk.helper)) config_is
       ∙ (ap (λ (x : Custom). given_of config x prompt' (screen_of desk.out) (edit_helping desk.helper)) custom_is
@@ -102,46 +131,44 @@ module _ {F S D L T : Type 0} (text_of : F → Feed) (k : Known S D L) (held : T
       let ended_is : ended.ending ≡ ending_of why =
       end.ending_is ∙ (ap (λ s. ending_of (ending_after why s)) saved ∙ ap ending_of (when_saved why)) in
       let by_keys : is_cut (ending_of why) ≡ false = ap is_cut (sym ended_is) ∙ uncut in
+      let adds = config.auto_add_history in
+      let events : ℕ → List Event = λ n. (session n g (each g) start).events in
+      let answer : ℕ → ReadlineError = λ n. (session n g (each g) start).answer in
+      let Shown : Given → SessionState → ℕ → Type 0 = λ g x n. GoesShown k.shown k.written_in g.config.auto_add_history (session n g (each g) x).events (work_of k desk) (work_of k last)
+      (why ≡ (session n g (each g) x).answer) (λ e. why ≡ e) in
+      let goes : (n : ℕ) → length keys < n → Shown g start n = λ n low.
+      subst (λ (x : SessionState). Shown g x n) state_is (subst (λ (g : Given). Shown g (session_state_of k desk) n) given_is
+      (runs.takes.goes (told (source_of last.reader)) n (subst (λ b. b < n) (sym bound) low))) in
+      let whole : (n : ℕ) (low : length keys < n) → AllDone k.shown k.written_in adds why (answer n) (events n) (goes n low).went.done (work_of k desk) (work_of k last) = λ n low.
+      all_done k.shown k.written_in adds why (answer n) (events n) (work_of k desk) (work_of k last) (goes n low).went by_keys in
       record {
-        shows =
-            let P : Given → SessionState → Type 0 = λ g x. Displays g x in
-            subst (λ (x : SessionState). P g x) state_is (subst (λ (g : Given). P g (session_state_of k desk)) given_is runs.shows);
+        shows = λ n low f rests. subst (λ es. EachShown f es) (whole n low).done_is ((goes n low).shows f rests);
         gives = λ n low.
-            let went = plays.takes.goes (told (source_of last.reader)) n (subst (λ b. b < n) (sym bound) low) in
-            let G : Given → SessionState → Type 0 = λ g x. Reads k.shown k.written_in n g (each g) x (work_of k desk) (work_of k last) why in
-            let reads = subst (λ (x : SessionState). G g x) state_is (subst (λ (g : Given). G g (session_state_of k desk)) given_is went) in
-            let tell = events_tell n g (each g) start in
-            let asks = (without_fault (session_script n g (each g) start)).asks in
-            let report = session n g start in
-            elim (sessions_come k.shown k.written_in n g (each g) start (work_of k desk) (work_of k last) why reads) [
-              | inl all ↦
-                  let done = all.1 in
-                  let both : Ok why ≡ Ok report.ending = sym all.0 ∙ tell.0 in
-                  let same : why ≡ report.ending = cc in
-                  let kept_is : last.history ≡ remembered config.auto_add_history report.accepted loaded =
-                  done.history_is ∙ (ap (λ ls. remembered config.auto_add_history ls desk.history) tell.3 ∙ ap (λ (h : Filed). remembered config.auto_add_history report.accepted h) filed) in
-                  let rest_is : (desk_feed k last).coming ≡ report.rest = done.left_is ∙ (ap (λ c. left_to_come c asks) coming ∙ tell.2) in
-                  let unread : t.unread.items ≡ (feed_in k.feed last.reader).coming =
-                  unread_is ∙ (ap (λ a. (with_kept a (k.feed ended.source)).coming) end.ahead_is ∙ ap (λ (s : S). (with_kept (kept_of last.reader) (k.feed s)).coming) end.source_is) in
-                  let alive : (feed_in k.feed last.reader).failed ≡ false = ap (λ (s : S). (k.feed s).failed) (sym end.source_is) ∙ sound in
-                  let reader = last.reader in
-                  let by : Bool → List ℕ → Coming = λ f bytes. coming_by f reader.refused (read_from reader.mode reader.announced (chars_of bytes (feed_in k.feed reader).last)) in
-                  record {
-                    lines_are = lines_are ∙ (ap k.written_in end.lines_are ∙ (done.wrote
-                        ∙ (ap (λ front. front ++ lines_text (flat_map lines_written asks)) (ap k.written_in opens.lines_are ∙ bare) ∙ ap lines_text tell.4)));
-                    display_is = display_is ∙ (ap k.shown end.display_is ∙ (done.drawn
-                        ∙ (ap (λ front. front ++ flat_map bytes_drawn asks) (ap k.shown opens.display_is ∙ none) ∙ tell.1)));
-                    history_is = history_is ∙ ((end.saves.done saved).1
-                        ∙ (ap (λ front. front ++ text_to_save last.history) (ap held text_is ∙ blank) ∙ ap text_to_save kept_is));
-                    ending_is = ending_is ∙ (ended_is ∙ ap ending_of same);
-                    unread_is = record {
-                      mode = reader.mode;
-                      announced = reader.announced;
-                      refused = reader.refused;
-                      last = (feed_in k.feed reader).last;
-                      rest_is = sym rest_is ∙ (ap (λ f. by f (feed_in k.feed reader).coming) alive ∙ ap (λ bytes. by false bytes) (sym unread));
-                    };
-                  }
-              | inr part ↦ absurd (no_fault k.shown k.written_in config.auto_add_history part.0.at (work_of k last) part.0.ask why by_keys part.0.cut)
-            ];
+            let all = whole n low in
+            let done = all.are_done in
+            let kept_is : last.history ≡ remembered adds (flat_map lines_kept (events n)) loaded =
+            done.history_is ∙ ap (λ (h : Filed). remembered adds (flat_map lines_kept (events n)) h) filed in
+            let rest_is : (desk_feed k last).coming ≡ left_to_come (coming_from config.edit_mode keys End) (events n) =
+            done.left_is ∙ ap (λ c. left_to_come c (events n)) coming in
+            let unread : t.unread.items ≡ (feed_in k.feed last.reader).coming =
+            unread_is ∙ (ap (λ a. (with_kept a (k.feed ended.source)).coming) end.ahead_is ∙ ap (λ (s : S). (with_kept (kept_of last.reader) (k.feed s)).coming) end.source_is) in
+            let alive : (feed_in k.feed last.reader).failed ≡ false = ap (λ (s : S). (k.feed s).failed) (sym end.source_is) ∙ sound in
+            let reader = last.reader in
+            let by : Bool → List ℕ → Coming = λ f bytes. coming_by f reader.refused (read_from reader.mode reader.announced (chars_of bytes (feed_in k.feed reader).last)) in
+            record {
+              lines_are = lines_are ∙ (ap k.written_in end.lines_are ∙ (done.wrote
+                  ∙ ap (λ front. front ++ lines_text (flat_map lines_written (events n))) (ap k.written_in opens.lines_are ∙ bare)));
+              display_is = display_is ∙ (ap k.shown end.display_is ∙ (done.drawn
+                  ∙ ap (λ front. front ++ flat_map bytes_drawn (events n)) (ap k.shown opens.display_is ∙ none)));
+              history_is = history_is ∙ ((end.saves.done saved).1
+                  ∙ (ap (λ front. front ++ text_to_save last.history) (ap held text_is ∙ blank) ∙ ap text_to_save kept_is));
+              ending_is = ending_is ∙ (ended_is ∙ ap ending_of all.answer_is);
+              unread_is = record {
+                mode = reader.mode;
+                announced = reader.announced;
+                refused = reader.refused;
+                last = (feed_in k.feed reader).last;
+                rest_is = sym rest_is ∙ (ap (λ f. by f (feed_in k.feed reader).coming) alive ∙ ap (λ bytes. by false bytes) (sym unread));
+              };
+            };
       }

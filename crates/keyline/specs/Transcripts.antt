@@ -1,5 +1,6 @@
 -- What a session over memory gives, as equations with the definition of a session.
 use Rattle.std.specs.Prelude.{◌≡◌, ℕ, ◌<◌, Bool, true, false, List, Option, Some, None, length}
+use Rattle.std.specs.List.{flat_map}
 use Rattle.line_config.specs.Feed.{fresh_feed}
 use Rattle.line_config.specs.declared.config.Config.{Config}
 use Rattle.line_config.specs.declared.device.Last.{Last}
@@ -16,8 +17,9 @@ use Rattle.line_screen.specs.Reader.{coming_by}
 use Rattle.keyline.specs.Endings.{ending_of}
 use Rattle.keyline.specs.Plays.{loaded_from}
 use Rattle.keyline.specs.Program.{EditHelper, edit_helping}
-use Rattle.keyline.specs.Sessions.{Given, Report, SessionState, display_bytes, given_of, lines_text, remembered, screen_by, session, state_over}
-use Rattle.keyline.specs.Shows.{Displays}
+use Rattle.keyline.specs.Events.{Course, bytes_drawn, left_to_come, lines_kept, lines_written, session}
+use Rattle.keyline.specs.Sessions.{Given, SessionState, each, given_of, lines_text, remembered, screen_by, state_over}
+use Rattle.keyline.specs.Shows.{EachShown, Face, IsAtRest}
 use Rattle.keyline.specs.declared.ending.Ending.{Ending}
 use Rattle.keyline.specs.declared.ending.Ending.TheVariants.{Eof, Interrupted, NotUtf8, PasteOutOfPlace, Handler}
 use Rattle.keyline.specs.declared.over_memory.Transcript.{Transcript}
@@ -62,18 +64,19 @@ pub record ReadsOn (unread : List ℕ) (rest : Coming) : Type 0 where
   pub last : Last
   pub rest_is : rest ≡ coming_by false refused (read_from mode announced (chars_of unread last))
 
-pub record IsTranscript (g : Given) (start : SessionState) (report : Report) (t : Transcript)
-    : Type 0 where
-  pub lines_are : t.lines.items ≡ lines_text report.accepted
-  pub display_is : t.display.items ≡ display_bytes (λ line. g.screen) report.told
-  pub history_is : t.history.items
-      ≡ text_to_save (remembered g.config.auto_add_history report.accepted start.history)
-  pub ending_is : t.ending ≡ ending_of report.ending
-  pub unread_is : ReadsOn t.unread.items report.rest
+pub record IsTranscript (g : Given) (start : SessionState) (course : Course ReadlineError)
+    (t : Transcript) : Type 0 where
+  pub lines_are : t.lines.items ≡ lines_text (flat_map lines_written course.events)
+  pub display_is : t.display.items ≡ flat_map bytes_drawn course.events
+  pub history_is : t.history.items ≡ text_to_save
+      (remembered g.config.auto_add_history (flat_map lines_kept course.events) start.history)
+  pub ending_is : t.ending ≡ ending_of course.answer
+  pub unread_is : ReadsOn t.unread.items (left_to_come start.coming course.events)
 
--- THE relation of a session over memory: it is the definition's, for more fuel than it has bytes of
--- keys. At each moment the display shows prompt and line
+-- the relation of a session over memory: it is the definition's, for more fuel than it has bytes of
+-- keys. On any display between two lines, as a blank one, each moment is shown
 pub record Transcribes (g : Given) (start : SessionState) (keys : List ℕ) (t : Transcript)
     : Type 0 where
-  pub gives : (n : ℕ) → length keys < n → IsTranscript g start (session n g start) t
-  pub shows : Displays g start
+  pub gives : (n : ℕ) → length keys < n → IsTranscript g start (session n g (each g) start) t
+  pub shows : (n : ℕ) → length keys < n → (f : Face) → IsAtRest f
+      → EachShown f (session n g (each g) start).events
