@@ -6,6 +6,7 @@ ghost use Rattle.line_config.specs.Feed.{AlwaysTold};
 ghost use Rattle.line_editor.specs.Running.{helping_by};
 ghost use Rattle.keyline.specs.SessionLaws.{CutsAreFree, LinesBegin, SessionsBegin, ColumnsAreFree, LineColumnsAreFree, LastAreKept};
 ghost use Rattle.keyline.specs.Desks.{TakesLines};
+ghost use Rattle.keyline.specs.Fuel.{BytesAreEnough, FuelIsFree};
 ghost use Rattle.keyline.specs.Known.{known_by};
 ghost use Rattle.keyline.specs.OneByte.{LayoutsTell, OneByte};
 ghost use Rattle.keyline.specs.Pasting.{PastesAreAccepted, PastedLinesAreAccepted};
@@ -146,4 +147,12 @@ pub fn paste()
 pub fn fewer_keys()
     ensures lines { LinesBegin }
     ensures sessions { SessionsBegin }
+{}
+
+/// Two amounts of fuel above the keys and pastes to come give one session, and each of those has a
+/// byte at least. So a session that is computed with more fuel than it has bytes of keys is the one
+/// of each contract that speaks of sessions.
+pub fn fuel()
+    ensures sessions { FuelIsFree }
+    ensures bytes { BytesAreEnough }
 {}
