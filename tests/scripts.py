@@ -7,7 +7,7 @@ import sys
 TOP = os.path.dirname(os.path.dirname(os.path.realpath(__file__)))
 FOLDERS = ("answers", "bench", "crates/keyline_c/c", "tests")
 SHELL = (".ci/run", "bench/run", "keyline", "test")
-PYTHON = ("on_terminal",)
+PYTHON = ("by_definition", "on_terminal")
 
 
 def python(path):

@@ -55,9 +55,11 @@ def drawn(text):
 
 
 class Row:
-    def __init__(self, settings, text):
+    """A row with its settings, and the number of its line in the file."""
+
+    def __init__(self, settings, text, number):
         self.settings = settings.split()
-        self.text = text
+        self.text, self.number = text, number
         keys, wanted = text.split(" = ", 1)
         self.keys = b"".join(key(word) for word in keys.split())
         first, *others = wanted.split(" | ")
@@ -66,7 +68,8 @@ class Row:
         said = dict(part.split(" ", 1) for part in others)
         self.ends = said.get("ends", "Eof").strip()
         self.saves = said.get("saves")
-        self.shows = said.get("shows")
+        shows = said.get("shows")
+        self.display = None if shows is None else drawn("".join(shows.split()))
         self.loaded = meant(self.value("loaded:", ""))
 
     def value(self, name, default):
@@ -109,8 +112,8 @@ class Row:
             ran, saved = self.run(folder, environment)
         same("lines", ran.stdout, self.lines)
         same("status", ran.returncode, STATUS[self.ends])
-        if self.shows is not None:
-            same("display", ran.stderr, drawn("".join(self.shows.split())))
+        if self.display is not None:
+            same("display", ran.stderr, self.display)
         if self.saves is not None and "adding" in self.settings:
             same("history", saved, self.loaded if self.saves.strip() == "nothing" else meant(self.saves.strip()))
 
@@ -118,11 +121,11 @@ class Row:
 def rows_of(name):
     settings = ""
     with open(os.path.join(DATA, name), encoding="utf-8") as file:
-        for line in file.read().splitlines():
+        for number, line in enumerate(file.read().splitlines(), 1):
             if line.startswith(":"):
                 settings = line[1:]
             elif " = " in line and not line.startswith("#"):
-                yield Row(settings, line)
+                yield Row(settings, line, number)
 
 
 def played(name, one_byte):
@@ -167,6 +170,14 @@ def keys_of_vi_one_byte_a_read():
     played("vi.txt", True)
 
 
+def worked_sessions():
+    played("worked.txt", False)
+
+
+def worked_sessions_one_byte_a_read():
+    played("worked.txt", True)
+
+
 def sizes():
     """Sessions that are too large to be played with each run of `sessions_program`."""
     count = len(list(rows_of("sizes.txt")))
@@ -176,4 +187,4 @@ def sizes():
 
 if __name__ == "__main__":
     run_all([worked_rows, worked_rows_one_byte_a_read, keys_of_emacs, keys_of_emacs_one_byte_a_read, keys_of_vi,
-             keys_of_vi_one_byte_a_read, sizes])
+             keys_of_vi_one_byte_a_read, worked_sessions, worked_sessions_one_byte_a_read, sizes])

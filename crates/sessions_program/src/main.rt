@@ -19,7 +19,14 @@ use session_rows::play::{Played, play};
 use session_rows::refusals::{play_grown, play_refused};
 use std::{env, fs, io};
 
-const FILES: [&str; 5] = ["rows.txt", "emacs.txt", "vi.txt", "faults.txt", REFUSED];
+const FILES: [&str; 6] = [
+    "rows.txt",
+    "emacs.txt",
+    "vi.txt",
+    "worked.txt",
+    "faults.txt",
+    REFUSED,
+];
 
 /// The file of the sessions in which each byte, write, flush and allocation fails in turn.
 const REFUSED: &str = "refusals.txt";

@@ -1,0 +1,11 @@
+pub mod Calls
+pub mod Comparing
+pub mod Emacs
+pub mod Faults
+pub mod Playing
+pub mod Refusals
+pub mod Rows
+pub mod Settings
+pub mod Showing
+pub mod Vi
+pub mod Worked

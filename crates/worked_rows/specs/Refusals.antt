@@ -1,0 +1,132 @@
+-- The rows of refusals.txt; tests/worked_rows.py writes them.
+use Rattle.line_keys.specs.Keys.{ctrl, key_with}
+use Rattle.line_keys.specs.declared.command.Cmd.TheVariants.{YankPop}
+use Rattle.line_keys.specs.declared.events.Event.TheVariants.{KeySeq}
+use Rattle.line_keys.specs.declared.key.KeyCode.TheVariants.{Char, Esc}
+use Rattle.std.specs.Prelude.{List, [], ◌∷◌, None, Some, true, false, codes}
+use Rattle.worked_rows.specs.Playing.{Row, row}
+use Rattle.worked_rows.specs.Settings.{Settings, adding, aide, bound, command, plain, vi}
+
+-- abc C-a X Enter = Xabc
+abbrev pub row_5 : Row
+row_5 = row 5 plain (codes "abc\u{1}X\r") (codes "Xabc\n")
+
+-- abc C-u Enter C-y Enter = "" abc
+abbrev pub row_6 : Row
+row_6 = row 6 plain (codes "abc\u{15}\r\u{19}\r") (codes "\nabc\n")
+
+-- Paste a␊b Pasted Enter = a␊b
+abbrev pub row_7 : Row
+row_7 = row 7 plain (codes "\u{1b}[200~a\nb\u{1b}[201~\r") (codes "a\nb\n")
+
+-- one␠two C-w C-a C-y Enter = twoone␠
+abbrev pub row_8 : Row
+row_8 = row 8 plain (codes "one two\u{17}\u{1}\u{19}\r") (codes "twoone \n")
+
+-- one␠two M-t M-u C-_ M-3 x C-_ C-_ Enter = one
+abbrev pub row_9 : Row
+row_9 = row 9 plain (codes "one two\u{1b}t\u{1b}u\u{1f}\u{1b}3x\u{1f}\u{1f}\r") (codes "one\n")
+
+-- vi
+abbrev pub settings_12 : Settings
+settings_12 = record plain {
+  config = vi plain.config;
+}
+
+-- one␠two Esc 0dw Enter = two
+abbrev pub row_12 : Row
+row_12 = row 12 settings_12 (codes "one two\u{1b}0dw\r") (codes "two\n")
+
+-- Paste a␊b Pasted Enter = a␊b
+abbrev pub row_13 : Row
+row_13 = row 13 settings_12 (codes "\u{1b}[200~a\nb\u{1b}[201~\r") (codes "a\nb\n")
+
+-- one␠two Esc 0cwx Esc w. Enter = x␠x
+abbrev pub row_14 : Row
+row_14 = row 14 settings_12 (codes "one two\u{1b}0cwx\u{1b}w.\r") (codes "x x\n")
+
+-- one␠two Esc 0dw$pxu Enter = twoone␠
+abbrev pub row_15 : Row
+row_15 = row 15 settings_12 (codes "one two\u{1b}0dw$pxu\r") (codes "twoone \n")
+
+-- vi bind:C-O⇒YankPop
+abbrev pub settings_18 : Settings
+settings_18 = record plain {
+  config = vi plain.config;
+  custom = bound ((KeySeq ((key_with (Char 79) ctrl) ∷ []), command YankPop) ∷ []);
+}
+
+-- ab Esc D0P C-O Enter = ba
+abbrev pub row_18 : Row
+row_18 = row 18 settings_18 (codes "ab\u{1b}D0P\u{f}\r") (codes "ba\n")
+
+-- adding
+abbrev pub settings_21 : Settings
+settings_21 = record plain {
+  config = adding plain.config;
+}
+
+-- first Enter second Enter C-p C-p Enter = first second first
+abbrev pub row_21 : Row
+row_21 = row 21 settings_21 (codes "first\rsecond\r\u{10}\u{10}\r") (codes "first\nsecond\nfirst\n")
+
+-- vi adding
+abbrev pub settings_24 : Settings
+settings_24 = record plain {
+  config = adding (vi plain.config);
+}
+
+-- one Enter two Enter Esc kkAx Enter = one two onex
+abbrev pub row_24 : Row
+row_24 = row 24 settings_24 (codes "one\rtwo\r\u{1b}kkAx\r") (codes "one\ntwo\nonex\n")
+
+-- helped
+abbrev pub settings_27 : Settings
+settings_27 = record plain {
+  helping = aide true None;
+}
+
+-- (a Enter b) Enter = (a␊b)
+abbrev pub row_27 : Row
+row_27 = row 27 settings_27 (codes "(a\rb)\r") (codes "(a\nb)\n")
+
+-- ] Enter Backspace x Enter = x
+abbrev pub row_28 : Row
+row_28 = row 28 settings_27 (codes "]\r\u{7f}x\r") (codes "x\n")
+
+-- adding words:alpha,alpine
+abbrev pub settings_31 : Settings
+settings_31 = record plain {
+  config = adding plain.config;
+  helping = aide false (Some ((codes "alpha") ∷ (codes "alpine") ∷ []));
+}
+
+-- al Tab Enter alph Tab C-_ Enter = alp alph
+abbrev pub row_31 : Row
+row_31 = row 31 settings_31 (codes "al\t\ralph\t\u{1f}\r") (codes "alp\nalph\n")
+
+-- adding helped loaded:#V2␊hello␊
+abbrev pub settings_34 : Settings
+settings_34 = record plain {
+  config = adding plain.config;
+  helping = aide true None;
+  loaded = codes "#V2\nhello\n";
+}
+
+-- he Right ! Enter = hello!
+abbrev pub row_34 : Row
+row_34 = row 34 settings_34 (codes "he\u{1b}[C!\r") (codes "hello!\n")
+
+-- columns:4
+abbrev pub settings_37 : Settings
+settings_37 = record plain {
+  columns = 4;
+}
+
+-- abcdef Left Backspace Enter = abcdf
+abbrev pub row_37 : Row
+row_37 = row 37 settings_37 (codes "abcdef\u{1b}[D\u{7f}\r") (codes "abcdf\n")
+
+abbrev pub refusals_rows : List Row
+refusals_rows = row_5 ∷ row_6 ∷ row_7 ∷ row_8 ∷ row_9 ∷ row_12 ∷ row_13 ∷ row_14 ∷ row_15 ∷ row_18 ∷
+    row_21 ∷ row_24 ∷ row_27 ∷ row_28 ∷ row_31 ∷ row_34 ∷ row_37 ∷ []

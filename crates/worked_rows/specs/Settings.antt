@@ -1,0 +1,107 @@
+-- What a session is opened with, as the settings of a table say it.
+use Rattle.std.specs.Prelude.{⊤, ℕ, Bool, true, false, if◌then◌else◌, List, [], ◌∷◌, take, Option, None, Some, codes, is_some, option_map, ◌||◌}
+use Rattle.std.specs.Option.{option_map_or}
+use Rattle.line_buffer.specs.declared.layout.GraphemeClusterMode.{GraphemeClusterMode}
+use Rattle.line_config.specs.Config.{default_config, timeout_of}
+use Rattle.line_config.specs.declared.config.Config.{Config}
+use Rattle.line_config.specs.declared.device.Last.{Last}
+use Rattle.line_config.specs.declared.device.Last.TheVariants.{End}
+use Rattle.line_config.specs.declared.settings.EditMode.{EditMode}
+use Rattle.line_config.specs.declared.settings.EditMode.TheVariants.{Vi}
+use Rattle.line_editor.specs.Running.{Helping, helping_by}
+use Rattle.line_help.specs.Completion.{nothing_offered, word_reply}
+use Rattle.line_help.specs.Hints.{hint_of_history}
+use Rattle.line_help.specs.HistoryText.{entries_of, text_rows}
+use Rattle.line_help.specs.Validation.{bracket_reply}
+use Rattle.line_help.specs.declared.validate.ValidationResult.TheVariants.{Valid}
+use Rattle.line_keys.specs.Answers.{Custom, custom_of}
+use Rattle.line_keys.specs.Commands.{holds_text}
+use Rattle.line_keys.specs.Handling.{Meaning}
+use Rattle.line_keys.specs.Replies.{gives, gives_at_once}
+use Rattle.line_keys.specs.declared.command.Cmd.{Cmd}
+use Rattle.line_keys.specs.declared.events.Event.{Event}
+use Rattle.keyline.specs.Program.{EditHelper, edit_helping, nothing_bound, standard_config}
+
+-- `loaded` is the text of the history, and `last` what the source of keys does after its bytes
+pub record Settings : Type 0 where
+  pub config : Config
+  pub columns : ℕ
+  pub prompt : List ℕ
+  pub custom : Custom
+  pub helping : Helping
+  pub loaded : List ℕ
+  pub last : Last
+
+abbrev pub no_helper : Helping
+no_helper = record { hooks = None; marks = None }
+
+-- where a table says nothing else
+abbrev pub plain : Settings
+plain = record {
+  config = default_config;
+  columns = 80;
+  prompt = codes "> ";
+  custom = nothing_bound;
+  helping = no_helper;
+  loaded = [];
+  last = End;
+}
+
+-- the words in a text, one a row
+abbrev pub words_in : Option (List ℕ) → Option (List (List ℕ))
+words_in text = option_map (λ bytes. entries_of false (text_rows End bytes)) text
+
+abbrev pub program_config : EditMode → Config
+program_config mode =
+    record standard_config { edit_mode = mode; keyseq_timeout = timeout_of mode }
+
+abbrev pub program_helper : Bool → Option (List (List ℕ)) → Option EditHelper
+program_helper brackets words = if brackets || is_some words
+    then Some (record {
+      completer = words;
+      hinter = tt;
+      highlighter = tt;
+      validator = if brackets then Some (record {}) else None;
+    })
+    else None
+
+-- what the program hands in by its options, the texts of its files being `words` and `loaded`
+abbrev pub by_options : EditMode → ℕ → List ℕ → Bool → Option (List ℕ) → List ℕ → Settings
+by_options mode columns prompt brackets words loaded = record plain {
+  config = program_config mode;
+  columns = columns;
+  prompt = prompt;
+  helping = edit_helping (program_helper brackets (words_in words));
+  loaded = loaded;
+}
+
+abbrev pub vi : Config → Config
+vi config = record config { edit_mode = Vi }
+
+abbrev pub adding : Config → Config
+adding config = record config { auto_add_history = true }
+
+abbrev pub of_size : ℕ → Config → Config
+of_size n config = record config { max_history_size = n }
+
+abbrev pub counting : GraphemeClusterMode → Config → Config
+counting mode config = record config { grapheme_cluster_mode = mode }
+
+-- hints of the history, completion by words, and lines whose brackets are balanced
+abbrev pub aide : Bool → Option (List (List ℕ)) → Helping
+aide brackets words =
+    helping_by {H = ⊤} (λ h line pos entries place. hint_of_history line pos entries place)
+    (λ h text. if brackets then bracket_reply text else gives_at_once (Valid None))
+    (λ h line pos entries place. option_map_or (λ ws. word_reply ws (take pos line)) words
+    (gives_at_once nothing_offered)) (λ h line start elected. gives tt)
+    (λ h line pos kind. false) (Some tt)
+
+-- a command that is bound by itself, and one that a handler answers
+abbrev pub command : Cmd → Meaning
+command cmd s = record { answer = Some (Some cmd); takes = holds_text cmd }
+
+abbrev pub always : Cmd → Meaning
+always cmd s = gives (Some cmd)
+
+abbrev pub bound : List (Event × Meaning) → Custom
+bound bindings = custom_of bindings (λ meaning. meaning)
