@@ -6,13 +6,13 @@ use Rattle.line_keys.specs.Coming.{Coming, Pressed, Pasted}
 use Rattle.keyline.specs.Events.{session}
 use Rattle.keyline.specs.Sessions.{Given, LineGiven, SessionState, coming_from}
 
--- how many keys and pastes are to come
+-- how many keys and pastes remain
 abbrev pub keys_and_pastes : Coming → ℕ
 keys_and_pastes (Pressed k rest) = suc (keys_and_pastes rest)
 keys_and_pastes (Pasted text rest) = suc (keys_and_pastes rest)
 keys_and_pastes coming = 0
 
--- two amounts of fuel above the keys and pastes to come give one session
+-- two amounts of fuel above the number of remaining keys and pastes give one session
 abbrev pub FuelIsFree : Type 0
 FuelIsFree =
     (n m : ℕ) (g : Given) (at : ℕ → LineGiven) (x : SessionState)

@@ -1,4 +1,4 @@
--- What a session over memory gives, as equations with the definition of a session.
+-- The result of a session over memory, as equations with the definition of a session.
 use Rattle.std.specs.Prelude.{◌≡◌, ℕ, ◌<◌, Bool, true, false, List, Option, Some, None, length}
 use Rattle.std.specs.List.{flat_map}
 use Rattle.line_config.specs.Feed.{fresh_feed}
@@ -24,7 +24,7 @@ use Rattle.keyline.specs.declared.ending.Ending.{Ending}
 use Rattle.keyline.specs.declared.ending.Ending.TheVariants.{Eof, Interrupted, NotUtf8, PasteOutOfPlace, Handler}
 use Rattle.keyline.specs.declared.over_memory.Transcript.{Transcript}
 
--- ---- what is handed in
+-- ---- arguments
 
 abbrev pub word_helper : Option (List (List ℕ)) → Option EditHelper
 word_helper None = None
@@ -39,14 +39,14 @@ abbrev pub given_by : Config → Option (List (List ℕ)) → Custom → List �
 given_by config words custom prompt columns =
     given_of config custom prompt (screen_by config columns) (edit_helping (word_helper words))
 
--- before the first line: the history's text is loaded, and all keys are to come
+-- before the first line: the history's text is loaded, and no key is read
 abbrev pub start_by : Config → List ℕ → List ℕ → SessionState
 start_by config history keys =
     state_over (new_ring 60) (loaded_from config (fresh_feed history End)) config.edit_mode keys End
 
--- ---- what is given
+-- ---- result
 
--- a session that its keys didn't end
+-- a session that its keys did not end
 abbrev pub is_cut : Ending → Bool
 is_cut Eof = false
 is_cut Interrupted = false
@@ -55,8 +55,8 @@ is_cut PasteOutOfPlace = false
 is_cut Handler = false
 is_cut ending = true
 
--- what is left to come is what these bytes read as, by a reader that may have refused a call, or
--- stand before a pasted text
+-- the remaining input is what these bytes read as, by a reader that may have failed in a call, or be
+-- before a pasted text
 pub record ReadsOn (unread : List ℕ) (rest : Coming) : Type 0 where
   pub mode : EditMode
   pub announced : Bool
@@ -73,8 +73,8 @@ pub record IsTranscript (g : Given) (start : SessionState) (course : Course Read
   pub ending_is : t.ending ≡ ending_of course.answer
   pub unread_is : ReadsOn t.unread.items (left_to_come start.coming course.events)
 
--- the relation of a session over memory: it is the definition's, for more fuel than it has bytes of
--- keys. On any display between two lines, as a blank one, each moment is shown
+-- THE relation of a session over memory: it is the definition's, for more fuel than there are bytes
+-- of keys. On any display between two lines, such as a blank one, each moment is shown
 pub record Transcribes (g : Given) (start : SessionState) (keys : List ℕ) (t : Transcript)
     : Type 0 where
   pub gives : (n : ℕ) → length keys < n → IsTranscript g start (session n g (each g) start) t

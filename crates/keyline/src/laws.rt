@@ -149,9 +149,9 @@ pub fn fewer_keys()
     ensures sessions { SessionsBegin }
 {}
 
-/// Two amounts of fuel above the keys and pastes to come give one session, and each of those has a
-/// byte at least. So a session that is computed with more fuel than it has bytes of keys is the one
-/// of each contract that speaks of sessions.
+/// Two amounts of fuel above the number of remaining keys and pastes give one session. Each key and
+/// each paste has at least one byte. So a session computed with more fuel than bytes of keys is the
+/// session of every contract.
 pub fn fuel()
     ensures sessions { FuelIsFree }
     ensures bytes { BytesAreEnough }

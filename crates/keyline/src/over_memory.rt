@@ -1,4 +1,4 @@
-//! A whole session over memory: what it gives for these keys.
+//! A whole session over memory.
 
 ghost use Rattle.std.specs.Prelude.{◌≡◌, ◌⊎◌, ◌≤◌, Err, IfErr, IfOk, false};
 ghost use Rattle.line_config.specs.Feed.{fresh_feed};
@@ -18,12 +18,12 @@ use line_help::{HelperParts, WordCompleter};
 use line_keys::{Decides, EventMap};
 use std::alloc::{AllocError, Global};
 
-/// What a session gave.
+/// The result of a session.
 #[derive(Drop)]
 pub struct Transcript {
     /// The accepted lines, each with a newline.
     pub lines: Vec<u8>,
-    /// What the display was sent.
+    /// The bytes sent to the display.
     pub display: Vec<u8>,
     /// The history's text to save; empty if no entry is new.
     pub history: Vec<u8>,
@@ -47,7 +47,7 @@ fn helper_by(words: Option<Vec<String>>) -> Option<EditHelper>
     })
 }
 
-/// Whether a session ended by a device or by want of memory, and not by its keys.
+/// Whether a device or a lack of memory ended a session, and not its keys.
 fn is_cut(ending: Ending) -> bool
     ensures { result ≡ is_cut ending }
 {
@@ -61,7 +61,7 @@ fn is_cut(ending: Ending) -> bool
     )
 }
 
-/// The byte that was read ahead, and what is left of the source.
+/// The byte that was read ahead, and the rest of the source.
 fn unread_of<'k>(
     alloc: Global,
     ahead: Option<u8>,
@@ -78,11 +78,11 @@ fn unread_of<'k>(
     Ok(bytes)
 }
 
-/// THE session of these keys, over a history's text: what it writes, draws and saves, how it ends
-/// and what it leaves unread, as the definition of a session says. The words, if there are any,
-/// complete the word before the cursor.
+/// Runs a session on these keys and this history text, over memory. Returns what it writes, draws
+/// and saves, how it ends and what it leaves unread, as the definition of a session says. Tab
+/// completes the given words.
 ///
-/// There is none if memory is wanting, or if the history's text isn't UTF-8.
+/// Fails only if memory runs out, or if the history text isn't UTF-8.
 pub fn transcribe<B: Decides>(
     alloc: Global,
     config: Config,
