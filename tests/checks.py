@@ -4,6 +4,7 @@ import os
 import select
 import shlex
 import shutil
+import signal
 import subprocess
 import sys
 import tempfile
@@ -168,8 +169,16 @@ class Running:
                 pass
 
 
+def heed_signals():
+    """Undoes what a gate in the background inherits: there a shell has ignored the signals that tests send to their programs."""
+    for number in (signal.SIGHUP, signal.SIGINT, signal.SIGQUIT, signal.SIGTERM):
+        if signal.getsignal(number) == signal.SIG_IGN:
+            signal.signal(number, signal.default_int_handler if number == signal.SIGINT else signal.SIG_DFL)
+
+
 def run_all(tests):
     """Runs each test, prints what failed, and ends with the count."""
+    heed_signals()
     passed = 0
     for test in tests:
         name = test.__name__.replace("_", " ")
