@@ -1,4 +1,4 @@
-"""Claims of rows of sessions, which the kernel grants or refuses: theorems of a crate that is written for them, over the
+"""Claims of rows of sessions, which the kernel accepts or rejects: theorems of a crate that is written for them, over the
 libraries that are built in crates/*/out.
 """
 import os
@@ -86,7 +86,7 @@ class Kernel:
             write(os.path.join(TOP, "build", "claims.log"), said)
         self.spent += spent
         if re.search(r"(?m)^\./(specs/|proofs/\w+\.antt).*error", said):
-            raise NotChecked("the definitions are refused; build/claims.log says why")
+            raise NotChecked("the definitions are rejected; build/claims.log says why")
         return {name: word_on(name, said) for name in claims}
 
 

@@ -215,7 +215,7 @@ def check_style(checks):
         for at, sentence in sentences(document):
             is_short = count_words(sentence) <= LONGEST_SENTENCE
             checks.expect(is_short, f"{document}:{at}: more than {LONGEST_SENTENCE} words: {sentence[:60]}")
-    for place, instead in words.standing([*written(), *words.swept()]):
+    for place, instead in words.standing([*written(), *words.sources()]):
         checks.expect(False, f"{place}: write {instead}")
     size = sum(os.path.getsize(os.path.join(TOP, it)) for it in files_under("docs", "") if it not in GENERATED)
     made = ", ".join(GENERATED)

@@ -1,5 +1,5 @@
 """Which definitions a computation unfolds: those marked `unfoldable`, in the crates and in the toolchain's libraries, that
-definitions of some files mention, or those that they mention, and so on. A name is taken for mentioned also where a
+definitions of some files mention, or those that they mention, and so on. A name counts as mentioned even if a
 variable hides it: one too many does no harm.
 """
 import os

@@ -23,18 +23,12 @@ READ = {
     ".txt": re.compile(r"\A(#.*)"),
     "": re.compile(r"(#.*)|'([^']*)'|\"([^\"]*)\""),
 }
-READ[".h"] = READ[".c"]
+READ[".h"], READ[".sh"] = READ[".c"], READ[""]
 PLACEHOLDER = re.compile(r"\{[^}]*\}|\$\w+")
-SCRIPTS = ("keyline", "test", "bench/run")
-# Those that quote the words, and those whose comments aren't looked through yet.
+PYTHON = ("by_definition", "on_terminal", "try_on_terminal")
+SHELL = ("keyline", "test", "bench/run")
+# Those that quote the words.
 QUOTING = ("tests/words.txt", "tests/words.py")
-UNSWEPT = (
-    "crates/keyline/", "crates/keyline_files/", "crates/keyline_program/", "crates/line_editor/proofs/", "crates/line_edits/proofs/",
-    "crates/line_screen/proofs/", "crates/worked_rows/", "keyline", "on_terminal", "test", "tests/arguments.py", "tests/building.py",
-    "tests/c_program.py", "tests/claims.py", "tests/first_minute.py", "tests/picture.py", "tests/programs.py", "tests/terminal.py",
-    "tests/unfolding.py", "tests/worked_rows.py",
-)
-UNSWEPT_FOLDERS = tuple(it for it in UNSWEPT if it.endswith("/"))
 
 
 def words_listed():
@@ -52,14 +46,9 @@ def sources():
             for ending in (".rt", ".antt", ".c", ".h"):
                 yield from files_under(f"crates/{crate}/{folder}", ending)
     for folder in ("tests", "answers", "bench"):
-        for ending in (".py", ".c", ".txt"):
+        for ending in (".py", ".c", ".sh", ".txt"):
             yield from (it for it in files_under(folder, ending) if it not in QUOTING)
-    yield from SCRIPTS
-
-
-def swept():
-    """The sources and scripts in which no word that went stands."""
-    return [it for it in [*sources(), "on_terminal"] if it not in UNSWEPT and not it.startswith(UNSWEPT_FOLDERS)]
+    yield from (it for it in (*PYTHON, *SHELL) if os.path.isfile(os.path.join(TOP, it)))
 
 
 def is_message(text):
@@ -81,7 +70,7 @@ def lines_read(path):
     ending = os.path.splitext(path)[1]
     if ending == ".md":
         yield from ((number, plain(line)) for number, line in prose(path))
-    elif ending == ".py" or path == "on_terminal":
+    elif ending == ".py" or path in PYTHON:
         yield from ((number, plain(line)) for number, line in python_read(path))
     else:
         for number, line in enumerate(lines_of(path), 1):
@@ -110,7 +99,7 @@ def files_of(paths):
 
 def main(paths):
     count = 0
-    for place, instead in standing(files_of(paths) if paths else [*written(), *sources(), "on_terminal"]):
+    for place, instead in standing(files_of(paths) if paths else [*written(), *sources()]):
         count += 1
         print(f"{place}: write {instead}")
     print(f"{count} words stand that went")

@@ -9,7 +9,7 @@ The same files are played by `sessions_program` and by the program (tests/sessio
     tests/worked_rows.py --write    writes them
     tests/worked_rows.py --tell [TABLE..]
                                     tells of each row whether it is given, isn't, or can't be computed
-    tests/worked_rows.py --spoil    changes a byte in one row of each table: it has to be told, and the table refused
+    tests/worked_rows.py --spoil    changes a byte in one row of each table: that row must be named, and the table rejected
 """
 import os
 import subprocess
@@ -110,7 +110,7 @@ def verdict(table, row, granted):
 
 
 def tell(names):
-    """Tells which rows are wrong: of all tables, and then of the rows of those that are refused."""
+    """Tells which rows are wrong: of all tables, and then of the rows of those that are rejected."""
     kernel, tables = Kernel(), [Table(name) for name in names or TABLES]
     whole = kernel.granted({it.module: it.text() for it in tables}, {f"agrees_{it.name}": agrees(f"{it.name}_rows") for it in tables})
     wrong = [it for it in tables if not whole[f"agrees_{it.name}"]]
@@ -139,7 +139,7 @@ def spoil(row):
 
 
 def tell_spoilt():
-    """Whether of each table with a wrong byte in one row the theorem is refused, and that row is told and no other one."""
+    """Whether of each table with a wrong byte in one row the theorem is rejected, and that row is named and no other one."""
     kernel, tables = Kernel(), [Table(name) for name in TABLES]
     chosen = {it: [it.rows[len(it.rows) // 2], it.rows[0]] for it in tables}
     for wrong, _ in chosen.values():
@@ -151,8 +151,8 @@ def tell_spoilt():
     for table, (wrong, right) in chosen.items():
         words = verdict(table, wrong, granted)
         print(f"{table.name}.txt:{wrong.number}, with another byte: {words}")
-        refused = not granted[f"agrees_{table.name}"] and words == "the definition gives something else"
-        if not refused or verdict(table, right, granted):
+        rejected = not granted[f"agrees_{table.name}"] and words == "the definition gives something else"
+        if not rejected or verdict(table, right, granted):
             failed += 1
             print(f"FAILED {table.name}.txt: a wrong byte in row {wrong.number} isn't told, or another row is")
     print(f"{len(TABLES) - failed} passed, {failed} failed")

@@ -16,7 +16,7 @@ const RIGHTS: u32 = 0o600;
 const LINKS: u8 = 40;
 
 /// The text of the file, for the source of a session's history. A missing file is empty, and a
-/// device is refused, as `read_file` says.
+/// device is an error, as `read_file` says.
 pub fn load_history(rt: &HostRuntime, path: &str) -> io::Result<Vec<u8>> {
     match read_file(rt, path) {
         Err(error) if error.kind() == ErrorKind::NotFound => Ok(Vec::new(rt.alloc())),

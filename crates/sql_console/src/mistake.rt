@@ -15,9 +15,9 @@ pub(crate) fn print(rt: &HostRuntime, sql: &str, error: &Error) -> io::Result<()
     if word.is_empty() {
         return println!(rt; "error at the end: {error}");
     }
-    match rows_in(before) {
-        0 => println!(rt; "error near \"{word}\": {error}"),
-        rows => println!(rt; "error in row {} near \"{word}\": {error}", rows + 1),
+    match before.split('\n').count() {
+        1 => println!(rt; "error near \"{word}\": {error}"),
+        row => println!(rt; "error in row {row} near \"{word}\": {error}"),
     }
 }
 
@@ -29,14 +29,6 @@ fn place_of(sql: &str, error: &Error) -> Option<usize> {
         ) => sql.len().checked_sub(*rest),
         _ => None,
     }
-}
-
-/// The newlines of a text.
-fn rows_in(text: &str) -> usize {
-    text.as_bytes()
-        .iter()
-        .filter(|byte| **byte == b'\n')
-        .count()
 }
 
 /// The word that a text begins with, or what else is before a blank.

@@ -1,19 +1,16 @@
--- If the test holds, each moment of a session, and of each row, shows what is to be seen.
-use Rattle.std.proofs.Common.{◌≡◌, ℕ, ◌++◌, Bool, true, false, nat_eq, bytes_eq, ◌&&◌, cond, List, [], ◌∷◌, Option, None, Some, refl}
+-- If the test holds, each moment of a session, and of each row, shows what is to be shown.
+use Rattle.std.proofs.Common.{◌≡◌, ℕ, Bool, true, false, nat_eq, bytes_eq, ◌&&◌, cond, List, [], ◌∷◌, Option, None, Some, refl, subst}
 use Rattle.std.proofs.lemmas.Bool.{and_parts, eqb-true, false≢true}
 use Rattle.std.proofs.lemmas.Slice.Eq.{bytes_eq-Decides}
-use Rattle.line_buffer.specs.declared.layout.Layout.{Layout}
 use Rattle.line_buffer.specs.declared.layout.Position.{Position}
-use Rattle.line_editor.specs.Courses.{Turn, Open, Accept, Last}
-use Rattle.line_editor.specs.Redraws.{fresh}
-use Rattle.line_editor.specs.Sights.{Sight}
+use Rattle.line_editor.specs.Redraws.{Redraw}
+use Rattle.line_editor.specs.Sights.{sight_as}
 use Rattle.line_screen.specs.Calls.{Screen}
-use Rattle.line_screen.specs.Display.{Display, Placed, meaning}
-use Rattle.line_screen.specs.Drawing.{break_if, row_break}
-use Rattle.line_screen.specs.Laws.{widths}
-use Rattle.keyline.specs.Shows.{EachShown, HasMeaning, MomentShown, above_after, bytes_for, drawn_by, next_top, top_after}
-use Rattle.worked_rows.specs.Playing.{Row, screen_in, turns_in}
-use Rattle.worked_rows.specs.Showing.{AllShown, each_shown, has_above, is_row_shown, is_shown, placed_in, same_cells, same_placed, same_position, unshown}
+use Rattle.line_screen.specs.Display.{Display, Placed}
+use Rattle.keyline.specs.Events.{Event, Begins, Breaks, Draws, Hears, Helped, Keeps, Rests, Takes, Writes}
+use Rattle.keyline.specs.Shows.{EachShown, Face, HasMeaning, MomentShown, below, blank, broken, drawn_on}
+use Rattle.worked_rows.specs.Playing.{Row, course_of, screen_in}
+use Rattle.worked_rows.specs.Showing.{AllShown, EachFaceShown, all_broken, all_drawn, all_mean, all_rest, all_rested, each_shown, has_above, is_row_shown, is_shown, meaning_of, rested, same_cells, same_placed, same_position, session_shown, unshown}
 
 position-is : (a b : Position) → same_position a b ≡ true → a ≡ b
 position-is a b h =
@@ -43,10 +40,12 @@ cells-are (a ∷ xs) (b ∷ ys) h =
     let rest = cells-are xs ys p.1 in
     λ i. first i ∷ rest i
 
-moment-is : (s : Screen) (new : List ℕ) (y : Sight) (now : ℕ) (kept : List Placed) (o : Option Display)
-    → meaning s.columns (widths s) new ≡ o → is_shown s y now kept o ≡ true → MomentShown s new y now kept
-moment-is s new y now kept None is h = absurd (false≢true h)
-moment-is s new y now kept (Some d) is h =
+-- ---- of one display
+
+moment-is : (f : Face) (prompt text : List ℕ) (place : ℕ) (o : Option Display)
+    → meaning_of f ≡ o → is_shown f (sight_as prompt text place f.seen.info) o ≡ true → MomentShown f prompt text place
+moment-is f prompt text place None is h = absurd (false≢true h)
+moment-is f prompt text place (Some d) is h =
     let p = and_parts _ _ h in
     let q = and_parts _ _ p.1 in
     record {
@@ -56,33 +55,79 @@ moment-is s new y now kept (Some d) is h =
       over_is = cells-are _ _ q.1;
     }
 
-meaning-is : (s : Screen) (new : List ℕ) (now : ℕ) (kept : List Placed) (o : Option Display)
-    → meaning s.columns (widths s) new ≡ o → has_above now kept o ≡ true → HasMeaning s new now kept
-meaning-is s new now kept None is h = absurd (false≢true h)
-meaning-is s new now kept (Some d) is h = record { display = d; means = is; over_is = cells-are _ _ h }
+meaning-is : (f : Face) (o : Option Display) → meaning_of f ≡ o → has_above f o ≡ true → HasMeaning f
+meaning-is f None is h = absurd (false≢true h)
+meaning-is f (Some d) is h = record { display = d; means = is; over_is = cells-are _ _ h }
 
-accepted-is : (s : Screen) (new : List ℕ) (now next : ℕ) (kept : List Placed) (l : Layout) (rest : List Turn)
-    → ((over : List Placed) → each_shown s new next over l rest ≡ true → EachShown s new next over l rest)
-    → (o : Option Display) → meaning s.columns (widths s) new ≡ o
-    → (has_above now kept o && each_shown s new next (placed_in o) l rest) ≡ true
-    → (m : HasMeaning s new now kept) × EachShown s new next m.display.placed l rest
-accepted-is s new now next kept l rest on None is h = absurd (false≢true h)
-accepted-is s new now next kept l rest on (Some d) is h =
-    let p = and_parts (has_above now kept (Some d)) (each_shown s new next d.placed l rest) h in
-    (record { display = d; means = is; over_is = cells-are _ _ p.0 }, on d.placed p.1)
+-- a new row has a meaning, and the next line begins below it
+break-is : (f : Face) (later : List Event) (o : Option Display) → meaning_of f ≡ o → has_above f o ≡ true
+    → EachShown (rested f o) later → (m : HasMeaning f) × EachShown (below f m.display) later
+break-is f later None is h x = absurd (false≢true h)
+break-is f later (Some d) is h x = (record { display = d; means = is; over_is = cells-are _ _ h }, x)
 
-pub each-is : (s : Screen) (turns : List Turn) (bytes : List ℕ) (top : ℕ) (over : List Placed) (l : Layout)
-    → each_shown s bytes top over l turns ≡ true → EachShown s bytes top over l turns
-each-is s [] bytes top over l h = tt
-each-is s (Open steps y ∷ rest) bytes top over l h =
+-- ---- of all of them
+
+all-so : (fs : List Face) (a b : List Event) → ((f : Face) → EachShown f a → EachShown f b)
+    → EachFaceShown fs a → EachFaceShown fs b
+all-so [] a b so h = tt
+all-so (f ∷ fs) a b so h = (so f h.0, all-so fs a b so h.1)
+
+draws-are : (redraw : Redraw) (sent : List (List ℕ)) (later : List Event) (fs : List Face)
+    → all_mean (all_drawn redraw sent fs) ≡ true → EachFaceShown (all_drawn redraw sent fs) later
+    → EachFaceShown fs (Draws redraw sent ∷ later)
+draws-are redraw sent later [] h x = tt
+draws-are redraw sent later (f ∷ fs) h x =
     let p = and_parts _ _ h in
-    (moment-is s _ y _ _ _ refl p.0, each-is s rest (bytes ++ bytes_for s l steps) (top_after steps top) (above_after steps over) (drawn_by s l steps).layout p.1)
-each-is s (Accept steps y ∷ rest) bytes top over l h =
-    let new = (bytes ++ bytes_for s l steps) ++ row_break in
-    let now = top_after steps top in
-    accepted-is s new now (next_top s now y) (above_after steps over) (fresh s.mode) rest
-    (λ over. each-is s rest new (next_top s now y) over (fresh s.mode)) _ refl h
-each-is s (Last steps breaks ∷ rest) bytes top over l h = meaning-is s _ _ _ _ refl h
+    ((λ low. (meaning-is (drawn_on f redraw sent) _ refl p.0, x.0)), draws-are redraw sent later fs p.1 x.1)
+
+rests-are : (prompt text : List ℕ) (place : ℕ) (later : List Event) (fs : List Face)
+    → all_rest fs prompt text place ≡ true → EachFaceShown fs later
+    → EachFaceShown fs (Rests prompt text place ∷ later)
+rests-are prompt text place later [] h x = tt
+rests-are prompt text place later (f ∷ fs) h x =
+    let p = and_parts _ _ h in
+    ((moment-is f prompt text place _ refl p.0, x.0), rests-are prompt text place later fs p.1 x.1)
+
+breaks-are : (later : List Event) (fs : List Face)
+    → all_mean (all_broken fs) ≡ true → EachFaceShown (all_rested (all_broken fs)) later
+    → EachFaceShown fs (Breaks ∷ later)
+breaks-are later [] h x = tt
+breaks-are later (f ∷ fs) h x =
+    let p = and_parts _ _ h in
+    (break-is (broken f) later _ refl p.0 x.0, breaks-are later fs p.1 x.1)
+
+faces-are : (events : List Event) (fs : List Face) → each_shown fs events ≡ true → EachFaceShown fs events
+faces-are [] [] h = tt
+faces-are [] (f ∷ fs) h = (tt, faces-are [] fs refl)
+faces-are (Begins s ∷ later) fs h =
+    let x = faces-are later (blank s ∷ fs) h in
+    all-so fs later (Begins s ∷ later) (λ f y. ((λ same. y), (λ is. x.0))) x.1
+faces-are (Draws redraw sent ∷ later) fs h =
+    let p = and_parts _ _ h in draws-are redraw sent later fs p.0 (faces-are later _ p.1)
+faces-are (Rests prompt text place ∷ later) fs h =
+    let p = and_parts _ _ h in rests-are prompt text place later fs p.0 (faces-are later fs p.1)
+faces-are (Breaks ∷ later) fs h =
+    let p = and_parts _ _ h in breaks-are later fs p.0 (faces-are later _ p.1)
+faces-are (Takes ∷ later) fs h = all-so fs later (Takes ∷ later) (λ f y. y) (faces-are later fs h)
+faces-are (Helped fails takes ∷ later) fs h =
+    all-so fs later (Helped fails takes ∷ later) (λ f y. y) (faces-are later fs h)
+faces-are (Hears item ∷ later) fs h = all-so fs later (Hears item ∷ later) (λ f y. y) (faces-are later fs h)
+faces-are (Keeps line ∷ later) fs h = all-so fs later (Keeps line ∷ later) (λ f y. y) (faces-are later fs h)
+faces-are (Writes line ∷ later) fs h = all-so fs later (Writes line ∷ later) (λ f y. y) (faces-are later fs h)
+
+pub session-is : (s : Screen) (events : List Event) → session_shown events ≡ true → EachShown (blank s) events
+session-is s [] h = absurd (false≢true h)
+session-is s (Begins t ∷ later) h =
+    let x = (faces-are later (blank t ∷ []) h).0 in
+    ((λ same. subst (λ u. EachShown (blank u) later) same x), (λ is. x))
+session-is s (Draws redraw sent ∷ later) h = absurd (false≢true h)
+session-is s (Rests prompt text place ∷ later) h = absurd (false≢true h)
+session-is s (Breaks ∷ later) h = absurd (false≢true h)
+session-is s (Takes ∷ later) h = absurd (false≢true h)
+session-is s (Helped fails takes ∷ later) h = absurd (false≢true h)
+session-is s (Hears item ∷ later) h = absurd (false≢true h)
+session-is s (Keeps line ∷ later) h = absurd (false≢true h)
+session-is s (Writes line ∷ later) h = absurd (false≢true h)
 
 not_one_more : (n : ℕ) (ns : List ℕ) → n ∷ ns ≡ [] → ⊥
 not_one_more n ns h = absurd (cc)
@@ -95,5 +140,4 @@ pub all_shown : (rows : List Row) → unshown rows ≡ [] → AllShown rows
 all_shown [] h = tt
 all_shown (row ∷ rows) h =
     let p = rest-shown row rows (is_row_shown row) h in
-    let s = screen_in row in
-    (each-is s (turns_in row) [] 0 [] (fresh s.mode) p.0, all_shown rows p.1)
+    (session-is (screen_in row) (course_of row).events p.0, all_shown rows p.1)

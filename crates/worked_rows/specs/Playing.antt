@@ -1,17 +1,18 @@
 -- A row of a table of sessions, and whether the definition of a session gives what the row says.
 use Rattle.std.specs.Prelude.{ℕ, ◌+◌, ◌&&◌, Bool, true, if◌then◌else◌, List, [], ◌∷◌, Option, None, Some, length, bytes_eq}
+use Rattle.std.specs.List.{flat_map}
 use Rattle.line_config.specs.Feed.{fresh_feed}
 use Rattle.line_config.specs.declared.device.Last.TheVariants.{End}
 use Rattle.line_config.specs.declared.errors.ReadlineError.{ReadlineError}
 use Rattle.line_config.specs.declared.errors.ReadlineError.TheVariants.{Eof}
-use Rattle.line_editor.specs.Courses.{Turn}
 use Rattle.line_help.specs.History.{Filed}
 use Rattle.line_help.specs.HistoryText.{text_to_save}
 use Rattle.line_record.specs.Ring.{new_ring}
 use Rattle.line_screen.specs.Calls.{Screen}
 use Rattle.keyline.specs.Endings.{ending_of, ending_text}
+use Rattle.keyline.specs.Events.{Course, bytes_drawn, lines_kept, lines_written, session}
 use Rattle.keyline.specs.Plays.{loaded_from}
-use Rattle.keyline.specs.Sessions.{Given, SessionState, Report, session, given_of, screen_by, state_over, display_bytes, lines_text, remembered, turns_of}
+use Rattle.keyline.specs.Sessions.{Given, SessionState, each, given_of, screen_by, state_over, lines_text, remembered}
 use Rattle.worked_rows.specs.Settings.{Settings}
 
 -- A row is known by the number of its line in the table. `lines` are the bytes of the accepted
@@ -54,21 +55,18 @@ start_in row = let s = row.settings in
     state_over (new_ring 60) (history_in row) s.config.edit_mode row.keys s.last
 
 -- THE session of a row. Each key and each paste has a byte at least, so this is fuel enough
-abbrev pub report_of : Row → Report
-report_of row = session (length row.keys + 2) (given_in row) (start_in row)
+abbrev pub course_of : Row → Course ReadlineError
+course_of row = let g = given_in row in session (length row.keys + 2) g (each g) (start_in row)
 
-abbrev pub lines_in : Report → List ℕ
-lines_in report = lines_text report.accepted
+abbrev pub lines_in : Course ReadlineError → List ℕ
+lines_in course = lines_text (flat_map lines_written course.events)
 
-abbrev pub saved_in : Row → Report → List ℕ
-saved_in row report =
-    text_to_save (remembered row.settings.config.auto_add_history report.accepted (history_in row))
+abbrev pub saved_in : Row → Course ReadlineError → List ℕ
+saved_in row course = text_to_save (remembered row.settings.config.auto_add_history
+    (flat_map lines_kept course.events) (history_in row))
 
-abbrev pub display_in : Row → Report → List ℕ
-display_in row report = display_bytes (λ line. screen_in row) report.told
-
-abbrev pub turns_in : Row → List Turn
-turns_in row = turns_of (report_of row)
+abbrev pub display_in : Course ReadlineError → List ℕ
+display_in course = flat_map bytes_drawn course.events
 
 -- ---- whether it is what the row says
 
@@ -79,13 +77,13 @@ abbrev pub is_told : Option (List ℕ) → List ℕ → Bool
 is_told None given = true
 is_told (Some told) given = bytes_eq told given
 
-abbrev pub agrees : Row → Report → Bool
-agrees row report = bytes_eq row.lines (lines_in report)
-    && (same_ending row.ends report.ending
-    && (is_told row.saves (saved_in row report) && is_told row.shows (display_in row report)))
+abbrev pub agrees : Row → Course ReadlineError → Bool
+agrees row course = bytes_eq row.lines (lines_in course)
+    && (same_ending row.ends course.answer
+    && (is_told row.saves (saved_in row course) && is_told row.shows (display_in course)))
 
 -- the numbers of the rows of which the definition gives something else
 abbrev pub differing : List Row → List ℕ
 differing [] = []
 differing (row ∷ rows) =
-    if agrees row (report_of row) then differing rows else row.number ∷ differing rows
+    if agrees row (course_of row) then differing rows else row.number ∷ differing rows

@@ -1,18 +1,15 @@
--- Whether display bytes show at each moment what is to be seen, as a test that can be computed.
-use Rattle.std.specs.Prelude.{⊤, ℕ, ◌+◌, ◌==◌, ◌&&◌, Bool, true, false, if◌then◌else◌, List, [], ◌∷◌, ◌++◌, map, Option, None, Some, bytes_eq, length, nat_le}
+-- Whether display bytes show at each moment what is to be shown, as a test that can be computed.
+use Rattle.std.specs.Prelude.{⊤, ℕ, ◌+◌, ◌==◌, ◌&&◌, Bool, true, false, if◌then◌else◌, List, [], ◌∷◌, map, Option, None, Some, bytes_eq, length, nat_le}
 use Rattle.std.specs.List.{filter}
-use Rattle.line_buffer.specs.declared.layout.Layout.{Layout}
 use Rattle.line_buffer.specs.declared.layout.Position.{Position}
-use Rattle.line_editor.specs.Courses.{Turn, Open, Accept, Last}
-use Rattle.line_editor.specs.Redraws.{fresh}
-use Rattle.line_editor.specs.Sights.{Sight}
-use Rattle.line_screen.specs.Calls.{Screen}
+use Rattle.line_editor.specs.Redraws.{Redraw}
+use Rattle.line_editor.specs.Sights.{Sight, sight_as}
 use Rattle.line_screen.specs.Chain.{above, cells_of, cursor_of, down, down_placed, from_top}
 use Rattle.line_screen.specs.Display.{Display, Placed, meaning}
-use Rattle.line_screen.specs.Drawing.{break_if, row_break}
 use Rattle.line_screen.specs.Laws.{widths}
-use Rattle.keyline.specs.Shows.{EachShown, above_after, bytes_for, drawn_by, next_top, picture, top_after}
-use Rattle.worked_rows.specs.Playing.{Row, screen_in, turns_in}
+use Rattle.keyline.specs.Events.{Event, Begins, Breaks, Draws, Rests}
+use Rattle.keyline.specs.Shows.{EachShown, Face, below, blank, broken, drawn_on, picture}
+use Rattle.worked_rows.specs.Playing.{Row, course_of, screen_in}
 
 abbrev pub same_position : Position → Position → Bool
 same_position a b = (a.col == b.col) && (a.row == b.row)
@@ -27,45 +24,79 @@ same_cells [] (b ∷ ys) = false
 same_cells (a ∷ xs) [] = false
 same_cells (a ∷ xs) (b ∷ ys) = same_placed a b && same_cells xs ys
 
-abbrev pub has_above : ℕ → List Placed → Option Display → Bool
-has_above top over None = false
-has_above top over (Some d) = same_cells (filter (above top) d.placed) over
+-- what the bytes of a face mean
+abbrev pub meaning_of : Face → Option Display
+meaning_of f = meaning f.screen.columns (widths f.screen) f.bytes
 
--- what is to be seen stands from the top on, and these cells above
-abbrev pub is_shown : Screen → Sight → ℕ → List Placed → Option Display → Bool
-is_shown s y top over None = false
-is_shown s y top over (Some d) = same_cells (filter (from_top top) d.placed)
-    (map (down_placed top) (cells_of s.columns (widths s) (picture y)))
-    && (same_position d.cursor (down top (cursor_of s.columns (widths s) (picture y)))
-    && same_cells (filter (above top) d.placed) over)
+-- there is a meaning, with the rows above the top
+abbrev pub has_above : Face → Option Display → Bool
+has_above f None = false
+has_above f (Some d) = same_cells (filter (above f.top) d.placed) f.over
 
-abbrev pub placed_in : Option Display → List Placed
-placed_in None = []
-placed_in (Some d) = d.placed
+-- what is to be shown stands from the top on, and the rows above
+abbrev pub is_shown : Face → Sight → Option Display → Bool
+is_shown f y None = false
+is_shown f y (Some d) = same_cells (filter (from_top f.top) d.placed) (map (down_placed f.top)
+    (cells_of f.screen.columns (widths f.screen) (picture y)))
+    && (same_position d.cursor
+    (down f.top (cursor_of f.screen.columns (widths f.screen) (picture y)))
+    && same_cells (filter (above f.top) d.placed) f.over)
 
--- `EachShown`, turn for turn
-abbrev pub each_shown : Screen → List ℕ → ℕ → List Placed → Layout → List Turn → Bool
-each_shown s bytes top over l [] = true
-each_shown s bytes top over l (Open steps y ∷ rest) =
-    let new = bytes ++ bytes_for s l steps in
-    let now = top_after steps top in
-    let kept = above_after steps over in
-    is_shown s y now kept (meaning s.columns (widths s) new)
-    && each_shown s new now kept (drawn_by s l steps).layout rest
-each_shown s bytes top over l (Accept steps y ∷ rest) =
-    let new = (bytes ++ bytes_for s l steps) ++ row_break in
-    let now = top_after steps top in
-    let shown = meaning s.columns (widths s) new in
-    has_above now (above_after steps over) shown
-    && each_shown s new (next_top s now y) (placed_in shown) (fresh s.mode) rest
-each_shown s bytes top over l (Last steps breaks ∷ rest) =
-    has_above (top_after steps top) (above_after steps over)
-    (meaning s.columns (widths s) ((bytes ++ bytes_for s l steps) ++ break_if breaks))
+-- the next line below what is shown
+abbrev pub rested : Face → Option Display → Face
+rested f None = f
+rested f (Some d) = below f d
+
+-- ---- of all displays that a line may begin on: the one that the lines before it left, and a blank
+-- one
+
+abbrev pub all_mean : List Face → Bool
+all_mean [] = true
+all_mean (f ∷ fs) = has_above f (meaning_of f) && all_mean fs
+
+abbrev pub all_rest : List Face → List ℕ → List ℕ → ℕ → Bool
+all_rest [] prompt text place = true
+all_rest (f ∷ fs) prompt text place =
+    is_shown f (sight_as prompt text place f.seen.info) (meaning_of f)
+    && all_rest fs prompt text place
+
+abbrev pub all_drawn : Redraw → List (List ℕ) → List Face → List Face
+all_drawn redraw sent [] = []
+all_drawn redraw sent (f ∷ fs) = drawn_on f redraw sent ∷ all_drawn redraw sent fs
+
+abbrev pub all_broken : List Face → List Face
+all_broken [] = []
+all_broken (f ∷ fs) = broken f ∷ all_broken fs
+
+abbrev pub all_rested : List Face → List Face
+all_rested [] = []
+all_rested (f ∷ fs) = rested f (meaning_of f) ∷ all_rested fs
+
+-- `EachShown` of each of these, event for event
+abbrev pub each_shown : List Face → List Event → Bool
+each_shown fs [] = true
+each_shown fs (Begins s ∷ later) = each_shown (blank s ∷ fs) later
+each_shown fs (Draws redraw sent ∷ later) =
+    all_mean (all_drawn redraw sent fs) && each_shown (all_drawn redraw sent fs) later
+each_shown fs (Rests prompt text place ∷ later) =
+    all_rest fs prompt text place && each_shown fs later
+each_shown fs (Breaks ∷ later) =
+    all_mean (all_broken fs) && each_shown (all_rested (all_broken fs)) later
+each_shown fs (event ∷ later) = each_shown fs later
+
+-- and of a session, which begins with its first line
+abbrev pub session_shown : List Event → Bool
+session_shown (Begins s ∷ later) = each_shown (blank s ∷ []) later
+session_shown events = false
+
+abbrev pub EachFaceShown : List Face → List Event → Type 0
+EachFaceShown [] events = ⊤
+EachFaceShown (f ∷ fs) events = EachShown f events × EachFaceShown fs events
 
 -- ---- of rows
 
 abbrev pub is_row_shown : Row → Bool
-is_row_shown row = let s = screen_in row in each_shown s [] 0 [] (fresh s.mode) (turns_in row)
+is_row_shown row = session_shown (course_of row).events
 
 -- the numbers of the rows at a moment of which something else is shown
 abbrev pub unshown : List Row → List ℕ
@@ -79,7 +110,7 @@ short rows =
 
 -- at each moment of a row the bytes so far show prompt and line
 abbrev pub RowShown : Row → Type 0
-RowShown row = let s = screen_in row in EachShown s [] 0 [] (fresh s.mode) (turns_in row)
+RowShown row = EachShown (blank (screen_in row)) (course_of row).events
 
 abbrev pub AllShown : List Row → Type 0
 AllShown [] = ⊤
