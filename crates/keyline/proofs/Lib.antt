@@ -1,3 +1,5 @@
+pub mod AlikeScripts
+pub mod BytesFuel
 pub mod CloseLemmas
 pub mod CuttingLemmas
 pub mod DeskLemmas
@@ -6,16 +8,22 @@ pub mod EventLemmas
 mod FaultRows
 pub mod HeardBytes
 pub mod HeardLines
+pub mod LineFuel
 pub mod LinesLemmas
 pub mod OneByteLemmas
-pub mod OrderLemmas
 pub mod OptionsLemmas
+pub mod OrderLemmas
 pub mod PasteLemmas
+pub mod PhraseFuel
 pub mod PlayedLemmas
 pub mod PlaysLemmas
+pub mod SessionFuel
 pub mod SessionLawLemmas
 pub mod SessionSteps
 pub mod ShowCourse
 mod ShowRows
 pub mod ShowSteps
+pub mod SteadyParts
+pub mod TranscriptLemmas
 pub mod TurnShowLemmas
+pub mod ViFuel

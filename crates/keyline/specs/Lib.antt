@@ -4,6 +4,7 @@ pub mod Desks
 pub mod Editors
 pub mod Endings
 pub mod Events
+pub mod Fuel
 pub mod Known
 pub mod OneByte
 pub mod Opened
@@ -15,3 +16,4 @@ pub mod Program
 pub mod SessionLaws
 pub mod Sessions
 pub mod Shows
+pub mod Transcripts

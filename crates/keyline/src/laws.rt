@@ -6,6 +6,7 @@ ghost use Rattle.line_config.specs.Feed.{AlwaysTold};
 ghost use Rattle.line_editor.specs.Running.{helping_by};
 ghost use Rattle.keyline.specs.SessionLaws.{CutsAreFree, LinesBegin, SessionsBegin, ColumnsAreFree, LineColumnsAreFree, LastAreKept};
 ghost use Rattle.keyline.specs.Desks.{TakesLines};
+ghost use Rattle.keyline.specs.Fuel.{BytesAreEnough, FuelIsFree};
 ghost use Rattle.keyline.specs.Known.{known_by};
 ghost use Rattle.keyline.specs.OneByte.{LayoutsTell, OneByte};
 ghost use Rattle.keyline.specs.Pasting.{PastesAreAccepted, PastedLinesAreAccepted};
@@ -146,4 +147,12 @@ pub fn paste()
 pub fn fewer_keys()
     ensures lines { LinesBegin }
     ensures sessions { SessionsBegin }
+{}
+
+/// Two amounts of fuel above the number of remaining keys and pastes give one session. Each key and
+/// each paste has at least one byte. So a session computed with more fuel than bytes of keys is the
+/// session of every contract.
+pub fn fuel()
+    ensures sessions { FuelIsFree }
+    ensures bytes { BytesAreEnough }
 {}

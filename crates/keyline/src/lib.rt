@@ -17,6 +17,7 @@ pub mod ending;
 mod help;
 pub mod laws;
 pub mod options;
+pub mod over_memory;
 pub mod program;
 pub mod prompter;
 pub mod session;

@@ -1,5 +1,5 @@
 //! The calls of `keyline` by themselves: command lines, sessions with options, editors, lines
-//! returned one by one, endings.
+//! returned one by one, endings, whole sessions over memory.
 #![tactic(auto)]
 
 #[cfg(test)]
@@ -12,3 +12,5 @@ mod editors;
 mod endings;
 #[cfg(test)]
 mod lines;
+#[cfg(test)]
+mod over_memory;

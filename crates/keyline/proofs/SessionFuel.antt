@@ -1,0 +1,156 @@
+-- A session by two amounts of fuel above the keys and pastes to come is one.
+use Rattle.std.proofs.Common.{◌≡◌, ℕ, zero, suc, ◌<◌, ◌≤◌, Bool, true, false, List, ◌∷◌, ◌++◌, refl, sym, ap, ◌∙◌, arith, Result, Ok, Err}
+use Rattle.line_config.specs.Played.{Played, asked_first, played_on}
+use Rattle.line_config.specs.Scripts.{Ends, Asks}
+use Rattle.line_config.specs.declared.errors.ReadlineError.{ReadlineError}
+use Rattle.line_config.specs.declared.errors.ReadlineError.TheVariants.{Eof}
+use Rattle.line_editor.specs.LineScripts.{Begins, Keys, Obeys, Makes, LineAnswer, LineAsk, LineScript, LineState, answer_at, beginning, left_at, line_begun, line_script, played_from, turn_script, turns_script}
+use Rattle.line_editor.specs.Redraws.{fresh}
+use Rattle.line_editor.specs.Running.{kept_first}
+use Rattle.line_editor.specs.Values.{Setting}
+use Rattle.line_keys.specs.Answers.{Custom}
+use Rattle.line_keys.specs.Coming.{Coming, Pressed, Pasted, CutOff, Ends as Ended, Refused, behind, left, left_by}
+use Rattle.line_keys.specs.Feeds.{InputItem, InputOf, Key, Paste, item_at}
+use Rattle.line_keys.specs.Phrases.{Needs, Shows, Reads, Becomes, Refuses, and_then, with_read}
+use Rattle.line_keys.specs.declared.key.KeyEvent.{KeyEvent}
+use Rattle.keyline.specs.Events.{Begins as LineBegins, Course, asks_events, end_events, events_first, going_on, line_course, played_in, session}
+use Rattle.keyline.specs.Sessions.{Given, LineGiven, SessionState, for_line, setting_in, state_after}
+use Rattle.keyline.specs.Fuel.{keys_and_pastes}
+use Rattle.keyline.proofs.AlikeScripts.{Alike, Next}
+use Rattle.keyline.proofs.LineFuel.{is_line_read, line_alike, turn_after}
+
+-- ---- what a read leaves
+
+read_falls : (item : InputItem) (c : Coming) (x : InputOf item) → item_at item c ≡ Ok x → suc (keys_and_pastes (left (item_at item c) (behind c))) ≤ keys_and_pastes c
+read_falls Key (Pressed k rest) x is = omega arith
+read_falls Key (Pasted text rest) x is = absurd (cc)
+read_falls Key (CutOff item) x is = absurd (cc)
+read_falls Key (Ended item) x is = absurd (cc)
+read_falls Key (Refused why) x is = absurd (cc)
+read_falls Paste (Pressed k rest) x is = absurd (cc)
+read_falls Paste (Pasted text rest) x is = omega arith
+read_falls Paste (CutOff item) x is = absurd (cc)
+read_falls Paste (Ended item) x is = absurd (cc)
+read_falls Paste (Refused why) x is = absurd (cc)
+
+none_by : (e : ReadlineError) → keys_and_pastes (left_by e) ≡ 0
+none_by Eof = refl
+none_by _ = refl
+
+left_stays : {X : Type 0} (r : Result X ReadlineError) (c : Coming) → keys_and_pastes (left r (behind c)) ≤ keys_and_pastes c
+left_stays (Ok x) (Pressed k rest) = omega arith
+left_stays (Ok x) (Pasted text rest) = omega arith
+left_stays (Ok x) (CutOff item) = omega arith
+left_stays (Ok x) (Ended item) = omega arith
+left_stays (Ok x) (Refused why) = omega arith
+left_stays (Err e) c = let none = none_by e in omega arith
+
+module _ (s : Setting) (indent : ℕ) where
+  left_le : (c : LineState) (ask : LineAsk) → keys_and_pastes (left_at s indent c ask).coming ≤ keys_and_pastes c.coming
+  left_le c (Keys (Reads item)) = left_stays (item_at item c.coming) c.coming
+  left_le c (Keys Needs) = omega arith
+  left_le c (Keys (Shows ask)) = omega arith
+  left_le c (Keys (Becomes input)) = omega arith
+  left_le c (Keys (Refuses why)) = omega arith
+  left_le c Begins = omega arith
+  left_le c (Obeys cmd) = omega arith
+  left_le c (Makes edit) = omega arith
+
+  falls : (c : LineState) (ask : LineAsk) (x : LineAnswer ask) → answer_at s indent c ask ≡ Ok x → is_line_read ask ≡ true
+      → suc (keys_and_pastes (left_at s indent c ask).coming) ≤ keys_and_pastes c.coming
+  falls c (Keys (Reads item)) x is reads = read_falls item c.coming x is
+  falls c (Keys Needs) x is reads = absurd (cc)
+  falls c (Keys (Shows ask)) x is reads = absurd (cc)
+  falls c (Keys (Becomes input)) x is reads = absurd (cc)
+  falls c (Keys (Refuses why)) x is reads = absurd (cc)
+  falls c Begins x is reads = absurd (cc)
+  falls c (Obeys cmd) x is reads = absurd (cc)
+  falls c (Makes edit) x is reads = absurd (cc)
+
+  -- ---- alike scripts come to the same
+
+  step : (b : Bool) (k left : ℕ) (P : ℕ → Type 0) (Q : Type 0) → (b ≡ true → suc left ≤ k) → left ≤ k → ((j : ℕ) → left ≤ j → P j → Q) → Next b k P → Q
+  step true zero left P Q less stays h p = absurd (let low = less refl in omega arith)
+  step true (suc j) left P Q less stays h p = h j (let low = less refl in omega arith) p
+  step false k left P Q less stays h p = h k stays p
+
+  on_answer : {X : Type 0} (ask : LineAsk) (f g : LineAnswer ask → LineScript X) (after : LineState) (r : Result (LineAnswer ask) ReadlineError)
+      → ((x : LineAnswer ask) → r ≡ Ok x → played_from s indent (f x) after ≡ played_from s indent (g x) after)
+      → played_on (λ x. played_from s indent (f x) after) ask after r ≡ played_on (λ x. played_from s indent (g x) after) ask after r
+  on_answer ask f g after (Ok x) h = ap (asked_first ask) (h x refl)
+  on_answer ask f g after (Err e) h = refl
+
+  played_alike : {X : Type 0} (k : ℕ) (p q : LineScript X) → Alike is_line_read k p q → (c : LineState) → keys_and_pastes c.coming ≤ k → played_from s indent p c ≡ played_from s indent q c
+  played_alike {X} k (Ends x) q is c low = ap (λ (u : LineScript X). played_from s indent u c) (sym is)
+  played_alike {X} k (Asks ask f) q (g, is, h) c low =
+      on_answer ask f g (left_at s indent c ask) (answer_at s indent c ask)
+      (λ x ok. step (is_line_read ask) k (keys_and_pastes (left_at s indent c ask).coming) (λ j. Alike is_line_read j (f x) (g x)) (played_from s indent (f x) (left_at s indent c ask) ≡ played_from s indent (g x) (left_at s indent c ask))
+      (λ reads. let less = falls c ask x ok reads in omega arith) (let stays = left_le c ask in omega arith)
+      (λ j below a. played_alike j (f x) (g x) a (left_at s indent c ask) below) (h x))
+      ∙ ap (λ (u : LineScript X). played_from s indent u c) (sym is)
+
+  -- ---- an accepted line has read a key
+
+  rest_on : {X : Type 0} (ask : LineAsk) (f : LineAnswer ask → LineScript X) (after : LineState) (most : ℕ) (r : Result (LineAnswer ask) ReadlineError) → keys_and_pastes after.coming ≤ most
+      → ((x : LineAnswer ask) → keys_and_pastes (played_from s indent (f x) after).rest.coming ≤ keys_and_pastes after.coming)
+      → keys_and_pastes (played_on (λ x. played_from s indent (f x) after) ask after r).rest.coming ≤ most
+  rest_on ask f after most (Ok x) low h = let stays = h x in omega arith
+  rest_on ask f after most (Err e) low h = low
+
+  rest_stays : {X : Type 0} (p : LineScript X) (c : LineState) → keys_and_pastes (played_from s indent p c).rest.coming ≤ keys_and_pastes c.coming
+  rest_stays (Ends x) c = omega arith
+  rest_stays (Asks ask f) c =
+      rest_on ask f (left_at s indent c ask) (keys_and_pastes c.coming) (answer_at s indent c ask) (left_le c ask) (λ x. rest_stays (f x) (left_at s indent c ask))
+
+  first_key : (f : KeyEvent → LineScript (List ℕ)) (c : LineState) (r : Result KeyEvent ReadlineError) → item_at Key c.coming ≡ r → (text : List ℕ)
+      → (played_on (λ x. played_from s indent (f x) (left_at s indent c (Keys (Reads Key)))) (Keys (Reads Key)) (left_at s indent c (Keys (Reads Key))) r).answer ≡ Ok text
+      → suc (keys_and_pastes (played_on (λ x. played_from s indent (f x) (left_at s indent c (Keys (Reads Key)))) (Keys (Reads Key)) (left_at s indent c (Keys (Reads Key))) r).rest.coming) ≤ keys_and_pastes c.coming
+  first_key f c (Ok k) is text ok =
+      let less = read_falls Key c.coming k is in
+      let stays = rest_stays (f k) (left_at s indent c (Keys (Reads Key))) in omega arith
+  first_key f c (Err e) is text ok = absurd (cc)
+
+  line_falls : (n : ℕ) (custom : Custom) (c : LineState) (text : List ℕ) → (played_from s indent (line_script (suc n) custom) c).answer ≡ Ok text
+      → suc (keys_and_pastes (played_from s indent (line_script (suc n) custom) c).rest.coming) ≤ keys_and_pastes c.coming
+  unfolding line_script turns_script turn_script and_then with_read
+  line_falls n custom c text ok =
+      let drawn = left_at s indent c (Makes line_begun) in
+      let begun = left_at s indent drawn Begins in
+      first_key (turn_after n custom (beginning drawn)) begun (item_at Key c.coming) refl text ok
+
+-- ---- sessions
+
+abbrev course_by : Given → SessionState → Played LineAsk LineState ReadlineError (List ℕ) → Course (Result (List ℕ) ReadlineError × SessionState)
+course_by g x p =
+    let a = setting_in g x.history.kept.entries in
+    record {
+      events = LineBegins g.screen ∷ (asks_events g.screen a g.config.indent_size (fresh g.screen.mode) (kept_first a g.config x.ring x.coming) p.asks ++ end_events p.answer);
+      answer = (p.answer, state_after g.config.auto_add_history p.answer p.rest.ring p.rest.coming x);
+    }
+
+line_is : (n m : ℕ) (g : Given) (x : SessionState) → keys_and_pastes x.coming < n → keys_and_pastes x.coming < m → line_course n g x ≡ line_course m g x
+line_is n m g x low low' =
+    let s = setting_in g x.history.kept.entries in
+    let c = kept_first s g.config x.ring x.coming in
+    ap (course_by g x)
+    (played_alike s g.config.indent_size (keys_and_pastes x.coming) (line_script n g.custom) (line_script m g.custom) (line_alike g.custom n m (keys_and_pastes x.coming) low low') c (omega arith))
+
+going_same : (a b : SessionState → Course ReadlineError) (r : Result (List ℕ) ReadlineError) (y : SessionState) → ((text : List ℕ) → r ≡ Ok text → a y ≡ b y) → going_on a (r, y) ≡ going_on b (r, y)
+going_same a b (Ok text) y h = h text refl
+going_same a b (Err e) y h = refl
+
+pub session_is : (n m : ℕ) (g : Given) (at : ℕ → LineGiven) (x : SessionState) → keys_and_pastes x.coming < n → keys_and_pastes x.coming < m → session n g at x ≡ session m g at x
+unfolding session
+session_is zero m g at x low low' = absurd (omega arith)
+session_is (suc n) zero g at x low low' = absurd (omega arith)
+session_is (suc n) (suc m) g at x low low' =
+    let here = for_line g (at 0) in
+    let p = played_in (suc n) here x in
+    let line = course_by here x p in
+    let s = setting_in here x.history.kept.entries in
+    let others = λ (line : ℕ). at (suc line) in
+    ap (events_first line.events)
+    (going_same (session n g others) (session m g others) p.answer (state_after here.config.auto_add_history p.answer p.rest.ring p.rest.coming x)
+    (λ text ok. let less = line_falls s here.config.indent_size n here.custom (kept_first s here.config x.ring x.coming) text ok in
+    session_is n m g others (state_after here.config.auto_add_history p.answer p.rest.ring p.rest.coming x) (omega arith) (omega arith)))
+    ∙ ap (λ (line : Course (Result (List ℕ) ReadlineError × SessionState)). events_first line.events (going_on (session m g others) line.answer)) (line_is (suc n) (suc m) here x low low')

@@ -1,0 +1,174 @@
+-- A session over memory that its keys ended is the definition's.
+use Rattle.std.proofs.Common.{◌≡◌, ℕ, ◌+◌, ◌<◌, Bool, true, false, IsTrue, List, [], ◌∷◌, ◌++◌, Option, length, refl, sym, ap, subst, ◌∙◌, arith}
+use Rattle.std.specs.Prelude.{flat_map}
+use Rattle.line_config.specs.Feed.{AlwaysTold, Feed, fresh_feed}
+use Rattle.line_config.specs.declared.config.Config.{Config}
+use Rattle.line_config.specs.declared.device.Last.TheVariants.{End}
+use Rattle.line_config.specs.declared.errors.ReadlineError.{ReadlineError}
+use Rattle.line_config.specs.declared.errors.ReadlineError.TheVariants.{Eof, Interrupted, NotUtf8, PasteOutOfPlace, Display, Lines, Helper, Memory}
+use Rattle.line_help.specs.History.{Filed}
+use Rattle.line_help.specs.HistoryText.{text_to_save}
+use Rattle.line_keys.specs.Answers.{Custom}
+use Rattle.line_keys.specs.Coming.{Coming}
+use Rattle.line_keys.specs.Feeds.{Paste}
+use Rattle.line_record.specs.Ring.{Ring, new_ring}
+use Rattle.line_screen.specs.Calls.{Screen, screen_of}
+use Rattle.line_screen.specs.Input.{chars_of}
+use Rattle.line_screen.specs.KeyGrammar.{read_from}
+use Rattle.line_screen.specs.Reader.{coming_by, feed_in, kept_of, source_of}
+use Rattle.line_screen.specs.Reading.{kept_count, with_kept}
+use Rattle.keyline.specs.Desks.{GoesShown, desk_feed, session_state_of, work_of}
+use Rattle.keyline.specs.Endings.{ending_of}
+use Rattle.keyline.specs.Known.{Known}
+use Rattle.keyline.specs.Playing.{AreDone, IsStopped, Stands, Went, Work, ending_after}
+use Rattle.keyline.specs.Plays.{Opens, RunsSession, loaded_from}
+use Rattle.keyline.specs.Program.{EditHelper, edit_helping}
+use Rattle.keyline.specs.Events.{Event, Takes, Helped, Draws, Hears, Breaks, Keeps, Writes, bytes_drawn, left_to_come, lines_kept, lines_written, session}
+use Rattle.keyline.specs.Sessions.{Given, SessionState, coming_from, each, given_of, lines_text, remembered, screen_by}
+use Rattle.keyline.specs.Shows.{EachShown}
+use Rattle.keyline.specs.Transcripts.{Transcribes, given_by, is_cut, start_by, word_helper}
+use Rattle.keyline.specs.declared.desk.Desk.{Desk}
+use Rattle.keyline.specs.declared.over_memory.Transcript.{Transcript}
+use Rattle.keyline.specs.declared.session.Ended.{Ended}
+
+-- no fault ends a session so
+no_fault : {D L : Type 0} (shown : D → List ℕ) (written_in : L → List ℕ) (adds : Bool) (x y : Work D L) (event : Event) (why : ReadlineError)
+    → is_cut (ending_of why) ≡ false → IsStopped shown written_in adds x event why y → ⊥
+no_fault shown written_in adds x y Takes Memory is h = absurd (cc)
+no_fault shown written_in adds x y (Helped fails takes) Helper is h = absurd (cc)
+no_fault shown written_in adds x y (Helped fails takes) Memory is h = absurd (cc)
+no_fault shown written_in adds x y (Draws redraw (bytes ∷ more)) Display is h = absurd (cc)
+no_fault shown written_in adds x y (Hears Paste) Memory is h = absurd (cc)
+no_fault shown written_in adds x y Breaks Display is h = absurd (cc)
+no_fault shown written_in adds x y (Keeps line) Memory is h = absurd (cc)
+no_fault shown written_in adds x y (Writes line) Lines is h = absurd (cc)
+no_fault shown written_in adds x y _ _ is h = absurd h
+
+append_nothing : {A : Type 0} (xs : List A) → xs ++ [] ≡ xs
+append_nothing [] = refl
+append_nothing (x ∷ xs) = ap (λ ys. x ∷ ys) (append_nothing xs)
+
+module _ {D L : Type 0} (shown : D → List ℕ) (written_in : L → List ℕ) (adds : Bool) (why answer : ReadlineError) where
+  abbrev FaultIs : ReadlineError → Type 0
+  FaultIs e = why ≡ e
+
+  none_left : (others : List Event) (at new : Work D L) → is_cut (ending_of why) ≡ false → Stands shown written_in adds others at new (why ≡ answer) FaultIs
+      → (others ≡ []) × (why ≡ answer) × (new ≡ at)
+  none_left [] at new by_keys (is, same) = (refl, is, same)
+  none_left (event ∷ others) at new by_keys (e, stopped, is) = absurd (no_fault shown written_in adds at new event e (subst (λ w. is_cut (ending_of w) ≡ false) is by_keys) stopped)
+
+  -- all events were done
+  record AllDone (events done : List Event) (old new : Work D L) : Type 0 where
+    pub answer_is : why ≡ answer
+    pub done_is : done ≡ events
+    pub are_done : AreDone shown written_in adds events old new
+
+  all_done : (events : List Event) (old new : Work D L) (w : Went shown written_in adds events old new (why ≡ answer) FaultIs) → is_cut (ending_of why) ≡ false → AllDone events w.done old new
+  all_done events old new w by_keys =
+      let left = none_left w.others w.at new by_keys w.stands in
+      let done_is : w.done ≡ events = sym (w.split ∙ (ap (λ o. w.done ++ o) left.0 ∙ append_nothing w.done)) in
+      record {
+        answer_is = left.1;
+        done_is = done_is;
+        are_done = subst (λ es. AreDone shown written_in adds es old new) done_is (subst (λ (at : Work D L). AreDone shown written_in adds w.done old at) (sym left.2) w.are_done);
+      }
+
+-- a history that was saved isn't why
+when_saved : (why : ReadlineError) → ending_after why true ≡ why
+when_saved Eof = refl
+when_saved Interrupted = refl
+when_saved NotUtf8 = refl
+when_saved PasteOutOfPlace = refl
+when_saved _ = refl
+
+was_saved : (saved failed : Bool) → (saved ≡ false → IsTrue failed) → failed ≡ false → saved ≡ true
+was_saved true failed refused works = refl
+was_saved false failed refused works = absurd (let broken : failed ≡ true = refused refl in cc)
+
+no_byte_kept : (kept bound count : ℕ) → kept ≡ 0 → bound ≡ count + kept → bound ≡ count
+no_byte_kept kept bound count none is = omega arith
+
+abbrev state_by : Ring → Filed → Coming → SessionState
+state_by ring history coming = record { ring = ring; history = history; coming = coming }
+
+module _ {F S D L T : Type 0} (text_of : F → Feed) (k : Known S D L) (held : T → List ℕ) (failed : T → Bool) where
+  pub transcribed : (config config' : Config) (words : Option (List (List ℕ))) (helper : Option EditHelper) (custom custom' : Custom) (prompt prompt' : List ℕ) (columns : ℕ) (old keys : List ℕ) (history : F) (source : S)
+      (display : D) (lines : L) (text text' : T) (desk : Desk S EditHelper D L) (ended : Ended S D L T) (t : Transcript)
+      → Opens text_of k.feed config history helper source columns display lines desk
+      → RunsSession k held failed (given_of config' custom' prompt' (screen_of desk.out) (edit_helping desk.helper)) desk text' ended
+      → helper ≡ word_helper words → config' ≡ config → custom' ≡ custom → prompt' ≡ prompt → text' ≡ text
+      → AlwaysTold text_of → AlwaysTold k.feed → text_of history ≡ fresh_feed old End → k.feed source ≡ fresh_feed keys End
+      → k.shown display ≡ [] → k.written_in lines ≡ [] → held text ≡ []
+      → is_cut ended.ending ≡ false → failed ended.text ≡ false → (k.feed ended.source).failed ≡ false
+      → t.lines.items ≡ k.written_in ended.lines → t.display.items ≡ k.shown ended.display → t.history.items ≡ held ended.text → t.ending ≡ ended.ending
+      → t.unread.items ≡ (with_kept ended.ahead (k.feed ended.source)).coming
+      → Transcribes (given_by config words custom prompt columns) (start_by config old keys) keys t
+  transcribed config config' words helper custom custom' prompt prompt' columns old keys history source display lines text text' desk ended t opens runs helper_is config_is custom_is prompt_is text_is
+      always told text_of_is source_is none bare blank uncut works sound lines_are display_is history_is ending_is unread_is =
+      let g = given_by config words custom prompt columns in
+      let start = start_by config old keys in
+      let end = runs.finishes in
+      let why = runs.why in
+      let last = runs.last in
+      let given_is : given_of config' custom' prompt' (screen_of desk.out) (edit_helping desk.helper) ≡ g =
+      ap (λ (x : Config). given_of x custom' prompt' (screen_of desk.out) (edit_helping desk.helper)) config_is
+      ∙ (ap (λ (x : Custom). given_of config x prompt' (screen_of desk.out) (edit_helping desk.helper)) custom_is
+      ∙ (ap (λ (x : List ℕ). given_of config custom x (screen_of desk.out) (edit_helping desk.helper)) prompt_is
+      ∙ (ap (λ (x : Screen). given_of config custom prompt x (edit_helping desk.helper)) opens.screen
+      ∙ ap (λ (x : Option EditHelper). given_of config custom prompt (screen_by config columns) (edit_helping x)) (opens.helper_is ∙ helper_is)))) in
+      let loaded = loaded_from config (fresh_feed old End) in
+      let coming : (desk_feed k desk).coming ≡ coming_from config.edit_mode keys End =
+      opens.coming ∙ ap (λ (f : Feed). coming_from config.edit_mode f.coming f.last) source_is in
+      let filed : desk.history ≡ loaded = opens.loaded.history_is always ∙ ap (λ (f : Feed). loaded_from config f) text_of_is in
+      let state_is : session_state_of k desk ≡ start =
+      ap (λ (r : Ring). state_by r desk.history (desk_feed k desk).coming) opens.ring
+      ∙ (ap (λ (h : Filed). state_by (new_ring 60) h (desk_feed k desk).coming) filed
+      ∙ ap (λ (c : Coming). state_by (new_ring 60) loaded c) coming) in
+      let bound : (desk_feed k desk).bound ≡ length keys =
+      no_byte_kept (kept_count (kept_of desk.reader)) (desk_feed k desk).bound (length keys) (ap kept_count opens.kept)
+      (ap (λ (s : S). (k.feed s).bound + kept_count (kept_of desk.reader)) opens.source_is ∙ ap (λ (f : Feed). f.bound + kept_count (kept_of desk.reader)) source_is) in
+      let saved : end.saved ≡ true = was_saved end.saved (failed ended.text) (λ s. (end.saves.refused s).1) works in
+      let ended_is : ended.ending ≡ ending_of why =
+      end.ending_is ∙ (ap (λ s. ending_of (ending_after why s)) saved ∙ ap ending_of (when_saved why)) in
+      let by_keys : is_cut (ending_of why) ≡ false = ap is_cut (sym ended_is) ∙ uncut in
+      let adds = config.auto_add_history in
+      let events : ℕ → List Event = λ n. (session n g (each g) start).events in
+      let answer : ℕ → ReadlineError = λ n. (session n g (each g) start).answer in
+      let Shown : Given → SessionState → ℕ → Type 0 = λ g x n. GoesShown k.shown k.written_in g.config.auto_add_history (session n g (each g) x).events (work_of k desk) (work_of k last)
+      (why ≡ (session n g (each g) x).answer) (λ e. why ≡ e) in
+      let goes : (n : ℕ) → length keys < n → Shown g start n = λ n low.
+      subst (λ (x : SessionState). Shown g x n) state_is (subst (λ (g : Given). Shown g (session_state_of k desk) n) given_is
+      (runs.takes.goes (told (source_of last.reader)) n (subst (λ b. b < n) (sym bound) low))) in
+      let whole : (n : ℕ) (low : length keys < n) → AllDone k.shown k.written_in adds why (answer n) (events n) (goes n low).went.done (work_of k desk) (work_of k last) = λ n low.
+      all_done k.shown k.written_in adds why (answer n) (events n) (work_of k desk) (work_of k last) (goes n low).went by_keys in
+      record {
+        shows = λ n low f rests. subst (λ es. EachShown f es) (whole n low).done_is ((goes n low).shows f rests);
+        gives = λ n low.
+            let all = whole n low in
+            let done = all.are_done in
+            let kept_is : last.history ≡ remembered adds (flat_map lines_kept (events n)) loaded =
+            done.history_is ∙ ap (λ (h : Filed). remembered adds (flat_map lines_kept (events n)) h) filed in
+            let rest_is : (desk_feed k last).coming ≡ left_to_come (coming_from config.edit_mode keys End) (events n) =
+            done.left_is ∙ ap (λ c. left_to_come c (events n)) coming in
+            let unread : t.unread.items ≡ (feed_in k.feed last.reader).coming =
+            unread_is ∙ (ap (λ a. (with_kept a (k.feed ended.source)).coming) end.ahead_is ∙ ap (λ (s : S). (with_kept (kept_of last.reader) (k.feed s)).coming) end.source_is) in
+            let alive : (feed_in k.feed last.reader).failed ≡ false = ap (λ (s : S). (k.feed s).failed) (sym end.source_is) ∙ sound in
+            let reader = last.reader in
+            let by : Bool → List ℕ → Coming = λ f bytes. coming_by f reader.refused (read_from reader.mode reader.announced (chars_of bytes (feed_in k.feed reader).last)) in
+            record {
+              lines_are = lines_are ∙ (ap k.written_in end.lines_are ∙ (done.wrote
+                  ∙ ap (λ front. front ++ lines_text (flat_map lines_written (events n))) (ap k.written_in opens.lines_are ∙ bare)));
+              display_is = display_is ∙ (ap k.shown end.display_is ∙ (done.drawn
+                  ∙ ap (λ front. front ++ flat_map bytes_drawn (events n)) (ap k.shown opens.display_is ∙ none)));
+              history_is = history_is ∙ ((end.saves.done saved).1
+                  ∙ (ap (λ front. front ++ text_to_save last.history) (ap held text_is ∙ blank) ∙ ap text_to_save kept_is));
+              ending_is = ending_is ∙ (ended_is ∙ ap ending_of all.answer_is);
+              unread_is = record {
+                mode = reader.mode;
+                announced = reader.announced;
+                refused = reader.refused;
+                last = (feed_in k.feed reader).last;
+                rest_is = sym rest_is ∙ (ap (λ f. by f (feed_in k.feed reader).coming) alive ∙ ap (λ bytes. by false bytes) (sym unread));
+              };
+            };
+      }

@@ -1,0 +1,82 @@
+-- The result of a session over memory, as equations with the definition of a session.
+use Rattle.std.specs.Prelude.{◌≡◌, ℕ, ◌<◌, Bool, true, false, List, Option, Some, None, length}
+use Rattle.std.specs.List.{flat_map}
+use Rattle.line_config.specs.Feed.{fresh_feed}
+use Rattle.line_config.specs.declared.config.Config.{Config}
+use Rattle.line_config.specs.declared.device.Last.{Last}
+use Rattle.line_config.specs.declared.device.Last.TheVariants.{End}
+use Rattle.line_config.specs.declared.errors.ReadlineError.{ReadlineError}
+use Rattle.line_config.specs.declared.settings.EditMode.{EditMode}
+use Rattle.line_help.specs.HistoryText.{text_to_save}
+use Rattle.line_keys.specs.Answers.{Custom}
+use Rattle.line_keys.specs.Coming.{Coming}
+use Rattle.line_record.specs.Ring.{new_ring}
+use Rattle.line_screen.specs.Input.{chars_of}
+use Rattle.line_screen.specs.KeyGrammar.{read_from}
+use Rattle.line_screen.specs.Reader.{coming_by}
+use Rattle.keyline.specs.Endings.{ending_of}
+use Rattle.keyline.specs.Plays.{loaded_from}
+use Rattle.keyline.specs.Program.{EditHelper, edit_helping}
+use Rattle.keyline.specs.Events.{Course, bytes_drawn, left_to_come, lines_kept, lines_written, session}
+use Rattle.keyline.specs.Sessions.{Given, SessionState, each, given_of, lines_text, remembered, screen_by, state_over}
+use Rattle.keyline.specs.Shows.{EachShown, Face, IsAtRest}
+use Rattle.keyline.specs.declared.ending.Ending.{Ending}
+use Rattle.keyline.specs.declared.ending.Ending.TheVariants.{Eof, Interrupted, NotUtf8, PasteOutOfPlace, Handler}
+use Rattle.keyline.specs.declared.over_memory.Transcript.{Transcript}
+
+-- ---- arguments
+
+abbrev pub word_helper : Option (List (List ℕ)) → Option EditHelper
+word_helper None = None
+word_helper (Some words) = Some (record {
+  completer = Some words;
+  hinter = tt;
+  highlighter = tt;
+  validator = None;
+})
+
+abbrev pub given_by : Config → Option (List (List ℕ)) → Custom → List ℕ → ℕ → Given
+given_by config words custom prompt columns =
+    given_of config custom prompt (screen_by config columns) (edit_helping (word_helper words))
+
+-- before the first line: the history's text is loaded, and no key is read
+abbrev pub start_by : Config → List ℕ → List ℕ → SessionState
+start_by config history keys =
+    state_over (new_ring 60) (loaded_from config (fresh_feed history End)) config.edit_mode keys End
+
+-- ---- result
+
+-- a session that its keys did not end
+abbrev pub is_cut : Ending → Bool
+is_cut Eof = false
+is_cut Interrupted = false
+is_cut NotUtf8 = false
+is_cut PasteOutOfPlace = false
+is_cut Handler = false
+is_cut ending = true
+
+-- the remaining input is what these bytes read as, by a reader that may have failed in a call, or be
+-- before a pasted text
+pub record ReadsOn (unread : List ℕ) (rest : Coming) : Type 0 where
+  pub mode : EditMode
+  pub announced : Bool
+  pub refused : Option ReadlineError
+  pub last : Last
+  pub rest_is : rest ≡ coming_by false refused (read_from mode announced (chars_of unread last))
+
+pub record IsTranscript (g : Given) (start : SessionState) (course : Course ReadlineError)
+    (t : Transcript) : Type 0 where
+  pub lines_are : t.lines.items ≡ lines_text (flat_map lines_written course.events)
+  pub display_is : t.display.items ≡ flat_map bytes_drawn course.events
+  pub history_is : t.history.items ≡ text_to_save
+      (remembered g.config.auto_add_history (flat_map lines_kept course.events) start.history)
+  pub ending_is : t.ending ≡ ending_of course.answer
+  pub unread_is : ReadsOn t.unread.items (left_to_come start.coming course.events)
+
+-- THE relation of a session over memory: it is the definition's, for more fuel than there are bytes
+-- of keys. On any display between two lines, such as a blank one, each moment is shown
+pub record Transcribes (g : Given) (start : SessionState) (keys : List ℕ) (t : Transcript)
+    : Type 0 where
+  pub gives : (n : ℕ) → length keys < n → IsTranscript g start (session n g (each g) start) t
+  pub shows : (n : ℕ) → length keys < n → (f : Face) → IsAtRest f
+      → EachShown f (session n g (each g) start).events
