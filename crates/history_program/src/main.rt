@@ -19,7 +19,11 @@ fn main(rt: HostRuntime) -> Result<()> {
         None => "lines.history",
     };
     let old = load_history(&rt, path).context("the history does not load")?;
-    let mut editor = editor_with(&rt, &old)?;
+    let session = standard_builder(&rt)
+        .history(SliceSource::new(&old), VecSink::new(rt.alloc()))
+        .open()
+        .map_err(|unopened| unopened.why)?;
+    let mut editor = LineEditor::new(session);
     let said = say_again(&rt, &mut editor);
     let ended = editor.finish();
     save_history(&rt, path, ended.text_to_save()).context("the history is not saved")?;
@@ -28,14 +32,6 @@ fn main(rt: HostRuntime) -> Result<()> {
         Ending::Eof => Ok(()),
         ending => bail!("{}", ending.text()),
     }
-}
-
-/// An editor over the standard streams, with the lines of a history's text.
-fn editor_with(rt: &HostRuntime, old: &[u8]) -> Result<Editor, ReadlineError> {
-    let session = standard_builder(rt)
-        .history(SliceSource::new(old), VecSink::new(rt.alloc()))
-        .open()?;
-    Ok(LineEditor::new(session))
 }
 
 /// Says each line again until no further one comes, which `finish` tells the reason of.

@@ -43,17 +43,6 @@ fn helper(tables: Vec<String>) -> Help {
     }
 }
 
-/// An editor over the standard streams, with the lines of a history's text.
-fn editor_with(rt: &HostRuntime, old: &[u8]) -> Result<Editor, ReadlineError> {
-    let bindings = keys::bindings(rt.alloc())?;
-    let session = standard_builder(rt)
-        .bindings(bindings)
-        .helper(helper(Vec::new(rt.alloc())))
-        .history(SliceSource::new(old), VecSink::new(rt.alloc()))
-        .open()?;
-    Ok(LineEditor::new(session))
-}
-
 /// Reads statements and answers them, until `.quit` or the end of the input.
 fn converse(rt: &HostRuntime, editor: &mut Editor) -> Result<()> {
     let mut conn = Connection::open_in_memory(rt.alloc())?;
@@ -88,7 +77,13 @@ fn console(rt: &HostRuntime, path: Option<&str>) -> Result<()> {
         Some(path) => load_history(rt, path).context("the history does not load")?,
         None => Vec::new(rt.alloc()),
     };
-    let mut editor = editor_with(rt, &old)?;
+    let session = standard_builder(rt)
+        .bindings(keys::bindings(rt.alloc())?)
+        .helper(helper(Vec::new(rt.alloc())))
+        .history(SliceSource::new(&old), VecSink::new(rt.alloc()))
+        .open()
+        .map_err(|unopened| unopened.why)?;
+    let mut editor = LineEditor::new(session);
     let answered = converse(rt, &mut editor);
     let ended = editor.finish();
     if let Some(path) = path {
