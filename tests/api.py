@@ -1,6 +1,6 @@
 #!/usr/bin/env python3
 """docs/API.md, made of the sources: each public item of the libraries with its signature, its comment and its errors, without
-contracts and what stands for proofs alone.
+contracts. Of what stands for proofs alone it has what an impl of a trait must say.
 
     tests/api.py --check    whether docs/API.md is what the sources give
     tests/api.py --write    writes it anew
@@ -17,14 +17,19 @@ from pages import calls_of, section, tables
 PAGE = ("docs", "API.md")
 HEAD = """# The calls of the libraries
 
-Each public item, by crate and module: its signature, what it is, and what it fails with. `tests/api.py --write` makes this
-page from the sources. What each call promises exactly is its contract, in the source. [ERRORS.md](ERRORS.md) says what each
+Each public item, by crate and module: its signature, what it is, and what it fails with. A `ghost` line of a trait is what an
+impl must say for proofs. `tests/api.py --write` makes this page from the sources. What each call promises exactly is its
+contract, in the source. [ERRORS.md](ERRORS.md) says what each
 error leaves, and [GUIDE.md](GUIDE.md) where to begin: a program needs the crate [`keyline`](#keyline) alone.
 """
 ITEM = re.compile(r"pub (?:const )?(struct|enum|trait|type|fn|const) (\w+)")
 CALL = re.compile(r"    (pub )?(?:const )?(?:unsafe )?fn (\w+)")
 IMPL = re.compile(r"impl\b(.*?)(?: where\b.*)?\s*\{?\Z")
 CLAUSE = re.compile(r"\s*(?:requires|ensures)\b")
+# What an impl of a trait must name besides its calls.
+MEMBER = re.compile(r"    (type|ghost) (?!use\b)(\w+)")
+# A link of a comment to another item, which only the sources have.
+ITEM_LINK = re.compile(r"\[(`[^`]+`)\](?:\([\w:]+\))?")
 FIELD = re.compile(r"    (pub )?(\w+)\s*[:(,{]?.*")
 
 
@@ -36,7 +41,7 @@ class Item:
 
 
 def comment_above(lines, at):
-    """The comment of the item in a line, and the traits that are derived for it."""
+    """The comment of the item in a line, without its links, and the traits that are derived for it."""
     words, derived = [], []
     while at and re.match(r"\s*(///|#\[)", lines[at - 1]):
         at -= 1
@@ -45,7 +50,19 @@ def comment_above(lines, at):
             words.insert(0, line.removeprefix("///").strip())
         for listed in re.findall(r"#\[derive\((.*?)\)\]", line):
             derived = [it.strip() for it in listed.split(",") if it.strip()]
-    return " ".join(filter(None, words)), derived
+    return ITEM_LINK.sub(r"\1", " ".join(filter(None, words))), derived
+
+
+def member_at(lines, at):
+    """The associated type, or the function for definitions, that a trait has in a line, with its comment."""
+    end = next(it for it in range(at, len(lines)) if lines[it].endswith(";"))
+    begin = at
+    while lines[begin - 1].startswith("    //"):
+        begin -= 1
+    found = MEMBER.match(lines[at])
+    words = " ".join(line.strip().lstrip("/").strip() for line in lines[begin:at])
+    head = " ".join(line.strip() for line in lines[at:end + 1]).removesuffix(";")
+    return Item(found[1], found[2], head, ITEM_LINK.sub(r"\1", words))
 
 
 def head_at(lines, at):
@@ -70,12 +87,14 @@ def block_end(lines, at):
 
 
 def parts_of(kind, lines, at, end):
-    """What stands in an item: the variants of an enum, the public fields of a struct, the calls of a trait or an impl."""
+    """What stands in an item: an enum's variants, a struct's public fields, what a trait has, the calls of an impl."""
     for number in range(at + 1, end):
         line = lines[number]
         call, field = CALL.match(line), FIELD.fullmatch(line)
         words, _ = comment_above(lines, number)
-        if kind in ("trait", "impl") and call and (kind == "trait" or call[1]):
+        if kind == "trait" and MEMBER.match(line):
+            yield member_at(lines, number)
+        elif kind in ("trait", "impl") and call and (kind == "trait" or call[1]):
             yield Item("fn", call[2], head_at(lines, number), words)
         elif kind == "enum" and field and re.match(r"    [A-Z]\w*[,({ ]", line) and line.rstrip().endswith((",", "{", "(")):
             yield Item("variant", field[2], line.strip().rstrip(",{ ").rstrip(), words)

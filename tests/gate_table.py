@@ -5,7 +5,6 @@
     tests/gate_table.py kept       everything was kept from an earlier run
 """
 import os
-import re
 import sys
 
 from wrong_bodies import read, write
@@ -13,6 +12,8 @@ from wrong_bodies import read, write
 TOP = os.path.dirname(os.path.dirname(os.path.realpath(__file__)))
 # The cells of a row that a run fills: its wall and its processor time, in seconds.
 COLUMNS = {"nothing": (2, 3), "kept": (4, 5)}
+# The line of the table above its first row.
+RULE = "\n|---|---|---|---|---|---|\n"
 
 
 def parts_of(path):
@@ -23,19 +24,20 @@ def parts_of(path):
 
 
 def filled(line, parts, columns):
-    """A row of the table with a run's times in its cells, if it is the row of a part."""
+    """The row of a part with its times of a run in the cells, or – if the run had no such part."""
     cells = line.strip("|").split("|")
     times = parts.pop(cells[0].strip(), None)
-    for column, seconds in zip(columns, times or ()):
-        cells[column] = f" {seconds:.0f} "
-    return f"|{'|'.join(cells)}|" if times else line
+    for at, column in enumerate(columns):
+        cells[column] = f" {times[at]:.0f} " if times else " – "
+    return f"|{'|'.join(cells)}|"
 
 
 def main(words):
     columns, path = COLUMNS[words[0]], os.path.join(TOP, "docs", "GATE.md")
     parts = parts_of(os.path.join(TOP, "build", "parts.tsv"))
-    lines = [filled(line, parts, columns) if re.match(r"\|[^|]+\|", line) else line for line in read(path).split("\n")]
-    write(path, "\n".join(lines))
+    head, rule, rows = read(path).partition(RULE)
+    lines = [filled(line, parts, columns) if line.startswith("|") else line for line in rows.split("\n")]
+    write(path, head + rule + "\n".join(lines))
     for name in parts:
         print(f"no row of docs/GATE.md is of the part {name}")
     return bool(parts)
