@@ -9,6 +9,11 @@ use std::test::Fail;
 /// One over memory.
 type Editor = LineEditor<SliceSource<'static>, (), VecSink, VecSink, VecSink>;
 
+/// The prompt of a row's word. A row loses the blanks at its ends, so no word is the usual prompt.
+fn prompt_of(word: &str) -> &str {
+    if word.is_empty() { "> " } else { word }
+}
+
 /// Calls an editor with the words of a row.
 #[derive(Drop)]
 struct Asking {
@@ -54,7 +59,7 @@ impl Player for Asking {
     fn play(&mut self, alloc: Global, call: &str) -> Result<String, Fail> {
         let (call, word) = call.split_once(" ").unwrap_or((call, ""));
         match call {
-            "read" => raised(self.line(alloc, word)),
+            "read" => raised(self.line(alloc, prompt_of(word))),
             "add" => raised(self.add(alloc, word)),
             "columns" => Ok(String::from_str(alloc, self.set_columns(word))?),
             _ => self.entries_told(alloc),
@@ -106,11 +111,11 @@ fn leaves_one_key(editor: Editor) -> bool {
 fn columns_between_two_lines(rt: HostRuntime) -> Result<(), Fail> {
     let alloc = rt.alloc();
     let rows = "
-        read >  = abc
+        read = abc
         columns 4 = set
-        read >  = abc
+        read = abc
         columns 1000 = set
-        read >  = abc
+        read = abc
         ";
     let mut asking = Asking {
         editor: editor_of(alloc, b"abc\rabc\rabc\r")?,
