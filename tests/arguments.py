@@ -1,7 +1,5 @@
 #!/usr/bin/env python3
 """The program's arguments, its history file and its file of words. Run it by ./test, or alone once `rt ci` or ./keyline --prove has built the program."""
-import importlib.util
-import itertools
 import os
 import re
 import stat
@@ -16,14 +14,9 @@ NOT_SAVED = b"keyline: history text failed\n"
 NO_WORDS = b"keyline: words do not load\n"
 TAB = b"\t"
 BELL = b"\x07"
-# Words of each kind; each one and each pair of them makes a command line.
-WORDS = ["--help", "-h", "-hx", "--help=x", "--mode", "--mode=vi", "--mode=ed", "--columns", "--columns=+07", "--columns=1",
-         "--columns=", "--prompt=--", "--history", "--words", "--brackets", "--brackets=on", "--", "-", "", "vi", "7", "-x", "-\u00e9",
-         "--colums", "--wrods", "--hlp=3", "--nothing", "--=x", "---", "--mod\u00e9", "--version"]
-# The limits of a number, and of a similar word.
-EDGES = [["--columns", text] for text in ("2", "1000", "1001", "65538", "0" * 30 + "5", "9" * 5000, "+", "5_0", " 5", "-5", "\u0665")]
-EDGES += [["--mode" + "x" * count] for count in (35, 36, 37)]
-EDGES += [["--columns", "9", "--mode", "vi", "--mode", "vi", *last] for last in ([], ["--nothing"], ["--colums"], ["--help=x"])]
+# The limits of a number of columns: those that are taken, and those that are wrong.
+TAKEN = ["2", "1000", "+07", "0" * 30 + "5"]
+WRONG = ["1", "1001", "65538", "70000", "x", "", "+", "5_0", " 5", "-5", "9" * 5000, "\u0665"]
 
 
 def ran(keys, *arguments, **streams):
@@ -98,9 +91,9 @@ def version_is_asked_for():
 
 
 def wrong_arguments():
-    wrong = [["--columns", "1"], ["--columns", "1001"], ["--columns", "70000"], ["--columns", "x"], ["--columns="],
-             ["--columns"], ["--mode", "ed"], ["--mode"], ["--words"], ["--words", "a", "--words", "a"], ["--brackets=on"], ["--nothing"], ["-x"], ["word"], ["-"], ["", ""],
-             ["--mode", "vi", "--mode", "vi"]]
+    wrong = [*([f"--columns={text}"] for text in WRONG), ["--columns"], ["--mode", "ed"], ["--mode"], ["--words"],
+             ["--words", "a", "--words", "a"], ["--brackets=on"], ["--nothing"], ["-x"], ["-\u00e9"], ["word"], ["-"], ["", ""],
+             ["--mode", "vi", "--mode", "vi"], ["--=x"], ["---"], ["--help=x"], ["--", "word"]]
     for arguments in wrong:
         with History(b"\xff") as history:
             run = ran(b"ab\r", "--history", history.path, *arguments)
@@ -116,27 +109,18 @@ def an_argument_that_is_no_text():
     same("lines", run.stdout, b"")
 
 
-def what_is_answered_before_a_build():
-    """./keyline answers by the words alone if nothing is built: just like the program, and in every case in which the program
-    does."""
-    spec = importlib.util.spec_from_file_location("answers", os.path.join(ANSWERS, "arguments.py"))
-    answers = importlib.util.module_from_spec(spec)
-    spec.loader.exec_module(answers)
-    lines = [*EDGES, *([word] for word in WORDS), *map(list, itertools.product(WORDS, repeat=2))]
-    for words in [*([word.encode() for word in line] for line in lines), [b"\xff"], [b"--mode=\xff", b"--help"]]:
-        run = by_its_name(*words)
-        found = [run.returncode, run.stdout, run.stderr]
-        try:
-            answers.read(words)
-        except answers.Answer as answer:
-            texts = [b"", answer.text.encode()] if answer.status else [answer.text.encode(), b""]
-            same(f"what the program answers to {words}", found, [answer.status, *texts])
-        else:
-            # There are no files with such names, so words do not load.
-            if b"--words" in words:
-                same(f"what a session by {words} says", found, [6, b"", NO_WORDS])
-            else:
-                same(f"whether {words} give a session", found[:2] + [found[2][:1]], [0, b"", b"\r"])
+def columns_that_are_taken():
+    for text in TAKEN:
+        expect(ran(b"ab\r", "--columns", text), b"ab\n")
+
+
+def usage_texts():
+    """What is wrong, a similar argument, and the usage, as they are printed."""
+    mistake = "error: unexpected argument '%s' found\n\n%sUsage: keyline %s\n\nFor more information, try '--help'.\n"
+    near = mistake % ("--colums", "  tip: a similar argument exists: '--columns'\n\n", "--columns <2..1000>")
+    far = mistake % ("word", "", "[OPTIONS]")
+    expect(by_its_name("--colums", "3"), b"", near.encode(), 2)
+    expect(by_its_name("word"), b"", far.encode(), 2)
 
 
 def no_device_is_touched_before():
@@ -359,7 +343,8 @@ if __name__ == "__main__":
         version_is_asked_for,
         wrong_arguments,
         an_argument_that_is_no_text,
-        what_is_answered_before_a_build,
+        columns_that_are_taken,
+        usage_texts,
         no_device_is_touched_before,
         prompts_and_columns,
         vi_mode,
