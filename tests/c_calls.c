@@ -244,8 +244,39 @@ static void lines(void)
     drop(&c);
 }
 
+static void words(void)
+{
+    hold(keyline_version() == KEYLINE_VERSION, "the version");
+    hold(strcmp(keyline_status_text(KEYLINE_MEMORY), "out of memory") == 0, "a status in words");
+    hold(strcmp(keyline_status_text(255), "no status") == 0, "no status in words");
+}
+
+/* How many bytes the history has after a line, if 300 equal entries were there before. */
+static size_t kept(size_t entries)
+{
+    static char rows[604] = "#V2\n";
+    struct call c = call("b\r");
+    size_t size;
+    for (int it = 0; it < 300; it++) memcpy(rows + 4 + 2 * it, "a\n", 2);
+    c.given.history = (struct keyline_text){(const uint8_t *)rows, 604};
+    c.options.entries = entries;
+    made(&c);
+    size = c.step.history;
+    drop(&c);
+    return size;
+}
+
+static void entries(void)
+{
+    hold(kept(0) == 8, "equal neighbours once");
+    hold(kept(1000) == 606, "all entries");
+    hold(kept(200) == 404, "the newest entries");
+}
+
 int main(void)
 {
+    words();
+    entries();
     bad_arguments();
     endings();
     beginnings("ab\x1b[Dc\u00e9\x1b[200~p\rq\x1b[201~\x01\x0b\x19\x1f\r", KEYLINE_EMACS);

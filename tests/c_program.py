@@ -97,6 +97,13 @@ def as_the_program(mode, keys, **settings):
     same("the status", console.returncode, min(program.returncode, 1))
 
 
+def the_header_in_cpp():
+    """keyline.h compiles as C++, if there is a compiler for it."""
+    if shutil.which("g++"):
+        words = ["g++", "-fsyntax-only", "-Wall", "-Wextra", "-Wpedantic", "-Werror", "-I", os.path.join(CRATE, "c"), "-x", "c++", "-"]
+        subprocess.run(words, input=b'#include "keyline.h"\n', check=True)
+
+
 def on_pipes():
     """In one piece, and one byte at a time."""
     a_byte = {"env": {**os.environ, "LD_PRELOAD": shim("one_byte")}}
@@ -327,6 +334,7 @@ def main():
     made()
     return run_all([
         calls,
+        the_header_in_cpp,
         on_pipes,
         keys_in_one_read,
         after_ctrl_c,

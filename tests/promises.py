@@ -291,8 +291,11 @@ def check_kit(checks):
 
 
 LOG = "crates/line_config/src/log.rt"
-NOTING = {LOG, *(f"crates/line_config/src/{name}.rt" for name in ("adapters", "lib", "recorded"))}
-WALKS = {f"crates/line_config/proofs/{of}/Proof.antt" for of in ("configurer/ConfigConfigurer/config_mut", "log/Log/new", "log/Log/note")}
+NOTING = {LOG, *(f"crates/line_config/src/{name}.rt" for name in ("lib", "recorded"))}
+WALKS = {
+    f"crates/line_config/proofs/{of}/Proof.antt"
+    for of in ("configurer/ConfigConfigurer/config_mut", "log/Log/new", "log/Log/note", "log/Log/note_flush", "log/Log/since")
+}
 
 
 def main(arguments):

@@ -5,7 +5,9 @@ import subprocess
 import sys
 
 TOP = os.path.dirname(os.path.dirname(os.path.realpath(__file__)))
-FOLDERS = ("answers", "bench", "crates/keyline_c/c", "tests")
+FOLDERS = ("answers", "bench", "crates/keyline_c/c", "crates/keyline_c/c/readline", "tests")
+# Where C files find the headers of this repository.
+HEADERS = ("crates/keyline_c/c", "crates/keyline_c/c/readline/include")
 SHELL = (".ci/run", "bench/run", "keyline", "test")
 PYTHON = ("by_definition", "on_terminal")
 
@@ -20,7 +22,8 @@ def shell(path):
 
 
 def c(path):
-    subprocess.run(["gcc", "-fsyntax-only", "-Wall", "-Wextra", "-Werror", path], check=True, capture_output=True, text=True)
+    headers = [f"-I{os.path.join(TOP, it)}" for it in HEADERS]
+    subprocess.run(["gcc", "-fsyntax-only", "-Wall", "-Wextra", "-Werror", *headers, path], check=True, capture_output=True, text=True)
 
 
 def main():

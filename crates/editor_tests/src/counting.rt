@@ -1,31 +1,34 @@
-//! A helper that counts the calls of its hooks. A row has the commands of a line, or after `keys: `
-//! the keys typed into an empty one. After ` = ` it has the number of calls of the hinter and of
-//! the validator.
+//! A helper and handlers that count their calls. A helper's row has the commands of a line, or
+//! after `keys: ` the keys typed into an empty one. After ` = ` it has the number of calls of the
+//! hinter, the validator, the completer and the highlighter of characters. A handlers' row has
+//! keys, and after ` = ` how often each handler was called.
 
 ghost use Rattle.std.specs.Prelude.{◌≡◌, None, false, refl};
 ghost use Rattle.line_help.specs.Completion.{nothing_offered};
 ghost use Rattle.line_keys.specs.Replies.{gives, gives_at_once};
 
-use crate::desk::{Stage, led_over};
-use crate::lines::{run_over, typed};
-use line_buffer::{ChangeListener, LineBuffer};
-use line_config::{CompletionType, HookFault};
+use crate::desk::{Stage, key_of, led_over};
+use crate::lines::{run_bound, run_over, typed};
+use line_buffer::{ChangeListener, LineBuffer, RepeatCount};
+use line_config::{CompletionType, HookFault, ReadlineError};
 use line_help::{
-    Completer, Context, Helper, Highlighter, Hinter, History, ValidationContext, ValidationResult,
-    Validator, update_line,
+    Completer, Context, Helper, HelperParts, Highlighter, Hinter, History, ValidationContext,
+    ValidationResult, Validator, update_line,
 };
-use line_keys::CmdKind;
+use line_keys::{Cmd, CmdKind, Decides, Event, EventContext, EventMap, Keys};
 use stand_ins::rows::{Player, raised, rows_hold};
 use std::alloc::Global;
 use std::borrow::CowStr;
 use std::cell::Cell;
 use std::test::Fail;
 
-/// No hints, and every text is valid; each call is counted.
+/// Offers nothing, has no hints, marks nothing, and every text is valid; each call is counted.
 #[derive(Clone, Copy, Drop)]
 struct Counting<'c> {
     hints: &'c Cell<u32>,
     verdicts: &'c Cell<u32>,
+    completions: &'c Cell<u32>,
+    marks: &'c Cell<u32>,
 }
 
 fn count(times: &Cell<u32>) {
@@ -46,6 +49,7 @@ impl Completer for Counting<'_> {
         _pos: usize,
         _ctx: &Context<'_, Hi>,
     ) -> Result<(usize, Vec<String>), HookFault> {
+        count(self.completions);
         Ok((0, Vec::new(alloc)))
     }
 
@@ -106,6 +110,8 @@ impl Highlighter for Counting<'_> {
 
     ghost shown_as = { λ self part text. gives_at_once text };
 
+    ghost shown_after = { λ self line pos kind part text. gives_at_once text };
+
     fn highlight<'l>(
         &self,
         alloc: Global,
@@ -138,6 +144,7 @@ impl Highlighter for Counting<'_> {
     }
 
     fn highlight_char(&mut self, _line: &str, _pos: usize, _kind: CmdKind) -> bool {
+        count(self.marks);
         false
     }
 }
@@ -156,11 +163,13 @@ impl Helper for Counting<'_> {
 #[derive(Drop)]
 struct Counter {
     stage: Stage,
+    /// Whether the helper is one of four parts.
+    in_parts: bool,
 }
 
 impl Counter {
     // Types a row's keys, or makes its commands.
-    fn led(&self, alloc: Global, helper: Counting<'_>, row: &str) -> Result<String, Fail> {
+    fn led<H: Helper + Drop>(&self, alloc: Global, helper: H, row: &str) -> Result<String, Fail> {
         let Some((shown, rest)) = row.split_once(": ") else {
             return Err(Fail::new(format_args!("no row: {row}")));
         };
@@ -171,6 +180,30 @@ impl Counter {
             led_over(alloc, &self.stage, Some(helper), shown, rest)
         }
     }
+
+    // The same with a helper that has this one for each of its parts.
+    fn led_by_parts<H: Helper + Copy + Drop>(
+        &self,
+        alloc: Global,
+        part: H,
+        row: &str,
+    ) -> Result<String, Fail> {
+        let parts = HelperParts {
+            completer: part,
+            hinter: part,
+            highlighter: part,
+            validator: part,
+        };
+        self.led(alloc, parts, row)
+    }
+
+    fn counted(&self, alloc: Global, helper: Counting<'_>, row: &str) -> Result<String, Fail> {
+        if self.in_parts {
+            self.led_by_parts(alloc, helper, row)
+        } else {
+            self.led(alloc, helper, row)
+        }
+    }
 }
 
 impl Player for Counter {
@@ -178,51 +211,174 @@ impl Player for Counter {
         if self.stage.sets(alloc, row)? {
             return Ok(String::new(alloc));
         }
-        let hints = Cell::new(0);
-        let verdicts = Cell::new(0);
+        let (hints, verdicts) = (Cell::new(0), Cell::new(0));
+        let (completions, marks) = (Cell::new(0), Cell::new(0));
         let helper = Counting {
             hints: &hints,
             verdicts: &verdicts,
+            completions: &completions,
+            marks: &marks,
         };
-        let _ = self.led(alloc, helper, row)?;
-        raised(format!(in alloc; "{} {}", hints.get(), verdicts.get()))
+        let _ = self.counted(alloc, helper, row)?;
+        let (hints, verdicts) = (hints.get(), verdicts.get());
+        let (completions, marks) = (completions.get(), marks.get());
+        raised(format!(in alloc; "{hints} {verdicts} {completions} {marks}"))
     }
 }
 
-// A move calls neither; a redrawn line calls the hinter once for each drawing, and an accepted one
-// only the validator.
+// A move calls none, but with colours the highlighter; a redrawn line calls the hinter once for
+// each drawing, and an accepted one only the validator.
 const COUNTS: &str = "
     history: line0,line1 = nothing
-    a|b: Move BackwardChar 1 = 0 0
-    a|b: Move BeginningOfLine = 0 0
-    ab|: Move ForwardChar 1 = 0 0
-    ab␊c|: LineUpOrPreviousHistory 1 = 0 0
-    ab|: SelfInsert 1 c = 1 0
-    a|b: SelfInsert 2 c = 1 0
-    ab|: Kill BackwardChar 1 = 1 0
-    ab|: Kill ForwardChar 1 = 0 0
-    a|b: Replace ForwardChar 1 with x = 2 0
-    ab|: Repaint = 1 0
-    ab|: ClearScreen = 1 0
-    ab|: PreviousHistory = 1 0
-    ab|: SelfInsert 1 c; Undo 1 = 2 0
-    ab|: HistorySearchBackward = 0 0
-    ab|: Interrupt = 0 0
-    ab|: AcceptLine = 0 1
-    ab|: AcceptOrInsertLine = 0 1
-    ab|: Newline = 1 0
-    ab|: EndOfFile = 0 0
+    a|b: Move BackwardChar 1 = 0 0 0 0
+    a|b: Move BeginningOfLine = 0 0 0 0
+    ab|: Move ForwardChar 1 = 0 0 0 0
+    ab␊c|: LineUpOrPreviousHistory 1 = 0 0 0 0
+    ab|: SelfInsert 1 c = 1 0 0 0
+    a|b: SelfInsert 2 c = 1 0 0 0
+    ab|: Kill BackwardChar 1 = 1 0 0 0
+    ab|: Kill ForwardChar 1 = 0 0 0 0
+    a|b: Replace ForwardChar 1 with x = 2 0 0 0
+    ab|: Repaint = 1 0 0 0
+    ab|: ClearScreen = 1 0 0 0
+    ab|: PreviousHistory = 1 0 0 0
+    ab|: SelfInsert 1 c; Undo 1 = 2 0 0 0
+    ab|: HistorySearchBackward = 0 0 0 0
+    ab|: Complete = 0 0 1 0
+    ab|: Interrupt = 0 0 0 0
+    ab|: AcceptLine = 0 1 0 0
+    ab|: AcceptOrInsertLine = 0 1 0 0
+    ab|: Newline = 1 0 0 0
+    ab|: EndOfFile = 0 0 0 0
 
-    keys: C-D = 1 0
-    keys: Enter = 1 1
-    keys: a b Left Right Enter = 3 1
-    keys: a A-2 x Enter = 5 1
-    keys: a Tab C-G Enter = 2 1
-    keys: Up Down Enter = 3 1
+    keys: C-D = 1 0 0 0
+    keys: Enter = 1 1 0 0
+    keys: a b Left Right Enter = 3 1 0 0
+    keys: a A-2 x Enter = 5 1 0 0
+    keys: a Tab C-G Enter = 2 1 1 0
+    keys: Up Down Enter = 3 1 0 0
+
+    colours: yes = nothing
+    a|b: Move BackwardChar 1 = 0 0 0 1
+    ab|: SelfInsert 1 c = 1 0 0 1
+    ab|: Repaint = 1 0 0 1
+    ab|: Complete = 0 0 1 0
+    ab|: AcceptLine = 0 1 0 1
+    keys: Enter = 1 1 0 2
+    keys: a Left Enter = 2 1 0 5
 ";
+
+fn hooks_are_counted(alloc: Global, in_parts: bool) -> Result<(), Fail> {
+    let stage = Stage::new(alloc)?;
+    rows_hold(alloc, &mut Counter { stage, in_parts }, COUNTS)
+}
 
 #[test]
 fn each_hook_is_asked_once(rt: HostRuntime) -> Result<(), Fail> {
+    hooks_are_counted(rt.alloc(), false)
+}
+
+#[test]
+fn each_part_is_asked_once(rt: HostRuntime) -> Result<(), Fail> {
+    hooks_are_counted(rt.alloc(), true)
+}
+
+/// A handler that does nothing, or has no answer. It counts its calls, and adds up the counts that
+/// it is shown.
+#[derive(Drop)]
+struct Counted<'c> {
+    answers: bool,
+    calls: &'c Cell<u32>,
+    shown: &'c Cell<u32>,
+}
+
+impl Decides for Counted<'_> {
+    ghost use Rattle.std.specs.Prelude.{Some, if◌then◌else◌};
+    ghost use Rattle.line_keys.specs.declared.command.Cmd.TheVariants.{Noop};
+
+    ghost decides = { λ self s. gives_at_once (if self.answers then Some Noop else None) };
+
+    fn decide(
+        &self,
+        _alloc: Global,
+        _evt: &Event,
+        n: RepeatCount,
+        _positive: bool,
+        _ctx: &EventContext<'_>,
+    ) -> Result<Option<Cmd>, ReadlineError> {
+        count(self.calls);
+        let shown = self.shown.get().saturating_add(u32::from(n));
+        self.shown.set(shown);
+        Ok(if self.answers { Some(Cmd::Noop) } else { None })
+    }
+}
+
+/// Lines typed with handlers that count: of Ctrl-O, of F2 and then `a`, and of any key.
+#[derive(Drop)]
+struct Handled {
+    stage: Stage,
+}
+
+fn bind<'c>(
+    bindings: &mut EventMap<Counted<'c>>,
+    event: Event,
+    answers: bool,
+    calls: &'c Cell<u32>,
+    shown: &'c Cell<u32>,
+) -> Result<(), Fail> {
+    let handler = Counted {
+        answers,
+        calls,
+        shown,
+    };
+    let _old = bindings.bind_sequence(event, handler)?;
+    Ok(())
+}
+
+impl Player for Handled {
+    fn play(&mut self, alloc: Global, row: &str) -> Result<String, Fail> {
+        if self.stage.sets(alloc, row)? {
+            return Ok(String::new(alloc));
+        }
+        let (own, followed, any) = (Cell::new(0), Cell::new(0), Cell::new(0));
+        let shown = Cell::new(0);
+        let mut bindings = EventMap::new(alloc)?;
+        let sequence = Keys::try_from_slice(alloc, &[key_of("F2")?, key_of("a")?])?;
+        let ctrl_o = Event::from_key(alloc, key_of("C-O")?)?;
+        bind(&mut bindings, ctrl_o, true, &own, &shown)?;
+        bind(
+            &mut bindings,
+            Event::KeySeq(sequence),
+            true,
+            &followed,
+            &shown,
+        )?;
+        bind(&mut bindings, Event::Any, false, &any, &shown)?;
+        let keys = typed(alloc, row)?;
+        let _ = run_bound(alloc, &self.stage, &bindings, &keys)?;
+        let (own, followed, any) = (own.get(), followed.get(), any.get());
+        raised(format!(in alloc; "{own} {followed} {any}, {}", shown.get()))
+    }
+}
+
+// The calls of each handler, and the sum of the counts that they are shown. The first key of the
+// sequence is shown to the handler of any key too.
+const HANDLED: &str = "
+    C-O = 1 0 0, 1
+    C-O C-O = 2 0 0, 2
+    a = 0 0 1, 1
+    a b Left = 0 0 3, 3
+    F2 a = 0 1 1, 2
+    F2 b = 0 0 1, 1
+    A-3 C-O = 1 0 0, 3
+    A-3 F2 a = 0 1 1, 6
+    mode: Vi = nothing
+    C-O = 1 0 0, 0
+    a Esc 2 C-O = 1 0 2, 2
+";
+
+#[test]
+fn each_handler_is_asked_once(rt: HostRuntime) -> Result<(), Fail> {
     let stage = Stage::new(rt.alloc())?;
-    rows_hold(rt.alloc(), &mut Counter { stage }, COUNTS)
+    rows_hold(rt.alloc(), &mut Handled { stage }, HANDLED)
 }

@@ -193,6 +193,8 @@ impl Highlighter for Adviser {
 
     ghost shown_as = { λ self part text. gives_at_once text };
 
+    ghost shown_after = { λ self line pos kind part text. gives_at_once text };
+
     fn highlight<'l>(
         &self,
         alloc: Global,

@@ -10,7 +10,7 @@ use line_config::{Config, ReadlineError};
 use line_editor::commands::Status;
 use line_editor::run;
 use line_help::Helper;
-use line_keys::{Cmd, CmdKind, Decides, InputState, Text};
+use line_keys::{Cmd, CmdKind, Decides, EventMap, InputState, Text};
 use line_record::KillRing;
 use stand_ins::readers::{After, KeyList, Typed};
 use stand_ins::rows::{Player, raised, rows_hold, trimmed};
@@ -195,13 +195,25 @@ pub(crate) fn run_over<H: Helper + Drop>(
     keys: &Input,
 ) -> Result<String, Fail> {
     let mut ring = KillRing::new(alloc, 60)?;
-    run_with(alloc, stage, helper, &mut ring, keys)
+    run_with(alloc, stage, helper, &stage.bindings, &mut ring, keys)
 }
 
-fn run_with<H: Helper + Drop>(
+/// The same without a helper, and with these bindings.
+pub(crate) fn run_bound<D: Decides>(
+    alloc: Global,
+    stage: &Stage,
+    bindings: &EventMap<D>,
+    keys: &Input,
+) -> Result<String, Fail> {
+    let mut ring = KillRing::new(alloc, 60)?;
+    run_with(alloc, stage, None::<()>, bindings, &mut ring, keys)
+}
+
+fn run_with<H: Helper + Drop, D: Decides>(
     alloc: Global,
     stage: &Stage,
     helper: Option<H>,
+    bindings: &EventMap<D>,
     ring: &mut KillRing,
     keys: &Input,
 ) -> Result<String, Fail> {
@@ -217,7 +229,7 @@ fn run_with<H: Helper + Drop>(
         helper,
         &stage.history,
         &config,
-        &stage.bindings,
+        bindings,
         ring,
     );
     raised(left_by(alloc, &ran.outcome, ran.out.calls(), ring))

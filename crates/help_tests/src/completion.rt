@@ -16,6 +16,7 @@ use stand_ins::lines::{line_of, shown_of};
 use stand_ins::rows::{Player, raised, rows_hold, same};
 use stand_ins::tables::{line_and_place, marked, meant, word_and_rest};
 use std::alloc::{AllocError, Global};
+use std::cell::Cell;
 use std::test::Fail;
 
 /// Whether a character ends a word, as the completer of file names sees it.
@@ -71,6 +72,28 @@ fn listed(alloc: Global, name: &str, is_dir: bool) -> Result<Listed, HookFault>
 {
     let name = String::from_str(alloc, name)?;
     Ok(Listed { name, is_dir })
+}
+
+/// Counts the listings of a folder, and those of others.
+#[derive(Drop)]
+struct Listing<'c> {
+    folder: Folder,
+    here: &'c Cell<u32>,
+    elsewhere: &'c Cell<u32>,
+}
+
+impl Lister for Listing<'_> {
+    ghost held_in = { λ s dir. gives (if bytes_eq dir s.folder.path.now then map (λ p. record { name = p.0.now; is_dir = p.1 }) s.folder.names.now else []) };
+
+    fn list(&self, alloc: Global, dir: &str) -> Result<Vec<Listed>, HookFault> {
+        let times = if dir == self.folder.path {
+            self.here
+        } else {
+            self.elsewhere
+        };
+        times.set(times.get().saturating_add(1));
+        self.folder.list(alloc, dir)
+    }
 }
 
 /// A lister that fails.
@@ -185,6 +208,57 @@ fn paths(rt: HostRuntime) -> Result<(), Fail> {
     completes_paths(rt.alloc(), "/usr/", &USR, IN_USR)?;
     completes_paths(rt.alloc(), "", &HERE, IN_ORDER)?;
     completes_paths(rt.alloc(), "~/", &[], "    sorted ~/ = |~/")
+}
+
+// How often a completer lists its folder, and others, for the call of this name.
+fn listings_told(alloc: Global, call: &str) -> Result<String, HookFault> {
+    let (here, elsewhere) = (Cell::new(0), Cell::new(0));
+    let folder = Folder {
+        path: "/usr/",
+        names: &USR,
+    };
+    let completer = FilenameCompleter::new(Listing {
+        folder,
+        here: &here,
+        elsewhere: &elsewhere,
+    });
+    let (call, line) = word_and_rest(call);
+    let found = match call {
+        "sorted" => completer.complete_path(alloc, line, line.len())?,
+        "unsorted" => completer.complete_path_unsorted(alloc, line, line.len())?,
+        _ => completer.complete(
+            alloc,
+            line,
+            line.len(),
+            &Context::new(&MemHistory::new(alloc)),
+        )?,
+    };
+    raised(format!(in alloc; "{} {} {}", found.1.len(), here.get(), elsewhere.get()))
+}
+
+/// The listings for each row's line.
+#[derive(Drop)]
+struct Listings;
+
+impl Player for Listings {
+    fn play(&mut self, alloc: Global, call: &str) -> Result<String, Fail> {
+        raised(listings_told(alloc, call))
+    }
+}
+
+// The number of candidates, and how often the folder and others were listed.
+const LISTINGS: &str = "
+    sorted ls /usr/lo    = 2 1 0
+    unsorted ls /usr/lo  = 2 1 0
+    complete ls /usr/lo  = 2 1 0
+    complete ls /usr/x   = 0 1 0
+    complete ls lo       = 0 0 1
+    complete /etc/       = 0 0 1
+";
+
+#[test]
+fn a_folder_is_listed_once(rt: HostRuntime) -> Result<(), Fail> {
+    rows_hold(rt.alloc(), &mut Listings, LISTINGS)
 }
 
 // Candidates for a line, and their common prefix.

@@ -56,7 +56,7 @@ impl Sink for Narrow {
 
     fn write(&mut self, bytes: &[u8]) -> Result<(), DeviceFailed> {
         self.keep(bytes)?;
-        self.taken.note(bytes);
+        self.taken.note(&Ok(bytes.len()), bytes);
         Ok(())
     }
 

@@ -104,6 +104,8 @@ impl Highlighter for Refusing {
 
     ghost shown_as = { λ self part text. gives_unless self.fails text };
 
+    ghost shown_after = { λ self line pos kind part text. gives_unless self.fails text };
+
     fn highlight<'l>(
         &self,
         _alloc: Global,

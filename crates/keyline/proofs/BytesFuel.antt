@@ -1,12 +1,12 @@
 -- Bytes have no more keys and pastes than they are.
-use Rattle.std.proofs.Common.{ℕ, suc, ◌+◌, ◌≤◌, Bool, true, false, cond, List, [], ◌∷◌, ◌++◌, Option, None, Some, length, arith}
+use Rattle.std.proofs.Common.{◌≡◌, ℕ, suc, ◌+◌, ◌≤◌, Bool, true, false, cond, List, [], ◌∷◌, ◌++◌, Option, None, Some, length, refl, ap, arith}
 use Rattle.std.specs.Prelude.{codes, ◌&&◌, ◌||◌, ◌==◌, nat_lt, take, slice_index}
 use Rattle.line_config.specs.declared.device.Last.{Last}
 use Rattle.line_config.specs.declared.settings.EditMode.{EditMode}
 use Rattle.line_config.specs.declared.settings.EditMode.TheVariants.{Emacs, Vi}
 use Rattle.line_keys.specs.Keys.{alt, key_of, none}
 use Rattle.line_screen.specs.Input.{AtBad, AtEnd, AtFailure, Chars, Continuation, Inside, Next, Over, Stop, Torn, after_byte, char_then, chars_of, in_char, lead_in, lead_rows, value_with, is_scalar}
-use Rattle.line_screen.specs.KeyGrammar.{Key, Paste, Readings, announces, byte_is, coming_of, esc, in_escape, in_paste, in_sequence, keeps_byte, lone_escape, marker, put, readings}
+use Rattle.line_screen.specs.KeyGrammar.{Cut, Key, Paste, Readings, Stops, announces, byte_is, coming_of, esc, in_escape, in_paste, in_sequence, keeps_byte, lone_escape, marker, put, readings}
 use Rattle.line_screen.specs.Sequences.{awaits_more, sequence_key}
 use Rattle.keyline.specs.Sessions.{coming_from}
 use Rattle.keyline.specs.Fuel.{keys_and_pastes}
@@ -16,7 +16,15 @@ size (Next c behind rest) = suc (size rest)
 size (Over stop left) = 0
 
 abbrev items : Readings → ℕ
-items r = keys_and_pastes (coming_of r)
+items (Key k behind rest) = suc (items rest)
+items (Paste text behind rest) = suc (items rest)
+items other = 0
+
+items_are : (bytes : List ℕ) (r : Readings) → keys_and_pastes (coming_of bytes r) ≡ items r
+items_are bytes (Key k behind rest) = ap suc (items_are behind rest)
+items_are bytes (Paste text behind rest) = ap suc (items_are behind rest)
+items_are bytes (Cut stop left) = refl
+items_are bytes (Stops stop left) = refl
 
 -- ---- the choice of an `if` is no more than both
 
@@ -109,4 +117,5 @@ mutual
 pub few_in_bytes : (mode : EditMode) (bytes : List ℕ) (last : Last) → keys_and_pastes (coming_from mode bytes last) ≤ length bytes
 few_in_bytes mode bytes last =
     let few_chars = few mode (chars_of bytes last) in
-    let few_bytes = size_of bytes last in omega arith
+    let few_bytes = size_of bytes last in
+    let are = items_are bytes (readings mode (chars_of bytes last)) in omega arith

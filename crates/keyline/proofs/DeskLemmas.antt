@@ -26,7 +26,7 @@ use Rattle.line_screen.specs.declared.renderer.ScreenRenderer.{ScreenRenderer}
 use Rattle.line_screen.proofs.CallLemmas.{goes_stay}
 use Rattle.line_screen.proofs.WaitingLemmas.{reads_find_nothing_waiting}
 use Rattle.keyline.specs.Desks.{TakesLine, DeskReason, desk_feed, session_state_of, work_of}
-use Rattle.keyline.specs.Known.{Known, HasPassedOn}
+use Rattle.keyline.specs.Known.{Known, HasPassedOn, HasPassedLines}
 use Rattle.keyline.specs.Playing.{AreDone, Closes, CloseReason, SessionReason, Work, work}
 use Rattle.keyline.specs.Events.{Event, Course, Begins, Breaks, asks_events, end_events, line_course, lines_kept, played_in}
 use Rattle.keyline.specs.Sessions.{Given, SessionState, given_of, history_after, remembered, state_after}
@@ -240,8 +240,8 @@ module _ {S H D L K T : Type 0} (k : Known S D L) (helps : Option H → Helping)
         let P : ReadlineError → Type 0 = DeskReason k given new in subst P (sym p.0) tt
 
     pub takes_line : RunsAt → Ends (outcome_of ran) → screen_of out ≡ screen_of ran.out → (HasPassedOn k (sink_of ran.out) → HasPassedOn k (sink_of out))
-        → TakesLine k given given' old new result
-    takes_line runs closes screen passes = record {
+        → (HasPassedLines k old.lines → HasPassedLines k lines) → TakesLine k given given' old new result
+    takes_line runs closes screen passes passes_lines = record {
       goes = λ t n b.
           let w = line_goes runs closes t n b in
           record { went = w; shows = λ f rest. first_shown w.done w.others f (subst (EachShown f) w.split (lines_show n given state f rest)) };
@@ -250,6 +250,7 @@ module _ {S H D L K T : Type 0} (k : Known S D L) (helps : Option H → Helping)
       told = runs.told;
       falls = line_falls runs (closes.goes left);
       passes = λ t none. passes (line_passes runs t none);
+      passes_lines = passes_lines;
       ends = record {
         drawn = ran.out;
         layout = runs.layout;

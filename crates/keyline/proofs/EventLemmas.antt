@@ -10,8 +10,8 @@ use Rattle.line_config.specs.declared.errors.ReadlineError.{ReadlineError}
 use Rattle.line_config.specs.declared.errors.ReadlineError.TheVariants.{Display, Helper, Memory}
 use Rattle.line_config.proofs.Taking.{takes_none, takes_then, some_of_more, some_then}
 use Rattle.line_help.specs.History.{Filed, filed_with, filed_with_all}
-use Rattle.line_keys.specs.Coming.{Coming, behind, left, left_by}
-use Rattle.line_keys.specs.Feeds.{InputItem, IsReadFault, Paste, item_at}
+use Rattle.line_keys.specs.Coming.{Coming, left_by}
+use Rattle.line_keys.specs.Feeds.{InputItem, IsReadFault, Paste, behind}
 use Rattle.line_keys.specs.Phrases.{Reads}
 use Rattle.line_editor.specs.Calls.{Call, Canvas, MadeIn, RefusedIn, BrokenOff}
 use Rattle.line_editor.specs.Calls.Call.{Help}
@@ -36,7 +36,7 @@ use Rattle.keyline.proofs.ShowCourse.{all_of_map}
 
 pub left_both : (c : Coming) (xs ys : List Event) → left_to_come c (xs ++ ys) ≡ left_to_come (left_to_come c xs) ys
 left_both c [] ys = refl
-left_both c (Hears item ∷ xs) ys = left_both (left (item_at item c) (behind c)) xs ys
+left_both c (Hears item ∷ xs) ys = left_both (behind item c) xs ys
 left_both c (_ ∷ xs) ys = left_both c xs ys
 
 answered_both : (xs ys : List Event) → AllAnswered xs → AllAnswered ys → AllAnswered (xs ++ ys)
@@ -302,7 +302,7 @@ module _ {D L : Type 0} (shown : D → List ℕ) (written_in : L → List ℕ) (
         steps_answered x.layout rs parts.0 b parts.2
     steps_answered l (HelpStep v fails takes ∷ rs) a b made = (made.1.0, steps_answered l rs made.0 b made.2)
     steps_answered l (EditingStep v edit ∷ rs) a b made = steps_answered l rs a b made
-    steps_answered l (BackStep v ∷ rs) a b made = steps_answered l rs a b made
+    steps_answered l (BackStep v count ∷ rs) a b made = steps_answered l rs a b made
     steps_answered l (TakingStep v ∷ rs) a b made = steps_answered l rs a b made
 
     steps_done : (rs : List EditStep) (c : Coming) (a b : Surface (ScreenRenderer D)) → screen_of a.out ≡ s → Drawn (drawn_by s a.layout rs).calls a.out b.out → Sums (step_events s a.layout rs) (on a.out c) (on b.out c)
@@ -339,7 +339,7 @@ module _ {D L : Type 0} (shown : D → List ℕ) (written_in : L → List ℕ) (
         by _ p = absurd p
     step_stopped (EditingStep v edit) c e left a b is h =
         subst (λ why. IsStopped shown written_in adds (on a.out c) Takes why (on b.out c)) (sym h.0) (ap (λ (x : Surface (ScreenRenderer D)). on x.out c) h.1)
-    step_stopped (BackStep v) c e left a b is h =
+    step_stopped (BackStep v count) c e left a b is h =
         subst (λ why. IsStopped shown written_in adds (on a.out c) Takes why (on b.out c)) (sym h.0) (ap (λ (x : Surface (ScreenRenderer D)). on x.out c) h.1)
     step_stopped (TakingStep v) c e left a b is h =
         subst (λ why. IsStopped shown written_in adds (on a.out c) Takes why (on b.out c)) (sym h.0) (ap (λ (x : Surface (ScreenRenderer D)). on x.out c) h.1)
@@ -407,15 +407,15 @@ module _ {D L : Type 0} (shown : D → List ℕ) (written_in : L → List ℕ) (
           let events = step_events s x.drawn.layout rs ++ more in
           subst (λ c. Broken events (at x) why (on y.drawn.out c)) (sym (leaves_coming ask x.kept y.kept why leaves))
           (went_before ⊥ (λ e. e ≡ why) (step_events s x.drawn.layout rs) more (at x) (on y.drawn.out x.kept.coming) (steps_stopped rs x.kept.coming why y.kept.value x.drawn y.drawn is stops))
-      ask_stopped (Keys (Reads item)) asks why x y is (inr (unread, same)) = unread_by item why unread same
+      ask_stopped (Keys (Reads item)) asks why x y is (inr (left, unread, same)) = unread_by item why left unread same
         where
-          unread_by : (item : InputItem) (why : ReadlineError) → IsReadFault item why → y ≡ line_stage x.drawn (record x.kept { coming = left_by why })
+          unread_by : (item : InputItem) (why : ReadlineError) (left : List ℕ) → IsReadFault item why → y ≡ line_stage x.drawn (record x.kept { coming = left_by why left })
               → Broken (Hears item ∷ asks_events s a indent x.drawn.layout (left_at a indent x.kept (Keys (Reads item))) asks) (at x) why (at y)
-          unread_by Paste Memory unread same =
+          unread_by Paste Memory left unread same =
               went_stopped ⊥ (λ e. e ≡ Memory) [] (Hears Paste) (asks_events s a indent x.drawn.layout (left_at a indent x.kept (Keys (Reads Paste))) asks) (at x) (at x) (at y) Memory (none_done (at x))
-              (ap (λ (z : LineStage (ScreenRenderer D)). at z) same) refl
-          unread_by _ _ unread same = absurd unread
-      ask_stopped _ asks why x y is (inr (unread, same)) = absurd unread
+              (left, ap (λ (z : LineStage (ScreenRenderer D)). at z) same) refl
+          unread_by _ _ left unread same = absurd unread
+      ask_stopped _ asks why x y is (inr (left, unread, same)) = absurd unread
 
       -- ---- a line
 

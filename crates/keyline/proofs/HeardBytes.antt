@@ -8,28 +8,31 @@ use Rattle.line_config.specs.declared.settings.EditMode.TheVariants.{Emacs, Vi}
 use Rattle.line_keys.specs.Coming.{Coming, Pressed, Pasted, CutOff, Ends as NoMore, Refused}
 use Rattle.line_keys.specs.Coming.LastItem.{End as EndItem}
 use Rattle.line_keys.specs.Keys.{key_of, none, alt}
+use Rattle.line_keys.specs.declared.key.KeyEvent.{KeyEvent}
 use Rattle.line_screen.specs.Input.{Chars, Next, Over, Stop, AtEnd, AtBad, AtFailure, Torn, Inside, Continuation, chars_of, in_char, char_then, is_scalar, lead_in, lead_rows, value_with, after_byte}
 use Rattle.line_screen.specs.KeyGrammar.{Readings, Key, Paste, Cut, Stops, readings, lone_escape, in_escape, in_sequence, in_paste, byte_is, esc, keeps_byte, marker, put, announces, inside, coming_of}
 use Rattle.line_screen.specs.Sequences.{awaits_more, sequence_key}
 use Rattle.line_screen.proofs.SequenceLemmas.{by_test}
+use Rattle.keyline.specs.Sessions.{coming_from}
 
--- the keys and pastes of the one are the first of the other; what stands after them doesn't matter
+-- the keys and pastes of the one are the first of the other; the bytes, and what stands after them,
+-- don't matter
 abbrev pub Agrees : Coming → Coming → Type 0
-Agrees (Pressed k rest) (Pressed next left) = (k ≡ next) × Agrees rest left
-Agrees (Pasted text rest) (Pasted next left) = (text ≡ next) × Agrees rest left
-Agrees (Pressed k rest) coming = ⊥
-Agrees (Pasted text rest) coming = ⊥
+Agrees (Pressed bytes k rest) (Pressed others next left) = (k ≡ next) × Agrees rest left
+Agrees (Pasted bytes text rest) (Pasted others next left) = (text ≡ next) × Agrees rest left
+Agrees (Pressed bytes k rest) coming = ⊥
+Agrees (Pasted bytes text rest) coming = ⊥
 Agrees heard coming = ⊤
 
 -- what comes doesn't end in the end of the input
 abbrev pub NeverEnds : Coming → Type 0
-NeverEnds (Pressed k rest) = NeverEnds rest
-NeverEnds (Pasted text rest) = NeverEnds rest
-NeverEnds (CutOff EndItem) = ⊥
-NeverEnds (CutOff last) = ⊤
-NeverEnds (NoMore EndItem) = ⊥
-NeverEnds (NoMore last) = ⊤
-NeverEnds (Refused why) = ⊥
+NeverEnds (Pressed bytes k rest) = NeverEnds rest
+NeverEnds (Pasted bytes text rest) = NeverEnds rest
+NeverEnds (CutOff bytes EndItem left) = ⊥
+NeverEnds (CutOff bytes last left) = ⊤
+NeverEnds (NoMore bytes EndItem left) = ⊥
+NeverEnds (NoMore bytes last left) = ⊤
+NeverEnds (Refused bytes why) = ⊥
 
 -- the keys and pastes of the one are the first of the other, and the one ends in no end of the input
 abbrev pub Opens : Coming → Coming → Type 0
@@ -97,7 +100,13 @@ mutual
 -- ---- keys and pasted texts
 
 abbrev ReadingsOpen : Readings → Readings → Type 0
-ReadingsOpen one other = Opens (coming_of one) (coming_of other)
+ReadingsOpen one other = (bytes others : List ℕ) → Opens (coming_of bytes one) (coming_of others other)
+
+key_opens : (k : KeyEvent) (behind beyond : List ℕ) (rest more : Readings) → ReadingsOpen rest more → ReadingsOpen (Key k behind rest) (Key k beyond more)
+key_opens k behind beyond rest more on bytes others = let later = on behind beyond in ((refl, later.0), later.1)
+
+paste_opens_on : (text behind beyond : List ℕ) (rest more : Readings) → ReadingsOpen rest more → ReadingsOpen (Paste text behind rest) (Paste text beyond more)
+paste_opens_on text behind beyond rest more on bytes others = let later = on behind beyond in ((refl, later.0), later.1)
 
 keys_by : (b : Bool) (x y x' y' : Readings) → ReadingsOpen x x' → ReadingsOpen y y' → ReadingsOpen (if b then x else y) (if b then x' else y')
 keys_by true x y x' y' p q = p
@@ -126,42 +135,42 @@ escape_by Vi here there x y z w x' y' z' w' same p q r s =
 -- Vi's Esc before what is no whole character, which is whole or not there
 high_vi : (here there : List ℕ) (stop : Stop) (left : List ℕ) (chars : Chars) (again again' : Readings) → High here there → ReadingsOpen again again'
     → ReadingsOpen (lone_escape Vi here stop left again) (in_escape Vi there chars again')
-high_vi (b ∷ bs) (d ∷ ds) stop left (Over other rest) again again' high on = ((refl, on.0), on.1)
-high_vi (b ∷ bs) (d ∷ ds) stop left (Next c beyond more) again again' high on = rw high.0 rw high.1 ((refl, on.0), on.1)
+high_vi (b ∷ bs) (d ∷ ds) stop left (Over other rest) again again' high on = key_opens esc (b ∷ bs) (d ∷ ds) again again' on
+high_vi (b ∷ bs) (d ∷ ds) stop left (Next c beyond more) again again' high on = rw high.0 rw high.1 (key_opens esc (b ∷ bs) (d ∷ ds) again again' on)
 high_vi [] there stop left chars again again' high on = absurd high
 high_vi (b ∷ bs) [] stop left chars again again' high on = absurd high
 
 lone_opens : (mode : EditMode) (here there : List ℕ) (stop : Stop) (left : List ℕ) (chars : Chars) (again again' : Readings) → CharsOpen here (Over stop left) there chars → ReadingsOpen again again'
     → ReadingsOpen (lone_escape mode here stop left again) (in_escape mode there chars again')
 lone_opens mode here there AtFailure left chars again again' is on =
-    subst (λ x. ReadingsOpen (lone_escape mode x AtFailure left again) (in_escape mode there chars again')) (sym is) (tt, tt)
+    subst (λ x. ReadingsOpen (lone_escape mode x AtFailure left again) (in_escape mode there chars again')) (sym is) (λ bytes others. (tt, tt))
 lone_opens Vi here there AtBad left chars again again' high on = high_vi here there AtBad left chars again again' high on
 lone_opens Vi here there Torn left chars again again' high on = high_vi here there Torn left chars again again' high on
-lone_opens Emacs (b ∷ bs) there AtBad left chars again again' high on = (tt, tt)
-lone_opens Emacs (b ∷ bs) there Torn left chars again again' high on = (tt, tt)
+lone_opens Emacs (b ∷ bs) there AtBad left chars again again' high on = λ bytes others. (tt, tt)
+lone_opens Emacs (b ∷ bs) there Torn left chars again again' high on = λ bytes others. (tt, tt)
 lone_opens Emacs [] there AtBad left chars again again' high on = absurd high
 lone_opens Emacs [] there Torn left chars again again' high on = absurd high
 lone_opens mode here there AtEnd left chars again again' is on = absurd is
 lone_opens mode here there Inside left chars again again' is on = absurd is
 
 stop_opens : (here there left : List ℕ) (stop : Stop) (chars : Chars) (other : Readings) → CharsOpen here (Over stop left) there chars → ReadingsOpen (Stops stop left) other
-stop_opens here there left AtFailure chars other is = (tt, tt)
-stop_opens here there left AtBad chars other is = (tt, tt)
-stop_opens here there left Torn chars other is = (tt, tt)
+stop_opens here there left AtFailure chars other is = λ bytes others. (tt, tt)
+stop_opens here there left AtBad chars other is = λ bytes others. (tt, tt)
+stop_opens here there left Torn chars other is = λ bytes others. (tt, tt)
 stop_opens here there left AtEnd chars other is = absurd is
 stop_opens here there left Inside chars other is = absurd is
 
 inside_opens : (here there left : List ℕ) (stop : Stop) (chars : Chars) (other : Readings) → CharsOpen here (Over stop left) there chars → ReadingsOpen (Stops (inside stop) left) other
-inside_opens here there left AtFailure chars other is = (tt, tt)
-inside_opens here there left AtBad chars other is = (tt, tt)
-inside_opens here there left Torn chars other is = (tt, tt)
+inside_opens here there left AtFailure chars other is = λ bytes others. (tt, tt)
+inside_opens here there left AtBad chars other is = λ bytes others. (tt, tt)
+inside_opens here there left Torn chars other is = λ bytes others. (tt, tt)
 inside_opens here there left AtEnd chars other is = absurd is
 inside_opens here there left Inside chars other is = absurd is
 
 cut_opens : (here there left : List ℕ) (stop : Stop) (chars : Chars) (other : Readings) → CharsOpen here (Over stop left) there chars → ReadingsOpen (Cut stop left) other
-cut_opens here there left AtFailure chars other is = (tt, tt)
-cut_opens here there left AtBad chars other is = (tt, tt)
-cut_opens here there left Torn chars other is = (tt, tt)
+cut_opens here there left AtFailure chars other is = λ bytes others. (tt, tt)
+cut_opens here there left AtBad chars other is = λ bytes others. (tt, tt)
+cut_opens here there left Torn chars other is = λ bytes others. (tt, tt)
 cut_opens here there left AtEnd chars other is = absurd is
 cut_opens here there left Inside chars other is = absurd is
 
@@ -173,7 +182,7 @@ mutual
       keys_by (c == 0x1B) (in_escape mode behind rest (readings mode rest)) (Key (key_of c none) behind (readings mode rest))
       (in_escape mode beyond more (readings mode more)) (Key (key_of c none) beyond (readings mode more))
       (escape_opens mode behind beyond rest more (readings mode rest) (readings mode more) on.2 again)
-      ((refl, again.0), again.1))
+      (key_opens (key_of c none) behind beyond (readings mode rest) (readings mode more) again))
   readings_open mode here there (Next c behind rest) (Over stop left) on = absurd on
   readings_open mode here there (Over stop left) y on = stop_opens here there left stop y (readings mode y) on
 
@@ -185,7 +194,7 @@ mutual
       escape_by mode here there (in_sequence mode (codes "[") rest) (in_sequence mode (codes "O") rest) (Key esc here again) (Key (key_of c alt) behind (readings mode rest))
       (in_sequence mode (codes "[") more) (in_sequence mode (codes "O") more) (Key esc there again') (Key (key_of c alt) beyond (readings mode more))
       on.0 (sequence_opens mode (codes "[") behind beyond rest more on.2) (sequence_opens mode (codes "O") behind beyond rest more on.2)
-      ((refl, same.0), same.1) ((refl, plain.0), plain.1))
+      (key_opens esc here there again again' same) (key_opens (key_of c alt) behind beyond (readings mode rest) (readings mode more) plain))
   escape_opens mode here there (Next c behind rest) (Over stop left) again again' on same = absurd on
   escape_opens mode here there (Over stop left) y again again' on same = lone_opens mode here there stop left y again again' on same
 
@@ -197,7 +206,8 @@ mutual
       (paste_opens mode [] false 0 behind beyond rest more on.2) (readings_open mode behind beyond rest more on.2) in
       keys_by (awaits_more (text ++ c ∷ [])) (in_sequence mode (text ++ c ∷ []) rest) (Key k behind (if announces k then in_paste mode [] false 0 rest else readings mode rest))
       (in_sequence mode (text ++ c ∷ []) more) (Key k beyond (if announces k then in_paste mode [] false 0 more else readings mode more))
-      (sequence_opens mode (text ++ c ∷ []) behind beyond rest more on.2) ((refl, later.0), later.1))
+      (sequence_opens mode (text ++ c ∷ []) behind beyond rest more on.2)
+      (key_opens k behind beyond (if announces k then in_paste mode [] false 0 rest else readings mode rest) (if announces k then in_paste mode [] false 0 more else readings mode more) later))
   sequence_opens mode text here there (Next c behind rest) (Over stop left) on = absurd on
   sequence_opens mode text here there (Over stop left) y on = inside_opens here there left stop y (in_sequence mode text y) on
 
@@ -214,7 +224,7 @@ mutual
       (if c == 0x1B then in_paste mode (text ++ take matched marker) false 1 more else in_paste mode t (c == 0x0D) 0 more)
       (keys_by (matched == 5) (Paste text behind (readings mode rest)) (in_paste mode text after_return (matched + 1) rest)
       (Paste text beyond (readings mode more)) (in_paste mode text after_return (matched + 1) more)
-      ((refl, later.0), later.1) (paste_opens mode text after_return (matched + 1) behind beyond rest more on.2))
+      (paste_opens_on text behind beyond (readings mode rest) (readings mode more) later) (paste_opens mode text after_return (matched + 1) behind beyond rest more on.2))
       (keys_by (c == 0x1B) (in_paste mode (text ++ take matched marker) false 1 rest) (in_paste mode t (c == 0x0D) 0 rest)
       (in_paste mode (text ++ take matched marker) false 1 more) (in_paste mode t (c == 0x0D) 0 more)
       (paste_opens mode (text ++ take matched marker) false 1 behind beyond rest more on.2)
@@ -224,5 +234,6 @@ mutual
 
 -- what comes of bytes after which the source fails, and of more bytes
 pub bytes_open : (mode : EditMode) (bytes more : List ℕ) (last : Last)
-    → Opens (coming_of (readings mode (chars_of bytes Failed))) (coming_of (readings mode (chars_of (bytes ++ more) last)))
-bytes_open mode bytes more last = readings_open mode bytes (bytes ++ more) (chars_of bytes Failed) (chars_of (bytes ++ more) last) (chars_open bytes more last)
+    → Opens (coming_from mode bytes Failed) (coming_from mode (bytes ++ more) last)
+bytes_open mode bytes more last =
+    readings_open mode bytes (bytes ++ more) (chars_of bytes Failed) (chars_of (bytes ++ more) last) (chars_open bytes more last) bytes (bytes ++ more)

@@ -5,9 +5,9 @@ use Rattle.line_buffer.specs.declared.layout.Layout.{Layout}
 use Rattle.line_config.specs.declared.errors.ReadlineError.{ReadlineError}
 use Rattle.line_config.specs.declared.device.Last.TheVariants.{Failed as SourceFailed}
 use Rattle.line_help.specs.History.{Filed}
-use Rattle.line_keys.specs.Coming.{Coming, Pressed, Pasted, CutOff, Ends as NoMore, Refused, behind, left}
+use Rattle.line_keys.specs.Coming.{Coming, Pressed, Pasted, CutOff, Ends as NoMore, Refused}
 use Rattle.line_keys.specs.Coming.LastItem.{End as EndItem, Bad, Failed}
-use Rattle.line_keys.specs.Feeds.{InputItem, InputOf, Key, Paste, item_at}
+use Rattle.line_keys.specs.Feeds.{InputItem, InputOf, Key, Paste, behind, item_at}
 use Rattle.line_config.specs.Played.{Played, asked_first, played_on}
 use Rattle.line_config.specs.Scripts.{Ends, Asks}
 use Rattle.line_keys.specs.Phrases.{Reads}
@@ -25,47 +25,40 @@ use Rattle.keyline.specs.SessionLaws.{IsBeginning, LinesBegin, SessionsBegin}
 use Rattle.keyline.specs.Sessions.{Given, SessionState, coming_from, setting_in, state_over, history_after, LineGiven, for_line}
 use Rattle.keyline.specs.Shows.{drawn_by}
 use Rattle.keyline.proofs.EventLemmas.{asks_both}
-use Rattle.keyline.proofs.HeardBytes.{NeverEnds, Agrees, Opens, bytes_open}
+use Rattle.keyline.proofs.HeardBytes.{NeverEnds, Opens, bytes_open}
 
 -- ---- a read that fails
 
 refused_unbroken : (item : InputItem) (h : Coming) → NeverEnds h → IfErr (item_at item h) (λ e. breaks_after e ≡ false)
-refused_unbroken Key (Pressed k rest) never = tt
-refused_unbroken Key (Pasted text rest) never = refl
-refused_unbroken Key (CutOff last) never = refl
-refused_unbroken Key (NoMore EndItem) never = absurd never
-refused_unbroken Key (NoMore Bad) never = refl
-refused_unbroken Key (NoMore Failed) never = refl
-refused_unbroken Key (Refused why) never = absurd never
-refused_unbroken Paste (Pressed k rest) never = refl
-refused_unbroken Paste (Pasted text rest) never = tt
-refused_unbroken Paste (CutOff EndItem) never = absurd never
-refused_unbroken Paste (CutOff Bad) never = refl
-refused_unbroken Paste (CutOff Failed) never = refl
-refused_unbroken Paste (NoMore last) never = refl
-refused_unbroken Paste (Refused why) never = absurd never
-
-never_behind : (h : Coming) → NeverEnds h → NeverEnds (behind h)
-never_behind (Pressed k rest) never = never
-never_behind (Pasted text rest) never = never
-never_behind (CutOff last) never = never
-never_behind (NoMore last) never = never
-never_behind (Refused why) never = never
+refused_unbroken Key (Pressed bytes k rest) never = tt
+refused_unbroken Key (Pasted bytes text rest) never = refl
+refused_unbroken Key (CutOff bytes last left) never = refl
+refused_unbroken Key (NoMore bytes EndItem left) never = absurd never
+refused_unbroken Key (NoMore bytes Bad left) never = refl
+refused_unbroken Key (NoMore bytes Failed left) never = refl
+refused_unbroken Key (Refused bytes why) never = absurd never
+refused_unbroken Paste (Pressed bytes k rest) never = refl
+refused_unbroken Paste (Pasted bytes text rest) never = tt
+refused_unbroken Paste (CutOff bytes EndItem left) never = absurd never
+refused_unbroken Paste (CutOff bytes Bad left) never = refl
+refused_unbroken Paste (CutOff bytes Failed left) never = refl
+refused_unbroken Paste (NoMore bytes last left) never = refl
+refused_unbroken Paste (Refused bytes why) never = absurd never
 
 -- what is read of the one is read of the other
-read_alike : (item : InputItem) (h c : Coming) → Agrees h c → OnOk (item_at item h) ((item_at item h ≡ item_at item c) × Agrees (behind h) (behind c))
-read_alike Key (Pressed k rest) (Pressed next left) on = (ap Ok on.0, on.1)
-read_alike Key (Pressed k rest) _ on = absurd on
-read_alike Key (Pasted text rest) c on = tt
-read_alike Key (CutOff last) c on = tt
-read_alike Key (NoMore last) c on = tt
-read_alike Key (Refused why) c on = tt
-read_alike Paste (Pasted text rest) (Pasted next left) on = (ap Ok on.0, on.1)
-read_alike Paste (Pasted text rest) _ on = absurd on
-read_alike Paste (Pressed k rest) c on = tt
-read_alike Paste (CutOff last) c on = tt
-read_alike Paste (NoMore last) c on = tt
-read_alike Paste (Refused why) c on = tt
+read_alike : (item : InputItem) (h c : Coming) → Opens h c → OnOk (item_at item h) ((item_at item h ≡ item_at item c) × Opens (behind item h) (behind item c))
+read_alike Key (Pressed bytes k rest) (Pressed others next left) on = (ap Ok on.0.0, (on.0.1, on.1))
+read_alike Key (Pressed bytes k rest) _ on = absurd (on.0)
+read_alike Key (Pasted bytes text rest) c on = tt
+read_alike Key (CutOff bytes last left) c on = tt
+read_alike Key (NoMore bytes last left) c on = tt
+read_alike Key (Refused bytes why) c on = tt
+read_alike Paste (Pasted bytes text rest) (Pasted others next left) on = (ap Ok on.0.0, (on.0.1, on.1))
+read_alike Paste (Pasted bytes text rest) _ on = absurd (on.0)
+read_alike Paste (Pressed bytes k rest) c on = tt
+read_alike Paste (CutOff bytes last left) c on = tt
+read_alike Paste (NoMore bytes last left) c on = tt
+read_alike Paste (Refused bytes why) c on = tt
 
 -- ---- a script
 
@@ -103,24 +96,24 @@ unheard ask next k h c on so (Ok x) = goes_first ask (next x h) (next x c) (so x
 unheard ask next k h c on so (Err e) = inl (record { answer = refl; asks = refl; ring = refl; rest = on })
 
 module _ (s : Setting) (indent : ℕ) where
-  module _ {X : Type 0} (item : InputItem) (t : InputOf item → LineScript X) (k : LineState) (h c : Coming) (on : Opens h c)
-      (later : (x : InputOf item) → Opens (behind h) (behind c) → Goes (played_from s indent (t x) (over k (behind h))) (played_from s indent (t x) (over k (behind c)))) where
+  module _ {X : Type 0} (item : InputItem) (t : InputOf item → LineScript X) (k : LineState) (h c : Coming)
+      (later : (x : InputOf item) → Opens (behind item h) (behind item c) → Goes (played_from s indent (t x) (over k (behind item h))) (played_from s indent (t x) (over k (behind item c)))) where
     abbrev led : Coming → Result (InputOf item) ReadlineError → Play X
-    led c r = let rest = over k (left r (behind c)) in played_on (λ x. played_from s indent (t x) rest) (Keys (Reads item)) rest r
+    led c r = let rest = over k (behind item c) in played_on (λ x. played_from s indent (t x) rest) (Keys (Reads item)) rest r
 
-    read_goes : (r q : Result (InputOf item) ReadlineError) → OnOk r ((r ≡ q) × Agrees (behind h) (behind c)) → IfErr r (λ e. breaks_after e ≡ false) → Goes (led h r) (led c q)
+    read_goes : (r q : Result (InputOf item) ReadlineError) → OnOk r ((r ≡ q) × Opens (behind item h) (behind item c)) → IfErr r (λ e. breaks_after e ≡ false) → Goes (led h r) (led c q)
     read_goes (Ok x) q alike unbroken =
         subst (λ y. Goes (led h (Ok x)) (led c y)) alike.0
-        (goes_first (Keys (Reads item)) (played_from s indent (t x) (over k (behind h))) (played_from s indent (t x) (over k (behind c))) (later x (alike.1, never_behind h on.1)))
+        (goes_first (Keys (Reads item)) (played_from s indent (t x) (over k (behind item h))) (played_from s indent (t x) (over k (behind item c))) (later x alike.1))
     read_goes (Err e) q alike unbroken =
-        let rest = over k (left q (behind c)) in
+        let rest = over k (behind item c) in
         let first = played_each (λ (p : Play X). IsBeginning (Keys (Reads item) ∷ []) p.asks) (λ x. played_from s indent (t x) rest) (Keys (Reads item)) rest (λ x. (_, refl)) (λ e. ([], refl)) q in
         inr (record { why = e; answer = refl; unbroken = unbroken; later = first.0; begins = first.1 })
 
   goes : {X : Type 0} (p : LineScript X) (k : LineState) (h c : Coming) → Opens h c → Goes (played_from s indent p (over k h)) (played_from s indent p (over k c))
   goes (Ends x) k h c on = inl (record { answer = refl; asks = refl; ring = refl; rest = on })
   goes (Asks (Keys (Reads item)) t) k h c on =
-      read_goes item t k h c on (λ x next. goes (t x) k (behind h) (behind c) next) (item_at item h) (item_at item c) (read_alike item h c on.0) (refused_unbroken item h on.1)
+      read_goes item t k h c (λ x next. goes (t x) k (behind item h) (behind item c) next) (item_at item h) (item_at item c) (read_alike item h c on) (refused_unbroken item h on.1)
   goes (Asks ask t) k h c on =
       let rest = left_at s indent k ask in
       unheard ask (λ x c. played_from s indent (t x) (over rest c)) rest h c on (λ x. goes (t x) rest h c on) (answer_at s indent k ask)
@@ -131,7 +124,7 @@ events_unheard : (s : Screen) (a : Setting) (indent : ℕ) (l : Layout) (k : Lin
     → asks_events s a indent l (over k h) asks ≡ asks_events s a indent l (over k c) asks
 events_unheard s a indent l k h c [] = refl
 events_unheard s a indent l k h c (Keys (Reads item) ∷ asks) =
-    ap (λ events. Hears item ∷ events) (events_unheard s a indent l k (left (item_at item h) (behind h)) (left (item_at item c) (behind c)) asks)
+    ap (λ events. Hears item ∷ events) (events_unheard s a indent l k (behind item h) (behind item c) asks)
 events_unheard s a indent l k h c (ask ∷ asks) =
     let steps = (effect_at a indent k ask).steps in
     ap (λ events. step_events s l steps ++ (own_events a k ask ++ events)) (events_unheard s a indent (asked (ruler_of s) l steps).layout (left_at a indent k ask) h c asks)

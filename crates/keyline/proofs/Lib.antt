@@ -26,4 +26,5 @@ pub mod ShowSteps
 pub mod SteadyParts
 pub mod TranscriptLemmas
 pub mod TurnShowLemmas
+pub mod Unread
 pub mod ViFuel

@@ -59,6 +59,7 @@ module _ {S H D L : Type 0} (k : Known S D L) where
   onward_redrawn g at at' first now out same before = record {
     told = before.told;
     passes = λ t none. subst (HasPassedOn k) (sym same) (before.passes t none);
+    passes_lines = before.passes_lines;
     onward = λ t n b. let so = before.onward t n b in went so.0 so.1 so.2;
   }
     where

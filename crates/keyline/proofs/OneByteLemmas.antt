@@ -65,7 +65,7 @@ one_tells s own l x (Draws v m ToEnd) h fits =
 one_tells s own l x (Draws v m Beeped) h fits = h
 one_tells s own l x (Helped v fails takes) h fits = h
 one_tells s own l x (Edits v edit) h fits = h
-one_tells s own l x (TakesBack v) h fits = h
+one_tells s own l x (TakesBack v count) h fits = h
 one_tells s own l x (Takes v) h fits = h
 one_tells s own l x (Draws v m Cleared) h fits = record { info_is = refl; given_is = refl }
 

@@ -51,7 +51,7 @@ use Rattle.line_editor.specs.Values.{Setting, Value, empty_at, first_value, unch
 use Rattle.line_editor.specs.Yanking.{behind_yank, yanked_by, put_yanked, yank_text}
 use Rattle.line_editor.specs.declared.commands.Status.{Status}
 use Rattle.line_editor.proofs.ToldLemmas.{follows, joined, played_then}
-use Rattle.line_screen.specs.KeyGrammar.{coming_of, paste_start, with_newlines}
+use Rattle.line_screen.specs.KeyGrammar.{coming_of, marker, paste_start, with_newlines}
 use Rattle.line_screen.proofs.Pasting.{pasted_text_is_before_its_mark}
 use Rattle.keyline.specs.Program.{nothing_bound}
 use Rattle.keyline.specs.Pasting.{sent_as_paste, IsPasteable, IsUnbound, IsEmptyLine, Accepts, PastesAreAccepted, PastedLinesAreAccepted}
@@ -153,23 +153,23 @@ module _ (s : Setting) (indent : ℕ) (custom : Custom) (free : IsUnbound custom
   behind_key n k rest script = asked_first (Keys (Reads Key)) (played_from s indent (keyed (after (grouped n) k.input (shown_in k.value) script)) (with_rest k rest))
 
   plays_keeping : (n : ℕ) (mode : EditMode) (text : List ℕ) (k : LineState) (rest : Coming)
-      → behind_key n k (Pasted text rest) (pasting mode k.input) ≡ asked_first (Keys (Reads Key)) (paste_played mode text k rest)
+      → (bytes : List ℕ) → behind_key n k (Pasted bytes text rest) (pasting mode k.input) ≡ asked_first (Keys (Reads Key)) (paste_played mode text k rest)
   unfolding answered
-  plays_keeping n Emacs text k rest = refl
-  plays_keeping n Vi text k rest = refl
+  plays_keeping n Emacs text k rest bytes = refl
+  plays_keeping n Vi text k rest bytes = refl
 
-  plays_paste : (n : ℕ) (k : LineState) (text : List ℕ) (rest : Coming)
-      → (let on = with_rest k (Pressed paste_start (Pasted text rest)) in played_from s indent (phrase_script (suc (suc n)) custom (beginning k)) on ≡ asked_first (Keys (Reads Key)) (paste_played k.input.mode text k rest))
+  plays_paste : (n : ℕ) (k : LineState) (before bytes text : List ℕ) (rest : Coming)
+      → (let on = with_rest k (Pressed before paste_start (Pasted bytes text rest)) in played_from s indent (phrase_script (suc (suc n)) custom (beginning k)) on ≡ asked_first (Keys (Reads Key)) (paste_played k.input.mode text k rest))
   unfolding and_then with_read
-  plays_paste n k text rest =
+  plays_paste n k before bytes text rest =
       let input = k.input in
-      ap (behind_key (suc (suc n)) k (Pasted text rest)) (pastes input.mode input.input_mode custom input.last input.search (shown_in k.value) n free)
-      ∙ plays_keeping (suc (suc n)) input.mode text k rest
+      ap (behind_key (suc (suc n)) k (Pasted bytes text rest)) (pastes input.mode input.input_mode custom input.last input.search (shown_in k.value) n free)
+      ∙ plays_keeping (suc (suc n)) input.mode text k rest bytes
 
-  plays_enter : (n : ℕ) (k : LineState) (rest : Coming)
-      → (let on = with_rest k (Pressed enter rest) in played_from s indent (phrase_script (suc n) custom (beginning k)) on ≡ asked_first (Keys (Reads Key)) (enter_played k rest))
+  plays_enter : (n : ℕ) (k : LineState) (bytes : List ℕ) (rest : Coming)
+      → (let on = with_rest k (Pressed bytes enter rest) in played_from s indent (phrase_script (suc n) custom (beginning k)) on ≡ asked_first (Keys (Reads Key)) (enter_played k rest))
   unfolding and_then with_read answered
-  plays_enter n k rest =
+  plays_enter n k bytes rest =
       let input = k.input in ap (behind_key (suc n) k rest) (enters input.mode input.input_mode custom input.last input.search (shown_in k.value) n free)
 
 -- ---- the paste's text is the line's
@@ -248,22 +248,24 @@ module _ (s : Setting) (indent : ℕ) (custom : Custom) (free : IsUnbound custom
       played_then plan next (turn_script (suc n) custom) k
       ∙ ap (λ t. joined (follows plan next) (asked_first Begins t)) (played_then plan obeying (phrase_script (suc n) custom (beginning k)) k)
 
-  enter_accepts : (n : ℕ) (k : LineState) (rest : Coming) → Takes (played_from bare indent (turns_script (suc n) custom) (with_rest k (Pressed enter rest))) k.value.line.text rest
-  enter_accepts n k rest =
+  enter_accepts : (n : ℕ) (k : LineState) (bytes : List ℕ) (rest : Coming)
+      → Takes (played_from bare indent (turns_script (suc n) custom) (with_rest k (Pressed bytes enter rest))) k.value.line.text rest
+  enter_accepts n k bytes rest =
       let w : Value = (accept_or_insert true bare k.value).value in
-      subst (λ p. Takes p k.value.line.text rest) (sym (turns_on n (with_rest k (Pressed enter rest)) ∙ ap (line_on n) (plays_enter bare indent custom free n k rest))) (
+      subst (λ p. Takes p k.value.line.text rest) (sym (turns_on n (with_rest k (Pressed bytes enter rest)) ∙ ap (line_on n) (plays_enter bare indent custom free n k bytes rest))) (
         ap Ok (moved_text (not (w.line.place == length w.line.text)) ForcedRefresh (record w.line { place = length w.line.text }) bare w refl),
         refl,
       )
 
-  paste_accepts : (n : ℕ) (k : LineState) (text : List ℕ) (rest : Coming) → IsEmptyLine k.value
-      → Takes (played_from bare indent (turns_script (suc (suc n)) custom) (with_rest k (Pressed paste_start (Pasted text (Pressed enter rest))))) text rest
-  paste_accepts n k text rest empty =
-      let on = with_rest k (Pressed paste_start (Pasted text (Pressed enter rest))) in
-      let after_paste = left_at bare indent (paste_kept k.input.mode text k (Pressed enter rest)) (Obeys (Insert 1 text)) in
+  paste_accepts : (n : ℕ) (k : LineState) (before bytes text others : List ℕ) (rest : Coming) → IsEmptyLine k.value
+      → Takes (played_from bare indent (turns_script (suc (suc n)) custom) (with_rest k (Pressed before paste_start (Pasted bytes text (Pressed others enter rest))))) text rest
+  paste_accepts n k before bytes text others rest empty =
+      let entered = Pressed others enter rest in
+      let on = with_rest k (Pressed before paste_start (Pasted bytes text entered)) in
+      let after_paste = left_at bare indent (paste_kept k.input.mode text k entered) (Obeys (Insert 1 text)) in
       let vi : Bool = in_vi_command (means_of (kept_after k.input.mode text k.input) indent (reset_by (Insert 1 text) k.ring)) in
-      let a = enter_accepts n after_paste rest in
-      subst (λ p. Takes p text rest) (sym (turns_on (suc n) on ∙ ap (line_on (suc n)) (plays_paste bare indent custom free n k text (Pressed enter rest)))) (
+      let a = enter_accepts n after_paste others rest in
+      subst (λ p. Takes p text rest) (sym (turns_on (suc n) on ∙ ap (line_on (suc n)) (plays_paste bare indent custom free n k before bytes text entered))) (
         a.0 ∙ ap Ok (pasted_text vi text bare k.value empty.empty empty.grows),
         a.1,
       )
@@ -282,18 +284,23 @@ stays (b ∷ bytes) plain =
     other true is = absurd (plain [] bytes (ap (λ x. x ∷ bytes) (eqb-true b 0x0D is)))
     other false is = refl
 
+-- the bytes after the mark that begins the paste, and those after the one that ends it
+abbrev behind_start : List ℕ → List ℕ → List ℕ
+behind_start text more = text ++ marker ++ 0x0D ∷ more
+
 reads_as : (mode : EditMode) (text more : List ℕ) (last : Last) → IsPasteable text
-    → coming_from mode (sent_as_paste text ++ 0x0D ∷ more) last ≡ Pressed paste_start (Pasted text (Pressed enter (coming_from mode more last)))
+    → coming_from mode (sent_as_paste text ++ 0x0D ∷ more) last
+    ≡ Pressed (sent_as_paste text ++ 0x0D ∷ more) paste_start (Pasted (behind_start text more) text (Pressed (0x0D ∷ more) enter (coming_from mode more last)))
 reads_as mode text more last paste =
-    ap coming_of (pasted_text_is_before_its_mark mode text (0x0D ∷ more) last paste.utf8 paste.no_marker)
-    ∙ ap (λ t. Pressed paste_start (Pasted t (coming_from mode (0x0D ∷ more) last))) (stays text paste.no_return)
+    ap (coming_of (sent_as_paste text ++ 0x0D ∷ more)) (pasted_text_is_before_its_mark mode text (0x0D ∷ more) last paste.utf8 paste.no_marker)
+    ∙ ap (λ t. Pressed (sent_as_paste text ++ 0x0D ∷ more) paste_start (Pasted (behind_start text more) t (coming_from mode (0x0D ∷ more) last))) (stays text paste.no_return)
 
 pub pastes_are_accepted : PastesAreAccepted
 pastes_are_accepted n s custom indent k text more last none free empty paste comes =
     let left = coming_from k.input.mode more last in
     let turns = turns_script (suc (suc n)) custom in
     let taken = subst (λ hooks. Takes (played_from (record s { hooks = hooks }) indent turns k) text left) (sym none)
-    (subst (λ c. Takes (played_from (without_hooks s) indent turns (with_rest k c)) text left) (sym (comes ∙ reads_as k.input.mode text more last paste)) (paste_accepts s indent custom free n k text left empty)) in
+    (subst (λ c. Takes (played_from (without_hooks s) indent turns (with_rest k c)) text left) (sym (comes ∙ reads_as k.input.mode text more last paste)) (paste_accepts s indent custom free n k (sent_as_paste text ++ 0x0D ∷ more) (behind_start text more) text (0x0D ∷ more) left empty)) in
     record { outcome = taken.0; rest_is = taken.1 }
 
 pub pasted_lines_are_accepted : PastedLinesAreAccepted
@@ -319,7 +326,7 @@ pasted_in input_mode text =
     (kept (empty_at 0) (input_with Vi input_mode Noop None) (new_ring 60) (coming_from Vi (sent_as_paste text ++ 0x0D ∷ codes "b") End))
 
 later : Coming
-later = Pressed (key_with (Char 0x62) none) (NoMore AtItsEnd)
+later = Pressed (codes "b") (key_with (Char 0x62) none) (NoMore [] AtItsEnd [])
 
 pasted_row : Accepts (pasted_in Inserting (codes "a")) (codes "a") later
 unfolding turns_script turn_script answered needing with_read from_key asking becoming deciding and_then common_action insert_action insert_table vi_insert pasted_in plain_setting later lib.Utf8.encode

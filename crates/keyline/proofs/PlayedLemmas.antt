@@ -1,8 +1,8 @@
 -- A session by options, over all that is said of its keys.
-use Rattle.std.proofs.Common.{◌≡◌, ℕ, ◌+◌, ◌<◌, ◌^◌, Bool, true, false, IsTrue, List, [], ◌∷◌, ◌++◌, Option, refl, sym, ap, subst, ◌∙◌, arith}
-use Rattle.std.specs.Prelude.{if◌then◌else◌, IsErr, IsOk, OnOk, Result, Ok, Err, is_err, string_bytes, unwrap_or}
+use Rattle.std.proofs.Common.{◌≡◌, ℕ, ◌+◌, ◌<◌, ◌^◌, Bool, true, false, IsTrue, List, [], ◌∷◌, ◌++◌, Option, refl, sym, ap, subst, ◌∙◌, append-nil, arith}
+use Rattle.std.specs.Prelude.{if◌then◌else◌, IsErr, IsOk, None, OnOk, Result, Ok, Err, is_err, string_bytes}
 use Rattle.line_config.specs.Feed.{AlwaysTold, Feed, fresh_feed}
-use Rattle.line_config.specs.Foretold.{left_of}
+use Rattle.line_config.specs.Adapters.{to_come}
 use Rattle.line_config.specs.Sending.{AppendsSome}
 use Rattle.line_config.specs.declared.device.Last.{Last}
 use Rattle.line_config.specs.declared.device.Last.TheVariants.{End}
@@ -30,14 +30,14 @@ use Rattle.keyline.proofs.PlaysLemmas.{reason_at_end}
 below : (most kept bound n : ℕ) → kept ≡ 0 → bound ≡ most + kept → most < n → bound < n
 below most kept bound n none is low = omega arith
 
--- nothing was read, and all that is said is left
-pub fresh_coming : (bytes unread given : List ℕ) → unread ≡ [] → given ≡ [] → unread ++ unwrap_or (left_of bytes given) [] ≡ bytes
-unfolding left_of
-fresh_coming bytes unread given none bare = rw (none, bare) refl
+-- nothing was read, and all that is said of the reader as it was handed in is left
+pub fresh_coming : {R : Type 0} (left : R → List ℕ → List ℕ) (keys reader : R) (unread given : List ℕ) (met : Option Last)
+    → reader ≡ keys → unread ≡ [] → given ≡ [] → met ≡ None → unread ++ to_come met (left reader given) ≡ left keys []
+fresh_coming left keys reader unread given met same none bare unmet = rw (same, none, bare, unmet) refl
 
 -- nothing was written, and nothing waits
-pub fresh_sink : (sent unsent : List ℕ) → sent ≡ [] → unsent ≡ [] → sent ++ unsent ≡ []
-fresh_sink sent unsent none bare = rw (none, bare) refl
+pub fresh_sink : (sent unsent had : List ℕ) → sent ≡ had → unsent ≡ [] → sent ++ unsent ≡ had
+fresh_sink sent unsent had same none = rw (same, none) (append-nil had)
 
 -- a call that fails where its device has failed, and marks it so
 pub fails_still : {A E : Type 0} (result : Result A E) (before after : Bool) → after ≡ is_err result → (IsTrue before → IsErr result) → IsTrue before → IsTrue after
@@ -80,7 +80,7 @@ module _ {D L : Type 0} (shown : D → List ℕ) (written_in : L → List ℕ) w
   stopped_in_bytes adds x (Helped fails takes) Helper y (h, same) = (h, ap in_bytes same)
   stopped_in_bytes adds x (Helped fails takes) Memory y (h, same) = (h, ap in_bytes same)
   stopped_in_bytes adds x (Draws redraw (bytes ∷ more)) Display y (took, same) = (took, ap in_bytes same)
-  stopped_in_bytes adds x (Hears Paste) Memory y same = ap in_bytes same
+  stopped_in_bytes adds x (Hears Paste) Memory y (left, same) = (left, ap in_bytes same)
   stopped_in_bytes adds x Breaks Display y (took, same) = (took, ap in_bytes same)
   stopped_in_bytes adds x (Keeps line) Memory y (h, same) = (h, ap in_bytes same)
   stopped_in_bytes adds x (Writes line) Lines y (took, same) = (took, ap in_bytes same)
@@ -91,12 +91,12 @@ module _ {D L : Type 0} (shown : D → List ℕ) (written_in : L → List ℕ) w
   stands_in_bytes adds [] at new Whole Faulted h = (h.0, ap in_bytes h.1)
   stands_in_bytes adds (event ∷ others) at new Whole Faulted h = (h.0, stopped_in_bytes adds at event h.0 new h.1, h.2)
 
-  -- what goes on a blank display and on a sink of lines that holds nothing
-  as_bytes : (adds : Bool) (events : List Event) (old new : Work D L) (Whole : Type 0) (Faulted : ReadlineError → Type 0) (drawn wrote : List ℕ)
-      → shown old.display ≡ [] → drawn ≡ shown new.display → written_in old.lines ≡ [] → wrote ≡ written_in new.lines
+  -- what goes on a display and on a sink of lines that have these bytes
+  as_bytes : (adds : Bool) (events : List Event) (old new : Work D L) (Whole : Type 0) (Faulted : ReadlineError → Type 0) (first before drawn wrote : List ℕ)
+      → shown old.display ≡ first → drawn ≡ shown new.display → written_in old.lines ≡ before → wrote ≡ written_in new.lines
       → GoesShown shown written_in adds events old new Whole Faulted
-      → GoesShown seen seen adds events (work [] [] old.history old.coming) (work drawn wrote new.history new.coming) Whole Faulted
-  as_bytes adds events old new Whole Faulted drawn wrote none drawn_is bare wrote_is goes =
+      → GoesShown seen seen adds events (work first before old.history old.coming) (work drawn wrote new.history new.coming) Whole Faulted
+  as_bytes adds events old new Whole Faulted first before drawn wrote first_is drawn_is before_is wrote_is goes =
       let R : List ℕ → List ℕ → List ℕ → List ℕ → Type 0 = λ a b c d.
       GoesShown seen seen adds events (work a b old.history old.coming) (work c d new.history new.coming) Whole Faulted in
       let w = goes.went in
@@ -111,20 +111,20 @@ module _ {D L : Type 0} (shown : D → List ℕ) (written_in : L → List ℕ) w
         };
         shows = goes.shows;
       } in
-      subst (λ a. R a [] drawn wrote) none (subst (λ b. R (shown old.display) b drawn wrote) bare
+      subst (λ a. R a before drawn wrote) first_is (subst (λ b. R (shown old.display) b drawn wrote) before_is
       (subst (λ c. R (shown old.display) (written_in old.lines) c wrote) (sym drawn_is)
       (subst (λ d. R (shown old.display) (written_in old.lines) (shown new.display) d) (sym wrote_is) both)))
 
 module _ {F S D L T : Type 0} (text_of : F → Feed) (k : Known S D L) (held : T → List ℕ) (failed : T → Bool) where
-  pub played : (options : Options) (words : Option (List (List ℕ))) (old bytes : List ℕ) (last : Last) (history : F) (source : S) (display : D) (lines : L) (text : T)
+  pub played : (options : Options) (words : Option (List (List ℕ))) (drawn wrote old bytes : List ℕ) (last : Last) (history : F) (source : S) (display : D) (lines : L) (text : T)
       (ended : Ended S D L T) (display' : D) (lines' : L)
       → EditsByOptions text_of k held failed options words history source display lines text ended → AlwaysTold text_of → text_of history ≡ fresh_feed old End
       → (k.feed source).coming ≡ bytes → (k.feed source).last ≡ last → (k.feed source).bound ≡ 2 ^ 63
-      → k.shown display ≡ [] → k.written_in lines ≡ [] → held text ≡ []
+      → k.shown display ≡ drawn → k.written_in lines ≡ wrote → held text ≡ []
       → k.shown display' ≡ k.shown ended.display → (IsTrue (k.show_failed ended.display) → IsTrue (k.show_failed display'))
       → k.written_in lines' ≡ k.written_in ended.lines → (IsTrue (k.write_failed ended.lines) → IsTrue (k.write_failed lines'))
-      → IsTrue (k.feed ended.source).told → PlaysBytes k held failed options words old bytes last (record ended { display = display'; lines = lines' })
-  played options words old bytes last history source display lines text ended display' lines' edits always text_is coming_is last_is bound_is none bare blank drawn_is shows wrote_is writes agrees =
+      → IsTrue (k.feed ended.source).told → PlaysBytes k held failed options words drawn wrote old bytes last (record ended { display = display'; lines = lines' })
+  played options words drawn wrote old bytes last history source display lines text ended display' lines' edits always text_is coming_is last_is bound_is had_drawn had_wrote blank drawn_is shows wrote_is writes agrees =
       let desk = edits.desk in
       let opens = edits.opens in
       let left_desk = edits.runs.last in
@@ -160,12 +160,12 @@ module _ {F S D L T : Type 0} (text_of : F → Feed) (k : Known S D L) (held : T
             let r = subst (λ (x : SessionState). G g x) start_is (subst (λ (g : Given). G g (session_state_of k desk)) given_is went) in
             let lines = session n g (each g) start in
             let H : Filed → Coming → Type 0 = λ h c.
-            GoesShown (λ (d : List ℕ). d) (λ (l : List ℕ). l) g.config.auto_add_history lines.events (work [] [] h c)
+            GoesShown (λ (d : List ℕ). d) (λ (l : List ℕ). l) g.config.auto_add_history lines.events (work drawn wrote h c)
             (work (k.shown display') (k.written_in lines') left_desk.history left) (why ≡ lines.answer) (λ e. why ≡ e) in
             subst (λ (c : Coming). H loaded_is c) coming (subst (λ (h : Filed). H h (desk_feed k desk).coming) history_is
             (as_bytes k.shown k.written_in g.config.auto_add_history lines.events (work_of k desk) (work_of k left_desk) (why ≡ lines.answer) (λ e. why ≡ e)
-            (k.shown display') (k.written_in lines')
-            (ap k.shown opens.display_is ∙ none) (drawn_is ∙ ap k.shown end.display_is) (ap k.written_in opens.lines_are ∙ bare) (wrote_is ∙ ap k.written_in end.lines_are) r));
+            drawn wrote (k.shown display') (k.written_in lines')
+            (ap k.shown opens.display_is ∙ had_drawn) (drawn_is ∙ ap k.shown end.display_is) (ap k.written_in opens.lines_are ∙ had_wrote) (wrote_is ∙ ap k.written_in end.lines_are) r));
         done = λ s. (end.saves.done s).1 ∙ ap (λ front. front ++ text_to_save left_desk.history) blank;
         refused = λ s.
             let r = end.saves.refused s in
@@ -173,6 +173,7 @@ module _ {F S D L T : Type 0} (text_of : F → Feed) (k : Known S D L) (held : T
         history_is = history_at_end end.saved _ _ (λ s. (end.saves.done s).0) (λ s. (end.saves.refused s).0);
         source_is = end.source_is;
         ahead_is = end.ahead_is;
+        unread_is = end.unread_is;
         ending_is = end.ending_is;
         reason = reason_still g (k.feed ended.source).failed (k.show_failed ended.display) (k.show_failed display') (k.write_failed ended.lines) (k.write_failed lines')
             why shows writes

@@ -9,8 +9,8 @@ use Rattle.line_editor.specs.Redraws.{fresh}
 use Rattle.line_editor.specs.Running.{kept_first}
 use Rattle.line_editor.specs.Values.{Setting}
 use Rattle.line_keys.specs.Answers.{Custom}
-use Rattle.line_keys.specs.Coming.{Coming, Pressed, Pasted, CutOff, Ends as Ended, Refused, behind, left, left_by}
-use Rattle.line_keys.specs.Feeds.{InputItem, InputOf, Key, Paste, item_at}
+use Rattle.line_keys.specs.Coming.{Coming, Pressed, Pasted, CutOff, Ends as Ended, Refused, left_by, refusal_of}
+use Rattle.line_keys.specs.Feeds.{InputItem, InputOf, Key, Paste, behind, item_at}
 use Rattle.line_keys.specs.Phrases.{Needs, Shows, Reads, Becomes, Refuses, and_then, with_read}
 use Rattle.line_keys.specs.declared.key.KeyEvent.{KeyEvent}
 use Rattle.keyline.specs.Events.{Begins as LineBegins, Course, asks_events, end_events, events_first, going_on, line_course, played_in, session}
@@ -21,33 +21,37 @@ use Rattle.keyline.proofs.LineFuel.{is_line_read, line_alike, turn_after}
 
 -- ---- what a read leaves
 
-read_falls : (item : InputItem) (c : Coming) (x : InputOf item) → item_at item c ≡ Ok x → suc (keys_and_pastes (left (item_at item c) (behind c))) ≤ keys_and_pastes c
-read_falls Key (Pressed k rest) x is = omega arith
-read_falls Key (Pasted text rest) x is = absurd (cc)
-read_falls Key (CutOff item) x is = absurd (cc)
-read_falls Key (Ended item) x is = absurd (cc)
-read_falls Key (Refused why) x is = absurd (cc)
-read_falls Paste (Pressed k rest) x is = absurd (cc)
-read_falls Paste (Pasted text rest) x is = omega arith
-read_falls Paste (CutOff item) x is = absurd (cc)
-read_falls Paste (Ended item) x is = absurd (cc)
-read_falls Paste (Refused why) x is = absurd (cc)
+read_falls : (item : InputItem) (c : Coming) (x : InputOf item) → item_at item c ≡ Ok x → suc (keys_and_pastes (behind item c)) ≤ keys_and_pastes c
+read_falls Key (Pressed bytes k rest) x is = omega arith
+read_falls Key (Pasted bytes text rest) x is = absurd (cc)
+read_falls Key (CutOff bytes last left) x is = absurd (cc)
+read_falls Key (Ended bytes last left) x is = absurd (cc)
+read_falls Key (Refused bytes why) x is = absurd (cc)
+read_falls Paste (Pressed bytes k rest) x is = absurd (cc)
+read_falls Paste (Pasted bytes text rest) x is = omega arith
+read_falls Paste (CutOff bytes last left) x is = absurd (cc)
+read_falls Paste (Ended bytes last left) x is = absurd (cc)
+read_falls Paste (Refused bytes why) x is = absurd (cc)
 
-none_by : (e : ReadlineError) → keys_and_pastes (left_by e) ≡ 0
-none_by Eof = refl
-none_by _ = refl
+none_by : (e : ReadlineError) (left : List ℕ) → keys_and_pastes (left_by e left) ≡ 0
+none_by Eof left = refl
+none_by _ left = refl
 
-left_stays : {X : Type 0} (r : Result X ReadlineError) (c : Coming) → keys_and_pastes (left r (behind c)) ≤ keys_and_pastes c
-left_stays (Ok x) (Pressed k rest) = omega arith
-left_stays (Ok x) (Pasted text rest) = omega arith
-left_stays (Ok x) (CutOff item) = omega arith
-left_stays (Ok x) (Ended item) = omega arith
-left_stays (Ok x) (Refused why) = omega arith
-left_stays (Err e) c = let none = none_by e in omega arith
+read_stays : (item : InputItem) (c : Coming) → keys_and_pastes (behind item c) ≤ keys_and_pastes c
+read_stays Key (Pressed bytes k rest) = omega arith
+read_stays Key (Pasted bytes text rest) = omega arith
+read_stays Key (CutOff bytes last left) = omega arith
+read_stays Key (Ended bytes last left) = let none = none_by (refusal_of last) left in omega arith
+read_stays Key (Refused bytes why) = let none = none_by why bytes in omega arith
+read_stays Paste (Pressed bytes k rest) = omega arith
+read_stays Paste (Pasted bytes text rest) = omega arith
+read_stays Paste (CutOff bytes last left) = let none = none_by (refusal_of last) left in omega arith
+read_stays Paste (Ended bytes last left) = omega arith
+read_stays Paste (Refused bytes why) = let none = none_by why bytes in omega arith
 
 module _ (s : Setting) (indent : ℕ) where
   left_le : (c : LineState) (ask : LineAsk) → keys_and_pastes (left_at s indent c ask).coming ≤ keys_and_pastes c.coming
-  left_le c (Keys (Reads item)) = left_stays (item_at item c.coming) c.coming
+  left_le c (Keys (Reads item)) = read_stays item c.coming
   left_le c (Keys Needs) = omega arith
   left_le c (Keys (Shows ask)) = omega arith
   left_le c (Keys (Becomes input)) = omega arith

@@ -30,7 +30,7 @@ module _ (s t : Screen) where
   step_alike l m (DrawStep v marks redraw ∷ rs) = ap (λ events. Draws redraw [] ∷ events) (step_alike (one (ruler_of s) l (DrawStep v marks redraw)).layout (one (ruler_of t) m (DrawStep v marks redraw)).layout rs)
   step_alike l m (HelpStep v fails takes ∷ rs) = ap (λ events. Helped fails takes ∷ events) (step_alike l m rs)
   step_alike l m (EditingStep v edit ∷ rs) = ap (λ events. Takes ∷ events) (step_alike l m rs)
-  step_alike l m (BackStep v ∷ rs) = ap (λ events. Takes ∷ events) (step_alike l m rs)
+  step_alike l m (BackStep v count ∷ rs) = ap (λ events. Takes ∷ events) (step_alike l m rs)
   step_alike l m (TakingStep v ∷ rs) = ap (λ events. Takes ∷ events) (step_alike l m rs)
 
   asks_alike : (a : Setting) (indent : ℕ) (l m : Layout) (k : LineState) (asks : List LineAsk) → map unmeasured (asks_events s a indent l k asks) ≡ map unmeasured (asks_events t a indent m k asks)

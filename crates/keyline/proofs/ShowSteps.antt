@@ -310,5 +310,5 @@ module _ (s : Screen) (low : 2 ≤ s.columns) (high : s.columns ≤ 1000) where
   step own bytes over top l x (Draws v m Cleared) h fits rows = fresh_holds (bytes ++ flat_map (bytes_of s) (ClearScreen ∷ [])) [] 0 l (cleared_led bytes over (view_in s top x) h.good)
   step own bytes over top l x (Helped v fails takes) h fits rows = same_holds bytes over top l x (Help fails) h refl (λ e. cc)
   step own bytes over top l x (Edits v edit) h fits rows = still_holds bytes over top l x h
-  step own bytes over top l x (TakesBack v) h fits rows = still_holds bytes over top l x h
+  step own bytes over top l x (TakesBack v count) h fits rows = still_holds bytes over top l x h
   step own bytes over top l x (Takes v) h fits rows = still_holds bytes over top l x h

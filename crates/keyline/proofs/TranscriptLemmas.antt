@@ -9,14 +9,13 @@ use Rattle.line_config.specs.declared.errors.ReadlineError.TheVariants.{Eof, Int
 use Rattle.line_help.specs.History.{Filed}
 use Rattle.line_help.specs.HistoryText.{text_to_save}
 use Rattle.line_keys.specs.Answers.{Custom}
-use Rattle.line_keys.specs.Coming.{Coming}
+use Rattle.line_keys.specs.Coming.{Coming, unread}
 use Rattle.line_keys.specs.Feeds.{Paste}
 use Rattle.line_record.specs.Ring.{Ring, new_ring}
 use Rattle.line_screen.specs.Calls.{Screen, screen_of}
-use Rattle.line_screen.specs.Input.{chars_of}
-use Rattle.line_screen.specs.KeyGrammar.{read_from}
-use Rattle.line_screen.specs.Reader.{coming_by, feed_in, kept_of, source_of}
+use Rattle.line_screen.specs.Reader.{kept_of, left_in, source_of}
 use Rattle.line_screen.specs.Reading.{kept_count, with_kept}
+use Rattle.line_screen.proofs.Outcomes.{unread_in}
 use Rattle.keyline.specs.Desks.{GoesShown, desk_feed, session_state_of, work_of}
 use Rattle.keyline.specs.Endings.{ending_of}
 use Rattle.keyline.specs.Known.{Known}
@@ -99,12 +98,12 @@ module _ {F S D L T : Type 0} (text_of : F → Feed) (k : Known S D L) (held : T
       → helper ≡ word_helper words → config' ≡ config → custom' ≡ custom → prompt' ≡ prompt → text' ≡ text
       → AlwaysTold text_of → AlwaysTold k.feed → text_of history ≡ fresh_feed old End → k.feed source ≡ fresh_feed keys End
       → k.shown display ≡ [] → k.written_in lines ≡ [] → held text ≡ []
-      → is_cut ended.ending ≡ false → failed ended.text ≡ false → (k.feed ended.source).failed ≡ false
+      → is_cut ended.ending ≡ false → failed ended.text ≡ false
       → t.lines.items ≡ k.written_in ended.lines → t.display.items ≡ k.shown ended.display → t.history.items ≡ held ended.text → t.ending ≡ ended.ending
       → t.unread.items ≡ (with_kept ended.ahead (k.feed ended.source)).coming
       → Transcribes (given_by config words custom prompt columns) (start_by config old keys) keys t
   transcribed config config' words helper custom custom' prompt prompt' columns old keys history source display lines text text' desk ended t opens runs helper_is config_is custom_is prompt_is text_is
-      always told text_of_is source_is none bare blank uncut works sound lines_are display_is history_is ending_is unread_is =
+      always told text_of_is source_is none bare blank uncut works lines_are display_is history_is ending_is unread_is =
       let g = given_by config words custom prompt columns in
       let start = start_by config old keys in
       let end = runs.finishes in
@@ -150,11 +149,8 @@ module _ {F S D L T : Type 0} (text_of : F → Feed) (k : Known S D L) (held : T
             done.history_is ∙ ap (λ (h : Filed). remembered adds (flat_map lines_kept (events n)) h) filed in
             let rest_is : (desk_feed k last).coming ≡ left_to_come (coming_from config.edit_mode keys End) (events n) =
             done.left_is ∙ ap (λ c. left_to_come c (events n)) coming in
-            let unread : t.unread.items ≡ (feed_in k.feed last.reader).coming =
+            let left : t.unread.items ≡ left_in k.feed last.reader =
             unread_is ∙ (ap (λ a. (with_kept a (k.feed ended.source)).coming) end.ahead_is ∙ ap (λ (s : S). (with_kept (kept_of last.reader) (k.feed s)).coming) end.source_is) in
-            let alive : (feed_in k.feed last.reader).failed ≡ false = ap (λ (s : S). (k.feed s).failed) (sym end.source_is) ∙ sound in
-            let reader = last.reader in
-            let by : Bool → List ℕ → Coming = λ f bytes. coming_by f reader.refused (read_from reader.mode reader.announced (chars_of bytes (feed_in k.feed reader).last)) in
             record {
               lines_are = lines_are ∙ (ap k.written_in end.lines_are ∙ (done.wrote
                   ∙ ap (λ front. front ++ lines_text (flat_map lines_written (events n))) (ap k.written_in opens.lines_are ∙ bare)));
@@ -163,12 +159,6 @@ module _ {F S D L T : Type 0} (text_of : F → Feed) (k : Known S D L) (held : T
               history_is = history_is ∙ ((end.saves.done saved).1
                   ∙ (ap (λ front. front ++ text_to_save last.history) (ap held text_is ∙ blank) ∙ ap text_to_save kept_is));
               ending_is = ending_is ∙ (ended_is ∙ ap ending_of all.answer_is);
-              unread_is = record {
-                mode = reader.mode;
-                announced = reader.announced;
-                refused = reader.refused;
-                last = (feed_in k.feed reader).last;
-                rest_is = sym rest_is ∙ (ap (λ f. by f (feed_in k.feed reader).coming) alive ∙ ap (λ bytes. by false bytes) (sym unread));
-              };
+              unread_is = left ∙ (sym (unread_in k.feed last.reader) ∙ ap unread rest_is);
             };
       }

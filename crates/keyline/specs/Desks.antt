@@ -12,7 +12,7 @@ use Rattle.line_keys.specs.Phrases.{Input}
 use Rattle.line_screen.specs.Calls.{canvas_of, ruler_of, sink_of}
 use Rattle.line_screen.specs.Reader.{items_of, source_of}
 use Rattle.line_screen.specs.declared.renderer.ScreenRenderer.{ScreenRenderer}
-use Rattle.keyline.specs.Known.{Known, HasPassedOn}
+use Rattle.keyline.specs.Known.{Known, HasPassedOn, HasPassedLines}
 use Rattle.keyline.specs.Events.{Event, line_course, session}
 use Rattle.keyline.specs.Playing.{Closes, Went, Work, SessionReason, work}
 use Rattle.keyline.specs.Sessions.{Given, LineGiven, SessionState, setting_in}
@@ -74,6 +74,7 @@ module _ {S H D L : Type 0} (k : Known S D L) where
     pub falls : OnOk result ((desk_feed new).bound < (desk_feed old).bound)
     pub passes : IsTrue (desk_feed new).told → HasPassedOn k (sink_of old.out)
         → HasPassedOn k (sink_of new.out)
+    pub passes_lines : HasPassedLines k old.lines → HasPassedLines k new.lines
     pub ends : EndsLine g old new result
     pub reason : IfErr result (DeskReason g new)
 
@@ -86,4 +87,5 @@ module _ {S H D L : Type 0} (k : Known S D L) where
         (why ≡ lines.answer) (λ e. why ≡ e)
     pub passes : IsTrue (desk_feed new).told → HasPassedOn k (sink_of old.out)
         → HasPassedOn k (sink_of new.out)
+    pub passes_lines : HasPassedLines k old.lines → HasPassedLines k new.lines
     pub reason : DeskReason g new why

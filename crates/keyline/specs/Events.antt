@@ -13,8 +13,8 @@ use Rattle.line_editor.specs.Running.{kept_first, line_played}
 use Rattle.line_editor.specs.Steps.{asked, one}
 use Rattle.line_editor.specs.Values.{EditStep, Setting}
 use Rattle.line_editor.specs.Values.EditStep.{Draws as DrawStep, Helped as HelpStep}
-use Rattle.line_keys.specs.Coming.{Coming, behind, left}
-use Rattle.line_keys.specs.Feeds.{InputItem, item_at}
+use Rattle.line_keys.specs.Coming.{Coming}
+use Rattle.line_keys.specs.Feeds.{InputItem, behind}
 use Rattle.line_keys.specs.Phrases.{Reads}
 use Rattle.line_screen.specs.Calls.{Screen, bytes_of, ruler_of}
 use Rattle.line_screen.specs.Drawing.{row_break}
@@ -135,8 +135,7 @@ lines_written event = []
 -- what remains of the input after some events
 abbrev pub left_to_come : Coming → List Event → Coming
 left_to_come coming [] = coming
-left_to_come coming (Hears item ∷ events) =
-    left_to_come (left (item_at item coming) (behind coming)) events
+left_to_come coming (Hears item ∷ events) = left_to_come (behind item coming) events
 left_to_come coming (event ∷ events) = left_to_come coming events
 
 -- the helper answered whenever it was called

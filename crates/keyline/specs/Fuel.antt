@@ -8,8 +8,8 @@ use Rattle.keyline.specs.Sessions.{Given, LineGiven, SessionState, coming_from}
 
 -- how many keys and pastes remain
 abbrev pub keys_and_pastes : Coming → ℕ
-keys_and_pastes (Pressed k rest) = suc (keys_and_pastes rest)
-keys_and_pastes (Pasted text rest) = suc (keys_and_pastes rest)
+keys_and_pastes (Pressed bytes k rest) = suc (keys_and_pastes rest)
+keys_and_pastes (Pasted bytes text rest) = suc (keys_and_pastes rest)
 keys_and_pastes coming = 0
 
 -- two amounts of fuel above the number of remaining keys and pastes give one session

@@ -10,19 +10,25 @@ pub record Known (S D L : Type 0) : Type 0 where
   pub waits : D → List ℕ
   pub show_failed : D → Bool
   pub written_in : L → List ℕ
+  pub write_waits : L → List ℕ
   pub write_failed : L → Bool
 
 abbrev pub known_by : {S D L : Type 0} → (S → Feed) → (D → List ℕ) → (D → List ℕ) → (D → Bool)
-    → (L → List ℕ) → (L → Bool) → Known S D L
-known_by feed shown waits show_failed written_in write_failed = record {
+    → (L → List ℕ) → (L → List ℕ) → (L → Bool) → Known S D L
+known_by feed shown waits show_failed written_in write_waits write_failed = record {
   feed = feed;
   shown = shown;
   waits = waits;
   show_failed = show_failed;
   written_in = written_in;
+  write_waits = write_waits;
   write_failed = write_failed;
 }
 
 -- a display that works has passed on everything that was drawn
 abbrev pub HasPassedOn : {S D L : Type 0} → Known S D L → D → Type 0
 HasPassedOn k display = NothingWaits k.waits k.show_failed display
+
+-- a sink of lines that works has passed on everything that was written
+abbrev pub HasPassedLines : {S D L : Type 0} → Known S D L → L → Type 0
+HasPassedLines k lines = NothingWaits k.write_waits k.write_failed lines

@@ -54,7 +54,8 @@ module _ {D L : Type 0} (shown : D → List ℕ) (written_in : L → List ℕ) (
   IsStopped x (Helped fails takes) Memory y = IsTrue takes × (y ≡ x)
   IsStopped x (Draws redraw (bytes ∷ more)) Display y =
       TakesSome shown x.display y.display (all_of (bytes ∷ more)) × (y ≡ record x { display = y.display })
-  IsStopped x (Hears Paste) Memory y = y ≡ record x { coming = left_by Memory }
+  IsStopped x (Hears Paste) Memory y =
+      (left : List ℕ) × (y ≡ record x { coming = left_by Memory left })
   IsStopped x Breaks Display y =
       TakesSome shown x.display y.display row_break × (y ≡ record x { display = y.display })
   IsStopped x (Keeps line) Memory y = IsTrue (adds && takes x.history line) × (y ≡ x)

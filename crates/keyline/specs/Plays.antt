@@ -6,9 +6,11 @@ use Rattle.line_config.specs.declared.errors.ReadlineError.{ReadlineError}
 use Rattle.line_config.specs.declared.errors.ReadlineError.TheVariants.{Reader, HistoryText, Memory}
 use Rattle.line_help.specs.History.{Filed, settings_of, nothing_filed}
 use Rattle.line_help.specs.HistoryText.{ReadsGood, left_by_load, load_answer, load_leaves, text_rows}
+use Rattle.line_keys.specs.Coming.{unread}
 use Rattle.line_record.specs.Ring.{new_ring}
 use Rattle.line_screen.specs.Calls.{screen_of, sink_of}
 use Rattle.line_screen.specs.Reader.{coming_in, kept_of, source_of}
+use Rattle.line_screen.specs.Reading.{with_kept}
 use Rattle.keyline.specs.Desks.{TakesLines}
 use Rattle.keyline.specs.Known.{Known}
 use Rattle.keyline.specs.Endings.{ending_of}
@@ -93,14 +95,18 @@ pub record Opens {F S H D L : Type 0} (text : F → Feed) (feed : S → Feed) (c
 
 -- ---- running
 
--- a session has ended for this reason: its history was saved, and its devices are returned
-pub record Finishes {S H D L T : Type 0} (held : T → List ℕ) (failed : T → Bool)
-    (desk : Desk S H D L) (text : T) (why : ReadlineError) (ended : Ended S D L T) : Type 0 where
+-- a session has ended for this reason: its history was saved, and its devices are returned. The
+-- bytes of the remaining input are the byte that was read ahead, and then those of the source
+pub record Finishes {S H D L T : Type 0} (feed : S → Feed) (held : T → List ℕ)
+    (failed : T → Bool) (desk : Desk S H D L) (text : T) (why : ReadlineError)
+    (ended : Ended S D L T) : Type 0 where
   pub saved : Bool
   pub saves : Saves held failed desk.history ended.history text ended.text saved
   pub ending_is : ended.ending ≡ ending_of (ending_after why saved)
   pub source_is : ended.source ≡ source_of desk.reader
   pub ahead_is : ended.ahead ≡ kept_of desk.reader
+  pub unread_is : unread (coming_in feed desk.reader)
+      ≡ (with_kept ended.ahead (feed ended.source)).coming
   pub display_is : ended.display ≡ sink_of desk.out
   pub lines_are : ended.lines ≡ desk.lines
 
@@ -118,4 +124,4 @@ pub record RunsSession {S H D L T : Type 0} (k : Known S D L) (held : T → List
   pub last : Desk S H D L
   pub why : ReadlineError
   pub takes : TakesLines k g (each g) desk last why
-  pub finishes : Finishes held failed last text why ended
+  pub finishes : Finishes k.feed held failed last text why ended

@@ -1,5 +1,5 @@
 -- The program's session: with its options, and by bytes alone.
-use Rattle.std.specs.Prelude.{ℕ, Bool, true, false, if◌then◌else◌, List, Option, Some, None, is_some, option_map, ◌||◌, ⊤, map, take, String, string_bytes, ◌≡◌, ◌<◌, ◌^◌, [], IsTrue, IsOk}
+use Rattle.std.specs.Prelude.{ℕ, Bool, true, false, if◌then◌else◌, List, Option, Some, None, is_some, option_map, unwrap_or, ◌||◌, ⊤, map, take, String, string_bytes, ◌≡◌, ◌<◌, ◌^◌, [], IsTrue, IsOk}
 use Rattle.std.specs.Global.{Global, Vec}
 use Rattle.std.specs.Option.{option_map_or}
 use Rattle.line_config.specs.Config.{default_config, timeout_of}
@@ -12,20 +12,22 @@ use Rattle.line_help.specs.declared.bracket_validator.MatchingBracketValidator.{
 use Rattle.line_help.specs.declared.helper_parts.HelperParts.{HelperParts}
 use Rattle.line_help.specs.declared.validate.ValidationResult.TheVariants.{Valid}
 use Rattle.line_keys.specs.Answers.{Custom}
+use Rattle.line_keys.specs.Coming.{unread}
 use Rattle.line_editor.specs.Running.{Helping, helping_by}
 use Rattle.line_screen.specs.Calls.{screen_of}
 use Rattle.line_screen.specs.Reader.{coming_in, kept_of, source_of}
+use Rattle.line_screen.specs.Reading.{with_kept}
 use Rattle.line_screen.specs.declared.reading.reader.KeyReader.{KeyReader}
 use Rattle.keyline.specs.Desks.{GoesShown}
 use Rattle.keyline.specs.Events.{session}
 use Rattle.keyline.specs.Known.{Known}
-use Rattle.keyline.specs.Plays.{Opens, RunsSession, loaded_from, loads}
+use Rattle.keyline.specs.Plays.{LoadRefused, Opens, RunsSession, loaded_from, loads}
 use Rattle.keyline.specs.Sessions.{Given, SessionState, each, given_of, screen_by, state_over}
 use Rattle.keyline.specs.declared.desk.Desk.{Desk}
 use Rattle.keyline.specs.declared.options.Options.{Options}
 use Rattle.keyline.specs.declared.session.Ended.{Ended}
-use Rattle.line_config.specs.Adapters.{gave, met, sent_of, taken}
-use Rattle.line_config.specs.Foretold.{agrees, left_of}
+use Rattle.keyline.specs.declared.session.Unopened.{Unopened}
+use Rattle.line_config.specs.Adapters.{IsUnread, IsUnused, sent_of, taken}
 use Rattle.line_config.specs.Sending.{AppendsSome}
 use Rattle.line_config.specs.declared.adapters.ReadSource.{ReadSource}
 use Rattle.line_config.specs.declared.adapters.WriteSink.{WriteSink}
@@ -112,12 +114,16 @@ program_start options old bytes last =
     state_over (new_ring 60) (loaded_from (config_of options) (fresh_feed old End)) options.mode
     bytes last
 
+-- what a writer has, if it reports its bytes
+abbrev pub had_by : {W : Type 0} → (W → Option (List ℕ)) → W → List ℕ
+had_by contents writer = unwrap_or (contents writer) []
+
 -- the session of these options and words, of a history's text, and of all these bytes followed by
--- this. What is drawn, written and saved are its bytes, its lines and its history, or a prefix of
--- them if a fault cut it
+-- this, on a display and a sink of lines that had these bytes. What is drawn, written and saved are
+-- its bytes, its lines and its history, or a prefix of them if a fault cut it
 pub record PlaysBytes {S D L T : Type 0} (known : Known S D L) (held : T → List ℕ)
-    (failed : T → Bool) (options : Options) (words : Option (List (List ℕ))) (old bytes : List ℕ)
-    (last : Last) (ended : Ended S D L T) : Type 0 where
+    (failed : T → Bool) (options : Options) (words : Option (List (List ℕ)))
+    (shown wrote old bytes : List ℕ) (last : Last) (ended : Ended S D L T) : Type 0 where
   -- the history and the reader of keys as the lines left them, why there was no further line, and
   -- whether the history was saved
   pub kept : Filed
@@ -129,7 +135,7 @@ pub record PlaysBytes {S D L T : Type 0} (known : Known S D L) (held : T → Lis
       let start = program_start options old bytes last in
       let lines = session n g (each g) start in
       GoesShown (λ drawn. drawn) (λ wrote. wrote) g.config.auto_add_history lines.events
-      (work [] [] start.history start.coming)
+      (work shown wrote start.history start.coming)
       (work (known.shown ended.display) (known.written_in ended.lines) kept
       (coming_in known.feed reader)) (why ≡ lines.answer) (λ e. why ≡ e)
   pub done : saved ≡ true → held ended.text ≡ text_to_save kept
@@ -138,19 +144,32 @@ pub record PlaysBytes {S D L T : Type 0} (known : Known S D L) (held : T → Lis
   pub history_is : ended.history ≡ (if saved then all_saved kept else kept)
   pub source_is : ended.source ≡ source_of reader
   pub ahead_is : ended.ahead ≡ kept_of reader
+  pub unread_is : unread (coming_in known.feed reader)
+      ≡ (with_kept ended.ahead (known.feed ended.source)).coming
   pub ending_is : ended.ending ≡ ending_of (ending_after why saved)
   pub reason : SessionReason (program_given options words) (known.feed ended.source).failed
       (known.show_failed ended.display) (known.write_failed ended.lines) why
 
--- the relation of the program's session, over a reader and two writers. If what the reads gave
--- agrees with the assumed bytes, the session is that of these bytes. A writer that hasn't failed
--- got everything that its sink took
+-- the relation of the program's session, over a reader and two writers that had these bytes. If what the reads gave
+-- agrees with the bytes that were assumed of the reader as it was passed in, the session is that of
+-- these bytes. A writer that hasn't failed got everything that its sink took
 pub record PlaysOver {R K E W T : Type 0}
     (known : Known (ReadSource R K) (WriteSink E) (WriteSink W)) (held : T → List ℕ)
-    (failed : T → Bool) (options : Options) (words : Option (List (List ℕ))) (old bytes : List ℕ)
-    (last : Last) (ended : Ended (ReadSource R K) (WriteSink E) (WriteSink W) T) : Type 0 where
-  pub plays : IsTrue (agrees (left_of bytes (gave ended.source)) last (met ended.source))
-      → PlaysBytes known held failed options words old bytes last ended
+    (failed : T → Bool) (options : Options) (words : Option (List (List ℕ)))
+    (shown wrote old bytes : List ℕ) (last : Last)
+    (ended : Ended (ReadSource R K) (WriteSink E) (WriteSink W) T) : Type 0 where
+  pub plays : IsTrue (known.feed ended.source).told
+      → PlaysBytes known held failed options words shown wrote old bytes last ended
   pub drawn : known.show_failed ended.display ≡ false
       → sent_of ended.display ≡ taken ended.display
   pub written : known.write_failed ended.lines ≡ false → sent_of ended.lines ≡ taken ended.lines
+
+-- no session was opened, and no call was made of the reader and the writers that were passed in
+pub record UnopensOver {F R K E W T : Type 0} (feed : F → Feed) (shown : E → Option (List ℕ))
+    (written : W → Option (List ℕ)) (config : Config) (old : List ℕ) (keys : R) (display : E)
+    (lines : W)
+    (unopened : Unopened F (ReadSource R K) (WriteSink E) (WriteSink W) T) : Type 0 where
+  pub fault : LoadRefused config (fresh_feed old End) (feed unopened.history) unopened.why
+  pub keys_are : IsUnread keys unopened.source
+  pub display_is : IsUnused shown display unopened.display
+  pub lines_are : IsUnused written lines unopened.lines

@@ -14,7 +14,7 @@ use Rattle.line_config.specs.declared.device.Last.{Last}
 use Rattle.line_config.specs.declared.device.Last.TheVariants.{Failed, End}
 use Rattle.line_config.specs.declared.settings.EditMode.{EditMode}
 use Rattle.line_record.specs.Ring.{Ring}
-use Rattle.line_keys.specs.Coming.{Coming, Pressed, Pasted, CutOff, Ends, Refused}
+use Rattle.line_keys.specs.Coming.{Coming, Pressed, Pasted, CutOff, Ends, Refused, unread}
 use Rattle.line_screen.specs.KeyGrammar.{are_whole, EndWithoutEsc, readings}
 use Rattle.line_screen.specs.Input.{chars_of}
 
@@ -92,11 +92,12 @@ SessionsBegin =
 
 -- the keys and pastes of the one, then what the other has
 abbrev pub coming_then : Coming → Coming → Coming
-coming_then (Pressed k rest) more = Pressed k (coming_then rest more)
-coming_then (Pasted text rest) more = Pasted text (coming_then rest more)
-coming_then (CutOff item) more = CutOff item
-coming_then (Ends item) more = more
-coming_then (Refused why) more = Refused why
+coming_then (Pressed bytes k rest) more = Pressed (bytes ++ unread more) k (coming_then rest more)
+coming_then (Pasted bytes text rest) more =
+    Pasted (bytes ++ unread more) text (coming_then rest more)
+coming_then (CutOff bytes item left) more = CutOff bytes item left
+coming_then (Ends bytes item left) more = more
+coming_then (Refused bytes why) more = Refused bytes why
 
 -- the bytes are read as whole keys and pastes to their end, if no paste is announced
 abbrev pub AreWhole : EditMode → List ℕ → Type 0

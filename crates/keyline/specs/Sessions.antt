@@ -53,7 +53,7 @@ pub record SessionState : Type 0 where
 
 -- what the bytes of a source mean for the key tables
 abbrev pub coming_from : EditMode → List ℕ → Last → Coming
-coming_from mode bytes last = coming_of (readings mode (chars_of bytes last))
+coming_from mode bytes last = coming_of bytes (readings mode (chars_of bytes last))
 
 -- the state before a line: the remaining input is that of these bytes, followed by this
 abbrev pub state_over : Ring → Filed → EditMode → List ℕ → Last → SessionState

@@ -3,17 +3,12 @@ use Rattle.std.specs.Prelude.{◌≡◌, ℕ, ◌<◌, Bool, true, false, List, 
 use Rattle.std.specs.List.{flat_map}
 use Rattle.line_config.specs.Feed.{fresh_feed}
 use Rattle.line_config.specs.declared.config.Config.{Config}
-use Rattle.line_config.specs.declared.device.Last.{Last}
 use Rattle.line_config.specs.declared.device.Last.TheVariants.{End}
 use Rattle.line_config.specs.declared.errors.ReadlineError.{ReadlineError}
-use Rattle.line_config.specs.declared.settings.EditMode.{EditMode}
 use Rattle.line_help.specs.HistoryText.{text_to_save}
 use Rattle.line_keys.specs.Answers.{Custom}
-use Rattle.line_keys.specs.Coming.{Coming}
+use Rattle.line_keys.specs.Coming.{unread}
 use Rattle.line_record.specs.Ring.{new_ring}
-use Rattle.line_screen.specs.Input.{chars_of}
-use Rattle.line_screen.specs.KeyGrammar.{read_from}
-use Rattle.line_screen.specs.Reader.{coming_by}
 use Rattle.keyline.specs.Endings.{ending_of}
 use Rattle.keyline.specs.Plays.{loaded_from}
 use Rattle.keyline.specs.Program.{EditHelper, edit_helping}
@@ -55,15 +50,6 @@ is_cut PasteOutOfPlace = false
 is_cut Handler = false
 is_cut ending = true
 
--- the remaining input is what these bytes read as, by a reader that may have failed in a call, or be
--- before a pasted text
-pub record ReadsOn (unread : List ℕ) (rest : Coming) : Type 0 where
-  pub mode : EditMode
-  pub announced : Bool
-  pub refused : Option ReadlineError
-  pub last : Last
-  pub rest_is : rest ≡ coming_by false refused (read_from mode announced (chars_of unread last))
-
 pub record IsTranscript (g : Given) (start : SessionState) (course : Course ReadlineError)
     (t : Transcript) : Type 0 where
   pub lines_are : t.lines.items ≡ lines_text (flat_map lines_written course.events)
@@ -71,7 +57,7 @@ pub record IsTranscript (g : Given) (start : SessionState) (course : Course Read
   pub history_is : t.history.items ≡ text_to_save
       (remembered g.config.auto_add_history (flat_map lines_kept course.events) start.history)
   pub ending_is : t.ending ≡ ending_of course.answer
-  pub unread_is : ReadsOn t.unread.items (left_to_come start.coming course.events)
+  pub unread_is : t.unread.items ≡ unread (left_to_come start.coming course.events)
 
 -- THE relation of a session over memory: it is the definition's, for more fuel than there are bytes
 -- of keys. On any display between two lines, such as a blank one, each moment is shown

@@ -1,7 +1,7 @@
 //! Builds a session from its requested parts, with the program's defaults for the rest.
 
 ghost use Rattle.std.specs.Prelude.{◌≡◌, ◌≤◌, IfErr, IfOk, Some, [], false};
-ghost use Rattle.line_config.specs.Adapters.{gave, taken};
+ghost use Rattle.line_config.specs.Adapters.{IsUnread, IsUnused, gave, taken};
 ghost use Rattle.keyline.specs.Builders.{HasDefaults};
 ghost use Rattle.keyline.specs.Columns.{ColumnsBy};
 ghost use Rattle.keyline.specs.Program.{standard_config};
@@ -10,12 +10,13 @@ ghost use Rattle.keyline.specs.Plays.{Opens, Unopens};
 
 use crate::editor::LineEditor;
 use crate::session::{Session, Unopened};
-use line_config::{Config, ReadSource, Sink, SliceSource, Source, WriteSink};
+use line_config::{Config, Foretold, ReadSource, Sink, SliceSource, Source, WriteSink};
 use line_help::Helper;
 use line_keys::{Decides, EventHandler, EventMap};
 use std::alloc::Global;
 use std::env;
-use std::io::{self, Input, Stderr, StdinLock};
+use std::io::{self, Input, Read, Stderr, StdinLock, Write};
+use std::marker::Brand;
 
 /// The columns of a row if no other number is set.
 const COLUMNS: u16 = 80;
@@ -52,15 +53,15 @@ pub type DefaultBuilder<'p, S, D> = SessionBuilder<
     Nowhere,
 >;
 
-/// Keys from standard input.
-pub type StandardKeys = ReadSource<StdinLock<'static>>;
+/// Keys from standard input, of which `K` says what is assumed.
+pub type StandardKeys<K = Brand> = ReadSource<StdinLock<'static>, K>;
 
 /// A builder over the standard streams.
-pub type StandardBuilder<'p> = DefaultBuilder<'p, StandardKeys, WriteSink<Stderr>>;
+pub type StandardBuilder<'p, K = Brand> = DefaultBuilder<'p, StandardKeys<K>, WriteSink<Stderr>>;
 
 /// An editor over them with the helper `H`, whose history is saved to `T`.
-pub type StandardEditor<H, T = Nowhere> = LineEditor<
-    StandardKeys,
+pub type StandardEditor<H, T = Nowhere, K = Brand> = LineEditor<
+    StandardKeys<K>,
     H,
     WriteSink<Stderr>,
     Nowhere,
@@ -120,24 +121,42 @@ pub fn session_builder<'p, S: Source + Drop, D: Sink + Drop>(
     }
 }
 
+/// A builder over any reader of keys, of which `K` says what is assumed, and any writer for the
+/// display. It makes no call of them.
+pub fn builder_over<'p, K: Foretold<R>, R: Read + Drop, E: Write + Drop>(
+    alloc: Global,
+    keys: R,
+    display: E,
+) -> DefaultBuilder<'p, ReadSource<R, K>, WriteSink<E>>
+    ensures defaults { HasDefaults ⟦<SliceSource<'static> as Source>⟧.feed
+        ⟦<Nowhere as Sink>⟧.has_failed ⟦<Nowhere as Sink>⟧.has_failed result }
+    ensures columns { result.columns ≡ 80 }
+    ensures keys { IsUnread keys result.source }
+    ensures display { IsUnused E.contents display result.display }
+    ensures source_works { (⟦<ReadSource<R, K> as Source>⟧.feed result.source).failed ≡ false }
+    ensures display_works { ⟦<WriteSink<E> as Sink>⟧.has_failed result.display ≡ false }
+{
+    session_builder(alloc, ReadSource::foretold(keys), WriteSink::new(display))
+}
+
 /// Keys from standard input, and the display on standard error, with the columns of the window.
 /// These are the number in the environment variable `COLUMNS`, in decimal digits, 2 to 1,000; 80 if
 /// it is not set or is anything else.
-pub fn standard_builder<'p>(rt: &HostRuntime) -> StandardBuilder<'p>
+///
+/// `K` says what is assumed of standard input. A program that does without a proof of its own takes
+/// the default of `StandardEditor`.
+pub fn standard_builder<'p, K: Foretold<StdinLock<'static>>>(
+    rt: &HostRuntime,
+) -> StandardBuilder<'p, K>
     ensures defaults { HasDefaults ⟦<SliceSource<'static> as Source>⟧.feed
         ⟦<Nowhere as Sink>⟧.has_failed ⟦<Nowhere as Sink>⟧.has_failed result }
     ensures columns { (2 ≤ result.columns) × (result.columns ≤ 1000) }
     ensures nothing_read { gave result.source ≡ [] }
     ensures nothing_written { taken result.display ≡ [] }
-    ensures keys { (⟦<StandardKeys as Source>⟧.feed result.source).failed ≡ false }
+    ensures keys { (⟦<StandardKeys<K> as Source>⟧.feed result.source).failed ≡ false }
     ensures display { ⟦<WriteSink<Stderr> as Sink>⟧.has_failed result.display ≡ false }
 {
-    session_builder(
-        rt.alloc(),
-        ReadSource::new(rt.stdin().reader()),
-        WriteSink::new(rt.stderr()),
-    )
-    .columns(environment_columns(rt))
+    builder_over(rt.alloc(), rt.stdin().reader(), rt.stderr()).columns(environment_columns(rt))
 }
 
 impl<'p, F, S, H, D, L, T, B: Decides> SessionBuilder<'p, F, S, H, D, L, T, B>

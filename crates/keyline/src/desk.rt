@@ -21,8 +21,9 @@ use std::alloc::Global;
 
 /// Writes a text and a newline, and flushes them.
 fn send_line<L: Sink>(lines: &mut L, text: &str) -> Result<(), DeviceFailed>
-    ensures { Sends L.held L.has_failed (text.now ++ 0x0A ∷ []) lines.old lines.new
+    ensures sends { Sends L.held L.has_failed (text.now ++ 0x0A ∷ []) lines.old lines.new
         result }
+    ensures passes { NothingWaits L.waits L.has_failed lines.new }
 {
     lines.write(text.as_bytes())?;
     lines.write(b"\n")?;
@@ -35,6 +36,7 @@ fn write_line<L: Sink>(lines: &mut L, text: &str) -> Result<(), ReadlineError>
     ensures sends { Sends L.held L.has_failed (line_text text.now) lines.old lines.new
         result }
     ensures fault { IfErr result (λ e. e ≡ Lines) }
+    ensures passes { NothingWaits L.waits L.has_failed lines.new }
 {
     match send_line(lines, text) {
         Ok(()) => Ok(()),
@@ -82,6 +84,8 @@ fn keep<D: Sink + Drop, L: Sink>(
     ensures screen { screen_of out.new ≡ screen_of out.old }
     ensures passes { NothingWaits D.waits D.has_failed (sink_of out.old)
         → NothingWaits D.waits D.has_failed (sink_of out.new) }
+    ensures passes_lines { NothingWaits L.waits L.has_failed lines.old
+        → NothingWaits L.waits L.has_failed lines.new }
 {
     out.write_and_flush("\r\n")?;
     remember(alloc, history, text.as_str(), adds)?;
@@ -107,6 +111,8 @@ fn close<D: Sink + Drop, L: Sink>(
     ensures screen { screen_of out.new ≡ screen_of out.old }
     ensures passes { NothingWaits D.waits D.has_failed (sink_of out.old)
         → NothingWaits D.waits D.has_failed (sink_of out.new) }
+    ensures passes_lines { NothingWaits L.waits L.has_failed lines.old
+        → NothingWaits L.waits L.has_failed lines.new }
 {
     match outcome {
         Ok(text) => keep(alloc, text, adds, out, history, lines),
@@ -156,7 +162,7 @@ impl<S: Source + Drop, H: Helper + Drop, D: Sink + Drop, L: Sink + Drop> Desk<S,
         ensures { let custom = custom_of bindings.now B.decides in
             let helps = helping_by H.hint_of H.verdict_of H.completion_of H.update_of H.marks in
             let given = given_of config.now custom prompt.now in
-            let known = known_by S.feed D.held D.waits D.has_failed L.held L.has_failed in
+            let known = known_by S.feed D.held D.waits D.has_failed L.held L.waits L.has_failed in
             TakesLine known (given (screen_of self.out) (helps self.helper))
             (given (screen_of result.desk.out) (helps result.desk.helper))
             self result.desk (made_of string_bytes result.outcome) }

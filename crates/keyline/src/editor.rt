@@ -70,7 +70,7 @@ where
     pub fn read_line(&mut self, prompt: &str) -> Result<String, ReadlineError>
         ensures { let helps =
             helping_by H.hint_of H.verdict_of H.completion_of H.update_of H.marks in
-            let known = known_by S.feed D.held D.waits D.has_failed L.held L.has_failed in
+            let known = known_by S.feed D.held D.waits D.has_failed L.held L.waits L.has_failed in
             EditorReads known (given_in B.decides helps prompt.now) self.old self.new
             (made_of string_bytes result) }
     {
@@ -145,7 +145,7 @@ where
     pub fn finish(self) -> Ended<S, D, L, T>
         ensures { let why = option_map_or (λ e. e) (ending_in self) Eof in
             IfSome (session_of self) (λ s.
-            Finishes T.held T.has_failed (desk_of s) (text_sink s) why result) }
+            Finishes S.feed T.held T.has_failed (desk_of s) (text_sink s) why result) }
     {
         let LineEditor { session, ended } = self;
         let why = ended.unwrap_or(ReadlineError::Eof);

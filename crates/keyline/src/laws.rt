@@ -36,7 +36,7 @@ pub fn always_told<
     ensures told { IsTrue (S.feed result.source).told }
     ensures plays { let helps =
         helping_by H.hint_of H.verdict_of H.completion_of H.update_of H.marks in
-        let known = known_by S.feed D.held D.waits D.has_failed L.held L.has_failed in
+        let known = known_by S.feed D.held D.waits D.has_failed L.held L.waits L.has_failed in
         RunsSession known T.held T.has_failed
         (given_in B.decides helps (prompt_of session) session)
         (desk_of session) (text_sink session) result }
@@ -58,7 +58,7 @@ pub fn lines<
 >(session: Session<S, H, D, L, T, B>, prompter: P) -> (Session<S, H, D, L, T, B>, ReadlineError)
     ensures { let helps =
         helping_by H.hint_of H.verdict_of H.completion_of H.update_of H.marks in
-        let known = known_by S.feed D.held D.waits D.has_failed L.held L.has_failed in
+        let known = known_by S.feed D.held D.waits D.has_failed L.held L.waits L.has_failed in
         TakesLines known (given_in B.decides helps (prompt_of session) session) (P.lines prompter)
         (desk_of session) (desk_of result.0) result.1 }
 {

@@ -22,35 +22,106 @@ pub mod program;
 pub mod prompter;
 pub mod session;
 
-pub use builder::{
-    DefaultBuilder, Nowhere, SessionBuilder, StandardBuilder, StandardEditor, StandardKeys,
-    session_builder, standard_builder,
-};
+pub use builder::DefaultBuilder;
+pub use builder::Nowhere;
+pub use builder::SessionBuilder;
+pub use builder::StandardBuilder;
+pub use builder::StandardEditor;
+pub use builder::StandardKeys;
+pub use builder::builder_over;
+pub use builder::session_builder;
+pub use builder::standard_builder;
 pub use desk::Desk;
 pub use edit_helper::EditHelper;
 pub use editor::LineEditor;
 pub use ending::Ending;
-pub use line_buffer::{ChangeListener, LineBuffer};
-pub use line_config::{
-    Behavior, BellStyle, Builder, ColorMode, CompletionType, Config, Configurer, DeviceFailed,
-    EditMode, Foretold, HistoryDuplicates, HookFault, Last, ReadSource, ReadlineError, Sink,
-    SliceSource, Source, VecSink, WriteSink,
-};
-pub use line_editor::{
-    Anchor, At, CharSearch, Direction, GraphemeClusterMode, Movement, RepeatCount, Unit, Word,
-    WordAction,
-};
-pub use line_help::{
-    Candidate, Completer, Context, DefaultHistory, FileHistory, FilenameCompleter, Helper,
-    HelperParts, Highlighter, Hint, Hinter, History, HistoryHinter, HistoryIter, Listed, Lister,
-    MatchingBracketHighlighter, MatchingBracketValidator, MemHistory, Pair, Prompt,
-    SearchDirection, SearchResult, ValidationContext, ValidationResult, Validator, WordCompleter,
-    load_words, update_line,
-};
-pub use line_keys::{
-    Bindings, Cmd, CmdKind, ConditionalEventHandler, Decides, Event, EventContext, EventHandler,
-    EventMap, InputMode, Invoke, KeyCode, KeyEvent, Keys, Modifiers, Text,
-};
-pub use options::{Options, Parsed, parse};
-pub use program::{config_of, edit, helper_of, play};
-pub use session::{Ended, LineRead, Session, Unopened};
+pub use line_buffer::ChangeListener;
+pub use line_buffer::LineBuffer;
+pub use line_config::Behavior;
+pub use line_config::BellStyle;
+pub use line_config::Builder;
+pub use line_config::ColorMode;
+pub use line_config::CompletionType;
+pub use line_config::Config;
+pub use line_config::Configurer;
+pub use line_config::DeviceFailed;
+pub use line_config::EditMode;
+pub use line_config::Foretold;
+pub use line_config::HistoryDuplicates;
+pub use line_config::HookFault;
+pub use line_config::Last;
+pub use line_config::OwnBytes;
+pub use line_config::ReadSource;
+pub use line_config::ReadlineError;
+pub use line_config::ReportsBytes;
+pub use line_config::Sink;
+pub use line_config::SliceSource;
+pub use line_config::Source;
+pub use line_config::VecSink;
+pub use line_config::WriteSink;
+pub use line_editor::Anchor;
+pub use line_editor::At;
+pub use line_editor::CharSearch;
+pub use line_editor::Direction;
+pub use line_editor::GraphemeClusterMode;
+pub use line_editor::Movement;
+pub use line_editor::RepeatCount;
+pub use line_editor::Unit;
+pub use line_editor::Word;
+pub use line_editor::WordAction;
+pub use line_help::Candidate;
+pub use line_help::Completer;
+pub use line_help::Context;
+pub use line_help::DefaultHistory;
+pub use line_help::FileHistory;
+pub use line_help::FilenameCompleter;
+pub use line_help::Helper;
+pub use line_help::HelperParts;
+pub use line_help::Highlighter;
+pub use line_help::Hint;
+pub use line_help::Hinter;
+pub use line_help::History;
+pub use line_help::HistoryHinter;
+pub use line_help::HistoryIter;
+pub use line_help::Listed;
+pub use line_help::Lister;
+pub use line_help::MatchingBracketHighlighter;
+pub use line_help::MatchingBracketValidator;
+pub use line_help::MemHistory;
+pub use line_help::Pair;
+pub use line_help::Prompt;
+pub use line_help::SearchDirection;
+pub use line_help::SearchResult;
+pub use line_help::ValidationContext;
+pub use line_help::ValidationResult;
+pub use line_help::Validator;
+pub use line_help::WordCompleter;
+pub use line_help::load_words;
+pub use line_help::update_line;
+pub use line_keys::Bindings;
+pub use line_keys::Cmd;
+pub use line_keys::CmdKind;
+pub use line_keys::ConditionalEventHandler;
+pub use line_keys::Decides;
+pub use line_keys::Event;
+pub use line_keys::EventContext;
+pub use line_keys::EventHandler;
+pub use line_keys::EventMap;
+pub use line_keys::InputMode;
+pub use line_keys::Invoke;
+pub use line_keys::KeyCode;
+pub use line_keys::KeyEvent;
+pub use line_keys::Keys;
+pub use line_keys::Modifiers;
+pub use line_keys::Text;
+pub use options::Options;
+pub use options::Parsed;
+pub use options::parse;
+pub use program::config_of;
+pub use program::edit;
+pub use program::helper_of;
+pub use program::play;
+pub use session::Ended;
+pub use session::LineRead;
+pub use session::Session;
+pub use session::Unopened;

@@ -28,7 +28,7 @@ pub struct Transcript {
     /// The history's text to save; empty if no entry is new.
     pub history: Vec<u8>,
     pub ending: Ending,
-    /// The keys that were not read, as after Ctrl-C.
+    /// The bytes of the keys that were not read, as after Ctrl-C.
     pub unread: Vec<u8>,
 }
 
@@ -114,7 +114,7 @@ pub fn transcribe<B: Decides>(
         VecSink::new(alloc),
     )?;
     let ended = session.run();
-    if is_cut(ended.ending) || ended.text.failed() || ended.source.failed() {
+    if is_cut(ended.ending) || ended.text.failed() {
         return Err(ReadlineError::Memory);
     }
     let unread = unread_of(alloc, ended.ahead, &ended.source)?;

@@ -1,19 +1,14 @@
 //! A session with the program's options.
 
-ghost use Rattle.std.specs.Prelude.{◌≡◌, ◌⊎◌, ◌≤◌, Err, IfErr, IfOk, false};
-ghost use Rattle.line_config.specs.Feed.{fresh_feed};
-ghost use Rattle.line_config.specs.declared.device.Last.TheVariants.{End};
-ghost use Rattle.line_config.specs.declared.errors.ReadlineError.TheVariants.{Memory};
+ghost use Rattle.std.specs.Prelude.{◌≡◌, ◌≤◌, IfErr, IfOk, [], false};
 ghost use Rattle.keyline.specs.Known.{known_by};
-ghost use Rattle.keyline.specs.Program.{EditsByOptions, PlaysOver, config_of, helper_of, word_texts};
-ghost use Rattle.keyline.specs.Plays.{Unopens, loads};
+ghost use Rattle.keyline.specs.Program.{EditsByOptions, PlaysOver, UnopensOver, config_of, had_by, helper_of, word_texts};
+ghost use Rattle.keyline.specs.Plays.{Unopens};
 
 use crate::edit_helper::EditHelper;
 use crate::options::Options;
 use crate::session::{Ended, Session, Unopened};
-use line_config::{
-    Config, Foretold, ReadSource, ReadlineError, Sink, SliceSource, Source, VecSink, WriteSink,
-};
+use line_config::{Config, Foretold, ReadSource, Sink, SliceSource, Source, VecSink, WriteSink};
 use line_help::{HelperParts, MatchingBracketValidator, WordCompleter};
 use line_keys::Bindings;
 use std::alloc::Global;
@@ -69,7 +64,7 @@ pub fn edit<F: Source + Drop, S: Source + Drop, D: Sink + Drop, L: Sink + Drop, 
     requires lines { L.has_failed lines ≡ false }
     requires text { T.has_failed text ≡ false }
     ensures edits { IfOk result (EditsByOptions F.feed
-        (known_by S.feed D.held D.waits D.has_failed L.held L.has_failed) T.held T.has_failed
+        (known_by S.feed D.held D.waits D.has_failed L.held L.waits L.has_failed) T.held T.has_failed
         options.now (word_texts words) history source display lines text) }
     ensures refused { IfErr result (Unopens F.feed (config_of options.now) history source display
         lines text) }
@@ -93,30 +88,36 @@ pub fn edit<F: Source + Drop, S: Source + Drop, D: Sink + Drop, L: Sink + Drop, 
 /// The same over any reader of keys and any writers, which are flushed at the end, and with a
 /// history's text in memory, before and after.
 ///
-/// The reader is assumed to give the bytes of `K`. For any such bytes that agree with what its
-/// reads gave, the session is that of these bytes, and the writers got its display bytes and its
-/// lines. An error means that the session was not opened: the text isn't UTF-8, or memory ran out.
-pub fn play<K: Foretold, R: Read + Drop, E: Write + Drop, W: Write + Drop>(
+/// `K` says which bytes the reader, as it is passed in, is assumed to give. If what its reads gave
+/// agrees with them, the session is that of these bytes, and the writers got its display bytes and
+/// its lines. An error means that the session was not opened: the text isn't UTF-8, or memory ran
+/// out. Then reader and writers come back, and no call of them was made.
+pub fn play<'a, K: Foretold<R>, R: Read + Drop, E: Write + Drop, W: Write + Drop>(
     alloc: Global,
     options: &Options,
     words: Option<Vec<String>>,
-    old: &[u8],
+    old: &'a [u8],
     keys: R,
     display: E,
     lines: W,
-) -> Result<Ended<ReadSource<R, K>, WriteSink<E>, WriteSink<W>, VecSink>, ReadlineError>
+) -> Result<
+    Ended<ReadSource<R, K>, WriteSink<E>, WriteSink<W>, VecSink>,
+    Unopened<SliceSource<'a>, ReadSource<R, K>, WriteSink<E>, WriteSink<W>, VecSink>,
+>
     requires { (2 ≤ options.now.columns) × (options.now.columns ≤ 1000) }
     ensures plays { let known = known_by ⟦<ReadSource<R, K> as Source>⟧.feed
         ⟦<WriteSink<E> as Sink>⟧.held ⟦<WriteSink<E> as Sink>⟧.waits
         ⟦<WriteSink<E> as Sink>⟧.has_failed
-        ⟦<WriteSink<W> as Sink>⟧.held ⟦<WriteSink<W> as Sink>⟧.has_failed in
+        ⟦<WriteSink<W> as Sink>⟧.held ⟦<WriteSink<W> as Sink>⟧.waits
+        ⟦<WriteSink<W> as Sink>⟧.has_failed in
         IfOk result (PlaysOver known ⟦<VecSink as Sink>⟧.held ⟦<VecSink as Sink>⟧.has_failed
-        options.now (word_texts words) old.now K.bytes K.last) }
-    ensures refused { IfErr result (λ why. (why ≡ Memory)
-        ⊎ (loads (config_of options.now) (fresh_feed old.now End) ≡ Err why)) }
+        options.now (word_texts words) (had_by E.contents display) (had_by W.contents lines)
+        old.entry.now (K.left keys []) K.last) }
+    ensures refused { IfErr result (UnopensOver ⟦<SliceSource<'a> as Source>⟧.feed
+        E.contents W.contents (config_of options.now) old.entry.now keys display lines) }
 {
     let source: ReadSource<R, K> = ReadSource::foretold(keys);
-    let mut played = edit(
+    let mut played = match edit(
         alloc,
         options,
         words,
@@ -125,7 +126,10 @@ pub fn play<K: Foretold, R: Read + Drop, E: Write + Drop, W: Write + Drop>(
         WriteSink::new(display),
         WriteSink::new(lines),
         VecSink::new(alloc),
-    )?;
+    ) {
+        Ok(played) => played,
+        Err(unopened) => return Err(unopened),
+    };
     let _ = played.display.flush();
     let _ = played.lines.flush();
     Ok(played)

@@ -295,7 +295,7 @@ where
     pub fn read_line(self, prompt: &str) -> LineRead<S, H, D, L, T, B>
         ensures { let helps =
             helping_by H.hint_of H.verdict_of H.completion_of H.update_of H.marks in
-            let known = known_by S.feed D.held D.waits D.has_failed L.held L.has_failed in
+            let known = known_by S.feed D.held D.waits D.has_failed L.held L.waits L.has_failed in
             ReadsNext known (given_in B.decides helps prompt.now) self result.session
             (made_of string_bytes result.line) }
     {
@@ -352,7 +352,7 @@ where
     /// devices. If the history can't be saved, that is the ending, unless a fault came before.
     #[inline(never)]
     pub fn finish(self, why: ReadlineError) -> Ended<S, D, L, T>
-        ensures { Finishes T.held T.has_failed (desk_of self) (text_sink self) why result }
+        ensures { Finishes S.feed T.held T.has_failed (desk_of self) (text_sink self) why result }
     {
         let Session { desk, mut text, .. } = self;
         let Desk {
@@ -380,7 +380,7 @@ where
     /// once, whatever the ending.
     #[inline(never)]
     pub fn run(self) -> Ended<S, D, L, T>
-        ensures { let known = known_by S.feed D.held D.waits D.has_failed L.held L.has_failed in
+        ensures { let known = known_by S.feed D.held D.waits D.has_failed L.held L.waits L.has_failed in
             let helps = helping_by H.hint_of H.verdict_of H.completion_of H.update_of H.marks in
             RunsSession known T.held T.has_failed (given_in B.decides helps (prompt_of self) self)
             (desk_of self) (text_sink self) result }

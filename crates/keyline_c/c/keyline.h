@@ -1,8 +1,11 @@
-/* Lines for programs in C: each call takes the keys typed since a line began. No state is kept between calls.
+/* Lines for programs in C and C++: each call takes the keys typed since a line began. No state is kept between calls.
  *
  * A program first calls keyline_line without keys, and sends the display bytes. While the status is KEYLINE_MORE it reads
- * a byte, appends it to the keys and calls again, with `sent` from the last step. All other arguments stay the same until
- * the line ends. The bytes sent for fewer keys are a prefix of those sent for more.
+ * some bytes, appends them to the keys and calls again, with `sent` from the last step. All other arguments stay the same
+ * until the line ends. The bytes sent for fewer keys are a prefix of those sent for more.
+ *
+ * A call may begin the drawing anew: `sent` is 0 again, and `columns` may differ. From the last "\r\x1b[J" on, the display
+ * bytes draw the line whole.
  *
  * When the line has ended, use its `kills`, `ends` and `place` for the next line. Use its `history` too, unless its
  * length is 0. Begin the next line's keys with the bytes after the first `keys`. After KEYLINE_ARGUMENT, KEYLINE_ROOM and
@@ -16,6 +19,16 @@
 #include <stddef.h>
 #include <stdint.h>
 
+#ifdef __cplusplus
+extern "C" {
+#endif
+
+/* The version of this header: of 1.2.3 it is 10203. */
+#define KEYLINE_VERSION 200
+
+/* The version of the library that is linked. */
+uint32_t keyline_version(void);
+
 enum keyline_status {
     KEYLINE_LINE,               /* the line is complete */
     KEYLINE_MORE,               /* more keys are wanted */
@@ -25,7 +38,7 @@ enum keyline_status {
     KEYLINE_PASTE_OUT_OF_PLACE, /* text was pasted where no command expects it */
     KEYLINE_ARGUMENT,           /* invalid argument; no effect */
     KEYLINE_ROOM,               /* a buffer is too small: none was written, and the step has all lengths. Retry the call with larger ones */
-    KEYLINE_MEMORY              /* out of memory; the call can be retried */
+    KEYLINE_MEMORY              /* out of memory, though each argument is valid; the call can be retried */
 };
 
 enum keyline_mode { KEYLINE_EMACS, KEYLINE_VI };
@@ -40,6 +53,7 @@ struct keyline_options {
     bool ended;       /* whether no more keys follow */
     size_t sent;      /* display bytes of this line sent so far; 0 at first */
     size_t place;     /* the kill ring's current slot; 0 at first */
+    size_t entries;   /* the most entries of the history, equal neighbours too; 0 stands for 100 without these */
 };
 
 /* Bytes to read. If the length is 0, the pointer may be null. */
@@ -97,25 +111,42 @@ void keyline_line_checked(const struct keyline_options *options, const uint8_t *
 
 /* Whether the text is valid. The pointer of an empty text may be null, and is then set to a byte. */
 static inline bool keyline_is_text(struct keyline_text *text) {
-    static const uint8_t none;
+    static const uint8_t none = 0;
     if (text->length == 0) text->bytes = &none;
     return text->bytes != NULL && text->length <= PTRDIFF_MAX;
 }
 
 static inline bool keyline_is_space(struct keyline_space *space) {
-    static uint8_t none;
+    static uint8_t none = 0;
     if (space->size == 0) space->bytes = &none;
     return space->bytes != NULL && space->size <= PTRDIFF_MAX;
+}
+
+/* What a status means, in words. */
+static inline const char *keyline_status_text(uint8_t status) {
+    switch (status) {
+    case KEYLINE_LINE: return "the line is complete";
+    case KEYLINE_MORE: return "more keys are wanted";
+    case KEYLINE_END: return "end of input";
+    case KEYLINE_INTERRUPTED: return "interrupted";
+    case KEYLINE_NOT_UTF8: return "the keys are not UTF-8";
+    case KEYLINE_PASTE_OUT_OF_PLACE: return "pasted text out of place";
+    case KEYLINE_ARGUMENT: return "invalid argument";
+    case KEYLINE_ROOM: return "a buffer is too small";
+    case KEYLINE_MEMORY: return "out of memory";
+    default: return "no status";
+    }
 }
 
 /* Reads the line of these keys, as far as they go. */
 static inline void keyline_line(const struct keyline_options *options, const struct keyline_given *given,
                                 const struct keyline_room *room, struct keyline_step *step) {
-    static const size_t none;
+    static const struct keyline_step invalid = {KEYLINE_ARGUMENT, 0, 0, 0, 0, 0, 0, 0, 0};
+    static const size_t none = 0;
     struct keyline_given g;
     struct keyline_room r;
     if (step == NULL) return;
-    *step = (struct keyline_step){.status = KEYLINE_ARGUMENT};
+    *step = invalid;
     if (options == NULL || given == NULL || room == NULL) return;
     g = *given;
     r = *room;
@@ -130,4 +161,8 @@ static inline void keyline_line(const struct keyline_options *options, const str
                          g.slots, r.display.bytes, r.display.size, r.line.bytes, r.line.size, r.history.bytes,
                          r.history.size, r.kills.bytes, r.kills.size, r.ends, KEYLINE_SLOTS, step);
 }
+
+#ifdef __cplusplus
+}
+#endif
 #endif

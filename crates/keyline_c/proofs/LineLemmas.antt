@@ -1,5 +1,5 @@
 -- What `run` leaves, and then the line's end.
-use Rattle.std.proofs.Common.{◌≡◌, inl, inr, ℕ, Bool, true, false, List, [], ◌∷◌, ◌++◌, Option, None, length, ◌+◌, arith, Result, Ok, Err, refl, sym, ap, ◌∙◌, subst, IsTrue}
+use Rattle.std.proofs.Common.{◌≡◌, inl, inr, ℕ, Bool, true, false, List, [], ◌∷◌, ◌++◌, Option, Some, None, length, ◌+◌, arith, Result, Ok, Err, refl, sym, ap, ◌∙◌, subst, IsTrue}
 use Rattle.std.specs.List.{flat_map}
 use Rattle.std.specs.Prelude.{⊤, IsErrAnd, String, if◌then◌else◌, string_bytes}
 use Rattle.std.proofs.lemmas.Grind.{flat_map-append}
@@ -21,13 +21,14 @@ use Rattle.line_editor.specs.States.{reason_of}
 use Rattle.line_editor.specs.declared.running.Ran.{Ran}
 use Rattle.line_help.specs.History.{Filed}
 use Rattle.line_keys.specs.Answers.{Custom}
-use Rattle.line_keys.specs.Coming.{Coming, made_of}
+use Rattle.line_keys.specs.Coming.{Coming, made_of, unread}
 use Rattle.line_keys.specs.Feeds.{KeyFeed}
 use Rattle.line_keys.specs.Phrases.{Input}
 use Rattle.line_buffer.specs.declared.layout.Layout.{Layout}
 use Rattle.line_record.specs.Ring.{Ring}
 use Rattle.line_screen.specs.Calls.{Screen, canvas_of, screen_of, sink_of, ruler_of}
-use Rattle.line_screen.specs.Reader.{coming_in, left_in}
+use Rattle.line_screen.specs.KeyGrammar.{Readings, Key, Paste, Cut, Stops, coming_of}
+use Rattle.line_screen.specs.Reader.{coming_by, coming_in, left_in}
 use Rattle.line_screen.specs.Reading.{kept_count}
 use Rattle.line_screen.specs.Drawing.{break_if}
 use Rattle.line_screen.specs.declared.reading.reader.KeyReader.{KeyReader}
@@ -58,6 +59,21 @@ end_bytes (Err e) = by (breaks_after e)
     by true = refl
     by false = refl
 
+-- the unread bytes of a reader are those that it has left
+unread_of : (bytes : List ℕ) (r : Readings) → unread (coming_of bytes r) ≡ bytes
+unread_of bytes (Key k behind rest) = refl
+unread_of bytes (Paste text behind rest) = refl
+unread_of bytes (Cut stop left) = refl
+unread_of bytes (Stops stop left) = refl
+
+unread_by : (failed : Bool) (refused : Option ReadlineError) (bytes : List ℕ) (r : Readings) → unread (coming_by failed refused bytes r) ≡ bytes
+unread_by true refused bytes r = refl
+unread_by false (Some why) bytes r = refl
+unread_by false None bytes r = unread_of bytes r
+
+unread_in : (F : SliceSource → Feed) (reader : KeyReader SliceSource) → unread (coming_in F reader) ≡ left_in F reader
+unread_in F reader = unread_by _ _ _ _
+
 module _ {H K T : Type 0} (held waits : VecSink → List ℕ) (failed : VecSink → Bool) (helps : Option H → Helping) (config : Config) (custom : Custom) (prompt : List ℕ) (helper : Option H)
     (old : ScreenRenderer VecSink) (display : VecSink) (ring ring' : Ring) (history history' : Filed) (feed feed' : KeyFeed) (ran : Ran (ScreenRenderer VecSink) H K T) (F : SliceSource → Feed) (reader : KeyReader SliceSource) (left : Left) where
   abbrev given : Given
@@ -82,16 +98,14 @@ module _ {H K T : Type 0} (held waits : VecSink → List ℕ) (failed : VecSink 
     abbrev LineWhole : ℕ → LineStage (ScreenRenderer VecSink) → Type 0
     LineWhole n y = Whole held unwritten true (tt {0}) history waits failed (screen_of old) setting config.indent_size (line_script n custom) first y (outcome_of ran)
 
-    left_whole : (n : ℕ) (value : Value) (input : Input) (layout : Layout) → LineWhole n (line_stage (surface ran.out layout) (kept value input ring' feed'.coming)) → LeftBy held F (line_course n given state) left
+    left_whole : (n : ℕ) (value : Value) (input : Input) (layout : Layout) → LineWhole n (line_stage (surface ran.out layout) (kept value input ring' feed'.coming)) → LeftBy held (line_course n given state) left
     left_whole n value input layout w =
         let c = line_course n given state in
         let o = c.answer.0 in
         let asks : List Event = asks_events (screen_of old) setting config.indent_size (fresh (screen_of old).mode) (kept_first setting config ring feed.coming) (played_in n given state).asks in
         let rest : LineState → Coming = λ k. k.coming in
         record {
-          reader = reader;
-          rest_is = rest_is;
-          goes_on = coming_is ∙ ap rest (sym w.rest_is);
+          rest_is = rest_is ∙ ap (λ (x : List ℕ). length x) (sym (unread_in F reader) ∙ ap unread (coming_is ∙ ap rest (sym w.rest_is)));
           outcome_is = ap (made_of string_bytes) outcome_is ∙ sym w.answer_is;
           drawn = ap held display_is ∙ (ends.drawn ∙ (ap (λ o. held (sink_of ran.out) ++ break_if (breaks o)) (sym w.answer_is)
               ∙ (ap (λ bytes. bytes ++ break_if (breaks o)) w.are_done.drawn
@@ -102,7 +116,7 @@ module _ {H K T : Type 0} (held waits : VecSink → List ℕ) (failed : VecSink 
         }
 
     pub reads_line : Runs (canvas_of held waits failed) helps custom prompt helper history.kept.entries config old ring feed ran ring' feed' → IsTrue feed'.told
-        → ReadsLine held F given state feed.bound left
+        → ReadsLine held given state feed.bound left
     reads_line runs told = record {
       goes = λ n b.
           let y = line_stage (surface ran.out runs.layout) (kept runs.value runs.input ring' feed'.coming) in
@@ -129,7 +143,7 @@ pub line_read : {K T : Type 0} (held waits : VecSink → List ℕ) (failed : Vec
     → feed.coming ≡ coming_from options.mode keys last → feed.bound ≡ length keys
     → left.outcome ≡ ran.outcome → left.display ≡ display → left.ring ≡ ring' → left.history ≡ history'
     → left.rest ≡ length (left_in F reader) → coming_in F reader ≡ feed'.coming
-    → ReadsLine held F (program_given options words) (state_over ring history options.mode keys last) (length keys) left
+    → ReadsLine held (program_given options words) (state_over ring history options.mode keys last) (length keys) left
 line_read held waits failed options words keys last config custom prompt helper old display ring ring' history history' feed feed' ran F reader left runs told ends fresh config_is custom_is prompt_is helper_is screen_is coming_is bound_is a b d e rest_is left_is =
     let adds : config.auto_add_history ≡ true = ap (λ (x : Config). x.auto_add_history) config_is in
     let read = reads_line held waits failed edit_helping config custom prompt helper old display ring ring' history history' feed feed' ran F reader left ends fresh adds a b d e rest_is left_is runs told in
@@ -140,7 +154,7 @@ line_read held waits failed options words keys last config custom prompt helper 
     ∙ (ap (λ (x : Custom). given_of (config_of options) x prompt (columns (config_of options)) (edit_helping helper)) custom_is
     ∙ (ap (λ (x : List ℕ). given_of (config_of options) nothing_bound x (columns (config_of options)) (edit_helping helper)) prompt_is
     ∙ ap (λ (x : Option EditHelper). given_of (config_of options) nothing_bound (string_bytes options.prompt) (columns (config_of options)) (edit_helping x)) helper_is))) in
-    let at : Given → Coming → ℕ → Type 0 = λ g c n. ReadsLine held F g (record { ring = ring; history = history; coming = c }) n left in
+    let at : Given → Coming → ℕ → Type 0 = λ g c n. ReadsLine held g (record { ring = ring; history = history; coming = c }) n left in
     subst (λ g. at g (coming_from options.mode keys last) (length keys)) given_is
     (subst (λ c. at (given_of config custom prompt (screen_of old) (edit_helping helper)) c (length keys)) coming_is
     (subst (λ n. at (given_of config custom prompt (screen_of old) (edit_helping helper)) feed.coming n) bound_is read))

@@ -20,7 +20,7 @@ filled slots text new is =
 pub one_more : (slots : List (List ℕ)) (text : List ℕ) (new : Ring) (i : ℕ) → new ≡ ring_by (slots ++ text ∷ []) (length slots) → length slots ≡ i → length new.slots ≡ i + 1
 one_more slots text new i is count = ap (λ (r : Ring). length r.slots) is ∙ omega (arith, length-append slots (text ∷ []), count)
 
-one_is : (text : List ℕ) → IsUtf8 text → All IsUtf8 (text ∷ [])
+pub one_is : (text : List ℕ) → IsUtf8 text → All IsUtf8 (text ∷ [])
 one_is text is zero d inside = is
 one_is text is (suc k) d inside = absurd (omega (arith, inside))
 

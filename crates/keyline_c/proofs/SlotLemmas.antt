@@ -1,12 +1,15 @@
 -- Texts that are laid out one after the other.
-use Rattle.std.proofs.Common.{◌≡◌, ◌∙◌, ℕ, zero, suc, ◌+◌, ◌-◌, ◌<◌, ◌≤◌, List, [], ◌∷◌, ◌++◌, length, take, drop, get_or, map, refl, sym, ap, subst, slice_index_or, append_assoc, arith}
+use Rattle.std.proofs.Common.{◌≡◌, ◌∙◌, ◌↔◌, Bool, true, false, true≢false, IsTrue, ℕ, zero, suc, ◌+◌, ◌-◌, ◌<◌, ◌≤◌, List, [], ◌∷◌, ◌++◌, length, take, drop, get_or, map, refl, sym, ap, subst, slice_index_or, append_assoc, arith}
 use Rattle.std.specs.List.{All, flat_map, slice_range}
+use Rattle.std.specs.Prelude.{Option, Some, None, IsSome}
 use Rattle.std.specs.Str.{IsUtf8}
 use Rattle.std.proofs.Math.Seq.{take-add, take-length}
 use Rattle.std.proofs.lemmas.Grind.{flat_map-append}
+use Rattle.std.proofs.lemmas.List.Elements.{All-append}
 use Rattle.std.proofs.lemmas.List.{take_more, map-append, append-nil, length-append, length-take-le, drop_at, take_at}
 use Rattle.line_record.specs.Ring.{Ring}
-use Rattle.keyline_c.specs.Slots.{AreLaidOut, IsSlot, IsRingOf, ends_behind, ring_by}
+use Rattle.keyline_c.proofs.RingLemmas.{one_is}
+use Rattle.keyline_c.specs.Slots.{AreLaidOut, HasRing, IsSlot, SlotMeans, IsRingOf, ends_behind, ring_by}
 
 abbrev own : List ℕ → List ℕ
 own text = text
@@ -115,6 +118,15 @@ slot_of texts ends place i start ring h inside at =
       utf8 = h.utf8 i [] (omega (arith, inside, slots_count ring.slots texts ends h.laid_out));
     }
 
+-- a slot that a ring has is there
+pub is_there : (texts ends : List ℕ) (place i start : ℕ) → HasRing texts ends place → i < length ends → start ≡ slice_index_or (0 ∷ ends) i 0 → (slot : List ℕ) × IsSlot texts start (slice_index_or ends i 0) slot
+is_there texts ends place i start (ring, h) inside at = (slice_index_or ring.slots i [], slot_of texts ends place i start ring h inside at)
+
+-- so a text that is looked for where one stands is given
+pub slot_given : {X : Type 0} (texts : List ℕ) (from to : ℕ) (copied : Option X → Option (List ℕ)) → copied None ≡ None → (o : Option X) → SlotMeans texts from to (copied o) → (slot : List ℕ) × IsSlot texts from to slot → IsSome o
+slot_given texts from to copied none (Some x) means slot = refl
+slot_given texts from to copied none None means slot = absurd (subst (SlotMeans texts from to) none means slot.0 slot.1)
+
 -- the ring of all of them, turned to a place
 pub ring_stands : (texts ends : List ℕ) (place start i : ℕ) (old new : Ring) → AreLaidOut old.slots (take start texts) (take i ends) → start ≡ length texts → i ≡ length ends
     → length old.slots ≡ i → All IsUtf8 old.slots → length ends ≤ 60 → place ≤ length ends - 1 → new ≡ ring_by old.slots place → IsRingOf texts ends place new
@@ -127,3 +139,44 @@ ring_stands texts ends place start i old new h all_texts all_ends count utf8 few
       inside = omega (arith, count, all_ends, inside);
       utf8 = utf8;
     })
+
+-- ---- the slots that stand in texts, from the first one on
+
+pub record Begins (texts ends : List ℕ) (start i : ℕ) : Type 0 where
+  pub slots : List (List ℕ)
+  pub laid_out : AreLaidOut slots (take start texts) (take i ends)
+  pub count : length slots ≡ i
+  pub utf8 : All IsUtf8 slots
+  pub start_is : start ≡ slice_index_or (0 ∷ ends) i 0
+
+pub begins : (texts ends : List ℕ) → Begins texts ends 0 0
+begins texts ends = record {
+  slots = [];
+  laid_out = record { texts_are = refl; ends_are = refl };
+  count = refl;
+  utf8 = λ k d inside. absurd (omega (arith, inside));
+  start_is = refl;
+}
+
+pub begins_more : (texts ends : List ℕ) (start i : ℕ) (text : List ℕ) → i < length ends → IsSlot texts start (slice_index_or ends i 0) text → Begins texts ends start i
+    → Begins texts ends (slice_index_or ends i 0) (i + 1)
+begins_more texts ends start i text inside slot h =
+    let next : suc i ≡ i + 1 = omega arith in
+    record {
+      slots = h.slots ++ text ∷ [];
+      laid_out = laid_to texts ends h.slots start i text inside slot.in_order slot.inside slot.slot_is h.laid_out;
+      count = omega (arith, length-append h.slots (text ∷ []), h.count);
+      utf8 = All-append IsUtf8 h.slots (text ∷ []) h.utf8 (one_is text slot.utf8);
+      start_is = ap (λ n. slice_index_or (0 ∷ ends) n 0) next;
+    }
+
+pub no_ring : (texts ends : List ℕ) (place : ℕ) → (HasRing texts ends place → ⊥) → IsTrue false ↔ HasRing texts ends place
+no_ring texts ends place none = (λ is. absurd (true≢false (sym is)), λ has. absurd (none has))
+
+-- there is a ring if they end where the texts end
+pub ring_if : (texts ends : List ℕ) (place start i : ℕ) (b : Bool) → Begins texts ends start i → i ≡ length ends → length ends ≤ 60 → place ≤ length ends - 1
+    → (IsTrue b → start ≡ length texts) → (start ≡ length texts → IsTrue b) → IsTrue b ↔ HasRing texts ends place
+ring_if texts ends place start i b h all few inside whole is_whole = (
+  λ is. (ring_by h.slots place, ring_stands texts ends place start i (ring_by h.slots 0) (ring_by h.slots place) h.laid_out (whole is) all h.count h.utf8 few inside refl),
+  λ has. is_whole (h.start_is ∙ (ap (λ n. slice_index_or (0 ∷ ends) n 0) all ∙ slots_end has.0.slots texts ends has.1.laid_out)),
+)

@@ -1,7 +1,5 @@
 -- The call from C, and its result.
 use Rattle.std.specs.Prelude.{◌≡◌, ◌⊎◌, ℕ, List, Result, Ok, Err, IsErrAnd, length}
-use Rattle.line_config.specs.Feed.{Feed}
-use Rattle.line_config.specs.declared.memory.SliceSource.{SliceSource}
 use Rattle.line_config.specs.declared.memory.VecSink.{VecSink}
 use Rattle.keyline_c.specs.Lines.{IsRefused, ReadsKeys}
 use Rattle.keyline_c.specs.Rooms.{RoomTexts}
@@ -30,12 +28,12 @@ abbrev pub status_in : Result Status Status → Status
 status_in (Ok status) = status
 status_in (Err status) = status
 
-module _ (held : VecSink → List ℕ) (feed : SliceSource → Feed) (options : KeylineOptions)
+module _ (held : VecSink → List ℕ) (options : KeylineOptions)
     (keys prompt words history kills ends : List ℕ) (old new : RoomTexts) where
   -- the line of these keys was read, and its texts are returned
   pub record GivesLine (step step' : KeylineStep) (result : Result Status Status) : Type 0 where
     pub left : Left
-    pub reads : ReadsKeys held feed options keys prompt words history kills ends left
+    pub reads : ReadsKeys options prompt words history kills ends held keys left
     pub gives : Gives held options.sent (length keys) left old new step step' result
 
   -- or it wasn't, because an argument is invalid or memory ran out, and nothing is done

@@ -1,33 +1,25 @@
 -- A line of the keys so far: its arguments and its result.
 use Rattle.std.specs.Prelude.{◌≡◌, ◌⊎◌, ℕ, ◌<◌, ◌++◌, Bool, true, if◌then◌else◌, List, Result, Ok, Err, IsErrAnd, length, string_bytes}
 use Rattle.std.specs.List.{flat_map}
-use Rattle.line_config.specs.Feed.{Feed}
 use Rattle.line_config.specs.declared.device.Last.{Last}
 use Rattle.line_config.specs.declared.device.Last.TheVariants.{End, Failed}
 use Rattle.line_config.specs.declared.errors.ReadlineError.{ReadlineError}
-use Rattle.line_config.specs.declared.errors.ReadlineError.TheVariants.{Display, Helper, HistoryText, Memory}
-use Rattle.line_config.specs.declared.memory.SliceSource.{SliceSource}
+use Rattle.line_config.specs.declared.errors.ReadlineError.TheVariants.{Display, Helper, Memory}
 use Rattle.line_config.specs.declared.memory.VecSink.{VecSink}
 use Rattle.line_editor.specs.Courses.{breaks_after}
 use Rattle.line_help.specs.History.{Filed}
-use Rattle.line_help.specs.HistoryText.{has_bad_row}
-use Rattle.line_help.specs.WordList.{rows_to_come}
-use Rattle.line_keys.specs.Coming.{made_of}
+use Rattle.line_keys.specs.Coming.{made_of, unread}
 use Rattle.line_screen.specs.Drawing.{break_if}
-use Rattle.line_screen.specs.Reader.{coming_in, left_in}
-use Rattle.line_screen.specs.declared.reading.reader.KeyReader.{KeyReader}
 use Rattle.keyline.specs.Program.{config_of, program_given}
-use Rattle.keyline.specs.Plays.{loaded_from, loads}
+use Rattle.keyline.specs.Plays.{loaded_from}
 use Rattle.keyline.specs.Events.{Course, bytes_drawn, line_course}
 use Rattle.keyline.specs.Sessions.{Given, SessionState, history_after, state_over}
 use Rattle.keyline.specs.declared.options.Options.{Options}
-use Rattle.keyline_c.specs.Meant.{AreMeant, OptionsMean, whole, words_in}
-use Rattle.keyline_c.specs.Slots.{IsRingOf}
+use Rattle.keyline_c.specs.Meant.{AreMeant, AreValid, keeping, whole, words_in}
 use Rattle.keyline_c.specs.declared.export.KeylineOptions.{KeylineOptions}
 use Rattle.keyline_c.specs.declared.line.Left.{Left}
 use Rattle.keyline_c.specs.declared.status.Status.{Status}
 use Rattle.keyline_c.specs.declared.status.Status.TheVariants as Refusal
-use Rattle.line_record.specs.Ring.{Ring}
 
 -- what follows the keys: their end, or a failure if more keys may follow
 abbrev pub last_of : Bool → Last
@@ -37,22 +29,19 @@ last_of ended = if ended then End else Failed
 abbrev pub IsWant : ReadlineError → Type 0
 IsWant e = (e ≡ Memory) ⊎ ((e ≡ Display) ⊎ (e ≡ Helper))
 
--- if memory didn't run out, the result is the line's: so many bytes are left for a reader that
--- continues after the line
-pub record LeftBy (held : VecSink → List ℕ) (feed : SliceSource → Feed)
+-- if memory didn't run out, the result is the line's, and so many bytes are unread after it
+pub record LeftBy (held : VecSink → List ℕ)
     (line : Course (Result (List ℕ) ReadlineError × SessionState)) (left : Left) : Type 0 where
-  pub reader : KeyReader SliceSource
   pub outcome_is : made_of string_bytes left.outcome ≡ line.answer.0
   pub drawn : held left.display ≡ flat_map bytes_drawn line.events
   pub ring_is : left.ring ≡ line.answer.1.ring
   pub history_is : left.history ≡ line.answer.1.history
-  pub rest_is : left.rest ≡ length (left_in feed reader)
-  pub goes_on : coming_in feed reader ≡ line.answer.1.coming
+  pub rest_is : left.rest ≡ length (unread line.answer.1.coming)
 
 -- the relation of a line. More fuel than the source has bytes is enough
-pub record ReadsLine (held : VecSink → List ℕ) (feed : SliceSource → Feed) (g : Given)
-    (x : SessionState) (bound : ℕ) (left : Left) : Type 0 where
-  pub goes : (n : ℕ) → bound < n → LeftBy held feed (line_course n g x) left
+pub record ReadsLine (held : VecSink → List ℕ) (g : Given) (x : SessionState) (bound : ℕ)
+    (left : Left) : Type 0 where
+  pub goes : (n : ℕ) → bound < n → LeftBy held (line_course n g x) left
       ⊎ IsErrAnd left.outcome IsWant
 
 -- after an accepted line, and after the endings that say so, the display gets a new row
@@ -66,30 +55,20 @@ pub record Ends (held : VecSink → List ℕ) (outcome : Result (List ℕ) Readl
   pub drawn : held new ≡ held old ++ break_if (breaks outcome)
   pub kept : history' ≡ history_after true outcome history
 
--- the relation of a line and its arguments: the options are valid, and it is the line of these
--- keys, with these words, this history and these slots
-pub record ReadsKeys (held : VecSink → List ℕ) (feed : SliceSource → Feed)
-    (options : KeylineOptions) (keys prompt words history kills ends : List ℕ) (left : Left)
-    : Type 0 where
-  pub chosen : Options
-  pub ring : Ring
-  pub meant : AreMeant options prompt chosen
-  pub ring_is : IsRingOf kills ends options.place ring
-  pub reads : ReadsLine held feed (program_given chosen (words_in words))
-      (state_over ring (loaded_from (config_of chosen) (whole history)) chosen.mode keys
-      (last_of options.ended)) (length keys) left
-
 module _ (options : KeylineOptions) (prompt words history kills ends : List ℕ) where
-  -- an argument is invalid: the options, a row of the words or of the history, or the kill ring
-  abbrev pub CantBeMeant : Type 0
-  CantBeMeant = ((o : Options) → AreMeant options prompt o → ⊥)
-      ⊎ ((has_bad_row (rows_to_come (whole words)) ≡ true)
-      ⊎ (((o : Options) × AreMeant options prompt o
-      × (loads (config_of o) (whole history) ≡ Err HistoryText))
-      ⊎ ((ring : Ring) → IsRingOf kills ends options.place ring → ⊥)))
+  -- the relation of a line and its arguments: they are valid, and it is the line of these keys,
+  -- with these words, this history and these slots
+  pub record ReadsKeys (held : VecSink → List ℕ) (keys : List ℕ) (left : Left) : Type 0 where
+    pub valid : AreValid options prompt words history kills ends
+    pub chosen : Options
+    pub meant : AreMeant options prompt chosen
+    pub reads : ReadsLine held (program_given chosen (words_in words))
+        (state_over valid.ring_is.0
+        (loaded_from (keeping options.entries (config_of chosen)) (whole history)) chosen.mode keys
+        (last_of options.ended)) (length keys) left
 
-  -- why a line isn't read: that, or memory ran out while its options are valid
+  -- why a line isn't read: an argument is invalid, or all are valid and memory ran out
   abbrev pub IsRefused : Status → Type 0
-  IsRefused Refusal.Argument = CantBeMeant
-  IsRefused Refusal.Memory = OptionsMean options prompt (Err Refusal.Memory)
+  IsRefused Refusal.Argument = AreValid options prompt words history kills ends → ⊥
+  IsRefused Refusal.Memory = AreValid options prompt words history kills ends
   IsRefused why = ⊥

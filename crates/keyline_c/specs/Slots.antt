@@ -1,12 +1,10 @@
 -- A kill ring as one text for all slots, with the place at which each slot ends.
-use Rattle.std.specs.Prelude.{◌≡◌, ◌≤◌, ◌+◌, ◌-◌, ℕ, false, List, [], ◌∷◌, Option, Some, None, Result, Ok, Err, length}
+use Rattle.std.specs.Prelude.{◌≡◌, ◌≤◌, ◌+◌, ◌-◌, ℕ, false, List, [], ◌∷◌, Option, Some, None, length}
 use Rattle.std.specs.List.{All, flat_map, slice_range}
 use Rattle.std.specs.Str.{IsUtf8}
 use Rattle.line_record.specs.Ring.{Ring}
 use Rattle.line_record.specs.declared.kill_ring.Action.TheVariants.{Other}
 use Rattle.keyline_c.specs.declared.ring.Slots.{Slots}
-use Rattle.keyline_c.specs.declared.status.Status.{Status}
-use Rattle.keyline_c.specs.declared.status.Status.TheVariants.{Argument, Memory}
 
 -- where each of these texts ends, if the first one begins after so many bytes
 abbrev pub ends_behind : ℕ → List (List ℕ) → List ℕ
@@ -54,11 +52,5 @@ pub record IsRingOf (texts ends : List ℕ) (place : ℕ) (ring : Ring) : Type 0
   pub inside : place ≤ length ring.slots - 1
   pub utf8 : All IsUtf8 ring.slots
 
--- it is that ring, or there is none; or memory ran out, for a valid number of slots and a place
--- among them
-abbrev pub RingMeans : List ℕ → List ℕ → ℕ → Result Ring Status → Type 0
-RingMeans texts ends place (Ok ring) = IsRingOf texts ends place ring
-RingMeans texts ends place (Err Argument) =
-    (ring : Ring) → IsRingOf texts ends place ring → ⊥
-RingMeans texts ends place (Err Memory) = (length ends ≤ 60) × (place ≤ length ends - 1)
-RingMeans texts ends place (Err status) = ⊥
+abbrev pub HasRing : List ℕ → List ℕ → ℕ → Type 0
+HasRing texts ends place = (ring : Ring) × IsRingOf texts ends place ring

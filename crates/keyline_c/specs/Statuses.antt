@@ -1,5 +1,4 @@
--- How a call ends: its number, the status of a line's ending, and the status of an argument's
--- error.
+-- How a call ends: its number, and the status of a line's ending.
 use Rattle.std.specs.Prelude.{ℕ, Result, Ok, Err}
 use Rattle.line_config.specs.declared.errors.ReadlineError.{ReadlineError}
 use Rattle.line_config.specs.declared.errors.ReadlineError.TheVariants as Refusal
@@ -28,9 +27,3 @@ ended_as (Err Refusal.Interrupted) = Interrupted
 ended_as (Err Refusal.NotUtf8) = NotUtf8
 ended_as (Err Refusal.PasteOutOfPlace) = PasteOutOfPlace
 ended_as (Err why) = Memory
-
--- the error of a text passed in, or of a line that didn't end
-abbrev pub refused_as : ReadlineError → Status
-refused_as Refusal.HistoryText = Argument
-refused_as Refusal.NotUtf8 = Argument
-refused_as why = Memory

@@ -1,23 +1,26 @@
 //! The call that C makes.
 
-ghost use Rattle.std.specs.Prelude.{[], ◌≡◌, ◌≢◌, ◌≤◌, MatchResult, length, string_bytes};
+ghost use Rattle.std.specs.Prelude.{[], ◌≡◌, ◌≢◌, ◌≤◌, ◌↔◌, IsTrue, MatchOption, MatchResult, Some, length, string_bytes};
 ghost use Rattle.std.specs.Result.{result_unwrap_or};
+ghost use Rattle.std.specs.Str.{IsUtf8};
 ghost use Rattle.line_help.specs.HistoryText.{text_to_save};
 ghost use Rattle.line_keys.specs.Coming.{made_of};
 ghost use Rattle.keyline_c.specs.declared.status.Status.TheVariants.{Memory};
 ghost use Rattle.keyline_c.specs.Call.{Answers, Calls, status_in};
 ghost use Rattle.keyline_c.specs.Lines.{IsRefused, ReadsKeys};
-ghost use Rattle.keyline_c.specs.Meant.{HistoryMeans, OptionsMean, WordsMean, mode_numbered};
+ghost use Rattle.keyline.specs.Plays.{loaded_from};
+ghost use Rattle.keyline.specs.Program.{config_of, word_texts};
+ghost use Rattle.keyline_c.specs.Meant.{AreMeant, AreValid, keeping, mode_numbered, whole, words_in};
 ghost use Rattle.keyline_c.specs.Rooms.{FitsRooms, GivesDisplay, GivesTexts, SameRooms, room_texts, texts_in, texts_of, with_lengths};
 ghost use Rattle.keyline_c.specs.Steps.{Gives, GivesEnd};
 
 use crate::line::{Left, read_line};
-use crate::ring::{ring_of, slots_of};
+use crate::ring::{is_ring, ring_of, slots_of};
 use crate::room::put;
 use crate::status::{Status, status_of};
 use keyline::{
-    EditMode, FileHistory, Options, ReadlineError, Sink, SliceSource, Source, VecSink, config_of,
-    load_words,
+    Config, Configurer, EditMode, FileHistory, Options, ReadlineError, Sink, SliceSource, VecSink,
+    config_of, load_words,
 };
 use std::alloc::Global;
 
@@ -37,6 +40,8 @@ pub struct KeylineOptions {
     pub sent: usize,
     /// The current slot of the kill ring.
     pub place: usize,
+    /// The most entries of the history, equal neighbours too; 0 stands for 100 without these.
+    pub entries: usize,
 }
 
 /// The result of a call. If the status says that a buffer is too small, the lengths are those that
@@ -105,18 +110,48 @@ fn mode_numbered(code: u8) -> Option<EditMode>
     }
 }
 
-/// The options of a line, if the arguments are valid.
-fn options_of(alloc: Global, options: &KeylineOptions, prompt: &[u8]) -> Result<Options, Status>
-    ensures { OptionsMean options.now prompt.now result }
+fn is_utf8(text: &[u8]) -> bool
+    ensures { IsTrue result ↔ IsUtf8 text.now }
 {
-    let mode = mode_numbered(options.mode).ok_or(Status::Argument)?;
+    str::from_utf8(text).is_ok()
+}
+
+/// The keymap and the prompt, if all arguments are valid. Allocates nothing.
+fn meant<'k>(options: &KeylineOptions, handed: &Handed<'k>) -> Option<(EditMode, &'k str)>
+    ensures { let valid = AreValid options.now handed.now.prompt.now handed.now.words.now
+        handed.now.history.now handed.now.kills.now handed.now.ends.now in
+        MatchOption result (valid → ⊥) (λ m. valid × (mode_numbered options.now.mode ≡ Some m.0)
+        × (m.1.now ≡ handed.now.prompt.now)) }
+{
+    let mode = mode_numbered(options.mode)?;
+    let prompt = str::from_utf8(handed.prompt).ok()?;
     if options.columns < 2 || options.columns > 1000 {
-        return Err(Status::Argument);
+        return None;
     }
+    if !is_utf8(handed.words) || !is_utf8(handed.history) {
+        return None;
+    }
+    if !is_ring(handed.kills, handed.ends, options.place) {
+        return None;
+    }
+    Some((mode, prompt))
+}
+
+/// The options of a line.
+fn options_of(
+    alloc: Global,
+    options: &KeylineOptions,
+    mode: EditMode,
+    prompt: &str,
+) -> Result<Options, Status>
+    requires mode { mode_numbered options.now.mode ≡ Some mode }
+    requires columns { (2 ≤ options.now.columns) × (options.now.columns ≤ 1000) }
+    ensures { MatchResult result (AreMeant options.now prompt.now) (λ e. e ≡ Memory) }
+{
     Ok(Options {
         mode,
         columns: options.columns,
-        prompt: String::from_str(alloc, str::from_utf8(prompt)?)?,
+        prompt: String::from_str(alloc, prompt)?,
         history: None,
         words: None,
         brackets: options.brackets,
@@ -125,7 +160,8 @@ fn options_of(alloc: Global, options: &KeylineOptions, prompt: &[u8]) -> Result<
 
 /// The words of a text, one per row; `None` for an empty text.
 fn words_of(alloc: Global, text: &[u8]) -> Result<Option<Vec<String>>, Status>
-    ensures { WordsMean text.now result }
+    ensures { MatchResult result (λ words. word_texts words ≡ words_in text.now)
+        (λ e. (e ≡ Memory) × (text.now ≢ [])) }
 {
     if text.is_empty() {
         return Ok(None);
@@ -133,11 +169,24 @@ fn words_of(alloc: Global, text: &[u8]) -> Result<Option<Vec<String>>, Status>
     Ok(Some(load_words(alloc, &mut SliceSource::new(text))?))
 }
 
-/// The history of a text.
-fn history_of(alloc: Global, options: &Options, text: &[u8]) -> Result<FileHistory, Status>
-    ensures { HistoryMeans options.now text.now result }
+/// The settings of the history.
+fn history_config(options: &KeylineOptions, chosen: &Options) -> Config
+    ensures { result ≡ keeping options.now.entries (config_of chosen.now) }
 {
-    let mut history = FileHistory::with_config(alloc, &config_of(options));
+    let mut config = config_of(chosen);
+    if options.entries > 0 {
+        let _ = config.set_max_history_size(options.entries);
+        let _ = config.set_history_ignore_dups(false);
+    }
+    config
+}
+
+/// The history of a text.
+fn history_of(alloc: Global, config: &Config, text: &[u8]) -> Result<FileHistory, Status>
+    ensures { MatchResult result (λ history. history ≡ loaded_from config.now (whole text.now))
+        (λ e. (e ≡ Memory) × (text.now ≢ [])) }
+{
+    let mut history = FileHistory::with_config(alloc, config);
     if !text.is_empty() {
         history.load_from(alloc, &mut SliceSource::new(text))?;
     }
@@ -146,15 +195,19 @@ fn history_of(alloc: Global, options: &Options, text: &[u8]) -> Result<FileHisto
 
 /// Reads the line of these keys.
 fn play<'k>(alloc: Global, options: &KeylineOptions, handed: &Handed<'k>) -> Result<Left, Status>
-    ensures { MatchResult result (ReadsKeys ⟦<VecSink as Sink>⟧.held
-        ⟦<SliceSource<'k> as Source>⟧.feed options.now handed.now.keys.now handed.now.prompt.now
-        handed.now.words.now handed.now.history.now handed.now.kills.now handed.now.ends.now)
+    ensures { let reads = ReadsKeys options.now handed.now.prompt.now handed.now.words.now
+        handed.now.history.now handed.now.kills.now handed.now.ends.now in
+        MatchResult result (reads ⟦<VecSink as Sink>⟧.held handed.now.keys.now)
         (IsRefused options.now handed.now.prompt.now handed.now.words.now handed.now.history.now
         handed.now.kills.now handed.now.ends.now) }
 {
-    let chosen = options_of(alloc, options, handed.prompt)?;
+    let Some((mode, prompt)) = meant(options, handed) else {
+        return Err(Status::Argument);
+    };
+    let chosen = options_of(alloc, options, mode, prompt)?;
     let words = words_of(alloc, handed.words)?;
-    let history = history_of(alloc, &chosen, handed.history)?;
+    let config = history_config(options, &chosen);
+    let history = history_of(alloc, &config, handed.history)?;
     let ring = ring_of(alloc, handed.kills, handed.ends, options.place)?;
     let (keys, ended) = (handed.keys, options.ended);
     Ok(read_line(alloc, &chosen, words, history, ring, keys, ended)?)
@@ -314,9 +367,9 @@ fn answer<'k>(
     rooms: &mut Rooms<'_>,
     step: &mut KeylineStep,
 ) -> Result<Status, Status>
-    ensures answers { Answers ⟦<VecSink as Sink>⟧.held ⟦<SliceSource<'k> as Source>⟧.feed
-        options.now handed.now.keys.now handed.now.prompt.now handed.now.words.now
-        handed.now.history.now handed.now.kills.now handed.now.ends.now
+    ensures answers { Answers ⟦<VecSink as Sink>⟧.held options.now handed.now.keys.now
+        handed.now.prompt.now handed.now.words.now handed.now.history.now handed.now.kills.now
+        handed.now.ends.now
         (texts_in rooms.old) (texts_in rooms.new) step.old step.new result }
     ensures same { SameRooms rooms.old rooms.new }
 {
@@ -331,6 +384,14 @@ fn status_in(ended: Result<Status, Status>) -> Status
     match ended {
         Ok(status) | Err(status) => status,
     }
+}
+
+/// The version, as `keyline.h` numbers it: of 1.2.3 it is 10203.
+#[unsafe(no_mangle)]
+pub extern "C" fn keyline_version() -> u32
+    ensures { result ≡ 200 }
+{
+    200
 }
 
 /// The line of these keys, as far as they go. `words` has a word in each row, for Tab; `history` is
@@ -355,9 +416,8 @@ pub extern "C" fn keyline_line_checked<'k>(
     ends_room: &mut [usize],
     step: &mut KeylineStep,
 )
-    ensures { Calls ⟦<VecSink as Sink>⟧.held ⟦<SliceSource<'k> as Source>⟧.feed options.now
-        keys.entry.now prompt.entry.now words.entry.now history.entry.now kills.entry.now
-        ends.entry.now
+    ensures { Calls ⟦<VecSink as Sink>⟧.held options.now keys.entry.now prompt.entry.now
+        words.entry.now history.entry.now kills.entry.now ends.entry.now
         (room_texts display_room.old line_room.old history_room.old kills_room.old ends_room.old)
         (room_texts display_room.new line_room.new history_room.new kills_room.new ends_room.new)
         step.new }

@@ -134,8 +134,8 @@ pub(crate) fn read_line<'k>(
     requires { (2 ≤ options.now.columns) × (options.now.columns ≤ 1000) }
     ensures { let given = program_given options.now (word_texts words) in
         let state = state_over ring history options.now.mode keys.entry.now (last_of ended) in
-        MatchResult result (ReadsLine ⟦<VecSink as Sink>⟧.held
-        ⟦<SliceSource<'k> as Source>⟧.feed given state (length keys.entry.now)) IsWant }
+        MatchResult result (ReadsLine ⟦<VecSink as Sink>⟧.held given state
+        (length keys.entry.now)) IsWant }
 {
     let config = config_of(options);
     let bindings = Bindings::new(alloc).unwrap();

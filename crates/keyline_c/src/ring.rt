@@ -1,7 +1,8 @@
 //! A kill ring as one text for all slots, with the place at which each slot ends.
 
-ghost use Rattle.std.specs.Prelude.{[], ◌∷◌, ◌++◌, ◌≡◌, ◌≢◌, ◌<◌, ◌≤◌, ◌-◌, MatchResult, OnOk, length, option_copied};
-ghost use Rattle.keyline_c.specs.Slots.{AreSlots, RingMeans, SlotMeans, ring_by};
+ghost use Rattle.std.specs.Prelude.{[], ◌∷◌, ◌++◌, ◌≡◌, ◌≢◌, ◌<◌, ◌≤◌, ◌-◌, ◌↔◌, IsTrue, IfOk, MatchResult, OnOk, length, option_copied};
+ghost use Rattle.line_record.specs.Ring.{Ring};
+ghost use Rattle.keyline_c.specs.Slots.{AreSlots, HasRing, IsRingOf, SlotMeans, ring_by};
 ghost use Rattle.keyline_c.specs.declared.status.Status.TheVariants.{Memory};
 
 use crate::status::Status;
@@ -77,32 +78,42 @@ fn turn_to(ring: &mut KillRing, place: usize, count: usize)
     ring.reset();
 }
 
+/// Whether a ring has these slots, and one of them at this place. Allocates nothing.
+pub(crate) fn is_ring(texts: &[u8], ends: &[usize], place: usize) -> bool
+    ensures { IsTrue result ↔ HasRing texts.now ends.now place }
+{
+    if ends.len() > SLOTS {
+        return false;
+    }
+    if place > ends.len().saturating_sub(1) {
+        return false;
+    }
+    let mut start = 0;
+    for &end in ends {
+        let Some(_text) = slot_text(texts, start, end) else {
+            return false;
+        };
+        start = end;
+    }
+    start == texts.len()
+}
+
 /// The ring of these slots, without a preceding kill.
 pub(crate) fn ring_of(
     alloc: Global,
     texts: &[u8],
     ends: &[usize],
     place: usize,
-) -> Result<KillRing, Status>
-    ensures { RingMeans texts.now ends.now place result }
+) -> Result<KillRing, OutOfMemory>
+    requires { HasRing texts.now ends.now place }
+    ensures { IfOk result (IsRingOf texts.now ends.now place) }
 {
-    if ends.len() > SLOTS {
-        return Err(Status::Argument);
-    }
-    if place > ends.len().saturating_sub(1) {
-        return Err(Status::Argument);
-    }
     let mut ring = KillRing::new(alloc, SLOTS)?;
     let mut start = 0;
     for &end in ends {
-        let Some(text) = slot_text(texts, start, end) else {
-            return Err(Status::Argument);
-        };
+        let text = slot_text(texts, start, end).unwrap();
         add_slot(alloc, &mut ring, text)?;
         start = end;
-    }
-    if start != texts.len() {
-        return Err(Status::Argument);
     }
     turn_to(&mut ring, place, ends.len());
     Ok(ring)

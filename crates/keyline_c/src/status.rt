@@ -1,13 +1,12 @@
 //! How a call ends.
 
 ghost use Rattle.std.specs.Prelude.{◌≡◌};
-ghost use Rattle.keyline_c.specs.Statuses.{code_of, ended_as, refused_as};
-ghost use Rattle.keyline_c.specs.declared.status.Status.TheVariants.{Argument, Memory};
+ghost use Rattle.keyline_c.specs.Statuses.{code_of, ended_as};
+ghost use Rattle.keyline_c.specs.declared.status.Status.TheVariants.{Memory};
 
 use keyline::ReadlineError;
 use line_buffer::OutOfMemory;
 use std::alloc::{AllocError, AllocFailed};
-use std::str::Utf8Error;
 
 /// The status of a call. `keyline.h` has the numbers.
 #[derive(Clone, Copy, PartialEq, Eq)]
@@ -66,15 +65,12 @@ pub(crate) fn status_of<T>(outcome: &Result<T, ReadlineError>) -> Status
     }
 }
 
-/// A text passed in isn't UTF-8, or memory ran out.
+/// The texts are UTF-8 and all devices are in memory, so only an allocation fails.
 impl From<ReadlineError> for Status {
-    ghost from_gives = { λ why status. status ≡ refused_as why };
+    ghost from_gives = { λ _ status. status ≡ Memory };
 
-    fn from(why: ReadlineError) -> Status {
-        match why {
-            ReadlineError::HistoryText | ReadlineError::NotUtf8 => Status::Argument,
-            _ => Status::Memory,
-        }
+    fn from(_: ReadlineError) -> Status {
+        Status::Memory
     }
 }
 
@@ -99,13 +95,5 @@ impl From<OutOfMemory> for Status {
 
     fn from(_: OutOfMemory) -> Status {
         Status::Memory
-    }
-}
-
-impl From<Utf8Error> for Status {
-    ghost from_gives = { λ _ status. status ≡ Argument };
-
-    fn from(_: Utf8Error) -> Status {
-        Status::Argument
     }
 }

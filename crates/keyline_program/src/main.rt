@@ -2,17 +2,17 @@
 //! on standard error.
 #![tactic(auto)]
 
-ghost use Rattle.std.specs.Prelude.{◌≡◌, ◌⊎◌, ◌≤◌, Err, IfErr, IfOk};
+ghost use Rattle.std.specs.Prelude.{◌≤◌, [], IfErr, IfOk};
+ghost use Rattle.std.specs.declared.io.stdio.LockedStdin.{LockedStdin};
 ghost use Rattle.line_config.specs.Feed.{fresh_feed};
 ghost use Rattle.line_config.specs.declared.device.Last.TheVariants.{End};
-ghost use Rattle.line_config.specs.declared.errors.ReadlineError.TheVariants.{Memory};
 ghost use Rattle.keyline.specs.Known.{known_by};
-ghost use Rattle.keyline.specs.Plays.{loads};
+ghost use Rattle.keyline.specs.Plays.{LoadRefused};
 ghost use Rattle.keyline.specs.Program.{PlaysOver, config_of, word_texts};
 
 use keyline::{
-    Ended, Ending, Foretold, Options, Parsed, ReadSource, ReadlineError, Sink, SliceSource, Source,
-    VecSink, WriteSink, load_words, parse,
+    Ended, Ending, Foretold, Options, Parsed, ReadlineError, Sink, SliceSource, Source,
+    StandardKeys, Unopened, VecSink, WriteSink, load_words, parse,
 };
 use keyline_files::{load_history, read_file, save_history};
 use std::env;
@@ -85,42 +85,51 @@ fn run(rt: &HostRuntime, options: &Options) -> ExitCode
     };
     match play::<Brand>(rt, options, words, old.as_slice()) {
         Ok(played) => ended(rt, kept(rt, options, &played)),
-        Err(ReadlineError::HistoryText | ReadlineError::Reader) => not_loaded(
-            rt,
-            "history does not load",
-            NO_HISTORY,
-        ),
-        Err(why) => ended(rt, Ending::from(why)),
+        Err(unopened) => match unopened.why {
+            ReadlineError::HistoryText | ReadlineError::Reader => not_loaded(
+                rt,
+                "history does not load",
+                NO_HISTORY,
+            ),
+            why => ended(rt, Ending::from(why)),
+        },
     }
 }
 
 /// What the program has after its session: keys were read from standard input, drawings and lines
 /// were written to standard error and standard output, and the history's text is in memory.
-type Played<K> = Ended<
-    ReadSource<StdinLock<'static>, K>,
+type Played<K> = Ended<StandardKeys<K>, WriteSink<Stderr>, WriteSink<Stdout>, VecSink>;
+
+/// The same if the session was not opened.
+type NotPlayed<'a, K> = Unopened<
+    SliceSource<'a>,
+    StandardKeys<K>,
     WriteSink<Stderr>,
     WriteSink<Stdout>,
     VecSink,
 >;
 
-/// The session. For all bytes of `K` that agree with what the reads of standard input gave, the
-/// writes of standard output and standard error took the lines and the display bytes of the session
-/// of these bytes.
-fn play<K: Foretold>(
+/// The session. For all bytes that `K` may say of standard input and that agree with what its reads
+/// gave, the writes of standard output and standard error took the lines and the display bytes of
+/// the session of these bytes.
+fn play<'a, K: Foretold<StdinLock<'static>>>(
     rt: &HostRuntime,
     options: &Options,
     words: Option<Vec<String>>,
-    old: &[u8],
-) -> Result<Played<K>, ReadlineError>
+    old: &'a [u8],
+) -> Result<Played<K>, NotPlayed<'a, K>>
     requires { (2 ≤ options.now.columns) × (options.now.columns ≤ 1000) }
-    ensures plays { let known = known_by ⟦<ReadSource<StdinLock<'static>, K> as Source>⟧.feed
+    ensures plays { let known = known_by ⟦<StandardKeys<K> as Source>⟧.feed
         ⟦<WriteSink<Stderr> as Sink>⟧.held ⟦<WriteSink<Stderr> as Sink>⟧.waits
         ⟦<WriteSink<Stderr> as Sink>⟧.has_failed
-        ⟦<WriteSink<Stdout> as Sink>⟧.held ⟦<WriteSink<Stdout> as Sink>⟧.has_failed in
-        IfOk result (PlaysOver known ⟦<VecSink as Sink>⟧.held ⟦<VecSink as Sink>⟧.has_failed
-        options.now (word_texts words) old.now K.bytes K.last) }
-    ensures refused { IfErr result (λ why. (why ≡ Memory)
-        ⊎ (loads (config_of options.now) (fresh_feed old.now End) ≡ Err why)) }
+        ⟦<WriteSink<Stdout> as Sink>⟧.held ⟦<WriteSink<Stdout> as Sink>⟧.waits
+        ⟦<WriteSink<Stdout> as Sink>⟧.has_failed in
+        IfOk result (λ played. (keys : LockedStdin) × PlaysOver known
+        ⟦<VecSink as Sink>⟧.held ⟦<VecSink as Sink>⟧.has_failed options.now (word_texts words)
+        [] [] old.entry.now (K.left keys []) K.last played) }
+    ensures refused { IfErr result (λ unopened. LoadRefused (config_of options.now)
+        (fresh_feed old.entry.now End) (⟦<SliceSource<'a> as Source>⟧.feed unopened.history)
+        unopened.why) }
 {
     keyline::play::<K, _, _, _>(
         rt.alloc(),
@@ -134,7 +143,11 @@ fn play<K: Foretold>(
 }
 
 /// Saves the history in its file, and answers what the session ends with then.
-fn kept<K: Foretold>(rt: &HostRuntime, options: &Options, played: &Played<K>) -> Ending {
+fn kept<K: Foretold<StdinLock<'static>>>(
+    rt: &HostRuntime,
+    options: &Options,
+    played: &Played<K>,
+) -> Ending {
     let Some(path) = &options.history else {
         return played.ending;
     };

@@ -2,6 +2,7 @@
 
 ghost use Rattle.std.specs.Prelude.{◌≤◌};
 
+use crate::told::lines_by_bytes;
 use keyline::{Ending, Options, Parsed, ReadlineError, SliceSource, VecSink, edit, parse};
 use stand_ins::rows::{Player, raised, rows_hold};
 use stand_ins::tables::{meant_bytes, pictured_bytes};
@@ -110,4 +111,43 @@ fn sessions_by_options(rt: HostRuntime) -> Result<(), Fail> {
         keyline --words alpha,alpine : #V2␊ : (␍)␍ = Eof <(␊)␊> <#V2␊(␊)␊>
         keyline --brackets --words alpha,alpine : #V2␊ : (␍)␍ = Eof <(␊)␊> <#V2␊(\\n)␊>";
     rows_hold(rt.alloc(), &mut Optioned, rows)
+}
+
+/// Writes the lines of a session whose reads give one byte each.
+#[derive(Drop)]
+struct ByBytes;
+
+impl Player for ByBytes {
+    fn play(&mut self, alloc: Global, call: &str) -> Result<String, Fail> {
+        let (line, devices) = call.split_once(" : ").unwrap_or((call, ""));
+        let (history, keys) = devices.split_once(" : ").unwrap_or((devices, ""));
+        let words: Vec<&str> = line.split_whitespace().collect(alloc)?;
+        raised(lines_told(alloc, words.as_slice(), history, keys))
+    }
+}
+
+fn lines_told(
+    alloc: Global,
+    words: &[&str],
+    history: &str,
+    keys: &str,
+) -> Result<String, AllocError> {
+    let (history, keys) = (meant_bytes(alloc, history)?, meant_bytes(alloc, keys)?);
+    match parse(alloc, words) {
+        Parsed::Run(options) => match lines_by_bytes(alloc, &options, &history, &keys) {
+            Ok(lines) => pictured_bytes(alloc, &lines),
+            Err(ending) => format!(in alloc; "{ending:?}"),
+        },
+        _ => String::from_str(alloc, "no options"),
+    }
+}
+
+#[test]
+fn lines_by_one_byte_reads(rt: HostRuntime) -> Result<(), Fail> {
+    let rows = "keyline : #V2␊ : ab␍c␍ = ab␊c␊
+        keyline : #V2␊old␊ : ␐␍ = old␊
+        keyline --mode vi : #V2␊ : ab␛x␍ = a␊
+        keyline : #V2␊ : a␃ = Interrupted
+        keyline : ‹ff› : ab␍ = HistoryText";
+    rows_hold(rt.alloc(), &mut ByBytes, rows)
 }

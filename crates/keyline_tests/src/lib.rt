@@ -14,3 +14,4 @@ mod endings;
 mod lines;
 #[cfg(test)]
 mod over_memory;
+pub mod told;

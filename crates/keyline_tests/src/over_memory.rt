@@ -71,6 +71,7 @@ fn sessions_over_memory(rt: HostRuntime) -> Result<(), Fail> {
         "none : #V2␊ : ab␍ = Eof <ab␊> <#V2␊ab␊> <␍␛[J␛[m> ␛[m␛[m␛[mab␍␊␍␛[J␛[m> ␛[m␛[m␛[m␍␊> <>
         none : #V2␊old␊ : ␐␍ = Eof <old␊> <> <␍␛[J␛[m> ␛[m␛[m␛[m␍␛[J␛[m> ␛[mold␛[m␛[m␍␊␍␛[J␛[m> ␛[m␛[m␛[m␍␊> <>
         none : #V2␊ : a␃bc = Interrupted <> <> <␍␛[J␛[m> ␛[m␛[m␛[ma␍␊> <bc>
+        none : #V2␊ : a␃␛[ = Interrupted <> <> <␍␛[J␛[m> ␛[m␛[m␛[ma␍␊> <␛[>
         none : #V2␊ : ‹ff›a = NotUtf8 <> <> <␍␛[J␛[m> ␛[m␛[m␛[m> <a>
         none : ‹ff› : ab␍ = HistoryText
         alpha,alpine : #V2␊ : al␉␃ = Interrupted <> <> <␍␛[J␛[m> ␛[m␛[m␛[mal␍␛[J␛[m> ␛[malp␛[m␛[m␍␊> <>";

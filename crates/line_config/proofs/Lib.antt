@@ -5,6 +5,6 @@ pub mod KnownLemmas
 pub mod Lent
 pub mod NotesLemmas
 pub mod PlayedLaws
-pub mod SaidLemmas
 pub mod ScriptLaws
 pub mod Taking
+pub mod TryLemmas

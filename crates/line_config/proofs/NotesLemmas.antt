@@ -1,8 +1,11 @@
 -- What a writer notes of calls one after the other.
-use Rattle.std.proofs.Common.{◌≡◌, ℕ, List, [], ◌++◌, Option, Some, None, sym, ap, subst, ◌∙◌, append-nil, append_assoc}
+use Rattle.std.proofs.Common.{◌≡◌, ℕ, List, [], ◌∷◌, ◌++◌, take, Option, Some, None, Result, Ok, sym, ap, subst, ◌∙◌, append-nil, append_assoc}
 use Rattle.std.proofs.lemmas.List.{append_cancel_left}
-use Rattle.std.specs.Io.KnownBytes.{Keeps, Appends}
-use Rattle.line_config.specs.Recorded.{Notes, took, inner_of}
+use Rattle.std.specs.Io.KnownBytes.{Keeps, Appends, WriteAppends}
+use Rattle.std.specs.declared.io.Error.{Error}
+use Rattle.line_config.specs.Calls.{Call}
+use Rattle.line_config.specs.Recorded.{Notes, calls_of, took, inner_of}
+use Rattle.line_config.proofs.TryLemmas.{since_same, since_then}
 use Rattle.line_config.specs.declared.recorded.Recorded.{Recorded}
 
 appends_none : (a b : Option (List ℕ)) → Keeps a b → Appends a b []
@@ -22,24 +25,40 @@ appends_then (Some ws) (Some vs) (Some us) xs ys first second = second ∙ ap (�
 
 module _ {W : Type 0} (contents : W → Option (List ℕ)) where
   pub notes_same : (a : Recorded W) → Notes contents a a
-  notes_same a = record { more = []; noted = sym (append-nil (took a)); writer = appends_same (contents (inner_of a)) }
+  notes_same a = record { more = []; noted = sym (append-nil (took a)); writer = appends_same (contents (inner_of a)); calls = since_same (calls_of a) }
 
-  pub notes_none : (a b : Recorded W) → took b ≡ took a → Keeps (contents (inner_of a)) (contents (inner_of b)) → Notes contents a b
-  notes_none a b same kept = record {
+  pub notes_none : (a b : Recorded W) (call : Call) → took b ≡ took a → Keeps (contents (inner_of a)) (contents (inner_of b)) → calls_of b ≡ call ∷ calls_of a
+      → Notes contents a b
+  notes_none a b call same kept noted = record {
     more = [];
     noted = same ∙ sym (append-nil (took a));
     writer = appends_none (contents (inner_of a)) (contents (inner_of b)) kept;
+    calls = record { others = call ∷ []; noted = noted };
   }
 
-  pub notes_some : (a b : Recorded W) (bytes : List ℕ) → took b ≡ took a ++ bytes → Appends (contents (inner_of a)) (contents (inner_of b)) bytes
-      → Notes contents a b
-  notes_some a b bytes noted got = record { more = bytes; noted = noted; writer = got }
+  pub notes_some : (a b : Recorded W) (bytes : List ℕ) (call : Call) → took b ≡ took a ++ bytes → Appends (contents (inner_of a)) (contents (inner_of b)) bytes
+      → calls_of b ≡ call ∷ calls_of a → Notes contents a b
+  notes_some a b bytes call took-more got noted = record {
+    more = bytes;
+    noted = took-more;
+    writer = got;
+    calls = record { others = call ∷ []; noted = noted };
+  }
+
+  pub notes_written : (a b : Recorded W) (result : Result ℕ Error) (n : ℕ) (bytes : List ℕ) (call : Call) → result ≡ Ok n
+      → WriteAppends (Some (took a)) (Some (took b)) result bytes → WriteAppends (contents (inner_of a)) (contents (inner_of b)) result bytes
+      → calls_of b ≡ call ∷ calls_of a → Notes contents a b
+  notes_written a b result n bytes call is took-more got noted =
+      let some : took b ≡ took a ++ take n bytes = rw is at took-more in
+      let same : Appends (contents (inner_of a)) (contents (inner_of b)) (take n bytes) = rw is at got in
+      notes_some a b (take n bytes) call some same noted
 
   pub notes_then : (a b c : Recorded W) → Notes contents a b → Notes contents b c → Notes contents a c
   notes_then a b c first second = record {
     more = first.more ++ second.more;
     noted = second.noted ∙ ap (λ zs. zs ++ second.more) first.noted ∙ append_assoc (took a) first.more second.more;
     writer = appends_then (contents (inner_of a)) (contents (inner_of b)) (contents (inner_of c)) first.more second.more first.writer second.writer;
+    calls = since_then first.calls second.calls;
   }
 
   -- all that waited was noted, so the writer below has it

@@ -1,20 +1,25 @@
 -- What contracts read of the devices over std's readers and writers. `remaining` and `contents` are
 -- std's ghost members of these.
-use Rattle.std.specs.Prelude.{◌≡◌, ℕ, ◌+◌, ◌-◌, ◌^◌, ◌<◌, List, [], ◌++◌, length, option_to_list, Option, Some, None, Bool, Result, Ok, Err, unwrap_or}
+use Rattle.std.specs.Prelude.{◌≡◌, ◌⊎◌, ◌∷◌, ℕ, ◌+◌, ◌-◌, ◌^◌, ◌<◌, List, [], ◌++◌, length, option_to_list, Option, Some, None, Bool, Result, Ok, Err, unwrap_or}
 use Rattle.std.specs.Io.KnownBytes.{Consumes, IsAtEnd}
 use Rattle.line_config.specs.Buffer.{bytes_in, piece_in, room_in}
 use Rattle.line_config.specs.Feed.{Feed}
-use Rattle.line_config.specs.Foretold.{left_of, agrees}
-use Rattle.line_config.specs.Recorded.{took, inner_of}
+use Rattle.line_config.specs.Calls.{Call, Ends, IsReadFailure, Moves, Tries, move_interrupted}
+use Rattle.line_config.specs.Foretold.{is_failed}
+use Rattle.line_config.specs.Recorded.{calls_of, took, inner_of}
 use Rattle.line_config.specs.declared.adapters.ReadSource.{ReadSource}
 use Rattle.line_config.specs.declared.adapters.WriteSink.{WriteSink}
 use Rattle.line_config.specs.declared.device.DeviceFailed.{DeviceFailed}
 use Rattle.line_config.specs.declared.device.Last.{Last}
-use Rattle.line_config.specs.declared.device.Last.TheVariants.{End}
+use Rattle.line_config.specs.declared.device.Last.TheVariants.{End, Failed}
 use Rattle.line_config.specs.declared.recorded.Recorded.{Recorded}
 
+-- the reader with the log of its calls
+abbrev pub recorded_reader : {R K : Type 0} → ReadSource R K → Recorded R
+recorded_reader s = s.reader
+
 abbrev pub reader_of : {R K : Type 0} → ReadSource R K → R
-reader_of s = s.reader
+reader_of s = inner_of s.reader
 
 -- what was read and not given yet
 abbrev pub unread_of : {R K : Type 0} → ReadSource R K → List ℕ
@@ -26,37 +31,63 @@ piece_of s = piece_in s.unread
 
 -- what its reads gave
 abbrev pub gave : {R K : Type 0} → ReadSource R K → List ℕ
-gave s = s.log.bytes
+gave s = took s.reader
 
 -- the end or the failure that a read met
 abbrev pub met : {R K : Type 0} → ReadSource R K → Option Last
 met s = s.met
 
--- a source that is assumed to give all these bytes, and then this. Its reads gave some, of which
--- some are unread, and met this
-abbrev pub feed_of : List ℕ → Last → List ℕ → List ℕ → Option Last → ℕ → Bool → Feed
-feed_of all last given unread met count failed = record {
-  told = agrees (left_of all given) last met;
-  coming = unread ++ unwrap_or (left_of all given) [];
+-- after an end or a failure nothing remains
+abbrev pub to_come : Option Last → List ℕ → List ℕ
+to_come None left = left
+to_come (Some last) left = []
+
+-- what is known of a source over this reader, by what is assumed of the reader. Its reads gave some
+-- bytes, of which some are unread, and met this
+abbrev pub feed_of : {R : Type 0} → (R → List ℕ → Option Last → Bool) → (R → List ℕ → List ℕ)
+    → Last → R → List ℕ → List ℕ → Option Last → ℕ → Feed
+feed_of told left last reader given unread met count = record {
+  told = told reader given met;
+  coming = unread ++ to_come met (left reader given);
   last = last;
   bound = 2 ^ 63 - count + length unread;
-  failed = failed;
+  failed = is_failed met;
 }
 
-abbrev pub source_feed : {R K : Type 0} → List ℕ → Last → ReadSource R K → Feed
-source_feed all last s = feed_of all last s.log.bytes (bytes_in s.unread) s.met s.count s.failed
+abbrev pub source_feed : {R K : Type 0} → (R → List ℕ → Option Last → Bool)
+    → (R → List ℕ → List ℕ) → Last → ReadSource R K → Feed
+source_feed told left last s =
+    feed_of told left last (inner_of s.reader) (took s.reader) (bytes_in s.unread) s.met s.count
 
 -- a source over this reader, from which nothing was read yet
 pub record IsUnread {R K : Type 0} (reader : R) (s : ReadSource R K) : Type 0 where
   pub reader_is : reader_of s ≡ reader
   pub unread : unread_of s ≡ []
   pub none_given : gave s ≡ []
+  pub not_called : calls_of (recorded_reader s) ≡ []
   pub none_met : met s ≡ None
 
 -- the byte of a call of a source
 abbrev pub given_by : Result (Option ℕ) DeviceFailed → List ℕ
 given_by (Ok byte) = option_to_list byte
 given_by (Err e) = []
+
+-- the end or the failure that a read met
+abbrev pub met_by : Call → Option Last
+met_by (Moves (Ok [])) = Some End
+met_by (Moves (Ok (byte ∷ bytes))) = None
+met_by (Moves (Err kind)) = Some Failed
+met_by call = None
+
+-- a source reads once, if nothing is unread and nothing was met; or not at all, and then it fails
+-- anew only after so many bytes
+abbrev pub ReadsOnce : {R K : Type 0} → ReadSource R K → ReadSource R K → Type 0
+ReadsOnce old new =
+    ((unread_of old ≡ []) × (met old ≡ None)
+    × Tries move_interrupted (calls_of (recorded_reader old)) (calls_of (recorded_reader new))
+    (λ call. met new ≡ met_by call))
+    ⊎ ((recorded_reader new ≡ recorded_reader old)
+    × ((met new ≡ met old) ⊎ ((met new ≡ Some Failed) × (2 ^ 63 - 4096 < length (gave old)))))
 
 -- a source gave these bytes, from the front of what its reads gave. What is noted more is what the
 -- reader gave more, if the reader reports its bytes; at the end nothing of them was left. While
@@ -68,11 +99,11 @@ pub record Asks {R K : Type 0} (remaining : R → Option (List ℕ)) (bytes : Li
   pub noted : gave new ≡ gave old ++ more
   pub passed : unread_of old ++ more ≡ bytes ++ unread_of new
   pub reader : Consumes (remaining (reader_of old)) (remaining (reader_of new)) more
-  pub lazy : 0 < length (unread_of old) → (more ≡ []) × (reader_of new ≡ reader_of old)
+  pub lazy : 0 < length (unread_of old) → (more ≡ []) × (recorded_reader new ≡ recorded_reader old)
   pub once : 0 < length more → more ≡ piece_of new
   pub end : met old ≡ None → met new ≡ Some End → IsAtEnd (remaining (reader_of new))
   pub stays : (last : Last) → met old ≡ Some last
-      → (met new ≡ Some last) × (reader_of new ≡ reader_of old)
+      → (met new ≡ Some last) × (recorded_reader new ≡ recorded_reader old)
 
 -- the writer with the log of what its writes took
 abbrev pub recorded_of : {W : Type 0} → WriteSink W → Recorded W
@@ -81,7 +112,7 @@ recorded_of s = s.writer
 abbrev pub writer_of : {W : Type 0} → WriteSink W → W
 writer_of s = inner_of s.writer
 
--- what the writer's writes took
+-- what the writer had before, if that is known, and what its writes took
 abbrev pub sent_of : {W : Type 0} → WriteSink W → List ℕ
 sent_of s = took s.writer
 
@@ -93,12 +124,14 @@ unsent_of s = bytes_in s.unsent
 abbrev pub room_of : {W : Type 0} → WriteSink W → ℕ
 room_of s = room_in s.unsent
 
--- all that it took
+-- the same and what was not sent yet: all that the sink took
 abbrev pub taken : {W : Type 0} → WriteSink W → List ℕ
 taken s = sent_of s ++ unsent_of s
 
--- a sink over this writer that took nothing yet
-pub record IsUnused {W : Type 0} (writer : W) (s : WriteSink W) : Type 0 where
+-- a sink over this writer that took nothing yet, so it has what the writer had
+pub record IsUnused {W : Type 0} (contents : W → Option (List ℕ)) (writer : W)
+    (s : WriteSink W) : Type 0 where
   pub writer_is : writer_of s ≡ writer
-  pub sent : sent_of s ≡ []
+  pub sent : sent_of s ≡ unwrap_or (contents writer) []
   pub unsent : unsent_of s ≡ []
+  pub not_called : calls_of (recorded_of s) ≡ []

@@ -1,10 +1,12 @@
 pub mod Adapters
 pub mod Buffer
+pub mod Calls
 pub mod Config
 pub mod Feed
 pub mod Foretold
 pub mod Played
 pub mod Recorded
 pub mod Refusals
+pub mod Said
 pub mod Scripts
 pub mod Sending

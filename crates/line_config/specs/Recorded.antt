@@ -1,17 +1,24 @@
--- What contracts read of a writer that notes what its writes took.
+-- What contracts read of a reader or a writer whose calls are noted.
 use Rattle.std.specs.Prelude.{◌≡◌, ℕ, List, ◌++◌, Option}
 use Rattle.std.specs.Io.KnownBytes.{Appends}
+use Rattle.line_config.specs.Calls.{Call, Since}
 use Rattle.line_config.specs.declared.recorded.Recorded.{Recorded}
 
--- what its writes took
-abbrev pub took : {W : Type 0} → Recorded W → List ℕ
+-- what its reads gave; or what a writer had before, if that is known, and then what its writes took
+abbrev pub took : {D : Type 0} → Recorded D → List ℕ
 took s = s.log.bytes
 
-abbrev pub inner_of : {W : Type 0} → Recorded W → W
-inner_of s = s.writer
+-- its calls, the newest first
+abbrev pub calls_of : {D : Type 0} → Recorded D → List Call
+calls_of s = s.log.calls
 
--- what is noted more is what the writer below took more, if that one reports its bytes
+abbrev pub inner_of : {D : Type 0} → Recorded D → D
+inner_of s = s.device
+
+-- what is noted more is what the writer below took more, if that one reports its bytes; and no call
+-- is forgotten
 pub record Notes {W : Type 0} (contents : W → Option (List ℕ)) (old new : Recorded W) : Type 0 where
   pub more : List ℕ
   pub noted : took new ≡ took old ++ more
   pub writer : Appends (contents (inner_of old)) (contents (inner_of new)) more
+  pub calls : Since (calls_of old) (calls_of new)

@@ -3,14 +3,14 @@ ghost use Rattle.std.specs.Prelude.{◌≡◌, ◌++◌, ◌+◌, ◌^◌, ◌�
 ghost use Rattle.std.specs.Io.KnownBytes.{Appends};
 ghost use Rattle.line_config.specs.Sending.{AppendsSome, Takes};
 ghost use Rattle.line_config.specs.Buffer.{bytes_in};
+ghost use Rattle.line_config.specs.Calls.{Ends, IsFlush, IsWriteFailure};
 ghost use Rattle.line_config.specs.Feed.{Fills, GivesByte, GivesBytes};
-ghost use Rattle.line_config.specs.Recorded.{Notes};
+ghost use Rattle.line_config.specs.Recorded.{Notes, took};
 ghost use Rattle.line_config.specs.declared.device.Last.TheVariants.{End, Failed};
 
 use crate::buffer::Buffer;
 use crate::device::{DeviceFailed, Last, Sink, Source};
 use crate::foretold::Foretold;
-use crate::log::Log;
 use crate::recorded::Recorded;
 use crate::retry::flush_retrying;
 use std::io::{Read, Write};
@@ -31,15 +31,13 @@ const MOST_BYTES: u64 = 0x7FFF_FFFF_FFFF_F000;
 /// end or a failure it doesn't read again. After more than 2^63 - 4,096 bytes it fails.
 #[derive(Drop)]
 pub struct ReadSource<R, K = Brand> {
-    reader: R,
-    log: Log,
+    reader: Recorded<R>,
     unread: Buffer<READ_SIZE>,
     met: Option<Last>,
     count: u64,
-    failed: bool,
     said: PhantomData<K>,
-    pub ghost emptied: { IsTrue failed → bytes_in unread ≡ [] },
-    pub ghost met_it: { IsTrue failed → met ≡ Some Failed },
+    pub ghost emptied: { met ≡ Some Failed → bytes_in unread ≡ [] },
+    pub ghost counted: { count ≡ length (took reader) },
 }
 
 impl<R: Read> ReadSource<R, Brand> {
@@ -55,22 +53,20 @@ impl<R: Read> ReadSource<R, Brand> {
     }
 }
 
-impl<R: Read, K: Foretold> ReadSource<R, K> {
-    ghost use Rattle.line_config.specs.Adapters.{Asks, IsUnread, reader_of, unread_of, met, source_feed};
+impl<R: Read, K: Foretold<R>> ReadSource<R, K> {
+    ghost use Rattle.line_config.specs.Adapters.{Asks, ReadsOnce, IsUnread, reader_of, unread_of, met, source_feed};
 
-    /// A source that gives the bytes of the reader, which are assumed to be those of `K`.
+    /// A source that gives the bytes of the reader, of which `K` says what is assumed.
     pub fn foretold(reader: R) -> Self
         ensures reader { IsUnread reader result }
         ensures bound { (⟦<ReadSource<R, K> as Source>⟧.feed result).bound ≡ 2 ^ 63 }
         ensures fresh { (⟦<ReadSource<R, K> as Source>⟧.feed result).failed ≡ false }
     {
         ReadSource {
-            reader,
-            log: Log::new(),
+            reader: Recorded::new(reader),
             unread: Buffer::new(),
             met: None,
             count: 0,
-            failed: false,
             said: PhantomData,
         }
     }
@@ -80,16 +76,16 @@ impl<R: Read, K: Foretold> ReadSource<R, K> {
         ensures reader { result.0 ≡ reader_of self }
         ensures unread { bytes_in result.1 ≡ unread_of self }
     {
-        (self.reader, self.unread)
+        (self.reader.into_inner(), self.unread)
     }
 
     // Reads once, unless the end or a failure was met.
     fn fill(&mut self)
         requires { unread_of self.old ≡ [] }
         ensures reader { Asks R.remaining [] self.old self.new }
-        ensures told { Fills (source_feed K.bytes K.last self.old)
-            (source_feed K.bytes K.last self.new) (unread_of self.new) (met self.new) }
-        ensures failed { self.new.failed ≡ self.old.failed }
+        ensures told { Fills (source_feed K.told K.left K.last self.old)
+            (source_feed K.told K.left K.last self.new) (unread_of self.new) (met self.new) }
+        ensures once { ReadsOnce self.old self.new }
         ensures met { unread_of self.new ≡ [] → IsTrue (is_some (met self.new)) }
     {
         if self.met.is_some() {
@@ -101,7 +97,6 @@ impl<R: Read, K: Foretold> ReadSource<R, K> {
         }
         match self.unread.fill_from(&mut self.reader) {
             Ok(()) => {
-                self.log.note(self.unread.as_slice());
                 self.count += self.unread.as_slice().len() as u64;
                 if self.unread.is_empty() {
                     self.met = Some(Last::End);
@@ -113,9 +108,9 @@ impl<R: Read, K: Foretold> ReadSource<R, K> {
 
     fn get_ready(&mut self)
         ensures reader { Asks R.remaining [] self.old self.new }
-        ensures told { Fills (source_feed K.bytes K.last self.old)
-            (source_feed K.bytes K.last self.new) (unread_of self.new) (met self.new) }
-        ensures failed { self.new.failed ≡ self.old.failed }
+        ensures told { Fills (source_feed K.told K.left K.last self.old)
+            (source_feed K.told K.left K.last self.new) (unread_of self.new) (met self.new) }
+        ensures once { ReadsOnce self.old self.new }
         ensures met { unread_of self.new ≡ [] → IsTrue (is_some (met self.new)) }
     {
         if self.unread.is_empty() {
@@ -124,33 +119,28 @@ impl<R: Read, K: Foretold> ReadSource<R, K> {
     }
 }
 
-impl<R: Read, K: Foretold> Source for ReadSource<R, K> {
-    ghost use Rattle.line_config.specs.Adapters.{Asks, gave, given_by, met, reader_of, source_feed, unread_of};
+impl<R: Read, K: Foretold<R>> Source for ReadSource<R, K> {
+    ghost use Rattle.line_config.specs.Adapters.{Asks, ReadsOnce, recorded_reader, gave, given_by, met, source_feed, unread_of};
 
-    ghost feed = { λ s. source_feed K.bytes K.last s };
+    ghost feed = { λ s. source_feed K.told K.left K.last s };
 
     ghost buffered = { unread_of };
 
     fn next_byte(&mut self) -> Result<Option<u8>, DeviceFailed>
-        ensures byte { GivesByte (source_feed K.bytes K.last self.old)
-            (source_feed K.bytes K.last self.new) result }
+        ensures byte { GivesByte (source_feed K.told K.left K.last self.old)
+            (source_feed K.told K.left K.last self.new) result }
 
         // The byte is the next one that was read. The end or a failure that a read met is returned
         // once no byte is left.
         ensures reader { Asks R.remaining (given_by result) self.old self.new }
         ensures end { result ≡ Ok None → (unread_of self.new ≡ []) × (met self.new ≡ Some End) }
         ensures fault { OnErr result ((unread_of self.new ≡ []) × (met self.new ≡ Some Failed)) }
+        ensures once { ReadsOnce self.old self.new }
     {
-        if self.failed {
-            return Err(DeviceFailed);
-        }
         self.get_ready();
         match (self.unread.next_byte(), self.met) {
             (Some(byte), _) => Ok(Some(byte)),
-            (None, Some(Last::Failed)) => {
-                self.failed = true;
-                Err(DeviceFailed)
-            }
+            (None, Some(Last::Failed)) => Err(DeviceFailed),
             (None, _) => Ok(None),
         }
     }
@@ -161,20 +151,20 @@ impl<R: Read, K: Foretold> Source for ReadSource<R, K> {
 
     fn consume(&mut self, amount: usize)
         requires { amount ≤ length (unread_of self.old) }
-        ensures bytes { GivesBytes (source_feed K.bytes K.last self.old)
-            (source_feed K.bytes K.last self.new) (take amount (unread_of self.old)) }
+        ensures bytes { GivesBytes (source_feed K.told K.left K.last self.old)
+            (source_feed K.told K.left K.last self.new) (take amount (unread_of self.old)) }
 
         // No read is made.
         ensures unread { unread_of self.new ≡ drop amount (unread_of self.old) }
         ensures gave { gave self.new ≡ gave self.old }
         ensures met { met self.new ≡ met self.old }
-        ensures reader { reader_of self.new ≡ reader_of self.old }
+        ensures reader { recorded_reader self.new ≡ recorded_reader self.old }
     {
         self.unread.consume(amount);
     }
 
     fn failed(&self) -> bool {
-        self.failed
+        matches!(self.met, Some(Last::Failed))
     }
 }
 
@@ -192,14 +182,15 @@ pub struct WriteSink<W> {
 
 impl<W: Write> WriteSink<W> {
     ghost use Rattle.line_config.specs.Adapters.{IsUnused, recorded_of, writer_of, unsent_of, room_of, taken};
+    ghost use Rattle.line_config.specs.Recorded.{calls_of};
 
     /// A sink that sends to the writer.
     pub fn new(writer: W) -> Self
-        ensures writer { IsUnused writer result }
+        ensures writer { IsUnused W.contents writer result }
         ensures fresh { ⟦<WriteSink<W> as Sink>⟧.has_failed result ≡ false }
     {
         WriteSink {
-            writer: Recorded::new(writer),
+            writer: Recorded::over_writer(writer),
             unsent: Buffer::new(),
             failed: false,
         }
@@ -223,6 +214,8 @@ impl<W: Write> WriteSink<W> {
         ensures some { IfOk result (λ n. 0 < length bytes.now → 0 < n) }
         ensures room { IfOk result (λ n. room_of self.old ≤ room_of self.new + n) }
         ensures refused { OnErr result (room_of self.old ≡ 0) }
+        ensures cause { OnErr result (Ends IsWriteFailure (calls_of (recorded_of self.old))
+            (calls_of (recorded_of self.new))) }
         ensures waiting { 0 < room_of self.old → recorded_of self.new ≡ recorded_of self.old }
     {
         if self.unsent.is_full() {
@@ -236,6 +229,8 @@ impl<W: Write> WriteSink<W> {
         ensures begins { AppendsSome (taken self.old) bytes.now (taken self.new) }
         ensures writer { Notes W.contents (recorded_of self.old) (recorded_of self.new) }
         ensures refused { OnErr result (room_of self.old < length bytes.now) }
+        ensures cause { OnErr result (Ends IsWriteFailure (calls_of (recorded_of self.old))
+            (calls_of (recorded_of self.new))) }
         ensures waiting { length bytes.now ≤ room_of self.old
             → recorded_of self.new ≡ recorded_of self.old }
     {
@@ -253,6 +248,10 @@ impl<W: Write> WriteSink<W> {
         ensures takes { taken self.new ≡ taken self.old }
         ensures sent { OnOk result (unsent_of self.new ≡ []) }
         ensures writer { Notes W.contents (recorded_of self.old) (recorded_of self.new) }
+        ensures flushed { OnOk result
+            (Ends IsFlush (calls_of (recorded_of self.old)) (calls_of (recorded_of self.new))) }
+        ensures cause { OnErr result (Ends IsWriteFailure (calls_of (recorded_of self.old))
+            (calls_of (recorded_of self.new))) }
     {
         self.unsent.send_to(&mut self.writer)?;
         flush_retrying(&mut self.writer)
@@ -261,6 +260,7 @@ impl<W: Write> WriteSink<W> {
 
 impl<W: Write> Sink for WriteSink<W> {
     ghost use Rattle.line_config.specs.Adapters.{recorded_of, writer_of, sent_of, unsent_of, room_of, taken};
+    ghost use Rattle.line_config.specs.Recorded.{calls_of};
 
     ghost held = { taken };
 
@@ -282,8 +282,15 @@ impl<W: Write> Sink for WriteSink<W> {
             → room_of self.old < length bytes.now) }
         ensures waiting { length bytes.now ≤ room_of self.old
             → recorded_of self.new ≡ recorded_of self.old }
+
+        // It fails if the writer's last call failed, and then for good: it makes no more calls.
+        ensures cause { OnErr result (self.old.failed ≡ false
+            → Ends IsWriteFailure (calls_of (recorded_of self.old))
+            (calls_of (recorded_of self.new))) }
+        ensures rests { IsTrue self.old.failed → self.new ≡ self.old }
     {
         if self.failed {
+            // It takes nothing more.
             return Err(DeviceFailed);
         }
         let gathered = self.gather_all(bytes);
@@ -303,8 +310,17 @@ impl<W: Write> Sink for WriteSink<W> {
         ensures passed_on { OnOk result (sent_of self.new ≡ taken self.old) }
         ensures told { OnOk result (Appends (W.contents (writer_of self.old))
             (W.contents (writer_of self.new)) (unsent_of self.old)) }
+        ensures flushed { OnOk result
+            (Ends IsFlush (calls_of (recorded_of self.old)) (calls_of (recorded_of self.new))) }
+
+        // It fails if the writer's last call failed, and then for good: it makes no more calls.
+        ensures cause { OnErr result (self.old.failed ≡ false
+            → Ends IsWriteFailure (calls_of (recorded_of self.old))
+            (calls_of (recorded_of self.new))) }
+        ensures rests { IsTrue self.old.failed → self.new ≡ self.old }
     {
         if self.failed {
+            // Its writer isn't called again.
             return Err(DeviceFailed);
         }
         let sent = self.send();

@@ -1,7 +1,8 @@
 //! The fixed array of an adapter: its content is between two places of the array.
 ghost use Rattle.std.specs.Prelude.{◌≡◌, IsTrue, ◌+◌, ◌-◌, ◌≤◌, ◌<◌, [], ◌++◌, length, take, drop, min, option_to_list, OnOk, OnErr, IsNone, ◌↔◌};
 ghost use Rattle.std.specs.Io.KnownBytes.{Consumes, IsAtEnd};
-ghost use Rattle.line_config.specs.Recorded.{Notes, took};
+ghost use Rattle.line_config.specs.Calls.{Ends, FillsBy, IsWriteFailure, Tries, move_interrupted};
+ghost use Rattle.line_config.specs.Recorded.{Notes, calls_of, inner_of, took};
 
 use crate::device::DeviceFailed;
 use crate::recorded::Recorded;
@@ -74,12 +75,18 @@ impl<const N: usize> Buffer<N> {
 
     /// Fills the buffer by one read.
     #[tactic(auto, using(crate::proofs::KnownLemmas::on_known))]
-    pub(crate) fn fill_from<R: Read>(&mut self, reader: &mut R) -> Result<(), DeviceFailed>
-        ensures bytes { Consumes (R.remaining reader.old) (R.remaining reader.new)
-            (bytes_in self.new) }
+    pub(crate) fn fill_from<R: Read>(
+        &mut self,
+        reader: &mut Recorded<R>,
+    ) -> Result<(), DeviceFailed>
+        ensures bytes { Consumes (R.remaining (inner_of reader.old))
+            (R.remaining (inner_of reader.new)) (bytes_in self.new) }
+        ensures took { took reader.new ≡ took reader.old ++ bytes_in self.new }
         ensures end { OnOk result
-            (bytes_in self.new ≡ [] → 0 < N → IsAtEnd (R.remaining reader.new)) }
+            (bytes_in self.new ≡ [] → 0 < N → IsAtEnd (R.remaining (inner_of reader.new))) }
         ensures err { OnErr result (bytes_in self.new ≡ []) }
+        ensures tries { Tries move_interrupted (calls_of reader.old) (calls_of reader.new)
+            (FillsBy (bytes_in self.new) result) }
         ensures piece { piece_in self.new ≡ bytes_in self.new }
     {
         self.start = 0;
@@ -110,6 +117,8 @@ impl<const N: usize> Buffer<N> {
         ensures writer { Notes W.contents writer.old writer.new }
         ensures sent { OnOk result (bytes_in self.new ≡ []) }
         ensures room { OnOk result (room_in self.new ≡ N) }
+        ensures cause { OnErr result
+            (Ends IsWriteFailure (calls_of writer.old) (calls_of writer.new)) }
     {
         while self.start < self.end {
             let count = write_retrying(writer, self.as_slice())?;

@@ -66,7 +66,8 @@ pub trait Sink {
 
         // It fails if and only if it is marked as failed, and then for good.
         ensures failure { has_failed self.new ≡ is_err result }
-        ensures for_good { IsTrue (has_failed self.old) → IsErr result };
+        ensures for_good { IsTrue (has_failed self.old) → IsErr result }
+        ensures rests { IsTrue (has_failed self.old) → held self.new ≡ held self.old };
 
     /// Passes on the buffered bytes.
     fn flush(&mut self) -> Result<(), DeviceFailed>

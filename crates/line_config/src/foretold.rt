@@ -1,22 +1,69 @@
-//! Assumed bytes of a source.
-ghost use Rattle.std.specs.Prelude.{ℕ, List, []};
+//! What is assumed of a reader.
+ghost use Rattle.std.specs.Prelude.{◌≡◌, ℕ, List, [], Bool, Option, Some, refl};
 ghost use Rattle.line_config.specs.declared.device.Last.{Last};
 ghost use Rattle.line_config.specs.declared.device.Last.TheVariants.{End};
+ghost use Rattle.line_config.specs.Foretold.{EndsAsSaid, Foretells, own_left, own_told, said_left, said_told};
+ghost use Rattle.line_config.specs.Said.{any_said, own_ends, own_said, said_ends};
 
+use std::io::Read;
 use std::marker::Brand;
 
-/// The bytes that a source is assumed to give, and what follows them.
+/// What is assumed of a reader: which bytes it gives, and what follows them.
 ///
-/// No code can read them: a function over any `K: Foretold` does the same whatever they are. So
-/// what is proved of it is proved for all of them.
-pub trait Foretold {
-    ghost bytes: { List ℕ };
+/// No code can read it: a function over any `K: Foretold<R>` does the same whatever is assumed. So
+/// what is proved of it is proved for all that can be assumed.
+pub trait Foretold<R: Read> {
+    // Whether it still holds of the reader, once its reads gave these bytes and met this.
+    ghost told: { R → List ℕ → Option Last → Bool };
 
+    // Which bytes are said to follow then.
+    ghost left: { R → List ℕ → List ℕ };
+
+    // And what follows these.
     ghost last: { Last };
+
+    ghost foretells: { Foretells R.remaining told left last };
+
+    ghost ends: { EndsAsSaid told last };
 }
 
-impl Foretold for Brand {
-    ghost bytes = { [] };
+/// Of any reader: it gives these bytes. A proof may say others, and another end.
+impl<R: Read> Foretold<R> for Brand {
+    ghost told = { said_told [] End };
+
+    ghost left = { said_left [] };
 
     ghost last = { End };
+
+    ghost foretells = { any_said R.remaining [] End };
+
+    ghost ends = { said_ends [] End };
+}
+
+/// A reader that always reports which bytes it has left.
+pub trait ReportsBytes: Read {
+    ghost bytes: { Self → List ℕ };
+
+    ghost reports: { (r : Self) → Self.remaining r ≡ Some (bytes r) };
+}
+
+impl ReportsBytes for &[u8] {
+    ghost bytes = { λ r. r.now };
+
+    ghost reports = { λ r. refl };
+}
+
+/// Of a reader that reports its bytes: it gives these, and then the end.
+pub struct OwnBytes;
+
+impl<R: ReportsBytes> Foretold<R> for OwnBytes {
+    ghost told = { own_told };
+
+    ghost left = { own_left R.bytes };
+
+    ghost last = { End };
+
+    ghost foretells = { own_said R.remaining R.bytes R.reports };
+
+    ghost ends = { own_ends };
 }

@@ -23,7 +23,7 @@ pub use config::Config;
 pub use configurer::Configurer;
 pub use device::{DeviceFailed, Last, Sink, Source};
 pub use errors::{HookFault, ReadlineError};
-pub use foretold::Foretold;
+pub use foretold::{Foretold, OwnBytes, ReportsBytes};
 pub use log::Log;
 pub use memory::{SliceSource, VecSink};
 pub use recorded::Recorded;

@@ -126,6 +126,7 @@ impl Sink for VecSink {
         ensures err { OnErr result (self.new.bytes.items ≡ self.old.bytes.items) }
         ensures failure { self.new.failed ≡ is_err result }
         ensures for_good { IsTrue self.old.failed → IsErr result }
+        ensures rests { IsTrue self.old.failed → self.new.bytes.items ≡ self.old.bytes.items }
 
         // It fails for the first time only if it must grow and the allocation fails.
         ensures refused { OnErr result (self.old.failed ≡ false

@@ -3,27 +3,43 @@
 //! An interrupted call has read or written nothing, so it is no failure of the device. A resized
 //! window interrupts a call, and so does a job that is stopped and continued. Every other error is
 //! a failure.
-ghost use Rattle.std.specs.Prelude.{◌≡◌, ◌++◌, ◌<◌, ◌≤◌, length, take, OnErr, IfOk};
+ghost use Rattle.std.specs.Prelude.{◌≡◌, ◌++◌, ◌<◌, ◌≤◌, length, take, Ok, Err, OnErr, IfOk, IsTrue, ◌↔◌};
 ghost use Rattle.std.specs.Io.KnownBytes.{ReadConsumes};
-ghost use Rattle.line_config.specs.Recorded.{Notes, took};
+ghost use Rattle.std.specs.IoError.{error_kind};
+ghost use Rattle.line_config.specs.Calls.{Tries, flush_interrupted, move_interrupted, moved};
+ghost use Rattle.line_config.specs.Calls.{AnswersFlush, AnswersRead, AnswersWrite};
+ghost use Rattle.line_config.specs.Recorded.{Notes, calls_of, inner_of, took};
 
 use crate::device::DeviceFailed;
 use crate::recorded::Recorded;
-use std::io::{ErrorKind, Read, Write};
+use std::io::{Error, ErrorKind, Read, Write};
 
 // A call must return, so the tries are counted. In practice this number is never reached.
 const TRIES: u64 = u64::MAX;
 
+fn was_interrupted(error: &Error) -> bool
+    ensures { IsTrue result ↔ (error_kind error.now ≡ ErrorKind.Interrupted) }
+{
+    matches!(error.kind(), ErrorKind::Interrupted)
+}
+
 // One read, repeated if a signal interrupts it.
 #[tactic(auto, using(crate::proofs::KnownLemmas::on_known))]
-pub(crate) fn read_retrying<R: Read>(reader: &mut R, buf: &mut [u8]) -> Result<usize, DeviceFailed>
+pub(crate) fn read_retrying<R: Read>(
+    reader: &mut Recorded<R>,
+    buf: &mut [u8],
+) -> Result<usize, DeviceFailed>
     ensures bound { IfOk result (λ n. n ≤ length buf.new) }
-    ensures reader { ReadConsumes (R.remaining reader.old) (R.remaining reader.new) result buf.new }
+    ensures reader { ReadConsumes (R.remaining (inner_of reader.old))
+        (R.remaining (inner_of reader.new)) result buf.new }
+    ensures took { took reader.new ≡ took reader.old ++ moved result buf.new }
+    ensures tries { Tries move_interrupted (calls_of reader.old) (calls_of reader.new)
+        (AnswersRead buf.new result) }
 {
-    for _ in 0..TRIES {
+    for _tried in 0..TRIES {
         match reader.read(buf) {
             Ok(count) => return Ok(count),
-            Err(e) if e.kind() == ErrorKind::Interrupted => {}
+            Err(e) if was_interrupted(&e) => {}
             Err(_) => return Err(DeviceFailed),
         }
     }
@@ -41,12 +57,14 @@ pub(crate) fn write_retrying<W: Write>(
     ensures bytes { IfOk result (λ n. took writer.new ≡ took writer.old ++ take n bytes.now) }
     ensures err { OnErr result (took writer.new ≡ took writer.old) }
     ensures writer { Notes W.contents writer.old writer.new }
+    ensures tries { Tries move_interrupted (calls_of writer.old) (calls_of writer.new)
+        (AnswersWrite bytes.now result) }
 {
-    for _ in 0..TRIES {
+    for _tried in 0..TRIES {
         match writer.write(bytes) {
             Ok(0) => return Err(DeviceFailed),
             Ok(count) => return Ok(count),
-            Err(e) if e.kind() == ErrorKind::Interrupted => {}
+            Err(e) if was_interrupted(&e) => {}
             Err(_) => return Err(DeviceFailed),
         }
     }
@@ -58,11 +76,13 @@ pub(crate) fn write_retrying<W: Write>(
 pub(crate) fn flush_retrying<W: Write>(writer: &mut Recorded<W>) -> Result<(), DeviceFailed>
     ensures bytes { took writer.new ≡ took writer.old }
     ensures writer { Notes W.contents writer.old writer.new }
+    ensures tries { Tries flush_interrupted (calls_of writer.old) (calls_of writer.new)
+        (AnswersFlush result) }
 {
-    for _ in 0..TRIES {
+    for _tried in 0..TRIES {
         match writer.flush() {
             Ok(()) => return Ok(()),
-            Err(e) if e.kind() == ErrorKind::Interrupted => {}
+            Err(e) if was_interrupted(&e) => {}
             Err(_) => return Err(DeviceFailed),
         }
     }

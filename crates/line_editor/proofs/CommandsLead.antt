@@ -129,7 +129,7 @@ over_rests c (Some end) w h = cc
 -- ---- undo
 
 undo_leads : (n : ℕ) (s : Setting) (v : Value) → Leads s v (undo n s v)
-undo_leads n s v = either s v (has_step (max n 1) v.held) _ _ (λ e. back_leads s v v (refreshed s (rewritten (undone n) v)) (refresh_leads s v (rewritten (undone n) v))) (λ e. back_leads s v v (unchanged s (unmarked n v)) (rest_leads s v (unmarked n v) refl))
+undo_leads n s v = either s v (has_step (max n 1) v.held) _ _ (λ e. back_leads s v v (max n 1) (refreshed s (rewritten (undone n) v)) (refresh_leads s v (rewritten (undone n) v))) (λ e. back_leads s v v (max n 1) (unchanged s (unmarked n v)) (rest_leads s v (unmarked n v) refl))
 
 -- ---- history
 

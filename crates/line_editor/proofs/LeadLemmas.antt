@@ -80,8 +80,8 @@ pub edit_leads : (edit : WriteSteps ⊤) (s : Setting) (v w : Value) (e : Effect
 edit_leads edit s v w e h info = record { fits = (tt, (h info).fits); leads = (h info).leads }
 
 -- changes undone
-pub back_leads : (s : Setting) (v w : Value) (e : Effect) → Leads s v e → Leads s v (record { value = e.value; steps = TakesBack w ∷ e.steps })
-back_leads s v w e h info = record { fits = (tt, (h info).fits); leads = (h info).leads }
+pub back_leads : (s : Setting) (v w : Value) (count : ℕ) (e : Effect) → Leads s v e → Leads s v (record { value = e.value; steps = TakesBack w count ∷ e.steps })
+back_leads s v w count e h info = record { fits = (tt, (h info).fits); leads = (h info).leads }
 
 -- memory taken
 pub take_leads : (s : Setting) (v w : Value) (e : Effect) → Leads s v e → Leads s v (record { value = e.value; steps = Takes w ∷ e.steps })

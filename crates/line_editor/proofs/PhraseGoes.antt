@@ -9,7 +9,7 @@ use Rattle.line_help.specs.declared.highlight as highlights
 use Rattle.line_help.specs.declared.validate as verdicts
 use Rattle.line_help.specs.declared.history as histories
 use Rattle.line_config.specs.Scripts.{Ends, Asks, World, Goes}
-use Rattle.line_keys.specs.Coming.{behind, left}
+use Rattle.line_keys.specs.Feeds.{behind}
 use Rattle.line_keys.specs.Follows.{key_world, Stage as KeyStage}
 use Rattle.line_keys.specs.Phrases.{Steps, Needs, Shows, Reads, Becomes, Refuses}
 use Rattle.line_record.specs.Ring.{Ring}
@@ -107,14 +107,13 @@ module _ {Out H Hi K T : Type 0} {renderer : renderers.Renderer.Ghosts Out} {com
     phrase_goes_on {X} (Asks (Shows ask) later) x y r stays (inr (e, (fault, refused, same), is)) =
         (inr (e, inr (inl (edit_stops s x.wrt y.wrt stays (ask_effect ask) e refused, ap (λ z. kept (value_of y.wrt) z.input k z.coming) same)), is), stays_both s x.wrt y.wrt stays refused.stays)
     phrase_goes_on {X} (Asks (Reads item) later) x y r stays (inl (read, v, (is, same), goes)) =
-        let on : KeyStage (State Out H Hi K T renderer completer candidate hinter hint highlighter validator history) = record x { coming = behind x.coming } in
+        let on : KeyStage (State Out H Hi K T renderer completer candidate hinter hint highlighter validator history) = record x { coming = behind item x.coming } in
         let rest = subst (λ z. GoesOn (keyed (later read)) (at z) r y) same (phrase_goes_on (later read) v y r (subst (λ z. Stays s z.wrt) (sym same) stays) goes) in
-        (inl (read, at on, (is, ap (λ q. kept (value_of x.wrt) x.input k (left q (behind x.coming))) (sym is), (refl, refl)), rest.0), rest.1)
-    phrase_goes_on {X} (Asks (Reads item) later) x y r stays (inr (e, (inl is, same), refused)) =
-        subst (λ z. GoesOn (keyed (Asks (Reads item) later)) (at x) r z) (sym same)
-        (inr (e, inl (is, ap (λ q. kept (value_of x.wrt) x.input k (left q (behind x.coming))) (sym is), (refl, refl)), refused), stays)
-    phrase_goes_on {X} (Asks (Reads item) later) x y r stays (inr (e, (inr fault, same), refused)) =
-        subst (λ z. GoesOn (keyed (Asks (Reads item) later)) (at x) r z) (sym same) (inr (e, inr (inr (fault, refl)), refused), stays)
+        (inl (read, at on, (is, refl, (refl, refl)), rest.0), rest.1)
+    phrase_goes_on {X} (Asks (Reads item) later) x y r stays (inr (e, inl (is, same), refused)) =
+        subst (λ z. GoesOn (keyed (Asks (Reads item) later)) (at x) r z) (sym same) (inr (e, inl (is, refl, (refl, refl)), refused), stays)
+    phrase_goes_on {X} (Asks (Reads item) later) x y r stays (inr (e, inr (left, fault, same), refused)) =
+        subst (λ z. GoesOn (keyed (Asks (Reads item) later)) (at x) r z) (sym same) (inr (e, inr (inr (left, fault, refl)), refused), stays)
     phrase_goes_on {X} (Asks (Becomes input) later) x y r stays (inl (none, v, same, goes)) =
         let on : KeyStage (State Out H Hi K T renderer completer candidate hinter hint highlighter validator history) = record x { input = input } in
         let rest = subst (λ z. GoesOn (keyed (later none)) (at z) r y) same (phrase_goes_on (later none) v y r (subst (λ z. Stays s z.wrt) (sym same) stays) goes) in

@@ -65,8 +65,8 @@ nothing_bound = record { answers = λ e. None; begins = λ keys. false }
 
 -- the input ends after these keys
 abbrev pressed : List KeyEvent → Coming
-pressed [] = Ends End
-pressed (key ∷ more) = Pressed key (pressed more)
+pressed [] = Ends [] End []
+pressed (key ∷ more) = Pressed [] key (pressed more)
 
 abbrev at : ℕ → Position
 at column = record { col = column; row = 0 }

@@ -1,5 +1,5 @@
 -- Steps of which the first ones were made, and a fault.
-use Rattle.std.proofs.Common.{◌≡◌, Bool, true, false, true≢false, List, [], ◌∷◌, ◌++◌, refl, sym, ap, subst, ◌∙◌, inl, inr, append_assoc}
+use Rattle.std.proofs.Common.{◌≡◌, ℕ, Bool, true, false, true≢false, List, [], ◌∷◌, ◌++◌, refl, sym, ap, subst, ◌∙◌, inl, inr, append_assoc}
 use Rattle.std.specs.Prelude.{⊤, Option, Some, None, is_some, Result, Ok, Err, IfErr, IsFalse}
 use Rattle.std.specs.List.{FoldsTo}
 use Rattle.line_buffer.specs.declared.layout.Layout.{Layout}
@@ -13,7 +13,7 @@ use Rattle.line_editor.specs.Calls.Call.{Help}
 use Rattle.line_editor.specs.Completing.{updates}
 use Rattle.line_editor.specs.Redraws.{Redraw, Asked, asked_by, then_asked}
 use Rattle.line_editor.specs.States.{fails_by, IsHelpFault}
-use Rattle.line_editor.specs.Steps.{one, asked, Surface, surface, SameBeside, Unhelped, StepMade, Stops}
+use Rattle.line_editor.specs.Steps.{one, asked, Surface, surface, SameBeside, Unhelped, UndonePartly, StepMade, Stops}
 use Rattle.line_editor.specs.Values.{Value, EditStep, written_of, rewritten, helped}
 use Rattle.line_editor.specs.Values.EditStep.{Draws, Edits, TakesBack, Takes}
 
@@ -94,10 +94,10 @@ module _ {R : Type 0} (canvas : Canvas R) (r : Ruler) where
   stops_editing stands edit more old new fault v is same value left = inr (is, same, value, left)
 
   -- if changes are undone
-  pub stops_taking_back : (stands : Value) (more : List EditStep) (old new : Surface R) (fault : ReadlineError) (v : Value)
-      → fault ≡ Memory → new ≡ old → v ≡ record stands { line = v.line; held = [] } → Stops canvas r (TakesBack stands ∷ more) old fault v new
+  pub stops_taking_back : (stands : Value) (count : ℕ) (more : List EditStep) (old new : Surface R) (fault : ReadlineError) (v : Value)
+      → fault ≡ Memory → new ≡ old → UndonePartly count stands v → Stops canvas r (TakesBack stands count ∷ more) old fault v new
   unfolding Stops
-  stops_taking_back stands more old new fault v is same value = inr (is, same, value)
+  stops_taking_back stands count more old new fault v is same part = inr (is, same, part)
 
   pub stops_taking : (stands : Value) (more : List EditStep) (old new : Surface R) (fault : ReadlineError) (v : Value)
       → fault ≡ Memory → new ≡ old → v ≡ stands → Stops canvas r (Takes stands ∷ more) old fault v new
@@ -143,10 +143,10 @@ module _ {R : Type 0} (canvas : Canvas R) (r : Ruler) where
   stops_edited stands edit more old new v (Err fault) h = stops_after (Edits stands edit) more old old new fault v (refl, refl) h
 
   -- after changes that were undone
-  pub stops_taken_back : {A : Type 0} (stands : Value) (more : List EditStep) (old new : Surface R) (v : Value) (result : Result A ReadlineError)
-      → IfErr result (λ fault. Stops canvas r more old fault v new) → IfErr result (λ fault. Stops canvas r (TakesBack stands ∷ more) old fault v new)
-  stops_taken_back stands more old new v (Ok x) h = tt
-  stops_taken_back stands more old new v (Err fault) h = stops_after (TakesBack stands) more old old new fault v (refl, refl) h
+  pub stops_taken_back : {A : Type 0} (stands : Value) (count : ℕ) (more : List EditStep) (old new : Surface R) (v : Value) (result : Result A ReadlineError)
+      → IfErr result (λ fault. Stops canvas r more old fault v new) → IfErr result (λ fault. Stops canvas r (TakesBack stands count ∷ more) old fault v new)
+  stops_taken_back stands count more old new v (Ok x) h = tt
+  stops_taken_back stands count more old new v (Err fault) h = stops_after (TakesBack stands count) more old old new fault v (refl, refl) h
 
   -- more follow them
   pub stops_before : (xs ys : List EditStep) (old new : Surface R) (fault : ReadlineError) (v : Value) → Stops canvas r xs old fault v new → Stops canvas r (xs ++ ys) old fault v new

@@ -7,7 +7,6 @@ use Rattle.line_config.specs.Played.{Plan, Played, asked_first, played_on, playe
 use Rattle.line_config.specs.Scripts.{Script, Ends, Asks, Goes, then}
 use Rattle.line_config.specs.declared.errors.ReadlineError.{ReadlineError}
 use Rattle.line_config.specs.declared.errors.ReadlineError.TheVariants.{Display, Helper, Memory}
-use Rattle.line_keys.specs.Coming.{left}
 use Rattle.line_keys.specs.Feeds.{InputItem, Paste, IsReadFault}
 use Rattle.line_keys.specs.Phrases.{steps, Reads}
 use Rattle.line_editor.specs.Calls.{Canvas, Ruler, MadeIn}
@@ -185,7 +184,7 @@ module _ {R : Type 0} (canvas : Canvas R) (r : Ruler) where
   step_cause (Draws v marks redraw) e left x y h = caused_by e Display h.0 refl
   step_cause (Helped v fails takes) e left x y h = unhelped_cause fails takes e h.0
   step_cause (Edits v edit) e left x y h = caused_by e Memory h.0 tt
-  step_cause (TakesBack v) e left x y h = caused_by e Memory h.0 tt
+  step_cause (TakesBack v count) e left x y h = caused_by e Memory h.0 tt
   step_cause (Takes v) e left x y h = caused_by e Memory h.0 tt
 
   steps_cause : (steps : List EditStep) (e : ReadlineError) (v : Value) (x y : Surface R) → Stops canvas r steps x e v y → reason_of true ⊤ e
@@ -200,5 +199,5 @@ module _ {R : Type 0} (canvas : Canvas R) (r : Ruler) where
 
   pub stopped_cause : (a : Setting) (indent : ℕ) (ask : LineAsk) (x y : LineStage R) (e : ReadlineError) → Stopped canvas r a indent x ask e y → reason_of true ⊤ e
   stopped_cause a indent ask x y e (inl (stops, leaves)) = steps_cause (effect_at a indent x.kept ask).steps e y.kept.value x.drawn y.drawn stops
-  stopped_cause a indent (Keys (Reads item)) x y e (inr (unread, same)) = unread_cause item e unread
-  stopped_cause a indent _ x y e (inr (unread, same)) = absurd unread
+  stopped_cause a indent (Keys (Reads item)) x y e (inr (left, unread, same)) = unread_cause item e unread
+  stopped_cause a indent _ x y e (inr (left, unread, same)) = absurd unread

@@ -6,9 +6,9 @@ use Rattle.line_config.specs.declared.errors.ReadlineError.{ReadlineError}
 use Rattle.line_config.specs.declared.errors.ReadlineError.TheVariants.{Memory}
 use Rattle.line_record.specs.Held.{Held, line_back, has_step}
 use Rattle.line_record.specs.Held.Held.{Opened, Stepped}
-use Rattle.line_record.specs.Items.{Item, no_items, done_held, held_on}
+use Rattle.line_record.specs.Items.{Item, done_held, held_on}
 use Rattle.line_record.specs.Items.Item.{Open, Lone, Group}
-use Rattle.line_edits.specs.Edits.{undone}
+use Rattle.line_edits.specs.Edits.{undone, UndoneInPart}
 use Rattle.line_editor.specs.Leads.{Reaches}
 use Rattle.line_help.specs.declared.completion as completions
 use Rattle.line_help.specs.declared.hint as hints
@@ -18,7 +18,7 @@ use Rattle.line_help.specs.declared.history as histories
 use Rattle.line_editor.specs.Drawing.{refreshed}
 use Rattle.line_editor.specs.Rewording.{unmarking, taking_back, undo}
 use Rattle.line_editor.specs.States.{value_of, setting_of, surface_of, Stays, Does}
-use Rattle.line_editor.specs.Steps.{Stops}
+use Rattle.line_editor.specs.Steps.{UndonePartly, Stops}
 use Rattle.line_editor.specs.Returns.{UndoReaches}
 use Rattle.line_editor.specs.Values.{Value, Setting, then_do, rewritten}
 use Rattle.line_editor.specs.declared.renderer as renderers
@@ -75,22 +75,28 @@ module _ {Out H Hi K T : Type 0} {renderer : renderers.Renderer.Ghosts Out} {com
     {hinter : hints.Hinter.Ghosts H T} {hint : hints.Hint.Ghosts T} {highlighter : highlights.Highlighter.Ghosts H} {validator : verdicts.Validator.Ghosts H} {history : histories.History.Ghosts Hi} where
   -- if memory ran out nothing is drawn
   undo_stops : (n : ℕ) (s t : State Out H Hi K T renderer completer candidate hinter hint highlighter validator history) (b : Bool)
-      → value_of t ≡ record (value_of s) { line = t.recorded.line; held = [] } → surface_of t ≡ surface_of s
+      → UndonePartly (max n 1) (value_of s) (value_of t) → surface_of t ≡ surface_of s
       → Stops renderer.canvas (renderer.canvas.ruler s.out) (if b then then_do (taking_back n) refreshed (setting_of s) (value_of s) else unmarking n (setting_of s) (value_of s)).steps (surface_of s) Memory (value_of t) (surface_of t)
-  undo_stops n s t true left same = stops_taking_back renderer.canvas (renderer.canvas.ruler s.out) (value_of s) _ (surface_of s) (surface_of t) Memory (value_of t) refl same left
-  undo_stops n s t false left same = stops_taking_back renderer.canvas (renderer.canvas.ruler s.out) (value_of s) _ (surface_of s) (surface_of t) Memory (value_of t) refl same left
+  undo_stops n s t true part same = stops_taking_back renderer.canvas (renderer.canvas.ruler s.out) (value_of s) (max n 1) _ (surface_of s) (surface_of t) Memory (value_of t) refl same part
+  undo_stops n s t false part same = stops_taking_back renderer.canvas (renderer.canvas.ruler s.out) (value_of s) (max n 1) _ (surface_of s) (surface_of t) Memory (value_of t) refl same part
 
   pub undo_refused : {A : Type 0} (n : ℕ) (s t : State Out H Hi K T renderer completer candidate hinter hint highlighter validator history) (result : Result A ReadlineError)
-      → IsErrAnd result (λ e. e ≡ Memory) → t.recorded.changes ≡ no_items
+      → IsErrAnd result (λ e. e ≡ Memory) → UndoneInPart n s.recorded.line t.recorded.line s.recorded.changes t.recorded.changes
       → value_of t ≡ record (value_of s) { line = t.recorded.line; held = held_on t.recorded.changes t.recorded.line.text }
       → surface_of t ≡ surface_of s → Stays s t → Does (undo n) s t result
-  undo_refused {A} n s t result is forgotten left same stays = subst (λ (r : Result A ReadlineError). Does {A = A} (undo n) s t r) (sym (is_err Memory result is)) (record {
+  undo_refused {A} n s t result is part left same stays = subst (λ (r : Result A ReadlineError). Does {A = A} (undo n) s t r) (sym (is_err Memory result is)) (record {
     value = tt;
     calls = tt;
     layout = tt;
     stays = stays;
     reason = tt;
-    stops = undo_stops n s t (has_step (max n 1) (value_of s).held) (left ∙ ap (λ k. record (value_of s) { line = t.recorded.line; held = held_on k t.recorded.line.text }) forgotten) same;
+    stops = undo_stops n s t (has_step (max n 1) (value_of s).held) (record {
+      items = s.recorded.changes.done;
+      stand = s.recorded.stand.0;
+      held = refl;
+      line = part.line;
+      beside = left ∙ ap (λ k. record (value_of s) { line = t.recorded.line; held = held_on k t.recorded.line.text }) part.forgotten;
+    }) same;
   })
 
   -- if only marks are undone nothing is drawn

@@ -6,8 +6,8 @@ use Rattle.line_config.specs.Scripts.{Script, Ends, Asks, World, then}
 use Rattle.line_config.specs.declared.errors.ReadlineError.{ReadlineError}
 use Rattle.line_config.specs.declared.errors.ReadlineError.TheVariants.{Memory}
 use Rattle.line_keys.specs.Answers.{Custom}
-use Rattle.line_keys.specs.Coming.{Coming, behind, left, left_by}
-use Rattle.line_keys.specs.Feeds.{IsReadFault, item_at}
+use Rattle.line_keys.specs.Coming.{Coming, left_by}
+use Rattle.line_keys.specs.Feeds.{IsReadFault, item_at, behind}
 use Rattle.line_keys.specs.Phrases.{Input, KeyAsk, Answer, Steps, steps, Needs, Shows, Reads, Becomes, Refuses}
 use Rattle.line_keys.specs.Refreshing.{Shown}
 use Rattle.line_keys.specs.declared.command.Cmd.{Cmd}
@@ -123,7 +123,7 @@ module _ (s : Setting) (indent : ℕ) where
   -- what it leaves
   abbrev pub left_at : LineState → LineAsk → LineState
   left_at k (Keys (Reads item)) =
-      record k { coming = left (item_at item k.coming) (behind k.coming) }
+      record k { coming = behind item k.coming }
   left_at k (Keys (Becomes input)) = record k { input = input }
   left_at k (Obeys cmd) = record k {
     value = (effect_at k (Obeys cmd)).value;
@@ -192,7 +192,8 @@ module _ {R : Type 0} (canvas : Canvas R) (r : Ruler) (s : Setting) (indent : �
   Stopped x ask e y =
       (Stops canvas r (effect_at s indent x.kept ask).steps x.drawn e y.kept.value y.drawn
       × FaultLeaves ask x.kept e y.kept)
-      ⊎ (IsUnreadText ask e × (y ≡ line_stage x.drawn (record x.kept { coming = left_by e })))
+      ⊎ ((left : List ℕ) × IsUnreadText ask e
+      × (y ≡ line_stage x.drawn (record x.kept { coming = left_by e left })))
 
   abbrev pub line_world : World LineAsk LineAnswer (LineStage R) ReadlineError
   line_world = record {

@@ -35,10 +35,10 @@ abbrev pub unmarked : ℕ → Value → Value
 unmarked n v = record v { held = drop (max n 1) v.held }
 
 abbrev pub unmarking : ℕ → Transition
-unmarking n s v = record { value = unmarked n v; steps = TakesBack v ∷ [] }
+unmarking n s v = record { value = unmarked n v; steps = TakesBack v (max n 1) ∷ [] }
 
 abbrev pub taking_back : ℕ → Transition
-taking_back n s v = record { value = rewritten (undone n) v; steps = TakesBack v ∷ [] }
+taking_back n s v = record { value = rewritten (undone n) v; steps = TakesBack v (max n 1) ∷ [] }
 
 -- if no undone item is a step, nothing is drawn
 abbrev pub undo : ℕ → Transition

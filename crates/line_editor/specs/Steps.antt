@@ -1,10 +1,11 @@
 -- The calls on a renderer of an edit's steps, and where a fault stops them.
-use Rattle.std.specs.Prelude.{◌≡◌, ◌⊎◌, Bool, List, [], ◌∷◌, IsTrue}
+use Rattle.std.specs.Prelude.{◌≡◌, ◌⊎◌, ℕ, Bool, List, [], ◌∷◌, IsTrue}
 use Rattle.std.specs.List.{FoldsTo}
 use Rattle.line_buffer.specs.declared.layout.Layout.{Layout}
 use Rattle.line_config.specs.declared.errors.ReadlineError.{ReadlineError}
 use Rattle.line_config.specs.declared.errors.ReadlineError.TheVariants.{Display, Helper, Memory}
 use Rattle.line_edits.specs.Steps.{StopsIn}
+use Rattle.line_record.specs.Items.{Item, BackInPart, DoneStand, done_held, last_changes}
 use Rattle.line_editor.specs.Calls.{Canvas, Ruler, MadeIn, BrokenOff}
 use Rattle.line_editor.specs.Calls.Call.{Help}
 use Rattle.line_editor.specs.Redraws.{Asked, asked_by, nothing_asked, then_asked}
@@ -20,7 +21,7 @@ abbrev pub one : Ruler → Layout → EditStep → Asked
 one r l (Draws v marks x) = asked_by r marks l x
 one r l (Helped v fails takes) = help_asked l fails
 one r l (Edits v edit) = nothing_asked l
-one r l (TakesBack v) = nothing_asked l
+one r l (TakesBack v count) = nothing_asked l
 one r l (Takes v) = nothing_asked l
 
 abbrev pub asked : Ruler → Layout → List EditStep → Asked
@@ -47,6 +48,15 @@ Unhelped fails takes why = ⊥
 abbrev pub SameBeside : Value → Value → Type 0
 SameBeside v w = w ≡ record v { line = w.line; held = w.held }
 
+-- what a failed undo of the last items leaves: the line with the newest of their changes undone, at
+-- least one not, and an empty record. The changes are those of items that hold the record's texts
+pub record UndonePartly (count : ℕ) (v w : Value) : Type 0 where
+  pub items : List Item
+  pub stand : DoneStand items v.line.text
+  pub held : v.held ≡ done_held items v.line.text
+  pub line : BackInPart (last_changes count items) v.line w.line
+  pub beside : w ≡ record v { line = w.line; held = [] }
+
 -- a step is made by its calls
 abbrev pub StepMade : {R : Type 0} → Canvas R → Ruler → Surface R → EditStep → Surface R → Type 0
 StepMade canvas r s step t =
@@ -65,8 +75,8 @@ StepCut canvas r s (Helped v fails takes) fault value t =
 StepCut canvas r s (Edits v edit) fault value t =
     (fault ≡ Memory) × (t ≡ s) × SameBeside v value
     × StopsIn edit (written_of v) (written_of value)
-StepCut canvas r s (TakesBack v) fault value t =
-    (fault ≡ Memory) × (t ≡ s) × (value ≡ record v { line = value.line; held = [] })
+StepCut canvas r s (TakesBack v count) fault value t =
+    (fault ≡ Memory) × (t ≡ s) × UndonePartly count v value
 StepCut canvas r s (Takes v) fault value t = (fault ≡ Memory) × (t ≡ s) × (value ≡ v)
 
 -- the first of these steps were made, and this fault cut the next one, which left this value

@@ -81,8 +81,8 @@ pub data EditStep : Type 0 where
   Helped : (value : Value) (fails takes : Bool) → EditStep
   -- this edit of line and record is made, which takes memory
   Edits : (value : Value) (edit : WriteSteps ⊤) → EditStep
-  -- changes of line and record are undone
-  TakesBack : (value : Value) → EditStep
+  -- as many of the last recorded items are undone
+  TakesBack : (value : Value) (count : ℕ) → EditStep
   -- memory is taken for something else
   Takes : (value : Value) → EditStep
 

@@ -44,6 +44,9 @@ fn marked_by<H: Helper>(
     ensures hooks { let hooks = hooks_by H.hint_of H.verdict_of H.completion_of H.update_of in
         option_map hooks helper.new ≡ option_map hooks helper.old }
     ensures marks { option_map H.marks helper.new ≡ option_map H.marks helper.old }
+    ensures shown { option_map H.shown_as helper.new
+        ≡ (if colours then option_map (λ h. H.shown_after h line.now.text line.now.place kind)
+        helper.old else option_map H.shown_as helper.old) }
 {
     if colours {
         if let Some(helper) = helper {
@@ -152,6 +155,11 @@ impl<'p, 'h, Out: Renderer, H: Helper + Drop, Hi: History> State<'p, 'h, Out, H,
         ensures out { self.new.out ≡ self.old.out }
         ensures layout { self.new.layout ≡ self.old.layout }
         ensures stays { Stays self.old self.new }
+        ensures shown { let line = self.old.recorded.line in
+            option_map H.shown_as self.new.helper
+            ≡ (if (Out.canvas.ruler self.old.out).colours
+            then option_map (λ h. H.shown_after h line.text line.place kind) self.old.helper
+            else option_map H.shown_as self.old.helper) }
     {
         let colours = self.out.colors_enabled();
         let marked = marked_by(&mut self.helper, colours, &self.recorded.line, kind);

@@ -1,7 +1,13 @@
 //! Laws of the editor. Each is the contract of a function that does nothing.
 
 ghost use Rattle.line_editor.specs.Leads.{CommandsLead, SubmittingLeads, AsksLead, EachTurnLeads, LinesLead};
+ghost use Rattle.line_editor.specs.Leads.{Sound};
 ghost use Rattle.line_editor.specs.Returns.{ComesBack, UndoReaches, UndoesAll};
+ghost use Rattle.line_editor.specs.States.{value_of};
+
+use crate::renderer::Renderer;
+use crate::state::State;
+use line_help::{Helper, History};
 
 /// The drawings of a command lead from a display that shows the value before to one that shows the
 /// value after. Nothing of an older drawing is left.
@@ -45,7 +51,19 @@ pub fn undo_reaches()
 {}
 
 /// Whatever commands and calls change a line after its record was empty, an undo by as many items
-/// as are recorded, or more, restores the text of that time. For a new line it is empty.
+/// as are recorded, or more, restores the text of that time. For a new line it is empty. Each
+/// command or call begins on a sound line.
 pub fn undo_all()
     ensures { UndoesAll }
 {}
+
+/// Each line of a state is sound: its text is UTF-8, and its cursor at a character boundary.
+pub fn lines_are_sound<Out: Renderer, H: Helper + Drop, Hi: History>(
+    state: &State<'_, '_, Out, H, Hi>,
+)
+    ensures { Sound (value_of state.now) }
+{
+    let line = &state.recorded.line;
+    let _text = line.as_str();
+    let _place = line.pos();
+}

@@ -176,7 +176,7 @@ follows (Err Memory) = false
 follows result = true
 
 -- whether a result says that the source failed
-abbrev pub says_reader : Result Bool ReadlineError → Bool
+abbrev pub says_reader : {A : Type 0} → Result A ReadlineError → Bool
 says_reader (Err Reader) = true
 says_reader result = false
 

@@ -1,12 +1,12 @@
 -- Words of a text, one per row.
-use Rattle.std.specs.Prelude.{◌≡◌, ◌≢◌, true, false, if◌then◌else◌, List, ℕ, map, Result, Err, IfOk, IfErr, String, string_bytes}
+use Rattle.std.specs.Prelude.{◌≡◌, ◌≢◌, ◌≤◌, ◌⊎◌, true, false, if◌then◌else◌, List, ℕ, map, Result, Err, IfOk, IfErr, IsTrue, String, string_bytes}
 use Rattle.std.specs.Str.{is_utf8}
 use Rattle.std.specs.Global.{Global, Vec}
 use Rattle.line_config.specs.Feed.{Feed}
 use Rattle.line_config.specs.declared.device.Last.TheVariants.{End, Failed}
 use Rattle.line_config.specs.declared.errors.ReadlineError.{ReadlineError}
 use Rattle.line_config.specs.declared.errors.ReadlineError.TheVariants.{Memory, NotUtf8, Reader}
-use Rattle.line_help.specs.HistoryText.{ReadsGood, entries_of, has_bad_row, left_by_load, text_rows}
+use Rattle.line_help.specs.HistoryText.{ReadsGood, entries_of, has_bad_row, left_by_load, says_reader, text_rows}
 
 -- why a row gives no word: it isn't UTF-8, or else memory ran out
 abbrev pub word_fault : List ℕ → ReadlineError
@@ -23,11 +23,17 @@ IsWordFault text after Memory = ReadsGood text.coming after.coming
 IsWordFault text after why = ⊥
 
 -- the words of a text are its rows, split like a history's, except for empty ones; what remains
--- follows from the text, unless memory ran out
-pub record LoadsWords (text after : Feed) (result : Result (Vec (String Global)) ReadlineError)
+-- follows from the text, unless memory ran out. All this holds if the source agrees with the
+-- assumption
+pub record LoadsWords (old new : Feed) (result : Result (Vec (String Global)) ReadlineError)
     : Type 0 where
-  pub ends : IfOk result (λ words. text.last ≡ End)
-  pub words : IfOk result (λ words. map string_bytes words.items
-      ≡ entries_of false (rows_to_come text))
-  pub fault : IfErr result (IsWordFault text after)
-  pub left : result ≢ Err Memory → after.coming ≡ left_by_load text.last text.coming
+  pub ends : IsTrue new.told → IfOk result (λ words. old.last ≡ End)
+  pub words : IsTrue new.told → IfOk result (λ words. map string_bytes words.items
+      ≡ entries_of false (rows_to_come old))
+  pub fault : IsTrue new.told → IfErr result (IsWordFault old new)
+  pub left : IsTrue new.told → result ≢ Err Memory → new.coming ≡ left_by_load old.last old.coming
+  pub refused : IfErr result (λ e. (e ≡ Memory) ⊎ ((e ≡ NotUtf8) ⊎ (e ≡ Reader)))
+  pub failure : new.failed ≡ says_reader result
+  pub told : IsTrue new.told → IsTrue old.told
+  pub last : new.last ≡ old.last
+  pub keeps : new.bound ≤ old.bound

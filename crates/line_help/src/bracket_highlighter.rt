@@ -65,6 +65,8 @@ impl Highlighter for MatchingBracketHighlighter {
 
     ghost shown_as = { shown_with_match };
 
+    ghost shown_after = { λ self line pos kind. shown_with_match (kept_bracket line pos kind) };
+
     /// The line with the match of the kept bracket in bold and blue, if there is one.
     fn highlight<'l>(
         &self,

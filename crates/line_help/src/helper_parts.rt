@@ -83,6 +83,8 @@ impl<C, I, L: Highlighter, V> Highlighter for HelperParts<C, I, L, V> {
 
     ghost shown_as = { λ parts. L.shown_as parts.highlighter };
 
+    ghost shown_after = { λ parts. L.shown_after parts.highlighter };
+
     fn highlight<'l>(
         &self,
         alloc: Global,

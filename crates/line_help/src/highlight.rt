@@ -26,6 +26,9 @@ pub trait Highlighter {
     // How a text is shown in a part of the display.
     ghost shown_as: { Self → DisplayPart → List ℕ → Reply (List ℕ) };
 
+    // The same after a call of `highlight_char` about this line, place and reason.
+    ghost shown_after: { Self → List ℕ → ℕ → CmdKind → DisplayPart → List ℕ → Reply (List ℕ) };
+
     /// The line, with the cursor at `pos`.
     fn highlight<'l>(
         &self,
@@ -65,6 +68,7 @@ pub trait Highlighter {
     fn highlight_char(&mut self, line: &str, pos: usize, kind: CmdKind) -> bool
         ensures marks { result ≡ marks self.old line.now pos kind }
         ensures same { marks self.new ≡ marks self.old }
+        ensures shown { shown_as self.new ≡ shown_after self.old line.now pos kind }
         ensures kept { kept self.old self.new };
 }
 
@@ -76,6 +80,8 @@ impl Highlighter for () {
     ghost kept = { λ before after. before ≡ after };
 
     ghost shown_as = { λ self part text. gives_at_once text };
+
+    ghost shown_after = { λ self line pos kind part text. gives_at_once text };
 
     fn highlight<'l>(
         &self,
@@ -120,6 +126,8 @@ impl<H: Highlighter, A: Allocator> Highlighter for Box<H, A> {
     ghost kept = { λ before after. H.kept (box_value before) (box_value after) };
 
     ghost shown_as = { λ held. H.shown_as (box_value held) };
+
+    ghost shown_after = { λ held. H.shown_after (box_value held) };
 
     fn highlight<'l>(
         &self,

@@ -27,8 +27,7 @@ fn push_word(alloc: Global, words: &mut Vec<String>, row: &[u8]) -> Result<(), R
 /// row has no word. Fails if a row isn't UTF-8 (`NotUtf8`), if the source fails (`Reader`) or if an
 /// allocation fails (`Memory`). The rows after one that isn't UTF-8 remain in the source.
 pub fn load_words<S: Source>(alloc: Global, source: &mut S) -> Result<Vec<String>, ReadlineError>
-    ensures { IsTrue (S.feed source.new).told
-        → LoadsWords (S.feed source.old) (S.feed source.new) result }
+    ensures { LoadsWords (S.feed source.old) (S.feed source.new) result }
 {
     let mut words = Vec::new(alloc);
     let mut rows = RowReader::new(alloc);

@@ -8,11 +8,11 @@ use Rattle.line_keys.specs.declared.key.KeyEvent.{KeyEvent}
 use Rattle.line_keys.specs.declared.events.Event.TheVariants.{Any}
 use Rattle.line_keys.specs.Answers.{Custom, Decides, HandlerFails, IsRefusalOf, answer_by}
 use Rattle.line_config.specs.Scripts.{Ends, Asks, Goes}
-use Rattle.line_keys.specs.Coming.{Coming, behind, left, key_at, paste_at, from_key_at, made_of}
+use Rattle.line_keys.specs.Coming.{Coming, key_at, paste_at, from_key_at, made_of}
 use Rattle.line_keys.specs.Commands.{holds_text, Copied}
 use Rattle.line_keys.specs.Custom.{Situation, custom_answer, or_any, shown_for}
 use Rattle.line_keys.specs.Events.{single}
-use Rattle.line_keys.specs.Feeds.{IsReaderRefusal, KeyFeed, InputItem, InputOf, Key, Paste, item_at, ReadAs, ReadsBy}
+use Rattle.line_keys.specs.Feeds.{IsReaderRefusal, KeyFeed, InputItem, InputOf, Key, Paste, item_at, behind, ReadAs, ReadsBy}
 use Rattle.line_keys.specs.Refreshing.{Shown, Ask, KnownDisplay, Draws, IsDrawFault}
 use Rattle.line_keys.specs.Handling.{Meaning}
 use Rattle.line_keys.specs.Phrases.{Input, KeyAsk, Answer, Steps, Part, Needs, Shows, Reads, Becomes, Refuses, Upto, steps, answered, needs_if, needing, granted, with_read, with_key, with_paste, from_key, asking, becoming, decided_by, deciding, kept_by, shown_by, after, and_then}
@@ -198,7 +198,8 @@ module _ {S : Type 0} (d : KnownDisplay S) (w : S) where
   silent_goes (Asks (Shows ask) more) s t r (inl (x, u, made, goes)) = elim made.0 [ ]
   silent_goes (Asks (Shows ask) more) s t r (inr (e, cut, is)) = elim cut.1 [ ]
   silent_goes (Asks (Reads item) more) s t r (inl (x, u, made, goes)) = inl (x, drawn_on u, (made.0, ap drawn_on made.1), silent_goes (more x) u t r goes)
-  silent_goes (Asks (Reads item) more) s t r (inr (e, cut, is)) = inr (e, (cut.0, ap drawn_on cut.1), is)
+  silent_goes (Asks (Reads item) more) s t r (inr (e, inl cut, is)) = inr (e, inl (cut.0, ap drawn_on cut.1), is)
+  silent_goes (Asks (Reads item) more) s t r (inr (e, inr (left, fault, cut), is)) = inr (e, inr (left, fault, ap drawn_on cut), is)
   silent_goes (Asks (Becomes kept) more) s t r (inl (x, u, made, goes)) = inl (x, drawn_on u, ap drawn_on made, silent_goes (more x) u t r goes)
   silent_goes (Asks (Becomes kept) more) s t r (inr (e, cut, is)) = elim cut [ ]
   silent_goes (Asks (Refuses why) more) s t r (inl (x, u, made, goes)) = elim made [ ]
@@ -222,22 +223,22 @@ silent_follows d custom s w i i' f f' r quiet = record {
 -- ---- reads
 
 module _ {S Y : Type 0} (d : KnownDisplay S) (item : InputItem) (next : InputOf item → Part Y) where
-  stops_by : (b : ℕ) (w : S) (i : Input) (c c' : Coming) (e : ReadlineError) → ReadAs item (item_at item c) (behind c) (Err e) c' → (n : ℕ) → b < n
+  stops_by : (b : ℕ) (w : S) (i : Input) (c c' : Coming) (e : ReadlineError) → ReadAs item (item_at item c) (behind item c) (Err e) c' → (n : ℕ) → b < n
       → Goes_by d (steps (with_read item next) n) (stage w i c) (Err e) (stage w i c')
   unfolding with_read
   stops_by b w i c c' e read zero more = absurd (nothing_under more)
   stops_by b w i c c' e (inl is) (suc n) more =
-      inr (e, (inl (sym is.0), ap (stage w i) (is.1 ∙ ap (λ (q : Result (InputOf item) ReadlineError). left q (behind c)) (sym is.0))), refl)
-  stops_by b w i c c' e (inr (f, fault, is, left)) (suc n) more = inr (f, (inr fault, ap (stage w i) left), err_same e f is)
+      inr (e, inl (sym is.0, ap (stage w i) is.1), refl)
+  stops_by b w i c c' e (inr (f, left, fault, is, rest)) (suc n) more = inr (f, inr (left, fault, ap (stage w i) rest), err_same e f is)
 
   on_by : (b b1 : ℕ) (w : S) (i : Input) (c c1 : Coming) (t : Stage S) (x : InputOf item) (r : Result Y ReadlineError)
-      → ReadAs item (item_at item c) (behind c) (Ok x) c1 → b1 < b → ((n : ℕ) → b1 < n → Goes_by d (steps (next x) n) (stage w i c1) r t) → (n : ℕ) → b < n
+      → ReadAs item (item_at item c) (behind item c) (Ok x) c1 → b1 < b → ((n : ℕ) → b1 < n → Goes_by d (steps (next x) n) (stage w i c1) r t) → (n : ℕ) → b < n
       → Goes_by d (steps (with_read item next) n) (stage w i c) r t
   unfolding with_read
   on_by b b1 w i c c1 t x r read falls later zero more = absurd (nothing_under more)
   on_by b b1 w i c c1 t x r (inl is) falls later (suc n) more =
-      inl (x, stage w i c1, (sym is.0, ap (stage w i) (is.1 ∙ ap (λ (q : Result (InputOf item) ReadlineError). left q (behind c)) (sym is.0))), later n (lt_under falls more))
-  on_by b b1 w i c c1 t x r (inr (f, fault, is, left)) falls later (suc n) more = ok_not_err x f is
+      inl (x, stage w i c1, (sym is.0, ap (stage w i) is.1), later n (lt_under falls more))
+  on_by b b1 w i c c1 t x r (inr (f, left, fault, is, rest)) falls later (suc n) more = ok_not_err x f is
 
   pub read_stops : (custom : Custom) (w : S) (i : Input) (f f' : KeyFeed) (e : ReadlineError) → ReadsBy item (item_at item) f f' (Err e) → Follows d custom (with_read item next) w i w i f f' (Err e)
   unfolding Happens
@@ -277,18 +278,18 @@ module _ {S Y : Type 0} (d : KnownDisplay S) (custom : Custom) where
 
 -- a read that is the whole part
 module _ {S X : Type 0} (d : KnownDisplay S) (g : KeyEvent → X) where
-  made_by : (q : Result KeyEvent ReadlineError) (w : S) (i : Input) (c c' : Coming) (r : Result X ReadlineError) (n : ℕ) → key_at c ≡ q → r ≡ made_of g q → c' ≡ left (made_of g q) (behind c)
+  made_by : (q : Result KeyEvent ReadlineError) (w : S) (i : Input) (c c' : Coming) (r : Result X ReadlineError) (n : ℕ) → key_at c ≡ q → r ≡ made_of g q → c' ≡ behind Key c
       → Goes_by d (steps (from_key g) (suc n)) (stage w i c) r (stage w i c')
   unfolding from_key with_read answered
-  made_by (Ok k) w i c c' r n is made left = inl (k, stage w i c', (is, ap (stage w i) left), (made, refl))
-  made_by (Err e) w i c c' r n is made left = inr (e, (inl is, ap (stage w i) left), made)
+  made_by (Ok k) w i c c' r n is made rest = inl (k, stage w i c', (is, ap (stage w i) rest), (made, refl))
+  made_by (Err e) w i c c' r n is made rest = inr (e, inl (is, ap (stage w i) rest), made)
 
-  whole_by : (b : ℕ) (w : S) (i : Input) (c c' : Coming) (r : Result X ReadlineError) → ReadAs Key (from_key_at g c) (behind c) r c' → (n : ℕ) → b < n
+  whole_by : (b : ℕ) (w : S) (i : Input) (c c' : Coming) (r : Result X ReadlineError) → ReadAs Key (from_key_at g c) (behind Key c) r c' → (n : ℕ) → b < n
       → Goes_by d (steps (from_key g) n) (stage w i c) r (stage w i c')
   unfolding from_key with_read
   whole_by b w i c c' r read zero more = absurd (nothing_under more)
   whole_by b w i c c' r (inl is) (suc n) more = made_by (key_at c) w i c c' r n refl is.0 is.1
-  whole_by b w i c c' r (inr (f, fault, is, left)) (suc n) more = inr (f, (inr fault, ap (stage w i) left), is)
+  whole_by b w i c c' r (inr (f, left, fault, is, rest)) (suc n) more = inr (f, inr (left, fault, ap (stage w i) rest), is)
 
   whole_reason : (custom : Custom) (w : S) (f : KeyFeed) (r : Result X ReadlineError) → IfErr r IsReaderRefusal → IfErr r (λ e. f.reason e) → IfErr r (λ e. Because d custom w f e)
   whole_reason custom w f (Ok x) is why = tt

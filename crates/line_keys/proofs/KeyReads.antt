@@ -5,8 +5,8 @@ use Rattle.line_config.specs.declared.errors.ReadlineError.{ReadlineError}
 use Rattle.line_keys.specs.declared.key.KeyEvent.{KeyEvent}
 use Rattle.line_keys.specs.declared.tty.Event.{Event}
 use Rattle.line_keys.specs.declared.tty.Event.TheVariants.{KeyPress}
-use Rattle.line_keys.specs.Coming.{Coming, key_at, from_key_at, press_at, made_of, left, behind}
-use Rattle.line_keys.specs.Feeds.{KeyFeed, InputItem, Key, ReadAs, ReadsBy}
+use Rattle.line_keys.specs.Coming.{Coming, key_at, from_key_at, press_at, made_of}
+use Rattle.line_keys.specs.Feeds.{KeyFeed, InputItem, Key, behind, ReadAs, ReadsBy}
 
 abbrev is_ok : {A : Type 0} → Result A ReadlineError → Bool
 is_ok (Ok x) = true
@@ -20,24 +20,20 @@ press_of : (r : Result KeyEvent ReadlineError) → of_press (made_of KeyPress r)
 press_of (Ok k) = refl
 press_of (Err e) = refl
 
-left_made : {X Y : Type 0} (g : X → Y) (r : Result X ReadlineError) (rest : Coming) → left (made_of g r) rest ≡ left r rest
-left_made g (Ok x) rest = refl
-left_made g (Err e) rest = refl
-
 made_as : {X Y : Type 0} (g : X → Y) (item : InputItem) (given result : Result X ReadlineError) (rest c : Coming)
     → ReadAs item given rest result c → ReadAs item (made_of g given) rest (made_of g result) c
-made_as g item given result rest c (inl is) = inl (ap (made_of g) is.0, is.1 ∙ sym (left_made g given rest))
-made_as g item given result rest c (inr (e, fault, is, left)) = inr (e, fault, ap (made_of g) is, left)
+made_as g item given result rest c (inl is) = inl (ap (made_of g) is.0, is.1)
+made_as g item given result rest c (inr (e, left, fault, is, final)) = inr (e, left, fault, ap (made_of g) is, final)
 
 press_as : (given : Result KeyEvent ReadlineError) (result : Result Event ReadlineError) (rest c : Coming)
     → ReadAs Key (made_of KeyPress given) rest result c → ReadAs Key given rest (of_press result) c
-press_as given result rest c (inl is) = inl (ap of_press is.0 ∙ press_of given, is.1 ∙ left_made KeyPress given rest)
-press_as given result rest c (inr (e, fault, is, left)) = inr (e, fault, ap of_press is, left)
+press_as given result rest c (inl is) = inl (ap of_press is.0 ∙ press_of given, is.1)
+press_as given result rest c (inr (e, left, fault, is, final)) = inr (e, left, fault, ap of_press is, final)
 
 module _ {X : Type 0} (g : KeyEvent → X) (f f' : KeyFeed) where
   pub made_of_read : (k : KeyEvent) → ReadsBy Key key_at f f' (Ok k) → ReadsBy Key (from_key_at g) f f' (Ok (g k))
   made_of_read k reads = record {
-    taken = λ told. made_as g Key (key_at f.coming) (Ok k) (behind f.coming) f'.coming (reads.taken told);
+    taken = λ told. made_as g Key (key_at f.coming) (Ok k) (behind Key f.coming) f'.coming (reads.taken told);
     told = reads.told;
     keeps = reads.keeps;
     falls = reads.falls;
@@ -47,7 +43,7 @@ module _ {X : Type 0} (g : KeyEvent → X) (f f' : KeyFeed) where
 
   pub not_made : (e : ReadlineError) → ReadsBy Key key_at f f' (Err e) → ReadsBy Key (from_key_at g) f f' (Err e)
   not_made e reads = record {
-    taken = λ told. made_as g Key (key_at f.coming) (Err e) (behind f.coming) f'.coming (reads.taken told);
+    taken = λ told. made_as g Key (key_at f.coming) (Err e) (behind Key f.coming) f'.coming (reads.taken told);
     told = reads.told;
     keeps = reads.keeps;
     falls = reads.falls;
@@ -58,7 +54,7 @@ module _ {X : Type 0} (g : KeyEvent → X) (f f' : KeyFeed) where
 module _ (f f' : KeyFeed) where
   pub key_of_press : (k : KeyEvent) → ReadsBy Key press_at f f' (Ok (KeyPress k)) → ReadsBy Key key_at f f' (Ok k)
   key_of_press k reads = record {
-    taken = λ told. press_as (key_at f.coming) (Ok (KeyPress k)) (behind f.coming) f'.coming (reads.taken told);
+    taken = λ told. press_as (key_at f.coming) (Ok (KeyPress k)) (behind Key f.coming) f'.coming (reads.taken told);
     told = reads.told;
     keeps = reads.keeps;
     falls = reads.falls;
@@ -68,7 +64,7 @@ module _ (f f' : KeyFeed) where
 
   pub no_press : (e : ReadlineError) → ReadsBy Key press_at f f' (Err e) → ReadsBy Key key_at f f' (Err e)
   no_press e reads = record {
-    taken = λ told. press_as (key_at f.coming) (Err e) (behind f.coming) f'.coming (reads.taken told);
+    taken = λ told. press_as (key_at f.coming) (Err e) (behind Key f.coming) f'.coming (reads.taken told);
     told = reads.told;
     keeps = reads.keeps;
     falls = reads.falls;

@@ -43,8 +43,8 @@ line_of text = record { line = text; place = 0; hinted = false; completion = Non
 
 -- keys, and then the end
 abbrev keys : List KeyEvent → Coming
-keys [] = Ends End
-keys (k ∷ ks) = Pressed k (keys ks)
+keys [] = Ends [] End []
+keys (k ∷ ks) = Pressed [] k (keys ks)
 
 abbrev typed : ℕ → KeyEvent
 typed c = key_with (Char c) none
@@ -68,7 +68,7 @@ gives answer rest = record { answer = answer; input = emacs; asks = []; rest = r
 -- ---- counts: 2D is a minus, 30 to 39 are the digits, 78 is `x`, 42 is B, 46 is F
 
 a_negative_count : made nothing_bound [] (keys (with_alt 0x2D ∷ typed 0x32 ∷ with_ctrl 0x42 ∷ []))
-    ≡ record { answer = Ok (Move (ForwardChar 2)); input = emacs; asks = Prompted (prompt_for (neg_ℤ (pos 1))) ∷ Prompted (prompt_for (neg_ℤ (pos 2))) ∷ Line ∷ []; rest = Ends End }
+    ≡ record { answer = Ok (Move (ForwardChar 2)); input = emacs; asks = Prompted (prompt_for (neg_ℤ (pos 1))) ∷ Prompted (prompt_for (neg_ℤ (pos 2))) ∷ Line ∷ []; rest = Ends [] End [] }
 unfolding answered following needing with_read from_key asking becoming deciding and_then counting followed emacs_action common_action
 a_negative_count = refl
 
@@ -89,7 +89,7 @@ unfolding answered following needing with_read from_key asking becoming deciding
 a_count_of_nothing = refl
 
 a_count_cut_off : made nothing_bound [] (keys (with_alt 0x32 ∷ []))
-    ≡ record { answer = Err Eof; input = emacs; asks = Prompted (prompt_for (pos 2)) ∷ []; rest = Ends End }
+    ≡ record { answer = Err Eof; input = emacs; asks = Prompted (prompt_for (pos 2)) ∷ []; rest = Ends [] End [] }
 unfolding answered following needing with_read from_key asking becoming deciding and_then counting followed emacs_action common_action
 a_count_cut_off = refl
 
@@ -98,19 +98,19 @@ a_count_cut_off = refl
 abbrev ctrl_x_ctrl_e : Custom
 ctrl_x_ctrl_e = bound_to (KeySeq (with_ctrl 0x58 ∷ with_ctrl 0x45 ∷ [])) (λ s. gives_at_once (Some Abort))
 
-a_sequence_in_vain : made ctrl_x_ctrl_e [] (keys (with_ctrl 0x58 ∷ typed 0x7A ∷ typed 0x71 ∷ [])) ≡ gives (Ok Unknown) (Pressed (typed 0x71) (Ends End))
+a_sequence_in_vain : made ctrl_x_ctrl_e [] (keys (with_ctrl 0x58 ∷ typed 0x7A ∷ typed 0x71 ∷ [])) ≡ gives (Ok Unknown) (Pressed [] (typed 0x71) (Ends [] End []))
 unfolding answered following needing with_read from_key asking becoming deciding and_then counting followed emacs_action common_action
 a_sequence_in_vain = refl
 
-a_sequence : made ctrl_x_ctrl_e [] (keys (with_ctrl 0x58 ∷ with_ctrl 0x45 ∷ [])) ≡ gives (Ok Abort) (Ends End)
+a_sequence : made ctrl_x_ctrl_e [] (keys (with_ctrl 0x58 ∷ with_ctrl 0x45 ∷ [])) ≡ gives (Ok Abort) (Ends [] End [])
 unfolding answered following needing with_read from_key asking becoming deciding and_then counting followed emacs_action common_action
 a_sequence = refl
 
-the_second_key_decides : made ctrl_x_ctrl_e [] (keys (with_ctrl 0x58 ∷ with_ctrl 0x55 ∷ [])) ≡ gives (Ok (Undo 1)) (Ends End)
+the_second_key_decides : made ctrl_x_ctrl_e [] (keys (with_ctrl 0x58 ∷ with_ctrl 0x55 ∷ [])) ≡ gives (Ok (Undo 1)) (Ends [] End [])
 unfolding answered following needing with_read from_key asking becoming deciding and_then counting followed emacs_action common_action
 the_second_key_decides = refl
 
-the_second_key_is_read : made nothing_bound [] (keys (with_ctrl 0x58 ∷ key_with Backspace none ∷ typed 0x71 ∷ [])) ≡ gives (Ok (Kill BeginningOfLine)) (Pressed (typed 0x71) (Ends End))
+the_second_key_is_read : made nothing_bound [] (keys (with_ctrl 0x58 ∷ key_with Backspace none ∷ typed 0x71 ∷ [])) ≡ gives (Ok (Kill BeginningOfLine)) (Pressed [] (typed 0x71) (Ends [] End []))
 unfolding answered following needing with_read from_key asking becoming deciding and_then counting followed emacs_action common_action
 the_second_key_is_read = refl
 
@@ -120,7 +120,7 @@ bound_and_counted : (made (bound_to (single (with_ctrl 0x4F)) (λ s. gives_at_on
 unfolding answered following needing with_read from_key asking becoming deciding and_then counting followed emacs_action common_action
 bound_and_counted = refl
 
-a_handler_fails : made (bound_to (single (with_ctrl 0x4F)) (λ s. record { answer = None; takes = false })) [] (keys (with_ctrl 0x4F ∷ [])) ≡ gives (Err Handler) (Ends End)
+a_handler_fails : made (bound_to (single (with_ctrl 0x4F)) (λ s. record { answer = None; takes = false })) [] (keys (with_ctrl 0x4F ∷ [])) ≡ gives (Err Handler) (Ends [] End [])
 unfolding answered following needing with_read from_key asking becoming deciding and_then counting followed emacs_action common_action
 a_handler_fails = refl
 
@@ -157,10 +157,10 @@ a_search_back : (made nothing_bound [] (keys (key_with (Char 0x5D) (modifiers_of
 unfolding answered following needing with_read from_key asking becoming deciding and_then counting followed emacs_action common_action
 a_search_back = refl
 
-a_paste : made nothing_bound [] (Pressed (key_with BracketedPasteStart none) (Pasted (codes "ab") (Ends End))) ≡ gives (Ok (Insert 1 (codes "ab"))) (Ends End)
+a_paste : made nothing_bound [] (Pressed [] (key_with BracketedPasteStart none) (Pasted [] (codes "ab") (Ends [] End []))) ≡ gives (Ok (Insert 1 (codes "ab"))) (Ends [] End [])
 unfolding answered following needing with_read from_key asking becoming deciding and_then counting followed emacs_action common_action
 a_paste = refl
 
-a_paste_out_of_place : made nothing_bound [] (Pressed (with_ctrl 0x58) (Pasted (codes "ab") (Ends End))) ≡ gives (Err PasteOutOfPlace) (Refused PasteOutOfPlace)
+a_paste_out_of_place : made nothing_bound [] (Pressed [] (with_ctrl 0x58) (Pasted (codes "ab") (codes "ab") (Ends [] End []))) ≡ gives (Err PasteOutOfPlace) (Refused (codes "ab") PasteOutOfPlace)
 unfolding answered following needing with_read from_key asking becoming deciding and_then counting followed emacs_action common_action
 a_paste_out_of_place = refl

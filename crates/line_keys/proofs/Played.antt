@@ -3,8 +3,8 @@
 use Rattle.std.specs.Prelude.{List, [], ◌∷◌, Result, Ok, Err}
 use Rattle.line_config.specs.declared.errors.ReadlineError.{ReadlineError}
 use Rattle.line_config.specs.Played.{Played as PlayedBy, played as played_by}
-use Rattle.line_keys.specs.Coming.{Coming, behind, left}
-use Rattle.line_keys.specs.Feeds.{item_at}
+use Rattle.line_keys.specs.Coming.{Coming}
+use Rattle.line_keys.specs.Feeds.{item_at, behind}
 use Rattle.line_keys.specs.Follows.{Stage, stage}
 use Rattle.line_keys.specs.Phrases.{Input, KeyAsk, Answer, Steps, Needs, Shows, Reads, Becomes, Refuses}
 use Rattle.line_keys.specs.Refreshing.{Shown, Ask}
@@ -24,7 +24,7 @@ answer_of s (Becomes input) = Ok tt
 answer_of s (Refuses why) = Err why
 
 abbrev left_of : Stage Shown → KeyAsk → Stage Shown
-left_of s (Reads item) = record s { coming = left (item_at item s.coming) (behind s.coming) }
+left_of s (Reads item) = record s { coming = behind item s.coming }
 left_of s (Becomes input) = record s { input = input }
 left_of s ask = s
 

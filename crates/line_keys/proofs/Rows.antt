@@ -100,17 +100,17 @@ changed_to_the_end = refl
 
 -- ---- what comes
 
-no_key_in_a_paste : (text : List ℕ) (rest : Coming) → key_at (Pasted text rest) ≡ Err PasteOutOfPlace
-no_key_in_a_paste text rest = refl
+no_key_in_a_paste : (bytes text : List ℕ) (rest : Coming) → key_at (Pasted bytes text rest) ≡ Err PasteOutOfPlace
+no_key_in_a_paste bytes text rest = refl
 
-refused_for_good : key_at (left_by PasteOutOfPlace) ≡ Err PasteOutOfPlace
-refused_for_good = refl
+refused_for_good : (left : List ℕ) → key_at (left_by PasteOutOfPlace left) ≡ Err PasteOutOfPlace
+refused_for_good left = refl
 
-the_end_stays : key_at (left_by Eof) ≡ Err Eof
-the_end_stays = refl
+the_end_stays : (left : List ℕ) → key_at (left_by Eof left) ≡ Err Eof
+the_end_stays left = refl
 
-a_cut_paste : paste_at (CutOff End) ≡ Err Eof
-a_cut_paste = refl
+a_cut_paste : (bytes left : List ℕ) → paste_at (CutOff bytes End left) ≡ Err Eof
+a_cut_paste bytes left = refl
 
 interrupt : signal_of (key_with (Char 67) ctrl) ≡ Some Interrupt
 interrupt = refl

@@ -38,8 +38,8 @@ abbrev empty_line : Option (List ℕ) → Shown
 empty_line last = record { line = []; place = 0; hinted = false; completion = None; last_insert = last }
 
 abbrev typed : List ℕ → Coming
-typed [] = Ends End
-typed (c ∷ text) = Pressed (key_with (Char c) none) (typed text)
+typed [] = Ends [] End []
+typed (c ∷ text) = Pressed [] (key_with (Char c) none) (typed text)
 
 abbrev read_by : Input → Option (List ℕ) → Coming → Played Cmd
 read_by input last c = played (empty_line last) input c (steps (phrase nothing_bound input (empty_line last)) 9)
@@ -54,7 +54,7 @@ counts_are_multiplied : (commanded (codes "3d2w")).answer ≡ Ok (Kill (ForwardW
 unfolding answered following needing with_read from_key asking becoming deciding and_then counting followed vi_command vi_counted command_table vi_insert insert_table insert_action common_action action_of motion_of
 counts_are_multiplied = refl
 
-all_is_read : (commanded (codes "3d2w")).rest ≡ Ends End
+all_is_read : (commanded (codes "3d2w")).rest ≡ Ends [] End []
 unfolding answered following needing with_read from_key asking becoming deciding and_then counting followed vi_command vi_counted command_table vi_insert insert_table insert_action common_action action_of motion_of
 all_is_read = refl
 
@@ -143,7 +143,7 @@ a_deletion_takes_none : all_asked (typed (codes "x")) ≡ Reads Key ∷ Becomes 
 unfolding answered following needing with_read from_key asking becoming deciding and_then counting followed vi_command vi_counted command_table vi_insert insert_table insert_action common_action action_of motion_of
 a_deletion_takes_none = refl
 
-a_pasted_text_takes_some : all_asked (Pressed (key_with BracketedPasteStart none) (Pasted (codes "a") (Ends End)))
+a_pasted_text_takes_some : all_asked (Pressed [] (key_with BracketedPasteStart none) (Pasted [] (codes "a") (Ends [] End [])))
     ≡ Reads Key ∷ Reads Paste ∷ Needs ∷ Becomes (record (in_mode Command) { last = InsertText 1 (codes "a") }) ∷ []
 unfolding answered following needing with_read from_key asking becoming deciding and_then counting followed vi_command vi_counted command_table vi_insert insert_table insert_action common_action action_of motion_of
 a_pasted_text_takes_some = refl
@@ -151,7 +151,7 @@ a_pasted_text_takes_some = refl
 -- ---- insert mode
 
 abbrev alt_d_then_d : Coming
-alt_d_then_d = Pressed (key_with (Char 100) alt) (typed (codes "d"))
+alt_d_then_d = Pressed [] (key_with (Char 100) alt) (typed (codes "d"))
 
 alt_begins_a_command : (read_by (in_mode Insert) None alt_d_then_d).answer ≡ Ok (Kill WholeLine)
 unfolding answered following needing with_read from_key asking becoming deciding and_then counting followed vi_command vi_counted command_table vi_insert insert_table insert_action common_action action_of motion_of

@@ -1,12 +1,12 @@
 -- A call makes the steps of its definition, in order, to the answer or to the step at which a fault
 -- cuts it.
-use Rattle.std.specs.Prelude.{◌≡◌, ℕ, ◌<◌, ◌≤◌, ◌⊎◌, ⊤, false, [], None, Result, Ok, Err, IsTrue, IfErr}
+use Rattle.std.specs.Prelude.{◌≡◌, ℕ, List, ◌<◌, ◌≤◌, ◌⊎◌, ⊤, false, [], None, Result, Ok, Err, IsTrue, IfErr}
 use Rattle.line_config.specs.declared.errors.ReadlineError.{ReadlineError}
 use Rattle.line_config.specs.declared.errors.ReadlineError.TheVariants.{Interrupted, Display as DisplayFault, Lines, HistoryText, Helper, Handler, Memory}
 use Rattle.line_keys.specs.Answers.{Custom, HandlerFails}
 use Rattle.line_config.specs.Scripts.{World, Goes}
-use Rattle.line_keys.specs.Coming.{Coming, behind, left_by}
-use Rattle.line_keys.specs.Feeds.{KeyFeed, item_at, IsReadFault}
+use Rattle.line_keys.specs.Coming.{Coming, left_by}
+use Rattle.line_keys.specs.Feeds.{KeyFeed, item_at, behind, IsReadFault}
 use Rattle.line_keys.specs.Phrases.{Input, KeyAsk, Answer, Part, steps, Needs, Shows, Reads, Becomes, Refuses}
 use Rattle.line_keys.specs.Refreshing.{Ask, KnownDisplay, IsDrawFault}
 
@@ -26,7 +26,7 @@ KeyMade d s Needs answer t = t ≡ s
 KeyMade d s (Shows ask) shown t =
     d.asked s.wrt ask t.wrt × (shown ≡ d.shown t.wrt) × (t ≡ record s { wrt = t.wrt })
 KeyMade d s (Reads item) read t =
-    (item_at item s.coming ≡ Ok read) × (t ≡ record s { coming = behind s.coming })
+    (item_at item s.coming ≡ Ok read) × (t ≡ record s { coming = behind item s.coming })
 KeyMade d s (Becomes input) answer t = t ≡ record s { input = input }
 KeyMade d s (Refuses why) answer t = ⊥
 
@@ -38,7 +38,8 @@ KeyCut d s Needs e t = (e ≡ Memory) × (t ≡ s)
 KeyCut d s (Shows ask) e t =
     IsDrawFault e × d.refused s.wrt ask e t.wrt × (t ≡ record s { wrt = t.wrt })
 KeyCut d s (Reads item) e t =
-    ((item_at item s.coming ≡ Err e) ⊎ IsReadFault item e) × (t ≡ record s { coming = left_by e })
+    ((item_at item s.coming ≡ Err e) × (t ≡ record s { coming = behind item s.coming }))
+    ⊎ ((left : List ℕ) × IsReadFault item e × (t ≡ record s { coming = left_by e left }))
 KeyCut d s (Becomes input) e t = ⊥
 KeyCut d s (Refuses why) e t = (e ≡ why) × (t ≡ s)
 

@@ -25,9 +25,9 @@ pub fn calls()
     ensures { CallsLead }
 {}
 
-/// Whenever a key is read, the device below the screen's sink has taken every byte of the drawings.
-/// If nothing is buffered in the sink as a line begins, nothing is buffered at any request of its
-/// script.
+/// If nothing is buffered in the screen's sink as a line begins, nothing is buffered at any request
+/// of the line's script, such as the read of a key. Nor is it at the script's end, also after a
+/// fault. A sink that has failed is excepted.
 pub fn reads_find_nothing_waiting<D: Sink>()
     ensures { ReadsFindNothingWaiting D.held D.waits D.has_failed }
 {}

@@ -16,16 +16,16 @@ last_item Failed = coming.Failed
 
 abbrev pub keys_then : List Typed → Coming → Coming
 keys_then [] tail = tail
-keys_then (Key k ∷ rest) tail = Pressed k (keys_then rest tail)
-keys_then (Paste t ∷ rest) tail = Pasted t (keys_then rest tail)
+keys_then (Key k ∷ rest) tail = Pressed [] k (keys_then rest tail)
+keys_then (Paste t ∷ rest) tail = Pasted [] t (keys_then rest tail)
 
 abbrev pub coming_after : List Typed → Bool → After → Coming
 coming_after typed cut last =
-    keys_then typed (if cut then CutOff (last_item last) else Ends (last_item last))
+    keys_then typed (if cut then CutOff [] (last_item last) [] else Ends [] (last_item last) [])
 
 abbrev pub coming_unless : Option ReadlineError → Coming → Coming
 coming_unless None c = c
-coming_unless (Some why) c = Refused why
+coming_unless (Some why) c = Refused [] why
 
 abbrev pub refusal_after : After → ReadlineError
 refusal_after End = Eof

@@ -1,39 +1,60 @@
 //! A reader that records how it was called.
 
-ghost use Rattle.std.specs.Prelude.{◌≡◌, ◌<◌, ◌≤◌, IfErr, OnOk};
+ghost use Rattle.std.specs.Prelude.{◌≡◌, ◌<◌, ◌≤◌, IfErr, OnOk, length};
 ghost use Rattle.line_config.specs.declared.errors.ReadlineError.{ReadlineError};
+ghost use Rattle.line_keys.specs.Feeds.{IsReaderRefusal};
 
 use line_config::ReadlineError;
 use line_keys::tty::Event as Report;
 use line_keys::{Cmd, KeyCode, KeyEvent, Modifiers, RawReader, Text};
-use std::alloc::Global;
+use std::alloc::{AllocError, Global};
 
-/// Gives one `x` after the other, and records how each was requested.
-#[derive(Drop)]
-pub struct Listener {
-    pub left: u8,
-    /// Whether a report of the terminal was requested, and not a key.
+/// How a key was requested.
+#[derive(Clone, Copy, Drop)]
+pub struct KeyRequest {
+    /// As a report of the terminal, and not as a key.
     pub report: bool,
     pub single_esc_abort: bool,
 }
 
-impl Listener {
-    fn give(&mut self, report: bool, single_esc_abort: bool) -> Result<KeyEvent, ReadlineError>
-        ensures falls { OnOk result (self.new.left < self.old.left) }
-        ensures keeps { self.new.left ≤ self.old.left }
-        ensures err { IfErr result (λ e. e ≡ ReadlineError.Eof) }
-    {
-        if self.left == 0 {
-            return Err(ReadlineError::Eof);
+/// Gives keys in order, and records how each was requested.
+#[derive(Drop)]
+pub struct Listener<'t> {
+    keys: &'t [KeyEvent],
+    requests: Vec<KeyRequest>,
+}
+
+impl<'t> Listener<'t> {
+    pub fn new(alloc: Global, keys: &'t [KeyEvent]) -> Self {
+        Listener {
+            keys,
+            requests: Vec::new(alloc),
         }
-        self.left -= 1;
-        self.report = report;
-        self.single_esc_abort = single_esc_abort;
-        Ok(KeyEvent(KeyCode::Char('x'), Modifiers::NONE))
+    }
+
+    /// How each key was requested, in order.
+    pub fn requests(&self) -> &[KeyRequest] {
+        &self.requests
+    }
+
+    fn give(&mut self, report: bool, single_esc_abort: bool) -> Result<KeyEvent, ReadlineError>
+        ensures falls { OnOk result (length self.new.keys.now < length self.old.keys.now) }
+        ensures keeps { length self.new.keys.now ≤ length self.old.keys.now }
+        ensures err { IfErr result IsReaderRefusal }
+    {
+        let [key, rest @ ..] = self.keys else {
+            return Err(ReadlineError::Eof);
+        };
+        self.requests.push(KeyRequest {
+            report,
+            single_esc_abort,
+        })?;
+        self.keys = rest;
+        Ok(*key)
     }
 }
 
-impl RawReader for Listener {
+impl RawReader for Listener<'_> {
     ghost use Rattle.std.specs.Prelude.{None};
     ghost use Rattle.stand_ins.specs.Listening.{listener_feed};
 
@@ -71,5 +92,27 @@ impl RawReader for Listener {
 
     fn unbuffer(self) -> Option<u8> {
         None
+    }
+}
+
+/// How each key was requested, separated by commas: `report` or `key`, with `abort` after it if
+/// Esc alone ends the wait.
+pub fn requests_in_words(alloc: Global, requests: &[KeyRequest]) -> Result<String, AllocError> {
+    let mut said = String::new(alloc);
+    for request in requests {
+        if !said.is_empty() {
+            said.push_str(", ")?;
+        }
+        said.push_str(in_words(*request))?;
+    }
+    Ok(said)
+}
+
+fn in_words(request: KeyRequest) -> &'static str {
+    match (request.report, request.single_esc_abort) {
+        (true, true) => "report abort",
+        (true, false) => "report",
+        (false, true) => "key abort",
+        (false, false) => "key",
     }
 }

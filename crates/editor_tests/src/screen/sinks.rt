@@ -35,7 +35,7 @@ impl Sink for FailsAfter {
             return Err(DeviceFailed);
         }
         self.writes -= 1;
-        self.taken.note(bytes);
+        self.taken.note(&Ok(bytes.len()), bytes);
         Ok(())
     }
 
@@ -88,7 +88,7 @@ impl Sink for Gathers {
     fn write(&mut self, bytes: &[u8]) -> Result<(), DeviceFailed> {
         self.waiting = true;
         self.writes = self.writes.saturating_add(1);
-        self.taken.note(bytes);
+        self.taken.note(&Ok(bytes.len()), bytes);
         Ok(())
     }
 

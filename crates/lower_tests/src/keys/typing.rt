@@ -11,22 +11,23 @@ use std::test::Fail;
 
 /// The event of keys with these names; any event without names.
 pub(crate) fn event(alloc: Global, words: &str) -> Result<Event, ReadlineError> {
-    let mut keys = Vec::new(alloc);
-    name_keys(&mut keys, words)?;
+    let keys = keys_named(alloc, words)?;
     if keys.is_empty() {
         return Ok(Event::Any);
     }
     Ok(Event::KeySeq(Keys::from(keys)))
 }
 
-fn name_keys(keys: &mut Vec<KeyEvent>, words: &str) -> Result<(), ReadlineError> {
+/// The keys with these names.
+pub(crate) fn keys_named(alloc: Global, words: &str) -> Result<Vec<KeyEvent>, ReadlineError> {
+    let mut keys = Vec::new(alloc);
     for word in words.split_whitespace() {
         match key_named(word) {
             Some(key) => keys.push(key)?,
             None => return Err(ReadlineError::Helper),
         }
     }
-    Ok(())
+    Ok(keys)
 }
 
 /// The input of a table's row.

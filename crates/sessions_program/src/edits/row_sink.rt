@@ -75,7 +75,7 @@ impl<'a> Sink for RowSink<'a> {
 
     fn write(&mut self, bytes: &[u8]) -> Result<(), DeviceFailed> {
         self.comparison.take_all(bytes);
-        self.taken.note(bytes);
+        self.taken.note(&Ok(bytes.len()), bytes);
         Ok(())
     }
 

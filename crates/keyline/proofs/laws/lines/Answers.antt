@@ -16,7 +16,7 @@ loop-prompter-init g c = asking_nowhere _ _ _ _
 
 pub returns-in-Err : goal.returns-in-Err
 returns-in-Err g c =
-    let k = known_by g.S.Source.feed g.D.Sink.held g.D.Sink.waits g.D.Sink.has_failed g.L.Sink.held g.L.Sink.has_failed in
+    let k = known_by g.S.Source.feed g.D.Sink.held g.D.Sink.waits g.D.Sink.has_failed g.L.Sink.held g.L.Sink.waits g.L.Sink.has_failed in
     let helps = helping_by g.H.Hinter.hint_of g.H.Validator.verdict_of g.H.Completer.completion_of g.H.Completer.update_of g.H.Highlighter.marks in
     let decides = g.B.Decides.decides in
     let now = c.loop-prompter.session in
@@ -34,7 +34,7 @@ returns-in-Err g c =
 
 pub loop-prompter-preserved-in-Ok : goal.loop-prompter-preserved-in-Ok
 loop-prompter-preserved-in-Ok g c =
-    let k = known_by g.S.Source.feed g.D.Sink.held g.D.Sink.waits g.D.Sink.has_failed g.L.Sink.held g.L.Sink.has_failed in
+    let k = known_by g.S.Source.feed g.D.Sink.held g.D.Sink.waits g.D.Sink.has_failed g.L.Sink.held g.L.Sink.waits g.L.Sink.has_failed in
     let helps = helping_by g.H.Hinter.hint_of g.H.Validator.verdict_of g.H.Completer.completion_of g.H.Completer.update_of g.H.Highlighter.marks in
     let decides = g.B.Decides.decides in
     let now = c.loop-prompter.session in

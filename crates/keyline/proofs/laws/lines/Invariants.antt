@@ -8,7 +8,7 @@ use Rattle.keyline.proofs.laws.lines.Given as goal
 
 abbrev pub invariant-loop-prompter : goal.invariant-loop-prompter
 invariant-loop-prompter g l =
-    let k = known_by g.S.Source.feed g.D.Sink.held g.D.Sink.waits g.D.Sink.has_failed g.L.Sink.held g.L.Sink.has_failed in
+    let k = known_by g.S.Source.feed g.D.Sink.held g.D.Sink.waits g.D.Sink.has_failed g.L.Sink.held g.L.Sink.waits g.L.Sink.has_failed in
     let helps = helping_by g.H.Hinter.hint_of g.H.Validator.verdict_of g.H.Completer.completion_of g.H.Completer.update_of g.H.Highlighter.marks in
     let first = l.fn.session in
     let now = l.session in
@@ -17,4 +17,4 @@ invariant-loop-prompter g l =
 
 abbrev pub decreases-loop-prompter : goal.decreases-loop-prompter
 decreases-loop-prompter g l =
-    (desk_feed (known_by g.S.Source.feed g.D.Sink.held g.D.Sink.waits g.D.Sink.has_failed g.L.Sink.held g.L.Sink.has_failed) l.session.desk).bound
+    (desk_feed (known_by g.S.Source.feed g.D.Sink.held g.D.Sink.waits g.D.Sink.has_failed g.L.Sink.held g.L.Sink.waits g.L.Sink.has_failed) l.session.desk).bound

@@ -15,5 +15,5 @@ returns-clause-session g c =
     session.desk c.run-ended.result _ opened.desk c.run-ended.ensures c.helper_by.ensures
     opened.given.config_is (ap (λ b. custom_of b decides) opened.given.bindings_are) opened.given.prompt_is opened.given.text_is
     (λ s. refl) (λ s. refl) c.new.ensures c.new-2.ensures c.new-3.ensures.empty c.new-4.ensures.empty c.new-5.ensures.empty
-    (sym c.is_cut.ensures ∙ c.if-is_cut.false) (sym c.failed.ensures ∙ c.if-failed.false) (sym c.failed-else-failed.ensures ∙ c.if-failed-2.false)
+    (sym c.is_cut.ensures ∙ c.if-is_cut.false) (sym c.failed.ensures ∙ c.if-failed.false)
     c.into_bytes.ensures c.into_bytes-2.ensures c.into_bytes-3.ensures refl c.in_ok-unread.ensures

@@ -1,9 +1,21 @@
-use Rattle.std.proofs.Common.{rules, ◌≡◌, ◌≤◌, ◌∙◌, ◌+◌, ◌-◌, ◌∷◌, [], length, take, slice_index_or, sym, ap, subst, arith, suc}
+use Rattle.std.proofs.Common.{rules, ◌≡◌, ◌≤◌, ◌<◌, ◌∙◌, ◌+◌, ◌-◌, ◌∷◌, length, take, slice_index_or, sym, ap, subst, arith, refl, suc}
+use Rattle.std.specs.Prelude.{option_copied}
 use Rattle.line_record.specs.Ring.{Ring}
-use Rattle.keyline_c.specs.Slots.{AreLaidOut, IsSlot}
-use Rattle.keyline_c.proofs.SlotLemmas.{laid_to, slot_of, slots_count, slots_end, ring_stands}
+use Rattle.keyline_c.specs.Slots.{AreLaidOut, IsSlot, SlotMeans}
+use Rattle.keyline_c.proofs.SlotLemmas.{is_there, laid_to, slots_count, slots_end, slot_given, ring_stands}
 use Rattle.keyline_c.proofs.RingLemmas.{filled, one_more, texts_more}
 use Rattle.keyline_c.proofs.ring.ring_of.Goals as goal
+
+pub unwrap-text-requires : goal.unwrap-text-requires
+unwrap-text-requires c =
+    let l = c.loop-end in
+    slot_given c.args.texts.now l.start (slice_index_or c.args.ends.now l.end-index 0) option_copied refl c.slot_text.result c.slot_text.ensures
+    (is_there c.args.texts.now c.args.ends.now c.args.place l.end-index l.start c.requires c.loop-end-test.true l.invariant.start_is)
+
+pub add_slot-requires-clause-few : goal.add_slot-requires-clause-few
+add_slot-requires-clause-few c =
+    let l = c.loop-end in
+    omega (arith, l.invariant.count, c.loop-end-test.true, c.requires.1.few, slots_count c.requires.0.slots c.args.texts.now c.args.ends.now c.requires.1.laid_out)
 
 pub loop-end-preserved : goal.loop-end-preserved
 loop-end-preserved c =
@@ -11,8 +23,8 @@ loop-end-preserved c =
     let texts = c.args.texts.now in
     let ends = c.args.ends.now in
     let end = slice_index_or ends l.end-index 0 in
-    let text = c.in-Some.text.now in
-    let slot : IsSlot texts l.start end text = search rules in
+    let text = c.unwrap-text.result.now in
+    let slot : IsSlot texts l.start end text = subst (SlotMeans texts l.start end) (ap option_copied c.unwrap-text.ensures) c.slot_text.ensures in
     let next : suc l.end-index ≡ l.end-index + 1 = omega arith in
     let added = c.in_ok-add_slot.ensures in
     record {
@@ -25,31 +37,19 @@ loop-end-preserved c =
       inside = slot.inside;
     }
 
-pub returns-then-ends-gt-SLOTS : goal.returns-then-ends-gt-SLOTS
-returns-then-ends-gt-SLOTS c ring h = omega (arith, c.if-ends-gt-SLOTS.true, h.few, slots_count ring.slots c.args.texts.now c.args.ends.now h.laid_out)
-
-pub returns-then-place-saturating_sub : goal.returns-then-place-saturating_sub
-returns-then-place-saturating_sub c ring h =
-    omega (arith, c.if-place-saturating_sub.true, c.saturating_sub.ensures, h.inside, slots_count ring.slots c.args.texts.now c.args.ends.now h.laid_out)
-
-pub returns-then-start-texts : goal.returns-then-start-texts
-returns-then-start-texts c ring h =
-    let l = c.loop-end in
-    let all : l.end-index ≡ length c.args.ends.now = search rules in
-    absurd (c.if-start-texts.true (l.invariant.start_is ∙ (ap (λ n. slice_index_or (0 ∷ c.args.ends.now) n 0) all ∙ slots_end ring.slots c.args.texts.now c.args.ends.now h.laid_out)))
+pub turn_to-requires-clause-inside : goal.turn_to-requires-clause-inside
+turn_to-requires-clause-inside c = omega (arith, c.requires.1.inside, slots_count c.requires.0.slots c.args.texts.now c.args.ends.now c.requires.1.laid_out)
 
 pub returns : goal.returns
 returns c =
     let l = c.loop-end in
     let texts = c.args.texts.now in
     let ends = c.args.ends.now in
+    let ring = c.requires.0 in
+    let count = slots_count ring.slots texts ends c.requires.1.laid_out in
     let all : l.end-index ≡ length ends = search rules in
-    let place : c.args.place ≤ length ends - 1 = search rules in
-    ring_stands texts ends c.args.place l.start l.end-index l.ring c.turn_to.new.ring l.invariant.laid_out c.if-start-texts.false all l.invariant.count l.invariant.utf8
-    c.if-ends-gt-SLOTS.false place c.turn_to.ensures
-
-pub returns-in_default : goal.returns-in_default
-returns-in_default c ring h =
-    let l = c.loop-end in
-    let ends = c.args.ends.now in
-    c.in_default.ensures (slice_index_or ring.slots l.end-index []) (slot_of c.args.texts.now ends c.args.place l.end-index l.start ring h c.loop-end-test.true l.invariant.start_is)
+    let few : length ends ≤ 60 = omega (arith, c.requires.1.few, count) in
+    let place : c.args.place ≤ length ends - 1 = omega (arith, c.requires.1.inside, count) in
+    let end : l.start ≡ length texts = l.invariant.start_is ∙ (ap (λ n. slice_index_or (0 ∷ ends) n 0) all ∙ slots_end ring.slots texts ends c.requires.1.laid_out) in
+    ring_stands texts ends c.args.place l.start l.end-index l.ring c.turn_to.new.ring l.invariant.laid_out end all l.invariant.count l.invariant.utf8
+    few place c.turn_to.ensures

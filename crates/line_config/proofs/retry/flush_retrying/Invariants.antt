@@ -1,7 +1,9 @@
 -- What was interrupted has written nothing.
 use Rattle.std.proofs.Common.{◌≡◌}
-use Rattle.line_config.specs.Recorded.{Notes, took}
+use Rattle.line_config.specs.Calls.{again, flush_interrupted}
+use Rattle.line_config.specs.Recorded.{Notes, calls_of, took}
 use Rattle.line_config.proofs.retry.flush_retrying.Given as goal
 
-abbrev pub invariant-loop : goal.invariant-loop
-invariant-loop g l = (took l.writer ≡ took l.fn.writer) × Notes g.W.Write.contents l.fn.writer l.writer
+abbrev pub invariant-loop-tried : goal.invariant-loop-tried
+invariant-loop-tried g l = (took l.writer ≡ took l.fn.writer) × Notes g.W.Write.contents l.fn.writer l.writer
+    × (calls_of l.writer ≡ again l._tried flush_interrupted (calls_of l.fn.writer))

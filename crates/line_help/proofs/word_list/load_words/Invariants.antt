@@ -1,4 +1,4 @@
-use Rattle.std.proofs.Common.{◌≡◌, ◌++◌, IsTrue, map, false}
+use Rattle.std.proofs.Common.{◌≡◌, ◌≤◌, ◌++◌, IsTrue, map, false}
 use Rattle.std.specs.Prelude.{string_bytes}
 use Rattle.line_help.specs.HistoryText.{EndIsMet, GoodUpTo, entries_of, has_bad_row, left_by_load, text_rows}
 use Rattle.line_help.proofs.word_list.load_words.Given as goal
@@ -7,6 +7,7 @@ abbrev pub invariant-loop-rows : goal.invariant-loop-rows
 invariant-loop-rows g l = record {
   told : IsTrue (g.S.Source.feed l.source).told → IsTrue (g.S.Source.feed l.fn.source).told;
   last : (g.S.Source.feed l.source).last ≡ (g.S.Source.feed l.fn.source).last;
+  bound : (g.S.Source.feed l.source).bound ≤ (g.S.Source.feed l.fn.source).bound;
   ended : EndIsMet l.rows.ended (g.S.Source.feed l.source);
   good : IsTrue (g.S.Source.feed l.source).told → GoodUpTo (g.S.Source.feed l.fn.source).coming (g.S.Source.feed l.source).coming;
   words : IsTrue (g.S.Source.feed l.source).told

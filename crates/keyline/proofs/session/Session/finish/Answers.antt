@@ -1,6 +1,7 @@
 -- Whether the history was saved is what `save` answered.
 use Rattle.std.proofs.Common.{ap, ◌∙◌, rules}
 use Rattle.keyline.specs.Endings.{ending_of}
+use Rattle.keyline.proofs.Unread.{unread_at_end}
 use Rattle.keyline.proofs.session.Session.finish.Goals as goal
 
 pub returns : goal.returns
@@ -10,6 +11,7 @@ returns g c = record {
   ending_is = c.from-ending.ensures ∙ ap ending_of c.ending_after.ensures;
   source_is = search rules;
   ahead_is = search rules;
+  unread_is = unread_at_end g.S.Source.feed c.args.self.desk.reader _ _ (search rules) (search rules);
   display_is = search rules;
   lines_are = search rules;
 }

@@ -15,7 +15,7 @@ loop-why-init g c = (underway_nowhere _ _ _, refl)
 
 pub returns-in-Err : goal.returns-in-Err
 returns-in-Err g c =
-    let k = known_by g.S.Source.feed g.D.Sink.held g.D.Sink.waits g.D.Sink.has_failed g.L.Sink.held g.L.Sink.has_failed in
+    let k = known_by g.S.Source.feed g.D.Sink.held g.D.Sink.waits g.D.Sink.has_failed g.L.Sink.held g.L.Sink.waits g.L.Sink.has_failed in
     let helps = helping_by g.H.Hinter.hint_of g.H.Validator.verdict_of g.H.Completer.completion_of g.H.Completer.update_of g.H.Highlighter.marks in
     let self = c.args.self in
     let now = c.loop-why.session in
@@ -29,12 +29,12 @@ returns-in-Err g c =
       last = next.desk;
       why = c.in-Err.why;
       takes = lines;
-      finishes = subst (λ text. Finishes g.T.Sink.held g.T.Sink.has_failed next.desk text c.in-Err.why c.finish.result) text c.finish.ensures;
+      finishes = subst (λ text. Finishes g.S.Source.feed g.T.Sink.held g.T.Sink.has_failed next.desk text c.in-Err.why c.finish.result) text c.finish.ensures;
     }
 
 pub loop-why-preserved-in-Ok : goal.loop-why-preserved-in-Ok
 loop-why-preserved-in-Ok g c =
-    let k = known_by g.S.Source.feed g.D.Sink.held g.D.Sink.waits g.D.Sink.has_failed g.L.Sink.held g.L.Sink.has_failed in
+    let k = known_by g.S.Source.feed g.D.Sink.held g.D.Sink.waits g.D.Sink.has_failed g.L.Sink.held g.L.Sink.waits g.L.Sink.has_failed in
     let helps = helping_by g.H.Hinter.hint_of g.H.Validator.verdict_of g.H.Completer.completion_of g.H.Completer.update_of g.H.Highlighter.marks in
     let self = c.args.self in
     let now = c.loop-why.session in

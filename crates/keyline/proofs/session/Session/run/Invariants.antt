@@ -9,7 +9,7 @@ use Rattle.keyline.proofs.session.Session.run.Given as goal
 
 abbrev pub invariant-loop-why : goal.invariant-loop-why
 invariant-loop-why g l =
-    let k = known_by g.S.Source.feed g.D.Sink.held g.D.Sink.waits g.D.Sink.has_failed g.L.Sink.held g.L.Sink.has_failed in
+    let k = known_by g.S.Source.feed g.D.Sink.held g.D.Sink.waits g.D.Sink.has_failed g.L.Sink.held g.L.Sink.waits g.L.Sink.has_failed in
     let helps = helping_by g.H.Hinter.hint_of g.H.Validator.verdict_of g.H.Completer.completion_of g.H.Completer.update_of g.H.Highlighter.marks in
     let self = l.fn.self in
     let given = given_in g.B.Decides.decides helps (prompt_of self) in
@@ -17,4 +17,4 @@ invariant-loop-why g l =
 
 abbrev pub decreases-loop-why : goal.decreases-loop-why
 decreases-loop-why g l =
-    (desk_feed (known_by g.S.Source.feed g.D.Sink.held g.D.Sink.waits g.D.Sink.has_failed g.L.Sink.held g.L.Sink.has_failed) l.session.desk).bound
+    (desk_feed (known_by g.S.Source.feed g.D.Sink.held g.D.Sink.waits g.D.Sink.has_failed g.L.Sink.held g.L.Sink.waits g.L.Sink.has_failed) l.session.desk).bound

@@ -3,6 +3,9 @@ use Rattle.std.proofs.Common.{◌≡◌, ◌<◌, ◌+◌, ◌++◌, ◌∙◌, 
 use Rattle.std.proofs.lemmas.List.{take_rest, length-take-le}
 use Rattle.std.proofs.lemmas.Grind.{common_steps}
 use Rattle.line_config.proofs.NotesLemmas.{notes_then}
+use Rattle.line_config.proofs.TryLemmas.{ends_since}
+use Rattle.line_config.proofs.Taking.{on_err}
+use Rattle.line_config.specs.Calls.{IsWriteFailure}
 use Rattle.line_config.proofs.adapters.WriteSink.gather_all.Goals as goal
 
 pub loop-rest-preserved : goal.loop-rest-preserved
@@ -24,3 +27,10 @@ loop-rest-preserved g c =
       omega (arith, so_far.4, room, front, length-append so_far.0 (take n rest)),
       λ fits. c.in_ok-count.ensures.waiting (omega (arith, so_far.4, whole, some, fits)) ∙ so_far.5 fits,
     )
+
+pub returns-in_err-count-clause-cause : goal.returns-in_err-count-clause-cause
+returns-in_err-count-clause-cause g c =
+    on_err c.from_residual.result (ends_since IsWriteFailure _ _ _ c.loop-rest.invariant.3.calls c.in_err-count.ensures.cause)
+
+pub returns-in_err-count-clause-writer : goal.returns-in_err-count-clause-writer
+returns-in_err-count-clause-writer g c = notes_then _ _ _ _ c.loop-rest.invariant.3 c.gather.ensures.writer

@@ -13,6 +13,6 @@ returns-else-undone g c =
 pub returns-in_err-undone : goal.returns-in_err-undone
 returns-in_err-undone g c =
     record {
-      does = undo_refused c.args.n _ _ _ c.from_residual.ensures.1 c.in_err-undone.ensures.left.forgotten refl refl
+      does = undo_refused c.args.n _ _ _ c.from_residual.ensures.1 c.in_err-undone.ensures.left refl refl
           (record { ruler = refl; prompt = refl; history_is = refl; hooks_are = refl; marks_are = refl });
     }

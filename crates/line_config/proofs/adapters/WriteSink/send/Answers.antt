@@ -1,0 +1,10 @@
+-- The flush comes last.
+use Rattle.line_config.specs.Calls.{IsFlush, IsWriteFailure}
+use Rattle.line_config.proofs.TryLemmas.{flush_ends, flush_fails}
+use Rattle.line_config.proofs.adapters.WriteSink.send.Goals as goal
+
+pub returns-clause-flushed : goal.returns-clause-flushed
+returns-clause-flushed g c = flush_ends c.flush_retrying.result _ _ _ c.send_to.ensures.writer.calls c.flush_retrying.ensures.tries
+
+pub returns-clause-cause : goal.returns-clause-cause
+returns-clause-cause g c = flush_fails c.flush_retrying.result _ _ _ c.send_to.ensures.writer.calls c.flush_retrying.ensures.tries

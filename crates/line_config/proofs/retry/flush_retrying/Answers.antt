@@ -1,0 +1,33 @@
+-- A flush is repeated if it was interrupted, and only then.
+use Rattle.std.proofs.Common.{◌≡◌, ◌++◌, ◌^◌, ◌-◌, ◌∷◌, ap, ◌∙◌, refl, arith, sym}
+use Rattle.line_config.specs.Calls.{flushes, flush_interrupted}
+use Rattle.line_config.specs.Recorded.{calls_of, inner_of, took}
+use Rattle.line_config.proofs.NotesLemmas.{notes_none, notes_same, notes_then}
+use Rattle.line_config.proofs.TryLemmas.{again_none, again_more, interrupted_flush, tries_out}
+use Rattle.line_config.proofs.retry.flush_retrying.Goals as goal
+
+pub loop-tried-init : goal.loop-tried-init
+loop-tried-init g c = (refl, notes_same _ _, again_none flush_interrupted _)
+
+pub loop-tried-preserved : goal.loop-tried-preserved
+loop-tried-preserved g c =
+    let so_far = c.loop-tried.invariant in
+    let kind = c.was_interrupted.ensures.0 c.if-was_interrupted.true in
+    let same = interrupted_flush c.flush.result c.in-Err.e c.in-Err.is kind in (
+      c.in-Err.ensures.bytes ∙ so_far.0,
+      notes_then _ _ _ _ so_far.1 (notes_none _ _ _ _ c.in-Err.ensures.bytes c.in-Err.ensures.writer c.flush.ensures.noted),
+      again_more c.loop-tried._tried flush_interrupted _ _ _ _ so_far.2 c.flush.ensures.noted same,
+    )
+
+pub returns-clause-tries : goal.returns-clause-tries
+returns-clause-tries g c =
+    let all : c.loop-tried._tried ≡ 2 ^ 64 - 1 = omega (arith, c.loop-tried-test.false, c.loop-tried.auto._tried-end) in
+    tries_out flush_interrupted _ c.loop-tried._tried _ _ c.loop-tried.invariant.2 all tt
+
+pub returns-in-Ok-clause-writer : goal.returns-in-Ok-clause-writer
+returns-in-Ok-clause-writer g c =
+    notes_then _ _ _ _ c.loop-tried.invariant.1 (notes_none _ _ _ _ c.flush.ensures.bytes c.flush.ensures.writer c.flush.ensures.noted)
+
+pub returns-in-Err-2-clause-writer : goal.returns-in-Err-2-clause-writer
+returns-in-Err-2-clause-writer g c =
+    notes_then _ _ _ _ c.loop-tried.invariant.1 (notes_none _ _ _ _ c.flush.ensures.bytes c.flush.ensures.writer c.flush.ensures.noted)

@@ -1,0 +1,87 @@
+-- What can be said of a reader beforehand.
+use Rattle.std.specs.Prelude.{◌≡◌, ℕ, IsTrue, List, [], ◌∷◌, ◌++◌, Option, Some, None, refl, unwrap_or}
+use Rattle.std.proofs.Common.{ap, sym, ◌∙◌, arith}
+use Rattle.std.specs.Io.KnownBytes.{Consumes, IsAtEnd}
+use Rattle.line_config.specs.Foretold.{left_of, agrees, works, AnyCanBeSaid, OwnBytesCanBeSaid, EndsAsSaid, Meets, own_told, said_told}
+use Rattle.line_config.specs.declared.device.Last.{Last}
+use Rattle.line_config.specs.declared.device.Last.TheVariants.{End, Failed}
+
+-- what is left after some more bytes was left before them, after these
+left_front : (all bytes left : List ℕ) → left_of all bytes ≡ Some left → all ≡ bytes ++ left
+unfolding left_of
+left_front all [] left is = cc
+left_front [] (b ∷ bytes) left is = absurd (cc)
+left_front (a ∷ all) (b ∷ bytes) left is = grind (arith, left_front all bytes left)
+
+pub left_before : (all given bytes left : List ℕ) → left_of all (given ++ bytes) ≡ Some left
+    → left_of all given ≡ Some (bytes ++ left)
+unfolding left_of
+left_before all [] bytes left is = ap Some (left_front all bytes left is)
+left_before [] (b ∷ given) bytes left is = absurd (cc)
+left_before (a ∷ all) (b ∷ given) bytes left is = grind (arith, left_before all given bytes left)
+
+-- if what was read agrees, the rest is known, and empty once the end or a failure was met
+left_where : (left : Option (List ℕ)) (last : Last) (met : Option Last)
+    → IsTrue (agrees left last met) → (l : List ℕ) × (left ≡ Some l)
+left_where None last met is = absurd (cc)
+left_where (Some l) last met is = (l, refl)
+
+none_where : (l : List ℕ) (last x : Last) → IsTrue (agrees (Some l) last (Some x))
+    → (l ≡ []) × (x ≡ last)
+none_where [] End End is = (refl, refl)
+none_where [] Failed Failed is = (refl, refl)
+none_where [] End Failed is = absurd (cc)
+none_where [] Failed End is = absurd (cc)
+none_where (b ∷ l) last x is = absurd (cc)
+
+so_met : (left : Option (List ℕ)) (l : List ℕ) (last : Last) (met : Option Last) (x : Last)
+    → left ≡ Some l → met ≡ Some x → IsTrue (agrees left last met) → (l ≡ []) × (x ≡ last)
+so_met left l last met x is-left is-met t =
+    none_where l last x (let u : IsTrue (agrees (Some l) last (Some x)) = rw (is-left, is-met) at t in u)
+
+-- what agrees after some more bytes agreed before them, and these were the next ones
+said_before : (all given more l : List ℕ) (last : Last) → left_of all (given ++ more) ≡ Some l
+    → IsTrue (agrees (left_of all given) last None)
+    × (unwrap_or (left_of all given) [] ≡ more ++ unwrap_or (left_of all (given ++ more)) [])
+said_before all given more l last is =
+    let before = left_before all given more l is in (rw before refl, rw (before, is) refl)
+
+pub any_said : {R : Type 0} (remaining : R → Option (List ℕ)) → AnyCanBeSaid remaining
+any_said remaining all last old new given more met consumed meets t =
+    let l = left_where (left_of all (given ++ more)) last met t in
+    let before = said_before all given more l.0 last l.1 in
+    record {
+      told_before = before.0;
+      coming = before.1;
+      spent = λ x is.
+          let so = so_met _ l.0 last met x l.1 is t in
+          (ap (λ left. unwrap_or left []) l.1 ∙ so.0, so.1);
+    }
+
+-- a reader that works meets only the end
+at_end : (met : Option Last) (x : Last) → met ≡ Some x → IsTrue (works met) → x ≡ End
+at_end met End is t = refl
+at_end met Failed is t = let u : IsTrue (works (Some Failed)) = rw is at t in absurd (cc)
+
+pub said_ends : {R : Type 0} (all : List ℕ) (last : Last)
+    → EndsAsSaid (said_told {R = R} all last) last
+said_ends all last r given met t =
+    let l = left_where (left_of all given) last (Some met) t in
+    (so_met _ l.0 last (Some met) met l.1 refl t).1
+
+pub own_ends : {R : Type 0} → EndsAsSaid (own_told {R = R}) End
+own_ends r given met t = at_end (Some met) met refl t
+
+pub own_said : {R : Type 0} (remaining : R → Option (List ℕ)) (bytes : R → List ℕ)
+    → OwnBytesCanBeSaid remaining bytes
+own_said remaining bytes tells old new given more met consumed meets t =
+    let all : Consumes (Some (bytes old)) (Some (bytes new)) more =
+    rw (tells old, tells new) at consumed in
+    record {
+      told_before = refl;
+      coming = all;
+      spent = λ x is.
+          let end = at_end met x is t in
+          let none : IsAtEnd (Some (bytes new)) = rw (tells new) at (meets.end (is ∙ ap Some end)) in
+          (none, end);
+    }
