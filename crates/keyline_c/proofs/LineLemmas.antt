@@ -1,5 +1,5 @@
 -- What `run` leaves, and then the line's end.
-use Rattle.std.proofs.Common.{◌≡◌, inl, inr, ℕ, Bool, true, false, List, [], ◌∷◌, ◌++◌, Option, Some, None, length, ◌+◌, arith, Result, Ok, Err, refl, sym, ap, ◌∙◌, subst, IsTrue}
+use Rattle.std.proofs.Common.{◌≡◌, inl, inr, ℕ, Bool, true, false, List, [], ◌∷◌, ◌++◌, Option, None, length, ◌+◌, arith, Result, Ok, Err, refl, sym, ap, ◌∙◌, subst, IsTrue}
 use Rattle.std.specs.List.{flat_map}
 use Rattle.std.specs.Prelude.{⊤, IsErrAnd, String, if◌then◌else◌, string_bytes}
 use Rattle.std.proofs.lemmas.Grind.{flat_map-append}
@@ -27,8 +27,8 @@ use Rattle.line_keys.specs.Phrases.{Input}
 use Rattle.line_buffer.specs.declared.layout.Layout.{Layout}
 use Rattle.line_record.specs.Ring.{Ring}
 use Rattle.line_screen.specs.Calls.{Screen, canvas_of, screen_of, sink_of, ruler_of}
-use Rattle.line_screen.specs.KeyGrammar.{Readings, Key, Paste, Cut, Stops, coming_of}
-use Rattle.line_screen.specs.Reader.{coming_by, coming_in, left_in}
+use Rattle.line_screen.specs.Reader.{coming_in, left_in}
+use Rattle.line_screen.proofs.Outcomes.{unread_in}
 use Rattle.line_screen.specs.Reading.{kept_count}
 use Rattle.line_screen.specs.Drawing.{break_if}
 use Rattle.line_screen.specs.declared.reading.reader.KeyReader.{KeyReader}
@@ -58,21 +58,6 @@ end_bytes (Err e) = by (breaks_after e)
     by : (b : Bool) → flat_map bytes_drawn (if b then Breaks ∷ [] else []) ≡ break_if b
     by true = refl
     by false = refl
-
--- the unread bytes of a reader are those that it has left
-unread_of : (bytes : List ℕ) (r : Readings) → unread (coming_of bytes r) ≡ bytes
-unread_of bytes (Key k behind rest) = refl
-unread_of bytes (Paste text behind rest) = refl
-unread_of bytes (Cut stop left) = refl
-unread_of bytes (Stops stop left) = refl
-
-unread_by : (failed : Bool) (refused : Option ReadlineError) (bytes : List ℕ) (r : Readings) → unread (coming_by failed refused bytes r) ≡ bytes
-unread_by true refused bytes r = refl
-unread_by false (Some why) bytes r = refl
-unread_by false None bytes r = unread_of bytes r
-
-unread_in : (F : SliceSource → Feed) (reader : KeyReader SliceSource) → unread (coming_in F reader) ≡ left_in F reader
-unread_in F reader = unread_by _ _ _ _
 
 module _ {H K T : Type 0} (held waits : VecSink → List ℕ) (failed : VecSink → Bool) (helps : Option H → Helping) (config : Config) (custom : Custom) (prompt : List ℕ) (helper : Option H)
     (old : ScreenRenderer VecSink) (display : VecSink) (ring ring' : Ring) (history history' : Filed) (feed feed' : KeyFeed) (ran : Ran (ScreenRenderer VecSink) H K T) (F : SliceSource → Feed) (reader : KeyReader SliceSource) (left : Left) where
