@@ -76,7 +76,7 @@ def help_is_asked_for():
         run = ran(b"ab\r", flag)
         expect(run, display=b"")
         for part in (b"Usage: keyline", b"--mode <emacs|vi>", b"[default: emacs]", b"[default: 80]",
-                     b"--prompt <TEXT>", b"--history <FILE>", b"--words <FILE>", b"--brackets", b"Ctrl-Y"):
+                     b"--prompt <TEXT>", b"--history <FILE>", b"--words <FILE>", b"--brackets", b"--extended", b"Ctrl-Y", b"Ctrl-R"):
             same(f"{part!r} is there", part in run.stdout, True)
 
 
@@ -93,7 +93,8 @@ def version_is_asked_for():
 def wrong_arguments():
     wrong = [*([f"--columns={text}"] for text in WRONG), ["--columns"], ["--mode", "ed"], ["--mode"], ["--words"],
              ["--words", "a", "--words", "a"], ["--brackets=on"], ["--nothing"], ["-x"], ["-\u00e9"], ["word"], ["-"], ["", ""],
-             ["--mode", "vi", "--mode", "vi"], ["--=x"], ["---"], ["--help=x"], ["--", "word"]]
+             ["--mode", "vi", "--mode", "vi"], ["--extended", "--extended"], ["--", "--extended"], ["--extended=on"],
+             ["--prompt", "--extended"], ["--plain"], ["--=x"], ["---"], ["--help=x"], ["--", "word"]]
     for arguments in wrong:
         with History(b"\xff") as history:
             run = ran(b"ab\r", "--history", history.path, *arguments)
@@ -154,6 +155,19 @@ def brackets():
     expect(ran(b"(a\r", "--brackets"), b"")
     expect(ran(b"(a\r"), b"(a\n")
     expect(ran(b"a)\r" + BACKSPACE + ENTER, "--brackets"), b"a\n")
+
+
+def extended():
+    """The keys that the default profile leaves out do nothing without --extended."""
+    search, quoted = b"ab\rcd\r\x12a\r", b"\x16\t\r"
+    expect(ran(search), b"ab\ncd\na\n")
+    expect(ran(quoted), b"\n")
+    for words in (["--extended"], ["--mode=emacs", "--extended"], ["--extended", "--columns", "40", "--"]):
+        expect(ran(search, *words), b"ab\ncd\nab\n")
+        expect(ran(quoted, *words), b"\t\n")
+    expect(ran(b"ab\rcd\r\x1b/a\r", "--extended", "--mode", "vi"), b"ab\ncd\nab\n")
+    expect(ran(b"ab\rcd\ra\x1b[A\r", "--extended"), b"ab\ncd\nab\n")
+    expect(ran(b"ab\rcd\ra\x1b[A\r"), b"ab\ncd\ncd\n")
 
 
 def a_missing_history():
@@ -349,6 +363,7 @@ if __name__ == "__main__":
         prompts_and_columns,
         vi_mode,
         brackets,
+        extended,
         a_missing_history,
         two_programs_one_after_the_other,
         rights_are_kept,

@@ -8,7 +8,7 @@ import re
 
 from display import Drawing
 from hunting import without_parts
-from inputs import COLUMNS, ENTER, PASTE, PASTED, UNTYPED, history, keys_of, one_key, settings, some, texts
+from inputs import COLUMNS, ENTER, PASTE, PASTED, UNTYPED, history, keys_of, one_key, searches as searches_of, settings, some, texts
 from sessions import NAMED, meant
 
 MESSAGE = re.compile(r"Mismatched brackets: '.' is (unpaired|not properly closed)")
@@ -97,8 +97,17 @@ class Session:
         return meant(self.value("prompt:", "> ")).decode()
 
     @property
+    def mode(self):
+        return "vi" if "vi" in self.words else "emacs"
+
+    @property
     def history(self):
         return meant(self.value("loaded:", ""))
+
+    def is_searched(self):
+        """Whether the model of searches knows its settings."""
+        known = ("columns:", "prompt:", "loaded:", "reads:", "clusters:")
+        return "modal" in self.words and all(word in ("modal", "adding", "vi") or word.startswith(known) for word in self.words)
 
     def cut(self):
         """The word that says how its keys are read the second time."""
@@ -117,10 +126,14 @@ class Session:
     def hints_of_history(self):
         return "advised" not in self.words and any(word.startswith(("helped", "words:")) for word in self.words)
 
-    def open_lines(self, prompt, line):
-        """Drawings of a line that hasn't ended, with what may follow it."""
-        for text in ("", *(meant(self.value(name, "")).decode(errors="replace") for name in ("hint:", "message:"))):
-            yield Drawing(self.columns, prompt, line, text, clusters=self.clusters)
+    def is_modal(self):
+        """Whether the commands act that go on over several keys."""
+        return "modal" in self.words
+
+    def open_texts(self):
+        """What may stand after a line that hasn't ended."""
+        yield ""
+        yield from (meant(self.value(name, "")).decode(errors="replace") for name in ("hint:", "message:"))
 
     def shorter(self):
         """Smaller sessions, the much smaller ones first."""
@@ -244,6 +257,7 @@ def setting(rng):
     """The words of a setting, without bindings, and its mode."""
     given = settings(rng)
     words = ["adding", f"columns:{given['columns']}"] + (["vi"] if given["mode"] == "vi" else [])
+    words += ["modal"] if given["extended"] else []
     if "prompt" in given or rng.random() < 0.2:
         words.append(f"prompt:{noted(given.get('prompt') or texts(rng, 6, UNTYPED))}")
     if given.get("history"):
@@ -318,5 +332,15 @@ def odd_settings(rng):
     return Session(ended(rng, keys_of(rng, mode, 50)), tuple(words))
 
 
+def searches(rng):
+    """Searches of a history, and keys of every form between them."""
+    given = searches_of(rng)
+    words = ["modal", f"columns:{given.columns}", f"loaded:{noted(given.history)}", reads(rng)]
+    words += (["vi"] if given.mode == "vi" else []) + rng.choice([["adding"], ["adding"], []])
+    if rng.random() < 0.2:
+        words.append(f"clusters:{rng.choice(['WcWidth', 'NoZwj'])}")
+    return Session(given.keys, tuple(words))
+
+
 # How often each kind is played.
-KINDS = {shadowed_keys: 4, bound_sequences: 4, advised_lines: 4, odd_settings: 2}
+KINDS = {shadowed_keys: 4, bound_sequences: 4, advised_lines: 4, odd_settings: 2, searches: 5}

@@ -35,7 +35,7 @@ def hostile_runs(seed):
         if len(it.keys) > MOST_KEYS:
             continue
         try:
-            run = Run(it.keys, it.mode, it.columns, it.prompt, it.brackets, it.history, it.words).play(PROGRAM)
+            run = Run(it.keys, it.mode, it.columns, it.prompt, it.brackets, it.history, it.words, it.extended).play(PROGRAM)
         except NoSession:
             continue
         if len(run.display) <= MOST_DISPLAY:

@@ -231,6 +231,14 @@ class Drawing(Rows):
         for text in texts:
             self.draw(text)
 
+    def followed_by(self, *texts):
+        """A drawing of more texts after these."""
+        drawn = Drawing(self.columns, clusters=self.counted)
+        drawn.rows, drawn.place = [*map(dict, self.rows)], self.place
+        for text in texts:
+            drawn.draw(text)
+        return drawn
+
     def draw(self, text):
         for number, piece in enumerate(text.split("\n")):
             if number:

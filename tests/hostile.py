@@ -25,7 +25,8 @@ from checks import HUNG, PROGRAM, run_all, shim
 from display import Unjudged
 from hunting import (MUCH, Fault, hunted, is_text, judge_open_line, most_judged, rows_pass, same, same_as_one, saved_after,
                      shown_lines, tell, test_of)
-from inputs import ENTER, KINDS, PASTE, PASTED, Session, large_pastes
+from inputs import ENTER, KINDS, PASTE, PASTED, Session, large_pastes, searches
+from searching import judge_search, most_are_known
 
 # Sessions that are played each time before the hunt: former finds, and limits of what it looks for.
 ROWS = [
@@ -47,6 +48,8 @@ ROWS = [
 # The message of each status that isn't a device's fault.
 ENDINGS = {0: b"", 130: b"", 3: b"keyline: input is not UTF-8\n", 4: b"keyline: paste out of place\n",
            5: b"keyline: history does not load\n", 6: b"keyline: words do not load\n"}
+# What the model of searches calls them.
+ENDED = {0: "Eof", 130: "Interrupted"}
 # The limits of a session: seconds of processor time, bytes of memory, and bytes written to one stream.
 LIMITS = {resource.RLIMIT_CPU: 60, resource.RLIMIT_AS: 2_000_000_000, resource.RLIMIT_FSIZE: 64_000_000}
 # One in so many sessions is a large paste, and how many keys it has at least.
@@ -171,6 +174,7 @@ def judge_run(session, ran):
     if not reasons.get(ran.status, False):
         tell("ending", f"status {ran.status} of keys that have no reason for it")
     ways, shown = shown_lines(session, display, ran.lines)
+    judge_search(session, True, ENDED.get(ran.status), ran.lines, display)
     saved = [saved_after(session.history, lines) for lines in ways]
     left = [session.history if text is None else text for text in saved]
     same_as_one("history", ran.files, [{} if text is None else {"history": text} for text in left])
@@ -196,7 +200,8 @@ def main(words):
     print(f"seed {given.seed}", flush=True)
     shim("one_byte")
     hunts = hunted(Player, session_of(given.seed), given.sessions)
-    run_all([rows_pass(Player, ROWS), *(test_of(kind, hunts) for kind in [*KINDS, large_pastes]), most_judged(hunts)])
+    run_all([rows_pass(Player, ROWS), *(test_of(kind, hunts) for kind in [*KINDS, large_pastes]), most_judged(hunts),
+             most_are_known(searches)])
 
 
 if __name__ == "__main__":

@@ -8,7 +8,7 @@ Run it by ./test, or alone once `rt ci` has built crates/sessions_program.
 The program reads sessions as rows, and prints in hexadecimal what each leaves. Each is played with its keys in one read, and
 then as its own word cuts them: both must leave the same. It must end in a way for which its words and keys have a reason,
 write only whole lines, and save the text that those lines make of the old one. Its display bytes must have a meaning, and
-show prompt, line and at most a message where each line ends. Played once more with a key after all others that accepts the
+show prompt, line and at most a message where each line ends. Sessions of searches are compared with a model of them. Played once more with a key after all others that accepts the
 line, it says what the open line was: the display must have shown prompt, line and at most a hint or a message of it. A
 failing session is made smaller, and printed as a row for ROWS.
 """
@@ -22,12 +22,13 @@ import random
 import resource
 import subprocess
 
-from bound_inputs import ACCEPTING, KEYS, KINDS, Session, noted_keys
+from bound_inputs import ACCEPTING, KEYS, KINDS, Session, noted_keys, searches
 from checks import built, run_all
 from display import Unjudged
 from hunting import (MUCH, Fault, hunted, is_text, judge_open_line, most_judged, rows_pass, same, same_as_one, saved_after,
                      shown_lines, tell, test_of)
 from inputs import ESC, PASTE
+from searching import judge_search, most_are_known
 from sessions import key
 
 PROGRAM = built("sessions_program")
@@ -188,6 +189,7 @@ def judge(session, whole, pieces, accepted):
     # (an Esc at the input's end is another key if one more follows it)
     if (whole.ending, accepted.ending) == ("Eof", "Eof") and not session.keys.endswith(ESC):
         judge_open_line(session, shown, whole.lines, accepted.lines)
+    judge_search(session, "adding" in session.words, whole.ending, whole.lines, whole.display)
     return None
 
 
@@ -236,7 +238,8 @@ def main():
     given = parser.parse_args()
     print(f"seed {given.seed}", flush=True)
     hunts = hunted(Player, session_of(given.seed), given.sessions)
-    run_all([rows_pass(Player, list(rows_of(ROWS))), *(test_of(kind, hunts) for kind in KINDS), most_judged(hunts)])
+    run_all([rows_pass(Player, list(rows_of(ROWS))), *(test_of(kind, hunts) for kind in KINDS), most_judged(hunts),
+             most_are_known(searches)])
 
 
 if __name__ == "__main__":

@@ -12,6 +12,8 @@ from checks import Failed
 from display import REDRAWN, Display, Drawing, Meaningless, Unjudged
 
 COUNT = re.compile(r"\(arg: -?\d+\) ")
+# The prompt of a search: how it begins, and what ends it.
+SEARCH, SEARCHED = re.compile(r"\((failed )?(reverse-)?i-search\)"), re.compile("': ")
 # The most lines that a history stores.
 KEPT = 100
 # Why a session that is too large isn't judged.
@@ -107,15 +109,31 @@ def is_shown(session, shown, line, drawn):
 
 
 def shows_prompt(session, shown):
-    """Whether the prompt, or that of a count, is at the display's top."""
-    drawn = [Drawing(session.columns, prompt, clusters=session.clusters) for prompt in prompts_of(session, shown)]
-    return any(begins(shown.below(shown.top), each.below(0)) for each in drawn)
+    """Whether the prompt, or that of a count or a search, is at the display's top."""
+    return any(begins(shown.below(shown.top), each.below(0)) for each in prompts_of(session, shown))
 
 
 def prompts_of(session, shown):
-    """The session's prompt, and those of counts that a display may show."""
+    """The prompts that a display may show, drawn: the session's own, that of a count, and that of a search."""
     count = COUNT.match(shown.text(shown.top, 0))
-    return [session.prompt] + ([count[0]] if count else [])
+    for prompt in [session.prompt] + ([count[0]] if count else []):
+        yield Drawing(session.columns, prompt, clusters=session.clusters)
+    if session.is_modal():
+        yield from prompts_of_searches(session, shown)
+
+
+def prompts_of_searches(session, shown):
+    """What a display shows up to each place where the prompt of a search may end, if it shows one: the query may be any text."""
+    rows = shown.below(shown.top)
+    cells = [(row, col, char) for row, cells in enumerate(rows) for col, cell in sorted(cells.items())
+             if cell is not shown.INSIDE for char in cell]
+    text = "".join(char for _, _, char in cells)
+    for found in SEARCHED.finditer(text) if SEARCH.match(text) else ():
+        row, col, _ = cells[found.end() - 1]
+        drawn = Drawing(session.columns, clusters=session.clusters)
+        drawn.rows = [*map(dict, rows[:row]), {at: cell for at, cell in rows[row].items() if at <= col}]
+        drawn.place = (row, col + 1) if col + 1 < session.columns else (row + 1, 0)
+        yield drawn
 
 
 def judge_open_line(session, shown, lines, accepted):
@@ -126,7 +144,8 @@ def judge_open_line(session, shown, lines, accepted):
     line = accepted[len(lines):].decode()
     rows = shown.below(shown.top)
     for prompt in prompts_of(session, shown):
-        for drawn in session.open_lines(prompt, line[:-1]):
+        for text in session.open_texts():
+            drawn = prompt.followed_by(line[:-1], text)
             if rows == drawn.below(0) or session.hints_of_history and begins(rows, drawn.below(0)):
                 return
     tell("open line", f"of {line[:-1]!r} the display shows {pictured(shown)}")

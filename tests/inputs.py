@@ -21,6 +21,9 @@ WIDE = ["漢", "字", "あ", "한", "각", "\u1112\u1161\u11ab", "Ａ", "ㅋ", "
 UNTYPED = ["\t", "\x00", "\x07", "\x1b", "\x1b[H", "\x7f", "\x80", "\x9b", "\r", "\n", "\r\n", "\n\n"]
 ALPHABETS = [PLAIN, MARKS, JOINED, RIGHT_TO_LEFT, WIDTHLESS, WIDE]
 
+# Texts of entries that are searched.
+SEARCHED = ["a", "b", "ab", "git", " ", "-m", "é", "漢", "\n", "x"]
+
 COLUMNS = [2, 2, 3, 3, 4, 5, 7, 10, 20, 80, 80, 1000, 1000]
 
 # What follows ESC in each form of a key's sequence, and in some that are none.
@@ -51,7 +54,7 @@ MESSAGE = re.compile(r"Mismatched brackets: '.' is (unpaired|not properly closed
 @dataclasses.dataclass(frozen=True)
 class Session:
     """A run of the program: its keys, its arguments, and the bytes of its history file and of its file of words. None stands
-    for no file."""
+    for no file; `extended` is the argument that turns on the commands that go on over several keys."""
 
     keys: bytes
     mode: str = "emacs"
@@ -60,6 +63,7 @@ class Session:
     brackets: bool = False
     history: bytes = None
     words: bytes = None
+    extended: bool = False
 
     def __repr__(self):
         given = [(field, getattr(self, field.name)) for field in dataclasses.fields(self)]
@@ -78,13 +82,17 @@ class Session:
     def hints_of_history(self):
         return self.brackets or self.words is not None
 
-    def open_lines(self, prompt, line):
-        """Drawings of a line that hasn't ended; a hint from the history or a message may follow it."""
-        yield Drawing(self.columns, prompt, line)
+    def is_modal(self):
+        """Whether the commands act that go on over several keys."""
+        return self.extended
+
+    def open_texts(self):
+        """What may stand after a line that hasn't ended, besides a hint from the history or a message."""
+        yield ""
 
     def shorter(self):
         """Smaller sessions, the much smaller ones first."""
-        for field in ("prompt", "history", "words", "brackets", "mode", "columns"):
+        for field in ("prompt", "history", "words", "brackets", "mode", "columns", "extended"):
             default = Session.__dataclass_fields__[field].default
             if getattr(self, field) != default:
                 yield dataclasses.replace(self, **{field: default})
@@ -99,7 +107,11 @@ class Session:
         """The program's, with the path of the file of words."""
         given = [f"--mode={self.mode}", f"--columns={self.columns}", f"--prompt={self.prompt}"]
         given += [] if self.words is None else [f"--words={words}"]
-        return given + (["--brackets"] if self.brackets else [])
+        return given + (["--brackets"] if self.brackets else []) + (["--extended"] if self.extended else [])
+
+    def is_searched(self):
+        """Whether the model of searches knows its settings."""
+        return self.extended and self.words is None and not self.brackets
 
 
 def some(rng, least, most):
@@ -122,6 +134,7 @@ def pasted(rng, most=12):
 
 def settings(rng):
     given = {"mode": rng.choice(["emacs", "vi"]), "columns": rng.choice(COLUMNS), "brackets": rng.random() < 0.2}
+    given["extended"] = rng.random() < 0.3
     if rng.random() < 0.1:
         given["prompt"] = rng.choice(["", "$ ", "漢", "a\nb", "é> "])
     if rng.random() < 0.2:
@@ -288,6 +301,38 @@ def word_files(rng):
     return Session(keys=cut(rng, closed(rng, keys)), **given)
 
 
+def searched_entry(rng):
+    return "".join(rng.choice(SEARCHED) for _ in range(some(rng, 1, 4)))
+
+
+def search_keys(rng, entries, mode):
+    """Keys of searches for parts of these entries, and between them."""
+    keys = b""
+    for _ in range(some(rng, 1, 40)):
+        entry = rng.choice(entries or [""]) if rng.random() < 0.8 else searched_entry(rng)
+        at = rng.randrange(len(entry) + 1)
+        piece = entry[at:at + rng.choice([1, 1, 2, 3, 9])].replace("\n", " ").encode()
+        often = [(piece, 30), (b"\x12", 20), (b"\x12" + piece, 20), (b"\x13", 8), (b"\x7f", 10), (b"\x07", 6), (ENTER, 8), (b"\x1f", 5),
+                 (PASTE + entry.encode() + PASTED, 1), (b"\x1b[99~", 1), (rng.choice(ENDING), 0.3), (b"\x1b[A", 8), (b"\x1b[B", 4),
+                 (b"\x16" + rng.choice([b"\t", b"\x12", b"a", b"\n", b"\x1b[A"]), 2), (ENTER + piece + b"\x1b[A", 5)]
+        moves = [b"\x01", b"\x05", b"\x02", b"\x06", b"\x10", b"\x0e", b"\x0b", b"\x0c", b"\x04"]
+        often += [(key, 1.5) for key in moves] if mode == "emacs" else []
+        keys += rng.choices([key for key, _ in often], [weight for _, weight in often])[0]
+    return keys
+
+
+def searches(rng):
+    """Searches of a history, and keys of every form between them."""
+    entries = [searched_entry(rng) for _ in range(rng.choice([0, 1, 2, 5, 20]))]
+    mode = rng.choice(["emacs", "emacs", "vi"])
+    keys = search_keys(rng, entries, mode)
+    if rng.random() < 0.2:
+        at = rng.randrange(len(keys) + 1)
+        keys = keys[:at] + one_key(rng, mode) + keys[at:]
+    rows = ["#V2", *(entry.replace("\n", "\\n") for entry in entries)]
+    return Session(keys=keys, mode=mode, columns=rng.choice(COLUMNS), history="".join(row + "\n" for row in rows).encode(), extended=True)
+
+
 def large_pastes(rng):
     """A megabyte pasted."""
     unit = rng.choice(["0123456789abcdef", "漢字", "e\u0301", "👩\u200d💻", "a\n", "\r\n", "word ", "(", "\x1b[20", "\t"])
@@ -298,4 +343,4 @@ def large_pastes(rng):
 
 # How often each random kind is played.
 KINDS = {random_bytes: 6, keys_cut_anywhere: 10, pastes: 6, counts: 4, odd_texts: 8, odd_prompts: 3, history_files: 3,
-         word_files: 3}
+         word_files: 3, searches: 8}

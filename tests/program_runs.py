@@ -19,7 +19,7 @@ use Rattle.std.specs.Prelude.{List, [], ◌∷◌, ◌++◌, None, Some, true, f
 use Rattle.line_config.specs.declared.errors.ReadlineError.TheVariants.{Eof, Interrupted, NotUtf8, PasteOutOfPlace}
 use Rattle.line_config.specs.declared.settings.EditMode.TheVariants.{Emacs, Vi}
 use Rattle.worked_rows.specs.Playing.{Row, row}
-use Rattle.worked_rows.specs.Settings.{by_options}
+use Rattle.worked_rows.specs.Settings.{by_options, extended}
 
 """
 
@@ -39,19 +39,20 @@ def text_of(path):
 class Run:
     """What the program was given, and what it did with it."""
 
-    def __init__(self, keys, mode="emacs", columns=80, prompt="> ", brackets=False, history=None, words=None):
+    def __init__(self, keys, mode="emacs", columns=80, prompt="> ", brackets=False, history=None, words=None,
+                 extended=False):
         self.keys, self.mode, self.columns, self.prompt = keys, mode, columns, prompt
-        self.brackets, self.history, self.words = brackets, history, words
+        self.brackets, self.history, self.words, self.extended = brackets, history, words, extended
 
     def with_keys(self, keys):
-        return Run(keys, self.mode, self.columns, self.prompt, self.brackets, self.history, self.words)
+        return Run(keys, self.mode, self.columns, self.prompt, self.brackets, self.history, self.words, self.extended)
 
     def play(self, program):
         """Runs the program in a folder of its own, over copies of the files."""
         with tempfile.TemporaryDirectory(prefix="by_definition-") as folder:
             path, listed = os.path.join(folder, "history"), os.path.join(folder, "words")
             words = [program, f"--mode={self.mode}", f"--columns={self.columns}", f"--prompt={self.prompt}", f"--history={path}"]
-            words += ["--brackets"] if self.brackets else []
+            words += ["--brackets"] * self.brackets + ["--extended"] * self.extended
             if self.history is not None:
                 write(path, self.history)
             if self.words is not None:
@@ -68,7 +69,7 @@ class Run:
 
     def __repr__(self):
         given = {"keys": self.keys, "mode": self.mode, "columns": self.columns, "prompt": self.prompt, "brackets": self.brackets,
-                 "history": self.history, "words": self.words}
+                 "history": self.history, "words": self.words, "extended": self.extended}
         return f"Run({', '.join(f'{name}={value!r}' for name, value in given.items() if value not in (None, False))})"
 
     def sizes(self):
@@ -78,7 +79,9 @@ class Run:
         """The run as a row."""
         given = [self.mode.capitalize(), str(self.columns), within(term(self.prompt.encode())), str(self.brackets).lower(),
                  "None" if self.words is None else within(some(self.words)), within(term(self.history or b""))]
-        told = f"row {number} (by_options {' '.join(given)}) {within(term(self.keys))} {within(term(self.lines))}"
+        options = f"by_options {' '.join(given)}"
+        settings = f"extended ({options})" if self.extended else options
+        told = f"row {number} ({settings}) {within(term(self.keys))} {within(term(self.lines))}"
         fields = {"ends": self.ending, "saves": some(self.saved), "shows": some(self.display)}
         return wrapped(f"abbrev pub row_{number} : Row\nrow_{number} = {record(told, fields)}\n")
 

@@ -28,8 +28,8 @@ NAMES = {
     "Rattle.stand_ins.specs.Handlers": ["hint_or_kill", "one_way"],
     "Rattle.stand_ins.specs.declared.handlers.OneWay.TheVariants": ["Count", "Fails", "Nothing"],
     "Rattle.worked_rows.specs.Playing": ["Row", "row"],
-    "Rattle.worked_rows.specs.Settings": ["Settings", "adding", "aide", "always", "bound", "command", "counting", "of_size",
-                                          "plain", "vi"],
+    "Rattle.worked_rows.specs.Settings": ["Settings", "adding", "aide", "always", "bound", "command", "counting", "modal",
+                                          "of_size", "plain", "vi"],
 }
 # A text of more such bytes in a row is written with their number.
 RUN = 40
@@ -142,13 +142,13 @@ def binding_term(word):
 
 # ---- settings
 
-KNOWN = {"", "vi", "adding", "bare", "helped", "keys@end"}
+KNOWN = {"", "vi", "adding", "modal", "bare", "helped", "keys@end"}
 VALUES = ("bind:", "clusters:", "columns:", "loaded:", "prompt:", "size:", "words:")
 
 
 def config_term(row):
     config = "plain.config"
-    for name in ("vi", "adding"):
+    for name in ("vi", "adding", "modal"):
         config = f"{name} {within(config)}" if name in row.settings else config
     for word, name in (("clusters:", "counting"), ("size:", "of_size")):
         value = row.value(word, "")

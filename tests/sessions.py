@@ -47,11 +47,24 @@ def key(word):
     return meant(word)
 
 
+# What stands before the query of a search, by the sign of its drawing.
+HEADINGS = {"'": "(reverse-i-search)`", "!'": "(failed reverse-i-search)`", ">'": "(i-search)`", "!>'": "(failed i-search)`"}
+SEARCHED = re.compile("(!?>?')([^']*)'(.*)")
+
+
 def drawn(text):
-    """The bytes of a display: `{` begins a drawing, up to the line, and `}` ends one without anything after the line."""
-    pieces = [meant(piece) for piece in re.split("[{}]", text)]
-    signs = [b"\r\x1b[J\x1b[m> \x1b[m" if sign == "{" else b"\x1b[m\x1b[m" for sign in re.findall("[{}]", text)]
-    return b"".join(piece + sign for piece, sign in zip(pieces, [*signs, b""]))
+    """The bytes of a display: `{` begins a drawing, up to the line, and `}` ends one without anything after the line. A piece
+    `'xy'ab}` is a drawing after the prompt of a search for `xy`."""
+    return b"".join(map(piece_drawn, text.split()))
+
+
+def piece_drawn(piece):
+    found = SEARCHED.fullmatch(piece)
+    if found:
+        return b"\r\x1b[J\x1b[m" + b"".join(map(meant, (HEADINGS[found[1]], found[2], "': ␛[m"))) + piece_drawn(found[3])
+    pieces = [meant(part) for part in re.split("[{}]", piece)]
+    signs = [b"\r\x1b[J\x1b[m> \x1b[m" if sign == "{" else b"\x1b[m\x1b[m" for sign in re.findall("[{}]", piece)]
+    return b"".join(part + sign for part, sign in zip(pieces, [*signs, b""]))
 
 
 class Row:
@@ -69,7 +82,7 @@ class Row:
         self.ends = said.get("ends", "Eof").strip()
         self.saves = said.get("saves")
         shows = said.get("shows")
-        self.display = None if shows is None else drawn("".join(shows.split()))
+        self.display = None if shows is None else drawn(shows)
         self.loaded = meant(self.value("loaded:", ""))
 
     def value(self, name, default):
@@ -91,6 +104,7 @@ class Row:
             with open(path, "w", encoding="utf-8") as file:
                 file.write(self.value("words:", "").replace(",", "\n"))
             given += ["--words", path]
+        given += ["--extended"] if "modal" in self.settings else []
         return given + (["--brackets"] if "helped" in self.settings else [])
 
     def run(self, folder, environment):
@@ -178,6 +192,14 @@ def worked_sessions_one_byte_a_read():
     played("worked.txt", True)
 
 
+def commands_over_several_keys():
+    played("modal.txt", False)
+
+
+def commands_over_several_keys_one_byte_a_read():
+    played("modal.txt", True)
+
+
 def sizes():
     """Sessions that are too large to be played with each run of `sessions_program`."""
     count = len(list(rows_of("sizes.txt")))
@@ -187,4 +209,5 @@ def sizes():
 
 if __name__ == "__main__":
     run_all([worked_rows, worked_rows_one_byte_a_read, keys_of_emacs, keys_of_emacs_one_byte_a_read, keys_of_vi,
-             keys_of_vi_one_byte_a_read, worked_sessions, worked_sessions_one_byte_a_read, sizes])
+             keys_of_vi_one_byte_a_read, worked_sessions, worked_sessions_one_byte_a_read, commands_over_several_keys,
+             commands_over_several_keys_one_byte_a_read, sizes])

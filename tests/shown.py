@@ -88,6 +88,8 @@ class Session:
         word, _, rest = line.partition(" ")
         if word == "history:":
             self.before = meant(rest)
+        elif word == "entries:":
+            self.before = "".join(f"entry {number}\n" for number in range(int(rest)))
         elif word == "saves:":
             self.saved = meant(rest)
         elif word == "words:":

@@ -156,7 +156,8 @@ class Terminal:
         changes = termios.ICRNL | termios.INLCR | termios.IGNCR | termios.ISTRIP | termios.IXON
         same("what is done to input", now[0] & changes, 0)
         same("what is done to output", now[1], found[1])
-        same("lines, echo and signals", now[3] & (termios.ICANON | termios.ECHO | termios.ISIG), termios.ISIG)
+        kept = now[3] & (termios.ICANON | termios.ECHO | termios.IEXTEN | termios.ISIG)
+        same("lines, echo, quoting and signals", kept, termios.ISIG)
         same("the key that interrupts", now[6][termios.VINTR], b"\x00")
         same("bytes and time of a read", (now[6][termios.VMIN], now[6][termios.VTIME]), (1, 0))
 
@@ -229,13 +230,26 @@ def a_line_typed_edited_and_accepted():
 
 
 def bytes_that_a_terminal_would_keep():
-    """Ctrl-Q, Ctrl-R, Ctrl-S, Ctrl-V and Ctrl-O reach the program, and change nothing; a newline accepts the line."""
-    with Terminal() as terminal:
+    """Ctrl-Q, Ctrl-R, Ctrl-S, Ctrl-V and Ctrl-O reach the program, and with --plain change nothing; a newline accepts the line."""
+    with Terminal(arguments=["--plain"]) as terminal:
         terminal.expect(drawing(b""))
         terminal.type(b"a\x11\x12\x13\x16\x0fb\n")
         terminal.expect(b"ab" + NEW_ROW + b"ab\n" + drawing(b""))
         terminal.type(CTRL_D)
         terminal.expect_ended(0, NEW_ROW)
+
+
+def the_same_bytes_act():
+    """Without --plain Ctrl-V and Ctrl-Q insert the character of the next key, and Ctrl-R and Ctrl-S search the history."""
+    with tempfile.TemporaryDirectory() as folder:
+        lines = os.path.join(folder, "lines")
+        with Terminal(files={1: lines}) as terminal:
+            terminal.type(b"ab\r\x16\x13\x11\x16\r\x12a\r\x1b[A\x13\x13\x07c\r")
+            terminal.type(CTRL_D)
+            terminal.expect_gone(0)
+            terminal.expect_put_back()
+        with open(lines, "rb") as written:
+            same("lines", written.read(), b"ab\n\x13\x16\nab\nabc\n")
 
 
 def ended_by(send, status, last):
@@ -689,6 +703,7 @@ if __name__ == "__main__":
     run_all([
         a_line_typed_edited_and_accepted,
         bytes_that_a_terminal_would_keep,
+        the_same_bytes_act,
         interrupt_typed,
         the_width_at_the_start,
         a_paste_between_marks,

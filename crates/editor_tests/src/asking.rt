@@ -24,6 +24,7 @@ fn asked(alloc: Global, mode: EditMode, keys: &[KeyEvent]) -> Result<String, Fai
     let stage = Stage::new(alloc)?;
     let config = Config::builder().edit_mode(mode).build();
     let mut ring = KillRing::new(alloc, 60)?;
+    let mut query = String::new(alloc);
     let mut reader = Listener::new(alloc, keys);
     run(
         alloc,
@@ -35,6 +36,7 @@ fn asked(alloc: Global, mode: EditMode, keys: &[KeyEvent]) -> Result<String, Fai
         &config,
         &stage.bindings,
         &mut ring,
+        &mut query,
     );
     raised(requests_in_words(alloc, reader.requests()))
 }

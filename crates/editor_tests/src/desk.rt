@@ -4,7 +4,8 @@
 //! A row that begins with one of these words is a setting for the rows after it, and has no result.
 //! For the display: `columns: 10` sets its columns, `colours: yes` whether it has colours,
 //! `answered: 3` how many calls succeed. `history: one,two` sets the entries, `mode: Vi` the
-//! keymap, `first:` the commands before those of each row, `tells: ring` what a row's result is.
+//! keymap, `modal: yes` that those commands act that go on over several keys. `first:` sets the
+//! commands before those of each row, `tells: ring` what a row's result is.
 //!
 //! `helper: InvalidTold no` sets a helper with its verdict and its message, which never fails. For
 //! that helper, `marks: 2` is the place at which it highlights, and `takes: no` says that its hints
@@ -41,6 +42,8 @@ pub(crate) struct Stage {
     /// How many calls of the renderer succeed for the last command; `None` for all.
     pub answered: Option<u32>,
     pub mode: EditMode,
+    /// Whether the commands act that go on over several keys.
+    pub modal: bool,
     /// The commands that come before each row's own, with `; ` after each.
     first: String,
     pub bindings: Bindings,
@@ -101,6 +104,7 @@ impl Stage {
             helper: Adviser::new(Verdict::Valid, ""),
             answered: None,
             mode: EditMode::Emacs,
+            modal: false,
             first: String::new(alloc),
             bindings,
             tells_ring: false,
@@ -128,6 +132,7 @@ impl Stage {
             "answered:" => self.answered = rest.parse().ok(),
             "colours:" => self.colours = rest == "yes",
             "columns:" => self.columns = rest.parse().unwrap_or(80),
+            "modal:" => self.modal = rest == "yes",
             "mode:" if rest == "Vi" => self.mode = EditMode::Vi,
             "tells:" => self.tells_ring = rest == "ring",
             _ => return self.sets_helper(word, rest),

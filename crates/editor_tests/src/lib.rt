@@ -33,4 +33,6 @@ mod rewording;
 #[cfg(test)]
 mod screen;
 #[cfg(test)]
+mod searching;
+#[cfg(test)]
 mod yanking;

@@ -194,8 +194,28 @@ pub(crate) fn run_over<H: Helper + Drop>(
     helper: Option<H>,
     keys: &Input,
 ) -> Result<String, Fail> {
+    let mut query = String::new(alloc);
+    run_after(alloc, stage, helper, keys, &mut query)
+}
+
+/// The same after a search for this query, which it leaves as the line does.
+pub(crate) fn run_after<H: Helper + Drop>(
+    alloc: Global,
+    stage: &Stage,
+    helper: Option<H>,
+    keys: &Input,
+    query: &mut String,
+) -> Result<String, Fail> {
     let mut ring = KillRing::new(alloc, 60)?;
-    run_with(alloc, stage, helper, &stage.bindings, &mut ring, keys)
+    run_with(
+        alloc,
+        stage,
+        helper,
+        &stage.bindings,
+        &mut ring,
+        query,
+        keys,
+    )
 }
 
 /// The same without a helper, and with these bindings.
@@ -206,7 +226,16 @@ pub(crate) fn run_bound<D: Decides>(
     keys: &Input,
 ) -> Result<String, Fail> {
     let mut ring = KillRing::new(alloc, 60)?;
-    run_with(alloc, stage, None::<()>, bindings, &mut ring, keys)
+    let mut query = String::new(alloc);
+    run_with(
+        alloc,
+        stage,
+        None::<()>,
+        bindings,
+        &mut ring,
+        &mut query,
+        keys,
+    )
 }
 
 fn run_with<H: Helper + Drop, D: Decides>(
@@ -215,9 +244,13 @@ fn run_with<H: Helper + Drop, D: Decides>(
     helper: Option<H>,
     bindings: &EventMap<D>,
     ring: &mut KillRing,
+    query: &mut String,
     keys: &Input,
 ) -> Result<String, Fail> {
-    let config = Config::builder().edit_mode(stage.mode).build();
+    let config = Config::builder()
+        .edit_mode(stage.mode)
+        .modal_commands(stage.modal)
+        .build();
     let mut reader = KeyList::new(&keys.typed, false, keys.after);
     let mut out = CallList::new(alloc, stage.columns, stage.colours);
     out.log.answer(stage.answered);
@@ -231,6 +264,7 @@ fn run_with<H: Helper + Drop, D: Decides>(
         &config,
         bindings,
         ring,
+        query,
     );
     raised(left_by(alloc, &ran.outcome, ran.out.calls(), ring))
 }

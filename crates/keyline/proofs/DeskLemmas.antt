@@ -1,7 +1,8 @@
 -- A line at a desk: what `run` gives, and then the line's end.
 use Rattle.std.proofs.Common.{◌≡◌, ℕ, suc, ◌<◌, Bool, true, false, List, [], ◌∷◌, ◌++◌, ◌⊎◌, inl, inr, refl, sym, ap, ◌∙◌, subst, IsTrue, Option, Result, Ok, Err, IfErr, OnOk, le_refl}
 use Rattle.std.specs.List.{flat_map}
-use Rattle.std.specs.Prelude.{⊤, if◌then◌else◌, string_bytes}
+use Rattle.std.specs.Prelude.{⊤, String, if◌then◌else◌, string_bytes}
+use Rattle.std.specs.Global.{Global}
 use Rattle.line_config.specs.declared.config.Config.{Config}
 use Rattle.line_config.specs.declared.errors.ReadlineError.{ReadlineError}
 use Rattle.line_config.specs.declared.errors.ReadlineError.TheVariants.{Reader, Display, Lines, HistoryText, Helper, Handler, Memory}
@@ -75,15 +76,15 @@ ok_of_cut (Err d) e P is = tt
 abbrev pair : Result (List ℕ) ReadlineError → SessionState → Result (List ℕ) ReadlineError × SessionState
 pair o x = (o, x)
 
-abbrev desk_of : {S H D L : Type 0} → KeyReader S → ScreenRenderer D → Option H → Filed → Ring → L → Desk S H D L
-desk_of reader out helper history ring lines =
-    record { reader = reader; out = out; helper = helper; history = history; ring = ring; lines = lines }
+abbrev desk_of : {S H D L : Type 0} → KeyReader S → ScreenRenderer D → Option H → Filed → Ring → String Global → L → Desk S H D L
+desk_of reader out helper history ring last_query lines =
+    record { reader = reader; out = out; helper = helper; history = history; ring = ring; last_query = last_query; lines = lines }
 
 module _ {S H D L K T : Type 0} (k : Known S D L) (helps : Option H → Helping) (custom : Custom) (config : Config) (prompt : List ℕ)
-    (old : Desk S H D L) (ran : Ran (ScreenRenderer D) H K T) (ring : Ring) (reader : KeyReader S) where
+    (old : Desk S H D L) (ran : Ran (ScreenRenderer D) H K T) (ring : Ring) (last_query : String Global) (reader : KeyReader S) where
   abbrev RunsAt : Type 0
   RunsAt = Runs (canvas_of k.shown k.waits k.show_failed) helps custom prompt old.helper old.history.kept.entries config
-      old.out old.ring (items_of k.feed old.reader) ran ring (items_of k.feed reader)
+      old.out old.ring (string_bytes old.last_query) (items_of k.feed old.reader) ran ring (string_bytes last_query) (items_of k.feed reader)
 
   abbrev setting : Setting
   setting = setting_by (ruler_of (screen_of old.out)) prompt (helps old.helper) old.history.kept.entries
@@ -95,10 +96,10 @@ module _ {S H D L K T : Type 0} (k : Known S D L) (helps : Option H → Helping)
   left = (items_of k.feed reader).coming
 
   abbrev first : LineStage (ScreenRenderer D)
-  first = stage_first old.out (ruler_of (screen_of old.out)) setting config old.ring come
+  first = stage_first old.out (ruler_of (screen_of old.out)) setting config old.ring (string_bytes old.last_query) come
 
   abbrev last : RunsAt → LineStage (ScreenRenderer D)
-  last runs = line_stage (surface ran.out runs.layout) (kept runs.value runs.input ring left)
+  last runs = line_stage (surface ran.out runs.layout) (kept runs.value runs.input ring runs.modal left)
 
   screen_stays : RunsAt → IsTrue (items_of k.feed reader).told → screen_of ran.out ≡ screen_of old.out
   screen_stays runs t =
@@ -117,7 +118,7 @@ module _ {S H D L K T : Type 0} (k : Known S D L) (helps : Option H → Helping)
         (work (sink_of ran.out) old.lines old.history) (work (sink_of out) lines history) result
 
     abbrev new : Desk S H D L
-    new = desk_of reader out ran.helper history ring lines
+    new = desk_of reader out ran.helper history ring last_query lines
 
     abbrev given : Given
     given = given_of config custom prompt (screen_of old.out) (helps old.helper)
@@ -142,7 +143,7 @@ module _ {S H D L K T : Type 0} (k : Known S D L) (helps : Option H → Helping)
 
     -- what is asked of it
     abbrev asked_of : ℕ → List Event
-    asked_of n = asks_events (screen_of old.out) setting config.indent_size (fresh (screen_of old.out).mode) (kept_first setting config old.ring come) (played_in n given state).asks
+    asked_of n = asks_events (screen_of old.out) setting config.indent_size (fresh (screen_of old.out).mode) (kept_first setting config old.ring (string_bytes old.last_query) come) (played_in n given state).asks
 
     abbrev WholeLine : ℕ → RunsAt → Type 0
     WholeLine n runs =
@@ -191,8 +192,10 @@ module _ {S H D L K T : Type 0} (k : Known S D L) (helps : Option H → Helping)
         (went_cases k.shown k.written_in adds (result ≡ o) Refused (end_events o) at_end (work_of k new) (closes.goes left)
         (λ done same.
         let history_is : history ≡ history_after adds o old.history = kept_in_end o old.history history done.history_is in
-        let state_is : session_state_of k new ≡ state_after adds o ring left state = ap (λ (h : Filed). record { ring = ring; history = h; coming = left }) history_is in
-        let after : Result (List ℕ) ReadlineError → LineState → Result (List ℕ) ReadlineError × SessionState = λ o l. (o, state_after adds o l.ring l.coming state) in
+        let state_is : session_state_of k new ≡ state_after adds o ring runs.modal.query left state =
+        ap (λ query. record { ring = ring; query = query; history = history; coming = left }) runs.last
+        ∙ ap (λ (h : Filed). record { ring = ring; query = runs.modal.query; history = h; coming = left }) history_is in
+        let after : Result (List ℕ) ReadlineError → LineState → Result (List ℕ) ReadlineError × SessionState = λ o l. (o, state_after adds o l.ring l.modal.query l.coming state) in
         went_whole k.shown k.written_in adds (Whole' n) Refused (here ++ end_events o) (work_of k old) (work_of k new)
         (done_both k.shown k.written_in adds here (end_events o) (work_of k old) at_end (work_of k new) first done)
         (ap (λ r. pair r (session_state_of k new)) same ∙ ap (pair o) state_is ∙ ap (after o) (sym whole.rest_is) ∙ ap (λ o. after o p.rest) (sym whole.answer_is)))
@@ -257,7 +260,9 @@ module _ {S H D L K T : Type 0} (k : Known S D L) (helps : Option H → Helping)
         outcome = outcome_of ran;
         value = runs.value;
         input = runs.input;
+        modal = runs.modal;
         goes = λ t n b. runs.goes t n b;
+        last = runs.last;
         closes = closes;
       };
       reason = if_err result (closes.reason left);

@@ -9,7 +9,7 @@ use Rattle.line_keys.specs.Handling.{Meaning}
 use Rattle.line_keys.specs.declared.events.Event.{Event}
 use Rattle.line_screen.specs.Calls.{screen_of}
 use Rattle.keyline.specs.Known.{Known}
-use Rattle.keyline.specs.Program.{EditHelper, EditsByOptions, config_of, edit_helping, given_to, helper_of, nothing_bound}
+use Rattle.keyline.specs.Program.{EditHelper, EditsBy, edit_helping, given_to, helper_of, nothing_bound}
 use Rattle.keyline.specs.Plays.{Loaded, Opens, RunsSession}
 use Rattle.keyline.specs.Sessions.{Given, given_of}
 use Rattle.keyline.specs.declared.desk.Desk.{Desk}
@@ -24,23 +24,22 @@ pub loaded_where : {P Q : Type 0} (config : Config) (text : Feed) (history : Fil
 loaded_where config text history follows loaded = record { whole = λ p. loaded.whole (follows p); history_is = λ p. loaded.history_is (follows p) }
 
 module _ {F S D L T : Type 0} (loads : F → Feed) (k : Known S D L) (held : T → List ℕ) (failed : T → Bool) where
-  pub edited : (options : Options) (words : Option (List (List ℕ))) (history : F) (source : S) (display : D) (lines : L) (text text' : T) (ended : Ended S D L T)
-      (desk : Desk S EditHelper D L) (config config' : Config) (custom : Custom) (prompt : List ℕ) (helper : Option EditHelper)
+  pub edited : (config : Config) (options : Options) (words : Option (List (List ℕ))) (history : F) (source : S) (display : D) (lines : L) (text text' : T) (ended : Ended S D L T)
+      (desk : Desk S EditHelper D L) (config' : Config) (custom : Custom) (prompt : List ℕ) (helper : Option EditHelper)
       → Opens loads k.feed config history helper source options.columns display lines desk
       → RunsSession k held failed (given_of config' custom prompt (screen_of desk.out) (edit_helping desk.helper)) desk text' ended
-      → config ≡ config_of options → config' ≡ config → prompt ≡ string_bytes options.prompt → helper ≡ helper_of options words → text' ≡ text → custom ≡ nothing_bound
-      → EditsByOptions loads k held failed options words history source display lines text ended
-  edited options words history source display lines text text' ended desk config config' custom prompt helper opens runs config_is config_is' prompt_is helper_is text_is custom_is =
+      → config' ≡ config → prompt ≡ string_bytes options.prompt → helper ≡ helper_of options words → text' ≡ text → custom ≡ nothing_bound
+      → EditsBy loads k held failed config options words history source display lines text ended
+  edited config options words history source display lines text text' ended desk config' custom prompt helper opens runs config_is prompt_is helper_is text_is custom_is =
       let screen = screen_of desk.out in
       let helping = edit_helping desk.helper in
-      let given : given_of config' custom prompt screen helping ≡ given_to options desk =
-      ap (λ (x : Config). given_of x custom prompt screen helping) (config_is' ∙ config_is)
-      ∙ (ap (λ (x : Custom). given_of (config_of options) x prompt screen helping) custom_is
-      ∙ ap (λ (x : List ℕ). given_of (config_of options) nothing_bound x screen helping) prompt_is) in
-      let opens' = subst (λ (x : Config). Opens loads k.feed x history helper source options.columns display lines desk) config_is opens in
+      let given : given_of config' custom prompt screen helping ≡ given_to config options desk =
+      ap (λ (x : Config). given_of x custom prompt screen helping) config_is
+      ∙ (ap (λ (x : Custom). given_of config x prompt screen helping) custom_is
+      ∙ ap (λ (x : List ℕ). given_of config nothing_bound x screen helping) prompt_is) in
       let runs' = subst (λ (x : Given). RunsSession k held failed x desk text' ended) given runs in
       record {
         desk = desk;
-        opens = subst (λ (x : Option EditHelper). Opens loads k.feed (config_of options) history x source options.columns display lines desk) helper_is opens';
-        runs = subst (λ (x : T). RunsSession k held failed (given_to options desk) desk x ended) text_is runs';
+        opens = subst (λ (x : Option EditHelper). Opens loads k.feed config history x source options.columns display lines desk) helper_is opens;
+        runs = subst (λ (x : T). RunsSession k held failed (given_to config options desk) desk x ended) text_is runs';
       }

@@ -14,6 +14,7 @@ use Rattle.line_keys.specs.Phrases.{Reads}
 use Rattle.line_record.specs.Ring.{Ring}
 use Rattle.line_editor.specs.Courses.{breaks_after}
 use Rattle.line_editor.specs.LineScripts.{Keys, LineState, LineAsk, LineScript, answer_at, effect_at, left_at, line_script, played_from, steps_along}
+use Rattle.line_editor.specs.Modal.{Modal}
 use Rattle.line_editor.specs.Redraws.{fresh}
 use Rattle.line_editor.specs.Running.{kept_first}
 use Rattle.line_editor.specs.Steps.{asked}
@@ -70,6 +71,7 @@ record Same {X : Type 0} (p q : Play X) : Type 0 where
   answer : p.answer ≡ q.answer
   asks : p.asks ≡ q.asks
   ring : p.rest.ring ≡ q.rest.ring
+  modal : p.rest.modal ≡ q.rest.modal
   rest : Opens p.rest.coming q.rest.coming
 
 record Ended {X : Type 0} (p q : Play X) : Type 0 where
@@ -83,7 +85,7 @@ abbrev Goes : {X : Type 0} → Play X → Play X → Type 0
 Goes p q = Same p q ⊎ Ended p q
 
 goes_first : {X : Type 0} (ask : LineAsk) (p q : Play X) → Goes p q → Goes (asked_first ask p) (asked_first ask q)
-goes_first ask p q (inl same) = inl (record { answer = same.answer; asks = ap (λ asks. ask ∷ asks) same.asks; ring = same.ring; rest = same.rest })
+goes_first ask p q (inl same) = inl (record { answer = same.answer; asks = ap (λ asks. ask ∷ asks) same.asks; ring = same.ring; modal = same.modal; rest = same.rest })
 goes_first ask p q (inr cut) = inr (record { why = cut.why; answer = cut.answer; unbroken = cut.unbroken; later = cut.later; begins = ap (λ asks. ask ∷ asks) cut.begins })
 
 abbrev over : LineState → Coming → LineState
@@ -93,7 +95,7 @@ over k c = record k { coming = c }
 unheard : {B X : Type 0} (ask : LineAsk) (next : B → Coming → Play X) (k : LineState) (h c : Coming) → Opens h c → ((x : B) → Goes (next x h) (next x c))
     → (r : Result B ReadlineError) → Goes (played_on (λ x. next x h) ask (over k h) r) (played_on (λ x. next x c) ask (over k c) r)
 unheard ask next k h c on so (Ok x) = goes_first ask (next x h) (next x c) (so x)
-unheard ask next k h c on so (Err e) = inl (record { answer = refl; asks = refl; ring = refl; rest = on })
+unheard ask next k h c on so (Err e) = inl (record { answer = refl; asks = refl; ring = refl; modal = refl; rest = on })
 
 module _ (s : Setting) (indent : ℕ) where
   module _ {X : Type 0} (item : InputItem) (t : InputOf item → LineScript X) (k : LineState) (h c : Coming)
@@ -111,7 +113,7 @@ module _ (s : Setting) (indent : ℕ) where
         inr (record { why = e; answer = refl; unbroken = unbroken; later = first.0; begins = first.1 })
 
   goes : {X : Type 0} (p : LineScript X) (k : LineState) (h c : Coming) → Opens h c → Goes (played_from s indent p (over k h)) (played_from s indent p (over k c))
-  goes (Ends x) k h c on = inl (record { answer = refl; asks = refl; ring = refl; rest = on })
+  goes (Ends x) k h c on = inl (record { answer = refl; asks = refl; ring = refl; modal = refl; rest = on })
   goes (Asks (Keys (Reads item)) t) k h c on =
       read_goes item t k h c (λ x next. goes (t x) k (behind item h) (behind item c) next) (item_at item h) (item_at item c) (read_alike item h c on) (refused_unbroken item h on.1)
   goes (Asks ask t) k h c on =
@@ -142,20 +144,21 @@ nothing_after why unbroken = ap (λ b. if b then Breaks ∷ [] else []) unbroken
 
 -- ---- a line
 
-abbrev state_at : Ring → Filed → Coming → SessionState
-state_at ring history coming = record { ring = ring; history = history; coming = coming }
+abbrev state_at : Ring → List ℕ → Filed → Coming → SessionState
+state_at ring query history coming = record { ring = ring; query = query; history = history; coming = coming }
 
-module _ (n : ℕ) (g : Given) (ring : Ring) (history : Filed) (h c : Coming) (on : Opens h c) where
+module _ (n : ℕ) (g : Given) (ring : Ring) (query : List ℕ) (history : Filed) (h c : Coming) (on : Opens h c) where
   abbrev one : Course (Result (List ℕ) ReadlineError × SessionState)
-  one = line_course n g (state_at ring history h)
+  one = line_course n g (state_at ring query history h)
 
   abbrev other : Course (Result (List ℕ) ReadlineError × SessionState)
-  other = line_course n g (state_at ring history c)
+  other = line_course n g (state_at ring query history c)
 
   record SameLine : Type 0 where
     events : one.events ≡ other.events
     outcome : one.answer.0 ≡ other.answer.0
     ring_is : one.answer.1.ring ≡ other.answer.1.ring
+    query_is : one.answer.1.query ≡ other.answer.1.query
     rest : Opens one.answer.1.coming other.answer.1.coming
 
   record StoppedLine : Type 0 where
@@ -167,7 +170,7 @@ module _ (n : ℕ) (g : Given) (ring : Ring) (history : Filed) (h c : Coming) (o
   setting = setting_in g history.kept.entries
 
   abbrev first : Coming → LineState
-  first c = kept_first setting g.config ring c
+  first c = kept_first setting g.config ring query c
 
   abbrev asks_in : Coming → List LineAsk → List Event
   asks_in c asks = asks_events g.screen setting g.config.indent_size (fresh g.screen.mode) (first c) asks
@@ -176,10 +179,10 @@ module _ (n : ℕ) (g : Given) (ring : Ring) (history : Filed) (h c : Coming) (o
   line_goes = by (goes setting g.config.indent_size (line_script n g.custom) (first h) h c on)
     where
       p : Play (List ℕ)
-      p = played_in n g (state_at ring history h)
+      p = played_in n g (state_at ring query history h)
 
       q : Play (List ℕ)
-      q = played_in n g (state_at ring history c)
+      q = played_in n g (state_at ring query history c)
 
       by : Goes p q → SameLine ⊎ StoppedLine
       by (inl same) = inl (record {
@@ -188,6 +191,7 @@ module _ (n : ℕ) (g : Given) (ring : Ring) (history : Filed) (h c : Coming) (o
             ∙ ap (λ o. Begins g.screen ∷ (asks_in c q.asks ++ end_events o)) same.answer;
         outcome = same.answer;
         ring_is = same.ring;
+        query_is = ap (λ (m : Modal). m.query) same.modal;
         rest = same.rest;
       })
       by (inr cut) =
@@ -211,16 +215,16 @@ module _ (n : ℕ) (g : Given) (ring : Ring) (history : Filed) (h c : Coming) (o
 
 -- ---- a session
 
-session_begins : (n : ℕ) (g : Given) (at : ℕ → LineGiven) (ring : Ring) (history : Filed) (h c : Coming) → Opens h c
-    → IsBeginning (session n g at (state_at ring history h)).events (session n g at (state_at ring history c)).events
+session_begins : (n : ℕ) (g : Given) (at : ℕ → LineGiven) (ring : Ring) (query : List ℕ) (history : Filed) (h c : Coming) → Opens h c
+    → IsBeginning (session n g at (state_at ring query history h)).events (session n g at (state_at ring query history c)).events
 unfolding session
-session_begins zero g at ring history h c on = ([], refl)
-session_begins (suc n) g at ring history h c on =
-    by (λ r kept h c on. session_begins n g (λ line. at (suc line)) r kept h c on) (line_goes (suc n) first ring history h c on)
+session_begins zero g at ring query history h c on = ([], refl)
+session_begins (suc n) g at ring query history h c on =
+    by (λ r query kept h c on. session_begins n g (λ line. at (suc line)) r query kept h c on) (line_goes (suc n) first ring query history h c on)
   where
     So : Type 0
-    So = (r : Ring) (kept : Filed) (h c : Coming) → Opens h c
-        → IsBeginning (session n g (λ line. at (suc line)) (state_at r kept h)).events (session n g (λ line. at (suc line)) (state_at r kept c)).events
+    So = (r : Ring) (query : List ℕ) (kept : Filed) (h c : Coming) → Opens h c
+        → IsBeginning (session n g (λ line. at (suc line)) (state_at r query kept h)).events (session n g (λ line. at (suc line)) (state_at r query kept c)).events
 
     first : Given
     first = for_line g (at 0)
@@ -229,28 +233,31 @@ session_begins (suc n) g at ring history h c on =
     next x = session n g (λ line. at (suc line)) x
 
     fewer : Course (Result (List ℕ) ReadlineError × SessionState)
-    fewer = line_course (suc n) first (state_at ring history h)
+    fewer = line_course (suc n) first (state_at ring query history h)
 
     all : Course (Result (List ℕ) ReadlineError × SessionState)
-    all = line_course (suc n) first (state_at ring history c)
+    all = line_course (suc n) first (state_at ring query history c)
 
     adds : Bool
     adds = g.config.auto_add_history
 
-    on_line : So → (o : Result (List ℕ) ReadlineError) (r : Ring) (h c : Coming) → Opens h c
-        → IsBeginning (going_on next (o, state_at r (history_after adds o history) h)).events (going_on next (o, state_at r (history_after adds o history) c)).events
-    on_line so (Ok text) r h c on = so r (history_after adds (Ok text) history) h c on
-    on_line so (Err e) r h c on = ([], refl)
+    on_line : So → (o : Result (List ℕ) ReadlineError) (r : Ring) (query : List ℕ) (h c : Coming) → Opens h c
+        → IsBeginning (going_on next (o, state_at r query (history_after adds o history) h)).events (going_on next (o, state_at r query (history_after adds o history) c)).events
+    on_line so (Ok text) r query h c on = so r query (history_after adds (Ok text) history) h c on
+    on_line so (Err e) r query h c on = ([], refl)
 
-    by : So → SameLine (suc n) first ring history h c on ⊎ StoppedLine (suc n) first ring history h c on
+    by : So → SameLine (suc n) first ring query history h c on ⊎ StoppedLine (suc n) first ring query history h c on
         → IsBeginning (fewer.events ++ (going_on next fewer.answer).events) (all.events ++ (going_on next all.answer).events)
     by so (inl same) =
-        let hears : Result (List ℕ) ReadlineError → Ring → List Event = λ o r. (going_on next (o, state_at r (history_after adds o history) all.answer.1.coming)).events in
-        let P : List Event → Result (List ℕ) ReadlineError → Ring → Type 0 = λ events o r. IsBeginning (fewer.events ++ (going_on next fewer.answer).events) (events ++ hears o r) in
-        subst (λ events. P events all.answer.0 all.answer.1.ring) same.events
-        (subst (λ o. P fewer.events o all.answer.1.ring) same.outcome
-        (subst (λ r. P fewer.events fewer.answer.0 r) same.ring_is
-        (behind_both fewer.events (going_on next fewer.answer).events (hears fewer.answer.0 fewer.answer.1.ring) (on_line so fewer.answer.0 fewer.answer.1.ring fewer.answer.1.coming all.answer.1.coming same.rest))))
+        let x = fewer.answer.1 in
+        let y = all.answer.1 in
+        let hears : Result (List ℕ) ReadlineError → Ring → List ℕ → List Event = λ o r query. (going_on next (o, state_at r query (history_after adds o history) y.coming)).events in
+        let P : List Event → Result (List ℕ) ReadlineError → Ring → List ℕ → Type 0 = λ events o r query. IsBeginning (fewer.events ++ (going_on next fewer.answer).events) (events ++ hears o r query) in
+        subst (λ events. P events all.answer.0 y.ring y.query) same.events
+        (subst (λ o. P fewer.events o y.ring y.query) same.outcome
+        (subst (λ r. P fewer.events fewer.answer.0 r y.query) same.ring_is
+        (subst (λ query. P fewer.events fewer.answer.0 x.ring query) same.query_is
+        (behind_both fewer.events (going_on next fewer.answer).events (hears fewer.answer.0 x.ring x.query) (on_line so fewer.answer.0 x.ring x.query x.coming y.coming same.rest)))))
     by so (inr cut) =
         let y = fewer.answer.1 in
         let P : Result (List ℕ) ReadlineError → Type 0 = λ o. IsBeginning (fewer.events ++ (going_on next (o, y)).events) (all.events ++ (going_on next all.answer).events) in
@@ -260,13 +267,13 @@ session_begins (suc n) g at ring history h c on =
 -- ---- the laws
 
 pub lines_begin : LinesBegin
-lines_begin n g ring history mode bytes more last = by (line_goes n g ring history _ _ (bytes_open mode bytes more last))
+lines_begin n g ring query history mode bytes more last = by (line_goes n g ring query history _ _ (bytes_open mode bytes more last))
   where
-    by : SameLine n g ring history (coming_from mode bytes SourceFailed) (coming_from mode (bytes ++ more) last) (bytes_open mode bytes more last)
-        ⊎ StoppedLine n g ring history (coming_from mode bytes SourceFailed) (coming_from mode (bytes ++ more) last) (bytes_open mode bytes more last)
-        → IsBeginning (line_course n g (state_over ring history mode bytes SourceFailed)).events (line_course n g (state_over ring history mode (bytes ++ more) last)).events
+    by : SameLine n g ring query history (coming_from mode bytes SourceFailed) (coming_from mode (bytes ++ more) last) (bytes_open mode bytes more last)
+        ⊎ StoppedLine n g ring query history (coming_from mode bytes SourceFailed) (coming_from mode (bytes ++ more) last) (bytes_open mode bytes more last)
+        → IsBeginning (line_course n g (state_over ring query history mode bytes SourceFailed)).events (line_course n g (state_over ring query history mode (bytes ++ more) last)).events
     by (inl same) = ([], sym same.events ∙ sym (append-nil _))
     by (inr cut) = cut.begins
 
 pub sessions_begin : SessionsBegin
-sessions_begin n g at ring history mode bytes more last = session_begins n g at ring history _ _ (bytes_open mode bytes more last)
+sessions_begin n g at ring query history mode bytes more last = session_begins n g at ring query history _ _ (bytes_open mode bytes more last)

@@ -8,6 +8,7 @@ pub mod EventLemmas
 mod FaultRows
 pub mod HeardBytes
 pub mod HeardLines
+pub mod InvocationLemmas
 pub mod LineFuel
 pub mod LinesLemmas
 pub mod OneByteLemmas
@@ -26,5 +27,6 @@ pub mod ShowSteps
 pub mod SteadyParts
 pub mod TranscriptLemmas
 pub mod TurnShowLemmas
+pub mod UnmetLemmas
 pub mod Unread
 pub mod ViFuel

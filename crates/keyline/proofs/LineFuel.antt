@@ -1,7 +1,7 @@
 -- Lines and sessions by two amounts of fuel above the keys and pastes to come are one.
 use Rattle.std.proofs.Common.{ℕ, zero, suc, ◌<◌, Bool, true, false, List, refl, ap, arith}
 use Rattle.line_config.specs.Scripts.{Ends, Asks, then}
-use Rattle.line_editor.specs.LineScripts.{Keys, Beginning, LineAsk, LineScript, keyed, line_script, obeying, turn_script, turned_on, turns_script}
+use Rattle.line_editor.specs.LineScripts.{Keys, Beginning, LineAsk, LineScript, keyed, line_script, met_then, turn_script, turned_on, turns_script}
 use Rattle.line_editor.specs.NextCommand.{with_group_begun}
 use Rattle.line_editor.specs.declared.commands.Status.{Status}
 use Rattle.line_editor.specs.declared.commands.Status.TheVariants.{Proceed, Submit}
@@ -42,20 +42,20 @@ abbrev pub keys_after : ℕ → Custom → Beginning → KeyEvent → Steps Cmd
 keys_after n custom at key = after (λ x i seen. steps (with_group_begun x i seen) (suc n)) at.input at.shown (steps (phrase_from at.input.mode custom at.input at.shown key) n)
 
 abbrev pub turn_after : ℕ → Custom → Beginning → KeyEvent → LineScript (List ℕ)
-turn_after n custom at key = then (then (keyed (keys_after n custom at key)) obeying) (turned_on (turns_script n custom))
+turn_after n custom at key = then (then (keyed (keys_after n custom at key)) met_then) (turned_on (turns_script n custom))
 
 key_then : (custom : Custom) (n m : ℕ) → TurnsAlike custom n m → (at : Beginning) (key : KeyEvent) (k : ℕ) → k < suc n → k < suc m
     → Next true k (λ j. Alike is_line_read j (turn_after n custom at key) (turn_after m custom at key))
 key_then custom n m h at key zero low low' = tt
 key_then custom n m h at key (suc j) low low' =
-    then_alike is_line_read j (then (keyed (keys_after n custom at key)) obeying) (then (keyed (keys_after m custom at key)) obeying) (turned_on (turns_script n custom)) (turned_on (turns_script m custom))
-    (then_alike is_line_read j (keyed (keys_after n custom at key)) (keyed (keys_after m custom at key)) obeying obeying
+    then_alike is_line_read j (then (keyed (keys_after n custom at key)) met_then) (then (keyed (keys_after m custom at key)) met_then) (turned_on (turns_script n custom)) (turned_on (turns_script m custom))
+    (then_alike is_line_read j (keyed (keys_after n custom at key)) (keyed (keys_after m custom at key)) met_then met_then
     (keyed_alike j (keys_after n custom at key) (keys_after m custom at key)
     (after_alike j (λ x i seen. steps (with_group_begun x i seen) (suc n)) (λ x i seen. steps (with_group_begun x i seen) (suc m)) at.input at.shown
     (steps (phrase_from at.input.mode custom at.input at.shown key) n) (steps (phrase_from at.input.mode custom at.input at.shown key) m)
     (s_keys_from custom at.input at.shown key j n m (omega arith) (omega arith))
     (λ i less x input seen. s_with_group x input seen i (suc n) (suc m) (omega arith) (omega arith))))
-    (λ i less cmd. alike_itself is_line_read i (obeying cmd)))
+    (λ i less cmd. alike_itself is_line_read i (met_then cmd)))
     (λ i less status. turned (turns_script n custom) (turns_script m custom) i (h i (omega arith) (omega arith)) status)
 
 turns_alike : (custom : Custom) (n m : ℕ) → TurnsAlike custom n m

@@ -9,13 +9,17 @@ use Rattle.line_buffer.specs.Printable.{is_printable, typed_at_plain_end}
 use Rattle.line_buffer.specs.declared.layout.Layout.{Layout}
 use Rattle.line_buffer.specs.declared.layout.Position.{Position}
 use Rattle.line_keys.specs.Answers.{Custom}
+use Rattle.line_keys.specs.Phrases.{steps}
 use Rattle.line_keys.specs.declared.command.Cmd.{Cmd}
 use Rattle.line_keys.specs.declared.command.Cmd.TheVariants.{SelfInsert}
 use Rattle.line_editor.specs.Calls.{Marks}
 use Rattle.line_editor.specs.Drawing.{drawn, asked_anew}
 use Rattle.line_keys.specs.Replies.{Reply, fails}
+use Rattle.line_editor.specs.Asks.{shown_in}
 use Rattle.line_editor.specs.Inserting.{is_bare, may_be_typed, inserted_shown, insert_char}
-use Rattle.line_editor.specs.LineScripts.{LineState, beginning, line_plan, made_from, obeying, phrase_script, played_from, steps_along, turn_script}
+use Rattle.line_editor.specs.LineScripts.{Meets, LineState, beginning, line_plan, made_from, met_then, obeying, phrase_script, played_from, steps_along, turn_script}
+use Rattle.line_editor.specs.Modal.{Modal, is_at_rest}
+use Rattle.line_editor.specs.NextCommand.{line_phrase}
 use Rattle.line_editor.specs.Redraws.{Asked, full, nothing_asked, moved_by_call, typed_short, taken_short, may_type, may_take}
 use Rattle.line_editor.specs.Redraws.Redraw.{Drawn, Moved, Typed, Taken, Bared, ToEnd, Beeped, Cleared}
 use Rattle.line_editor.specs.Sights.{Sight, sight, Fits}
@@ -23,6 +27,7 @@ use Rattle.line_editor.specs.Steps.{one}
 use Rattle.line_editor.specs.Values.{Value, Setting, Effect, EditStep, helped, hint_reply, unchanged}
 use Rattle.line_editor.specs.Values.EditStep.{Draws, Helped, Edits, TakesBack, Takes}
 use Rattle.line_editor.specs.declared.commands.Status.{Status}
+use Rattle.line_editor.proofs.PastLemmas.{plays_past, steps_past, phrase_keeps}
 use Rattle.line_editor.proofs.StopsLemmas.{asked_both}
 use Rattle.line_editor.proofs.ToldLemmas.{PlayedOf, follows, joined_on, played_then, rest_along, steps_both}
 use Rattle.line_screen.specs.Calls.{Screen, bytes_of, ruler_of}
@@ -111,20 +116,26 @@ short_bytes s l v m prompt c text at printable may =
     ap (λ b. flat_map (bytes_of s) ((if b then typed_short l c else full (ruler_of s) m l prompt true text at None).calls ++ [])) may
     ∙ append-nil (encode_utf8 c) ∙ encode_ascii c (small c printable)
 
-turned_steps : (n : ℕ) (a : Setting) (custom : Custom) (indent : ℕ) (k : LineState) (c : ℕ) → (let phrase = phrase_script n custom (beginning k) in ReadAlone a indent k phrase c
+turned_steps : (n : ℕ) (a : Setting) (custom : Custom) (indent : ℕ) (k : LineState) (c : ℕ) → is_at_rest k.modal.standing ≡ true → (let phrase = phrase_script n custom (beginning k) in ReadAlone a indent k phrase c
     → (made_from a indent (turn_script n custom) k).steps ≡ (made_from a indent phrase k).steps ++ (insert_char c 1 a k.value).steps)
 unfolding turn_script
-turned_steps n a custom indent k c alone =
+turned_steps n a custom indent k c rests alone =
+    let cmd = SelfInsert 1 c in
     let phrase = phrase_script n custom (beginning k) in
     let p = played_from a indent phrase k in
     let first = steps_along a indent k p.asks in
-    let on : Cmd → LineState → PlayedOf a indent Status = follows (line_plan a indent) obeying in
-    let more = (on (SelfInsert 1 c) p.rest).asks in
+    let on : Cmd → LineState → PlayedOf a indent Status = follows (line_plan a indent) met_then in
+    let obeyed = (played_from a indent (obeying cmd) p.rest).asks in
+    let more = Meets cmd ∷ obeyed in
     let all : PlayedOf a indent Status → List EditStep = λ q. steps_along a indent k q.asks in
-    ap all (played_then (line_plan a indent) obeying phrase k)
+    let still : is_at_rest p.rest.modal.standing ≡ true =
+    ap (λ (m : Modal). is_at_rest m.standing) (phrase_keeps a indent (steps (line_phrase custom k.input (shown_in k.value)) n) k) ∙ rests in
+    ap all (played_then (line_plan a indent) met_then phrase k)
     ∙ ap (λ answer. all (joined_on on p.asks p.rest answer)) alone.answer
+    ∙ ap (λ (q : PlayedOf a indent Status). steps_along a indent k (p.asks ++ q.asks)) (plays_past a indent cmd p.rest still refl)
     ∙ steps_both a indent k p.asks more
     ∙ ap (λ l. first ++ steps_along a indent l more) (rest_along a indent phrase k)
+    ∙ ap (λ steps. first ++ steps) (steps_past a indent cmd p.rest obeyed still refl)
     ∙ ap (λ (v : Value). first ++ ((insert_char c 1 a v).steps ++ [])) alone.value_is
     ∙ ap (λ steps. first ++ steps) (append-nil (insert_char c 1 a k.value).steps)
 
@@ -135,9 +146,9 @@ unasked_bytes s l xs ys none =
     ∙ ap (λ (x : Asked). flat_map (bytes_of s) (x.calls ++ (drawn_by s x.layout ys).calls)) none
 
 pub one_byte : OneByte
-one_byte n s l a custom indent k c alone t may =
+one_byte n s l a custom indent k c rests alone t may =
     let first = (made_from a indent (phrase_script n custom (beginning k)) k).steps in
     let e = insert_char c 1 a k.value in
-    ap (bytes_for s l) (turned_steps n a custom indent k c alone)
+    ap (bytes_for s l) (turned_steps n a custom indent k c rests alone)
     ∙ unasked_bytes s l first e.steps (alone.unasked s l)
     ∙ typed_bytes s l a k.value c t ∙ short_bytes s l e.value a.marks a.prompt c e.value.line.text e.value.line.place (printed k.value c t.alone) may

@@ -44,12 +44,16 @@ use Rattle.line_editor.specs.Accepting.{accept_or_insert}
 use Rattle.line_editor.specs.Asks.{shown_in}
 use Rattle.line_editor.specs.Commands.{in_vi_command, means_of}
 use Rattle.line_editor.specs.Drawing.{refreshed}
-use Rattle.line_editor.specs.LineScripts.{Begins, Keys, Obeys, LineState, LineAsk, beginning, kept, keyed, left_at, line_plan, line_script, obeying, phrase_script, played_from, turn_script, turned_on, turns_script, line_begun}
+use Rattle.line_editor.specs.LineScripts.{Begins, Keys, Obeys, LineState, LineAsk, beginning, kept, keyed, left_at, line_plan, line_script, met_then, phrase_script, played_from, turn_script, turned_on, turns_script, line_begun}
 use Rattle.line_editor.specs.NextCommand.{reset_by, with_group_begun}
 use Rattle.line_editor.specs.Moving.{cursor_moved_if}
+use Rattle.line_editor.specs.Modal.{is_at_rest, modal_first}
 use Rattle.line_editor.specs.Values.{Setting, Value, empty_at, first_value, unchanged, then_do, at_line}
 use Rattle.line_editor.specs.Yanking.{behind_yank, yanked_by, put_yanked, yank_text}
 use Rattle.line_editor.specs.declared.commands.Status.{Status}
+use Rattle.line_editor.specs.declared.modal_state.Standing.{Standing}
+use Rattle.line_editor.specs.declared.modal_state.Standing.TheVariants.{Off, Rests}
+use Rattle.line_editor.proofs.PastLemmas.{first_rests}
 use Rattle.line_editor.proofs.ToldLemmas.{follows, joined, played_then}
 use Rattle.line_screen.specs.KeyGrammar.{coming_of, marker, paste_start, with_newlines}
 use Rattle.line_screen.proofs.Pasting.{pasted_text_is_before_its_mark}
@@ -74,11 +78,16 @@ by_the_table new s k table n free none =
     ap (λ reply. steps (deciding (bound_or new s (command_or table (terminal_command s.shown k))) reply) n) (unbound_answer s k free)
     ∙ ap (λ command. steps (command_or table command) n) none
 
+-- what stands between commands
+abbrev at_rest : Standing → LineState → LineState
+at_rest at k = record k { modal = record k.modal { standing = at } }
+
 abbrev with_rest : LineState → Coming → LineState
 with_rest k c = record k { coming = c }
 
-abbrev input_with : EditMode → InputMode → Cmd → Option CharSearch → Input
-input_with mode input_mode last search = record { mode = mode; input_mode = input_mode; last = last; search = search }
+abbrev input_with : EditMode → InputMode → Cmd → Option CharSearch → Bool → Input
+input_with mode input_mode last search modal =
+    record { mode = mode; input_mode = input_mode; last = last; search = search; modal_commands = modal }
 
 -- ---- a paste
 
@@ -94,38 +103,38 @@ keeping Vi input text = Asks Needs (λ none. Asks (Becomes (with_last (Insert 1 
 abbrev pasting : EditMode → Input → Steps Cmd
 pasting mode input = Asks (Reads Paste) (keeping mode input)
 
-pastes : (mode : EditMode) (input_mode : InputMode) (custom : Custom) (last : Cmd) (search : Option CharSearch) (shown : Shown) (n : ℕ) → IsUnbound custom
-    → steps (phrase_from mode custom (input_with mode input_mode last search) shown paste_start) (suc n) ≡ pasting mode (input_with mode input_mode last search)
+pastes : (mode : EditMode) (input_mode : InputMode) (custom : Custom) (last : Cmd) (search : Option CharSearch) (modal : Bool) (shown : Shown) (n : ℕ) → IsUnbound custom
+    → steps (phrase_from mode custom (input_with mode input_mode last search modal) shown paste_start) (suc n) ≡ pasting mode (input_with mode input_mode last search modal)
 unfolding answered needing with_read from_key asking becoming deciding and_then emacs_action common_action action_of insert_action command_table vi_counted vi_command insert_table vi_insert
-pastes Emacs input_mode custom last search shown n free =
-    let s = situation custom (input_with Emacs input_mode last search) shown 1 true in
+pastes Emacs input_mode custom last search modal shown n free =
+    let s = situation custom (input_with Emacs input_mode last search modal) shown 1 true in
     by_the_table (Some 1) s paste_start (emacs_command s paste_start) (suc n) free refl
-pastes Vi Command custom last search shown n free =
-    let input = input_with Vi Command last search in
+pastes Vi Command custom last search modal shown n free =
+    let input = input_with Vi Command last search modal in
     let s = situation custom input shown 1 true in
     by_the_table None s paste_start (and_then input shown (command_table None s paste_start) changed) (suc n) free refl
-pastes Vi Inserting custom last search shown n free =
-    let input = input_with Vi Inserting last search in
+pastes Vi Inserting custom last search modal shown n free =
+    let input = input_with Vi Inserting last search modal in
     by_the_table None (situation custom input shown 0 true) paste_start (and_then input shown (insert_table custom input shown paste_start) typed) (suc n) free refl
-pastes Vi Overwriting custom last search shown n free =
-    let input = input_with Vi Overwriting last search in
+pastes Vi Overwriting custom last search modal shown n free =
+    let input = input_with Vi Overwriting last search modal in
     by_the_table None (situation custom input shown 0 true) paste_start (and_then input shown (insert_table custom input shown paste_start) typed) (suc n) free refl
 
-enters : (mode : EditMode) (input_mode : InputMode) (custom : Custom) (last : Cmd) (search : Option CharSearch) (shown : Shown) (n : ℕ) → IsUnbound custom
-    → steps (phrase_from mode custom (input_with mode input_mode last search) shown enter) n ≡ Ends (AcceptOrInsertLine true)
+enters : (mode : EditMode) (input_mode : InputMode) (custom : Custom) (last : Cmd) (search : Option CharSearch) (modal : Bool) (shown : Shown) (n : ℕ) → IsUnbound custom
+    → steps (phrase_from mode custom (input_with mode input_mode last search modal) shown enter) n ≡ Ends (AcceptOrInsertLine true)
 unfolding answered needing with_read from_key asking becoming deciding and_then emacs_action common_action action_of insert_action command_table vi_counted vi_command insert_table vi_insert
-enters Emacs input_mode custom last search shown n free =
-    let s = situation custom (input_with Emacs input_mode last search) shown 1 true in
+enters Emacs input_mode custom last search modal shown n free =
+    let s = situation custom (input_with Emacs input_mode last search modal) shown 1 true in
     by_the_table (Some 1) s enter (emacs_command s enter) n free refl
-enters Vi Command custom last search shown n free =
-    let input = input_with Vi Command last search in
+enters Vi Command custom last search modal shown n free =
+    let input = input_with Vi Command last search modal in
     let s = situation custom input shown 1 true in
     by_the_table None s enter (and_then input shown (command_table None s enter) changed) n free refl
-enters Vi Inserting custom last search shown n free =
-    let input = input_with Vi Inserting last search in
+enters Vi Inserting custom last search modal shown n free =
+    let input = input_with Vi Inserting last search modal in
     by_the_table None (situation custom input shown 0 true) enter (and_then input shown (insert_table custom input shown enter) typed) n free refl
-enters Vi Overwriting custom last search shown n free =
-    let input = input_with Vi Overwriting last search in
+enters Vi Overwriting custom last search modal shown n free =
+    let input = input_with Vi Overwriting last search modal in
     by_the_table None (situation custom input shown 0 true) enter (and_then input shown (insert_table custom input shown enter) typed) n free refl
 
 -- ---- the phrases, played
@@ -135,7 +144,7 @@ kept_asks Emacs text input = []
 kept_asks Vi text input = Keys Needs ∷ Keys (Becomes (with_last (Insert 1 text) input)) ∷ []
 
 abbrev paste_kept : EditMode → List ℕ → LineState → Coming → LineState
-paste_kept mode text k rest = kept k.value (kept_after mode text k.input) k.ring rest
+paste_kept mode text k rest = kept k.value (kept_after mode text k.input) k.ring k.modal rest
 
 -- behind its first key
 abbrev paste_played : EditMode → List ℕ → LineState → Coming → Played LineAsk LineState ReadlineError Cmd
@@ -163,14 +172,14 @@ module _ (s : Setting) (indent : ℕ) (custom : Custom) (free : IsUnbound custom
   unfolding and_then with_read
   plays_paste n k before bytes text rest =
       let input = k.input in
-      ap (behind_key (suc (suc n)) k (Pasted bytes text rest)) (pastes input.mode input.input_mode custom input.last input.search (shown_in k.value) n free)
+      ap (behind_key (suc (suc n)) k (Pasted bytes text rest)) (pastes input.mode input.input_mode custom input.last input.search input.modal_commands (shown_in k.value) n free)
       ∙ plays_keeping (suc (suc n)) input.mode text k rest bytes
 
   plays_enter : (n : ℕ) (k : LineState) (bytes : List ℕ) (rest : Coming)
       → (let on = with_rest k (Pressed bytes enter rest) in played_from s indent (phrase_script (suc n) custom (beginning k)) on ≡ asked_first (Keys (Reads Key)) (enter_played k rest))
   unfolding and_then with_read answered
   plays_enter n k bytes rest =
-      let input = k.input in ap (behind_key (suc n) k rest) (enters input.mode input.input_mode custom input.last input.search (shown_in k.value) n free)
+      let input = k.input in ap (behind_key (suc n) k rest) (enters input.mode input.input_mode custom input.last input.search input.modal_commands (shown_in k.value) n free)
 
 -- ---- the paste's text is the line's
 
@@ -235,7 +244,7 @@ module _ (s : Setting) (indent : ℕ) (custom : Custom) (free : IsUnbound custom
 
   -- a phrase, its command, and the turns after it
   abbrev turn_on : Played LineAsk LineState ReadlineError Cmd → Played LineAsk LineState ReadlineError Status
-  turn_on p = asked_first Begins (joined (follows (line_plan bare indent) obeying) p)
+  turn_on p = asked_first Begins (joined (follows (line_plan bare indent) met_then) p)
 
   abbrev line_on : ℕ → Played LineAsk LineState ReadlineError Cmd → Played LineAsk LineState ReadlineError (List ℕ)
   line_on n p = joined (follows (line_plan bare indent) (turned_on (turns_script n custom))) (turn_on p)
@@ -246,29 +255,51 @@ module _ (s : Setting) (indent : ℕ) (custom : Custom) (free : IsUnbound custom
       let plan = line_plan bare indent in
       let next = turned_on (turns_script n custom) in
       played_then plan next (turn_script (suc n) custom) k
-      ∙ ap (λ t. joined (follows plan next) (asked_first Begins t)) (played_then plan obeying (phrase_script (suc n) custom (beginning k)) k)
+      ∙ ap (λ t. joined (follows plan next) (asked_first Begins t)) (played_then plan met_then (phrase_script (suc n) custom (beginning k)) k)
 
-  enter_accepts : (n : ℕ) (k : LineState) (bytes : List ℕ) (rest : Coming)
-      → Takes (played_from bare indent (turns_script (suc n) custom) (with_rest k (Pressed bytes enter rest))) k.value.line.text rest
-  enter_accepts n k bytes rest =
+  enter_accepts : (at : Standing) → is_at_rest at ≡ true → (n : ℕ) (j : LineState) (bytes : List ℕ) (rest : Coming)
+      → Takes (played_from bare indent (turns_script (suc n) custom) (with_rest (at_rest at j) (Pressed bytes enter rest))) j.value.line.text rest
+  enter_accepts Off rests n j bytes rest =
+      let k = at_rest Off j in
       let w : Value = (accept_or_insert true bare k.value).value in
       subst (λ p. Takes p k.value.line.text rest) (sym (turns_on n (with_rest k (Pressed bytes enter rest)) ∙ ap (line_on n) (plays_enter bare indent custom free n k bytes rest))) (
         ap Ok (moved_text (not (w.line.place == length w.line.text)) ForcedRefresh (record w.line { place = length w.line.text }) bare w refl),
         refl,
       )
+  enter_accepts Rests rests n j bytes rest =
+      let k = at_rest Rests j in
+      let w : Value = (accept_or_insert true bare k.value).value in
+      subst (λ p. Takes p k.value.line.text rest) (sym (turns_on n (with_rest k (Pressed bytes enter rest)) ∙ ap (line_on n) (plays_enter bare indent custom free n k bytes rest))) (
+        ap Ok (moved_text (not (w.line.place == length w.line.text)) ForcedRefresh (record w.line { place = length w.line.text }) bare w refl),
+        refl,
+      )
+  enter_accepts _ rests n j bytes rest = absurd (cc)
 
-  paste_accepts : (n : ℕ) (k : LineState) (before bytes text others : List ℕ) (rest : Coming) → IsEmptyLine k.value
-      → Takes (played_from bare indent (turns_script (suc (suc n)) custom) (with_rest k (Pressed before paste_start (Pasted bytes text (Pressed others enter rest))))) text rest
-  paste_accepts n k before bytes text others rest empty =
+  paste_accepts : (at : Standing) → is_at_rest at ≡ true → (n : ℕ) (j : LineState) (before bytes text others : List ℕ) (rest : Coming) → IsEmptyLine j.value
+      → Takes (played_from bare indent (turns_script (suc (suc n)) custom) (with_rest (at_rest at j) (Pressed before paste_start (Pasted bytes text (Pressed others enter rest))))) text rest
+  paste_accepts Off rests n j before bytes text others rest empty =
+      let k = at_rest Off j in
       let entered = Pressed others enter rest in
       let on = with_rest k (Pressed before paste_start (Pasted bytes text entered)) in
       let after_paste = left_at bare indent (paste_kept k.input.mode text k entered) (Obeys (Insert 1 text)) in
       let vi : Bool = in_vi_command (means_of (kept_after k.input.mode text k.input) indent (reset_by (Insert 1 text) k.ring)) in
-      let a = enter_accepts n after_paste others rest in
+      let a = enter_accepts Off refl n after_paste others rest in
       subst (λ p. Takes p text rest) (sym (turns_on (suc n) on ∙ ap (line_on (suc n)) (plays_paste bare indent custom free n k before bytes text entered))) (
         a.0 ∙ ap Ok (pasted_text vi text bare k.value empty.empty empty.grows),
         a.1,
       )
+  paste_accepts Rests rests n j before bytes text others rest empty =
+      let k = at_rest Rests j in
+      let entered = Pressed others enter rest in
+      let on = with_rest k (Pressed before paste_start (Pasted bytes text entered)) in
+      let after_paste = left_at bare indent (paste_kept k.input.mode text k entered) (Obeys (Insert 1 text)) in
+      let vi : Bool = in_vi_command (means_of (kept_after k.input.mode text k.input) indent (reset_by (Insert 1 text) k.ring)) in
+      let a = enter_accepts Rests refl n after_paste others rest in
+      subst (λ p. Takes p text rest) (sym (turns_on (suc n) on ∙ ap (line_on (suc n)) (plays_paste bare indent custom free n k before bytes text entered))) (
+        a.0 ∙ ap Ok (pasted_text vi text bare k.value empty.empty empty.grows),
+        a.1,
+      )
+  paste_accepts _ rests n j before bytes text others rest empty = absurd (cc)
 
 -- ---- what the bytes read as
 
@@ -296,11 +327,11 @@ reads_as mode text more last paste =
     ∙ ap (λ t. Pressed (sent_as_paste text ++ 0x0D ∷ more) paste_start (Pasted (behind_start text more) t (coming_from mode (0x0D ∷ more) last))) (stays text paste.no_return)
 
 pub pastes_are_accepted : PastesAreAccepted
-pastes_are_accepted n s custom indent k text more last none free empty paste comes =
+pastes_are_accepted n s custom indent k text more last none free empty rests paste comes =
     let left = coming_from k.input.mode more last in
     let turns = turns_script (suc (suc n)) custom in
     let taken = subst (λ hooks. Takes (played_from (record s { hooks = hooks }) indent turns k) text left) (sym none)
-    (subst (λ c. Takes (played_from (without_hooks s) indent turns (with_rest k c)) text left) (sym (comes ∙ reads_as k.input.mode text more last paste)) (paste_accepts s indent custom free n k (sent_as_paste text ++ 0x0D ∷ more) (behind_start text more) text (0x0D ∷ more) left empty)) in
+    (subst (λ c. Takes (played_from (without_hooks s) indent turns (with_rest k c)) text left) (sym (comes ∙ reads_as k.input.mode text more last paste)) (paste_accepts s indent custom free k.modal.standing rests n k (sent_as_paste text ++ 0x0D ∷ more) (behind_start text more) text (0x0D ∷ more) left empty)) in
     record { outcome = taken.0; rest_is = taken.1 }
 
 pub pasted_lines_are_accepted : PastedLinesAreAccepted
@@ -308,8 +339,8 @@ unfolding line_script
 pasted_lines_are_accepted n g x text more last none free paste is =
     let s : Setting = setting_in g x.history.kept.entries in
     let e = line_begun s (first_value s) in
-    let k = kept e.value (new_input g.config.edit_mode) x.ring x.coming in
-    let a = pastes_are_accepted n s g.custom g.config.indent_size k text more last none free (record { empty = refl; grows = refl }) paste is in
+    let k = kept e.value (new_input g.config) x.ring (modal_first g.config.modal_commands x.query) x.coming in
+    let a = pastes_are_accepted n s g.custom g.config.indent_size k text more last none free (record { empty = refl; grows = refl }) (first_rests g.config.modal_commands) paste is in
     record { outcome = a.outcome; rest_is = a.rest_is }
 
 -- ---- worked rows
@@ -323,7 +354,7 @@ plain_setting = record { prompt = []; column = 0; mode = Unicode; hooks = None; 
 pasted_in : InputMode → List ℕ → Played LineAsk LineState ReadlineError (List ℕ)
 pasted_in input_mode text =
     played_from plain_setting 2 (turns_script 2 nothing_bound)
-    (kept (empty_at 0) (input_with Vi input_mode Noop None) (new_ring 60) (coming_from Vi (sent_as_paste text ++ 0x0D ∷ codes "b") End))
+    (kept (empty_at 0) (input_with Vi input_mode Noop None false) (new_ring 60) (modal_first false []) (coming_from Vi (sent_as_paste text ++ 0x0D ∷ codes "b") End))
 
 later : Coming
 later = Pressed (codes "b") (key_with (Char 0x62) none) (NoMore [] AtItsEnd [])

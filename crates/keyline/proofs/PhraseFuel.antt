@@ -12,7 +12,8 @@ use Rattle.line_keys.specs.declared.keymap.custom.Followed.TheVariants.{Bound, U
 use Rattle.line_keys.specs.Custom.{Situation, bound_by, custom_answer, followed, following, following_upto, in_vain, sequence_answer, situation}
 use Rattle.line_keys.specs.Emacs.{after_first_key, emacs_action, emacs_command, emacs_counted, emacs_decided, emacs_done, emacs_phrase, second_command}
 use Rattle.line_keys.specs.Feeds.{Key, Paste}
-use Rattle.line_keys.specs.Phrases.{Input, Shows, Reads, Part, Steps, answered, granted, replied}
+use Rattle.line_keys.specs.Phrases.{Input, Shows, Reads, Part, Steps, answered, granted, replied, with_read}
+use Rattle.line_keys.specs.Quoting.{is_paste_start, pasted, quoted, quoted_command, quotes}
 use Rattle.line_keys.specs.Redone.{anew, anew_or}
 use Rattle.line_keys.specs.Refreshing.{Shown, Prompted}
 use Rattle.line_keys.specs.declared.command.Cmd.{Cmd}
@@ -20,7 +21,7 @@ use Rattle.line_keys.specs.declared.key.KeyEvent.{KeyEvent}
 use Rattle.line_keys.specs.Emacs.{move_to_char}
 use Rattle.line_keys.specs.ViSearches.{search_of}
 use Rattle.line_keys.specs.Keys.{char_with, none}
-use Rattle.line_keys.specs.declared.command.Cmd.TheVariants.{Insert}
+use Rattle.line_keys.specs.declared.command.Cmd.TheVariants.{Insert, QuotedInsert}
 use Rattle.line_keys.specs.declared.keymap.common.Action as common_actions
 use Rattle.line_keys.specs.declared.keymap.common.Action.TheVariants as commons
 use Rattle.line_keys.specs.declared.keymap.emacs.Action as emacs_actions
@@ -109,9 +110,21 @@ s_sequence s key = s_and_then s.input s.shown (followed s key) (λ f input shown
 
 -- ---- the tables
 
+s_pasted : Steady pasted
+s_pasted = s_with_read Paste (λ text. answered (Insert 1 text)) (λ text. s_answered (Insert 1 text))
+
+s_quoted_if : (key : KeyEvent) (start : Bool) → Steady (cond start pasted (answered (quoted_command key)))
+s_quoted_if key true = s_pasted
+s_quoted_if key false = s_answered (quoted_command key)
+
+s_quoting : (on : Bool) → Steady (cond on (with_read Key quoted) (answered QuotedInsert))
+s_quoting true = s_with_read Key quoted (λ key. s_quoted_if key (is_paste_start key))
+s_quoting false = s_answered QuotedInsert
+
 s_common_done : (s : Situation) (key : KeyEvent) (a : Option common_actions.Action) → Steady (common_done s key a)
 s_common_done s key (Some (commons.Give cmd)) = s_answered cmd
-s_common_done s key (Some commons.Paste) = s_with_read Paste (λ text. answered (Insert 1 text)) (λ text. s_answered (Insert 1 text))
+s_common_done s key (Some commons.Paste) = s_pasted
+s_common_done s key (Some commons.Quote) = s_quoting (quotes s.input)
 s_common_done s key None = s_sequence s key
 
 pub s_common : (s : Situation) (key : KeyEvent) → Steady (common s key)

@@ -1,9 +1,13 @@
 -- A session by options, over all that is said of its keys.
 use Rattle.std.proofs.Common.{◌≡◌, ℕ, ◌+◌, ◌<◌, ◌^◌, Bool, true, false, IsTrue, List, [], ◌∷◌, ◌++◌, Option, refl, sym, ap, subst, ◌∙◌, append-nil, arith}
-use Rattle.std.specs.Prelude.{if◌then◌else◌, IsErr, IsOk, None, OnOk, Result, Ok, Err, is_err, string_bytes}
+use Rattle.std.specs.Prelude.{if◌then◌else◌, IfErr, IfOk, IsErr, IsOk, None, OnOk, Result, Ok, Err, is_err, string_bytes}
 use Rattle.line_config.specs.Feed.{AlwaysTold, Feed, fresh_feed}
+use Rattle.std.proofs.lemmas.Result.{IfErr-weaker}
 use Rattle.line_config.specs.Adapters.{to_come}
+use Rattle.line_config.specs.declared.adapters.ReadSource.{ReadSource}
+use Rattle.line_config.specs.declared.adapters.WriteSink.{WriteSink}
 use Rattle.line_config.specs.Sending.{AppendsSome}
+use Rattle.line_config.specs.declared.config.Config.{Config}
 use Rattle.line_config.specs.declared.device.Last.{Last}
 use Rattle.line_config.specs.declared.device.Last.TheVariants.{End}
 use Rattle.line_config.specs.declared.errors.ReadlineError.{ReadlineError}
@@ -19,12 +23,13 @@ use Rattle.line_screen.specs.Reading.{kept_count}
 use Rattle.keyline.specs.Desks.{GoesShown, desk_feed, session_state_of, work_of}
 use Rattle.keyline.specs.Events.{Event, Takes, Helped, Draws, Hears, Breaks, Keeps, Writes, session}
 use Rattle.keyline.specs.Known.{Known}
-use Rattle.keyline.specs.Program.{EditHelper, EditsByOptions, config_of, edit_helping, given_to, nothing_bound, PlaysBytes, program_given, program_start}
+use Rattle.keyline.specs.Program.{EditHelper, EditsBy, edit_helping, given_by, given_to, nothing_bound, PlaysBytes, PlaysOver, UnopensOver, start_by}
 use Rattle.keyline.specs.Playing.{IsStopped, SessionReason, Stands, Work, work}
-use Rattle.keyline.specs.Plays.{loaded_from, loads}
+use Rattle.keyline.specs.Plays.{LoadRefused, loaded_from, loads}
 use Rattle.keyline.specs.Sessions.{Given, SessionState, given_of, coming_from, each}
 use Rattle.keyline.specs.declared.options.Options.{Options}
 use Rattle.keyline.specs.declared.session.Ended.{Ended}
+use Rattle.keyline.specs.declared.session.Unopened.{Unopened}
 use Rattle.keyline.proofs.PlaysLemmas.{reason_at_end}
 
 below : (most kept bound n : ℕ) → kept ≡ 0 → bound ≡ most + kept → most < n → bound < n
@@ -54,8 +59,8 @@ history_at_end : (saved : Bool) (kept history : Filed) → (saved ≡ true → h
 history_at_end true kept history done refused = done refl
 history_at_end false kept history done refused = refused refl
 
-abbrev state_by : Ring → Filed → Coming → SessionState
-state_by ring history coming = record { ring = ring; history = history; coming = coming }
+abbrev state_by : Ring → List ℕ → Filed → Coming → SessionState
+state_by ring query history coming = record { ring = ring; query = query; history = history; coming = coming }
 
 -- a device that has failed has failed afterwards
 reason_still : (g : Given) (source display display' lines lines' : Bool) (why : ReadlineError) → (IsTrue display → IsTrue display') → (IsTrue lines → IsTrue lines')
@@ -116,42 +121,43 @@ module _ {D L : Type 0} (shown : D → List ℕ) (written_in : L → List ℕ) w
       (subst (λ d. R (shown old.display) (written_in old.lines) (shown new.display) d) (sym wrote_is) both)))
 
 module _ {F S D L T : Type 0} (text_of : F → Feed) (k : Known S D L) (held : T → List ℕ) (failed : T → Bool) where
-  pub played : (options : Options) (words : Option (List (List ℕ))) (drawn wrote old bytes : List ℕ) (last : Last) (history : F) (source : S) (display : D) (lines : L) (text : T)
+  pub played : (config : Config) (options : Options) (words : Option (List (List ℕ))) (drawn wrote old bytes : List ℕ) (last : Last) (history : F) (source : S) (display : D) (lines : L) (text : T)
       (ended : Ended S D L T) (display' : D) (lines' : L)
-      → EditsByOptions text_of k held failed options words history source display lines text ended → AlwaysTold text_of → text_of history ≡ fresh_feed old End
+      → EditsBy text_of k held failed config options words history source display lines text ended → AlwaysTold text_of → text_of history ≡ fresh_feed old End
       → (k.feed source).coming ≡ bytes → (k.feed source).last ≡ last → (k.feed source).bound ≡ 2 ^ 63
       → k.shown display ≡ drawn → k.written_in lines ≡ wrote → held text ≡ []
       → k.shown display' ≡ k.shown ended.display → (IsTrue (k.show_failed ended.display) → IsTrue (k.show_failed display'))
       → k.written_in lines' ≡ k.written_in ended.lines → (IsTrue (k.write_failed ended.lines) → IsTrue (k.write_failed lines'))
-      → IsTrue (k.feed ended.source).told → PlaysBytes k held failed options words drawn wrote old bytes last (record ended { display = display'; lines = lines' })
-  played options words drawn wrote old bytes last history source display lines text ended display' lines' edits always text_is coming_is last_is bound_is had_drawn had_wrote blank drawn_is shows wrote_is writes agrees =
+      → IsTrue (k.feed ended.source).told → PlaysBytes k held failed config options words drawn wrote old bytes last (record ended { display = display'; lines = lines' })
+  played config options words drawn wrote old bytes last history source display lines text ended display' lines' edits always text_is coming_is last_is bound_is had_drawn had_wrote blank drawn_is shows wrote_is writes agrees =
       let desk = edits.desk in
       let opens = edits.opens in
       let left_desk = edits.runs.last in
       let end = edits.runs.finishes in
       let why = edits.runs.why in
-      let g = program_given options words in
-      let start = program_start options old bytes last in
-      let given_is : given_to options desk ≡ g =
-      ap (λ (s : Screen). given_of (config_of options) nothing_bound (string_bytes options.prompt) s (edit_helping desk.helper)) opens.screen
+      let g = given_by config options words in
+      let start = start_by config old bytes last in
+      let given_is : given_to config options desk ≡ g =
+      ap (λ (s : Screen). given_of config nothing_bound (string_bytes options.prompt) s (edit_helping desk.helper)) opens.screen
       ∙ ap (λ (h : Option EditHelper). (record g { helping = edit_helping h })) opens.helper_is in
-      let coming : (desk_feed k desk).coming ≡ coming_from options.mode bytes last =
-      opens.coming ∙ (ap (λ bs. coming_from options.mode bs (k.feed source).last) coming_is ∙ ap (λ l. coming_from options.mode bytes l) last_is) in
-      let loaded_is = loaded_from (config_of options) (fresh_feed old End) in
-      let history_is : desk.history ≡ loaded_is = opens.loaded.history_is always ∙ ap (λ (f : Feed). loaded_from (config_of options) f) text_is in
+      let coming : (desk_feed k desk).coming ≡ coming_from config.edit_mode bytes last =
+      opens.coming ∙ (ap (λ bs. coming_from config.edit_mode bs (k.feed source).last) coming_is ∙ ap (λ l. coming_from config.edit_mode bytes l) last_is) in
+      let loaded_is = loaded_from config (fresh_feed old End) in
+      let history_is : desk.history ≡ loaded_is = opens.loaded.history_is always ∙ ap (λ (f : Feed). loaded_from config f) text_is in
       let bound : (desk_feed k desk).bound ≡ 2 ^ 63 + kept_count (kept_of desk.reader) =
       ap (λ (s : S). (k.feed s).bound + kept_count (kept_of desk.reader)) opens.source_is ∙ ap (λ b. b + kept_count (kept_of desk.reader)) bound_is in
       let left = (desk_feed k left_desk).coming in
       let start_is : session_state_of k desk ≡ start =
-      ap (λ (r : Ring). state_by r desk.history (desk_feed k desk).coming) opens.ring
-      ∙ (ap (λ (h : Filed). state_by (new_ring 60) h (desk_feed k desk).coming) history_is
-      ∙ ap (λ (c : Coming). state_by (new_ring 60) loaded_is c) coming) in
+      ap (λ (r : Ring). state_by r (string_bytes desk.last_query) desk.history (desk_feed k desk).coming) opens.ring
+      ∙ (ap (λ query. state_by (new_ring 60) query desk.history (desk_feed k desk).coming) opens.query
+      ∙ (ap (λ (h : Filed). state_by (new_ring 60) [] h (desk_feed k desk).coming) history_is
+      ∙ ap (λ (c : Coming). state_by (new_ring 60) [] loaded_is c) coming)) in
       record {
         kept = left_desk.history;
         reader = left_desk.reader;
         why = why;
         saved = end.saved;
-        loaded = subst (λ (f : Feed). IsOk (loads (config_of options) f)) text_is (opens.loaded.whole always);
+        loaded = subst (λ (f : Feed). IsOk (loads config f)) text_is (opens.loaded.whole always);
         goes = λ n low.
             let went = edits.runs.takes.goes (subst (λ (s : S). IsTrue (k.feed s).told) end.source_is agrees) n (below (2 ^ 63) (kept_count (kept_of desk.reader)) (desk_feed k desk).bound n (ap kept_count opens.kept) bound low) in
             let G : Given → SessionState → Type 0 = λ g x.
@@ -178,5 +184,21 @@ module _ {F S D L T : Type 0} (text_of : F → Feed) (k : Known S D L) (held : T
         reason = reason_still g (k.feed ended.source).failed (k.show_failed ended.display) (k.show_failed display') (k.write_failed ended.lines) (k.write_failed lines')
             why shows writes
             (subst (λ (g : Given). SessionReason g (k.feed ended.source).failed (k.show_failed ended.display) (k.write_failed ended.lines) why) given_is
-            (reason_at_end k held failed (given_to options desk) left_desk text why ended end edits.runs.takes.reason));
+            (reason_at_end k held failed (given_to config options desk) left_desk text why ended end edits.runs.takes.reason));
       }
+
+-- ---- settings that are equal
+
+module _ {R K E W T : Type 0} where
+  pub plays_by : {X : Type 0} (known : Known (ReadSource R K) (WriteSink E) (WriteSink W)) (held : T → List ℕ) (failed : T → Bool) (config config' : Config) (options : Options)
+      (words : Option (List (List ℕ))) (shown wrote old bytes : List ℕ) (last : Last) (r : Result (Ended (ReadSource R K) (WriteSink E) (WriteSink W) T) X) → config ≡ config'
+      → IfOk r (PlaysOver known held failed config options words shown wrote old bytes last) → IfOk r (PlaysOver known held failed config' options words shown wrote old bytes last)
+  plays_by known held failed config config' options words shown wrote old bytes last r same plays =
+      subst (λ (x : Config). IfOk r (PlaysOver known held failed x options words shown wrote old bytes last)) same plays
+
+  pub refused_by : {F X : Type 0} (feed : F → Feed) (shown : E → Option (List ℕ)) (written : W → Option (List ℕ)) (config config' : Config) (old : List ℕ) (keys : R) (display : E) (lines : W)
+      (r : Result X (Unopened F (ReadSource R K) (WriteSink E) (WriteSink W) T)) → config ≡ config' → IfErr r (UnopensOver feed shown written config old keys display lines)
+      → IfErr r (λ unopened. LoadRefused config' (fresh_feed old End) (feed unopened.history) unopened.why)
+  refused_by feed shown written config config' old keys display lines r same refused =
+      IfErr-weaker r (UnopensOver feed shown written config old keys display lines) (λ unopened. LoadRefused config' (fresh_feed old End) (feed unopened.history) unopened.why)
+      (λ unopened u. subst (λ (x : Config). LoadRefused x (fresh_feed old End) (feed unopened.history) unopened.why) same u.fault) refused

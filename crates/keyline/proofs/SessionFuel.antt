@@ -4,7 +4,7 @@ use Rattle.line_config.specs.Played.{Played, asked_first, played_on}
 use Rattle.line_config.specs.Scripts.{Ends, Asks}
 use Rattle.line_config.specs.declared.errors.ReadlineError.{ReadlineError}
 use Rattle.line_config.specs.declared.errors.ReadlineError.TheVariants.{Eof}
-use Rattle.line_editor.specs.LineScripts.{Begins, Keys, Obeys, Makes, LineAnswer, LineAsk, LineScript, LineState, answer_at, beginning, left_at, line_begun, line_script, played_from, turn_script, turns_script}
+use Rattle.line_editor.specs.LineScripts.{Begins, Keys, Meets, Obeys, Makes, LineAnswer, LineAsk, LineScript, LineState, answer_at, beginning, left_at, line_begun, line_script, played_from, turn_script, turns_script}
 use Rattle.line_editor.specs.Redraws.{fresh}
 use Rattle.line_editor.specs.Running.{kept_first}
 use Rattle.line_editor.specs.Values.{Setting}
@@ -57,6 +57,7 @@ module _ (s : Setting) (indent : ℕ) where
   left_le c (Keys (Becomes input)) = omega arith
   left_le c (Keys (Refuses why)) = omega arith
   left_le c Begins = omega arith
+  left_le c (Meets cmd) = omega arith
   left_le c (Obeys cmd) = omega arith
   left_le c (Makes edit) = omega arith
 
@@ -68,6 +69,7 @@ module _ (s : Setting) (indent : ℕ) where
   falls c (Keys (Becomes input)) x is reads = absurd (cc)
   falls c (Keys (Refuses why)) x is reads = absurd (cc)
   falls c Begins x is reads = absurd (cc)
+  falls c (Meets cmd) x is reads = absurd (cc)
   falls c (Obeys cmd) x is reads = absurd (cc)
   falls c (Makes edit) x is reads = absurd (cc)
 
@@ -128,14 +130,14 @@ abbrev course_by : Given → SessionState → Played LineAsk LineState ReadlineE
 course_by g x p =
     let a = setting_in g x.history.kept.entries in
     record {
-      events = LineBegins g.screen ∷ (asks_events g.screen a g.config.indent_size (fresh g.screen.mode) (kept_first a g.config x.ring x.coming) p.asks ++ end_events p.answer);
-      answer = (p.answer, state_after g.config.auto_add_history p.answer p.rest.ring p.rest.coming x);
+      events = LineBegins g.screen ∷ (asks_events g.screen a g.config.indent_size (fresh g.screen.mode) (kept_first a g.config x.ring x.query x.coming) p.asks ++ end_events p.answer);
+      answer = (p.answer, state_after g.config.auto_add_history p.answer p.rest.ring p.rest.modal.query p.rest.coming x);
     }
 
 line_is : (n m : ℕ) (g : Given) (x : SessionState) → keys_and_pastes x.coming < n → keys_and_pastes x.coming < m → line_course n g x ≡ line_course m g x
 line_is n m g x low low' =
     let s = setting_in g x.history.kept.entries in
-    let c = kept_first s g.config x.ring x.coming in
+    let c = kept_first s g.config x.ring x.query x.coming in
     ap (course_by g x)
     (played_alike s g.config.indent_size (keys_and_pastes x.coming) (line_script n g.custom) (line_script m g.custom) (line_alike g.custom n m (keys_and_pastes x.coming) low low') c (omega arith))
 
@@ -154,7 +156,7 @@ session_is (suc n) (suc m) g at x low low' =
     let s = setting_in here x.history.kept.entries in
     let others = λ (line : ℕ). at (suc line) in
     ap (events_first line.events)
-    (going_same (session n g others) (session m g others) p.answer (state_after here.config.auto_add_history p.answer p.rest.ring p.rest.coming x)
-    (λ text ok. let less = line_falls s here.config.indent_size n here.custom (kept_first s here.config x.ring x.coming) text ok in
-    session_is n m g others (state_after here.config.auto_add_history p.answer p.rest.ring p.rest.coming x) (omega arith) (omega arith)))
+    (going_same (session n g others) (session m g others) p.answer (state_after here.config.auto_add_history p.answer p.rest.ring p.rest.modal.query p.rest.coming x)
+    (λ text ok. let less = line_falls s here.config.indent_size n here.custom (kept_first s here.config x.ring x.query x.coming) text ok in
+    session_is n m g others (state_after here.config.auto_add_history p.answer p.rest.ring p.rest.modal.query p.rest.coming x) (omega arith) (omega arith)))
     ∙ ap (λ (line : Course (Result (List ℕ) ReadlineError × SessionState)). events_first line.events (going_on (session m g others) line.answer)) (line_is (suc n) (suc m) here x low low')

@@ -54,11 +54,11 @@ setting_at g entries column = record (setting_in g entries) { column = column }
 -- a line on one screen and on another, by one setting
 abbrev course_on : ℕ → Given → SessionState → Screen → Setting → Course (Result (List ℕ) ReadlineError × SessionState)
 course_on n g x s a =
-    let k = kept_first a g.config x.ring x.coming in
-    let p = line_played n a g.custom g.config x.ring x.coming in
+    let k = kept_first a g.config x.ring x.query x.coming in
+    let p = line_played n a g.custom g.config x.ring x.query x.coming in
     record {
       events = Begins s ∷ (asks_events s a g.config.indent_size (fresh s.mode) k p.asks ++ end_events p.answer);
-      answer = (p.answer, state_after g.config.auto_add_history p.answer p.rest.ring p.rest.coming x);
+      answer = (p.answer, state_after g.config.auto_add_history p.answer p.rest.ring p.rest.modal.query p.rest.coming x);
     }
 
 record Alike {X : Type 0} (c d : Course X) : Type 0 where
@@ -72,8 +72,8 @@ lines_alike n g x columns e =
     let s = other.screen in
     let entries = x.history.kept.entries in
     let a = setting_in g entries in
-    let p = line_played n a g.custom g.config x.ring x.coming in
-    let k = kept_first a g.config x.ring x.coming in
+    let p = line_played n a g.custom g.config x.ring x.query x.coming in
+    let k = kept_first a g.config x.ring x.query x.coming in
     let asks = λ (s : Screen). asks_events s a g.config.indent_size (fresh s.mode) k p.asks in
     let same : line_course n other x ≡ course_on n g x s a = ap (λ column. course_on n g x s (setting_at g entries column)) e in
     let alike : Alike (course_on n g x s a) (line_course n g x) = record {
@@ -120,8 +120,8 @@ pub line_columns_are_free : LineColumnsAreFree
 unfolding setting_at
 line_columns_are_free n g x columns e =
     let at : ℕ → Setting = setting_at g x.history.kept.entries in
-    let first : Setting → LineState = λ a. kept_first a g.config x.ring x.coming in
-    let played = λ (a : Setting). line_played n a g.custom g.config x.ring x.coming in (
+    let first : Setting → LineState = λ a. kept_first a g.config x.ring x.query x.coming in
+    let played = λ (a : Setting). line_played n a g.custom g.config x.ring x.query x.coming in (
       ap (λ column. played (at column)) e,
       ap (λ column. steps_along (at column) g.config.indent_size (first (at column)) (played (at column)).asks) e,
     )

@@ -1,5 +1,5 @@
 -- The display over a session's events.
-use Rattle.std.proofs.Common.{◌≡◌, ℕ, zero, suc, ◌≤◌, Bool, true, false, List, [], ◌∷◌, ◌++◌, map, Some, Result, Ok, Err, refl, sym, ap, ◌∙◌, subst, append_assoc, append-nil, arith, if◌then◌else◌}
+use Rattle.std.proofs.Common.{◌≡◌, ℕ, zero, suc, ◌≤◌, Bool, true, false, List, [], ◌∷◌, ◌++◌, map, Option, None, Some, Result, Ok, Err, refl, sym, ap, ◌∙◌, subst, append_assoc, append-nil, arith, if◌then◌else◌}
 use Rattle.std.specs.List.{filter, flat_map}
 use Rattle.std.specs.Prelude.{⊤}
 use Rattle.line_buffer.specs.declared.layout.Layout.{Layout}
@@ -7,11 +7,15 @@ use Rattle.line_config.specs.declared.errors.ReadlineError.{ReadlineError}
 use Rattle.line_editor.specs.Courses.{breaks_after}
 use Rattle.line_editor.specs.Leads.{BeginShows, EndShows, LeadsAlong}
 use Rattle.line_editor.specs.LineScripts.{Begins as TurnBegins, Keys, LineAsk, LineState, effect_at, left_at}
+use Rattle.line_editor.specs.Meeting.{modal_seen, seen_by}
+use Rattle.line_editor.specs.Modal.{Modal}
 use Rattle.line_editor.specs.Redraws.{asked_by, fresh}
 use Rattle.line_editor.specs.Running.{kept_first}
-use Rattle.line_editor.specs.Sights.{Sight, no_sight, sight, sight_all, sight_drawn, sight_as, FitsAll}
+use Rattle.line_editor.specs.Sights.{Sight, no_sight, sight, sight_all, sight_drawn, sight_with, FitsAll}
 use Rattle.line_editor.specs.Steps.{one}
-use Rattle.line_editor.specs.Values.{EditStep, Setting}
+use Rattle.line_editor.specs.Values.{EditStep, Setting, Value}
+use Rattle.line_editor.specs.declared.modal_state.Standing.{Standing}
+use Rattle.line_editor.specs.declared.modal_state.Standing.TheVariants.{Searches}
 use Rattle.line_editor.specs.Values.EditStep.{Draws as DrawStep, Helped as HelpStep}
 use Rattle.line_editor.proofs.LineLeads.{lines_lead}
 use Rattle.line_keys.specs.InputStates.{new_input}
@@ -62,9 +66,9 @@ module _ (s : Screen) (low : 2 ≤ s.columns) (high : s.columns ≤ 1000) (own :
   meant bytes over top x g = let m = shown_is_meant s bytes over (view_in s top x) g in record { display = m.0; means = m.1; over_is = m.3 }
 
   -- the bytes up to a moment show its value at its top
-  moment : (bytes : List ℕ) (over : List Placed) (top : ℕ) (x : Sight) (prompt text : List ℕ) (place : ℕ) → Holds bytes over top x → x ≡ sight_as prompt text place x.info
+  moment : (bytes : List ℕ) (over : List Placed) (top : ℕ) (x : Sight) (given : Bool) (prompt text : List ℕ) (place : ℕ) → Holds bytes over top x → x ≡ sight_with given prompt text place x.info
       → MomentShown (face s bytes top over x) prompt text place
-  moment bytes over top x prompt text place g is =
+  moment bytes over top x given prompt text place g is =
       let m = shown_is_meant s bytes over (view_in s top x) g in
       let P : Sight → Type 0 = λ y. Shows s.columns (widths s) (picture y) top m.0 in
       record { display = m.0; means = m.1; shows = subst P is (m.4 (place_by x false (ap (λ (y : Sight). y.ended) is))); over_is = m.3 }
@@ -108,6 +112,11 @@ module _ (s : Screen) (low : 2 ≤ s.columns) (high : s.columns ≤ 1000) (own :
   steps_shown later (HelpStep v fails takes ∷ rs) bytes over top l x h fits next = steps_shown later rs bytes over top l x h fits.1 next
   steps_shown later (_ ∷ rs) bytes over top l x h fits next = steps_shown later rs bytes over top l x h fits.1 next
 
+-- with other information, the same is to be seen
+seen_with : (at : Standing) (m : Modal) (a : Setting) (v : Value) (info : Option (List ℕ)) → (let y = seen_by at m a v None in seen_by at m a v info ≡ sight_with y.given y.prompt y.line y.place info)
+seen_with Searches m a v info = refl
+seen_with _ m a v info = refl
+
 -- what a session goes on from
 abbrev After : Result (List ℕ) ReadlineError → Face → Type 0
 After (Ok text) f = IsAtRest f
@@ -116,7 +125,9 @@ After (Err e) f = ⊤
 module _ (s : Screen) (low : 2 ≤ s.columns) (high : s.columns ≤ 1000) (a : Setting) (indent : ℕ) where
   own_shown : (later : List Event) (ask : LineAsk) (k : LineState) (bytes : List ℕ) (over : List Placed) (top : ℕ) (x : Sight) → Good s.columns (widths s) bytes over (view_in s top x) → BeginShows a indent ask k x
       → EachShown (face s bytes top over x) later → EachShown (face s bytes top over x) (own_events a k ask ++ later)
-  own_shown later TurnBegins k bytes over top x g leads rest = (moment s low high a.prompt bytes over top x a.prompt k.value.line.text k.value.line.place g leads, rest)
+  own_shown later TurnBegins k bytes over top x g leads rest =
+      let y = modal_seen k.modal a k.value None in
+      (moment s low high a.prompt bytes over top x y.given y.prompt y.line y.place g (leads ∙ seen_with k.modal.standing k.modal a k.value x.info), rest)
   own_shown later (Keys (Reads item)) k bytes over top x g leads rest = rest
   own_shown later _ k bytes over top x g leads rest = rest
 
@@ -159,7 +170,7 @@ abbrev tail_of : ℕ → Given → SessionState → List Event
 tail_of n g x =
     let a = setting_in g x.history.kept.entries in
     let p = played_in n g x in
-    asks_events g.screen a g.config.indent_size (fresh g.screen.mode) (kept_first a g.config x.ring x.coming) p.asks ++ end_events p.answer
+    asks_events g.screen a g.config.indent_size (fresh g.screen.mode) (kept_first a g.config x.ring x.query x.coming) p.asks ++ end_events p.answer
 
 line_shown : (n : ℕ) (g : Given) (x : SessionState) (more : List Event)
     → ((f : Face) → After (played_in n g x).answer f → EachShown f more)
@@ -170,9 +181,9 @@ line_shown n g x more next f rest =
     let high = rest.screen.most in
     let a = setting_in g x.history.kept.entries in
     let indent = g.config.indent_size in
-    let k = kept_first a g.config x.ring x.coming in
+    let k = kept_first a g.config x.ring x.query x.coming in
     let p = played_in n g x in
-    let lead = lines_lead n a g.custom indent (new_input g.config.edit_mode) x.ring x.coming in
+    let lead = lines_lead n a g.custom indent (new_input g.config) x.ring g.config.modal_commands x.query x.coming in
     let asks = asks_events s a indent (fresh s.mode) k p.asks in
     let h : DisplayHolds s f.bytes f.over f.top (fresh s.mode) no_sight = fresh_holds s low high f.bytes f.over f.top (fresh s.mode) rest.good in
     subst (λ events. EachShown (record f { screen = s }) events) (sym (append_assoc asks (end_events p.answer) more))

@@ -1,6 +1,6 @@
 -- A session over memory that its keys ended is the definition's.
 use Rattle.std.proofs.Common.{◌≡◌, ℕ, ◌+◌, ◌<◌, Bool, true, false, IsTrue, List, [], ◌∷◌, ◌++◌, Option, length, refl, sym, ap, subst, ◌∙◌, arith}
-use Rattle.std.specs.Prelude.{flat_map}
+use Rattle.std.specs.Prelude.{flat_map, string_bytes}
 use Rattle.line_config.specs.Feed.{AlwaysTold, Feed, fresh_feed}
 use Rattle.line_config.specs.declared.config.Config.{Config}
 use Rattle.line_config.specs.declared.device.Last.TheVariants.{End}
@@ -87,8 +87,8 @@ was_saved false failed refused works = absurd (let broken : failed ≡ true = re
 no_byte_kept : (kept bound count : ℕ) → kept ≡ 0 → bound ≡ count + kept → bound ≡ count
 no_byte_kept kept bound count none is = omega arith
 
-abbrev state_by : Ring → Filed → Coming → SessionState
-state_by ring history coming = record { ring = ring; history = history; coming = coming }
+abbrev state_by : Ring → List ℕ → Filed → Coming → SessionState
+state_by ring query history coming = record { ring = ring; query = query; history = history; coming = coming }
 
 module _ {F S D L T : Type 0} (text_of : F → Feed) (k : Known S D L) (held : T → List ℕ) (failed : T → Bool) where
   pub transcribed : (config config' : Config) (words : Option (List (List ℕ))) (helper : Option EditHelper) (custom custom' : Custom) (prompt prompt' : List ℕ) (columns : ℕ) (old keys : List ℕ) (history : F) (source : S)
@@ -120,9 +120,10 @@ module _ {F S D L T : Type 0} (text_of : F → Feed) (k : Known S D L) (held : T
       opens.coming ∙ ap (λ (f : Feed). coming_from config.edit_mode f.coming f.last) source_is in
       let filed : desk.history ≡ loaded = opens.loaded.history_is always ∙ ap (λ (f : Feed). loaded_from config f) text_of_is in
       let state_is : session_state_of k desk ≡ start =
-      ap (λ (r : Ring). state_by r desk.history (desk_feed k desk).coming) opens.ring
-      ∙ (ap (λ (h : Filed). state_by (new_ring 60) h (desk_feed k desk).coming) filed
-      ∙ ap (λ (c : Coming). state_by (new_ring 60) loaded c) coming) in
+      ap (λ (r : Ring). state_by r (string_bytes desk.last_query) desk.history (desk_feed k desk).coming) opens.ring
+      ∙ (ap (λ query. state_by (new_ring 60) query desk.history (desk_feed k desk).coming) opens.query
+      ∙ (ap (λ (h : Filed). state_by (new_ring 60) [] h (desk_feed k desk).coming) filed
+      ∙ ap (λ (c : Coming). state_by (new_ring 60) [] loaded c) coming)) in
       let bound : (desk_feed k desk).bound ≡ length keys =
       no_byte_kept (kept_count (kept_of desk.reader)) (desk_feed k desk).bound (length keys) (ap kept_count opens.kept)
       (ap (λ (s : S). (k.feed s).bound + kept_count (kept_of desk.reader)) opens.source_is ∙ ap (λ (f : Feed). f.bound + kept_count (kept_of desk.reader)) source_is) in

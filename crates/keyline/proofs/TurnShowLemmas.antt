@@ -2,6 +2,7 @@
 use Rattle.std.proofs.Common.{ℕ, ◌≤◌, List, ◌++◌, Option, subst}
 use Rattle.line_editor.specs.Commands.{effect}
 use Rattle.line_editor.specs.Leads.{CommandLeads, TurnLeads}
+use Rattle.line_editor.specs.Meeting.{modal_seen}
 use Rattle.line_editor.specs.Sights.{Sight, Turns, sight_of, info_after}
 use Rattle.line_editor.specs.Values.{Value, Setting, Effect, EditStep}
 use Rattle.line_editor.proofs.CommandsLead.{commands_lead}
@@ -30,5 +31,6 @@ commands_show s low high m cmd a v info =
 
 pub turns_show : TurnsShow
 turns_show s low high n a custom indent k info status is =
-    let t : TurnLeads a k.value info _ _ = turn_leads n a custom indent k info in
-    shown_by s low high a.prompt (sight_of a k.value info) _ _ (t.leads status is)
+    let x = modal_seen k.modal a k.value info in
+    let t : TurnLeads a x info _ _ _ = turn_leads n a custom indent k info in
+    shown_by s low high a.prompt x _ _ (t.leads status is)

@@ -86,7 +86,7 @@ s_command_done new s k None = s_common s k
 
 s_command_table : (new : Option ℕ) (s : Situation) (k : KeyEvent) → Steady (command_table new s k)
 unfolding command_table
-s_command_table new s k = s_command_done new s k (action_of s.n k)
+s_command_table new s k = s_command_done new s k (action_of s.input.modal_commands s.n k)
 
 s_command_decided : (new : Option ℕ) (s : Situation) (k : KeyEvent) → Steady (vi_command_decided new s k)
 s_command_decided new s k =
@@ -114,7 +114,7 @@ s_insert_done custom input shown k None = s_common (situation custom input shown
 
 s_insert_table : (custom : Custom) (input : Input) (shown : Shown) (k : KeyEvent) → Steady (insert_table custom input shown k)
 unfolding insert_table
-s_insert_table custom input shown k = s_insert_done custom input shown k (insert_action shown k)
+s_insert_table custom input shown k = s_insert_done custom input shown k (insert_action input.modal_commands shown k)
 
 s_vi_insert : (custom : Custom) (k : KeyEvent) (input : Input) (shown : Shown) → Steady (vi_insert custom k input shown)
 unfolding vi_insert

@@ -1,15 +1,16 @@
 -- The defaults of a session.
 use Rattle.std.specs.Prelude.{◌≡◌, Bool, false, None, [], codes}
 use Rattle.line_config.specs.Feed.{Feed, fresh_feed}
+use Rattle.line_config.specs.declared.config.Config.{Config}
 use Rattle.line_config.specs.declared.device.Last.TheVariants.{End}
-use Rattle.keyline.specs.Program.{standard_config}
 use Rattle.keyline.specs.declared.builder.SessionBuilder.{SessionBuilder}
 
--- the program's settings with no bindings and no helper, a history that begins empty, and sinks
+-- these settings with no bindings and no helper, a history that begins empty, and sinks
 -- that haven't failed for lines and history. Each builder sets the columns itself
 pub record HasDefaults {F S H D L T B : Type 0} (feed : F → Feed) (lines_failed : L → Bool)
-    (text_failed : T → Bool) (b : SessionBuilder F S H D L T B) : Type 0 where
-  pub config_is : b.config ≡ standard_config
+    (text_failed : T → Bool) (config : Config) (b : SessionBuilder F S H D L T B)
+    : Type 0 where
+  pub config_is : b.config ≡ config
   pub bindings_are : b.bindings ≡ []
   pub helper_is : b.helper ≡ None
   pub prompt_is : b.prompt.now ≡ codes "> "

@@ -1,9 +1,10 @@
 -- The state that is passed from line to line, with its devices, and the effect of a line on it.
-use Rattle.std.specs.Prelude.{◌≡◌, ℕ, ◌<◌, Bool, List, Result, Err, IsTrue, IfErr, OnOk}
+use Rattle.std.specs.Prelude.{◌≡◌, ℕ, ◌<◌, Bool, List, Result, Err, IsTrue, IfErr, OnOk, string_bytes}
 use Rattle.line_buffer.specs.declared.layout.Layout.{Layout}
 use Rattle.line_config.specs.Scripts.{Goes}
 use Rattle.line_config.specs.declared.errors.ReadlineError.{ReadlineError}
 use Rattle.line_editor.specs.LineScripts.{kept, line_script, line_stage, line_world}
+use Rattle.line_editor.specs.Modal.{Modal}
 use Rattle.line_editor.specs.Running.{stage_first}
 use Rattle.line_editor.specs.Steps.{surface}
 use Rattle.line_editor.specs.Values.{Value}
@@ -32,7 +33,12 @@ module _ {S H D L : Type 0} (k : Known S D L) where
   desk_feed d = items_of k.feed d.reader
 
   abbrev pub session_state_of : Desk S H D L → SessionState
-  session_state_of d = record { ring = d.ring; history = d.history; coming = (desk_feed d).coming }
+  session_state_of d = record {
+    ring = d.ring;
+    query = string_bytes d.last_query;
+    history = d.history;
+    coming = (desk_feed d).coming;
+  }
 
   abbrev pub work_of : Desk S H D L → Work D L
   work_of d = work (sink_of d.out) d.lines d.history (desk_feed d).coming
@@ -43,7 +49,7 @@ module _ {S H D L : Type 0} (k : Known S D L) where
       (k.show_failed (sink_of d.out)) (k.write_failed d.lines) e
 
   -- the result of a line before its end was drawn, added and written, and the effect of its end.
-  -- The ring is the one that the line left, even if its end failed
+  -- The ring and the last query are those that the line left, even if its end failed
   pub record EndsLine (g : Given) (old new : Desk S H D L) (result : Result (List ℕ) ReadlineError)
       : Type 0 where
     pub drawn : ScreenRenderer D
@@ -51,12 +57,15 @@ module _ {S H D L : Type 0} (k : Known S D L) where
     pub outcome : Result (List ℕ) ReadlineError
     pub value : Value
     pub input : Input
+    pub modal : Modal
     pub goes : IsTrue (desk_feed new).told → (n : ℕ) → (desk_feed old).bound < n →
         let ruler = ruler_of g.screen in let setting = setting_in g old.history.kept.entries in
         Goes (line_world (canvas_of k.shown k.waits k.show_failed) ruler setting
         g.config.indent_size) (line_script n g.custom)
-        (stage_first old.out ruler setting g.config old.ring (desk_feed old).coming) outcome
-        (line_stage (surface drawn layout) (kept value input new.ring (desk_feed new).coming))
+        (stage_first old.out ruler setting g.config old.ring (string_bytes old.last_query)
+        (desk_feed old).coming) outcome (line_stage (surface drawn layout)
+        (kept value input new.ring modal (desk_feed new).coming))
+    pub last : string_bytes new.last_query ≡ modal.query
     pub closes : Closes k.shown k.show_failed k.written_in k.write_failed
         g.config.auto_add_history outcome (work (sink_of drawn) old.lines old.history)
         (work (sink_of new.out) new.lines new.history) result

@@ -1,6 +1,6 @@
 -- A session as its events in order, depending on the input, and its result. Lines, history, bytes,
 -- moments, ending and remaining input are computed from it.
-use Rattle.std.specs.Prelude.{◌≡◌, ⊤, ℕ, zero, suc, ◌≤◌, Bool, if◌then◌else◌, IsFalse, List, [], ◌∷◌, ◌++◌, length, map, Result, Ok, Err}
+use Rattle.std.specs.Prelude.{◌≡◌, ⊤, ℕ, zero, suc, ◌≤◌, Bool, if◌then◌else◌, IsFalse, List, [], ◌∷◌, ◌++◌, length, map, None, Result, Ok, Err}
 use Rattle.std.specs.List.{flat_map}
 use Rattle.line_buffer.specs.declared.layout.Layout.{Layout}
 use Rattle.line_config.specs.Played.{Played}
@@ -8,8 +8,10 @@ use Rattle.line_config.specs.declared.errors.ReadlineError.{ReadlineError}
 use Rattle.line_config.specs.declared.errors.ReadlineError.TheVariants.{Memory}
 use Rattle.line_editor.specs.Courses.{breaks_after}
 use Rattle.line_editor.specs.LineScripts.{LineState, LineAsk, Begins as TurnBegins, Keys, effect_at, left_at}
+use Rattle.line_editor.specs.Meeting.{modal_seen}
 use Rattle.line_editor.specs.Redraws.{Redraw, asked_by, fresh}
 use Rattle.line_editor.specs.Running.{kept_first, line_played}
+use Rattle.line_editor.specs.Sights.{Sight}
 use Rattle.line_editor.specs.Steps.{asked, one}
 use Rattle.line_editor.specs.Values.{EditStep, Setting}
 use Rattle.line_editor.specs.Values.EditStep.{Draws as DrawStep, Helped as HelpStep}
@@ -32,7 +34,8 @@ pub data Event : Type 0 where
   Draws : (redraw : Redraw) (sent : List (List ℕ)) → Event
   -- a key or a paste is read
   Hears : (item : InputItem) → Event
-  -- a moment: the line is open, with this text and this place after this prompt; nothing is made
+  -- a moment: the line is open, with this text and this place after this prompt, a search's own
+  -- while one stands; nothing is made
   Rests : (prompt text : List ℕ) (place : ℕ) → Event
   -- the display gets a new row, as a line ends
   Breaks : Event
@@ -60,9 +63,12 @@ step_events s l [] = []
 step_events s l (step ∷ steps) =
     step_event s l step ∷ step_events s (one (ruler_of s) l step).layout steps
 
+abbrev pub moment_of : Sight → Event
+moment_of x = Rests x.prompt x.line x.place
+
 -- a read, and the moment at which a turn begins, are events of their own
 abbrev pub own_events : Setting → LineState → LineAsk → List Event
-own_events a k TurnBegins = Rests a.prompt k.value.line.text k.value.line.place ∷ []
+own_events a k TurnBegins = moment_of (modal_seen k.modal a k.value None) ∷ []
 own_events a k (Keys (Reads item)) = Hears item ∷ []
 own_events a k ask = []
 
@@ -82,7 +88,8 @@ end_events (Err e) = if breaks_after e then Breaks ∷ [] else []
 -- a line's script, without faults. More fuel than the source has keys and pastes is enough
 abbrev pub played_in : ℕ → Given → SessionState
     → Played LineAsk LineState ReadlineError (List ℕ)
-played_in n g x = line_played n (setting_in g x.history.kept.entries) g.custom g.config x.ring x.coming
+played_in n g x =
+    line_played n (setting_in g x.history.kept.entries) g.custom g.config x.ring x.query x.coming
 
 -- up to its outcome and the state after it
 abbrev pub line_course : ℕ → Given → SessionState
@@ -92,8 +99,12 @@ line_course n g x =
     let p = played_in n g x in
     record {
       events = Begins g.screen ∷ (asks_events g.screen a g.config.indent_size (fresh g.screen.mode)
-          (kept_first a g.config x.ring x.coming) p.asks ++ end_events p.answer);
-      answer = (p.answer, state_after g.config.auto_add_history p.answer p.rest.ring p.rest.coming x);
+          (kept_first a g.config x.ring x.query x.coming) p.asks ++ end_events p.answer);
+      answer = (
+        p.answer,
+        state_after g.config.auto_add_history p.answer p.rest.ring
+            p.rest.modal.query p.rest.coming x,
+      );
     }
 
 -- ---- a session: line after line, up to what ends it, with what is passed in for each line by its

@@ -5,6 +5,7 @@ pub mod Editors
 pub mod Endings
 pub mod Events
 pub mod Fuel
+pub mod Invocations
 pub mod Known
 pub mod OneByte
 pub mod Opened
@@ -17,3 +18,4 @@ pub mod SessionLaws
 pub mod Sessions
 pub mod Shows
 pub mod Transcripts
+pub mod Unmet

@@ -8,6 +8,7 @@ use Rattle.line_keys.specs.declared.command.Cmd.TheVariants.{SelfInsert}
 use Rattle.line_editor.specs.Inserting.{is_bare, may_be_typed, insert_char}
 use Rattle.line_editor.specs.Redraws.{nothing_asked, may_type}
 use Rattle.line_editor.specs.LineScripts.{LineState, LineScript, beginning, made_from, phrase_script, played_from, turn_script}
+use Rattle.line_editor.specs.Modal.{is_at_rest}
 use Rattle.line_editor.specs.Sights.{Sight, sight_all, FitsAll}
 use Rattle.line_editor.specs.Values.{Value, Setting, EditStep}
 use Rattle.line_screen.specs.Calls.{Screen, ruler_of}
@@ -40,11 +41,12 @@ pub record ReadAlone (a : Setting) (indent : ℕ) (k : LineState) (phrase : Line
   pub unasked : (s : Screen) (l : Layout)
       → drawn_by s l (made_from a indent phrase k).steps ≡ nothing_asked l
 
--- if the layout allows its byte to be written alone, its turn sends that byte
+-- if no search stands, and the layout allows its byte to be written alone, its turn sends that byte
 abbrev pub OneByte : Type 0
 OneByte =
     (n : ℕ) (s : Screen) (l : Layout) (a : Setting) (custom : Custom) (indent : ℕ) (k : LineState)
     (c : ℕ)
+    → is_at_rest k.modal.standing ≡ true
     → ReadAlone a indent k (phrase_script n custom (beginning k)) c → TypedAtEnd a k.value c
     → may_type (ruler_of s) l ≡ true
     → bytes_for s l (made_from a indent (turn_script n custom) k).steps ≡ c ∷ []

@@ -8,6 +8,7 @@ use Rattle.line_keys.specs.declared.events.Event.{Event}
 use Rattle.line_keys.specs.Answers.{Custom}
 use Rattle.line_keys.specs.Coming.{Coming}
 use Rattle.line_editor.specs.LineScripts.{LineAsk, LineState, played_from, turns_script}
+use Rattle.line_editor.specs.Modal.{is_at_rest}
 use Rattle.line_editor.specs.Values.{Setting, Value}
 use Rattle.line_screen.specs.KeyGrammar.{marker, start_marker, HaveNoMarker}
 use Rattle.keyline.specs.Events.{played_in}
@@ -38,13 +39,14 @@ pub record Accepts (p : Played LineAsk LineState ReadlineError (List ℕ)) (text
   pub rest_is : p.rest.coming ≡ rest
 
 -- If nothing is bound and there is no helper, a text pasted at an empty line between two phrases
--- and then entered is accepted. This holds whatever the state is: the last change and search, any
--- input mode, the ring, the record and the history.
+-- and then entered is accepted, if no search stands. This holds whatever else the state is: the
+-- last change and search, any input mode, the ring, the record and the history.
 abbrev pub PastesAreAccepted : Type 0
 PastesAreAccepted =
     (n : ℕ) (s : Setting) (custom : Custom) (indent : ℕ) (k : LineState) (text more : List ℕ)
     (last : Last)
-    → s.hooks ≡ None → IsUnbound custom → IsEmptyLine k.value → IsPasteable text
+    → s.hooks ≡ None → IsUnbound custom → IsEmptyLine k.value
+    → is_at_rest k.modal.standing ≡ true → IsPasteable text
     → k.coming ≡ coming_from k.input.mode (sent_as_paste text ++ 0x0D ∷ more) last
     → Accepts (played_from s indent (turns_script (suc (suc n)) custom) k) text
     (coming_from k.input.mode more last)

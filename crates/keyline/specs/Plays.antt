@@ -84,6 +84,7 @@ pub record Opens {F S H D L : Type 0} (text : F → Feed) (feed : S → Feed) (c
     (desk : Desk S H D L) : Type 0 where
   pub loaded : Loaded (AlwaysTold text) config (text history) desk.history
   pub ring : desk.ring ≡ new_ring 60
+  pub query : string_bytes desk.last_query ≡ []
   pub coming : coming_in feed desk.reader
       ≡ coming_from config.edit_mode (feed source).coming (feed source).last
   pub source_is : source_of desk.reader ≡ source

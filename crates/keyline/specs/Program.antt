@@ -5,6 +5,8 @@ use Rattle.std.specs.Option.{option_map_or}
 use Rattle.line_config.specs.Config.{default_config, timeout_of}
 use Rattle.line_config.specs.Feed.{Feed, fresh_feed}
 use Rattle.line_config.specs.declared.config.Config.{Config}
+use Rattle.line_config.specs.declared.settings.CompletionType.{CompletionType}
+use Rattle.line_config.specs.declared.settings.CompletionType.TheVariants.{Circular, List as AsList}
 use Rattle.line_keys.specs.Replies.{gives, gives_at_once}
 use Rattle.line_help.specs.Completion.{nothing_offered, word_reply}
 use Rattle.line_help.specs.Validation.{bracket_reply}
@@ -24,6 +26,7 @@ use Rattle.keyline.specs.Known.{Known}
 use Rattle.keyline.specs.Plays.{LoadRefused, Opens, RunsSession, loaded_from, loads}
 use Rattle.keyline.specs.Sessions.{Given, SessionState, each, given_of, screen_by, state_over}
 use Rattle.keyline.specs.declared.desk.Desk.{Desk}
+use Rattle.keyline.specs.declared.invocation.Invocation.{Invocation}
 use Rattle.keyline.specs.declared.options.Options.{Options}
 use Rattle.keyline.specs.declared.session.Ended.{Ended}
 use Rattle.keyline.specs.declared.session.Unopened.{Unopened}
@@ -50,6 +53,16 @@ config_of options = record standard_config {
   edit_mode = options.mode;
   keyseq_timeout = timeout_of options.mode;
 }
+
+-- the same, and what the default profile leaves out if it is on
+abbrev pub profile_of : Bool → Config → Config
+profile_of extended config = record config {
+  modal_commands = extended;
+  completion_type = if extended then AsList else Circular;
+}
+
+abbrev pub invoked_config : Invocation → Config
+invoked_config invocation = profile_of invocation.extended (config_of invocation.options)
 
 -- completes words and validates brackets, if requested
 abbrev pub EditHelper : Type 0
@@ -85,44 +98,47 @@ edit_helping = helping_by (λ helper line pos entries place. gives_at_once None)
 abbrev pub nothing_bound : Custom
 nothing_bound = record { answers = λ event. None; begins = λ keys. false }
 
-abbrev pub given_to : {S D L : Type 0} → Options → Desk S EditHelper D L → Given
-given_to options desk = given_of (config_of options) nothing_bound (string_bytes options.prompt)
+abbrev pub given_to : {S D L : Type 0} → Config → Options → Desk S EditHelper D L → Given
+given_to config options desk = given_of config nothing_bound (string_bytes options.prompt)
     (screen_of desk.out) (edit_helping desk.helper)
 
--- a session was opened by these options and words, and run
-pub record EditsByOptions {F S D L T : Type 0} (loads : F → Feed) (k : Known S D L)
-    (held : T → List ℕ) (failed : T → Bool) (options : Options) (words : Option (List (List ℕ)))
-    (history : F) (source : S) (display : D) (lines : L) (text : T) (ended : Ended S D L T)
+-- a session was opened by these settings, options and words, and run
+pub record EditsBy {F S D L T : Type 0} (loads : F → Feed) (k : Known S D L)
+    (held : T → List ℕ) (failed : T → Bool) (config : Config) (options : Options)
+    (words : Option (List (List ℕ))) (history : F) (source : S) (display : D) (lines : L) (text : T) (ended : Ended S D L T)
     : Type 0 where
   pub desk : Desk S EditHelper D L
-  pub opens : Opens loads k.feed (config_of options) history (helper_of options words) source
+  pub opens : Opens loads k.feed config history (helper_of options words) source
       options.columns display lines desk
-  pub runs : RunsSession k held failed (given_to options desk) desk text ended
+  pub runs : RunsSession k held failed (given_to config options desk) desk text ended
 
 -- ---- by bytes alone: those of its keys, those that its devices took, and its ending
 
--- what these options and words pass in for a session
-abbrev pub program_given : Options → Option (List (List ℕ)) → Given
-program_given options words =
-    let config = config_of options in
-    given_of config nothing_bound (string_bytes options.prompt)
+-- what these settings, options and words pass in for a session
+abbrev pub given_by : Config → Options → Option (List (List ℕ)) → Given
+given_by config options words = given_of config nothing_bound (string_bytes options.prompt)
     (screen_by config options.columns) (edit_helping (helper_of options words))
 
+abbrev pub program_given : Options → Option (List (List ℕ)) → Given
+program_given options words = given_by (config_of options) options words
+
 -- the state before its first line, over this history's text and these keys
+abbrev pub start_by : Config → List ℕ → List ℕ → Last → SessionState
+start_by config old bytes last = state_over (new_ring 60) []
+    (loaded_from config (fresh_feed old End)) config.edit_mode bytes last
+
 abbrev pub program_start : Options → List ℕ → List ℕ → Last → SessionState
-program_start options old bytes last =
-    state_over (new_ring 60) (loaded_from (config_of options) (fresh_feed old End)) options.mode
-    bytes last
+program_start options old bytes last = start_by (config_of options) old bytes last
 
 -- what a writer has, if it reports its bytes
 abbrev pub had_by : {W : Type 0} → (W → Option (List ℕ)) → W → List ℕ
 had_by contents writer = unwrap_or (contents writer) []
 
--- the session of these options and words, of a history's text, and of all these bytes followed by
+-- the session of these settings, options and words, of a history's text, and of all these bytes followed by
 -- this, on a display and a sink of lines that had these bytes. What is drawn, written and saved are
 -- its bytes, its lines and its history, or a prefix of them if a fault cut it
 pub record PlaysBytes {S D L T : Type 0} (known : Known S D L) (held : T → List ℕ)
-    (failed : T → Bool) (options : Options) (words : Option (List (List ℕ)))
+    (failed : T → Bool) (config : Config) (options : Options) (words : Option (List (List ℕ)))
     (shown wrote old bytes : List ℕ) (last : Last) (ended : Ended S D L T) : Type 0 where
   -- the history and the reader of keys as the lines left them, why there was no further line, and
   -- whether the history was saved
@@ -130,9 +146,9 @@ pub record PlaysBytes {S D L T : Type 0} (known : Known S D L) (held : T → Lis
   pub reader : KeyReader S
   pub why : ReadlineError
   pub saved : Bool
-  pub loaded : IsOk (loads (config_of options) (fresh_feed old End))
-  pub goes : (n : ℕ) → 2 ^ 63 < n → let g = program_given options words in
-      let start = program_start options old bytes last in
+  pub loaded : IsOk (loads config (fresh_feed old End))
+  pub goes : (n : ℕ) → 2 ^ 63 < n → let g = given_by config options words in
+      let start = start_by config old bytes last in
       let lines = session n g (each g) start in
       GoesShown (λ drawn. drawn) (λ wrote. wrote) g.config.auto_add_history lines.events
       (work shown wrote start.history start.coming)
@@ -147,7 +163,7 @@ pub record PlaysBytes {S D L T : Type 0} (known : Known S D L) (held : T → Lis
   pub unread_is : unread (coming_in known.feed reader)
       ≡ (with_kept ended.ahead (known.feed ended.source)).coming
   pub ending_is : ended.ending ≡ ending_of (ending_after why saved)
-  pub reason : SessionReason (program_given options words) (known.feed ended.source).failed
+  pub reason : SessionReason (given_by config options words) (known.feed ended.source).failed
       (known.show_failed ended.display) (known.write_failed ended.lines) why
 
 -- the relation of the program's session, over a reader and two writers that had these bytes. If what the reads gave
@@ -155,11 +171,11 @@ pub record PlaysBytes {S D L T : Type 0} (known : Known S D L) (held : T → Lis
 -- these bytes. A writer that hasn't failed got everything that its sink took
 pub record PlaysOver {R K E W T : Type 0}
     (known : Known (ReadSource R K) (WriteSink E) (WriteSink W)) (held : T → List ℕ)
-    (failed : T → Bool) (options : Options) (words : Option (List (List ℕ)))
+    (failed : T → Bool) (config : Config) (options : Options) (words : Option (List (List ℕ)))
     (shown wrote old bytes : List ℕ) (last : Last)
     (ended : Ended (ReadSource R K) (WriteSink E) (WriteSink W) T) : Type 0 where
   pub plays : IsTrue (known.feed ended.source).told
-      → PlaysBytes known held failed options words shown wrote old bytes last ended
+      → PlaysBytes known held failed config options words shown wrote old bytes last ended
   pub drawn : known.show_failed ended.display ≡ false
       → sent_of ended.display ≡ taken ended.display
   pub written : known.write_failed ended.lines ≡ false → sent_of ended.lines ≡ taken ended.lines

@@ -44,7 +44,7 @@ ColumnsAreFree =
 -- the steps of a line without faults, each with the value that is current until then
 abbrev pub steps_in : ℕ → Given → SessionState → List EditStep
 steps_in n g x = let a = setting_in g x.history.kept.entries in
-    steps_along a g.config.indent_size (kept_first a g.config x.ring x.coming)
+    steps_along a g.config.indent_size (kept_first a g.config x.ring x.query x.coming)
     (played_in n g x).asks
 
 -- and so is each line, request for request and step for step
@@ -77,18 +77,18 @@ IsBeginning {A} xs ys = (later : List A) × (ys ≡ xs ++ later)
 -- drawn, added to the history and written
 abbrev pub LinesBegin : Type 0
 LinesBegin =
-    (n : ℕ) (g : Given) (ring : Ring) (history : Filed) (mode : EditMode) (bytes more : List ℕ)
-    (last : Last)
-    → IsBeginning (line_course n g (state_over ring history mode bytes Failed)).events
-    (line_course n g (state_over ring history mode (bytes ++ more) last)).events
+    (n : ℕ) (g : Given) (ring : Ring) (query : List ℕ) (history : Filed) (mode : EditMode)
+    (bytes more : List ℕ) (last : Last)
+    → IsBeginning (line_course n g (state_over ring query history mode bytes Failed)).events
+    (line_course n g (state_over ring query history mode (bytes ++ more) last)).events
 
 -- and so are a session's, whatever prompt and columns each line has
 abbrev pub SessionsBegin : Type 0
 SessionsBegin =
-    (n : ℕ) (g : Given) (at : ℕ → LineGiven) (ring : Ring) (history : Filed) (mode : EditMode)
-    (bytes more : List ℕ) (last : Last)
-    → IsBeginning (session n g at (state_over ring history mode bytes Failed)).events
-    (session n g at (state_over ring history mode (bytes ++ more) last)).events
+    (n : ℕ) (g : Given) (at : ℕ → LineGiven) (ring : Ring) (query : List ℕ) (history : Filed)
+    (mode : EditMode) (bytes more : List ℕ) (last : Last)
+    → IsBeginning (session n g at (state_over ring query history mode bytes Failed)).events
+    (session n g at (state_over ring query history mode (bytes ++ more) last)).events
 
 -- the keys and pastes of the one, then what the other has
 abbrev pub coming_then : Coming → Coming → Coming

@@ -48,6 +48,8 @@ each g line = record { prompt = g.prompt; columns = g.screen.columns }
 -- the state that is passed from line to line
 pub record SessionState : Type 0 where
   pub ring : Ring
+  -- that of the last search
+  pub query : List ℕ
   pub history : Filed
   pub coming : Coming
 
@@ -56,9 +58,13 @@ abbrev pub coming_from : EditMode → List ℕ → Last → Coming
 coming_from mode bytes last = coming_of bytes (readings mode (chars_of bytes last))
 
 -- the state before a line: the remaining input is that of these bytes, followed by this
-abbrev pub state_over : Ring → Filed → EditMode → List ℕ → Last → SessionState
-state_over ring history mode bytes last =
-    record { ring = ring; history = history; coming = coming_from mode bytes last }
+abbrev pub state_over : Ring → List ℕ → Filed → EditMode → List ℕ → Last → SessionState
+state_over ring query history mode bytes last = record {
+  ring = ring;
+  query = query;
+  history = history;
+  coming = coming_from mode bytes last;
+}
 
 -- what is passed in for the next line
 abbrev pub setting_in : Given → List (List ℕ) → Setting
@@ -72,10 +78,14 @@ abbrev pub history_after : Bool → Result (List ℕ) ReadlineError → Filed �
 history_after adds (Ok text) history = remembered adds (text ∷ []) history
 history_after adds (Err e) history = history
 
-abbrev pub state_after : Bool → Result (List ℕ) ReadlineError → Ring → Coming → SessionState
-    → SessionState
-state_after adds outcome ring rest x =
-    record { ring = ring; history = history_after adds outcome x.history; coming = rest }
+abbrev pub state_after : Bool → Result (List ℕ) ReadlineError → Ring → List ℕ → Coming
+    → SessionState → SessionState
+state_after adds outcome ring query rest x = record {
+  ring = ring;
+  query = query;
+  history = history_after adds outcome x.history;
+  coming = rest;
+}
 
 -- ---- what is written
 

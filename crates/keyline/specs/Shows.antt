@@ -4,6 +4,7 @@ use Rattle.std.specs.List.{filter, flat_map}
 use Rattle.line_buffer.specs.Cells.{origin}
 use Rattle.line_buffer.specs.declared.layout.Layout.{Layout}
 use Rattle.line_buffer.specs.declared.layout.Position.{Position}
+use Rattle.line_editor.specs.Meeting.{modal_seen}
 use Rattle.line_editor.specs.Redraws.{Asked, Redraw, info_text}
 use Rattle.line_editor.specs.Redraws.Redraw.{Cleared}
 use Rattle.line_editor.specs.Sights.{Sight, sight, sight_as, sight_drawn, no_sight, sight_of, ended_sight, info_after}
@@ -208,13 +209,14 @@ CommandsShow =
     Lead s (sight_of a v info) e.steps
     (sight_behind cmd (sight_of a e.value (info_after e.steps info)))
 
--- a phrase and its command, whatever the input is
+-- a phrase and its command, whatever the input is; while a search stands, its prompt is shown
 abbrev pub TurnsShow : Type 0
 TurnsShow =
     (s : Screen) → 2 ≤ s.columns → s.columns ≤ 1000
     → (n : ℕ) (a : Setting) (custom : Custom) (indent : ℕ) (k : LineState) (info : Option (List ℕ))
     (status : Status)
     → let turn = turn_script n custom in let made = made_from a indent turn k in
-    (played_from a indent turn k).answer ≡ Ok status
-    → Lead s (sight_of a k.value info) made.steps
-    (sight_of a made.value (info_after made.steps info))
+    let p = played_from a indent turn k in
+    p.answer ≡ Ok status
+    → Lead s (modal_seen k.modal a k.value info) made.steps
+    (modal_seen p.rest.modal a made.value (info_after made.steps info))

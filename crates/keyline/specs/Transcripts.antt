@@ -1,5 +1,5 @@
 -- The result of a session over memory, as equations with the definition of a session.
-use Rattle.std.specs.Prelude.{◌≡◌, ℕ, ◌<◌, Bool, true, false, List, Option, Some, None, length}
+use Rattle.std.specs.Prelude.{◌≡◌, ℕ, ◌<◌, Bool, true, false, List, [], Option, Some, None, length}
 use Rattle.std.specs.List.{flat_map}
 use Rattle.line_config.specs.Feed.{fresh_feed}
 use Rattle.line_config.specs.declared.config.Config.{Config}
@@ -37,7 +37,7 @@ given_by config words custom prompt columns =
 -- before the first line: the history's text is loaded, and no key is read
 abbrev pub start_by : Config → List ℕ → List ℕ → SessionState
 start_by config history keys =
-    state_over (new_ring 60) (loaded_from config (fresh_feed history End)) config.edit_mode keys End
+    state_over (new_ring 60) [] (loaded_from config (fresh_feed history End)) config.edit_mode keys End
 
 -- ---- result
 

@@ -1,14 +1,15 @@
 //! Builds a session from its requested parts, with the program's defaults for the rest.
 
-ghost use Rattle.std.specs.Prelude.{◌≡◌, ◌≤◌, IfErr, IfOk, Some, [], false};
+ghost use Rattle.std.specs.Prelude.{◌≡◌, ◌≤◌, IfErr, IfOk, Some, [], false, true};
 ghost use Rattle.line_config.specs.Adapters.{IsUnread, IsUnused, gave, taken};
 ghost use Rattle.keyline.specs.Builders.{HasDefaults};
 ghost use Rattle.keyline.specs.Columns.{ColumnsBy};
-ghost use Rattle.keyline.specs.Program.{standard_config};
+ghost use Rattle.keyline.specs.Program.{profile_of, standard_config};
 ghost use Rattle.keyline.specs.Opened.{HasGiven, desk_of};
 ghost use Rattle.keyline.specs.Plays.{Opens, Unopens};
 
 use crate::editor::LineEditor;
+use crate::program::with_profile;
 use crate::session::{Session, Unopened};
 use line_config::{Config, Foretold, ReadSource, Sink, SliceSource, Source, WriteSink};
 use line_help::Helper;
@@ -102,7 +103,7 @@ pub fn session_builder<'p, S: Source + Drop, D: Sink + Drop>(
     display: D,
 ) -> DefaultBuilder<'p, S, D>
     ensures defaults { HasDefaults ⟦<SliceSource<'static> as Source>⟧.feed
-        ⟦<Nowhere as Sink>⟧.has_failed ⟦<Nowhere as Sink>⟧.has_failed result }
+        ⟦<Nowhere as Sink>⟧.has_failed ⟦<Nowhere as Sink>⟧.has_failed standard_config result }
     ensures columns { result.columns ≡ 80 }
     ensures devices { (result.source ≡ source) × (result.display ≡ display) }
 {
@@ -129,7 +130,7 @@ pub fn builder_over<'p, K: Foretold<R>, R: Read + Drop, E: Write + Drop>(
     display: E,
 ) -> DefaultBuilder<'p, ReadSource<R, K>, WriteSink<E>>
     ensures defaults { HasDefaults ⟦<SliceSource<'static> as Source>⟧.feed
-        ⟦<Nowhere as Sink>⟧.has_failed ⟦<Nowhere as Sink>⟧.has_failed result }
+        ⟦<Nowhere as Sink>⟧.has_failed ⟦<Nowhere as Sink>⟧.has_failed standard_config result }
     ensures columns { result.columns ≡ 80 }
     ensures keys { IsUnread keys result.source }
     ensures display { IsUnused E.contents display result.display }
@@ -143,20 +144,26 @@ pub fn builder_over<'p, K: Foretold<R>, R: Read + Drop, E: Write + Drop>(
 /// These are the number in the environment variable `COLUMNS`, in decimal digits, 2 to 1,000; 80 if
 /// it is not set or is anything else.
 ///
+/// Its settings turn on what the default profile leaves out: the commands that go on over several
+/// keys, such as the search through the history.
+///
 /// `K` says what is assumed of standard input. A program that does without a proof of its own takes
 /// the default of `StandardEditor`.
 pub fn standard_builder<'p, K: Foretold<StdinLock<'static>>>(
     rt: &HostRuntime,
 ) -> StandardBuilder<'p, K>
     ensures defaults { HasDefaults ⟦<SliceSource<'static> as Source>⟧.feed
-        ⟦<Nowhere as Sink>⟧.has_failed ⟦<Nowhere as Sink>⟧.has_failed result }
+        ⟦<Nowhere as Sink>⟧.has_failed ⟦<Nowhere as Sink>⟧.has_failed (profile_of true standard_config)
+        result }
     ensures columns { (2 ≤ result.columns) × (result.columns ≤ 1000) }
     ensures nothing_read { gave result.source ≡ [] }
     ensures nothing_written { taken result.display ≡ [] }
     ensures keys { (⟦<StandardKeys<K> as Source>⟧.feed result.source).failed ≡ false }
     ensures display { ⟦<WriteSink<Stderr> as Sink>⟧.has_failed result.display ≡ false }
 {
-    builder_over(rt.alloc(), rt.stdin().reader(), rt.stderr()).columns(environment_columns(rt))
+    builder_over(rt.alloc(), rt.stdin().reader(), rt.stderr())
+        .columns(environment_columns(rt))
+        .config(with_profile(standard_config(), true))
 }
 
 impl<'p, F, S, H, D, L, T, B: Decides> SessionBuilder<'p, F, S, H, D, L, T, B>

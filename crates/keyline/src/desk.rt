@@ -135,6 +135,8 @@ pub struct Desk<S: Source, H, D: Sink, L: Sink> {
     pub(crate) helper: Option<H>,
     pub(crate) history: FileHistory,
     pub(crate) ring: KillRing,
+    /// The text of the last search.
+    pub(crate) last_query: String,
     /// The sink of accepted lines.
     pub(crate) lines: Boxed<L>,
 }
@@ -173,6 +175,7 @@ impl<S: Source + Drop, H: Helper + Drop, D: Sink + Drop, L: Sink + Drop> Desk<S,
             helper,
             mut history,
             mut ring,
+            mut last_query,
             mut lines,
         } = self;
         let Ran {
@@ -189,6 +192,7 @@ impl<S: Source + Drop, H: Helper + Drop, D: Sink + Drop, L: Sink + Drop> Desk<S,
             config,
             bindings,
             &mut ring,
+            &mut last_query,
         );
         let adds = config.auto_add_history();
         let outcome = close(alloc, outcome, adds, &mut out, &mut history, &mut lines);
@@ -198,6 +202,7 @@ impl<S: Source + Drop, H: Helper + Drop, D: Sink + Drop, L: Sink + Drop> Desk<S,
             helper,
             history,
             ring,
+            last_query,
             lines,
         };
         DeskAfter { desk, outcome }

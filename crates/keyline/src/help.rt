@@ -19,6 +19,13 @@ Keys in both modes:
   Ctrl-T                  swaps two characters
   Ctrl-_                  undoes
 
+With --extended, which ./keyline gives on a terminal unless --plain is given:
+  Ctrl-R, Ctrl-S          search the history back, forward, for what is typed then
+  Ctrl-G                  gives a search up
+  Ctrl-V and a key        insert the character that the key sends
+  Up after a line's text  goes through the lines of the history that begin with it
+  / and ?                 in Vi's command mode search as Ctrl-R and Ctrl-S do
+
 Emacs mode:
   Ctrl-A, Ctrl-E          to the row's start, end
   Ctrl-B, Ctrl-F          a character back, forward; with Alt a word

@@ -13,6 +13,7 @@ ghost use Rattle.keyline.specs.Pasting.{PastesAreAccepted, PastedLinesAreAccepte
 ghost use Rattle.keyline.specs.Plays.{RunsSession};
 ghost use Rattle.keyline.specs.Events.{LinesInOrder};
 ghost use Rattle.keyline.specs.Opened.{desk_of, given_in, prompt_of, text_sink};
+ghost use Rattle.keyline.specs.Unmet.{OffMeetsNone};
 ghost use Rattle.keyline.specs.Shows.{BlankIsAtRest, SessionsShow, CommandsShow, TurnsShow};
 
 use crate::prompter::Prompter;
@@ -155,4 +156,11 @@ pub fn fewer_keys()
 pub fn fuel()
     ensures sessions { FuelIsFree }
     ensures bytes { BytesAreEnough }
+{}
+
+/// With the setting `modal_commands` off nothing becomes of a command before it is done. So a line
+/// has the events, the outcome and the state of its script without the requests that meet a
+/// command, and the last query stays.
+pub fn off_meets_none()
+    ensures { OffMeetsNone }
 {}

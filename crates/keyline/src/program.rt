@@ -2,13 +2,17 @@
 
 ghost use Rattle.std.specs.Prelude.{◌≡◌, ◌≤◌, IfErr, IfOk, [], false};
 ghost use Rattle.keyline.specs.Known.{known_by};
-ghost use Rattle.keyline.specs.Program.{EditsByOptions, PlaysOver, UnopensOver, config_of, had_by, helper_of, word_texts};
+ghost use Rattle.keyline.specs.Program.{EditsBy, PlaysOver, UnopensOver, config_of, had_by, helper_of, invoked_config, profile_of, word_texts};
 ghost use Rattle.keyline.specs.Plays.{Unopens};
 
 use crate::edit_helper::EditHelper;
+use crate::invocation::Invocation;
 use crate::options::Options;
 use crate::session::{Ended, Session, Unopened};
-use line_config::{Config, Foretold, ReadSource, Sink, SliceSource, Source, VecSink, WriteSink};
+use line_config::{
+    CompletionType, Config, Configurer, Foretold, ReadSource, Sink, SliceSource, Source, VecSink,
+    WriteSink,
+};
 use line_help::{HelperParts, MatchingBracketValidator, WordCompleter};
 use line_keys::Bindings;
 use std::alloc::Global;
@@ -22,6 +26,28 @@ pub fn config_of(options: &Options) -> Config
         .edit_mode(options.mode)
         .auto_add_history(true)
         .build()
+}
+
+/// The settings for an invocation.
+pub fn invoked_config(invocation: &Invocation) -> Config
+    ensures { result ≡ invoked_config invocation.now }
+{
+    with_profile(config_of(&invocation.options), invocation.extended)
+}
+
+/// The same settings, and what the default profile leaves out if it is on: the commands that go on
+/// over several keys.
+pub(crate) fn with_profile(config: Config, extended: bool) -> Config
+    ensures { result ≡ profile_of extended config }
+{
+    let mut config = config;
+    config.set_modal_commands(extended);
+    config.set_completion_type(if extended {
+        CompletionType::List
+    } else {
+        CompletionType::Circular
+    });
+    config
 }
 
 /// The helper: it completes these words, and validates brackets if the options say so.
@@ -63,15 +89,57 @@ pub fn edit<F: Source + Drop, S: Source + Drop, D: Sink + Drop, L: Sink + Drop, 
     requires display { D.has_failed display ≡ false }
     requires lines { L.has_failed lines ≡ false }
     requires text { T.has_failed text ≡ false }
-    ensures edits { IfOk result (EditsByOptions F.feed
+    ensures edits { IfOk result (EditsBy F.feed
         (known_by S.feed D.held D.waits D.has_failed L.held L.waits L.has_failed) T.held T.has_failed
-        options.now (word_texts words) history source display lines text) }
+        (config_of options.now) options.now (word_texts words) history source display lines text) }
     ensures refused { IfErr result (Unopens F.feed (config_of options.now) history source display
         lines text) }
 {
-    let session = Session::open(
+    edit_with(
         alloc,
         config_of(options),
+        options,
+        words,
+        history,
+        source,
+        display,
+        lines,
+        text,
+    )
+}
+
+/// The same with other settings, such as those of [`invoked_config`].
+pub fn edit_with<
+    F: Source + Drop,
+    S: Source + Drop,
+    D: Sink + Drop,
+    L: Sink + Drop,
+    T: Sink + Drop,
+>(
+    alloc: Global,
+    config: Config,
+    options: &Options,
+    words: Option<Vec<String>>,
+    history: F,
+    source: S,
+    display: D,
+    lines: L,
+    text: T,
+) -> Result<Ended<S, D, L, T>, Unopened<F, S, D, L, T>>
+    requires columns { (2 ≤ options.now.columns) × (options.now.columns ≤ 1000) }
+    requires history { (F.feed history).failed ≡ false }
+    requires source { (S.feed source).failed ≡ false }
+    requires display { D.has_failed display ≡ false }
+    requires lines { L.has_failed lines ≡ false }
+    requires text { T.has_failed text ≡ false }
+    ensures edits { IfOk result (EditsBy F.feed
+        (known_by S.feed D.held D.waits D.has_failed L.held L.waits L.has_failed) T.held T.has_failed
+        config options.now (word_texts words) history source display lines text) }
+    ensures refused { IfErr result (Unopens F.feed config history source display lines text) }
+{
+    let session = Session::open(
+        alloc,
+        config,
         Bindings::new(alloc).unwrap(),
         history,
         helper_of(options, words),
@@ -111,14 +179,53 @@ pub fn play<'a, K: Foretold<R>, R: Read + Drop, E: Write + Drop, W: Write + Drop
         ⟦<WriteSink<W> as Sink>⟧.held ⟦<WriteSink<W> as Sink>⟧.waits
         ⟦<WriteSink<W> as Sink>⟧.has_failed in
         IfOk result (PlaysOver known ⟦<VecSink as Sink>⟧.held ⟦<VecSink as Sink>⟧.has_failed
-        options.now (word_texts words) (had_by E.contents display) (had_by W.contents lines)
-        old.entry.now (K.left keys []) K.last) }
+        (config_of options.now) options.now (word_texts words) (had_by E.contents display)
+        (had_by W.contents lines) old.entry.now (K.left keys []) K.last) }
     ensures refused { IfErr result (UnopensOver ⟦<SliceSource<'a> as Source>⟧.feed
         E.contents W.contents (config_of options.now) old.entry.now keys display lines) }
 {
-    let source: ReadSource<R, K> = ReadSource::foretold(keys);
-    let mut played = match edit(
+    play_with(
         alloc,
+        config_of(options),
+        options,
+        words,
+        old,
+        keys,
+        display,
+        lines,
+    )
+}
+
+/// The same with other settings, such as those of [`invoked_config`].
+pub fn play_with<'a, K: Foretold<R>, R: Read + Drop, E: Write + Drop, W: Write + Drop>(
+    alloc: Global,
+    config: Config,
+    options: &Options,
+    words: Option<Vec<String>>,
+    old: &'a [u8],
+    keys: R,
+    display: E,
+    lines: W,
+) -> Result<
+    Ended<ReadSource<R, K>, WriteSink<E>, WriteSink<W>, VecSink>,
+    Unopened<SliceSource<'a>, ReadSource<R, K>, WriteSink<E>, WriteSink<W>, VecSink>,
+>
+    requires { (2 ≤ options.now.columns) × (options.now.columns ≤ 1000) }
+    ensures plays { let known = known_by ⟦<ReadSource<R, K> as Source>⟧.feed
+        ⟦<WriteSink<E> as Sink>⟧.held ⟦<WriteSink<E> as Sink>⟧.waits
+        ⟦<WriteSink<E> as Sink>⟧.has_failed
+        ⟦<WriteSink<W> as Sink>⟧.held ⟦<WriteSink<W> as Sink>⟧.waits
+        ⟦<WriteSink<W> as Sink>⟧.has_failed in
+        IfOk result (PlaysOver known ⟦<VecSink as Sink>⟧.held ⟦<VecSink as Sink>⟧.has_failed
+        config options.now (word_texts words) (had_by E.contents display)
+        (had_by W.contents lines) old.entry.now (K.left keys []) K.last) }
+    ensures refused { IfErr result (UnopensOver ⟦<SliceSource<'a> as Source>⟧.feed
+        E.contents W.contents config old.entry.now keys display lines) }
+{
+    let source: ReadSource<R, K> = ReadSource::foretold(keys);
+    let mut played = match edit_with(
+        alloc,
+        config,
         options,
         words,
         SliceSource::new(old),

@@ -273,6 +273,7 @@ where
             helper,
             history: loaded,
             ring,
+            last_query: String::new(alloc),
             lines,
         };
         Ok(Session {
@@ -289,7 +290,7 @@ where
     /// the settings say so, written, and returned.
     ///
     /// After each answer another line may be read. After `Interrupted`, which Ctrl-C gives, it
-    /// begins with the same ring and history. After `Eof` it ends again at once, unless the source
+    /// begins with the same ring, last search and history. After `Eof` it ends again at once, unless the source
     /// has more to give.
     #[inline(never)]
     pub fn read_line(self, prompt: &str) -> LineRead<S, H, D, L, T, B>

@@ -13,6 +13,7 @@ use Rattle.line_config.specs.declared.memory.SliceSource.{SliceSource}
 use Rattle.line_config.specs.declared.memory.VecSink.{VecSink}
 use Rattle.line_editor.specs.Courses.{breaks_after}
 use Rattle.line_editor.specs.LineScripts.{LineStage, LineState, kept, line_script, line_stage}
+use Rattle.line_editor.specs.Modal.{Modal}
 use Rattle.line_editor.specs.Redraws.{fresh}
 use Rattle.line_editor.specs.Running.{Helping, Runs, kept_first, outcome_of, stage_first}
 use Rattle.line_editor.specs.Steps.{surface}
@@ -60,12 +61,12 @@ end_bytes (Err e) = by (breaks_after e)
     by false = refl
 
 module _ {H K T : Type 0} (held waits : VecSink → List ℕ) (failed : VecSink → Bool) (helps : Option H → Helping) (config : Config) (custom : Custom) (prompt : List ℕ) (helper : Option H)
-    (old : ScreenRenderer VecSink) (display : VecSink) (ring ring' : Ring) (history history' : Filed) (feed feed' : KeyFeed) (ran : Ran (ScreenRenderer VecSink) H K T) (F : SliceSource → Feed) (reader : KeyReader SliceSource) (left : Left) where
+    (old : ScreenRenderer VecSink) (display : VecSink) (ring ring' : Ring) (query query' : List ℕ) (history history' : Filed) (feed feed' : KeyFeed) (ran : Ran (ScreenRenderer VecSink) H K T) (F : SliceSource → Feed) (reader : KeyReader SliceSource) (left : Left) where
   abbrev given : Given
   given = given_of config custom prompt (screen_of old) (helps helper)
 
   abbrev state : SessionState
-  state = record { ring = ring; history = history; coming = feed.coming }
+  state = record { ring = ring; query = query; history = history; coming = feed.coming }
 
   module _ (ends : Ends held (outcome_of ran) (sink_of ran.out) display history history') (fresh_is : held (sink_of old) ≡ []) (adds : config.auto_add_history ≡ true)
       (outcome_is : left.outcome ≡ ran.outcome) (display_is : left.display ≡ display) (ring_is : left.ring ≡ ring') (history_is : left.history ≡ history')
@@ -74,7 +75,7 @@ module _ {H K T : Type 0} (held waits : VecSink → List ℕ) (failed : VecSink 
     setting = setting_in given history.kept.entries
 
     abbrev first : LineStage (ScreenRenderer VecSink)
-    first = stage_first old (ruler_of (screen_of old)) setting config ring feed.coming
+    first = stage_first old (ruler_of (screen_of old)) setting config ring query feed.coming
 
     -- no lines are written here
     abbrev unwritten : Unit {0} → List ℕ
@@ -83,11 +84,11 @@ module _ {H K T : Type 0} (held waits : VecSink → List ℕ) (failed : VecSink 
     abbrev LineWhole : ℕ → LineStage (ScreenRenderer VecSink) → Type 0
     LineWhole n y = Whole held unwritten true (tt {0}) history waits failed (screen_of old) setting config.indent_size (line_script n custom) first y (outcome_of ran)
 
-    left_whole : (n : ℕ) (value : Value) (input : Input) (layout : Layout) → LineWhole n (line_stage (surface ran.out layout) (kept value input ring' feed'.coming)) → LeftBy held (line_course n given state) left
-    left_whole n value input layout w =
+    left_whole : (n : ℕ) (value : Value) (input : Input) (modal : Modal) (layout : Layout) → LineWhole n (line_stage (surface ran.out layout) (kept value input ring' modal feed'.coming)) → LeftBy held (line_course n given state) left
+    left_whole n value input modal layout w =
         let c = line_course n given state in
         let o = c.answer.0 in
-        let asks : List Event = asks_events (screen_of old) setting config.indent_size (fresh (screen_of old).mode) (kept_first setting config ring feed.coming) (played_in n given state).asks in
+        let asks : List Event = asks_events (screen_of old) setting config.indent_size (fresh (screen_of old).mode) (kept_first setting config ring query feed.coming) (played_in n given state).asks in
         let rest : LineState → Coming = λ k. k.coming in
         record {
           rest_is = rest_is ∙ ap (λ (x : List ℕ). length x) (sym (unread_in F reader) ∙ ap unread (coming_is ∙ ap rest (sym w.rest_is)));
@@ -100,13 +101,13 @@ module _ {H K T : Type 0} (held waits : VecSink → List ℕ) (failed : VecSink 
           history_is = history_is ∙ (ends.kept ∙ (ap (λ o. history_after true o history) (sym w.answer_is) ∙ ap (λ b. history_after b o history) (sym adds)));
         }
 
-    pub reads_line : Runs (canvas_of held waits failed) helps custom prompt helper history.kept.entries config old ring feed ran ring' feed' → IsTrue feed'.told
+    pub reads_line : Runs (canvas_of held waits failed) helps custom prompt helper history.kept.entries config old ring query feed ran ring' query' feed' → IsTrue feed'.told
         → ReadsLine held given state feed.bound left
     reads_line runs told = record {
       goes = λ n b.
-          let y = line_stage (surface ran.out runs.layout) (kept runs.value runs.input ring' feed'.coming) in
+          let y = line_stage (surface ran.out runs.layout) (kept runs.value runs.input ring' runs.modal feed'.coming) in
           elim (line_went held unwritten true (tt {0}) history waits failed (screen_of old) setting config.indent_size (line_script n custom) first y (outcome_of ran) refl (runs.goes told n b)) [
-            | inl w ↦ inl (left_whole n runs.value runs.input runs.layout w)
+            | inl w ↦ inl (left_whole n runs.value runs.input runs.modal runs.layout w)
             | inr cut ↦ inr (went_not held unwritten true (λ e. (outcome_of ran ≡ Err e) × reason_of true ⊤ e)
                 (λ e is. wants left.outcome e (ap (made_of string_bytes) outcome_is ∙ is.0) (wanting true ⊤ e is.1)) _ _ _ cut)
           ];
@@ -120,18 +121,18 @@ bound_at kept count keys none is =
 
 -- the same by the options of the line
 pub line_read : {K T : Type 0} (held waits : VecSink → List ℕ) (failed : VecSink → Bool) (options : Options) (words : Option (List (List ℕ))) (keys : List ℕ) (last : Last) (config : Config) (custom : Custom) (prompt : List ℕ)
-    (helper : Option EditHelper) (old : ScreenRenderer VecSink) (display : VecSink) (ring ring' : Ring) (history history' : Filed) (feed feed' : KeyFeed) (ran : Ran (ScreenRenderer VecSink) EditHelper K T) (F : SliceSource → Feed) (reader : KeyReader SliceSource) (left : Left)
-    → Runs (canvas_of held waits failed) edit_helping custom prompt helper history.kept.entries config old ring feed ran ring' feed' → IsTrue feed'.told
+    (helper : Option EditHelper) (old : ScreenRenderer VecSink) (display : VecSink) (ring ring' : Ring) (query query' : List ℕ) (history history' : Filed) (feed feed' : KeyFeed) (ran : Ran (ScreenRenderer VecSink) EditHelper K T) (F : SliceSource → Feed) (reader : KeyReader SliceSource) (left : Left)
+    → Runs (canvas_of held waits failed) edit_helping custom prompt helper history.kept.entries config old ring query feed ran ring' query' feed' → IsTrue feed'.told
     → Ends held (outcome_of ran) (sink_of ran.out) display history history' → held (sink_of old) ≡ []
     → config ≡ config_of options → custom ≡ nothing_bound → prompt ≡ string_bytes options.prompt → helper ≡ helper_of options words
     → screen_of old ≡ record { columns = options.columns; mode = config.grapheme_cluster_mode; bell = config.bell_style }
     → feed.coming ≡ coming_from options.mode keys last → feed.bound ≡ length keys
-    → left.outcome ≡ ran.outcome → left.display ≡ display → left.ring ≡ ring' → left.history ≡ history'
+    → query ≡ [] → left.outcome ≡ ran.outcome → left.display ≡ display → left.ring ≡ ring' → left.history ≡ history'
     → left.rest ≡ length (left_in F reader) → coming_in F reader ≡ feed'.coming
-    → ReadsLine held (program_given options words) (state_over ring history options.mode keys last) (length keys) left
-line_read held waits failed options words keys last config custom prompt helper old display ring ring' history history' feed feed' ran F reader left runs told ends fresh config_is custom_is prompt_is helper_is screen_is coming_is bound_is a b d e rest_is left_is =
+    → ReadsLine held (program_given options words) (state_over ring [] history options.mode keys last) (length keys) left
+line_read held waits failed options words keys last config custom prompt helper old display ring ring' query query' history history' feed feed' ran F reader left runs told ends fresh config_is custom_is prompt_is helper_is screen_is coming_is bound_is none a b d e rest_is left_is =
     let adds : config.auto_add_history ≡ true = ap (λ (x : Config). x.auto_add_history) config_is in
-    let read = reads_line held waits failed edit_helping config custom prompt helper old display ring ring' history history' feed feed' ran F reader left ends fresh adds a b d e rest_is left_is runs told in
+    let read = reads_line held waits failed edit_helping config custom prompt helper old display ring ring' query query' history history' feed feed' ran F reader left ends fresh adds a b d e rest_is left_is runs told in
     let columns : Config → Screen = λ x. record { columns = options.columns; mode = x.grapheme_cluster_mode; bell = x.bell_style } in
     let given_is : given_of config custom prompt (screen_of old) (edit_helping helper) ≡ program_given options words =
     ap (λ (x : Screen). given_of config custom prompt x (edit_helping helper)) screen_is
@@ -139,7 +140,9 @@ line_read held waits failed options words keys last config custom prompt helper 
     ∙ (ap (λ (x : Custom). given_of (config_of options) x prompt (columns (config_of options)) (edit_helping helper)) custom_is
     ∙ (ap (λ (x : List ℕ). given_of (config_of options) nothing_bound x (columns (config_of options)) (edit_helping helper)) prompt_is
     ∙ ap (λ (x : Option EditHelper). given_of (config_of options) nothing_bound (string_bytes options.prompt) (columns (config_of options)) (edit_helping x)) helper_is))) in
-    let at : Given → Coming → ℕ → Type 0 = λ g c n. ReadsLine held g (record { ring = ring; history = history; coming = c }) n left in
-    subst (λ g. at g (coming_from options.mode keys last) (length keys)) given_is
+    let on : List ℕ → Given → Coming → ℕ → Type 0 = λ query g c n. ReadsLine held g (record { ring = ring; query = query; history = history; coming = c }) n left in
+    let at : Given → Coming → ℕ → Type 0 = on query in
+    subst (λ query. on query (program_given options words) (coming_from options.mode keys last) (length keys)) none
+    (subst (λ g. at g (coming_from options.mode keys last) (length keys)) given_is
     (subst (λ c. at (given_of config custom prompt (screen_of old) (edit_helping helper)) c (length keys)) coming_is
-    (subst (λ n. at (given_of config custom prompt (screen_of old) (edit_helping helper)) feed.coming n) bound_is read))
+    (subst (λ n. at (given_of config custom prompt (screen_of old) (edit_helping helper)) feed.coming n) bound_is read)))

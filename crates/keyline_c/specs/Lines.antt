@@ -1,5 +1,5 @@
 -- A line of the keys so far: its arguments and its result.
-use Rattle.std.specs.Prelude.{◌≡◌, ◌⊎◌, ℕ, ◌<◌, ◌++◌, Bool, true, if◌then◌else◌, List, Result, Ok, Err, IsErrAnd, length, string_bytes}
+use Rattle.std.specs.Prelude.{◌≡◌, ◌⊎◌, ℕ, ◌<◌, ◌++◌, Bool, true, if◌then◌else◌, List, [], Result, Ok, Err, IsErrAnd, length, string_bytes}
 use Rattle.std.specs.List.{flat_map}
 use Rattle.line_config.specs.declared.device.Last.{Last}
 use Rattle.line_config.specs.declared.device.Last.TheVariants.{End, Failed}
@@ -63,7 +63,7 @@ module _ (options : KeylineOptions) (prompt words history kills ends : List ℕ)
     pub chosen : Options
     pub meant : AreMeant options prompt chosen
     pub reads : ReadsLine held (program_given chosen (words_in words))
-        (state_over valid.ring_is.0
+        (state_over valid.ring_is.0 []
         (loaded_from (keeping options.entries (config_of chosen)) (whole history)) chosen.mode keys
         (last_of options.ended)) (length keys) left
 

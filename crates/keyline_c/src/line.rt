@@ -133,7 +133,7 @@ pub(crate) fn read_line<'k>(
 ) -> Result<Left, ReadlineError>
     requires { (2 ≤ options.now.columns) × (options.now.columns ≤ 1000) }
     ensures { let given = program_given options.now (word_texts words) in
-        let state = state_over ring history options.now.mode keys.entry.now (last_of ended) in
+        let state = state_over ring [] history options.now.mode keys.entry.now (last_of ended) in
         MatchResult result (ReadsLine ⟦<VecSink as Sink>⟧.held given state
         (length keys.entry.now)) IsWant }
 {
@@ -141,6 +141,7 @@ pub(crate) fn read_line<'k>(
     let bindings = Bindings::new(alloc).unwrap();
     let mut history = history;
     let mut ring = ring;
+    let mut last_query = String::new(alloc);
     let mut reader = KeyReader::new(source_of(keys, ended), options.mode);
     let out = screen(alloc, options, &config);
     let helper = helper_of(options, words);
@@ -159,6 +160,7 @@ pub(crate) fn read_line<'k>(
         &config,
         &bindings,
         &mut ring,
+        &mut last_query,
     );
     close(alloc, &outcome, &mut out, &mut history)?;
     Ok(Left {

@@ -8,11 +8,11 @@ ghost use Rattle.line_config.specs.Feed.{fresh_feed};
 ghost use Rattle.line_config.specs.declared.device.Last.TheVariants.{End};
 ghost use Rattle.keyline.specs.Known.{known_by};
 ghost use Rattle.keyline.specs.Plays.{LoadRefused};
-ghost use Rattle.keyline.specs.Program.{PlaysOver, config_of, word_texts};
+ghost use Rattle.keyline.specs.Program.{PlaysOver, invoked_config, word_texts};
 
 use keyline::{
-    Ended, Ending, Foretold, Options, Parsed, ReadlineError, Sink, SliceSource, Source,
-    StandardKeys, Unopened, VecSink, WriteSink, load_words, parse,
+    Ended, Ending, Foretold, Invocation, Invoked, Options, ReadlineError, Sink, SliceSource,
+    Source, StandardKeys, Unopened, VecSink, WriteSink, invoked_config, load_words, play_with,
 };
 use keyline_files::{load_history, read_file, save_history};
 use std::env;
@@ -51,24 +51,26 @@ fn main(rt: HostRuntime) -> ExitCode {
         let _ = println!(rt; "{VERSION}");
         return ExitCode::SUCCESS;
     }
-    match parse(rt.alloc(), words.as_slice()) {
-        Parsed::Run(options) => run(&rt, &options),
-        Parsed::Help(text) => {
+    match Invocation::parse(rt.alloc(), words.as_slice()) {
+        Invoked::Run(invocation) => run(&rt, &invocation),
+        Invoked::Help(text) => {
             let _ = print!(rt; "{}", text.as_str());
             ExitCode::SUCCESS
         }
-        Parsed::Usage(text) => {
+        Invoked::Usage(text) => {
             let _ = eprint!(rt; "{}", text.as_str());
             ExitCode::from(USAGE)
         }
-        Parsed::Memory => ended(&rt, Ending::Memory),
+        Invoked::Memory => ended(&rt, Ending::Memory),
     }
 }
 
 /// Loads the words and the history, runs a session, and saves the history.
-fn run(rt: &HostRuntime, options: &Options) -> ExitCode
-    requires { (2 ≤ options.now.columns) × (options.now.columns ≤ 1000) }
+fn run(rt: &HostRuntime, invocation: &Invocation) -> ExitCode
+    requires { let options = invocation.now.options in
+        (2 ≤ options.columns) × (options.columns ≤ 1000) }
 {
+    let options = &invocation.options;
     let words = match words_of(rt, options) {
         Ok(words) => words,
         Err(ReadlineError::Memory) => return ended(rt, Ending::Memory),
@@ -83,7 +85,7 @@ fn run(rt: &HostRuntime, options: &Options) -> ExitCode
         Err(error) if error.kind() == ErrorKind::OutOfMemory => return ended(rt, Ending::Memory),
         Err(_) => return not_loaded(rt, "history does not load", NO_HISTORY),
     };
-    match play::<Brand>(rt, options, words, old.as_slice()) {
+    match play::<Brand>(rt, invocation, words, old.as_slice()) {
         Ok(played) => ended(rt, kept(rt, options, &played)),
         Err(unopened) => match unopened.why {
             ReadlineError::HistoryText | ReadlineError::Reader => not_loaded(
@@ -114,26 +116,28 @@ type NotPlayed<'a, K> = Unopened<
 /// the session of these bytes.
 fn play<'a, K: Foretold<StdinLock<'static>>>(
     rt: &HostRuntime,
-    options: &Options,
+    invocation: &Invocation,
     words: Option<Vec<String>>,
     old: &'a [u8],
 ) -> Result<Played<K>, NotPlayed<'a, K>>
-    requires { (2 ≤ options.now.columns) × (options.now.columns ≤ 1000) }
+    requires { let options = invocation.now.options in
+        (2 ≤ options.columns) × (options.columns ≤ 1000) }
     ensures plays { let known = known_by ⟦<StandardKeys<K> as Source>⟧.feed
         ⟦<WriteSink<Stderr> as Sink>⟧.held ⟦<WriteSink<Stderr> as Sink>⟧.waits
         ⟦<WriteSink<Stderr> as Sink>⟧.has_failed
         ⟦<WriteSink<Stdout> as Sink>⟧.held ⟦<WriteSink<Stdout> as Sink>⟧.waits
         ⟦<WriteSink<Stdout> as Sink>⟧.has_failed in
         IfOk result (λ played. (keys : LockedStdin) × PlaysOver known
-        ⟦<VecSink as Sink>⟧.held ⟦<VecSink as Sink>⟧.has_failed options.now (word_texts words)
-        [] [] old.entry.now (K.left keys []) K.last played) }
-    ensures refused { IfErr result (λ unopened. LoadRefused (config_of options.now)
+        ⟦<VecSink as Sink>⟧.held ⟦<VecSink as Sink>⟧.has_failed (invoked_config invocation.now)
+        invocation.now.options (word_texts words) [] [] old.entry.now (K.left keys []) K.last played) }
+    ensures refused { IfErr result (λ unopened. LoadRefused (invoked_config invocation.now)
         (fresh_feed old.entry.now End) (⟦<SliceSource<'a> as Source>⟧.feed unopened.history)
         unopened.why) }
 {
-    keyline::play::<K, _, _, _>(
+    play_with::<K, _, _, _>(
         rt.alloc(),
-        options,
+        invoked_config(invocation),
+        &invocation.options,
         words,
         old,
         rt.reader(),

@@ -34,6 +34,7 @@ default_config = record {
   enable_bracketed_paste = true;
   enable_synchronized_output = true;
   enable_signals = false;
+  modal_commands = false;
 }
 
 -- a holder of settings is as before, except for the change of its settings

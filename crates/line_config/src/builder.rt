@@ -180,6 +180,14 @@ impl Builder {
         self.set_enable_signals(yes);
         self
     }
+
+    /// Sets whether the commands act that go on over several keys, as the incremental search does.
+    pub fn modal_commands(mut self, yes: bool) -> Self
+        ensures { result ≡ built (record self.config { modal_commands = yes }) }
+    {
+        self.set_modal_commands(yes);
+        self
+    }
 }
 
 impl Configurer for Builder {

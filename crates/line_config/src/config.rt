@@ -31,6 +31,7 @@ pub struct Config {
     pub(crate) enable_bracketed_paste: bool,
     pub(crate) enable_synchronized_output: bool,
     pub(crate) enable_signals: bool,
+    pub(crate) modal_commands: bool,
 }
 
 impl Config {
@@ -175,6 +176,13 @@ impl Config {
     {
         self.enable_signals
     }
+
+    /// Whether the commands act that go on over several keys, as the incremental search does.
+    pub fn modal_commands(&self) -> bool
+        ensures { result ≡ self.now.modal_commands }
+    {
+        self.modal_commands
+    }
 }
 
 impl Default for Config {
@@ -201,6 +209,7 @@ impl Default for Config {
             enable_bracketed_paste: true,
             enable_synchronized_output: true,
             enable_signals: false,
+            modal_commands: false,
         }
     }
 }

@@ -180,6 +180,14 @@ pub trait Configurer {
         self.config_mut().enable_signals = yes;
     }
 
+    /// Sets whether the commands act that go on over several keys, as the incremental search does.
+    fn set_modal_commands(&mut self, yes: bool)
+        ensures { Sets settings with_settings (λ c. record c { modal_commands = yes })
+            self.old self.new }
+    {
+        self.config_mut().modal_commands = yes;
+    }
+
     // Settings are read as they were set.
     ghost settings_as_set: { (holder : Self) (config : Config)
         → settings (with_settings holder config) ≡ config };

@@ -22,10 +22,12 @@ use Rattle.line_record.specs.Ring.{Ring}
 use Rattle.line_editor.specs.Accepting.{accepts}
 use Rattle.line_editor.specs.Asks.{shown_in}
 use Rattle.line_editor.specs.Commands.{Means, means_of, effect, outcome}
-use Rattle.line_editor.specs.LineScripts.{Obeys, Answered, LineStage, kept, keyed, obeying, turn_script}
+use Rattle.line_editor.specs.LineScripts.{Obeys, Answered, LineStage, kept, keyed, obeying, met_then, turn_script}
 use Rattle.line_editor.specs.NextCommand.{line_phrase, reset_by}
+use Rattle.line_editor.specs.Meeting.{meeting, meeting_effect}
+use Rattle.line_editor.specs.Modal.{Modal}
 use Rattle.line_editor.specs.States.{value_of, setting_of, display_of, Stays, Reason}
-use Rattle.line_editor.specs.Turning.{Executes, Cause, Takes, stage_of, world_of}
+use Rattle.line_editor.specs.Turning.{Executes, Meets, Cause, Takes, stage_of, world_of}
 use Rattle.line_editor.specs.Values.{Value, Setting}
 use Rattle.line_editor.specs.declared.commands.Status.{Status}
 use Rattle.line_editor.specs.declared.commands.Status.TheVariants.{Proceed, Submit}
@@ -76,53 +78,85 @@ module _ {Out H Hi K T : Type 0} {renderer : renderers.Renderer.Ghosts Out} {com
 
   -- ---- a turn, by how often it may read
 
-  module _ (n : ℕ) (custom : Custom) (indent : ℕ) (i : Input) (r : Ring) (c : Coming) (s : State Out H Hi K T renderer completer candidate hinter hint highlighter validator history) where
+  module _ (n : ℕ) (custom : Custom) (indent : ℕ) (i : Input) (r : Ring) (modal : Modal) (c : Coming) (s : State Out H Hi K T renderer completer candidate hinter hint highlighter validator history) where
     abbrev Turns : Result Status ReadlineError → LineStage Out → Type 0
-    Turns result y = Goes (world_of indent s) (turn_script n custom) (stage_of s i r c) result y
+    Turns result y = Goes (world_of indent s) (turn_script n custom) (stage_of s i r modal c) result y
 
     turn_begun : (result : Result Status ReadlineError) (y : LineStage Out)
-        → Goes (world_of indent s) ((then) (keyed (steps (line_phrase custom i (shown_in (value_of s))) n)) obeying) (stage_of s i r c) result y → Turns result y
+        → Goes (world_of indent s) ((then) (keyed (steps (line_phrase custom i (shown_in (value_of s))) n)) met_then) (stage_of s i r modal c) result y → Turns result y
     unfolding turn_script
-    turn_begun result y goes = inl (record { input = i; shown = shown_in (value_of s) }, stage_of s i r c, (refl, refl, (refl, refl)), goes)
+    turn_begun result y goes = inl (record { input = i; shown = shown_in (value_of s) }, stage_of s i r modal c, (refl, refl, (refl, refl)), goes)
 
     module _ (b : ℕ) (enough : b < n) (m : State Out H Hi K T renderer completer candidate hinter hint highlighter validator history) (i1 : Input) (c1 : Coming) where
       -- the phrase
       phrased : (q : Result Cmd ReadlineError) → Happens display_of b (line_phrase custom i (shown_in (value_of s))) (key_stage s i c) q (key_stage m i1 c1)
-          → Goes (world_of indent s) (keyed (steps (line_phrase custom i (shown_in (value_of s))) n)) (stage_of s i r c) q (stage_of m i1 r c1) × Stays s m
+          → Goes (world_of indent s) (keyed (steps (line_phrase custom i (shown_in (value_of s))) n)) (stage_of s i r modal c) q (stage_of m i1 r modal c1) × Stays s m
       unfolding Happens
-      phrased q h = phrase_goes_on indent s r (steps (line_phrase custom i (shown_in (value_of s))) n) (key_stage s i c) (key_stage m i1 c1) q (stays_same s) (h n enough)
+      phrased q h = phrase_goes_on indent s r modal (steps (line_phrase custom i (shown_in (value_of s))) n) (key_stage s i c) (key_stage m i1 c1) q (stays_same s) (h n enough)
 
-      phrase_stopped : (e : ReadlineError) → Happens display_of b (line_phrase custom i (shown_in (value_of s))) (key_stage s i c) (Err e) (key_stage m i1 c1) → Turns (Err e) (stage_of m i1 r c1)
-      phrase_stopped e h = turn_begun (Err e) (stage_of m i1 r c1)
-          (then_cut (world_of indent s) (keyed (steps (line_phrase custom i (shown_in (value_of s))) n)) obeying e (stage_of s i r c) (stage_of m i1 r c1) (phrased (Err e) h).0)
+      phrase_stopped : (e : ReadlineError) → Happens display_of b (line_phrase custom i (shown_in (value_of s))) (key_stage s i c) (Err e) (key_stage m i1 c1) → Turns (Err e) (stage_of m i1 r modal c1)
+      phrase_stopped e h = turn_begun (Err e) (stage_of m i1 r modal c1)
+          (then_cut (world_of indent s) (keyed (steps (line_phrase custom i (shown_in (value_of s))) n)) met_then e (stage_of s i r modal c) (stage_of m i1 r modal c1) (phrased (Err e) h).0)
 
-      module _ (cmd : Cmd) (t : State Out H Hi K T renderer completer candidate hinter hint highlighter validator history) (ring' : Ring) (stays : Stays s m) where
+      -- what a search makes of the command
+      module _ (cmd : Cmd) (w : State Out H Hi K T renderer completer candidate hinter hint highlighter validator history) (modal' : Modal) (stays : Stays s m) where
+        met : (next : Cmd) (result : Result Status ReadlineError) (y : LineStage Out) → Meets cmd m modal w modal' (Ok next)
+            → Goes (world_of indent s) (obeying next) (stage_of w i1 r modal' c1) result y → Goes (world_of indent s) (met_then cmd) (stage_of m i1 r modal c1) result y
+        met next result y meets goes =
+            let value = edit_value s m w stays (meeting_effect modal cmd) next meets.does in
+            let same = setting_stays s m stays in
+            inl (
+              next,
+              stage_of w i1 r modal' c1,
+              (
+                ap (λ x. Ok x) (sym (meets.next ∙ ap (λ a. (meeting modal cmd a (value_of m)).next) same)),
+                ap (λ v. kept v i1 r modal' c1) value
+                    ∙ ap (λ x. kept (meeting_effect modal cmd (setting_of s) (value_of m)).value i1 r x c1) (meets.modal_is ∙ ap (λ a. (meeting modal cmd a (value_of m)).modal) same),
+                edit_drawn s m w stays (meeting_effect modal cmd) next meets.does,
+              ),
+              goes,
+            )
+
+        unmet : (e : ReadlineError) → Meets cmd m modal w modal' (Err e) → Goes (world_of indent s) (met_then cmd) (stage_of m i1 r modal c1) (Err e) (stage_of w i1 r modal' c1)
+        unmet e meets = inr (e, inr (inl (edit_stops s m w stays (meeting_effect modal cmd) e meets.does, refl)), refl)
+
+      module _ (cmd : Cmd) (w t : State Out H Hi K T renderer completer candidate hinter hint highlighter validator history) (modal' : Modal) (ring' : Ring) (stays : Stays s w) where
         abbrev means_here : Means
         means_here = means_of i1 indent (reset_by cmd r)
 
-        commanded : (result : Result Status ReadlineError) → Executes cmd i1 indent m (reset_by cmd r) t ring' result
-            → Goes (world_of indent s) (obeying cmd) (stage_of m i1 r c1) result (stage_of t i1 ring' c1)
+        commanded : (result : Result Status ReadlineError) → Executes cmd i1 indent w (reset_by cmd r) t ring' result
+            → Goes (world_of indent s) (obeying cmd) (stage_of w i1 r modal' c1) result (stage_of t i1 ring' modal' c1)
         commanded result (inl (does, outcome_is, ring_is)) = ended result (
-          sym (outcome_is ∙ ap (λ a. outcome means_here cmd a (value_of m)) (setting_stays s m stays)),
-          ap (λ v. kept v i1 ring' c1) (edit_value s m t stays (effect means_here cmd) (tt {0}) does)
-              ∙ ap (λ k. kept (effect means_here cmd (setting_of s) (value_of m)).value i1 k c1) ring_is,
-          edit_drawn s m t stays (effect means_here cmd) (tt {0}) does,
+          sym (outcome_is ∙ ap (λ a. outcome means_here cmd a (value_of w)) (setting_stays s w stays)),
+          ap (λ v. kept v i1 ring' modal' c1) (edit_value s w t stays (effect means_here cmd) (tt {0}) does)
+              ∙ ap (λ k. kept (effect means_here cmd (setting_of s) (value_of w)).value i1 k modal' c1) ring_is,
+          edit_drawn s w t stays (effect means_here cmd) (tt {0}) does,
         )
           where
-            ended : (result : Result Status ReadlineError) → Answered renderer.canvas (renderer.canvas.ruler s.out) (setting_of s) indent (stage_of m i1 r c1) (Obeys cmd) result (stage_of t i1 ring' c1)
-                → Goes (world_of indent s) (obeying cmd) (stage_of m i1 r c1) result (stage_of t i1 ring' c1)
-            ended (Ok status) made = inl (status, stage_of t i1 ring' c1, made, (refl, refl))
+            ended : (result : Result Status ReadlineError) → Answered renderer.canvas (renderer.canvas.ruler s.out) (setting_of s) indent (stage_of w i1 r modal' c1) (Obeys cmd) result (stage_of t i1 ring' modal' c1)
+                → Goes (world_of indent s) (obeying cmd) (stage_of w i1 r modal' c1) result (stage_of t i1 ring' modal' c1)
+            ended (Ok status) made = inl (status, stage_of t i1 ring' modal' c1, made, (refl, refl))
             ended (Err e) made = inr (e, inl made, refl)
-        commanded result (inr (e, is, refused, ring)) = inr (e, inr (inl (edit_stops s m t stays (effect means_here cmd) e refused, (refl, ring))), is)
+        commanded result (inr (e, is, refused, ring)) = inr (e, inr (inl (edit_stops s w t stays (effect means_here cmd) e refused, (refl, ring))), is)
 
-      turn_goes : (cmd : Cmd) (t : State Out H Hi K T renderer completer candidate hinter hint highlighter validator history) (ring' : Ring) (result : Result Status ReadlineError)
+      -- the phrase, and what follows it
+      spoken : (cmd : Cmd) (result : Result Status ReadlineError) (y : LineStage Out) → Happens display_of b (line_phrase custom i (shown_in (value_of s))) (key_stage s i c) (Ok cmd) (key_stage m i1 c1)
+          → Goes (world_of indent s) (met_then cmd) (stage_of m i1 r modal c1) result y → Turns result y
+      spoken cmd result y h goes = turn_begun result y
+          (then_goes (world_of indent s) (keyed (steps (line_phrase custom i (shown_in (value_of s))) n)) met_then cmd result (stage_of s i r modal c) (stage_of m i1 r modal c1) y (phrased (Ok cmd) h).0 goes)
+
+      turn_goes : (cmd next : Cmd) (w t : State Out H Hi K T renderer completer candidate hinter hint highlighter validator history) (modal' : Modal) (ring' : Ring) (result : Result Status ReadlineError)
           → Happens display_of b (line_phrase custom i (shown_in (value_of s))) (key_stage s i c) (Ok cmd) (key_stage m i1 c1)
-          → Executes cmd i1 indent m (reset_by cmd r) t ring' result → Turns result (stage_of t i1 ring' c1)
-      turn_goes cmd t ring' result h k =
-          let first = phrased (Ok cmd) h in
-          turn_begun result (stage_of t i1 ring' c1)
-          (then_goes (world_of indent s) (keyed (steps (line_phrase custom i (shown_in (value_of s))) n)) obeying cmd result (stage_of s i r c) (stage_of m i1 r c1) (stage_of t i1 ring' c1) first.0
-          (commanded cmd t ring' first.1 result k))
+          → Meets cmd m modal w modal' (Ok next) → Executes next i1 indent w (reset_by next r) t ring' result → Turns result (stage_of t i1 ring' modal' c1)
+      turn_goes cmd next w t modal' ring' result h meets k =
+          let stays = (phrased (Ok cmd) h).1 in
+          spoken cmd result (stage_of t i1 ring' modal' c1) h
+          (met cmd w modal' stays next result (stage_of t i1 ring' modal' c1) meets
+          (commanded next w t modal' ring' (stays_both s m w stays meets.does.stays) result k))
+
+      turn_unmet : (cmd : Cmd) (w : State Out H Hi K T renderer completer candidate hinter hint highlighter validator history) (modal' : Modal) (e : ReadlineError) → Happens display_of b (line_phrase custom i (shown_in (value_of s))) (key_stage s i c) (Ok cmd) (key_stage m i1 c1)
+          → Meets cmd m modal w modal' (Err e) → Turns (Err e) (stage_of w i1 r modal' c1)
+      turn_unmet cmd w modal' e h meets = spoken cmd (Err e) (stage_of w i1 r modal' c1) h (unmet cmd w modal' (phrased (Ok cmd) h).1 e meets)
 
       turn_stays : (q : Result Cmd ReadlineError) → Happens display_of b (line_phrase custom i (shown_in (value_of s))) (key_stage s i c) q (key_stage m i1 c1) → Stays s m
       turn_stays q h = (phrased q h).1
@@ -134,12 +168,12 @@ module _ {Out H Hi K T : Type 0} {renderer : renderers.Renderer.Ghosts Out} {com
   -- ---- turns
 
   -- no command came
-  pub turn_refused : (custom : Custom) (indent : ℕ) (s t : State Out H Hi K T renderer completer candidate hinter hint highlighter validator history) (i i' : Input) (r : Ring) (f f' : KeyFeed) (e : ReadlineError) (q : Result Status ReadlineError)
-      → IsErrAnd q (λ x. x ≡ e) → Follows display_of custom (line_phrase custom i (shown_in (value_of s))) s i t i' f f' (Err e) → Takes turn_script custom indent s i r f t i' r f' q
-  turn_refused custom indent s t i i' r f f' e q is h =
-      subst (λ x. Takes turn_script custom indent s i r f t i' r f' x) (sym (is_err e q is)) (record {
-        goes = λ told n enough. phrase_stopped n custom indent i r f.coming s f.bound enough t i' f'.coming e (h.goes told);
-        stays = λ told. turn_stays (suc f.bound) custom indent i r f.coming s f.bound (le_refl (suc f.bound)) t i' f'.coming (Err e) (h.goes told);
+  pub turn_refused : (custom : Custom) (indent : ℕ) (s t : State Out H Hi K T renderer completer candidate hinter hint highlighter validator history) (i i' : Input) (r : Ring) (modal : Modal) (f f' : KeyFeed) (e : ReadlineError) (q : Result Status ReadlineError)
+      → IsErrAnd q (λ x. x ≡ e) → Follows display_of custom (line_phrase custom i (shown_in (value_of s))) s i t i' f f' (Err e) → Takes turn_script custom indent s i r modal f t i' r modal f' q
+  turn_refused custom indent s t i i' r modal f f' e q is h =
+      subst (λ x. Takes turn_script custom indent s i r modal f t i' r modal f' x) (sym (is_err e q is)) (record {
+        goes = λ told n enough. phrase_stopped n custom indent i r modal f.coming s f.bound enough t i' f'.coming e (h.goes told);
+        stays = λ told. turn_stays (suc f.bound) custom indent i r modal f.coming s f.bound (le_refl (suc f.bound)) t i' f'.coming (Err e) (h.goes told);
         told = h.told;
         keeps = h.keeps;
         falls = tt;
@@ -154,19 +188,34 @@ module _ {Out H Hi K T : Type 0} {renderer : renderers.Renderer.Ghosts Out} {com
   executes_cause custom m t f cmd i indent ring ring' result (inr (e, is, k, left)) =
       subst (λ x. IfErr x (λ e. Cause custom t f e)) (sym is) (edit_cause custom t f e k.reason)
 
+  -- a command came, and what a search made of it failed
+  pub turn_unmade : (custom : Custom) (indent : ℕ) (s m w : State Out H Hi K T renderer completer candidate hinter hint highlighter validator history) (i i1 : Input) (r : Ring) (modal modal' : Modal) (f f1 : KeyFeed) (cmd : Cmd) (e : ReadlineError) (q : Result Status ReadlineError)
+      → IsErrAnd q (λ x. x ≡ e) → Follows display_of custom (line_phrase custom i (shown_in (value_of s))) s i m i1 f f1 (Ok cmd) → Meets cmd m modal w modal' (Err e)
+      → Takes turn_script custom indent s i r modal f w i1 r modal' f1 q
+  turn_unmade custom indent s m w i i1 r modal modal' f f1 cmd e q is h meets =
+      subst (λ x. Takes turn_script custom indent s i r modal f w i1 r modal' f1 x) (sym (is_err e q is)) (record {
+        goes = λ told n enough. turn_unmet n custom indent i r modal f.coming s f.bound enough m i1 f1.coming cmd w modal' e (h.goes told) meets;
+        stays = λ told. stays_both s m w (turn_stays (suc f.bound) custom indent i r modal f.coming s f.bound (le_refl (suc f.bound)) m i1 f1.coming (Ok cmd) (h.goes told)) meets.does.stays;
+        told = h.told;
+        keeps = h.keeps;
+        falls = tt;
+        mode = h.mode;
+        reason = edit_cause custom w f1 e meets.does.reason;
+      })
+
   -- a command came
-  pub turn_commanded : (custom : Custom) (indent : ℕ) (s m t : State Out H Hi K T renderer completer candidate hinter hint highlighter validator history) (i i1 : Input) (r q ring' : Ring) (f f1 : KeyFeed) (cmd : Cmd) (result : Result Status ReadlineError)
-      → Follows display_of custom (line_phrase custom i (shown_in (value_of s))) s i m i1 f f1 (Ok cmd) → f1.bound < f.bound → q ≡ reset_by cmd r
-      → Executes cmd i1 indent m q t ring' result → Takes turn_script custom indent s i r f t i1 ring' f1 result
-  turn_commanded custom indent s m t i i1 r q ring' f f1 cmd result h falls reset k =
-      let done = subst (λ x. Executes cmd i1 indent m x t ring' result) reset k in
+  pub turn_commanded : (custom : Custom) (indent : ℕ) (s m w t : State Out H Hi K T renderer completer candidate hinter hint highlighter validator history) (i i1 : Input) (r q ring' : Ring) (modal modal' : Modal) (f f1 : KeyFeed) (cmd next : Cmd) (result : Result Status ReadlineError)
+      → Follows display_of custom (line_phrase custom i (shown_in (value_of s))) s i m i1 f f1 (Ok cmd) → f1.bound < f.bound → Meets cmd m modal w modal' (Ok next) → q ≡ reset_by next r
+      → Executes next i1 indent w q t ring' result → Takes turn_script custom indent s i r modal f t i1 ring' modal' f1 result
+  turn_commanded custom indent s m w t i i1 r q ring' modal modal' f f1 cmd next result h falls meets reset k =
+      let done = subst (λ x. Executes next i1 indent w x t ring' result) reset k in
       record {
-        goes = λ told n enough. turn_goes n custom indent i r f.coming s f.bound enough m i1 f1.coming cmd t ring' result (h.goes told) done;
-        stays = λ told. stays_both s m t (turn_stays (suc f.bound) custom indent i r f.coming s f.bound (le_refl (suc f.bound)) m i1 f1.coming (Ok cmd) (h.goes told))
-            (executes_stay cmd i1 indent m t q ring' result k);
+        goes = λ told n enough. turn_goes n custom indent i r modal f.coming s f.bound enough m i1 f1.coming cmd next w t modal' ring' result (h.goes told) meets done;
+        stays = λ told. stays_both s w t (stays_both s m w (turn_stays (suc f.bound) custom indent i r modal f.coming s f.bound (le_refl (suc f.bound)) m i1 f1.coming (Ok cmd) (h.goes told)) meets.does.stays)
+            (executes_stay next i1 indent w t q ring' result k);
         told = h.told;
         keeps = h.keeps;
         falls = fell result f1.bound f.bound falls;
         mode = h.mode;
-        reason = executes_cause custom m t f1 cmd i1 indent q ring' result k;
+        reason = executes_cause custom w t f1 next i1 indent q ring' result k;
       }

@@ -1,5 +1,5 @@
 -- What a line wants to be seen leads from turn to turn.
-use Rattle.std.proofs.Common.{◌≡◌, ℕ, zero, suc, Bool, true, false, List, [], ◌∷◌, ◌++◌, append-nil, Option, None, Result, Ok, Err, refl, sym, ap, ◌∙◌, subst, true≢false, if◌then◌else◌}
+use Rattle.std.proofs.Common.{◌≡◌, ◌⊎◌, inl, inr, ℕ, zero, suc, Bool, true, false, List, [], ◌∷◌, ◌++◌, append-nil, Option, None, Result, Ok, Err, refl, sym, ap, ◌∙◌, subst, true≢false, if◌then◌else◌}
 use Rattle.line_config.specs.declared.errors.ReadlineError.{ReadlineError}
 use Rattle.line_keys.specs.Answers.{Custom}
 use Rattle.line_config.specs.Scripts.{Ends, Asks, then}
@@ -11,22 +11,24 @@ use Rattle.line_keys.specs.Refreshing.{Ask}
 use Rattle.line_keys.specs.Refreshing.Ask.{Line, Message, Prompted, DoingInsert, DoneInserting}
 use Rattle.line_keys.specs.Settled.{own_by, Settles}
 use Rattle.line_keys.specs.declared.command.Cmd.{Cmd}
-use Rattle.line_keys.specs.declared.command.Cmd.TheVariants.{Interrupt}
+use Rattle.line_keys.specs.declared.command.Cmd.TheVariants.{Interrupt, Unknown}
 use Rattle.line_keys.proofs.Settling.{phrase_settles, then_settles}
 use Rattle.line_editor.specs.Accepting.{submitted}
 use Rattle.line_editor.specs.Asks.{shown_in, ask_effect}
 use Rattle.line_editor.specs.Commands.{Means, effect, outcome}
-use Rattle.line_editor.specs.Drawing.{drawn_behind, asked_anew}
 use Rattle.line_editor.specs.Leads.{Leads, CommandLeads, EachTurnLeads, LeadsAlong, LinesLead}
 use Rattle.line_editor.specs.NextCommand.{begins_group, with_group_begun, line_phrase}
-use Rattle.line_editor.specs.LineScripts.{line_begun, LineAsk, LineScript, Keys, Obeys, Makes, LineState, kept, keyed, obeying, turn_script, turned_on, turns_script, line_script, means_at, effect_at, answer_at, left_at, line_plan, steps_along, played_from}
+use Rattle.line_editor.specs.LineScripts.{line_begun, LineAsk, LineScript, Keys, Meets, Obeys, Makes, LineState, kept, keyed, obeying, met_then, turn_script, turned_on, turns_script, line_script, means_at, effect_at, answer_at, left_at, line_plan, steps_along, played_from}
+use Rattle.line_editor.specs.Meeting.{meeting, modal_seen}
+use Rattle.line_editor.specs.Modal.{Modal, Meeting, modal_first, shows_own}
 use Rattle.line_editor.specs.Sights.{Sight, no_sight, sight_with, sight_of, sight, sight_all, FitsAll, info_after}
-use Rattle.line_editor.specs.Values.{Value, Setting, EditStep, Effect, first_value, taking_memory, hint_reply, helped, shown_hint}
+use Rattle.line_editor.specs.Values.{Value, Setting, EditStep, Effect, first_value, taking_memory}
 use Rattle.line_editor.specs.declared.commands.Status.{Status}
 use Rattle.line_editor.specs.declared.commands.Status.TheVariants.{Proceed, Submit}
 use Rattle.line_editor.proofs.CommandsLead.{asks_lead, commands_lead, submitting_leads}
 use Rattle.line_editor.proofs.ToldLemmas.{PlayedOf, played_each, joined_on, follows, played_then}
-use Rattle.line_editor.proofs.LeadLemmas.{fits_both, sight_both, info_both, help_info}
+use Rattle.line_editor.proofs.LeadLemmas.{fits_both, sight_both, info_both}
+use Rattle.line_editor.proofs.MeetLeads.{hint_stands, seen_resting, seen_info, first_seen, meeting_leads}
 
 -- ---- a phrase
 
@@ -42,13 +44,6 @@ ask_fits (Message text kind) s v x = ((λ e. refl), tt)
 ask_fits (Prompted prompt) s v x = (asks_lead (Prompted prompt) s v x).fits
 ask_fits DoingInsert s v x = (tt, tt)
 ask_fits DoneInserting s v x = tt
-
--- with the hint that was asked for
-hint_stands : (s : Setting) (v : Value) (given : Bool) (prompt : List ℕ) (info : Option (List ℕ)) → (let w = (asked_anew s v).value in
-    info_after (helped v (hint_reply s v) ++ (drawn_behind prompt given s w).steps) info ≡ shown_hint w)
-hint_stands s v given prompt info =
-    let w = (asked_anew s v).value in
-    help_info v (hint_reply s v) (drawn_behind prompt given s w).steps info
 
 ask_leads : (ask : Ask) (s : Setting) (v : Value) (info : Option (List ℕ)) (own : Bool) (x : Sight) → Behind s v info own x
     → (let e = ask_effect ask s v in Behind s e.value (info_after e.steps info) (own_by own ask) (sight_all x e.steps))
@@ -87,15 +82,17 @@ proceeds_leads m Interrupt s v e status h is = cc
 proceeds_leads m cmd s v e status h is = h
 
 -- steps may be asked for there, and lead to the value after them where they don't end the session
-record LeadOn (s : Setting) (info : Option (List ℕ)) (x : Sight) (answer : Result Status ReadlineError) (e : Effect) : Type 0 where
+record LeadOn (s : Setting) (info : Option (List ℕ)) (x : Sight) (answer : Result Status ReadlineError) (q : Modal) (e : Effect) : Type 0 where
   fits : FitsAll s.prompt x e.steps
-  leads : (status : Status) → answer ≡ Ok status → sight_all x e.steps ≡ sight_of s e.value (info_after e.steps info)
+  leads : (status : Status) → answer ≡ Ok status → sight_all x e.steps ≡ modal_seen q s e.value (info_after e.steps info)
+  closes : answer ≡ Ok Submit → shows_own q.standing ≡ true
 
-lead_behind : (s : Setting) (info : Option (List ℕ)) (x : Sight) (first : List EditStep) (answer : Result Status ReadlineError) (e : Effect) → FitsAll s.prompt x first
-    → LeadOn s (info_after first info) (sight_all x first) answer e → LeadOn s info x answer (record { value = e.value; steps = first ++ e.steps })
-lead_behind s info x first answer e fits h = record {
+lead_behind : (s : Setting) (info : Option (List ℕ)) (x : Sight) (first : List EditStep) (answer : Result Status ReadlineError) (q : Modal) (e : Effect) → FitsAll s.prompt x first
+    → LeadOn s (info_after first info) (sight_all x first) answer q e → LeadOn s info x answer q (record { value = e.value; steps = first ++ e.steps })
+lead_behind s info x first answer q e fits h = record {
   fits = fits_both s.prompt x first e.steps fits h.fits;
-  leads = λ status is. sight_both x first e.steps ∙ h.leads status is ∙ ap (sight_of s e.value) (sym (info_both first e.steps info));
+  leads = λ status is. sight_both x first e.steps ∙ h.leads status is ∙ ap (modal_seen q s e.value) (sym (info_both first e.steps info));
+  closes = h.closes;
 }
 
 module _ (s : Setting) (indent : ℕ) where
@@ -103,64 +100,84 @@ module _ (s : Setting) (indent : ℕ) where
   made_of_play k p = record { value = p.rest.value; steps = steps_along s indent k p.asks }
 
   abbrev PlayLeads : Option (List ℕ) → Sight → LineState → PlayedOf s indent Status → Type 0
-  PlayLeads info x k p = LeadOn s info x p.answer (made_of_play k p)
+  PlayLeads info x k p = LeadOn s info x p.answer p.rest.modal (made_of_play k p)
 
   abbrev on_command : LineState → Cmd → Status → PlayedOf s indent Status
   on_command k cmd status = record { answer = Ok status; asks = []; rest = left_at s indent k (Obeys cmd) }
 
-  command_leads : (cmd : Cmd) (k : LineState) (info : Option (List ℕ)) → PlayLeads info (sight_of s k.value info) k (played_from s indent (obeying cmd) k)
-  command_leads cmd k info =
+  command_leads : (cmd : Cmd) (k : LineState) (info : Option (List ℕ)) → shows_own k.modal.standing ≡ true → PlayLeads info (sight_of s k.value info) k (played_from s indent (obeying cmd) k)
+  command_leads cmd k info rests =
       let m = means_at s indent k cmd in
       let v = k.value in
       let e = effect m cmd s v in
       let made = commands_lead m cmd s v in
-      by (outcome m cmd s v) (subst (λ steps. LeadOn s info (sight_of s v info) (outcome m cmd s v) (record { value = e.value; steps = steps })) (sym (append-nil e.steps)) (record {
+      by (outcome m cmd s v) (subst (λ steps. LeadOn s info (sight_of s v info) (outcome m cmd s v) k.modal (record { value = e.value; steps = steps })) (sym (append-nil e.steps)) (record {
         fits = command_fits cmd s v e info made;
-        leads = λ status is. let t = proceeds_leads m cmd s v e status made is info in t.leads;
+        leads = λ status is. (let t = proceeds_leads m cmd s v e status made is info in t.leads) ∙ sym (seen_resting k.modal.standing k.modal s e.value (info_after e.steps info) rests);
+        closes = λ is. rests;
       }))
     where
-      by : (q : Result Status ReadlineError) → (let e = effect (means_at s indent k cmd) cmd s k.value in LeadOn s info (sight_of s k.value info) q (record { value = e.value; steps = e.steps ++ [] }))
+      by : (q : Result Status ReadlineError) → (let e = effect (means_at s indent k cmd) cmd s k.value in LeadOn s info (sight_of s k.value info) q k.modal (record { value = e.value; steps = e.steps ++ [] }))
           → PlayLeads info (sight_of s k.value info) k (played_on (on_command k cmd) (Obeys cmd) (left_at s indent k (Obeys cmd)) q)
-      by (Ok status) h = record { fits = h.fits; leads = h.leads }
-      by (Err e) h = record { fits = h.fits; leads = h.leads }
+      by (Ok status) h = record { fits = h.fits; leads = h.leads; closes = h.closes }
+      by (Err e) h = record { fits = h.fits; leads = h.leads; closes = h.closes }
+
+  -- nothing is left to do
+  nothing_leads : (k : LineState) (info : Option (List ℕ)) → PlayLeads info (modal_seen k.modal s k.value info) k (played_from s indent (obeying Unknown) k)
+  nothing_leads k info = record { fits = tt; leads = λ status is. refl; closes = λ is. cc }
+
+  -- what is left to do of a command that was met
+  left_leads : (next : Cmd) (k : LineState) (info : Option (List ℕ)) → (next ≡ Unknown) ⊎ (shows_own k.modal.standing ≡ true) → PlayLeads info (modal_seen k.modal s k.value info) k (played_from s indent (obeying next) k)
+  left_leads next k info (inl is) = subst (λ c. PlayLeads info (modal_seen k.modal s k.value info) k (played_from s indent (obeying c) k)) (sym is) (nothing_leads k info)
+  left_leads next k info (inr rests) =
+      subst (λ x. PlayLeads info x k (played_from s indent (obeying next) k)) (sym (seen_resting k.modal.standing k.modal s k.value info rests)) (command_leads next k info rests)
+
+  met_leads : (cmd : Cmd) (k : LineState) (info : Option (List ℕ)) (x : Sight) → (shows_own k.modal.standing ≡ true → x ≡ sight_of s k.value info) → PlayLeads info x k (played_from s indent (met_then cmd) k)
+  met_leads cmd k info x from =
+      let q : Meeting = meeting k.modal cmd s k.value in
+      let met = meeting_leads k.modal.standing k.modal refl cmd s k.value info x from in
+      let left = left_at s indent k (Meets cmd) in
+      let p = played_from s indent (obeying q.next) left in
+      lead_behind s info x q.effect.steps p.answer p.rest.modal (made_of_play left p) met.fits
+      (subst (λ y. PlayLeads (info_after q.effect.steps info) y left p) (sym met.leads) (left_leads q.next left (info_after q.effect.steps info) met.next))
 
   -- a phrase, and the command that it gives
   abbrev spoken : Steps Cmd → LineScript Status
-  spoken script = (then) (keyed script) obeying
+  spoken script = (then) (keyed script) met_then
 
-  phrase_leads : (own : Bool) (script : Steps Cmd) (k : LineState) (info : Option (List ℕ)) (x : Sight) → Settles own script → Behind s k.value info own x
-      → PlayLeads info x k (played_from s indent (spoken script) k)
-  phrase_leads true (Ends cmd) k info x settles h =
-      subst (λ y. PlayLeads info y k (played_from s indent (obeying cmd) k)) (sym (settled_sight s k.value info x h)) (command_leads cmd k info)
-  phrase_leads false (Ends cmd) k info x settles h = absurd (true≢false (sym settles))
+  phrase_leads : (own : Bool) (script : Steps Cmd) (k : LineState) (info : Option (List ℕ)) (x : Sight) → (shows_own k.modal.standing ≡ true → Settles own script)
+      → (shows_own k.modal.standing ≡ true → Behind s k.value info own x) → PlayLeads info x k (played_from s indent (spoken script) k)
+  phrase_leads true (Ends cmd) k info x settles h = met_leads cmd k info x (λ rests. settled_sight s k.value info x (h rests))
+  phrase_leads false (Ends cmd) k info x settles h = met_leads cmd k info x (λ rests. absurd (true≢false (sym (settles rests))))
   phrase_leads own (Asks Needs later) k info x settles h =
       let p = played_from s indent (spoken (later tt)) k in
-      lead_behind s info x (taking_memory s k.value).steps p.answer (made_of_play k p) (tt, tt) (phrase_leads own (later tt) k info x (settles tt) h)
+      lead_behind s info x (taking_memory s k.value).steps p.answer p.rest.modal (made_of_play k p) (tt, tt) (phrase_leads own (later tt) k info x (λ rests. settles rests tt) h)
   phrase_leads own (Asks (Shows ask) later) k info x settles h =
       let e = ask_effect ask s k.value in
       let shown = shown_in e.value in
       let left = record k { value = e.value } in
       let p = played_from s indent (spoken (later shown)) left in
-      lead_behind s info x e.steps p.answer (made_of_play left p) (ask_fits ask s k.value x)
-      (phrase_leads (own_by own ask) (later shown) left (info_after e.steps info) (sight_all x e.steps) (settles shown) (ask_leads ask s k.value info own x h))
+      lead_behind s info x e.steps p.answer p.rest.modal (made_of_play left p) (ask_fits ask s k.value x)
+      (phrase_leads (own_by own ask) (later shown) left (info_after e.steps info) (sight_all x e.steps) (λ rests. settles rests shown) (λ rests. ask_leads ask s k.value info own x (h rests)))
   phrase_leads own (Asks (Reads item) later) k info x settles h =
       let left = left_at s indent k (Keys (Reads item)) in
       played_each (PlayLeads info x k) (λ y. played_from s indent (spoken (later y)) left) (Keys (Reads item)) left
-      (λ y. let g = phrase_leads own (later y) left info x (settles y) h in record { fits = g.fits; leads = g.leads })
-      (λ e. record { fits = tt; leads = λ status is. cc }) (item_at item k.coming)
+      (λ y. let g = phrase_leads own (later y) left info x (λ rests. settles rests y) h in record { fits = g.fits; leads = g.leads; closes = g.closes })
+      (λ e. record { fits = tt; leads = λ status is. cc; closes = λ is. cc }) (item_at item k.coming)
   phrase_leads own (Asks (Becomes input) later) k info x settles h =
-      let g = phrase_leads own (later tt) (record k { input = input }) info x (settles tt) h in record { fits = g.fits; leads = g.leads }
-  phrase_leads own (Asks (Refuses why) later) k info x settles h = record { fits = tt; leads = λ status is. cc }
+      let g = phrase_leads own (later tt) (record k { input = input }) info x (λ rests. settles rests tt) h in record { fits = g.fits; leads = g.leads; closes = g.closes }
+  phrase_leads own (Asks (Refuses why) later) k info x settles h = record { fits = tt; leads = λ status is. cc; closes = λ is. cc }
 
   abbrev turn_phrase : ℕ → Custom → LineState → Steps Cmd
   turn_phrase n custom k = steps (line_phrase custom k.input (shown_in k.value)) n
 
-  said_leads : (n : ℕ) (custom : Custom) (k : LineState) (info : Option (List ℕ)) → PlayLeads info (sight_of s k.value info) k (played_from s indent (spoken (turn_phrase n custom k)) k)
+  said_leads : (n : ℕ) (custom : Custom) (k : LineState) (info : Option (List ℕ)) → PlayLeads info (modal_seen k.modal s k.value info) k (played_from s indent (spoken (turn_phrase n custom k)) k)
   unfolding and_then
   said_leads n custom k info =
       let shown = shown_in k.value in
       let settles : Settles true (turn_phrase n custom k) = then_settles with_group_begun (λ cmd i w. begun_settles cmd (begins_group cmd)) (phrase custom k.input shown) k.input shown (phrase_settles custom k.input shown) n in
-      phrase_leads true (turn_phrase n custom k) k info (sight_of s k.value info) settles (record { prompt = s.prompt; is = refl; ours = λ e. refl })
+      phrase_leads true (turn_phrase n custom k) k info (modal_seen k.modal s k.value info) (λ rests. settles)
+      (λ rests. record { prompt = s.prompt; is = seen_resting k.modal.standing k.modal s k.value info rests; ours = λ e. refl })
 
 pub turn_leads : EachTurnLeads
 unfolding turn_script
@@ -190,12 +207,24 @@ module _ (s : Setting) (indent : ℕ) where
       → FitsAll s.prompt x rs × LeadsAlong s indent o k (sight_all x rs) more
   alone k x o more rs fits leads = (subst (FitsAll s.prompt x) (append-nil rs) fits, subst (λ zs. LeadsAlong s indent o k (sight_all x zs) more) (append-nil rs) leads)
 
-  phrase_along : (script : Steps Cmd) (k : LineState) (x : Sight) (o : Result (List ℕ) ReadlineError) (more : List LineAsk) → Along k x o more (played_from s indent (spoken s indent script) k)
-  phrase_along (Ends cmd) k x o more =
+  command_along : (cmd : Cmd) (k : LineState) (x : Sight) (o : Result (List ℕ) ReadlineError) (more : List LineAsk) → Along k x o more (played_from s indent (obeying cmd) k)
+  command_along cmd k x o more =
       let left = left_at s indent k (Obeys cmd) in
       let steps = (effect_at s indent k (Obeys cmd)).steps in
       played_each (Along k x o more) (on_command s indent k cmd) (Obeys cmd) left
       (λ status fits leads. let h = alone left x o more steps fits leads in (h.0, tt, h.1)) (λ e fits leads. let h = alone left x o more steps fits leads in (h.0, tt, h.1)) (answer_at s indent k (Obeys cmd))
+
+  phrase_along : (script : Steps Cmd) (k : LineState) (x : Sight) (o : Result (List ℕ) ReadlineError) (more : List LineAsk) → Along k x o more (played_from s indent (spoken s indent script) k)
+  phrase_along (Ends cmd) k x o more = λ fits leads.
+      let left = left_at s indent k (Meets cmd) in
+      let made = (effect_at s indent k (Meets cmd)).steps in
+      let next = (meeting k.modal cmd s k.value).next in
+      let p = played_from s indent (obeying next) left in
+      let rest = steps_along s indent left p.asks in (
+        fits_first s.prompt x made rest fits,
+        tt,
+        command_along next left (sight_all x made) o more (fits_later s.prompt x made rest fits) (subst (λ z. LeadsAlong s indent o p.rest z more) (sight_both x made rest) leads),
+      )
   phrase_along (Asks ask later) k x o more =
       let left = left_at s indent k (Keys ask) in
       let made = (effect_at s indent k (Keys ask)).steps in
@@ -214,10 +243,10 @@ module _ (s : Setting) (indent : ℕ) where
 
   -- the value is seen, with what information stands
   abbrev SeenAs : LineState → Sight → Type 0
-  SeenAs k x = x ≡ sight_of s k.value x.info
+  SeenAs k x = x ≡ modal_seen k.modal s k.value x.info
 
-  seen_as : (k : LineState) (x : Sight) (info : Option (List ℕ)) → x ≡ sight_of s k.value info → SeenAs k x
-  seen_as k x info is = is ∙ ap (sight_of s k.value) (sym (ap (λ (y : Sight). y.info) is))
+  seen_as : (k : LineState) (x : Sight) (info : Option (List ℕ)) → x ≡ modal_seen k.modal s k.value info → SeenAs k x
+  seen_as k x info is = is ∙ ap (modal_seen k.modal s k.value) (sym (ap (λ (y : Sight). y.info) is ∙ seen_info k.modal.standing k.modal s k.value info))
 
   module _ (n : ℕ) (custom : Custom) (so : (k : LineState) (x : Sight) → SeenAs k x → LedFrom k x (played_from s indent (turns_script n custom) k)) (k : LineState) (info : Option (List ℕ)) (script : Steps Cmd) where
     abbrev said : PlayedOf s indent Status
@@ -227,7 +256,7 @@ module _ (s : Setting) (indent : ℕ) where
     said_steps = steps_along s indent k said.asks
 
     abbrev seen : Sight
-    seen = sight_of s k.value info
+    seen = modal_seen k.modal s k.value info
 
     -- what follows on a turn, by its outcome
     after_leads : PlayLeads s indent info seen k said → (q : Result Status ReadlineError) → said.answer ≡ q
@@ -241,7 +270,7 @@ module _ (s : Setting) (indent : ℕ) where
         let close = submitted s w in
         let stands = info_after said_steps info in
         let t = submitting_leads s w stands in
-        let there = h.leads Submit is in
+        let there = h.leads Submit is ∙ seen_resting said.rest.modal.standing said.rest.modal s w stands (h.closes is) in
         let P : Sight → Type 0 = λ y. LeadsAlong s indent (Ok close.value.line.text) said.rest y (Makes submitted ∷ []) in
         phrase_along script k seen (Ok close.value.line.text) (Makes submitted ∷ []) h.fits (subst P (sym there) (t.fits, tt, ap (λ (y : Sight). y.ended) t.leads))
     after_leads h (Err e) is =
@@ -254,15 +283,15 @@ module _ (s : Setting) (indent : ℕ) where
   line_leads (suc n) custom k x h =
       let script = turn_phrase s indent (suc n) custom k in
       let led = after_leads n custom (line_leads n custom) k x.info script (said_leads s indent (suc n) custom k x.info) _ refl in
-      let rest = subst (LedFrom k (sight_of s k.value x.info)) (sym (played_then (line_plan s indent) (turned_on (turns_script n custom)) (spoken s indent script) k)) led in
+      let rest = subst (LedFrom k (modal_seen k.modal s k.value x.info)) (sym (played_then (line_plan s indent) (turned_on (turns_script n custom)) (spoken s indent script) k)) led in
       let p = played_from s indent ((then) (spoken s indent script) (turned_on (turns_script n custom))) k in
       (tt, h, subst (λ y. LedFrom k y p) (sym h) rest)
 
 pub lines_lead : LinesLead
 unfolding line_script
-lines_lead n s custom indent input r c =
+lines_lead n s custom indent input r on query c =
     let e = line_begun s (first_value s) in
     let first = asks_lead Line s (first_value s) no_sight in
-    let seen = first.leads ∙ ap (sight_of s e.value) (sym (hint_stands s (first_value s) true s.prompt None)) in
-    let k = kept e.value input r c in
+    let seen = first.leads ∙ ap (sight_of s e.value) (sym (hint_stands s (first_value s) true s.prompt None)) ∙ sym (first_seen on query s e.value (info_after e.steps None)) in
+    let k = kept e.value input r (modal_first on query) c in
     ((tt, first.fits), tt, line_leads s indent n custom k (sight_all no_sight e.steps) (seen_as s indent k _ _ seen))

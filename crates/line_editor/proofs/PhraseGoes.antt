@@ -16,6 +16,7 @@ use Rattle.line_record.specs.Ring.{Ring}
 use Rattle.line_editor.specs.Asks.{shown_in, ask_effect}
 use Rattle.line_editor.specs.Calls.{Canvas, Ruler, MadeIn}
 use Rattle.line_editor.specs.LineScripts.{LineAsk, LineAnswer, LineScript, keyed, kept, LineStage, DrawnBy, Answered, Stopped, line_world}
+use Rattle.line_editor.specs.Modal.{Modal}
 use Rattle.line_editor.specs.States.{value_of, setting_of, surface_of, display_of, Stays, Does}
 use Rattle.line_editor.specs.Steps.{asked, Stops}
 use Rattle.line_editor.specs.Turning.{stage_of, world_of}
@@ -72,9 +73,9 @@ module _ {Out H Hi K T : Type 0} {renderer : renderers.Renderer.Ghosts Out} {com
 
   -- ---- a phrase
 
-  module _ (indent : ℕ) (s : State Out H Hi K T renderer completer candidate hinter hint highlighter validator history) (k : Ring) where
+  module _ (indent : ℕ) (s : State Out H Hi K T renderer completer candidate hinter hint highlighter validator history) (k : Ring) (modal : Modal) where
     abbrev at : KeyStage (State Out H Hi K T renderer completer candidate hinter hint highlighter validator history) → LineStage Out
-    at x = stage_of x.wrt x.input k x.coming
+    at x = stage_of x.wrt x.input k modal x.coming
 
     -- it goes, and what was handed in stays
     abbrev GoesOn : {X : Type 0} → LineScript X → LineStage Out → Result X ReadlineError → KeyStage (State Out H Hi K T renderer completer candidate hinter hint highlighter validator history) → Type 0
@@ -97,7 +98,7 @@ module _ {Out H Hi K T : Type 0} {renderer : renderers.Renderer.Ghosts Out} {com
             at v,
             (
               ap (λ b. Ok b) (sym (shown ∙ ap shown_in value)),
-              ap (λ z. kept (value_of v.wrt) z.input k z.coming) same ∙ ap (λ b. kept b x.input k x.coming) value,
+              ap (λ z. kept (value_of v.wrt) z.input k modal z.coming) same ∙ ap (λ b. kept b x.input k modal x.coming) value,
               edit_drawn s x.wrt v.wrt stays (ask_effect ask) (tt {0}) made,
             ),
             rest.0,
@@ -105,7 +106,7 @@ module _ {Out H Hi K T : Type 0} {renderer : renderers.Renderer.Ghosts Out} {com
           rest.1,
         )
     phrase_goes_on {X} (Asks (Shows ask) later) x y r stays (inr (e, (fault, refused, same), is)) =
-        (inr (e, inr (inl (edit_stops s x.wrt y.wrt stays (ask_effect ask) e refused, ap (λ z. kept (value_of y.wrt) z.input k z.coming) same)), is), stays_both s x.wrt y.wrt stays refused.stays)
+        (inr (e, inr (inl (edit_stops s x.wrt y.wrt stays (ask_effect ask) e refused, ap (λ z. kept (value_of y.wrt) z.input k modal z.coming) same)), is), stays_both s x.wrt y.wrt stays refused.stays)
     phrase_goes_on {X} (Asks (Reads item) later) x y r stays (inl (read, v, (is, same), goes)) =
         let on : KeyStage (State Out H Hi K T renderer completer candidate hinter hint highlighter validator history) = record x { coming = behind item x.coming } in
         let rest = subst (λ z. GoesOn (keyed (later read)) (at z) r y) same (phrase_goes_on (later read) v y r (subst (λ z. Stays s z.wrt) (sym same) stays) goes) in

@@ -1,5 +1,5 @@
 -- Coming back to the history's end gives the line that was left there.
-use Rattle.std.proofs.Common.{◌≡◌, ℕ, zero, suc, ◌+◌, ◌-◌, ◌==◌, ◌||◌, ◌<◌, ◌≤◌, not, min, max, nat_lt, Bool, true, false, List, [], ◌∷◌, length, Option, Some, None, is_some, slice_get, refl, sym, ap, ◌∙◌, subst, arith, if◌then◌else◌}
+use Rattle.std.proofs.Common.{◌≡◌, ℕ, zero, suc, ◌+◌, ◌-◌, ◌==◌, ◌&&◌, ◌||◌, ◌<◌, ◌≤◌, not, min, max, nat_lt, Bool, true, false, List, [], ◌∷◌, length, Option, Some, None, is_some, slice_get, refl, sym, ap, ◌∙◌, subst, arith, if◌then◌else◌}
 use Rattle.std.proofs.lemmas.Bool.{eqb-true, eqb-false, ltb-true, ltb-false}
 use Rattle.line_buffer.specs.Columns.{line_up, line_down}
 use Rattle.line_buffer.specs.Insertions.{kept_text, can_take_before, insert as insertion, yank as yanked_in}
@@ -27,6 +27,7 @@ use Rattle.line_help.specs.History.{begins_with_space}
 use Rattle.line_help.specs.Completion.{Completion}
 use Rattle.line_keys.specs.Replies.{Reply}
 use Rattle.line_help.specs.Search.{Hit}
+use Rattle.line_help.specs.declared.search.SearchDirection.{SearchDirection}
 use Rattle.line_help.specs.Validation.{is_valid, has_message}
 use Rattle.line_help.specs.declared.validate.ValidationResult.{ValidationResult}
 use Rattle.line_help.specs.declared.validate.ValidationResult.TheVariants.{Incomplete, Invalid, Valid}
@@ -48,11 +49,21 @@ use Rattle.line_editor.specs.Killing.{kill_effect, insert_text_if}
 use Rattle.line_editor.specs.Moving.{cursor_moved_if, to_found, to_place, move_home, move_to_next_word, move_to_first_print, move_by}
 use Rattle.line_editor.specs.Remembering.{saved_now, saved_on_leaving, recall, come_back as back_at_end, history_step, history_end}
 use Rattle.line_editor.specs.Returns.{ValueStep, value_after, value_after_all, leaving_by, is_search, searches, StaysAway, ComesBack}
-use Rattle.line_editor.specs.Returns.ValueStep.{Done, Asked}
+use Rattle.line_editor.specs.Returns.ValueStep.{Done, Asked, Met}
 use Rattle.line_editor.specs.Drawing.{refreshed_if}
 use Rattle.line_editor.specs.Rewording.{edit_word_effect}
+use Rattle.line_editor.specs.Meeting.{meeting_effect, met_resting, met_prefixes, met_by}
+use Rattle.line_editor.specs.Modal.{Modal, rested, wish_of}
+use Rattle.line_editor.specs.Prefixes.{is_prefix, is_own, earlier, later, risen, rises_if, fallen}
+use Rattle.line_editor.specs.Searching.{erased, looks_again, typed_in, sought, onward, hit_back, found_put, is_place, begun_if, acted, act_of}
 use Rattle.line_editor.specs.Values.{Value, Setting, Effect, Saved, then_do, verdict_reply, completion_reply, rewritten, written_of, at_line}
 use Rattle.line_editor.specs.Yanking.{anchored, steps_over, behind_yank, yanked_by, yank_text, yank_lent, pop_lent}
+use Rattle.line_editor.specs.declared.modal_state.Act.{Act}
+use Rattle.line_editor.specs.declared.modal_state.Act.TheVariants.{Types, Erases, Goes, Leaves, Ends}
+use Rattle.line_editor.specs.declared.modal_state.Standing.{Standing}
+use Rattle.line_editor.specs.declared.modal_state.Standing.TheVariants.{Off, Rests, Prefixes, Searches}
+use Rattle.line_editor.specs.declared.modal_state.Wish.{Wish}
+use Rattle.line_editor.specs.declared.modal_state.Wish.TheVariants.{Search, Up, Down, Other}
 use Rattle.line_editor.proofs.GrowthLemmas.{insert_grows, yank_grows, pop_grows, deletion_grows, kill_grows, indent_grows, word_grows, chars_grow, words_grow, over_grows, back_grows}
 
 -- ---- what keeps the place and the saved line, and whether the line may grow
@@ -353,9 +364,79 @@ ask_keeps (Prompted prompt) s v = kept refl refl refl
 ask_keeps DoingInsert s v = kept refl refl refl
 ask_keeps DoneInserting s v = kept refl refl refl
 
+-- ---- what a search makes of a command
+
+hit_back_keeps : (put : Bool) (s : Setting) (v : Value) → Keeps v (hit_back put s v).value
+hit_back_keeps true s v = kept refl refl (back_grows 1 v.held v.line)
+hit_back_keeps false s v = same v
+
+put_keeps : (put : Bool) (hit : Option Hit) (s : Setting) (v : Value) → Keeps v (found_put put hit s v).value
+put_keeps put None s v = same v
+put_keeps put (Some hit) s v = then_keeps v (hit_back put s v).value (found_put put (Some hit) s v).value (hit_back_keeps put s v) (kept refl refl refl)
+
+placed_grows : (b : Bool) (place : ℕ) (l : Line) → (if b then record l { place = place } else l).growth ≡ l.growth
+placed_grows true place l = refl
+placed_grows false place l = refl
+
+again_keeps : (empty : Bool) (q : Modal) (s : Setting) (v : Value) → Keeps v (looks_again empty q s v).effect.value
+again_keeps true q s v =
+    let w = (hit_back q.put s v).value in
+    let h = hit_back_keeps q.put s v in
+    kept h.saved h.history (placed_grows (is_place q.place w.line) q.place w.line ∙ h.growth)
+again_keeps false q s v = let h = put_keeps q.put (sought q.query q.dir (Some q.start) s.entries) s v in kept h.saved h.history h.growth
+
+acted_keeps : (act : Act) (q : Modal) (cmd : Cmd) (s : Setting) (v : Value) → Keeps v (acted act q cmd s v).effect.value
+acted_keeps (Types c) q cmd s v = let h = put_keeps q.put (sought (typed_in c q).query q.dir (Some q.at) s.entries) s v in kept h.saved h.history h.growth
+acted_keeps Erases q cmd s v = again_keeps (length (erased q).query == 0) (erased q) s v
+acted_keeps (Goes dir) q cmd s v = let h = put_keeps q.put (sought q.query dir (onward dir q (length s.entries)) s.entries) s v in kept h.saved h.history h.growth
+acted_keeps Leaves q cmd s v =
+    let w = (hit_back q.put s v).value in
+    let h = hit_back_keeps q.put s v in
+    kept h.saved h.history (placed_grows (is_place q.place w.line) q.place w.line ∙ h.growth)
+acted_keeps Ends q cmd s v = kept refl refl refl
+
+begun_keeps : (empty : Bool) (dir : SearchDirection) (q : Modal) (cmd : Cmd) (s : Setting) (v : Value) → Keeps v (begun_if empty dir q cmd s v).effect.value
+begun_keeps true dir q cmd s v = same v
+begun_keeps false dir q cmd s v = kept refl refl refl
+
+-- away from the history's end no line is saved
+stays_saved : (s : Setting) (v : Value) → Away s v → Keeps v (saved_on_leaving s v)
+stays_saved s v away = subst (Keeps v) (sym (not_left v (v.history == length s.entries) (off_end v.history (length s.entries) _ refl away))) (same v)
+
+risen_keeps : (hit : Option Hit) (q : Modal) (s : Setting) (v : Value) → Away s v → Keeps v (risen hit q s v).effect.value
+risen_keeps None q s v away = same v
+risen_keeps (Some hit) q s v away = stays_saved s v away
+
+rises_keeps : (own : Bool) (q : Modal) (cmd : Cmd) (s : Setting) (v : Value) → Away s v → Keeps v (rises_if own q cmd s v).effect.value
+rises_keeps true q cmd s v away = risen_keeps (earlier s v) q s v away
+rises_keeps false q cmd s v away = same v
+
+fallen_keeps : (hit : Option Hit) (q : Modal) (s : Setting) (v : Value) → Keeps v (fallen hit q s v).effect.value
+fallen_keeps None q s v = same v
+fallen_keeps (Some hit) q s v = same v
+
+resting_keeps : (wish : Wish) (q : Modal) (cmd : Cmd) (s : Setting) (v : Value) → Away s v → Keeps v (met_resting wish q cmd s v).effect.value
+resting_keeps (Search dir) q cmd s v away = begun_keeps (length s.entries == 0) dir q cmd s v
+resting_keeps Up q cmd s v away = rises_keeps (is_own s v && is_prefix v.line) q cmd s v away
+resting_keeps Down q cmd s v away = same v
+resting_keeps Other q cmd s v away = same v
+
+prefixes_keep : (wish : Wish) (q : Modal) (cmd : Cmd) (s : Setting) (v : Value) → Away s v → Keeps v (met_prefixes wish q cmd s v).effect.value
+prefixes_keep Up q cmd s v away = risen_keeps (earlier s v) q s v away
+prefixes_keep Down q cmd s v away = fallen_keeps (later s v) q s v
+prefixes_keep (Search dir) q cmd s v away = resting_keeps (Search dir) (rested q) cmd s v away
+prefixes_keep Other q cmd s v away = same v
+
+met_keeps : (at : Standing) (q : Modal) (cmd : Cmd) (s : Setting) (v : Value) → Away s v → Keeps v (met_by at q cmd s v).effect.value
+met_keeps Off q cmd s v away = same v
+met_keeps Rests q cmd s v away = resting_keeps (wish_of cmd) q cmd s v away
+met_keeps Prefixes q cmd s v away = prefixes_keep (wish_of cmd) q cmd s v away
+met_keeps Searches q cmd s v away = acted_keeps (act_of cmd) q cmd s v
+
 step_held : (step : ValueStep) (s : Setting) (text : List ℕ) (at : ℕ) (v : Value) → searches step ≡ false → at ≤ length text → Held s text at v → Away s v → Held s text at (value_after s step v)
 step_held (Done m cmd) s text at v quiet inside h away = command_held m cmd s text at v quiet inside h away
 step_held (Asked ask) s text at v quiet inside h away = keeps_held s text at v (ask_effect ask s v).value h away (ask_keeps ask s v)
+step_held (Met q cmd) s text at v quiet inside h away = keeps_held s text at v (meeting_effect q cmd s v).value h away (met_keeps q.standing q cmd s v away)
 
 all_held : (steps : List ValueStep) (s : Setting) (text : List ℕ) (at : ℕ) (v : Value) → at ≤ length text → Held s text at v → StaysAway s steps v → Held s text at (value_after_all s steps v)
 all_held [] s text at v inside h stays = h

@@ -4,6 +4,7 @@ use Rattle.std.specs.Fmt.{digits}
 use Rattle.std.specs.Prelude.{codes, Result, Ok, Err, if◌then◌else◌}
 use Rattle.unicode_segmentation.proofs.Computing.{unicode_segmentation}
 use Rattle.line_buffer.specs.Columns.{line_up, line_down}
+use Rattle.line_buffer.specs.Hits.{chars_placed}
 use Rattle.line_buffer.specs.Rows.{behind_newlines}
 use Rattle.line_buffer.specs.Transpositions.{after_words, before_words}
 use Rattle.line_buffer.specs.Words.{starts_of, ends_of}
@@ -25,14 +26,16 @@ use Rattle.line_keys.specs.Phrases.{Input, answered, needing, with_read, from_ke
 use Rattle.line_keys.specs.Bound.{same_event}
 use Rattle.line_keys.specs.declared.command.Cmd.TheVariants.{HistorySearchBackward, Noop}
 use Rattle.line_keys.specs.declared.command.InputMode.TheVariants.{Insert as Inserting}
-use Rattle.line_keys.specs.declared.key.KeyCode.TheVariants.{Char, Down, Enter, Left, Up}
+use Rattle.line_keys.specs.declared.key.KeyCode.TheVariants.{Backspace, Char, Down, Enter, Left, Up}
 use Rattle.line_keys.specs.declared.key.KeyEvent.{KeyEvent}
+use Rattle.line_record.specs.Course.{recorded_all}
 use Rattle.line_record.specs.Ring.{Ring}
 use Rattle.line_editor.specs.Calls.{Call, Ruler}
 use Rattle.line_editor.specs.Calls.Call.{Draw, Move, Write, Beep}
 use Rattle.line_config.specs.Played.{Played}
 use Rattle.line_config.specs.declared.errors.ReadlineError.{ReadlineError}
 use Rattle.line_editor.specs.LineScripts.{LineAsk, LineState, kept, played_from, steps_along, turn_script, turns_script, line_script}
+use Rattle.line_editor.specs.Modal.{Modal, modal_first}
 use Rattle.line_editor.specs.Redraws.{fresh}
 use Rattle.line_editor.specs.Steps.{asked}
 use Rattle.line_editor.specs.Values.{Setting, EditStep, first_value}
@@ -58,7 +61,7 @@ abbrev typed : ℕ → KeyEvent
 typed c = key_with (Char c) none
 
 abbrev emacs : Input
-emacs = record { mode = Emacs; input_mode = Inserting; last = Noop; search = None }
+emacs = record { mode = Emacs; input_mode = Inserting; last = Noop; search = None; modal_commands = false }
 
 abbrev nothing_bound : Custom
 nothing_bound = record { answers = λ e. None; begins = λ keys. false }
@@ -97,12 +100,16 @@ module _ (r : Ring) where
     calls : List Call
     outcome : Result (List ℕ) ReadlineError
 
-  abbrev line : List (List ℕ) → Custom → List KeyEvent → LineRow
-  line entries custom ks =
+  -- with what stands between commands as it begins
+  abbrev line_with : Modal → List (List ℕ) → Custom → List KeyEvent → LineRow
+  line_with modal entries custom ks =
       let s = with_entries entries in
-      let k = kept (first_value s) emacs r (pressed ks) in
+      let k = kept (first_value s) emacs r modal (pressed ks) in
       let p = played_from s 2 (line_script 12 custom) k in
       record { calls = (asked plain (fresh Unicode) (steps_along s 2 k p.asks)).calls; outcome = p.answer }
+
+  abbrev line : List (List ℕ) → Custom → List KeyEvent → LineRow
+  line entries custom ks = line_with (modal_first false []) entries custom ks
 
   -- ---- a typed, left, enter
 
@@ -175,3 +182,73 @@ module _ (r : Ring) where
   up_and_down_outcome : up_and_down.outcome ≡ Ok (codes "cur")
   unfolding unicode_segmentation line_script turns_script turn_script answered following needing with_read from_key asking becoming deciding and_then counting followed emacs_action common_action line_up line_down behind_newlines
   up_and_down_outcome = refl
+
+  -- ---- the same entries searched as one types
+
+  abbrev searched_line : List ℕ → List KeyEvent → LineRow
+  searched_line query ks = line_with (modal_first true query) entries nothing_bound ks
+
+  abbrev ctrl_r : KeyEvent
+  ctrl_r = key_with (Char 0x52) ctrl
+
+  abbrev enter : KeyEvent
+  enter = key_with Enter none
+
+  -- where a prompt, the cursor and the drawing end, behind a search's prompt
+  abbrev search_laid : ℕ → ℕ → ℕ → Layout
+  search_laid prompt place finish = laid false prompt (prompt + place) (prompt + finish)
+
+  -- the entry before the last one has a 0
+  abbrev zero_found : LineRow
+  zero_found = searched_line [] (ctrl_r ∷ typed 0x30 ∷ enter ∷ [])
+
+  zero_found_calls : zero_found.calls
+      ≡ draw [] (fresh Unicode)
+      ∷ Draw (codes "(reverse-i-search)`': ") [] 0 None (Some (own_laid 2)) (search_laid 22 0 0) None
+      ∷ Draw (codes "(reverse-i-search)`0': ") (codes "line0") 4 None (Some (search_laid 22 0 0)) (search_laid 23 4 5) None
+      ∷ Draw own (codes "line0") 4 None (Some (search_laid 23 4 5)) (laid true 2 6 7) None
+      ∷ Move (at 6) (at 7) ∷ []
+  unfolding unicode_segmentation line_script turns_script turn_script answered following needing with_read from_key asking becoming deciding and_then counting followed emacs_action common_action
+  zero_found_calls = refl
+
+  zero_found_outcome : zero_found.outcome ≡ Ok (codes "line0")
+  unfolding unicode_segmentation line_script turns_script turn_script answered following needing with_read from_key asking becoming deciding and_then counting followed emacs_action common_action
+  zero_found_outcome = refl
+
+  -- given up, the line is as it was
+  given_up_outcome : (searched_line [] (typed 0x63 ∷ typed 0x75 ∷ key_with Left none ∷ ctrl_r ∷ typed 0x30 ∷ key_with (Char 0x47) ctrl ∷ typed 0x78 ∷ enter ∷ [])).outcome ≡ Ok (codes "cxu")
+  unfolding unicode_segmentation line_script turns_script turn_script answered following needing with_read from_key asking becoming deciding and_then counting followed emacs_action common_action recorded_all
+  given_up_outcome = refl
+
+  -- an undo takes the search back, whatever entries it went over
+  taken_back_outcome : (searched_line [] (typed 0x63 ∷ ctrl_r ∷ typed 0x6C ∷ ctrl_r ∷ key_with (Char 0x5F) ctrl ∷ enter ∷ [])).outcome ≡ Ok (codes "c")
+  unfolding unicode_segmentation line_script turns_script turn_script answered following needing with_read from_key asking becoming deciding and_then counting followed emacs_action common_action recorded_all
+  taken_back_outcome = refl
+
+  -- an empty query shows the line as it was
+  abbrev emptied_query : LineRow
+  emptied_query = searched_line [] (typed 0x63 ∷ typed 0x75 ∷ key_with Left none ∷ ctrl_r ∷ typed 0x30 ∷ key_with Backspace none ∷ enter ∷ [])
+
+  emptied_query_calls : emptied_query.calls
+      ≡ draw [] (fresh Unicode) ∷ Write (codes "c") ∷ Write (codes "u") ∷ Move (at 4) (at 3)
+      ∷ Draw (codes "(reverse-i-search)`': ") (codes "cu") 1 None (Some (laid true 2 3 4)) (search_laid 22 1 2) None
+      ∷ Draw (codes "(reverse-i-search)`0': ") (codes "line0") 4 None (Some (search_laid 22 1 2)) (search_laid 23 4 5) None
+      ∷ Draw (codes "(reverse-i-search)`': ") (codes "cu") 1 None (Some (search_laid 23 4 5)) (search_laid 22 1 2) None
+      ∷ Draw own (codes "cu") 1 None (Some (search_laid 22 1 2)) (laid true 2 3 4) None
+      ∷ Move (at 3) (at 4) ∷ []
+  unfolding unicode_segmentation line_script turns_script turn_script answered following needing with_read from_key asking becoming deciding and_then counting followed emacs_action common_action recorded_all chars_placed
+  emptied_query_calls = refl
+
+  emptied_query_outcome : emptied_query.outcome ≡ Ok (codes "cu")
+  unfolding unicode_segmentation line_script turns_script turn_script answered following needing with_read from_key asking becoming deciding and_then counting followed emacs_action common_action recorded_all chars_placed
+  emptied_query_outcome = refl
+
+  -- the last query of an earlier line, by the same key twice
+  last_query_outcome : (searched_line (codes "0") (ctrl_r ∷ ctrl_r ∷ enter ∷ [])).outcome ≡ Ok (codes "line0")
+  unfolding unicode_segmentation line_script turns_script turn_script answered following needing with_read from_key asking becoming deciding and_then counting followed emacs_action common_action
+  last_query_outcome = refl
+
+  -- with the setting off the key does nothing
+  off_outcome : (line entries nothing_bound (ctrl_r ∷ typed 0x30 ∷ enter ∷ [])).outcome ≡ Ok (codes "0")
+  unfolding unicode_segmentation line_script turns_script turn_script answered following needing with_read from_key asking becoming deciding and_then counting followed emacs_action common_action
+  off_outcome = refl

@@ -22,6 +22,7 @@ use Rattle.line_editor.specs.Calls.{Canvas, Ruler}
 use Rattle.line_editor.specs.LineScripts.{LineStage, kept, line_script, line_world, line_stage}
 use Rattle.line_editor.specs.Redraws.{fresh}
 use Rattle.line_editor.specs.Running.{Helping, helping_by, setting_by, stage_first, text_or, outcome_of, Runs}
+use Rattle.line_editor.specs.Modal.{Modal, modal_first}
 use Rattle.line_editor.specs.States.{hooks_of, value_of, setting_of, Stays, Starts}
 use Rattle.line_editor.specs.Steps.{surface}
 use Rattle.line_editor.specs.Turning.{cause_of, Cause, Takes, stage_of, world_of}
@@ -32,20 +33,22 @@ use Rattle.line_editor.specs.declared.state.State.{State}
 use Rattle.line_editor.proofs.StopsLemmas.{stops_taking}
 
 -- no memory before the first drawing
-undrawn : {R : Type 0} (canvas : Canvas R) (r : Ruler) (s : Setting) (n : ℕ) (custom : Custom) (config : Config) (out : R) (ring : Ring) (c : Coming)
-    → let first = stage_first out r s config ring c in Goes (line_world canvas r s config.indent_size) (line_script n custom) first (Err Memory) first
+undrawn : {R : Type 0} (canvas : Canvas R) (r : Ruler) (s : Setting) (n : ℕ) (custom : Custom) (config : Config) (out : R) (ring : Ring) (query : List ℕ) (c : Coming)
+    → let first = stage_first out r s config ring query c in Goes (line_world canvas r s config.indent_size) (line_script n custom) first (Err Memory) first
 unfolding line_script
-undrawn canvas r s n custom config out ring c =
+undrawn canvas r s n custom config out ring query c =
     inr (Memory, inr (inl (stops_taking canvas r (first_value s) _ (surface out (fresh r.mode)) (surface out (fresh r.mode)) Memory (first_value s) refl refl refl, refl)), refl)
 
 -- no memory for a line, and nothing was read or drawn
 pub not_begun : {R H K T : Type 0} (canvas : Canvas R) (helps : Option H → Helping) (custom : Custom) (prompt : List ℕ) (helper : Option H) (entries : List (List ℕ)) (config : Config) (out : R)
-    (ring : Ring) (feed : KeyFeed) → Runs {K = K} {T = T} canvas helps custom prompt helper entries config out ring feed (record { out = out; helper = helper; outcome = Err Memory }) ring feed
-not_begun canvas helps custom prompt helper entries config out ring feed = record {
+    (ring : Ring) (query : List ℕ) (feed : KeyFeed) → Runs {K = K} {T = T} canvas helps custom prompt helper entries config out ring query feed (record { out = out; helper = helper; outcome = Err Memory }) ring query feed
+not_begun canvas helps custom prompt helper entries config out ring query feed = record {
   value = first_value (setting_by (canvas.ruler out) prompt (helps helper) entries);
-  input = new_input config.edit_mode;
+  input = new_input config;
+  modal = modal_first config.modal_commands query;
   layout = fresh (canvas.ruler out).mode;
-  goes = λ told n h. undrawn canvas (canvas.ruler out) (setting_by (canvas.ruler out) prompt (helps helper) entries) n custom config out ring feed.coming;
+  goes = λ told n h. undrawn canvas (canvas.ruler out) (setting_by (canvas.ruler out) prompt (helps helper) entries) n custom config out ring query feed.coming;
+  last = refl;
   told = λ told. told;
   keeps = le_refl feed.bound;
   falls = tt;
@@ -55,9 +58,9 @@ not_begun canvas helps custom prompt helper entries config out ring feed = recor
 }
 
 pub not_begun_by : {R H K T : Type 0} (canvas : Canvas R) (helps : Option H → Helping) (custom : Custom) (prompt : List ℕ) (helper : Option H) (entries : List (List ℕ)) (config : Config) (out : R)
-    (ring : Ring) (feed : KeyFeed) (ran : Ran R H K T) → ran ≡ record { out = out; helper = helper; outcome = Err Memory } → Runs canvas helps custom prompt helper entries config out ring feed ran ring feed
-not_begun_by {K = K} {T = T} canvas helps custom prompt helper entries config out ring feed ran is =
-    subst (λ x. Runs canvas helps custom prompt helper entries config out ring feed x ring feed) (sym is) (not_begun {K = K} {T = T} canvas helps custom prompt helper entries config out ring feed)
+    (ring : Ring) (query : List ℕ) (feed : KeyFeed) (ran : Ran R H K T) → ran ≡ record { out = out; helper = helper; outcome = Err Memory } → Runs canvas helps custom prompt helper entries config out ring query feed ran ring query feed
+not_begun_by {K = K} {T = T} canvas helps custom prompt helper entries config out ring query feed ran is =
+    subst (λ x. Runs canvas helps custom prompt helper entries config out ring query feed x ring query feed) (sym is) (not_begun {K = K} {T = T} canvas helps custom prompt helper entries config out ring query feed)
 
 -- ---- results, with a text or without
 
@@ -98,14 +101,14 @@ module _ {Out H Hi K T : Type 0} {renderer : renderers.Renderer.Ghosts Out} {com
       ∙ ap (helping (option_map (hooks_of completer hinter validator) s.helper)) h.marks_are
 
   -- bindings that stayed
-  pub same_reads : (kept custom : Custom) (indent : ℕ) (i i' : Input) (ring ring' : Ring) (s t : State Out H Hi K T renderer completer candidate hinter hint highlighter validator history) (feed feed' : KeyFeed)
-      (result : Result (List ℕ) ReadlineError) → kept ≡ custom → Takes line_script kept indent s i ring feed t i' ring' feed' result → Takes line_script custom indent s i ring feed t i' ring' feed' result
-  same_reads kept custom indent i i' ring ring' s t feed feed' result same reads = subst (λ x. Takes line_script x indent s i ring feed t i' ring' feed' result) same reads
+  pub same_reads : (kept custom : Custom) (indent : ℕ) (i i' : Input) (ring ring' : Ring) (modal modal' : Modal) (s t : State Out H Hi K T renderer completer candidate hinter hint highlighter validator history) (feed feed' : KeyFeed)
+      (result : Result (List ℕ) ReadlineError) → kept ≡ custom → Takes line_script kept indent s i ring modal feed t i' ring' modal' feed' result → Takes line_script custom indent s i ring modal feed t i' ring' modal' feed' result
+  same_reads kept custom indent i i' ring ring' modal modal' s t feed feed' result same reads = subst (λ x. Takes line_script x indent s i ring modal feed t i' ring' modal' feed' result) same reads
 
   module _ {A : Type 0} (prompt : List ℕ) (helper : Option H) (hist : Hi) (config : Config) (out : Out) (s t : State Out H Hi K T renderer completer candidate hinter hint highlighter validator history)
       (shown : Hi) (place : ℕ) (starts : Starts out prompt helper shown place s) (shown_is : shown ≡ hist) (place_is : place ≡ length (history.entries hist))
-      (custom : Custom) (i i' : Input) (input_is : i ≡ new_input config.edit_mode) (ring ring' : Ring) (feed feed' : KeyFeed) (result : Result A ReadlineError)
-      (reads : Takes line_script custom config.indent_size s i ring feed t i' ring' feed' (text_or result t.recorded.line.text))
+      (custom : Custom) (i i' : Input) (input_is : i ≡ new_input config) (ring ring' : Ring) (modal modal' : Modal) (query query' : List ℕ) (modal_is : modal ≡ modal_first config.modal_commands query) (query_is : query' ≡ modal'.query) (feed feed' : KeyFeed) (result : Result A ReadlineError)
+      (reads : Takes line_script custom config.indent_size s i ring modal feed t i' ring' modal' feed' (text_or result t.recorded.line.text))
       (ran : Ran Out H K T) (out_is : ran.out ≡ t.out) (helper_is : ran.helper ≡ t.helper) (outcome_is : outcome_of ran ≡ text_or result t.recorded.line.text) where
     abbrev setting : Setting
     setting = setting_by (renderer.canvas.ruler out) prompt (helps s helper) (history.entries hist)
@@ -121,34 +124,37 @@ module _ {Out H Hi K T : Type 0} {renderer : renderers.Renderer.Ghosts Out} {com
     helper_same_as stays = ap (helps s) helper_is ∙ helper_same s t stays ∙ ap (helps s) starts.helper_is
 
     abbrev last : Out → LineStage Out
-    last o = line_stage (surface o t.layout) (kept (value_of t) i' ring' feed'.coming)
+    last o = line_stage (surface o t.layout) (kept (value_of t) i' ring' modal' feed'.coming)
 
-    first_same : stage_of s i ring feed.coming ≡ stage_first out (renderer.canvas.ruler out) setting config ring feed.coming
+    first_same : stage_of s i ring modal feed.coming ≡ stage_first out (renderer.canvas.ruler out) setting config ring query feed.coming
     first_same =
-        ap (λ o. line_stage (surface o s.layout) (kept (value_of s) i ring feed.coming)) starts.out_is
-        ∙ ap (λ l. line_stage (surface out l) (kept (value_of s) i ring feed.coming)) starts.layout
-        ∙ ap (λ v. line_stage (surface out (fresh (renderer.canvas.ruler out).mode)) (kept v i ring feed.coming)) (starts.value ∙ ap empty_at place_is)
-        ∙ ap (λ j. line_stage (surface out (fresh (renderer.canvas.ruler out).mode)) (kept (first_value setting) j ring feed.coming)) input_is
+        ap (λ o. line_stage (surface o s.layout) (kept (value_of s) i ring modal feed.coming)) starts.out_is
+        ∙ ap (λ l. line_stage (surface out l) (kept (value_of s) i ring modal feed.coming)) starts.layout
+        ∙ ap (λ v. line_stage (surface out (fresh (renderer.canvas.ruler out).mode)) (kept v i ring modal feed.coming)) (starts.value ∙ ap empty_at place_is)
+        ∙ ap (λ j. line_stage (surface out (fresh (renderer.canvas.ruler out).mode)) (kept (first_value setting) j ring modal feed.coming)) input_is
+        ∙ ap (λ x. line_stage (surface out (fresh (renderer.canvas.ruler out).mode)) (kept (first_value setting) (new_input config) ring x feed.coming)) modal_is
 
-    goes_by : (n : ℕ) → Goes (world_of config.indent_size s) (line_script n custom) (stage_of s i ring feed.coming) (text_or result t.recorded.line.text) (stage_of t i' ring' feed'.coming)
+    goes_by : (n : ℕ) → Goes (world_of config.indent_size s) (line_script n custom) (stage_of s i ring modal feed.coming) (text_or result t.recorded.line.text) (stage_of t i' ring' modal' feed'.coming)
         → Goes (line_world renderer.canvas (renderer.canvas.ruler out) setting config.indent_size) (line_script n custom)
-        (stage_first out (renderer.canvas.ruler out) setting config ring feed.coming) (outcome_of ran) (last ran.out)
+        (stage_first out (renderer.canvas.ruler out) setting config ring query feed.coming) (outcome_of ran) (last ran.out)
     goes_by n goes =
         let P : Ruler → Setting → LineStage Out → Result (List ℕ) ReadlineError → Out → Type 0 =
         λ r a x q o. Goes (line_world renderer.canvas r a config.indent_size) (line_script n custom) x q (last o) in
-        let first = stage_first out (renderer.canvas.ruler out) setting config ring feed.coming in
+        let first = stage_first out (renderer.canvas.ruler out) setting config ring query feed.coming in
         subst (P (renderer.canvas.ruler out) setting first (outcome_of ran)) (sym out_is)
         (subst (λ q. P (renderer.canvas.ruler out) setting first q t.out) (sym outcome_is)
         (subst (λ x. P (renderer.canvas.ruler out) setting x (text_or result t.recorded.line.text) t.out) first_same
-        (subst (λ a. P (renderer.canvas.ruler out) a (stage_of s i ring feed.coming) (text_or result t.recorded.line.text) t.out) setting_same
-        (subst (λ o. P (renderer.canvas.ruler o) (setting_of s) (stage_of s i ring feed.coming) (text_or result t.recorded.line.text) t.out) starts.out_is goes))))
+        (subst (λ a. P (renderer.canvas.ruler out) a (stage_of s i ring modal feed.coming) (text_or result t.recorded.line.text) t.out) setting_same
+        (subst (λ o. P (renderer.canvas.ruler o) (setting_of s) (stage_of s i ring modal feed.coming) (text_or result t.recorded.line.text) t.out) starts.out_is goes))))
 
-    pub runs_by : Runs renderer.canvas (helps s) custom prompt helper (history.entries hist) config out ring feed ran ring' feed'
+    pub runs_by : Runs renderer.canvas (helps s) custom prompt helper (history.entries hist) config out ring query feed ran ring' query' feed'
     runs_by = record {
       value = value_of t;
       input = i';
+      modal = modal';
       layout = t.layout;
       goes = λ told n h. goes_by n (reads.goes told n h);
+      last = query_is;
       told = reads.told;
       keeps = reads.keeps;
       falls = same_fall (feed'.bound < feed.bound) string_bytes ran.outcome (text_or result t.recorded.line.text) outcome_is reads.falls;

@@ -55,12 +55,22 @@ use Rattle.line_editor.specs.Leads.{Reaches, Sound}
 use Rattle.line_editor.specs.Moving.{cursor_moved_if, to_found, to_place, move_home, move_to_next_word, move_to_first_print, move_by}
 use Rattle.line_editor.specs.Remembering.{saved_now, at_place, saved_on_leaving, recall, recalled, restored, hit_shown, history_step, history_end, history_search}
 use Rattle.line_editor.specs.Returns.{ValueStep, value_after, value_after_all, BegunSound, UndoesAll}
-use Rattle.line_editor.specs.Returns.ValueStep.{Done, Asked}
+use Rattle.line_editor.specs.Returns.ValueStep.{Done, Asked, Met}
 use Rattle.line_editor.specs.Drawing.{refreshed_if}
 use Rattle.line_editor.specs.Rewording.{edit_word_effect}
+use Rattle.line_editor.specs.Meeting.{met_resting, met_prefixes, met_by}
+use Rattle.line_editor.specs.Modal.{Modal, rested, wish_of}
+use Rattle.line_editor.specs.Prefixes.{is_prefix, is_own, earlier, later, risen, rises_if, fallen}
+use Rattle.line_editor.specs.Searching.{erased, looks_again, typed_in, sought, onward, hit_back, found_put, is_place, given_up, begun_if, acted, act_of}
 use Rattle.line_editor.specs.Values.{Value, Setting, Effect, then_do, verdict_reply, completion_reply, rewritten, written_of, at_line}
 use Rattle.line_editor.specs.Yanking.{anchored, steps_over, behind_yank, yanked_by, yank_text, yank_lent, pop_lent}
-use Rattle.line_editor.proofs.ReachLemmas.{ended_reaches, edit_reaches, group_reaches, typing_reaches, yanking_reaches, updating_reaches, indenting_reaches, killing_reaches, transposing_reaches}
+use Rattle.line_editor.specs.declared.modal_state.Act.{Act}
+use Rattle.line_editor.specs.declared.modal_state.Act.TheVariants.{Types, Erases, Goes, Leaves, Ends}
+use Rattle.line_editor.specs.declared.modal_state.Standing.{Standing}
+use Rattle.line_editor.specs.declared.modal_state.Standing.TheVariants.{Off, Rests, Prefixes, Searches}
+use Rattle.line_editor.specs.declared.modal_state.Wish.{Wish}
+use Rattle.line_editor.specs.declared.modal_state.Wish.TheVariants.{Search, Up, Down, Other}
+use Rattle.line_editor.proofs.ReachLemmas.{undo_reached, ended_reaches, edit_reaches, group_reaches, typing_reaches, yanking_reaches, updating_reaches, indenting_reaches, killing_reaches, transposing_reaches}
 use Rattle.line_editor.proofs.ReplaysLemmas.{transpose_words_replays, edit_word_replays}
 use Rattle.line_editor.proofs.UndoLemmas.{undo_reaches, unmade_reached}
 
@@ -340,9 +350,78 @@ ask_reached (Prompted prompt) s v first r = r
 ask_reached DoingInsert s v first r = (refl, r)
 ask_reached DoneInserting s v first r = ended_reaches first v.held v.line.text r
 
+-- ---- what a search makes of a command
+
+back_reached : (put : Bool) (s : Setting) (v : Value) (first : List ℕ) → Reached first v → Reached first (hit_back put s v).value
+back_reached true s v first r = undo_reached 1 first v.held v.line r
+back_reached false s v first r = r
+
+put_reached : (put : Bool) (hit : Option Hit) (s : Setting) (v : Value) (first : List ℕ) → Reached first v → Reached first (found_put put hit s v).value
+put_reached put None s v first r = r
+put_reached put (Some hit) s v first r =
+    let w = (hit_back put s v).value in
+    group_reaches (by (updating hit.entry hit.pos)) (written_of w) first (λ k. updating_reaches hit.entry hit.pos (group_opened (written_of w)) first k) (back_reached put s v first r)
+
+placed_text : (b : Bool) (place : ℕ) (l : Line) → (if b then record l { place = place } else l).text ≡ l.text
+placed_text true place l = refl
+placed_text false place l = refl
+
+given_up_reached : (q : Modal) (s : Setting) (v : Value) (first : List ℕ) → Reached first v → Reached first (given_up q s v).value
+given_up_reached q s v first r =
+    let w = (hit_back q.put s v).value in
+    subst (Reaches first w.held) (sym (placed_text (is_place q.place w.line) q.place w.line)) (back_reached q.put s v first r)
+
+again_reached : (empty : Bool) (q : Modal) (s : Setting) (v : Value) (first : List ℕ) → Reached first v → Reached first (looks_again empty q s v).effect.value
+again_reached true q s v first r =
+    let w = (hit_back q.put s v).value in
+    subst (Reaches first w.held) (sym (placed_text (is_place q.place w.line) q.place w.line)) (back_reached q.put s v first r)
+again_reached false q s v first r = put_reached q.put (sought q.query q.dir (Some q.start) s.entries) s v first r
+
+acted_reached : (act : Act) (q : Modal) (cmd : Cmd) (s : Setting) (v : Value) (first : List ℕ) → Reached first v → Reached first (acted act q cmd s v).effect.value
+acted_reached (Types c) q cmd s v first r = put_reached q.put (sought (typed_in c q).query q.dir (Some q.at) s.entries) s v first r
+acted_reached Erases q cmd s v first r = again_reached (length (erased q).query == 0) (erased q) s v first r
+acted_reached (Goes dir) q cmd s v first r = put_reached q.put (sought q.query dir (onward dir q (length s.entries)) s.entries) s v first r
+acted_reached Leaves q cmd s v first r = given_up_reached q s v first r
+acted_reached Ends q cmd s v first r = r
+
+begun_reached : (empty : Bool) (dir : SearchDirection) (q : Modal) (cmd : Cmd) (s : Setting) (v : Value) (first : List ℕ) → Reached first v → Reached first (begun_if empty dir q cmd s v).effect.value
+begun_reached true dir q cmd s v first r = r
+begun_reached false dir q cmd s v first r = ended_reaches first v.held v.line.text r
+
+risen_reached : (hit : Option Hit) (q : Modal) (s : Setting) (v : Value) (first : List ℕ) → Reached first v → Reached first (risen hit q s v).effect.value
+risen_reached None q s v first r = r
+risen_reached (Some hit) q s v first r = leaving_reached s v first r
+
+rises_reached : (own : Bool) (q : Modal) (cmd : Cmd) (s : Setting) (v : Value) (first : List ℕ) → Reached first v → Reached first (rises_if own q cmd s v).effect.value
+rises_reached true q cmd s v first r = risen_reached (earlier s v) q s v first r
+rises_reached false q cmd s v first r = r
+
+fallen_reached : (hit : Option Hit) (q : Modal) (s : Setting) (v : Value) (first : List ℕ) → Reached first v → Reached first (fallen hit q s v).effect.value
+fallen_reached None q s v first r = r
+fallen_reached (Some hit) q s v first r = r
+
+resting_reached : (wish : Wish) (q : Modal) (cmd : Cmd) (s : Setting) (v : Value) (first : List ℕ) → Reached first v → Reached first (met_resting wish q cmd s v).effect.value
+resting_reached (Search dir) q cmd s v first r = begun_reached (length s.entries == 0) dir q cmd s v first r
+resting_reached Up q cmd s v first r = rises_reached (is_own s v && is_prefix v.line) q cmd s v first r
+resting_reached Down q cmd s v first r = r
+resting_reached Other q cmd s v first r = r
+
+prefixes_reached : (wish : Wish) (q : Modal) (cmd : Cmd) (s : Setting) (v : Value) (first : List ℕ) → Reached first v → Reached first (met_prefixes wish q cmd s v).effect.value
+prefixes_reached Up q cmd s v first r = risen_reached (earlier s v) q s v first r
+prefixes_reached Down q cmd s v first r = fallen_reached (later s v) q s v first r
+prefixes_reached (Search dir) q cmd s v first r = resting_reached (Search dir) (rested q) cmd s v first r
+prefixes_reached Other q cmd s v first r = r
+
+met_reached : (at : Standing) (q : Modal) (cmd : Cmd) (s : Setting) (v : Value) (first : List ℕ) → Reached first v → Reached first (met_by at q cmd s v).effect.value
+met_reached Off q cmd s v first r = r
+met_reached Rests q cmd s v first r = resting_reached (wish_of cmd) q cmd s v first r
+met_reached Prefixes q cmd s v first r = prefixes_reached (wish_of cmd) q cmd s v first r
+met_reached Searches q cmd s v first r = acted_reached (act_of cmd) q cmd s v first r
+
 one_reached : (step : ValueStep) (s : Setting) (v : Value) (first : List ℕ) → Sound v → Reached first v → Reached first (value_after s step v)
 one_reached (Done m cmd) s v first ok r = command_reached m cmd s v first ok r
 one_reached (Asked ask) s v first ok r = ask_reached ask s v first r
+one_reached (Met q cmd) s v first ok r = met_reached q.standing q cmd s v first r
 
 all_reached : (steps : List ValueStep) (s : Setting) (v : Value) (first : List ℕ) → BegunSound s steps v → Reached first v → Reached first (value_after_all s steps v)
 all_reached [] s v first ok r = r

@@ -80,6 +80,17 @@ module _ {Out H Hi K T : Type 0} {renderer : renderers.Renderer.Ghosts Out} {com
   undo_stops n s t true part same = stops_taking_back renderer.canvas (renderer.canvas.ruler s.out) (value_of s) (max n 1) _ (surface_of s) (surface_of t) Memory (value_of t) refl same part
   undo_stops n s t false part same = stops_taking_back renderer.canvas (renderer.canvas.ruler s.out) (value_of s) (max n 1) _ (surface_of s) (surface_of t) Memory (value_of t) refl same part
 
+  -- what it leaves
+  pub undone_partly : (n : ℕ) (s t : State Out H Hi K T renderer completer candidate hinter hint highlighter validator history) → UndoneInPart n s.recorded.line t.recorded.line s.recorded.changes t.recorded.changes
+      → value_of t ≡ record (value_of s) { line = t.recorded.line; held = held_on t.recorded.changes t.recorded.line.text } → UndonePartly (max n 1) (value_of s) (value_of t)
+  undone_partly n s t part left = record {
+    items = s.recorded.changes.done;
+    stand = s.recorded.stand.0;
+    held = refl;
+    line = part.line;
+    beside = left ∙ ap (λ k. record (value_of s) { line = t.recorded.line; held = held_on k t.recorded.line.text }) part.forgotten;
+  }
+
   pub undo_refused : {A : Type 0} (n : ℕ) (s t : State Out H Hi K T renderer completer candidate hinter hint highlighter validator history) (result : Result A ReadlineError)
       → IsErrAnd result (λ e. e ≡ Memory) → UndoneInPart n s.recorded.line t.recorded.line s.recorded.changes t.recorded.changes
       → value_of t ≡ record (value_of s) { line = t.recorded.line; held = held_on t.recorded.changes t.recorded.line.text }
@@ -90,13 +101,7 @@ module _ {Out H Hi K T : Type 0} {renderer : renderers.Renderer.Ghosts Out} {com
     layout = tt;
     stays = stays;
     reason = tt;
-    stops = undo_stops n s t (has_step (max n 1) (value_of s).held) (record {
-      items = s.recorded.changes.done;
-      stand = s.recorded.stand.0;
-      held = refl;
-      line = part.line;
-      beside = left ∙ ap (λ k. record (value_of s) { line = t.recorded.line; held = held_on k t.recorded.line.text }) part.forgotten;
-    }) same;
+    stops = undo_stops n s t (has_step (max n 1) (value_of s).held) (undone_partly n s t part left) same;
   })
 
   -- if only marks are undone nothing is drawn

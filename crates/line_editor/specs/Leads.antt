@@ -1,5 +1,5 @@
 -- The drawings of commands lead from the sight of the value before to that of the value after.
-use Rattle.std.specs.Prelude.{◌≡◌, ⊤, ℕ, true, false, List, [], ◌∷◌, Option, Result, Ok, Err, IsUtf8, IsCharBoundary}
+use Rattle.std.specs.Prelude.{◌≡◌, ⊤, ℕ, Bool, true, false, List, [], ◌∷◌, Option, Result, Ok, Err, IsUtf8, IsCharBoundary}
 use Rattle.line_config.specs.declared.errors.ReadlineError.{ReadlineError}
 use Rattle.line_keys.specs.Refreshing.{Ask}
 use Rattle.line_keys.specs.Refreshing.Ask.{Line, Message, Prompted, DoingInsert, DoneInserting}
@@ -15,6 +15,8 @@ use Rattle.line_editor.specs.Accepting.{submitted}
 use Rattle.line_editor.specs.Asks.{ask_effect}
 use Rattle.line_editor.specs.Commands.{Means, effect}
 use Rattle.line_editor.specs.LineScripts.{Begins, LineAsk, LineState, effect_at, kept, left_at, line_script, made_from, played_from, turn_script}
+use Rattle.line_editor.specs.Meeting.{modal_seen}
+use Rattle.line_editor.specs.Modal.{Modal, modal_first}
 use Rattle.line_editor.specs.Sights.{Sight, no_sight, sight_with, sight_of, ended_sight, info_after, sight_all, FitsAll, Turns}
 use Rattle.line_editor.specs.Redraws.{Redraw}
 use Rattle.line_editor.specs.Values.{Value, Setting, EditStep, Effect, first_value, shown_hint}
@@ -85,23 +87,25 @@ AsksLead =
     (ask : Ask) (s : Setting) (v : Value) (x : Sight) → AskLeads ask x s (ask_effect ask s v)
 
 -- a turn's steps are allowed if its value is shown; a turn that doesn't end the session leads to
--- its value after it
-pub record TurnLeads (s : Setting) (v : Value) (info : Option (List ℕ))
-    (outcome : Result Status ReadlineError) (made : Effect) : Type 0 where
-  pub fits : FitsAll s.prompt (sight_of s v info) made.steps
+-- its value after it. What stands between commands shows the value behind its own prompt
+pub record TurnLeads (s : Setting) (x : Sight) (info : Option (List ℕ))
+    (outcome : Result Status ReadlineError) (modal : Modal) (made : Effect) : Type 0 where
+  pub fits : FitsAll s.prompt x made.steps
   pub leads : (status : Status) → outcome ≡ Ok status
-      → LeadsFrom (sight_of s v info) s made (info_after made.steps info)
+      → Turns s.prompt x made.steps
+      (modal_seen modal s made.value (info_after made.steps info))
 
 abbrev pub EachTurnLeads : Type 0
 EachTurnLeads =
     (n : ℕ) (s : Setting) (custom : Custom) (indent : ℕ) (k : LineState) (info : Option (List ℕ))
-    → let turn = turn_script n custom in
-    TurnLeads s k.value info (played_from s indent turn k).answer (made_from s indent turn k)
+    → let turn = turn_script n custom in let p = played_from s indent turn k in
+    TurnLeads s (modal_seen k.modal s k.value info) info p.answer p.rest.modal
+    (made_from s indent turn k)
 
 module _ (s : Setting) (indent : ℕ) where
   -- at the begin of a turn its value is shown, with the current information
   abbrev pub BeginShows : LineAsk → LineState → Sight → Type 0
-  BeginShows Begins k x = x ≡ sight_of s k.value x.info
+  BeginShows Begins k x = x ≡ modal_seen k.modal s k.value x.info
   BeginShows ask k x = ⊤
 
   -- an accepted line leaves the cursor at the drawing's end
@@ -121,7 +125,7 @@ module _ (s : Setting) (indent : ℕ) where
 abbrev pub LinesLead : Type 0
 LinesLead =
     (n : ℕ) (s : Setting) (custom : Custom) (indent : ℕ) (input : Input) (r : Ring)
-    (coming : Coming)
-    → let k = kept (first_value s) input r coming in
+    (on : Bool) (query : List ℕ) (coming : Coming)
+    → let k = kept (first_value s) input r (modal_first on query) coming in
     let line = played_from s indent (line_script n custom) k in
     LeadsAlong s indent line.answer k no_sight line.asks

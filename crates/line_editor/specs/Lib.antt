@@ -12,12 +12,16 @@ pub mod Known
 pub mod Leads
 pub mod NextCommand
 pub mod LineScripts
+pub mod Meeting
+pub mod Modal
 pub mod Moving
+pub mod Prefixes
 pub mod Redraws
 pub mod Steps
 pub mod Remembering
 pub mod Returns
 pub mod Rewording
+pub mod Searching
 pub mod Running
 pub mod Sights
 pub mod States

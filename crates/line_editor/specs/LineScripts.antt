@@ -17,6 +17,8 @@ use Rattle.line_editor.specs.Asks.{shown_in, ask_effect}
 use Rattle.line_editor.specs.Calls.{Canvas, Ruler, MadeIn}
 use Rattle.line_editor.specs.Commands.{Means, means_of, effect, ring_after_command, LeavesRing, outcome}
 use Rattle.line_editor.specs.Drawing.{refreshed}
+use Rattle.line_editor.specs.Meeting.{meeting, meeting_effect}
+use Rattle.line_editor.specs.Modal.{Modal}
 use Rattle.line_editor.specs.NextCommand.{line_phrase, reset_by}
 use Rattle.line_editor.specs.Steps.{asked, Surface, Stops}
 use Rattle.line_editor.specs.Values.{Value, Setting, EditStep, Effect, Transition, unchanged, taking_memory, then_do}
@@ -33,6 +35,8 @@ pub data LineAsk : Type 0 where
   Begins : LineAsk
   -- a request of a phrase
   Keys : (ask : KeyAsk) → LineAsk
+  -- a command comes: what stands between commands may take it
+  Meets : (cmd : Cmd) → LineAsk
   -- a command is run
   Obeys : (cmd : Cmd) → LineAsk
   -- an edit that belongs to no command: a line's first drawing, or its close
@@ -41,6 +45,7 @@ pub data LineAsk : Type 0 where
 abbrev pub LineAnswer : LineAsk → Type 0
 LineAnswer Begins = Beginning
 LineAnswer (Keys ask) = Answer ask
+LineAnswer (Meets cmd) = Cmd
 LineAnswer (Obeys cmd) = Status
 LineAnswer (Makes edit) = Value
 
@@ -59,9 +64,13 @@ phrase_script n custom at = keyed (steps (line_phrase custom at.input at.shown) 
 abbrev pub obeying : Cmd → LineScript Status
 obeying cmd = Asks (Obeys cmd) (λ status. Ends status)
 
+-- a command, or what is left of it
+abbrev pub met_then : Cmd → LineScript Status
+met_then cmd = Asks (Meets cmd) (λ next. obeying next)
+
 -- a phrase, and the command that it gives
 unfoldable pub turn_script : ℕ → Custom → LineScript Status
-turn_script n custom = Asks Begins (λ at. then (phrase_script n custom at) obeying)
+turn_script n custom = Asks Begins (λ at. then (phrase_script n custom at) met_then)
 
 -- an accepted line is closed, and its text is the answer
 abbrev pub turned_on : LineScript (List ℕ) → Status → LineScript (List ℕ)
@@ -87,11 +96,12 @@ pub record LineState : Type 0 where
   pub value : Value
   pub input : Input
   pub ring : Ring
+  pub modal : Modal
   pub coming : Coming
 
-abbrev pub kept : Value → Input → Ring → Coming → LineState
-kept value input ring coming =
-    record { value = value; input = input; ring = ring; coming = coming }
+abbrev pub kept : Value → Input → Ring → Modal → Coming → LineState
+kept value input ring modal coming =
+    record { value = value; input = input; ring = ring; modal = modal; coming = coming }
 
 abbrev pub beginning : LineState → Beginning
 beginning k = record { input = k.input; shown = shown_in k.value }
@@ -105,6 +115,7 @@ module _ (s : Setting) (indent : ℕ) where
   abbrev pub effect_at : LineState → LineAsk → Effect
   effect_at k (Keys Needs) = taking_memory s k.value
   effect_at k (Keys (Shows ask)) = ask_effect ask s k.value
+  effect_at k (Meets cmd) = meeting_effect k.modal cmd s k.value
   effect_at k (Obeys cmd) = effect (means_at k cmd) cmd s k.value
   effect_at k (Makes edit) = edit s k.value
   effect_at k ask = unchanged s k.value
@@ -117,6 +128,7 @@ module _ (s : Setting) (indent : ℕ) where
   answer_at k (Keys (Reads item)) = item_at item k.coming
   answer_at k (Keys (Becomes input)) = Ok tt
   answer_at k (Keys (Refuses why)) = Err why
+  answer_at k (Meets cmd) = Ok (meeting k.modal cmd s k.value).next
   answer_at k (Obeys cmd) = outcome (means_at k cmd) cmd s k.value
   answer_at k (Makes edit) = Ok (edit s k.value).value
 
@@ -125,6 +137,10 @@ module _ (s : Setting) (indent : ℕ) where
   left_at k (Keys (Reads item)) =
       record k { coming = behind item k.coming }
   left_at k (Keys (Becomes input)) = record k { input = input }
+  left_at k (Meets cmd) = record k {
+    value = (effect_at k (Meets cmd)).value;
+    modal = (meeting k.modal cmd s k.value).modal;
+  }
   left_at k (Obeys cmd) = record k {
     value = (effect_at k (Obeys cmd)).value;
     ring = ring_after_command cmd k.value (reset_by cmd k.ring);
@@ -152,8 +168,10 @@ module _ (s : Setting) (indent : ℕ) where
 
 -- ---- where a fault stops it
 
--- what a fault leaves: the value, and the ring of a command, as far as they came
+-- what a fault leaves: the value, what stands between commands, and the ring of a command, as far as
+-- they came
 abbrev pub FaultLeaves : LineAsk → LineState → ReadlineError → LineState → Type 0
+FaultLeaves (Meets cmd) k e l = l ≡ record k { value = l.value; modal = l.modal }
 FaultLeaves (Obeys cmd) k e l =
     (l ≡ record k { value = l.value; ring = l.ring })
     × LeavesRing cmd k.value (reset_by cmd k.ring) l.ring e

@@ -1,21 +1,30 @@
 -- Leaving the history's end and coming back to it; and the undo of all changes of a line.
 use Rattle.std.specs.Prelude.{◌≡◌, ⊤, ◌<◌, ◌≤◌, Bool, true, false, List, [], ◌∷◌, length, ℕ}
+use Rattle.line_help.specs.declared.search.SearchDirection.{SearchDirection}
 use Rattle.line_keys.specs.Refreshing.{Ask}
 use Rattle.line_keys.specs.declared.command.Cmd.{Cmd}
-use Rattle.line_keys.specs.declared.command.Cmd.TheVariants.{BeginningOfHistory, HistorySearchBackward, HistorySearchForward, PreviousHistory, Undo}
+use Rattle.line_keys.specs.declared.command.Cmd.TheVariants.{Abort, BeginningOfHistory, HistorySearchBackward, HistorySearchForward, PreviousHistory, Undo}
+use Rattle.line_record.specs.Held.{ended}
 use Rattle.line_editor.specs.Asks.{ask_effect}
 use Rattle.line_editor.specs.Commands.{Means, effect}
+use Rattle.line_editor.specs.Meeting.{meeting_effect}
+use Rattle.line_editor.specs.Modal.{Modal}
+use Rattle.line_editor.specs.Searching.{acted, begun_at, begin_search, given_up, is_place}
 use Rattle.line_editor.specs.Values.{Value, Setting}
 use Rattle.line_editor.specs.Leads.{Reaches, Sound}
+use Rattle.line_editor.specs.declared.modal_state.Act.{Act}
+use Rattle.line_editor.specs.declared.modal_state.Act.TheVariants.{Types, Erases, Goes}
 
--- what changes a line's value: a command, or a call of the key tables
+-- what changes a line's value: a command, a call of the key tables, or a command before it is done
 pub data ValueStep : Type 0 where
   Done : (means : Means) (cmd : Cmd) → ValueStep
   Asked : (ask : Ask) → ValueStep
+  Met : (modal : Modal) (cmd : Cmd) → ValueStep
 
 abbrev pub value_after : Setting → ValueStep → Value → Value
 value_after s (Done means cmd) v = (effect means cmd s v).value
 value_after s (Asked ask) v = (ask_effect ask s v).value
+value_after s (Met modal cmd) v = (meeting_effect modal cmd s v).value
 
 abbrev pub value_after_all : Setting → List ValueStep → Value → Value
 value_after_all s [] v = v
@@ -34,7 +43,7 @@ is_search cmd = false
 
 abbrev pub searches : ValueStep → Bool
 searches (Done means cmd) = is_search cmd
-searches (Asked ask) = false
+searches step = false
 
 -- each step begins away from the history's end
 abbrev pub StaysAway : Setting → List ValueStep → Value → Type 0
@@ -76,3 +85,44 @@ UndoesAll =
     → let done = value_after_all s steps v in
     length done.held ≤ n
     → (effect m (Undo n) s done).value.line.text ≡ v.line.text
+
+-- ---- a search that is given up
+
+-- the query grows or gets shorter, or the search goes to the next entry
+abbrev pub is_onward : Act → Bool
+is_onward (Types c) = true
+is_onward Erases = true
+is_onward (Goes dir) = true
+is_onward act = false
+
+abbrev pub AllOnward : List Act → Type 0
+AllOnward [] = ⊤
+AllOnward (act ∷ acts) = (is_onward act ≡ true) × AllOnward acts
+
+pub record Sought : Type 0 where
+  pub modal : Modal
+  pub value : Value
+
+abbrev pub sought_first : Setting → SearchDirection → Modal → Value → Sought
+sought_first s dir q v = record {
+  modal = begun_at dir (length s.entries) v q;
+  value = (begin_search dir q s v).value;
+}
+
+abbrev pub sought_on : Setting → Act → Sought → Sought
+sought_on s act x = let m = acted act x.modal Abort s x.value in
+    record { modal = m.modal; value = m.effect.value }
+
+abbrev pub sought_all : Setting → List Act → Sought → Sought
+sought_all s [] x = x
+sought_all s (act ∷ acts) x = sought_all s acts (sought_on s act x)
+
+-- a search that is given up after any such acts leaves line, cursor and record as they were,
+-- except the groups that its begin closed
+abbrev pub GivesBack : Type 0
+GivesBack =
+    (s : Setting) (dir : SearchDirection) (q : Modal) (v : Value) (acts : List Act)
+    → v.line.growth ≡ true → is_place v.line.place v.line ≡ true → AllOnward acts
+    → let x = sought_all s acts (sought_first s dir q v) in
+    let back = (given_up x.modal s x.value).value in
+    (back.line ≡ v.line) × (back.held ≡ ended v.held)

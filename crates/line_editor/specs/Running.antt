@@ -20,6 +20,7 @@ use Rattle.line_keys.specs.declared.command.CmdKind.{CmdKind}
 use Rattle.line_record.specs.Ring.{Ring}
 use Rattle.line_editor.specs.Calls.{Canvas, Ruler}
 use Rattle.line_editor.specs.LineScripts.{LineState, LineAsk, LineStage, kept, line_script, line_world, played_from, line_stage}
+use Rattle.line_editor.specs.Modal.{Modal, modal_first}
 use Rattle.line_editor.specs.Redraws.{fresh}
 use Rattle.line_editor.specs.Steps.{surface}
 use Rattle.line_editor.specs.Turning.{cause_of}
@@ -42,20 +43,23 @@ setting_by r prompt helping entries = record {
   entries = entries;
 }
 
--- the state as a line begins: nothing is drawn, and nothing typed
-abbrev pub kept_first : Setting → Config → Ring → Coming → LineState
-kept_first s config ring coming =
-    kept (first_value s) (new_input config.edit_mode) ring coming
+-- the state as a line begins, after the ring and the last query of the lines before it: nothing is
+-- drawn, and nothing typed
+abbrev pub kept_first : Setting → Config → Ring → List ℕ → Coming → LineState
+kept_first s config ring query coming =
+    let modal = modal_first config.modal_commands query in
+    kept (first_value s) (new_input config) ring modal coming
 
-abbrev pub stage_first : {R : Type 0} → R → Ruler → Setting → Config → Ring → Coming → LineStage R
-stage_first out r s config ring coming =
-    line_stage (surface out (fresh r.mode)) (kept_first s config ring coming)
+abbrev pub stage_first : {R : Type 0} → R → Ruler → Setting → Config → Ring → List ℕ → Coming
+    → LineStage R
+stage_first out r s config ring query coming =
+    line_stage (surface out (fresh r.mode)) (kept_first s config ring query coming)
 
 -- its script, without faults
-abbrev pub line_played : ℕ → Setting → Custom → Config → Ring → Coming
+abbrev pub line_played : ℕ → Setting → Custom → Config → Ring → List ℕ → Coming
     → Played LineAsk LineState ReadlineError (List ℕ)
-line_played n s custom config ring c =
-    played_from s config.indent_size (line_script n custom) (kept_first s config ring c)
+line_played n s custom config ring query c =
+    played_from s config.indent_size (line_script n custom) (kept_first s config ring query c)
 
 -- a helper, if there is one, by its replies
 abbrev pub helping_by : {H : Type 0} → (H → Answers (Reply (Option Hinted)))
@@ -79,18 +83,21 @@ outcome_of ran = made_of string_bytes ran.outcome
 pub record Runs {R H K T : Type 0} (canvas : Canvas R) (helps : Option H → Helping)
     (custom : Custom)
     (prompt : List ℕ) (helper : Option H) (entries : List (List ℕ)) (config : Config) (out : R)
-    (ring : Ring) (feed : KeyFeed) (ran : Ran R H K T) (ring' : Ring)
-    (feed' : KeyFeed) : Type 0 where
+    (ring : Ring) (query : List ℕ) (feed : KeyFeed) (ran : Ran R H K T) (ring' : Ring)
+    (query' : List ℕ) (feed' : KeyFeed) : Type 0 where
   -- its value at its end
   pub value : Value
   pub input : Input
+  pub modal : Modal
   pub layout : Layout
   pub goes : IsTrue feed'.told → (n : ℕ) → feed.bound < n →
       let ruler = canvas.ruler out in
       let setting = setting_by ruler prompt (helps helper) entries in
       Goes (line_world canvas ruler setting config.indent_size) (line_script n custom)
-      (stage_first out ruler setting config ring feed.coming) (outcome_of ran)
-      (line_stage (surface ran.out layout) (kept value input ring' feed'.coming))
+      (stage_first out ruler setting config ring query feed.coming) (outcome_of ran)
+      (line_stage (surface ran.out layout) (kept value input ring' modal feed'.coming))
+  -- the last query goes on
+  pub last : query' ≡ modal.query
   pub told : IsTrue feed'.told → IsTrue feed.told
   pub keeps : feed'.bound ≤ feed.bound
   pub falls : OnOk ran.outcome (feed'.bound < feed.bound)

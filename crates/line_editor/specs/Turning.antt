@@ -1,6 +1,6 @@
 -- The effect of a command on a state and on the ring; and of a line, or a part of it, also on the
--- input.
-use Rattle.std.specs.Prelude.{◌≡◌, ◌⊎◌, ⊤, ℕ, ◌<◌, ◌≤◌, Bool, true, false, Result, Ok, Err, IsTrue, IfErr, OnOk}
+-- input and on what stands between commands.
+use Rattle.std.specs.Prelude.{◌≡◌, ◌⊎◌, ⊤, ℕ, ◌<◌, ◌≤◌, Bool, true, false, Result, Ok, Err, IsTrue, IfErr, IfOk, OnOk}
 use Rattle.line_config.specs.Scripts.{World, Goes}
 use Rattle.line_config.specs.declared.errors.ReadlineError.{ReadlineError}
 use Rattle.line_config.specs.declared.errors.ReadlineError.TheVariants.{Eof, Interrupted, NotUtf8, PasteOutOfPlace, Reader, Display, Lines, HistoryText, Helper, Handler, Memory}
@@ -20,9 +20,12 @@ use Rattle.line_keys.specs.declared.command.Cmd.TheVariants.{AcceptLine, AcceptO
 use Rattle.line_record.specs.Ring.{Ring}
 use Rattle.line_editor.specs.Commands.{means_of, effect, ring_after_command, LeavesRing, outcome}
 use Rattle.line_editor.specs.LineScripts.{LineAsk, LineAnswer, LineScript, LineStage, kept, line_world, line_stage}
+use Rattle.line_editor.specs.Meeting.{meeting, meeting_effect}
+use Rattle.line_editor.specs.Modal.{Modal, Meeting, next_of}
 use Rattle.line_editor.specs.States.{value_of, setting_of, surface_of, Stays, Does}
-use Rattle.line_editor.specs.Values.{IsFailing}
+use Rattle.line_editor.specs.Values.{Value, Setting, IsFailing}
 use Rattle.line_editor.specs.declared.commands.Status.{Status}
+use Rattle.line_editor.specs.declared.modal_state.Next.{Next}
 use Rattle.line_editor.specs.declared.renderer.Renderer as renderers
 use Rattle.line_editor.specs.declared.state.State.{State}
 
@@ -70,6 +73,32 @@ module _ {Out H Hi K T : Type 0} {renderer : renderers.Ghosts Out}
       ⊎ ((e : ReadlineError) × (result ≡ Err e)
       × Does {A = Unit {0}} (effect m cmd) s t (Err e) × LeavesRing cmd (value_of s) ring ring' e)
 
+  -- a command came, and what stands between commands made this of it
+  pub record Meets (cmd : Cmd)
+      (s : State Out H Hi K T renderer completer candidate hinter hint highlighter validator
+      history) (modal : Modal)
+      (t : State Out H Hi K T renderer completer candidate hinter hint highlighter validator
+      history) (modal' : Modal) (result : Result Cmd ReadlineError) : Type 0 where
+    pub does : Does (meeting_effect modal cmd) s t result
+    pub modal_is : OnOk result
+        (modal' ≡ (meeting modal cmd (setting_of s) (value_of s)).modal)
+    pub next : IfOk result (λ c. c ≡ (meeting modal cmd (setting_of s) (value_of s)).next)
+
+  -- the same, if the answer says which command is done in its place
+  pub record MeetsAs (met : Setting → Value → Meeting) (cmd : Cmd)
+      (s t : State Out H Hi K T renderer completer candidate hinter hint highlighter validator
+      history) (modal' : Modal) (result : Result Next ReadlineError) : Type 0 where
+    pub does : Does (λ a v. (met a v).effect) s t result
+    pub modal_is : OnOk result (modal' ≡ (met (setting_of s) (value_of s)).modal)
+    pub next : IfOk result (λ n. next_of n cmd ≡ (met (setting_of s) (value_of s)).next)
+
+  abbrev pub MeetsBy : Cmd
+      → State Out H Hi K T renderer completer candidate hinter hint highlighter validator history
+      → Modal
+      → State Out H Hi K T renderer completer candidate hinter hint highlighter validator history
+      → Modal → Result Next ReadlineError → Type 0
+  MeetsBy cmd s modal t modal' result = MeetsAs (meeting modal cmd) cmd s t modal' result
+
   abbrev pub Cause : Custom
       → State Out H Hi K T renderer completer candidate hinter hint highlighter validator history
       → KeyFeed → ReadlineError → Type 0
@@ -80,8 +109,9 @@ module _ {Out H Hi K T : Type 0} {renderer : renderers.Ghosts Out}
   -- what is passed on in a line, if it has this state
   abbrev pub stage_of :
       State Out H Hi K T renderer completer candidate hinter hint highlighter validator history
-      → Input → Ring → Coming → LineStage Out
-  stage_of s input ring coming = line_stage (surface_of s) (kept (value_of s) input ring coming)
+      → Input → Ring → Modal → Coming → LineStage Out
+  stage_of s input ring modal coming =
+      line_stage (surface_of s) (kept (value_of s) input ring modal coming)
 
   abbrev pub world_of : ℕ
       → State Out H Hi K T renderer completer candidate hinter hint highlighter validator history
@@ -94,13 +124,13 @@ module _ {Out H Hi K T : Type 0} {renderer : renderers.Ghosts Out}
   pub record Takes {X : Type 0} (script : ℕ → Custom → LineScript X) (custom : Custom)
       (indent : ℕ)
       (s : State Out H Hi K T renderer completer candidate hinter hint highlighter validator
-      history) (input : Input) (ring : Ring) (feed : KeyFeed)
+      history) (input : Input) (ring : Ring) (modal : Modal) (feed : KeyFeed)
       (t : State Out H Hi K T renderer completer candidate hinter hint highlighter validator
-      history) (input' : Input) (ring' : Ring) (feed' : KeyFeed)
+      history) (input' : Input) (ring' : Ring) (modal' : Modal) (feed' : KeyFeed)
       (result : Result X ReadlineError) : Type 0 where
     pub goes : IsTrue feed'.told → (n : ℕ) → feed.bound < n
-        → Goes (world_of indent s) (script n custom) (stage_of s input ring feed.coming)
-        result (stage_of t input' ring' feed'.coming)
+        → Goes (world_of indent s) (script n custom) (stage_of s input ring modal feed.coming)
+        result (stage_of t input' ring' modal' feed'.coming)
     pub stays : IsTrue feed'.told → Stays s t
     pub told : IsTrue feed'.told → IsTrue feed.told
     pub keeps : feed'.bound ≤ feed.bound

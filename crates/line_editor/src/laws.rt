@@ -2,7 +2,8 @@
 
 ghost use Rattle.line_editor.specs.Leads.{CommandsLead, SubmittingLeads, AsksLead, EachTurnLeads, LinesLead};
 ghost use Rattle.line_editor.specs.Leads.{Sound};
-ghost use Rattle.line_editor.specs.Returns.{ComesBack, UndoReaches, UndoesAll};
+ghost use Rattle.line_editor.specs.Meeting.{OffPasses};
+ghost use Rattle.line_editor.specs.Returns.{ComesBack, UndoReaches, UndoesAll, GivesBack};
 ghost use Rattle.line_editor.specs.States.{value_of};
 
 use crate::renderer::Renderer;
@@ -55,6 +56,17 @@ pub fn undo_reaches()
 /// command or call begins on a sound line.
 pub fn undo_all()
     ensures { UndoesAll }
+{}
+
+/// A search that is given up, wherever it went, leaves the line, its cursor and what can be undone
+/// as they were, except that open groups are closed.
+pub fn give_back()
+    ensures { GivesBack }
+{}
+
+/// With the setting off each command is done as it comes.
+pub fn off_passes()
+    ensures { OffPasses }
 {}
 
 /// Each line of a state is sound: its text is UTF-8, and its cursor at a character boundary.

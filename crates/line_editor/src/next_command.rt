@@ -2,6 +2,7 @@
 ghost use Rattle.std.specs.Prelude.{◌≡◌, ◌<◌, OnOk};
 ghost use Rattle.line_keys.specs.Follows.{Follows};
 ghost use Rattle.line_keys.specs.InputStates.{input_of, custom_in};
+ghost use Rattle.line_keys.specs.Requests.{Begins, IsLater, abort_in, first_request};
 ghost use Rattle.line_editor.specs.NextCommand.{line_phrase, begins_group, reset_by};
 
 use crate::renderer::Renderer;
@@ -46,6 +47,9 @@ impl<'p, 'h, Out: Renderer, H: Helper + Drop, Hi: History> State<'p, 'h, Out, H,
             self.old input self.new (input_of input_state.new)
             (R.feed rdr.old) (R.feed rdr.new) result }
         ensures bindings { input_state.new.custom_bindings ≡ input_state.old.custom_bindings }
+        ensures asks { let flag = abort_in (input_of input_state.old).mode single_esc_abort in
+            let first = first_request flag ignore_external_print in
+            Begins R.asked first IsLater rdr.old rdr.new }
         ensures falls { OnOk result ((R.feed rdr.new).bound < (R.feed rdr.old).bound) }
     {
         let alloc = self.alloc;

@@ -3,9 +3,11 @@ ghost use Rattle.std.specs.Prelude.{◌≡◌};
 ghost use Rattle.line_keys.specs.InputStates.{input_of, custom_in};
 ghost use Rattle.line_editor.specs.LineScripts.{turns_script, line_script};
 ghost use Rattle.line_editor.specs.Running.{text_or};
+ghost use Rattle.line_editor.specs.Modal.{modal_of};
 ghost use Rattle.line_editor.specs.Turning.{Takes};
 
 use crate::commands::Status;
+use crate::modal_state::ModalState;
 use crate::renderer::Renderer;
 use crate::state::State;
 use line_config::{Config, ReadlineError};
@@ -20,16 +22,18 @@ impl<'p, 'h, Out: Renderer, H: Helper + Drop, Hi: History> State<'p, 'h, Out, H,
         input_state: &mut InputState<'_, D>,
         rdr: &mut R,
         kill_ring: &mut KillRing,
+        modal: &mut ModalState,
         config: &Config,
     ) -> Result<(), ReadlineError>
         ensures { let custom = custom_in input_state.old D.decides in
             Takes turns_script custom config.now.indent_size
-            self.old (input_of input_state.old) kill_ring.old (R.feed rdr.old)
-            self.new (input_of input_state.new) kill_ring.new (R.feed rdr.new)
+            self.old (input_of input_state.old) kill_ring.old (modal_of modal.old)
+            (R.feed rdr.old) self.new (input_of input_state.new) kill_ring.new
+            (modal_of modal.new) (R.feed rdr.new)
             (text_or result self.new.recorded.line.text) }
     {
         'turns: loop {
-            match self.turn(input_state, rdr, kill_ring, config)? {
+            match self.turn(input_state, rdr, kill_ring, modal, config)? {
                 Status::Proceed => {}
                 Status::Submit => return self.submit(),
             }
@@ -42,15 +46,17 @@ impl<'p, 'h, Out: Renderer, H: Helper + Drop, Hi: History> State<'p, 'h, Out, H,
         input_state: &mut InputState<'_, D>,
         rdr: &mut R,
         kill_ring: &mut KillRing,
+        modal: &mut ModalState,
         config: &Config,
     ) -> Result<(), ReadlineError>
         ensures { let custom = custom_in input_state.old D.decides in
             Takes line_script custom config.now.indent_size
-            self.old (input_of input_state.old) kill_ring.old (R.feed rdr.old)
-            self.new (input_of input_state.new) kill_ring.new (R.feed rdr.new)
+            self.old (input_of input_state.old) kill_ring.old (modal_of modal.old)
+            (R.feed rdr.old) self.new (input_of input_state.new) kill_ring.new
+            (modal_of modal.new) (R.feed rdr.new)
             (text_or result self.new.recorded.line.text) }
     {
         self.refresh()?;
-        self.turns(input_state, rdr, kill_ring, config)
+        self.turns(input_state, rdr, kill_ring, modal, config)
     }
 }

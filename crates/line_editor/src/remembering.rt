@@ -42,7 +42,7 @@ impl<'p, 'h, Out: Renderer, H: Helper + Drop, Hi: History> State<'p, 'h, Out, H,
     }
 
     /// Saves the line if it leaves the history's end.
-    fn backup_on_leaving(&mut self) -> Result<(), ReadlineError>
+    pub(crate) fn backup_on_leaving(&mut self) -> Result<(), ReadlineError>
         ensures does { Does saving_on_leaving self.old self.new result }
     {
         if self.ctx.history_index() == self.ctx.history().len() {

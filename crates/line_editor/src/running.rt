@@ -1,9 +1,10 @@
 //! A whole line.
-ghost use Rattle.std.specs.Prelude.{◌≡◌, Err};
+ghost use Rattle.std.specs.Prelude.{◌≡◌, Err, string_bytes};
 ghost use Rattle.line_config.specs.declared.errors.ReadlineError.TheVariants.{Memory};
 ghost use Rattle.line_keys.specs.Answers.{custom_of};
 ghost use Rattle.line_editor.specs.Running.{Runs, helping_by, outcome_of, text_or};
 
+use crate::modal_state::ModalState;
 use crate::renderer::Renderer;
 use crate::starting::empty_line;
 use crate::state::State;
@@ -13,6 +14,7 @@ use line_help::{Context, Helper, History};
 use line_keys::{Decides, EventMap, InputState, RawReader};
 use line_record::KillRing;
 use std::alloc::Global;
+use std::mem;
 
 /// What remains after a line: the renderer and the helper passed in, and the line's text or why
 /// there is none.
@@ -61,8 +63,8 @@ impl<'p, 'h, Out: Renderer, H: Helper + Drop, Hi: History> State<'p, 'h, Out, H,
 
 /// Reads a line. Its keys come from `reader`, and it is drawn on `out`, from the cursor's row on.
 ///
-/// The renderer and the helper are returned in every case. The reader and the kill ring can be used
-/// for the next line.
+/// The renderer and the helper are returned in every case. The reader, the kill ring
+/// and the last query of a search can be used for the next line.
 pub fn run<R: RawReader, Out: Renderer, H: Helper + Drop, Hi: History, D: Decides>(
     alloc: Global,
     reader: &mut R,
@@ -73,11 +75,13 @@ pub fn run<R: RawReader, Out: Renderer, H: Helper + Drop, Hi: History, D: Decide
     config: &Config,
     bindings: &EventMap<D>,
     kill_ring: &mut KillRing,
+    last_query: &mut String,
 ) -> Ran<Out, H>
     ensures { let helps = helping_by H.hint_of H.verdict_of H.completion_of H.update_of H.marks in
         Runs Out.canvas helps (custom_of bindings.now D.decides) prompt.now helper
-        (Hi.entries history.now) config.now out kill_ring.old (R.feed reader.old)
-        result kill_ring.new (R.feed reader.new) }
+        (Hi.entries history.now) config.now out kill_ring.old (string_bytes last_query.old)
+        (R.feed reader.old) result kill_ring.new (string_bytes last_query.new)
+        (R.feed reader.new) }
 {
     let Ok(recorded) = empty_line(alloc) else {
         return Ran::unread(out, helper);
@@ -87,6 +91,9 @@ pub fn run<R: RawReader, Out: Renderer, H: Helper + Drop, Hi: History, D: Decide
     };
     let ctx = Context::new(history);
     let mut state = State::of_parts(alloc, recorded, out, prompt, helper, ctx);
-    let read = state.read_line(&mut input_state, reader, kill_ring, config);
+    let query = mem::replace(last_query, String::new(alloc));
+    let mut modal = ModalState::new(config.modal_commands(), query);
+    let read = state.read_line(&mut input_state, reader, kill_ring, &mut modal, config);
+    *last_query = modal.query;
     state.ran(read)
 }

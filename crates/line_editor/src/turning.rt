@@ -1,8 +1,10 @@
 //! A turn of a line.
-ghost use Rattle.std.specs.Prelude.{◌≡◌};
+ghost use Rattle.std.specs.Prelude.{◌≡◌, false};
 ghost use Rattle.line_keys.specs.InputStates.{input_of, custom_in};
+ghost use Rattle.line_keys.specs.Requests.{Begins, IsLater, WaitForInput};
 
 use crate::commands::{Status, execute};
+use crate::modal_state::ModalState;
 use crate::next_command::reset_for;
 use crate::renderer::Renderer;
 use crate::state::State;
@@ -13,6 +15,7 @@ use line_record::KillRing;
 
 impl<'p, 'h, Out: Renderer, H: Helper + Drop, Hi: History> State<'p, 'h, Out, H, Hi> {
     ghost use Rattle.line_editor.specs.LineScripts.{turn_script};
+    ghost use Rattle.line_editor.specs.Modal.{modal_of};
     ghost use Rattle.line_editor.specs.Turning.{Takes};
 
     /// One turn: the next command and its effect.
@@ -21,16 +24,20 @@ impl<'p, 'h, Out: Renderer, H: Helper + Drop, Hi: History> State<'p, 'h, Out, H,
         input_state: &mut InputState<'_, D>,
         rdr: &mut R,
         kill_ring: &mut KillRing,
+        modal: &mut ModalState,
         config: &Config,
     ) -> Result<Status, ReadlineError>
         ensures turn { let custom = custom_in input_state.old D.decides in
             Takes turn_script custom config.now.indent_size
-            self.old (input_of input_state.old) kill_ring.old (R.feed rdr.old)
-            self.new (input_of input_state.new) kill_ring.new (R.feed rdr.new) result }
+            self.old (input_of input_state.old) kill_ring.old (modal_of modal.old)
+            (R.feed rdr.old) self.new (input_of input_state.new) kill_ring.new
+            (modal_of modal.new) (R.feed rdr.new) result }
+        ensures asks { Begins R.asked (WaitForInput false) IsLater rdr.old rdr.new }
         ensures bindings { input_state.new.custom_bindings ≡ input_state.old.custom_bindings }
     {
         let cmd = self.next_cmd(input_state, rdr, false, false)?;
-        reset_for(kill_ring, &cmd);
-        execute(cmd, self, input_state, kill_ring, config)
+        let next = self.meet(modal, cmd)?;
+        reset_for(kill_ring, &next);
+        execute(next, self, input_state, kill_ring, config)
     }
 }

@@ -19,6 +19,7 @@ pub mod OpenQuotes
 pub mod QuoteLemmas
 pub mod ReloadLemmas
 pub mod RowLemmas
+pub mod RunLemmas
 pub mod SavingLemmas
 pub mod SearchLemmas
 pub mod SortLemmas

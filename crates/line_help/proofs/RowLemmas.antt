@@ -20,7 +20,7 @@ has_newline bytes = list_any (λ b. b == 10) bytes
 
 -- ---- what stands before the first newline
 
-is_false : (b : Bool) → ¬ (b ≡ true) → b ≡ false
+pub is_false : (b : Bool) → ¬ (b ≡ true) → b ≡ false
 is_false true never = absurd (never refl)
 is_false false never = refl
 

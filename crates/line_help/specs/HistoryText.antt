@@ -1,5 +1,5 @@
 -- The text of a history: what is saved of a list of entries, and which entries a text gives.
-use Rattle.std.specs.Prelude.{◌≡◌, ℕ, zero, suc, ◌==◌, ◌&&◌, Bool, true, false, if◌then◌else◌, List, [], ◌∷◌, ◌++◌, flat_map, bytes_eq, codes, Option, Some, None, option_map, unwrap_or, Result, Ok, Err, IsTrue, ⊤, IfErr, OnOk, OnErr, ◌⊎◌, ◌≤◌, length}
+use Rattle.std.specs.Prelude.{◌≡◌, ℕ, zero, suc, ◌==◌, ◌&&◌, Bool, true, false, if◌then◌else◌, List, [], ◌∷◌, ◌++◌, flat_map, bytes_eq, codes, Option, Some, None, option_map, unwrap_or, Result, Ok, Err, IsTrue, ⊤, IfOk, IfErr, OnOk, OnErr, ◌⊎◌, ◌<◌, ◌≤◌, length, take}
 use Rattle.std.specs.List.{list_any}
 use Rattle.std.specs.Str.{is_utf8}
 use Rattle.line_config.specs.Feed.{Feed, GivesBytes}
@@ -8,7 +8,7 @@ use Rattle.line_config.specs.declared.device.Last.TheVariants.{End, Failed}
 use Rattle.line_config.specs.declared.errors.ReadlineError.{ReadlineError}
 use Rattle.line_config.specs.declared.errors.ReadlineError.TheVariants.{Reader, HistoryText, Memory}
 use Rattle.line_help.specs.History.{Filed, newest, filed_with_all, takes_all, all_saved}
-use Rattle.line_config.specs.Sending.{Sends}
+use Rattle.line_config.specs.Sending.{Takes, TakesSome, Sends}
 
 -- the first row of a saved text: a text without it has no escapes
 abbrev pub header : List ℕ
@@ -192,6 +192,17 @@ without_return (b ∷ (c ∷ bs)) = b ∷ without_return (c ∷ bs)
 pub record SendsText {D : Type 0} (held : D → List ℕ) (failed : D → Bool) (text : List ℕ)
     (sink left : D) (result : Result ⊤ ReadlineError) : Type 0 where
   pub sends : Sends held failed text sink left result
+  pub fault : IfErr result (λ e. e ≡ HistoryText)
+
+-- the first bytes of an entry are sent, one at least if there are any; if the sink fails, it has
+-- taken a prefix of the entry's text
+pub record SendsRun {D : Type 0} (held : D → List ℕ) (failed : D → Bool) (bytes : List ℕ)
+    (sink left : D) (result : Result ℕ ReadlineError) : Type 0 where
+  pub count : IfOk result (λ n. (n ≤ length bytes) × (0 < length bytes → 0 < n))
+  pub sent : IfOk result (λ n. Takes held sink left (escaped_entry (take n bytes)))
+  pub works : OnOk result (failed left ≡ failed sink)
+  pub err : OnErr result (IsTrue (failed left))
+  pub begins : OnErr result (TakesSome held sink left (escaped_entry bytes))
   pub fault : IfErr result (λ e. e ≡ HistoryText)
 
 -- if an entry is new, a text is sent, and then none is new; if the sink fails, the history stays as

@@ -1,9 +1,10 @@
 //! Escapes in a saved history: a newline is written as `\n`, a backslash as two.
 ghost use Rattle.std.specs.Prelude.{◌≡◌, ◌==◌, [], IfOk, OnOk, option_map, unwrap_or, string_bytes};
 ghost use Rattle.std.specs.List.{list_any};
-ghost use Rattle.line_help.specs.HistoryText.{escaped_byte, row_of, unescaped_row, entry_of, SendsText};
+ghost use Rattle.line_help.specs.HistoryText.{escaped_byte, row_of, unescaped_row, entry_of, SendsText, SendsRun};
 
 use line_config::{ReadlineError, Sink};
+use memchr::memchr2;
 use std::alloc::{AllocError, Global};
 
 /// Writes bytes of a history's text.
@@ -32,13 +33,28 @@ fn put_escaped<S: Sink>(sink: &mut S, byte: u8) -> Result<(), ReadlineError>
     }
 }
 
+/// Writes the bytes of an entry up to its first newline or backslash, and that one. Returns how
+/// many bytes of the entry were written.
+fn put_run<S: Sink>(sink: &mut S, bytes: &[u8]) -> Result<usize, ReadlineError>
+    ensures { SendsRun S.held S.has_failed bytes.now sink.old sink.new result }
+{
+    let Some(at) = memchr2(b'\n', b'\\', bytes) else {
+        put(sink, bytes)?;
+        return Ok(bytes.len());
+    };
+    put(sink, &bytes[..at])?;
+    put_escaped(sink, bytes[at])?;
+    Ok(at + 1)
+}
+
 /// Writes an entry as a row, which ends in a newline.
 pub(crate) fn write_row<S: Sink>(sink: &mut S, entry: &str) -> Result<(), ReadlineError>
     ensures { SendsText S.held S.has_failed (row_of entry.now) sink.old sink.new result }
 {
     let bytes = entry.as_bytes();
-    for byte in bytes {
-        put_escaped(sink, *byte)?;
+    let mut sent = 0;
+    while sent < bytes.len() {
+        sent += put_run(sink, &bytes[sent..])?;
     }
     put(sink, b"\n")
 }

@@ -1,3 +1,4 @@
+pub mod Asking
 pub mod Beginnings
 pub mod RowActions
 pub mod Equality
@@ -7,6 +8,7 @@ pub mod Normal
 mod PhraseRows
 pub mod Places
 mod Played
+pub mod QuotedKeys
 pub mod Remembering
 mod Rows
 pub mod SameEventsLemmas

@@ -30,7 +30,7 @@ use Rattle.line_keys.specs.Bound.{same_event}
 use Rattle.line_keys.proofs.Played.{Played, played}
 
 abbrev emacs : Input
-emacs = record { mode = Emacs; input_mode = Inserting; last = Noop; search = None }
+emacs = record { mode = Emacs; input_mode = Inserting; last = Noop; search = None; modal_commands = false }
 
 abbrev nothing_bound : Custom
 nothing_bound = record { answers = λ e. None; begins = λ keys. false }

@@ -4,7 +4,7 @@ use Rattle.std.specs.Prelude.{Option, Some, None}
 use Rattle.line_config.specs.declared.settings.EditMode.{EditMode}
 use Rattle.line_config.specs.declared.settings.EditMode.TheVariants.{Emacs, Vi}
 use Rattle.line_keys.specs.declared.command.Cmd.{Cmd}
-use Rattle.line_keys.specs.declared.command.Cmd.TheVariants.{Insert}
+use Rattle.line_keys.specs.declared.command.Cmd.TheVariants.{Insert, QuotedInsert}
 use Rattle.line_keys.specs.declared.key.KeyEvent.{KeyEvent}
 use Rattle.line_keys.specs.Answers.{Custom}
 use Rattle.line_keys.specs.Commands.{holds_text, standing}
@@ -30,6 +30,7 @@ use Rattle.line_keys.specs.Feeds.{InputItem, InputOf, Key, Paste}
 use Rattle.line_config.specs.Scripts.{Ends, Asks}
 use Rattle.line_keys.specs.Phrase.{phrase, phrase_from}
 use Rattle.line_keys.specs.Phrases.{Input, Steps, Part, steps, answered, needs_if, needing, with_read, from_key, asking, becoming, decided_by, replied, deciding, kept_by, shown_by, after, and_then}
+use Rattle.line_keys.specs.Quoting.{is_paste_start, pasted, quoted, quoted_command, quotes, quoting}
 use Rattle.line_keys.specs.Redone.{anew, anew_or}
 use Rattle.line_keys.specs.Refreshing.{Shown, DoingInsert, DoneInserting}
 use Rattle.line_keys.specs.Replies.{Reply}
@@ -161,9 +162,19 @@ followed_settles s k = needing_settles (s.custom.begins (k ∷ [])) (following s
 sequence_settles : (s : Situation) (k : KeyEvent) → Settled (sequence s k)
 sequence_settles s k = then_settles _ (λ f i w. answered_settles _) (followed s k) s.input s.shown (followed_settles s k)
 
+pasted_settles : Settled pasted
+pasted_settles = read_settles Paste (λ text. answered (Insert 1 text)) (λ text. answered_settles (Insert 1 text))
+
+quoted_settles : (k : KeyEvent) → Settled (quoted k)
+quoted_settles k = either_settles (is_paste_start k) pasted (answered (quoted_command k)) pasted_settles (answered_settles (quoted_command k))
+
+quoting_settles : (i : Input) → Settled (quoting i)
+quoting_settles i = either_settles (quotes i) (with_read Key quoted) (answered QuotedInsert) (read_settles Key quoted quoted_settles) (answered_settles QuotedInsert)
+
 common_done_settles : (s : Situation) (k : KeyEvent) (o : Option CommonAction) → Settled (common_done s k o)
 common_done_settles s k (Some (commons.Give cmd)) = answered_settles cmd
-common_done_settles s k (Some commons.Paste) = read_settles Paste (λ text. answered (Insert 1 text)) (λ text. answered_settles (Insert 1 text))
+common_done_settles s k (Some commons.Paste) = pasted_settles
+common_done_settles s k (Some commons.Quote) = quoting_settles s.input
 common_done_settles s k None = sequence_settles s k
 
 common_settles : (s : Situation) (k : KeyEvent) → Settled (common s k)
@@ -244,7 +255,7 @@ command_done_settles new s k None = common_settles s k
 
 table_settles : (new : Option ℕ) (s : Situation) (k : KeyEvent) → Settled (command_table new s k)
 unfolding command_table
-table_settles new s k = command_done_settles new s k (action_of s.n k)
+table_settles new s k = command_done_settles new s k (action_of s.input.modal_commands s.n k)
 
 remembering_settles : (is : Bool) (cmd : Cmd) (i : Input) → Settled (remembering is cmd i)
 remembering_settles true cmd i = needing_settles (holds_text cmd) _ (becoming_settles (with_last cmd i) (answered cmd) (answered_settles cmd))
@@ -270,7 +281,7 @@ insert_done_settles custom i w k None = common_settles (situation custom i w 1 t
 
 insert_table_settles : (custom : Custom) (i : Input) (w : Shown) (k : KeyEvent) → Settled (insert_table custom i w k)
 unfolding insert_table
-insert_table_settles custom i w k = insert_done_settles custom i w k (insert_action w k)
+insert_table_settles custom i w k = insert_done_settles custom i w k (insert_action i.modal_commands w k)
 
 insert_settles : (custom : Custom) (k : KeyEvent) (i : Input) (w : Shown) → Settled (vi_insert custom k i w)
 unfolding vi_insert

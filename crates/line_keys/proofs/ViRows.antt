@@ -31,7 +31,7 @@ abbrev nothing_bound : Custom
 nothing_bound = record { answers = λ e. None; begins = λ keys. false }
 
 abbrev in_mode : InputMode → Input
-in_mode mode = record { mode = Vi; input_mode = mode; last = Noop; search = None }
+in_mode mode = record { mode = Vi; input_mode = mode; last = Noop; search = None; modal_commands = false }
 
 -- an empty line, and the text that was inserted last
 abbrev empty_line : Option (List ℕ) → Shown

@@ -7,17 +7,18 @@ use Rattle.line_buffer.specs.declared.types.At.TheVariants.{AfterEnd}
 use Rattle.line_buffer.specs.declared.types.Anchor.TheVariants.{Before}
 use Rattle.line_config.specs.declared.settings.EditMode.{EditMode}
 use Rattle.line_keys.specs.declared.command.Cmd.{Cmd}
-use Rattle.line_keys.specs.declared.command.Cmd.TheVariants.{AcceptOrInsertLine, EndOfFile, ForwardSearchHistory, Insert, LineDownOrNextHistory, LineUpOrPreviousHistory, Move, Noop, QuotedInsert, ReverseSearchHistory, TransposeChars, Undo, Unknown, Yank, Interrupt, Suspend}
+use Rattle.line_keys.specs.declared.command.Cmd.TheVariants.{AcceptOrInsertLine, EndOfFile, ForwardSearchHistory, LineDownOrNextHistory, LineUpOrPreviousHistory, Move, Noop, ReverseSearchHistory, TransposeChars, Undo, Unknown, Yank, Interrupt, Suspend}
 use Rattle.line_keys.specs.declared.key.KeyCode.TheVariants.{BracketedPasteStart, Delete, Down, End, Enter, Home, Left, Right, UnknownEscSeq, Up, Char}
 use Rattle.line_keys.specs.declared.key.KeyEvent.{KeyEvent}
 use Rattle.line_keys.specs.Custom.{Situation, custom_answer, followed}
 use Rattle.line_keys.specs.declared.keymap.common.Action.{Action}
-use Rattle.line_keys.specs.declared.keymap.common.Action.TheVariants.{Give, Paste}
+use Rattle.line_keys.specs.declared.keymap.common.Action.TheVariants.{Give, Paste, Quote}
 use Rattle.line_keys.specs.declared.keymap.custom.Followed.{Followed}
 use Rattle.line_keys.specs.declared.keymap.custom.Followed.TheVariants.{Bound, Unbound}
 use Rattle.line_keys.specs.Keys.{none, ctrl}
 use Rattle.line_keys.specs.Modes.{is_emacs}
-use Rattle.line_keys.specs.Phrases.{Part, answered, and_then, deciding, with_paste}
+use Rattle.line_keys.specs.Phrases.{Part, answered, and_then, deciding}
+use Rattle.line_keys.specs.Quoting.{pasted, quoting}
 use Rattle.line_keys.specs.Redone.{anew_or}
 use Rattle.line_keys.specs.Refreshing.{Shown}
 use Rattle.line_keys.specs.Tables.{Row, always, by_count, by_sign, moves, kills, named, char, only, look}
@@ -65,13 +66,15 @@ common_command_rows mode shown =
     ∷ char (codes "M") ctrl (always (Give (AcceptOrInsertLine true)))
     ∷ char (codes "R") ctrl (always (Give ReverseSearchHistory))
     ∷ char (codes "S") ctrl (always (Give ForwardSearchHistory))
-    ∷ char (codes "Q") ctrl (always (Give QuotedInsert))
-    ∷ char (codes "V") ctrl (always (Give QuotedInsert))
     ∷ named UnknownEscSeq none (always (Give Noop))
     ∷ []
 
 abbrev pub common_reading_rows : List (Row Action)
-common_reading_rows = named BracketedPasteStart none (always Paste) ∷ []
+common_reading_rows =
+    named BracketedPasteStart none (always Paste)
+    ∷ char (codes "Q") ctrl (always Quote)
+    ∷ char (codes "V") ctrl (always Quote)
+    ∷ []
 
 abbrev pub common_rows : EditMode → Shown → List (Row Action)
 common_rows mode shown = common_command_rows mode shown ++ common_reading_rows
@@ -92,7 +95,8 @@ sequence s k = and_then s.input s.shown (followed s k) (λ f input shown. answer
 
 abbrev pub common_done : Situation → KeyEvent → Option Action → Part Cmd
 common_done s k (Some (Give cmd)) = answered cmd
-common_done s k (Some Paste) = with_paste (λ text. answered (Insert 1 text))
+common_done s k (Some Paste) = pasted
+common_done s k (Some Quote) = quoting s.input
 common_done s k None = sequence s k
 
 abbrev pub common : Situation → KeyEvent → Part Cmd

@@ -1,7 +1,7 @@
 -- The value of an input state, the surroundings of a key, and the effect of its calls.
 use Rattle.std.specs.Prelude.{ℕ, Bool, None, Result}
 use Rattle.line_config.specs.declared.errors.ReadlineError.{ReadlineError}
-use Rattle.line_config.specs.declared.settings.EditMode.{EditMode}
+use Rattle.line_config.specs.declared.config.Config.{Config}
 use Rattle.line_keys.specs.declared.command.Cmd.TheVariants.{Noop}
 use Rattle.line_keys.specs.declared.command.InputMode.TheVariants.{Insert}
 use Rattle.line_keys.specs.declared.keymap.InputState.{InputState}
@@ -20,6 +20,7 @@ input_of s = record {
   input_mode = s.input_mode;
   last = s.last_cmd;
   search = s.last_char_search;
+  modal_commands = s.modal_commands;
 }
 
 -- its bindings; a handler's meaning is a parameter, since it comes with its box
@@ -30,8 +31,14 @@ abbrev pub situation_in : {D : Type 0} → InputState D → (D → Meaning) → 
 situation_in s means shown n positive = situation (custom_in s means) (input_of s) shown n positive
 
 -- the empty memory of a new state
-abbrev pub new_input : EditMode → Input
-new_input mode = record { mode = mode; input_mode = Insert; last = Noop; search = None }
+abbrev pub new_input : Config → Input
+new_input config = record {
+  mode = config.edit_mode;
+  input_mode = Insert;
+  last = Noop;
+  search = None;
+  modal_commands = config.modal_commands;
+}
 
 -- a binding is called, and replies as the situation says
 abbrev pub DecidesIn : {D A : Type 0} → (Situation → Reply A) → InputState D → (D → Meaning) → Shown

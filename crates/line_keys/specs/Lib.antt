@@ -15,9 +15,11 @@ pub mod Keys
 pub mod Modes
 pub mod Phrase
 pub mod Phrases
+pub mod Quoting
 pub mod Redone
 pub mod Refreshing
 pub mod Replies
+pub mod Requests
 pub mod SameKeys
 pub mod Settled
 pub mod Tables

@@ -21,6 +21,8 @@ pub record Input : Type 0 where
   pub last : Cmd
   -- Vi's last search for a character, if there was one
   pub search : Option CharSearch
+  -- whether the commands act that go on over several keys
+  pub modal_commands : Bool
 
 -- ---- steps, in order, and the answer after them
 

@@ -128,7 +128,7 @@ command_done new s k (Some action.Replace) = from_key (key_replacement s.n)
 command_done new s k None = common s k
 
 unfoldable pub command_table : Option ℕ → Situation → KeyEvent → Part Cmd
-command_table new s k = command_done new s k (action_of s.n k)
+command_table new s k = command_done new s k (action_of s.input.modal_commands s.n k)
 
 -- a bound command gets the count if one was typed
 abbrev pub vi_command_decided : Option ℕ → Situation → KeyEvent → Part Cmd
@@ -165,7 +165,8 @@ insert_done custom input shown k (Some (inserting.Command c)) =
 insert_done custom input shown k None = common (situation custom input shown 1 true) k
 
 unfoldable pub insert_table : Custom → Input → Shown → KeyEvent → Part Cmd
-insert_table custom input shown k = insert_done custom input shown k (insert_action shown k)
+insert_table custom input shown k =
+    insert_done custom input shown k (insert_action input.modal_commands shown k)
 
 -- a handler isn't shown a count
 unfoldable pub vi_insert : Custom → KeyEvent → Input → Shown → Part Cmd

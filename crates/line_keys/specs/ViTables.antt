@@ -1,5 +1,5 @@
 -- Vi's tables.
-use Rattle.std.specs.Prelude.{ℕ, true, List, [], ◌∷◌, ◌++◌, Option, None, codes}
+use Rattle.std.specs.Prelude.{ℕ, Bool, true, List, [], ◌∷◌, ◌++◌, Option, None, codes}
 use Rattle.line_buffer.specs.declared.types.Movement.TheVariants.{WholeLine, BeginningOfLine, EndOfLine, BackwardWord, ForwardWord, ViFirstPrint, BackwardChar, ForwardChar}
 use Rattle.line_buffer.specs.declared.types.Word.TheVariants.{Big, Vi}
 use Rattle.line_buffer.specs.declared.types.At.TheVariants.{Start, BeforeEnd}
@@ -24,8 +24,9 @@ use Rattle.line_keys.specs.Tables.{named, char, each_char, only, look}
 
 -- ---- insert mode
 
-abbrev pub vi_insert_rows : Shown → List (Row InsertAction)
-vi_insert_rows shown =
+-- whether the commands act that go on over several keys, and what is shown
+abbrev pub vi_insert_rows : Bool → Shown → List (Row InsertAction)
+vi_insert_rows modal shown =
     each_char none (λ c. always (inserting.Typed c))
     ∷ char (codes "H") ctrl (always (inserting.Give (Kill (BackwardChar 1))))
     ∷ named Backspace none (always (inserting.Give (Kill (BackwardChar 1))))
@@ -33,13 +34,14 @@ vi_insert_rows shown =
     ∷ char (codes "I") ctrl (always (inserting.Give Complete))
     ∷ named BackTab none (always (inserting.Give CompleteBackward))
     ∷ only (at_hint shown) (named Right none (always (inserting.Give CompleteHint)))
+    ∷ only modal (char (codes "G") ctrl (always (inserting.Give Abort)))
     ∷ named Esc none (always (inserting.Leave (Move (BackwardChar 1))))
     ∷ each_char alt (λ c. always (inserting.Command c))
     ∷ []
 
 -- the action of a key in insert and replace mode, if it has a row
-unfoldable pub insert_action : Shown → KeyEvent → Option InsertAction
-insert_action shown k = look 1 true k (vi_insert_rows shown)
+unfoldable pub insert_action : Bool → Shown → KeyEvent → Option InsertAction
+insert_action modal shown k = look 1 true k (vi_insert_rows modal shown)
 
 -- ---- command mode
 
@@ -85,8 +87,8 @@ vi_edit_rows =
     ∷ []
 
 -- keys that leave command mode
-abbrev pub vi_turn_rows : List (Row Action)
-vi_turn_rows =
+abbrev pub vi_turn_rows : Bool → List (Row Action)
+vi_turn_rows modal =
     char (codes "i") none (always (action.Insert Noop))
     ∷ char (codes "I") none (always (action.Insert (Move BeginningOfLine)))
     ∷ char (codes "a") none (by_count (λ n. action.Insert (Move (ForwardChar n))))
@@ -97,6 +99,8 @@ vi_turn_rows =
     ∷ char (codes "R") none (always (action.Turn Overwriting (Replace (ForwardChar 0) None)))
     ∷ char (codes "R") ctrl (always (action.Turn Insert ReverseSearchHistory))
     ∷ char (codes "S") ctrl (always (action.Turn Insert ForwardSearchHistory))
+    ∷ only modal (char (codes "/") none (always (action.Turn Insert ReverseSearchHistory)))
+    ∷ only modal (char (codes "?") none (always (action.Turn Insert ForwardSearchHistory)))
     ∷ []
 
 -- keys after which more is read, or which use the last search or change
@@ -117,12 +121,12 @@ vi_reading_rows =
     ∷ char (codes "c") none (always (action.Operate operators.Change))
     ∷ []
 
-abbrev pub vi_command_rows : List (Row Action)
-vi_command_rows = vi_move_rows ++ (vi_edit_rows ++ (vi_turn_rows ++ vi_reading_rows))
+abbrev pub vi_command_rows : Bool → List (Row Action)
+vi_command_rows modal = vi_move_rows ++ (vi_edit_rows ++ (vi_turn_rows modal ++ vi_reading_rows))
 
 -- the action of a key in command mode, if it has a row
-unfoldable pub action_of : ℕ → KeyEvent → Option Action
-action_of n k = look n true k vi_command_rows
+unfoldable pub action_of : Bool → ℕ → KeyEvent → Option Action
+action_of modal n k = look n true k (vi_command_rows modal)
 
 -- the key after `r`
 abbrev pub replacing_rows : List (Row Cmd)

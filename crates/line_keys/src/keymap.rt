@@ -4,12 +4,14 @@ pub mod common;
 pub mod count;
 pub mod custom;
 pub mod emacs;
+pub mod quoted;
 pub mod vi;
 
 ghost use Rattle.std.specs.Prelude.{◌≡◌, ◌<◌, OnOk, MatchResult, None};
 ghost use Rattle.line_keys.specs.Coming.{key_at};
 ghost use Rattle.line_keys.specs.Feeds.{Key, ReadsBy};
 ghost use Rattle.line_keys.specs.Follows.{Follows};
+ghost use Rattle.line_keys.specs.Requests.{Asks, Begins, IsLater, abort_in, first_request};
 
 use crate::binding::EventMap;
 use crate::command::{Cmd, InputMode};
@@ -31,6 +33,8 @@ pub struct InputState<'b, D: Decides = EventHandler> {
     last_cmd: Cmd,
     // Vi's last search for a character.
     last_char_search: Option<CharSearch>,
+    // Whether the commands act that go on over several keys.
+    pub(crate) modal_commands: bool,
 }
 
 impl<'b, D: Decides> InputState<'b, D> {
@@ -40,13 +44,13 @@ impl<'b, D: Decides> InputState<'b, D> {
     ghost use Rattle.line_keys.specs.Phrase.{phrase, phrase_from};
     ghost use Rattle.line_keys.specs.Modes.{is_emacs, is_vi_command};
 
-    /// A state in the mode of the configuration, with an empty memory.
+    /// A state with the mode and the modal commands of the configuration, and an empty memory.
     pub fn new(
         _alloc: Global,
         config: &Config,
         custom_bindings: &'b EventMap<D>,
     ) -> Result<Self, ReadlineError>
-        ensures { MatchResult result (λ s. (input_of s ≡ new_input config.now.edit_mode)
+        ensures { MatchResult result (λ s. (input_of s ≡ new_input config.now)
             × (s.custom_bindings ≡ custom_bindings.entry)) (λ _. ⊥) }
     {
         Ok(InputState {
@@ -55,6 +59,7 @@ impl<'b, D: Decides> InputState<'b, D> {
             input_mode: InputMode::Insert,
             last_cmd: Cmd::Noop,
             last_char_search: None,
+            modal_commands: config.modal_commands(),
         })
     }
 
@@ -90,6 +95,9 @@ impl<'b, D: Decides> InputState<'b, D> {
             Follows W.display custom (phrase custom input (W.display.shown wrt.old))
             wrt.old input wrt.new (input_of self.new) (R.feed rdr.old) (R.feed rdr.new) result }
         ensures bindings { self.new.custom_bindings ≡ self.old.custom_bindings }
+        ensures asks { let flag = abort_in self.old.mode single_esc_abort in
+            let first = first_request flag ignore_external_print in
+            Begins R.asked first IsLater rdr.old rdr.new }
         ensures falls { OnOk result ((R.feed rdr.new).bound < (R.feed rdr.old).bound) }
     {
         let single_esc_abort = self.single_esc_abort(single_esc_abort);
@@ -111,6 +119,7 @@ impl<'b, D: Decides> InputState<'b, D> {
             let shown = W.display.shown wrt.old in
             Follows W.display custom (phrase_from input.mode custom input shown key)
             wrt.old input wrt.new (input_of self.new) (R.feed rdr.old) (R.feed rdr.new) result }
+        ensures asks { Asks R.asked IsLater rdr.old rdr.new }
         ensures bindings { self.new.custom_bindings ≡ self.old.custom_bindings }
     {
         match self.mode {
@@ -119,7 +128,10 @@ impl<'b, D: Decides> InputState<'b, D> {
         }
     }
 
-    fn single_esc_abort(&self, single_esc_abort: bool) -> bool {
+    // Only Emacs's keys need not wait after Esc.
+    fn single_esc_abort(&self, single_esc_abort: bool) -> bool
+        ensures { result ≡ abort_in self.now.mode single_esc_abort }
+    {
         match self.mode {
             EditMode::Emacs => single_esc_abort,
             EditMode::Vi => false,
@@ -134,7 +146,9 @@ fn first_key<R: RawReader>(
     single_esc_abort: bool,
     ignore_external_print: bool,
 ) -> Result<KeyEvent, ReadlineError>
-    ensures { ReadsBy Key key_at (R.feed rdr.old) (R.feed rdr.new) result }
+    ensures reads { ReadsBy Key key_at (R.feed rdr.old) (R.feed rdr.new) result }
+    ensures asks { let first = first_request single_esc_abort ignore_external_print in
+        R.asked rdr.old first rdr.new }
 {
     if ignore_external_print {
         return rdr.next_key(single_esc_abort);

@@ -9,6 +9,7 @@ ghost use Rattle.line_keys.specs.Phrase.{phrase};
 ghost use Rattle.line_keys.specs.Phrases.{Input, steps};
 ghost use Rattle.line_keys.specs.Refreshing.{Shown};
 ghost use Rattle.line_keys.specs.Settled.{Settles};
+ghost use Rattle.line_keys.specs.Quoting.{QuotedAsSent};
 
 use crate::events::Event;
 use crate::key::KeyEvent;
@@ -36,4 +37,12 @@ pub fn event_equality()
 pub fn phrases_settle()
     ensures { (custom : Custom) (input : Input) (shown : Shown) (n : ℕ)
         → Settles true (steps (phrase custom input shown) n) }
+{}
+
+/// A quoted key inserts the character that it was sent as. U+0008 comes as the key Backspace, of
+/// which U+007F is inserted; the control characters from U+0080 on come as one key, and insert
+/// nothing.
+#[tactic(auto, using(crate::proofs::QuotedKeys::quoted_as_sent))]
+pub fn quoted_keys_are_as_sent()
+    ensures { QuotedAsSent }
 {}

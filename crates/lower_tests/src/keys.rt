@@ -5,6 +5,7 @@ mod bound;
 mod commands;
 mod emacs;
 mod key_rows;
+mod modal;
 mod tables;
 mod telling;
 mod typing;

@@ -34,6 +34,7 @@ fn config_of(setting: &Setting<'_>) -> Result<Config, ReadlineError> {
     let config = Config::builder()
         .edit_mode(setting.mode)
         .auto_add_history(setting.adding)
+        .modal_commands(setting.modal)
         .grapheme_cluster_mode(setting.clusters)
         .max_history_size(number_after(setting.all, "size:", 100))?
         .build();

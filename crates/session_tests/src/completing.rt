@@ -108,7 +108,7 @@ fn folders_that_cannot_be_listed(rt: HostRuntime) -> Result<(), Fail> {
     let rows = "
         ab␍/locked/m␉x␍ | {} a b ␍␊ {} /locked/m = Helper ab␊
         /huge/m␉x␍ | {} /huge/m = Memory nothing
-        '/locked/m␉x␍ | {} '/locked/m = Helper nothing
+        '/locked/m␉x␍ | {}'/locked/m = Helper nothing
         ";
     rows_hold(rt.alloc(), &mut Typed, rows)
 }

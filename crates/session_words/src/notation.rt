@@ -28,6 +28,8 @@ pub struct Setting<'a> {
     pub asking: Asking,
     pub mode: EditMode,
     pub adding: bool,
+    /// Whether the commands act that go on over several keys.
+    pub modal: bool,
     pub helped: bool,
     /// Whether the helper is an adviser.
     pub advised: bool,
@@ -95,6 +97,7 @@ pub fn setting_of(words: &str) -> Setting<'_> {
             EditMode::Emacs
         },
         adding: has(words, "adding"),
+        modal: has(words, "modal"),
         helped: has(words, "helped"),
         advised: has(words, "advised"),
         words: after(words, "words:").unwrap_or(""),
@@ -218,8 +221,44 @@ const BEFORE_THE_LINE: &[u8] = b"\r\x1B[J\x1B[m> \x1B[m";
 /// The end of a drawing, after the line.
 const AFTER_THE_LINE: &[u8] = b"\x1B[m\x1B[m";
 
+/// What stands before the query of a search, by the sign of its drawing.
+const HEADINGS: &str =
+    "'=(reverse-i-search)` !'=(failed␠reverse-i-search)` >'=(i-search)` !>'=(failed␠i-search)`";
+
+/// The heading of the search that a piece begins with, and the piece after its sign.
+fn searched(piece: &str) -> Option<(&'static str, &str)> {
+    for entry in HEADINGS.split_whitespace() {
+        if let Some((sign, heading)) = entry.split_once('=')
+            && let Some(rest) = piece.strip_prefix(sign)
+        {
+            return Some((heading, rest));
+        }
+    }
+    None
+}
+
+/// Appends a drawing after the prompt of a search: the query, `'`, and the line.
+fn put_search(
+    alloc: Global,
+    bytes: &mut Vec<u8>,
+    heading: &str,
+    rest: &str,
+) -> Result<(), AllocError> {
+    let (query, line) = rest.split_once('\'').unwrap_or((rest, ""));
+    let prompt = format!(in alloc; "␍␛[J␛[m{heading}{query}':␠␛[m{line}")?;
+    put_drawn(alloc, bytes, prompt.as_str())
+}
+
 /// Appends a piece of display bytes.
 fn put_piece(alloc: Global, bytes: &mut Vec<u8>, piece: &str) -> Result<(), AllocError> {
+    match searched(piece) {
+        Some((heading, rest)) => put_search(alloc, bytes, heading, rest),
+        None => put_drawn(alloc, bytes, piece),
+    }
+}
+
+/// Appends what a piece shows.
+fn put_drawn(alloc: Global, bytes: &mut Vec<u8>, piece: &str) -> Result<(), AllocError> {
     for byte in meant_bytes(alloc, piece)? {
         match byte {
             b'{' => bytes.extend_from_slice(BEFORE_THE_LINE)?,
@@ -231,7 +270,8 @@ fn put_piece(alloc: Global, bytes: &mut Vec<u8>, piece: &str) -> Result<(), Allo
 }
 
 /// Display bytes: `{ab}` is a drawing of the line `ab` in the first row, blanks are nothing, and
-/// the rest stands for itself.
+/// the rest stands for itself. `'xy'ab}` is a drawing after the prompt of a search for `xy`, `>'` of
+/// a forward one, and `!'` and `!>'` of those that failed.
 pub fn display_meant(alloc: Global, shown: &str) -> Result<Vec<u8>, AllocError> {
     let mut bytes = Vec::new(alloc);
     for piece in shown.split_whitespace() {

@@ -19,11 +19,12 @@ use session_rows::play::{Played, play};
 use session_rows::refusals::{play_grown, play_refused};
 use std::{env, fs, io};
 
-const FILES: [&str; 6] = [
+const FILES: [&str; 7] = [
     "rows.txt",
     "emacs.txt",
     "vi.txt",
     "worked.txt",
+    "modal.txt",
     "faults.txt",
     REFUSED,
 ];

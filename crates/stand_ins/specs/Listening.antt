@@ -1,8 +1,10 @@
--- A reader of which only the number of remaining items is known.
-use Rattle.std.specs.Prelude.{⊤, false, [], length}
+-- A reader of which only the number of remaining items is known, and how they were requested.
+use Rattle.std.specs.Prelude.{◌≡◌, ◌⊎◌, ⊤, Bool, false, true, [], ◌∷◌, ◌++◌, length}
 use Rattle.line_keys.specs.Coming.{Ends, End}
 use Rattle.line_keys.specs.Feeds.{KeyFeed}
+use Rattle.line_keys.specs.Requests.{Asked, NextKey, WaitForInput, NextChar, PastedText}
 use Rattle.stand_ins.specs.declared.listener.Listener.{Listener}
+use Rattle.stand_ins.specs.declared.listener.KeyRequest.{KeyRequest}
 
 abbrev pub listener_feed : Listener → KeyFeed
 listener_feed r = record {
@@ -11,3 +13,18 @@ listener_feed r = record {
   bound = length r.keys.now;
   reason = λ e. ⊤;
 }
+
+abbrev pub key_request : (report single_esc_abort : Bool) → KeyRequest
+key_request report single_esc_abort =
+    record { report = report; single_esc_abort = single_esc_abort }
+
+-- a request is noted behind the others, unless it gives no key
+abbrev pub Notes : KeyRequest → Listener → Listener → Type 0
+Notes k s t = (t.requests.items ≡ s.requests.items ++ (k ∷ []))
+    ⊎ (t.requests.items ≡ s.requests.items)
+
+abbrev pub noted_by : Asked Listener
+noted_by s (NextKey flag) t = Notes (key_request false flag) s t
+noted_by s (WaitForInput flag) t = Notes (key_request true flag) s t
+noted_by s NextChar t = Notes (key_request false false) s t
+noted_by s PastedText t = t ≡ s

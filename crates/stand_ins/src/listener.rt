@@ -3,6 +3,7 @@
 ghost use Rattle.std.specs.Prelude.{◌≡◌, ◌<◌, ◌≤◌, IfErr, OnOk, length};
 ghost use Rattle.line_config.specs.declared.errors.ReadlineError.{ReadlineError};
 ghost use Rattle.line_keys.specs.Feeds.{IsReaderRefusal};
+ghost use Rattle.stand_ins.specs.Listening.{Notes, key_request};
 
 use line_config::ReadlineError;
 use line_keys::tty::Event as Report;
@@ -41,6 +42,7 @@ impl<'t> Listener<'t> {
         ensures falls { OnOk result (length self.new.keys.now < length self.old.keys.now) }
         ensures keeps { length self.new.keys.now ≤ length self.old.keys.now }
         ensures err { IfErr result IsReaderRefusal }
+        ensures notes { Notes (key_request report single_esc_abort) self.old self.new }
     {
         let [key, rest @ ..] = self.keys else {
             return Err(ReadlineError::Eof);
@@ -56,11 +58,13 @@ impl<'t> Listener<'t> {
 
 impl RawReader for Listener<'_> {
     ghost use Rattle.std.specs.Prelude.{None};
-    ghost use Rattle.stand_ins.specs.Listening.{listener_feed};
+    ghost use Rattle.stand_ins.specs.Listening.{listener_feed, noted_by};
 
     type Buffer = u8;
 
     ghost feed = { listener_feed };
+
+    ghost asked = { noted_by };
 
     ghost kept = { λ _. None };
 

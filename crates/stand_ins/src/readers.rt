@@ -4,6 +4,7 @@ ghost use Rattle.std.specs.Prelude.{◌≡◌, IsTrue};
 ghost use Rattle.stand_ins.specs.Typing.{refusal_after, key_list_refusal, is_key_list_refusal};
 
 use line_config::ReadlineError;
+use line_keys::tty::Event as Report;
 use line_keys::{Cmd, KeyCode, KeyEvent, Modifiers, RawReader, Text};
 use std::alloc::Global;
 
@@ -89,12 +90,14 @@ impl<'t> KeyList<'t> {
 }
 
 impl RawReader for KeyList<'_> {
-    ghost use Rattle.std.specs.Prelude.{None};
+    ghost use Rattle.std.specs.Prelude.{None, ⊤};
     ghost use Rattle.stand_ins.specs.Reading.{key_list_feed};
 
     type Buffer = u8;
 
     ghost feed = { key_list_feed };
+
+    ghost asked = { λ s r t. ⊤ };
 
     ghost kept = { λ _. None };
 
@@ -111,6 +114,12 @@ impl RawReader for KeyList<'_> {
             [] if self.cut => Err(self.refuse(ReadlineError::PasteOutOfPlace)),
             [] => Err(self.refuse(self.after.refusal())),
         }
+    }
+
+    #[tactic(auto, using(line_keys::proofs::KeyReads::made_of_read, line_keys::proofs::KeyReads::not_made))]
+    fn wait_for_input(&mut self, single_esc_abort: bool) -> Result<Report, ReadlineError> {
+        let key = self.next_key(single_esc_abort)?;
+        Ok(Report::KeyPress(key))
     }
 
     fn next_char(&mut self) -> Result<char, ReadlineError> {

@@ -1,5 +1,5 @@
 -- If the test holds, each moment of a session, and of each row, shows what is to be shown.
-use Rattle.std.proofs.Common.{◌≡◌, ℕ, Bool, true, false, nat_eq, bytes_eq, ◌&&◌, cond, List, [], ◌∷◌, Option, None, Some, refl, subst}
+use Rattle.std.proofs.Common.{◌≡◌, ℕ, Bool, true, false, nat_eq, nat_le, ◌+◌, length, bytes_eq, ◌&&◌, cond, List, [], ◌∷◌, ◌++◌, Option, None, Some, refl, subst}
 use Rattle.std.proofs.lemmas.Bool.{and_parts, eqb-true, false≢true}
 use Rattle.std.proofs.lemmas.Slice.Eq.{bytes_eq-Decides}
 use Rattle.line_buffer.specs.declared.layout.Position.{Position}
@@ -9,8 +9,8 @@ use Rattle.line_screen.specs.Calls.{Screen}
 use Rattle.line_screen.specs.Display.{Display, Placed}
 use Rattle.keyline.specs.Events.{Event, Begins, Breaks, Draws, Hears, Helped, Keeps, Rests, Takes, Writes}
 use Rattle.keyline.specs.Shows.{EachShown, Face, HasMeaning, MomentShown, below, blank, broken, drawn_on}
-use Rattle.worked_rows.specs.Playing.{Row, course_of, screen_in}
-use Rattle.worked_rows.specs.Showing.{AllShown, EachFaceShown, all_broken, all_drawn, all_mean, all_rest, all_rested, each_shown, has_above, is_row_shown, is_shown, meaning_of, rested, same_cells, same_placed, same_position, session_shown, unshown}
+use Rattle.worked_rows.specs.Playing.{Row, agrees, course_of, differing, screen_in}
+use Rattle.worked_rows.specs.Showing.{AllShown, EachFaceShown, all_broken, all_drawn, all_mean, all_rest, all_rested, each_shown, has_above, is_row_shown, is_shown, meaning_of, rested, same_cells, same_placed, same_position, session_shown, short, unshown}
 
 position-is : (a b : Position) → same_position a b ≡ true → a ≡ b
 position-is a b h =
@@ -141,3 +141,27 @@ all_shown [] h = tt
 all_shown (row ∷ rows) h =
     let p = rest-shown row rows (is_row_shown row) h in
     (session-is (screen_in row) (course_of row).events p.0, all_shown rows p.1)
+
+-- ---- a list in two parts: one computation takes only so many steps
+
+short-step : (b : Bool) (row : Row) (xs ys : List Row)
+    → AllShown (cond b (row ∷ xs) xs) → (AllShown xs → AllShown ys) → AllShown (cond b (row ∷ ys) ys)
+short-step true row xs ys h go = (h.0, go h.1)
+short-step false row xs ys h go = go h
+
+pub both_shown : (xs ys : List Row) → AllShown (short xs) → AllShown (short ys) → AllShown (short (xs ++ ys))
+both_shown [] ys h k = k
+both_shown (row ∷ rows) ys h k =
+    short-step (nat_le (length row.keys + length row.lines) 2000) row (short rows) (short (rows ++ ys)) h
+    (λ r. both_shown rows ys r k)
+
+given-step : (b : Bool) (n : ℕ) (xs ys : List ℕ)
+    → cond b xs (n ∷ xs) ≡ [] → (xs ≡ [] → ys ≡ []) → cond b ys (n ∷ ys) ≡ []
+given-step true n xs ys h go = go h
+given-step false n xs ys h go = absurd (not_one_more _ _ h)
+
+pub both_given : (xs ys : List Row) → differing xs ≡ [] → differing ys ≡ [] → differing (xs ++ ys) ≡ []
+both_given [] ys h k = k
+both_given (row ∷ rows) ys h k =
+    given-step (agrees row (course_of row)) row.number (differing rows) (differing (rows ++ ys)) h
+    (λ r. both_given rows ys r k)

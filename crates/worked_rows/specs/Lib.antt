@@ -2,6 +2,7 @@ pub mod Calls
 pub mod Comparing
 pub mod Emacs
 pub mod Faults
+pub mod Modal
 pub mod Playing
 pub mod Refusals
 pub mod Rows

@@ -52,7 +52,7 @@ history_in row = loaded_from row.settings.config (fresh_feed row.settings.loaded
 
 abbrev pub start_in : Row → SessionState
 start_in row = let s = row.settings in
-    state_over (new_ring 60) (history_in row) s.config.edit_mode row.keys s.last
+    state_over (new_ring 60) [] (history_in row) s.config.edit_mode row.keys s.last
 
 -- THE session of a row. Each key and each paste has a byte at least, so this is fuel enough
 abbrev pub course_of : Row → Course ReadlineError

@@ -5,7 +5,7 @@ use Rattle.line_keys.specs.declared.events.Event.TheVariants.{KeySeq}
 use Rattle.line_keys.specs.declared.key.KeyCode.TheVariants.{Char, Esc}
 use Rattle.std.specs.Prelude.{List, [], ◌∷◌, None, Some, true, false, codes}
 use Rattle.worked_rows.specs.Playing.{Row, row}
-use Rattle.worked_rows.specs.Settings.{Settings, adding, aide, bound, command, plain, vi}
+use Rattle.worked_rows.specs.Settings.{Settings, adding, aide, bound, command, modal, plain, vi}
 
 -- abc C-a X Enter = Xabc
 abbrev pub row_5 : Row
@@ -127,6 +127,38 @@ settings_37 = record plain {
 abbrev pub row_37 : Row
 row_37 = row 37 settings_37 (codes "abcdef\u{1b}[D\u{7f}\r") (codes "abcdf\n")
 
+-- modal adding loaded:#V2␊git␠status␊make␠test␊
+abbrev pub settings_40 : Settings
+settings_40 = record plain {
+  config = modal (adding plain.config);
+  loaded = codes "#V2\ngit status\nmake test\n";
+}
+
+-- ab C-R st C-R Enter = git␠status
+abbrev pub row_40 : Row
+row_40 = row 40 settings_40 (codes "ab\u{12}st\u{12}\r") (codes "git status\n")
+
+-- ab C-R t C-G X Enter C-R C-R Backspace C-_ m Enter = abX m
+abbrev pub row_41 : Row
+row_41 = row 41 settings_40 (codes "ab\u{12}t\u{7}X\r\u{12}\u{12}\u{7f}\u{1f}m\r")
+    (codes "abX\nm\n")
+
+-- ma Up ! C-V Tab Enter = ma!␉ke␠test
+abbrev pub row_42 : Row
+row_42 = row 42 settings_40 (codes "ma\u{1b}[A!\u{16}\t\r") (codes "ma!\tke test\n")
+
+-- modal vi adding loaded:#V2␊make␠test␊
+abbrev pub settings_45 : Settings
+settings_45 = record plain {
+  config = modal (adding (vi plain.config));
+  loaded = codes "#V2\nmake test\n";
+}
+
+-- ab C-R te Esc u Enter = ab
+abbrev pub row_45 : Row
+row_45 = row 45 settings_45 (codes "ab\u{12}te\u{1b}u\r") (codes "ab\n")
+
 abbrev pub refusals_rows : List Row
 refusals_rows = row_5 ∷ row_6 ∷ row_7 ∷ row_8 ∷ row_9 ∷ row_12 ∷ row_13 ∷ row_14 ∷ row_15 ∷ row_18 ∷
-    row_21 ∷ row_24 ∷ row_27 ∷ row_28 ∷ row_31 ∷ row_34 ∷ row_37 ∷ []
+    row_21 ∷ row_24 ∷ row_27 ∷ row_28 ∷ row_31 ∷ row_34 ∷ row_37 ∷ row_40 ∷ row_41 ∷ row_42 ∷ row_45
+    ∷ []

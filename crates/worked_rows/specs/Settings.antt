@@ -20,7 +20,7 @@ use Rattle.line_keys.specs.Handling.{Meaning}
 use Rattle.line_keys.specs.Replies.{gives, gives_at_once}
 use Rattle.line_keys.specs.declared.command.Cmd.{Cmd}
 use Rattle.line_keys.specs.declared.events.Event.{Event}
-use Rattle.keyline.specs.Program.{EditHelper, edit_helping, nothing_bound, standard_config}
+use Rattle.keyline.specs.Program.{EditHelper, edit_helping, nothing_bound, profile_of, standard_config}
 
 -- `loaded` is the text of the history, and `last` what the source of keys does after its bytes
 pub record Settings : Type 0 where
@@ -75,11 +75,19 @@ by_options mode columns prompt brackets words loaded = record plain {
   loaded = loaded;
 }
 
+-- by --extended
+abbrev pub extended : Settings → Settings
+extended settings = record settings { config = profile_of true settings.config }
+
 abbrev pub vi : Config → Config
 vi config = record config { edit_mode = Vi }
 
 abbrev pub adding : Config → Config
 adding config = record config { auto_add_history = true }
+
+-- with commands that go on over several keys
+abbrev pub modal : Config → Config
+modal config = record config { modal_commands = true }
 
 abbrev pub of_size : ℕ → Config → Config
 of_size n config = record config { max_history_size = n }

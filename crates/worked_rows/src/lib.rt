@@ -10,6 +10,7 @@ ghost use Rattle.std.specs.Prelude.{◌≡◌, []};
 ghost use Rattle.worked_rows.specs.Calls.{Edits, Motions, Records, Rings};
 ghost use Rattle.worked_rows.specs.Emacs.{emacs_rows};
 ghost use Rattle.worked_rows.specs.Faults.{faults_rows};
+ghost use Rattle.worked_rows.specs.Modal.{modal_rows};
 ghost use Rattle.worked_rows.specs.Playing.{differing};
 ghost use Rattle.worked_rows.specs.Refusals.{refusals_rows};
 ghost use Rattle.worked_rows.specs.Rows.{rows_rows};
@@ -57,6 +58,13 @@ pub fn faults()
 pub fn worked()
     ensures given { differing worked_rows ≡ [] }
     ensures shown { AllShown (short worked_rows) }
+{}
+
+/// The definition gives each row of `modal.txt`: its lines, its ending, the history's text and the
+/// display bytes. At each moment the bytes so far show prompt and line.
+pub fn modal()
+    ensures given { differing modal_rows ≡ [] }
+    ensures shown { AllShown (short modal_rows) }
 {}
 
 /// Where motions go from a place in a line.

@@ -8,6 +8,7 @@ ghost use Rattle.line_buffer.specs.declared.types.Movement.TheVariants.{Backward
 ghost use Rattle.line_config.specs.declared.settings.EditMode.{EditMode};
 ghost use Rattle.line_keys.specs.declared.command.Cmd.TheVariants.{Yank, Unknown};
 ghost use Rattle.line_keys.specs.Refreshing.{Shown};
+ghost use Rattle.line_keys.specs.Requests.{Asks, IsLater};
 ghost use Rattle.line_keys.specs.Tables.{look, first_row};
 ghost use Rattle.line_keys.specs.declared.keymap.common.Action.TheVariants.{Give};
 
@@ -30,6 +31,8 @@ pub enum Action {
     Give(Cmd),
     /// Inserts a pasted text, which is read first.
     Paste,
+    /// Inserts the character of the next key, which is read first, or only names this command.
+    Quote,
 }
 
 impl<D: Decides> InputState<'_, D> {
@@ -47,8 +50,9 @@ impl<D: Decides> InputState<'_, D> {
         n: RepeatCount,
         positive: bool,
     ) -> Result<Cmd, ReadlineError>
-        ensures { FollowsIn (λ s. common s key) self.now D.decides W.display wrt.now n positive
-            (R.feed rdr.old) (R.feed rdr.new) result }
+        ensures phrase { FollowsIn (λ s. common s key) self.now D.decides W.display wrt.now n
+            positive (R.feed rdr.old) (R.feed rdr.new) result }
+        ensures asks { Asks R.asked IsLater rdr.old rdr.new }
     {
         match common_action(self.mode, wrt, key, n, positive) {
             Some(Action::Give(cmd)) => Ok(cmd),
@@ -56,6 +60,7 @@ impl<D: Decides> InputState<'_, D> {
                 let text = rdr.read_pasted_text(alloc)?;
                 Ok(Cmd::Insert(1, text))
             }
+            Some(Action::Quote) => self.quoting(alloc, rdr),
             None => self.sequence(alloc, rdr, wrt, key, n, positive),
         }
     }
@@ -71,8 +76,9 @@ impl<D: Decides> InputState<'_, D> {
         n: RepeatCount,
         positive: bool,
     ) -> Result<Cmd, ReadlineError>
-        ensures { FollowsIn (λ s. sequence s key) self.now D.decides W.display wrt.now n positive
-            (R.feed rdr.old) (R.feed rdr.new) result }
+        ensures phrase { FollowsIn (λ s. sequence s key) self.now D.decides W.display wrt.now n
+            positive (R.feed rdr.old) (R.feed rdr.new) result }
+        ensures asks { Asks R.asked IsLater rdr.old rdr.new }
     {
         let followed = self.custom_seq_binding(alloc, rdr, wrt, key, n, positive)?;
         Ok(bound_command(followed))
@@ -158,6 +164,7 @@ fn reading_row(key: KeyEvent) -> Option<Action>
 {
     match key {
         KeyEvent(KeyCode::BracketedPasteStart, Modifiers::NONE) => Some(Action::Paste),
+        KeyEvent(KeyCode::Char('Q' | 'V'), Modifiers::CTRL) => Some(Action::Quote),
         _ => None,
     }
 }
@@ -227,7 +234,6 @@ fn ctrl_row<W: Refresher>(
             let range = by_sign(positive, Movement::BeginningOfLine, Movement::EndOfLine);
             Some(Cmd::Kill(range))
         }
-        KeyCode::Char('Q' | 'V') => Some(Cmd::QuotedInsert),
         KeyCode::Char('W') => {
             let back = Movement::BackwardWord(n, Word::Big);
             let ahead = Movement::ForwardWord(n, At::AfterEnd, Word::Big);

@@ -147,6 +147,8 @@ impl<D: Decides> InputState<'_, D> {
     ghost use Rattle.line_keys.specs.InputStates.{input_of, custom_in};
     ghost use Rattle.line_keys.specs.Counts.{counted_key, counting, counted_on};
     ghost use Rattle.line_keys.specs.Follows.{Follows};
+    ghost use Rattle.line_keys.specs.Modes.{is_emacs};
+    ghost use Rattle.line_keys.specs.Requests.{Asks, IsKey};
 
     /// The key; if it starts a count, the count and the key after it.
     #[tactic(auto, using(crate::proofs::Steps::answer))]
@@ -157,10 +159,11 @@ impl<D: Decides> InputState<'_, D> {
         wrt: &mut W,
         key: KeyEvent,
     ) -> Result<(Option<i16>, KeyEvent), ReadlineError>
-        ensures { let input = input_of self.now in
+        ensures phrase { let input = input_of self.now in
             let script = counted_key input.mode key in
             Follows W.display (custom_in self.now D.decides) script
             wrt.old input wrt.new input (R.feed rdr.old) (R.feed rdr.new) result }
+        ensures asks { Asks R.asked (IsKey (is_emacs self.now.mode)) rdr.old rdr.new }
     {
         match begun_by(self.mode, key) {
             Some(begun) => self.digit_argument(alloc, rdr, wrt, begun),
@@ -177,10 +180,11 @@ impl<D: Decides> InputState<'_, D> {
         wrt: &mut W,
         begun: i16,
     ) -> Result<(Option<i16>, KeyEvent), ReadlineError>
-        ensures { let input = input_of self.now in
+        ensures phrase { let input = input_of self.now in
             let script = counting (counted_on input.mode) begun in
             Follows W.display (custom_in self.now D.decides) script
             wrt.old input wrt.new input (R.feed rdr.old) (R.feed rdr.new) result }
+        ensures asks { Asks R.asked (IsKey (is_emacs self.now.mode)) rdr.old rdr.new }
     {
         let mut count = begun;
         loop {

@@ -28,6 +28,8 @@ impl<D: Decides> InputState<'_, D> {
     ghost use Rattle.line_keys.specs.Answers.{answer_by};
     ghost use Rattle.line_keys.specs.Custom.{or_any};
     ghost use Rattle.line_keys.specs.Events.{single};
+    ghost use Rattle.line_keys.specs.Requests.{Asks, IsKey};
+    ghost use Rattle.std.specs.Prelude.{true};
 
     /// The command of the key's own binding, or of the binding of any key.
     pub(crate) fn custom_binding<W: Refresher>(
@@ -100,8 +102,9 @@ impl<D: Decides> InputState<'_, D> {
         n: RepeatCount,
         positive: bool,
     ) -> Result<Followed, ReadlineError>
-        ensures { FollowsIn (λ s. followed s key) self.now D.decides W.display wrt.now n positive
-            (R.feed rdr.old) (R.feed rdr.new) result }
+        ensures phrase { FollowsIn (λ s. followed s key) self.now D.decides W.display wrt.now n
+            positive (R.feed rdr.old) (R.feed rdr.new) result }
+        ensures asks { Asks R.asked (IsKey true) rdr.old rdr.new }
     {
         if !self.custom_bindings.begins(&[key]) {
             return Ok(Followed::Unbound(None));

@@ -1,12 +1,13 @@
 //! The keys of Emacs mode.
 
-ghost use Rattle.std.specs.Prelude.{◌≡◌, ℕ, option_map, if◌then◌else◌};
+ghost use Rattle.std.specs.Prelude.{◌≡◌, ℕ, option_map, if◌then◌else◌, true, false};
 ghost use Rattle.line_keys.specs.Coming.{from_key_at};
 ghost use Rattle.line_keys.specs.Keys.{none, char_with};
 ghost use Rattle.line_keys.specs.Emacs.{back, ahead, move_to_char, second_command};
 ghost use Rattle.line_keys.specs.Emacs.{emacs_command_rows, emacs_action, emacs_reading_rows, typed_rows};
 ghost use Rattle.line_keys.specs.Feeds.{Key, ReadsBy};
 ghost use Rattle.line_keys.specs.Refreshing.{Shown};
+ghost use Rattle.line_keys.specs.Requests.{Asks, IsLater, NextKey};
 ghost use Rattle.line_keys.specs.Tables.{look, first_row};
 ghost use Rattle.line_keys.specs.ViSearches.{search_of};
 ghost use Rattle.line_keys.specs.declared.command.Cmd.TheVariants.{Complete, CompleteBackward};
@@ -56,12 +57,13 @@ impl<D: Decides> InputState<'_, D> {
         wrt: &mut W,
         key: KeyEvent,
     ) -> Result<Cmd, ReadlineError>
-        ensures { let custom = custom_in self.now D.decides in
+        ensures phrase { let custom = custom_in self.now D.decides in
             let input = input_of self.now in
             let shown = W.display.shown wrt.old in
             let script = emacs_phrase custom input shown key in
             Follows W.display custom script
             wrt.old input wrt.new input (R.feed rdr.old) (R.feed rdr.new) result }
+        ensures asks { Asks R.asked IsLater rdr.old rdr.new }
     {
         let (count, key) = self.counted_key(alloc, rdr, wrt, key)?;
         self.emacs_decided(alloc, rdr, wrt, count, key)
@@ -77,9 +79,10 @@ impl<D: Decides> InputState<'_, D> {
         count: Option<i16>,
         key: KeyEvent,
     ) -> Result<Cmd, ReadlineError>
-        ensures { let n = how_often count in
+        ensures phrase { let n = how_often count in
             FollowsIn (λ s. emacs_decided s key) self.now D.decides
             W.display wrt.now n (is_plus count) (R.feed rdr.old) (R.feed rdr.new) result }
+        ensures asks { Asks R.asked IsLater rdr.old rdr.new }
     {
         let n = times(count);
         let positive = is_positive(count);
@@ -103,8 +106,9 @@ impl<D: Decides> InputState<'_, D> {
         n: RepeatCount,
         positive: bool,
     ) -> Result<Cmd, ReadlineError>
-        ensures { FollowsIn (λ s. emacs_command s key) self.now D.decides
+        ensures phrase { FollowsIn (λ s. emacs_command s key) self.now D.decides
             W.display wrt.now n positive (R.feed rdr.old) (R.feed rdr.new) result }
+        ensures asks { Asks R.asked IsLater rdr.old rdr.new }
     {
         match emacs_action(wrt, key, n, positive) {
             Some(Action::Give(cmd)) => Ok(cmd),
@@ -125,8 +129,9 @@ impl<D: Decides> InputState<'_, D> {
         n: RepeatCount,
         positive: bool,
     ) -> Result<Cmd, ReadlineError>
-        ensures { FollowsIn (λ s. emacs_done s key (Some LeadOn)) self.now D.decides
+        ensures phrase { FollowsIn (λ s. emacs_done s key (Some LeadOn)) self.now D.decides
             W.display wrt.now n positive (R.feed rdr.old) (R.feed rdr.new) result }
+        ensures asks { Asks R.asked IsLater rdr.old rdr.new }
     {
         let followed = self.custom_seq_binding(alloc, rdr, wrt, key, n, positive)?;
         match followed {
@@ -144,8 +149,9 @@ fn read_second<R: RawReader>(
     n: RepeatCount,
     positive: bool,
 ) -> Result<Cmd, ReadlineError>
-    ensures { let given = from_key_at (second_command n positive) in
+    ensures reads { let given = from_key_at (second_command n positive) in
         ReadsBy Key given (R.feed rdr.old) (R.feed rdr.new) result }
+    ensures asks { R.asked rdr.old (NextKey true) rdr.new }
 {
     let second = rdr.next_key(true)?;
     Ok(second_command(second, n, positive))
@@ -182,9 +188,10 @@ fn char_search<R: RawReader>(
     n: RepeatCount,
     search: Search,
 ) -> Result<Cmd, ReadlineError>
-    ensures { let given = from_key_at (λ next.
+    ensures reads { let given = from_key_at (λ next.
         move_to_char n (search_of search) (char_with none next)) in
         ReadsBy Key given (R.feed rdr.old) (R.feed rdr.new) result }
+    ensures asks { R.asked rdr.old (NextKey false) rdr.new }
 {
     let key = rdr.next_key(false)?;
     Ok(searched(n, search, plain_char(key)))

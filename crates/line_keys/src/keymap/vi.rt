@@ -4,9 +4,10 @@ pub mod count;
 pub mod motion;
 pub mod table;
 
-ghost use Rattle.std.specs.Prelude.{◌≡◌, true};
+ghost use Rattle.std.specs.Prelude.{◌≡◌, true, false};
 ghost use Rattle.line_keys.specs.Coming.{from_key_at};
 ghost use Rattle.line_keys.specs.Feeds.{Key, ReadsBy};
+ghost use Rattle.line_keys.specs.Requests.{Asks, IsLater, NextKey};
 ghost use Rattle.line_keys.specs.Vi.{move_or, key_replacement, typed_in};
 
 use crate::command::{Cmd, InputMode};
@@ -49,6 +50,7 @@ impl<D: Decides> InputState<'_, D> {
             Follows W.display (custom_in self.old D.decides) script
             wrt.old (input_of self.old) wrt.new (input_of self.new)
             (R.feed rdr.old) (R.feed rdr.new) result }
+        ensures asks { Asks R.asked IsLater rdr.old rdr.new }
         ensures bindings { self.new.custom_bindings ≡ self.old.custom_bindings }
     {
         match self.input_mode {
@@ -71,6 +73,7 @@ impl<D: Decides> InputState<'_, D> {
             Follows W.display (custom_in self.old D.decides) script
             wrt.old (input_of self.old) wrt.new (input_of self.new)
             (R.feed rdr.old) (R.feed rdr.new) result }
+        ensures asks { Asks R.asked IsLater rdr.old rdr.new }
         ensures bindings { self.new.custom_bindings ≡ self.old.custom_bindings }
     {
         let (count, key) = self.counted_key(alloc, rdr, wrt, key)?;
@@ -92,6 +95,7 @@ impl<D: Decides> InputState<'_, D> {
             Follows W.display (custom_in self.old D.decides) script
             wrt.old (input_of self.old) wrt.new (input_of self.new)
             (R.feed rdr.old) (R.feed rdr.new) result }
+        ensures asks { Asks R.asked IsLater rdr.old rdr.new }
         ensures bindings { self.new.custom_bindings ≡ self.old.custom_bindings }
     {
         match self.custom_binding(alloc, wrt, key, times(count), true)? {
@@ -120,6 +124,7 @@ impl<D: Decides> InputState<'_, D> {
             Follows W.display (custom_in self.old D.decides) script
             wrt.old (input_of self.old) wrt.new (input_of self.new)
             (R.feed rdr.old) (R.feed rdr.new) result }
+        ensures asks { Asks R.asked IsLater rdr.old rdr.new }
         ensures bindings { self.new.custom_bindings ≡ self.old.custom_bindings }
     {
         let cmd = self.vi_done(alloc, rdr, wrt, count, key)?;
@@ -143,10 +148,11 @@ impl<D: Decides> InputState<'_, D> {
             Follows W.display (custom_in self.old D.decides) script
             wrt.old (input_of self.old) wrt.new (input_of self.new)
             (R.feed rdr.old) (R.feed rdr.new) result }
+        ensures asks { Asks R.asked IsLater rdr.old rdr.new }
         ensures bindings { self.new.custom_bindings ≡ self.old.custom_bindings }
     {
         let n = times(count);
-        match vi_command_row(key, n) {
+        match vi_command_row(self.modal_commands, key, n) {
             Some(Action::Give(cmd)) => Ok(cmd),
             Some(Action::Insert(cmd)) => {
                 self.input_mode = InputMode::Insert;
@@ -192,6 +198,7 @@ impl<D: Decides> InputState<'_, D> {
             Follows W.display (custom_in self.old D.decides) script
             wrt.old (input_of self.old) wrt.new (input_of self.new)
             (R.feed rdr.old) (R.feed rdr.new) result }
+        ensures asks { Asks R.asked IsLater rdr.old rdr.new }
         ensures bindings { self.new.custom_bindings ≡ self.old.custom_bindings }
     {
         self.enter(operator);
@@ -235,6 +242,7 @@ impl<D: Decides> InputState<'_, D> {
             Follows W.display (custom_in self.old D.decides) script
             wrt.old (input_of self.old) wrt.new (input_of self.new)
             (R.feed rdr.old) (R.feed rdr.new) result }
+        ensures asks { Asks R.asked IsLater rdr.old rdr.new }
         ensures bindings { self.new.custom_bindings ≡ self.old.custom_bindings }
     {
         match self.custom_binding(alloc, wrt, key, 0, true)? {
@@ -262,6 +270,7 @@ impl<D: Decides> InputState<'_, D> {
             Follows W.display (custom_in self.old D.decides) script
             wrt.old (input_of self.old) wrt.new (input_of self.new)
             (R.feed rdr.old) (R.feed rdr.new) result }
+        ensures asks { Asks R.asked IsLater rdr.old rdr.new }
         ensures bindings { self.new.custom_bindings ≡ self.old.custom_bindings }
     {
         let cmd = self.vi_inserted(alloc, rdr, wrt, key)?;
@@ -282,9 +291,10 @@ impl<D: Decides> InputState<'_, D> {
             Follows W.display (custom_in self.old D.decides) script
             wrt.old (input_of self.old) wrt.new (input_of self.new)
             (R.feed rdr.old) (R.feed rdr.new) result }
+        ensures asks { Asks R.asked IsLater rdr.old rdr.new }
         ensures bindings { self.new.custom_bindings ≡ self.old.custom_bindings }
     {
-        match vi_insert_row(wrt, key) {
+        match vi_insert_row(self.modal_commands, wrt, key) {
             Some(InsertAction::Give(cmd)) => Ok(cmd),
             Some(InsertAction::Typed(c)) => Ok(typed_in(self.input_mode, c)),
             Some(InsertAction::Leave(cmd)) => {
@@ -336,8 +346,9 @@ fn typed_in(mode: InputMode, c: char) -> Cmd
 // The next typed character replaces those under the cursor.
 #[tactic(auto, using(crate::proofs::KeyReads::made_of_read, crate::proofs::KeyReads::not_made))]
 fn replacement<R: RawReader>(rdr: &mut R, n: RepeatCount) -> Result<Cmd, ReadlineError>
-    ensures { let given = from_key_at (key_replacement n) in
+    ensures reads { let given = from_key_at (key_replacement n) in
         ReadsBy Key given (R.feed rdr.old) (R.feed rdr.new) result }
+    ensures asks { R.asked rdr.old (NextKey false) rdr.new }
 {
     let key = rdr.next_key(false)?;
     Ok(replaced_by(key, n))

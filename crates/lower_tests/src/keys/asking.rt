@@ -41,7 +41,10 @@ fn take_commands(
 // How the keys were requested, in words.
 fn asked(desk: &Desk<'_>, flags: Flags, keys: &[KeyEvent]) -> Result<String, ReadlineError> {
     let alloc = desk.alloc;
-    let config = Config::builder().edit_mode(desk.mode).build();
+    let config = Config::builder()
+        .edit_mode(desk.mode)
+        .modal_commands(desk.modal)
+        .build();
     let mut state = InputState::new(alloc, &config, &desk.bindings)?;
     let mut line = line_marked(alloc, desk.line)?;
     let mut reader = Listener::new(alloc, keys);
@@ -49,8 +52,8 @@ fn asked(desk: &Desk<'_>, flags: Flags, keys: &[KeyEvent]) -> Result<String, Rea
     raised(requests_in_words(alloc, reader.requests()))
 }
 
-// The mode, whether Esc alone ends the wait of a first key, and whether it is requested as a key;
-// then the keys. How each is requested.
+// The mode, whether Esc alone ends the wait of a first key, whether it is requested as a key, and
+// whether the commands act that go on over several keys; then the keys. How each is requested.
 const ASKED: &str = "
     Emacs: x                  = report
     Emacs key: x              = key
@@ -66,6 +69,8 @@ const ASKED: &str = "
     Emacs: C-X C-P C-Q x      = report, key abort, key abort, report
     Emacs: C-] x              = report, key
     Emacs: C-A-] x            = report, key
+    Emacs: C-V x              = report, report
+    Emacs modal: C-V x y      = report, key abort, report
 
     Vi: x                     = report
     Vi key: x                 = key
@@ -78,6 +83,7 @@ const ASKED: &str = "
     Vi: Esc f x y             = report, report, key, report
     Vi: Esc r x y             = report, report, key, report
     Vi: C-O x y               = report, key abort, report
+    Vi modal: C-V Esc x       = report, key abort, report
     Vi abort: Esc C-O C-P C-Q = report, report, key abort, key abort
 ";
 
@@ -100,6 +106,7 @@ impl Player for Requests {
             first_by_key: settings.contains("key"),
         };
         let mut desk = Desk::new(alloc, mode)?;
+        desk.modal = settings.contains("modal");
         bind_command(alloc, &mut desk.bindings, "C-O C-P C-Q", "Repaint")?;
         bind_command(alloc, &mut desk.bindings, "C-X C-P C-Q", "Repaint")?;
         let keys = keys_named(alloc, keys)?;

@@ -6,7 +6,7 @@
 //! requests succeed before the display fails; without a number all do. `bind: C-O = Undo 3` and
 //! `ask: C-O = Count` bind keys to a command or a handler, and any key if no keys are named;
 //! `unbind:` removes all bindings. From `modes:` on, the mode that a command leaves is written
-//! after it. `then: Noop` is the command of the key `q` with which a row with a count ends.
+//! after it; from `modal:` on, the commands act that go on over several keys. `then: Noop` is the command of the key `q` with which a row with a count ends.
 
 use crate::keys::commands::{bind_command, bind_handler};
 use crate::keys::telling::told;
@@ -30,6 +30,8 @@ pub struct Desk<'t> {
     pub answered: Option<u32>,
     /// Whether the mode is written after each command.
     pub modes: bool,
+    /// Whether the commands act that go on over several keys.
+    pub modal: bool,
     then: &'t str,
 }
 
@@ -45,6 +47,7 @@ impl<'t> Desk<'t> {
             inserted: None,
             answered: None,
             modes: false,
+            modal: false,
             then: "",
         })
     }
@@ -59,6 +62,7 @@ impl<'t> Desk<'t> {
             "inserted:" => self.inserted = Some(rest),
             "answered:" => self.answered = rest.parse().ok(),
             "modes:" => self.modes = true,
+            "modal:" => self.modal = true,
             "then:" => self.then = rest,
             "unbind:" => self.bindings = Bindings::new(self.alloc)?,
             _ => return self.bind(word, rest),

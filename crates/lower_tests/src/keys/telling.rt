@@ -54,7 +54,10 @@ impl<'d> Typing<'d> {
         first_by_key: bool,
         input: &'d Input,
     ) -> Result<Self, ReadlineError> {
-        let config = Config::builder().edit_mode(desk.mode).build();
+        let config = Config::builder()
+            .edit_mode(desk.mode)
+            .modal_commands(desk.modal)
+            .build();
         Ok(Typing {
             desk,
             first_by_key,

@@ -143,6 +143,8 @@ fn motion_of(changing: bool, key: KeyEvent, n: RepeatCount) -> Option<Motion>
 impl<D: Decides> InputState<'_, D> {
     ghost use Rattle.line_keys.specs.InputStates.{input_of, custom_in};
     ghost use Rattle.line_keys.specs.Follows.{Follows, silent};
+    ghost use Rattle.line_keys.specs.Requests.{Asks, Begins, IsKey, IsLater, NextKey};
+    ghost use Rattle.std.specs.Prelude.{false};
     ghost use Rattle.line_keys.specs.ViMotions.{motion_by, vi_motion};
     ghost use Rattle.line_keys.specs.ViSearches.{sought};
 
@@ -161,6 +163,7 @@ impl<D: Decides> InputState<'_, D> {
             let script = vi_motion operator n input shown in
             Follows W.display (custom_in self.old D.decides) script
             wrt.old input wrt.new (input_of self.new) (R.feed rdr.old) (R.feed rdr.new) result }
+        ensures asks { Begins R.asked (NextKey false) IsLater rdr.old rdr.new }
         ensures bindings { self.new.custom_bindings ≡ self.old.custom_bindings }
     {
         let key = rdr.next_key(false)?;
@@ -184,6 +187,7 @@ impl<D: Decides> InputState<'_, D> {
             let script = motion_by operator n input key in
             Follows silent (custom_in self.old D.decides) script
             tt input tt (input_of self.new) (R.feed rdr.old) (R.feed rdr.new) result }
+        ensures asks { Asks R.asked (IsKey false) rdr.old rdr.new }
         ensures bindings { self.new.custom_bindings ≡ self.old.custom_bindings }
     {
         match motion_of(operator == CHANGE, key, n) {
@@ -207,6 +211,7 @@ impl<D: Decides> InputState<'_, D> {
             let script = sought search n input in
             Follows silent (custom_in self.old D.decides) script
             tt input tt (input_of self.new) (R.feed rdr.old) (R.feed rdr.new) result }
+        ensures asks { R.asked rdr.old (NextKey false) rdr.new }
         ensures bindings { self.new.custom_bindings ≡ self.old.custom_bindings }
     {
         let key = rdr.next_key(false)?;

@@ -83,10 +83,15 @@ pub enum InsertAction {
     Command(char),
 }
 
-/// The rows of insert and replace mode.
+/// The rows of insert and replace mode. `modal` says whether the commands act that go on over
+/// several keys.
 #[tactic(auto, unfolding(crate::specs::ViTables::insert_action))]
-pub(crate) fn vi_insert_row<W: Refresher>(wrt: &W, key: KeyEvent) -> Option<InsertAction>
-    ensures { result ≡ insert_action (W.display.shown wrt.now) key }
+pub(crate) fn vi_insert_row<W: Refresher>(
+    modal: bool,
+    wrt: &W,
+    key: KeyEvent,
+) -> Option<InsertAction>
+    ensures { result ≡ insert_action modal (W.display.shown wrt.now) key }
 {
     use InsertAction as D;
     use KeyCode as K;
@@ -104,6 +109,7 @@ pub(crate) fn vi_insert_row<W: Refresher>(wrt: &W, key: KeyEvent) -> Option<Inse
         E(K::Right, M::NONE) if wrt.has_hint() && wrt.is_cursor_at_end() => {
             Some(D::Give(Cmd::CompleteHint))
         }
+        E(K::Char('G'), M::CTRL) if modal => Some(D::Give(Cmd::Abort)),
         E::ESC => Some(D::Leave(Cmd::Move(Movement::BackwardChar(1)))),
         E(K::Char(c), M::ALT) => Some(D::Command(c)),
         _ => None,
@@ -173,8 +179,8 @@ fn vi_edit_row(key: KeyEvent, n: RepeatCount) -> Option<Cmd>
 }
 
 // The rows whose keys leave command mode.
-fn vi_turn_row(key: KeyEvent, n: RepeatCount) -> Option<Action>
-    ensures { result ≡ look n true key vi_turn_rows }
+fn vi_turn_row(modal: bool, key: KeyEvent, n: RepeatCount) -> Option<Action>
+    ensures { result ≡ look n true key (vi_turn_rows modal) }
 {
     use KeyCode as K;
     use KeyEvent as E;
@@ -196,6 +202,12 @@ fn vi_turn_row(key: KeyEvent, n: RepeatCount) -> Option<Action>
             Some(Action::Turn(InputMode::Insert, Cmd::ReverseSearchHistory))
         }
         E(K::Char('S'), M::CTRL) => {
+            Some(Action::Turn(InputMode::Insert, Cmd::ForwardSearchHistory))
+        }
+        E(K::Char('/'), M::NONE) if modal => {
+            Some(Action::Turn(InputMode::Insert, Cmd::ReverseSearchHistory))
+        }
+        E(K::Char('?'), M::NONE) if modal => {
             Some(Action::Turn(InputMode::Insert, Cmd::ForwardSearchHistory))
         }
         _ => None,
@@ -234,10 +246,11 @@ fn vi_reading_row(key: KeyEvent) -> Option<Action>
     }
 }
 
-/// The action of a key in command mode, with the count.
+/// The action of a key in command mode, with the count. `modal` says whether the commands act that
+/// go on over several keys.
 #[tactic(auto, using(crate::proofs::Steps::tables))]
-pub(crate) fn vi_command_row(key: KeyEvent, n: RepeatCount) -> Option<Action>
-    ensures { result ≡ action_of n key }
+pub(crate) fn vi_command_row(modal: bool, key: KeyEvent, n: RepeatCount) -> Option<Action>
+    ensures { result ≡ action_of modal n key }
 {
     if let Some(cmd) = vi_move_row(key, n) {
         return Some(Action::Give(cmd));
@@ -245,7 +258,7 @@ pub(crate) fn vi_command_row(key: KeyEvent, n: RepeatCount) -> Option<Action>
     if let Some(cmd) = vi_edit_row(key, n) {
         return Some(Action::Give(cmd));
     }
-    match vi_turn_row(key, n) {
+    match vi_turn_row(modal, key, n) {
         Some(action) => Some(action),
         None => vi_reading_row(key),
     }

@@ -16,6 +16,6 @@ returns g c =
     let ran = c.run-out.result in
     let Ends : Bool → Type 0 = λ adds. Closes k.shown k.show_failed k.written_in k.write_failed adds (outcome_of ran)
     (work (sink_of ran.out) c.args.self.lines c.args.self.history) (work (sink_of c.close-outcome.new.out) c.close-outcome.new.lines c.close-outcome.new.history) (made_of string_bytes c.close-outcome.result) in
-    takes_line k helps _ c.args.config.now c.args.prompt.now c.args.self ran c.run-out.new.kill_ring c.run-out.new.reader
+    takes_line k helps _ c.args.config.now c.args.prompt.now c.args.self ran c.run-out.new.kill_ring c.run-out.new.last_query c.run-out.new.reader
     c.close-outcome.new.out c.close-outcome.new.history c.close-outcome.new.lines (made_of string_bytes c.close-outcome.result)
     c.run-out.ensures (subst Ends c.auto_add_history-adds.ensures c.close-outcome.ensures.closes) c.close-outcome.ensures.screen c.close-outcome.ensures.passes c.close-outcome.ensures.passes_lines

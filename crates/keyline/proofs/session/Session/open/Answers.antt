@@ -31,6 +31,7 @@ returns-clause-desk g c =
     record {
       loaded = loaded_where _ _ _ (λ always. always c.begin.new.source) c.in-Ok-begin.ensures.ok.history;
       ring = c.in-Ok-begin.ensures.ok.ring;
+      query = c.new-4.ensures.bytes;
       coming = subst Comes devices.0 c.new-2.ensures.coming c.requires.source ∙ mode;
       source_is = c.new-2.ensures.source ∙ devices.0;
       kept = c.new-2.ensures.kept;

@@ -1,4 +1,5 @@
 use Rattle.std.proofs.Common.{arith}
+use Rattle.line_keys.proofs.Asking.{one_asked}
 use Rattle.line_keys.proofs.Following.{ends_follow}
 use Rattle.line_keys.proofs.keymap.InputState.motion_by.Goals as goal
 
@@ -17,3 +18,6 @@ returns-in-Some-Back-clause-motion g c =
 pub returns-in-None-clause-motion : goal.returns-in-None-clause-motion
 returns-in-None-clause-motion g c =
     ends_follow _ _ _ _ _ _ _ (grind arith)
+
+pub returns-in-Some-Seek-clause-asks : goal.returns-in-Some-Seek-clause-asks
+returns-in-Some-Seek-clause-asks g c = one_asked _ _ _ _ c.vi_char_search.ensures.asks

@@ -6,12 +6,12 @@ use Rattle.line_keys.proofs.keymap.InputState.vi_char_search.Goals as goal
 pub returns-in_err-key-clause-sought : goal.returns-in_err-key-clause-sought
 returns-in_err-key-clause-sought g c =
     let is : c.from_residual.result ≡ Err c.in_err-key.field-0.0 = grind arith in
-    rw is (no_key _ _ _ _ _ _ _ _ c.in_err-key.ensures)
+    rw is (no_key _ _ _ _ _ _ _ _ c.in_err-key.ensures.reads)
 
 pub returns-in_default-clause-sought : goal.returns-in_default-clause-sought
 returns-in_default-clause-sought g c =
-    key_follows _ _ _ _ _ _ _ _ _ _ _ _ c.in_ok-key.ensures (ends_follow _ _ _ _ _ _ _ (grind arith))
+    key_follows _ _ _ _ _ _ _ _ _ _ _ _ c.in_ok-key.ensures.reads (ends_follow _ _ _ _ _ _ _ (grind arith))
 
 pub returns-clause-sought : goal.returns-clause-sought
 returns-clause-sought g c =
-    key_follows _ _ _ _ _ _ _ _ _ _ _ _ c.in_ok-key.ensures (as_follows _ _ _ _ _ _ _ _ _ _ _ (becomes_follows _ _ _ _ _ _ _ _ _ _ _ refl (ends_follow _ _ _ _ _ _ _ refl)) (grind arith))
+    key_follows _ _ _ _ _ _ _ _ _ _ _ _ c.in_ok-key.ensures.reads (as_follows _ _ _ _ _ _ _ _ _ _ _ (becomes_follows _ _ _ _ _ _ _ _ _ _ _ refl (ends_follow _ _ _ _ _ _ _ refl)) (grind arith))

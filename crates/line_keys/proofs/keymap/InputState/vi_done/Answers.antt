@@ -3,6 +3,7 @@ use Rattle.std.specs.Prelude.{Err}
 use Rattle.line_keys.specs.declared.command.Cmd.TheVariants.{Unknown}
 use Rattle.line_keys.specs.Phrases.{answered}
 use Rattle.line_keys.specs.Vi.{command_table, move_or}
+use Rattle.line_keys.proofs.Asking.{key_asked}
 use Rattle.line_keys.proofs.Following.{as_follows, ask_stops, ask_follows, becomes_follows, ends_follow, granted_follows, then_stops, then_follows, silent_follows, whole_read}
 use Rattle.line_keys.proofs.keymap.InputState.vi_done.Goals as goal
 
@@ -35,7 +36,7 @@ returns-in-Some-Turn-clause-phrase g c =
 pub returns-in-Some-Replace-clause-phrase : goal.returns-in-Some-Replace-clause-phrase
 unfolding command_table
 returns-in-Some-Replace-clause-phrase g c =
-    as_follows _ _ _ _ _ _ _ _ _ _ _ (whole_read _ _ _ _ _ _ _ _ c.replacement.ensures) (grind arith)
+    as_follows _ _ _ _ _ _ _ _ _ _ _ (whole_read _ _ _ _ _ _ _ _ c.replacement.ensures.reads) (grind arith)
 
 pub returns-in_err-doing_insert-in-Some-Insert-clause-phrase : goal.returns-in_err-doing_insert-in-Some-Insert-clause-phrase
 unfolding command_table
@@ -58,3 +59,12 @@ pub returns-in_ok-movement-in-Some-Search-clause-phrase : goal.returns-in_ok-mov
 unfolding command_table
 returns-in_ok-movement-in-Some-Search-clause-phrase g c =
     as_follows _ _ _ _ _ _ _ _ _ _ _ (then_follows _ _ _ (λ m input shown. answered (move_or Unknown m)) _ _ _ _ _ _ _ _ _ _ _ (silent_follows _ _ _ _ _ _ _ _ _ c.in_ok-movement-in-Some-Search.ensures.sought) (ends_follow _ _ _ _ _ _ _ (grind arith))) (grind arith)
+
+pub returns-in-Some-Replace-clause-asks : goal.returns-in-Some-Replace-clause-asks
+returns-in-Some-Replace-clause-asks g c = key_asked _ _ _ _ c.replacement.ensures.asks
+
+pub returns-in_err-movement-in-Some-Search-clause-asks : goal.returns-in_err-movement-in-Some-Search-clause-asks
+returns-in_err-movement-in-Some-Search-clause-asks g c = key_asked _ _ _ _ c.in_err-movement-in-Some-Search.ensures.asks
+
+pub returns-in_ok-movement-in-Some-Search-clause-asks : goal.returns-in_ok-movement-in-Some-Search-clause-asks
+returns-in_ok-movement-in-Some-Search-clause-asks g c = key_asked _ _ _ _ c.in_ok-movement-in-Some-Search.ensures.asks

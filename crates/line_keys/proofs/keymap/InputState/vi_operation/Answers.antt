@@ -4,6 +4,7 @@ use Rattle.line_keys.specs.declared.command.Cmd.{Cmd}
 use Rattle.line_keys.specs.InputStates.{input_of}
 use Rattle.line_keys.specs.Vi.{changes}
 use Rattle.line_keys.specs.Phrases.{answered}
+use Rattle.line_keys.proofs.Asking.{begun_asked}
 use Rattle.line_keys.proofs.Following.{becomes_follows, then_follows, then_stops, ends_follow}
 use Rattle.line_keys.proofs.Remembering.{entered_mode}
 use Rattle.line_keys.proofs.keymap.InputState.vi_operation.Goals as goal
@@ -19,3 +20,9 @@ returns-in_err-motion-clause-phrase g c =
     let is : c.from_residual.result ≡ Err c.in_err-motion.field-0.0 = grind arith in
     rw is (becomes_follows _ _ _ _ _ _ _ _ _ _ _ (entered_mode (changes c.args.operator) (input_of c.args.self.now))
     (then_stops _ _ _ _ _ _ _ _ _ _ _ (rw (c.enter.ensures.input, c.enter.ensures.bindings) at c.in_err-motion.ensures.motion)))
+
+pub returns-in_err-motion-clause-asks : goal.returns-in_err-motion-clause-asks
+returns-in_err-motion-clause-asks g c = begun_asked _ _ _ _ c.in_err-motion.ensures.asks
+
+pub returns-clause-asks : goal.returns-clause-asks
+returns-clause-asks g c = begun_asked _ _ _ _ c.in_ok-motion.ensures.asks

@@ -1,0 +1,44 @@
+-- Lines with the setting `modal_commands` off: nothing becomes of a command before it is done.
+use Rattle.std.specs.Prelude.{◌≡◌, ℕ, false, List}
+use Rattle.line_config.specs.Played.{Played}
+use Rattle.line_config.specs.Scripts.{Ends, Asks}
+use Rattle.line_config.specs.declared.errors.ReadlineError.{ReadlineError}
+use Rattle.line_editor.specs.LineScripts.{Meets, LineAsk, LineScript, LineState, line_script, played_from}
+use Rattle.line_editor.specs.Redraws.{fresh}
+use Rattle.line_editor.specs.Running.{kept_first}
+use Rattle.keyline.specs.Events.{Event, asks_events, played_in}
+use Rattle.keyline.specs.Sessions.{Given, SessionState, setting_in}
+
+-- the script without the requests that meet a command: each is done as it comes
+abbrev pub unmet : {X : Type 0} → LineScript X → LineScript X
+unmet (Ends x) = Ends x
+unmet (Asks (Meets cmd) later) = unmet (later cmd)
+unmet (Asks ask later) = Asks ask (λ x. unmet (later x))
+
+abbrev pub first_in : Given → SessionState → LineState
+first_in g x =
+    kept_first (setting_in g x.history.kept.entries) g.config x.ring x.query x.coming
+
+abbrev pub events_of : Given → SessionState → List LineAsk → List Event
+events_of g x asks = asks_events g.screen (setting_in g x.history.kept.entries)
+    g.config.indent_size (fresh g.screen.mode) (first_in g x) asks
+
+abbrev pub LinePlayed : Type 0
+LinePlayed = Played LineAsk LineState ReadlineError (List ℕ)
+
+abbrev pub unmet_in : ℕ → Given → SessionState → LinePlayed
+unmet_in n g x = played_from (setting_in g x.history.kept.entries) g.config.indent_size
+    (unmet (line_script n g.custom)) (first_in g x)
+
+-- two lines have one outcome, one state and the same events, and the last query is as it was
+pub record GoAlike (g : Given) (x : SessionState) (p q : LinePlayed) : Type 0 where
+  pub answer : p.answer ≡ q.answer
+  pub rest : p.rest ≡ q.rest
+  pub events : events_of g x p.asks ≡ events_of g x q.asks
+  pub query : p.rest.modal.query ≡ x.query
+
+-- with the setting off a line goes as its script does without the requests that meet a command
+abbrev pub OffMeetsNone : Type 0
+OffMeetsNone =
+    (n : ℕ) (g : Given) (x : SessionState)
+    → g.config.modal_commands ≡ false → GoAlike g x (played_in n g x) (unmet_in n g x)

@@ -1,0 +1,201 @@
+-- A search that is given up leaves the line as it was.
+use Rattle.std.proofs.Common.{◌≡◌, ℕ, ◌==◌, ◌||◌, Bool, true, false, List, [], ◌∷◌, ◌++◌, length, drop, Option, Some, None, refl, sym, ap, ◌∙◌, subst, arith, if◌then◌else◌}
+use Rattle.std.proofs.lemmas.Bool.Decides.{nat_tests}
+use Rattle.std.specs.Prelude.{◌≢◌, slice_range}
+use Rattle.line_buffer.specs.Event.Event.{Delete, InsertStr}
+use Rattle.line_buffer.specs.Insertions.{kept_text}
+use Rattle.line_buffer.specs.Line.{Line}
+use Rattle.line_buffer.specs.Replay.{replayed}
+use Rattle.line_buffer.specs.declared.types.Direction.TheVariants.{Forward}
+use Rattle.line_edits.specs.Edits.{by, updating_in_group}
+use Rattle.line_help.specs.Search.{Hit, TermAt}
+use Rattle.line_help.specs.declared.search.SearchDirection.{SearchDirection}
+use Rattle.line_help.proofs.FoundLemmas.{nearest_is_found}
+use Rattle.line_record.specs.Change.{Change, undo_place}
+use Rattle.line_record.specs.Change.Change.{Inserted}
+use Rattle.line_record.specs.Course.{recorded_all}
+use Rattle.line_record.specs.Held.{Held, change_of, stepped_if, recorded_in, has_mark, closes, grouped, ended, line_back}
+use Rattle.line_record.specs.Held.Held.{Opened, Stepped}
+use Rattle.line_record.proofs.GroupLaws.{unchanged}
+use Rattle.line_record.proofs.RecordLaws.{no_mark}
+use Rattle.line_editor.specs.Returns.{GivesBack, is_onward, AllOnward, Sought, sought_first, sought_on, sought_all}
+use Rattle.line_editor.specs.Modal.{Modal}
+use Rattle.line_editor.specs.Searching.{hit_back, found_put, sought, looked, looks, looks_again, search_drawn, onward, queried, erased, typed_in, is_place, placed}
+use Rattle.line_editor.specs.Values.{Value, Setting, rewritten}
+use Rattle.line_editor.specs.declared.modal_state.Act.{Act}
+use Rattle.line_editor.specs.declared.modal_state.Act.TheVariants.{Types, Erases, Goes, Leaves, Ends}
+
+-- ---- an entry put in place of a line is one step
+
+-- a step on a text, and what was held before it
+record OneStep (text : List ℕ) (older held : List Held) : Type 0 where
+  place : ℕ
+  newest : Change
+  joinable : Bool
+  are : held ≡ Stepped text place newest joinable ∷ older
+
+-- of a group of a deletion, if there is one, and an insertion
+closed_steps : (at : ℕ) (added removed text between : List ℕ) (first : Option Change) (c : Change) (older : List Held) → has_mark older ≡ false → (first ≡ None → between ≡ text)
+    → OneStep text older (ended (stepped_if (InsertStr at added) (Some c) between (stepped_if (Delete at removed Forward) first text (Opened text ∷ older))))
+closed_steps at added removed text between None c older none same =
+    let m = no_mark older none in
+    record { place = undo_place c; newest = c; joinable = false; are = rw (m.1, m.0) (ap (λ t. Stepped t (undo_place c) c false ∷ older) (same refl)) }
+closed_steps at added removed text between (Some d) c older none same =
+    let m = no_mark older none in
+    record { place = undo_place d; newest = c; joinable = false; are = rw (m.1, m.0) refl }
+
+-- a text that isn't empty is put in
+put_change : (b : Bool) (added : List ℕ) (c : Change) → b ≡ false → (if b then None else Some c) ≡ Some c
+put_change true added c h = cc
+put_change false added c h = refl
+
+first_some : (x : ℕ) (xs : List ℕ) → (length (x ∷ xs) == 0) ≡ false
+first_some x xs = grind (arith, nat_tests)
+
+not_none : (front term rest : List ℕ) → term ≢ [] → (length (front ++ (term ++ rest)) == 0) ≡ false
+not_none [] [] rest some = absurd (some refl)
+not_none [] (x ∷ term) rest some = first_some x (term ++ rest)
+not_none (x ∷ front) term rest some = first_some x (front ++ (term ++ rest))
+
+whole_text : (b c : Bool) (text other : List ℕ) → b ≡ true → (if b || c then text else other) ≡ text
+whole_text true c text other h = refl
+whole_text false c text other h = cc
+
+-- an entry that isn't empty, in a line that may grow
+put_step : (entry : List ℕ) (pos : ℕ) (v : Value) → v.line.growth ≡ true → has_mark v.held ≡ false → (length entry == 0) ≡ false
+    → OneStep v.line.text v.held (rewritten (by (updating_in_group entry pos)) v).held
+unfolding recorded_all
+put_step entry pos v grows none some =
+    let l = v.line in
+    let removed = slice_range l.text 0 (length l.text) in
+    let d = Delete 0 removed Forward in
+    let added = kept_text entry l in
+    let whole : added ≡ entry = whole_text l.growth _ entry _ grows in
+    let c = Inserted 0 added in
+    let change : change_of (InsertStr 0 added) ≡ Some c = put_change (length added == 0) added c (ap (λ t. length t == 0) whole ∙ some) in
+    subst (λ o. OneStep l.text v.held (ended (stepped_if (InsertStr 0 added) o (replayed d l.text) (recorded_in d l.text (Opened l.text ∷ v.held))))) (sym change)
+    (closed_steps 0 added removed l.text (replayed d l.text) (change_of d) c v.held none (λ nothing. unchanged d l.text nothing))
+
+-- ---- what stands of a search
+
+-- the text of the line, and all else but its cursor
+record SameText (l m : Line) : Type 0 where
+  text : m.text ≡ l.text
+  growth : m.growth ≡ l.growth
+  limit : m.limit ≡ l.limit
+
+-- nothing stands in the line's place, or one step does
+abbrev Standing : Value → Bool → Value → Type 0
+Standing v false u = (u.line ≡ v.line) × (u.held ≡ ended v.held)
+Standing v true u = OneStep v.line.text (ended v.held) u.held × (u.line.growth ≡ v.line.growth) × (u.line.limit ≡ v.line.limit)
+
+record Inside (v : Value) (x : Sought) : Type 0 where
+  place : x.modal.place ≡ v.line.place
+  stands : Standing v x.modal.put x.value
+
+-- it is undone
+record Back (v w : Value) : Type 0 where
+  line : SameText v.line w.line
+  held : w.held ≡ ended v.held
+
+taken_back : (put : Bool) (s : Setting) (v u : Value) → Standing v put u → Back v (hit_back put s u).value
+taken_back false s v u h = record { line = record { text = ap (λ (l : Line). l.text) h.0; growth = ap (λ (l : Line). l.growth) h.0; limit = ap (λ (l : Line). l.limit) h.0 }; held = h.1 }
+taken_back true s v u h =
+    let step = h.0 in
+    let back : line_back 1 u.held u.line ≡ record u.line { text = v.line.text; place = step.place } = ap (λ held. line_back 1 held u.line) step.are in
+    record {
+      line = record { text = ap (λ (l : Line). l.text) back; growth = ap (λ (l : Line). l.growth) back ∙ h.1; limit = ap (λ (l : Line). l.limit) back ∙ h.2 };
+      held = ap (λ held. drop 1 held) step.are;
+    }
+
+grouped_marks : (c : Change) (held : List Held) → has_mark (grouped c held) ≡ has_mark held
+grouped_marks c [] = refl
+grouped_marks c (Opened text ∷ held) = refl
+grouped_marks c (Stepped text place newest joinable ∷ held) = refl
+
+step_unmarked : (a b : Bool) (text : List ℕ) (place : ℕ) (newest : Change) (joinable : Bool) (held : List Held) → has_mark held ≡ b → has_mark (ended held) ≡ false
+    → has_mark (if a then grouped newest (ended held) else if b then Stepped text place newest false ∷ ended held else Stepped text place newest joinable ∷ held) ≡ false
+step_unmarked true b text place newest joinable held is below = grouped_marks newest (ended held) ∙ below
+step_unmarked false true text place newest joinable held is below = below
+step_unmarked false false text place newest joinable held is below = is
+
+ended_unmarked : (held : List Held) → has_mark (ended held) ≡ false
+ended_unmarked [] = refl
+ended_unmarked (Opened text ∷ held) = ended_unmarked held
+ended_unmarked (Stepped text place newest joinable ∷ held) = step_unmarked (closes held) (has_mark held) text place newest joinable held refl (ended_unmarked held)
+
+-- another one is put there
+put_stands : (put : Bool) (hit : Hit) (s : Setting) (v u : Value) → v.line.growth ≡ true → (length hit.entry == 0) ≡ false → Standing v put u → Standing v true (found_put put (Some hit) s u).value
+put_stands put hit s v u grows some h =
+    let w = (hit_back put s u).value in
+    let b = taken_back put s v u h in
+    let step = put_step hit.entry hit.pos w (b.line.growth ∙ grows) (ap has_mark b.held ∙ ended_unmarked v.held) some in (
+      subst (λ text. OneStep text (ended v.held) (rewritten (by (updating_in_group hit.entry hit.pos)) w).held) b.line.text
+          (subst (λ older. OneStep w.line.text older (rewritten (by (updating_in_group hit.entry hit.pos)) w).held) b.held step),
+      b.line.growth,
+      b.line.limit,
+    )
+
+-- what was found isn't empty
+found_some : (query : List ℕ) (dir : SearchDirection) (from : Option ℕ) (entries : List (List ℕ)) (hit : Hit) → sought query dir from entries ≡ Some hit → (length hit.entry == 0) ≡ false
+found_some query dir None entries hit is = cc
+found_some query dir (Some from) entries hit is =
+    let n = (nearest_is_found false query from dir entries hit).0 is in
+    let at : TermAt query hit.entry hit.pos = n.here.0 in
+    ap (λ t. length t == 0) at.2 ∙ not_none at.0 query at.1 n.some
+
+looked_inside : (dir : SearchDirection) (hit : Option Hit) (q : Modal) (s : Setting) (v u : Value) → v.line.growth ≡ true → ((found : Hit) → hit ≡ Some found → (length found.entry == 0) ≡ false)
+    → q.place ≡ v.line.place → Standing v q.put u → (let y = looked dir hit q in (y.place ≡ v.line.place) × Standing v y.put (found_put q.put hit s u).value)
+looked_inside dir None q s v u grows some place h = (place, h)
+looked_inside dir (Some hit) q s v u grows some place h = (place, put_stands q.put hit s v u grows (some hit refl) h)
+
+looks_inside : (dir : SearchDirection) (from : Option ℕ) (q : Modal) (s : Setting) (v u : Value) → v.line.growth ≡ true → q.place ≡ v.line.place → Standing v q.put u
+    → Inside v (let m = looks dir from q s u in record { modal = m.modal; value = m.effect.value })
+looks_inside dir from q s v u grows place h =
+    let hit = sought q.query dir from s.entries in
+    let k = looked_inside dir hit q s v u grows (λ found is. found_some q.query dir from s.entries found is) place h in
+    record { place = k.0; stands = drawn (looked dir hit q).put (found_put q.put hit s u).value k.1 }
+  where
+    -- drawing changes neither line nor record
+    drawn : (put : Bool) (w : Value) → Standing v put w → (let e = search_drawn (looked dir (sought q.query dir from s.entries) q) s w in Standing v put e.value)
+    drawn true w g = g
+    drawn false w g = g
+
+-- ---- the cursor as it was
+
+same_line : (l m : Line) → SameText l m → record m { place = l.place } ≡ l
+same_line l m h = ap (λ t. record m { text = t; place = l.place }) h.text ∙ ap (λ g. record m { text = l.text; place = l.place; growth = g }) h.growth
+    ∙ ap (λ n. record { text = l.text; place = l.place; growth = l.growth; limit = n }) h.limit
+
+placed_back : (place : ℕ) (l m : Line) → SameText l m → place ≡ l.place → is_place l.place l ≡ true → placed place m ≡ l
+placed_back place l m h at stands =
+    let test : is_place place m ≡ true = ap (λ p. is_place p m) at ∙ ap (λ t. is_place l.place (record m { text = t })) h.text ∙ stands in
+    ap (λ b. if b then record m { place = place } else m) test ∙ ap (λ p. record m { place = p }) at ∙ same_line l m h
+
+again_inside : (empty : Bool) (q : Modal) (s : Setting) (v u : Value) → v.line.growth ≡ true → is_place v.line.place v.line ≡ true → q.place ≡ v.line.place → Standing v q.put u
+    → Inside v (let m = looks_again empty q s u in record { modal = m.modal; value = m.effect.value })
+again_inside true q s v u grows stands place h =
+    let b = taken_back q.put s v u h in
+    record { place = place; stands = (placed_back q.place v.line (hit_back q.put s u).value.line b.line place stands, b.held) }
+again_inside false q s v u grows stands place h = looks_inside q.dir (Some q.start) q s v u grows place h
+
+goes_on : (act : Act) (s : Setting) (v : Value) (x : Sought) → v.line.growth ≡ true → is_place v.line.place v.line ≡ true → is_onward act ≡ true → Inside v x → Inside v (sought_on s act x)
+goes_on (Types c) s v x grows stands on h = looks_inside x.modal.dir (Some x.modal.at) (typed_in c x.modal) s v x.value grows h.place h.stands
+goes_on Erases s v x grows stands on h = again_inside (length (erased x.modal).query == 0) (erased x.modal) s v x.value grows stands h.place h.stands
+goes_on (Goes dir) s v x grows stands on h = looks_inside dir (onward dir x.modal (length s.entries)) (queried x.modal.query x.modal) s v x.value grows h.place h.stands
+goes_on Leaves s v x grows stands on h = cc
+goes_on Ends s v x grows stands on h = cc
+
+all_go_on : (acts : List Act) (s : Setting) (v : Value) (x : Sought) → v.line.growth ≡ true → is_place v.line.place v.line ≡ true → AllOnward acts → Inside v x → Inside v (sought_all s acts x)
+all_go_on [] s v x grows stands on h = h
+all_go_on (act ∷ acts) s v x grows stands on h = all_go_on acts s v (sought_on s act x) grows stands on.1 (goes_on act s v x grows stands on.0 h)
+
+-- ---- given up
+
+pub gives_back : GivesBack
+gives_back s dir q v acts grows stands on =
+    let first = sought_first s dir q v in
+    let x = sought_all s acts first in
+    let h = all_go_on acts s v first grows stands on (record { place = refl; stands = (refl, refl) }) in
+    let b = taken_back x.modal.put s v x.value h.stands in
+    (placed_back x.modal.place v.line (hit_back x.modal.put s x.value).value.line b.line h.place stands, b.held)

@@ -1,0 +1,69 @@
+-- If nothing stands, a command that begins nothing is done as it comes.
+use Rattle.std.proofs.Common.{◌≡◌, ℕ, Bool, true, false, List, ◌∷◌, ◌++◌, Option, None, Some, is_some, refl, ap}
+use Rattle.line_config.specs.Played.{asked_first}
+use Rattle.line_config.specs.Scripts.{Ends, Asks}
+use Rattle.line_keys.specs.Feeds.{item_at}
+use Rattle.line_keys.specs.Phrases.{Steps, Needs, Shows, Reads, Becomes, Refuses}
+use Rattle.line_keys.specs.declared.command.Cmd.{Cmd}
+use Rattle.line_editor.specs.LineScripts.{Keys, Meets, LineAsk, LineState, keyed, met_then, obeying, left_at, steps_along, played_from}
+use Rattle.line_editor.specs.Meeting.{OffPasses, met_resting, met_by}
+use Rattle.line_editor.specs.Modal.{Modal, Meeting, passed, is_at_rest, standing_first, wish_of}
+use Rattle.line_editor.specs.Values.{Value, Setting}
+use Rattle.line_editor.specs.declared.modal_state.Standing.{Standing}
+use Rattle.line_editor.specs.declared.modal_state.Standing.TheVariants.{Off, Rests, Prefixes, Searches}
+use Rattle.line_editor.specs.declared.modal_state.Wish.{Wish}
+use Rattle.line_editor.specs.declared.modal_state.Wish.TheVariants.{Search, Up, Down, Other}
+use Rattle.line_editor.proofs.ToldLemmas.{PlayedOf, played_each}
+
+-- whether a command may begin something if nothing stands
+abbrev pub begins : Wish → Bool
+begins (Search dir) = true
+begins Up = true
+begins Down = false
+begins Other = false
+
+abbrev pub begins_modal : Cmd → Bool
+begins_modal cmd = begins (wish_of cmd)
+
+past_by : (wish : Wish) (q : Modal) (cmd : Cmd) (s : Setting) (v : Value) → begins wish ≡ false → met_resting wish q cmd s v ≡ passed q cmd v
+past_by (Search dir) q cmd s v none = cc
+past_by Up q cmd s v none = cc
+past_by Down q cmd s v none = refl
+past_by Other q cmd s v none = refl
+
+goes_past : (at : Standing) (q : Modal) (cmd : Cmd) (s : Setting) (v : Value) → is_at_rest at ≡ true → begins_modal cmd ≡ false → met_by at q cmd s v ≡ passed q cmd v
+goes_past Off q cmd s v rests none = refl
+goes_past Rests q cmd s v rests none = past_by (wish_of cmd) q cmd s v none
+goes_past Prefixes q cmd s v rests none = cc
+goes_past Searches q cmd s v rests none = cc
+
+pub off_passes : OffPasses
+off_passes q cmd s v is = ap (λ at. met_by at q cmd s v) is
+
+pub plays_past : (s : Setting) (indent : ℕ) (cmd : Cmd) (k : LineState) → is_at_rest k.modal.standing ≡ true → begins_modal cmd ≡ false
+    → played_from s indent (met_then cmd) k ≡ asked_first (Meets cmd) (played_from s indent (obeying cmd) k)
+plays_past s indent cmd k rests none =
+    ap (λ (m : Meeting). asked_first (Meets cmd) (played_from s indent (obeying m.next) (record k { value = m.effect.value; modal = m.modal })))
+    (goes_past k.modal.standing k.modal cmd s k.value rests none)
+
+pub steps_past : (s : Setting) (indent : ℕ) (cmd : Cmd) (k : LineState) (asks : List LineAsk) → is_at_rest k.modal.standing ≡ true → begins_modal cmd ≡ false
+    → steps_along s indent k (Meets cmd ∷ asks) ≡ steps_along s indent k asks
+steps_past s indent cmd k asks rests none =
+    ap (λ (m : Meeting). m.effect.steps ++ steps_along s indent (record k { value = m.effect.value; modal = m.modal }) asks)
+    (goes_past k.modal.standing k.modal cmd s k.value rests none)
+
+pub first_rests : (on : Bool) → is_at_rest (standing_first on) ≡ true
+first_rests true = refl
+first_rests false = refl
+
+-- a phrase leaves what stands as it is
+pub phrase_keeps : {X : Type 0} (s : Setting) (indent : ℕ) (script : Steps X) (k : LineState) → (played_from s indent (keyed script) k).rest.modal ≡ k.modal
+phrase_keeps s indent (Ends x) k = refl
+phrase_keeps s indent (Asks Needs later) k = phrase_keeps s indent (later tt) k
+phrase_keeps s indent (Asks (Shows ask) later) k = phrase_keeps s indent (later _) (left_at s indent k (Keys (Shows ask)))
+phrase_keeps {X} s indent (Asks (Reads item) later) k =
+    let left = left_at s indent k (Keys (Reads item)) in
+    played_each (λ (p : PlayedOf s indent X). p.rest.modal ≡ k.modal) (λ y. played_from s indent (keyed (later y)) left) (Keys (Reads item)) left
+    (λ y. phrase_keeps s indent (later y) left) (λ e. refl) (item_at item k.coming)
+phrase_keeps s indent (Asks (Becomes input) later) k = phrase_keeps s indent (later tt) (record k { input = input })
+phrase_keeps s indent (Asks (Refuses why) later) k = refl

@@ -1,0 +1,51 @@
+-- What becomes of a command before it is done, by what stands, and what is to be seen then.
+use Rattle.std.specs.Prelude.{◌≡◌, ℕ, ◌==◌, ◌&&◌, Bool, true, false, List, length, Option}
+use Rattle.line_keys.specs.declared.command.Cmd.{Cmd}
+use Rattle.line_editor.specs.Modal.{Modal, rested, Meeting, passed, wish_of}
+use Rattle.line_editor.specs.Prefixes.{is_prefix, is_own, rises, rises_if, falls}
+use Rattle.line_editor.specs.Searching.{search_prompt, begun_if, act_of, acted}
+use Rattle.line_editor.specs.Sights.{Sight, sight_of, sight_with}
+use Rattle.line_editor.specs.Values.{Value, Setting, Transition}
+use Rattle.line_editor.specs.declared.modal_state.Standing.{Standing}
+use Rattle.line_editor.specs.declared.modal_state.Standing.TheVariants.{Off, Rests, Prefixes, Searches}
+use Rattle.line_editor.specs.declared.modal_state.Wish.{Wish}
+use Rattle.line_editor.specs.declared.modal_state.Wish.TheVariants.{Search, Up, Down}
+
+-- what may begin
+abbrev pub met_resting : Wish → Modal → Cmd → Setting → Value → Meeting
+met_resting (Search dir) x cmd s v = begun_if (length s.entries == 0) dir x cmd s v
+met_resting Up x cmd s v = rises_if (is_own s v && is_prefix v.line) x cmd s v
+met_resting wish x cmd s v = passed x cmd v
+
+-- what goes on among the entries that begin with the line
+abbrev pub met_prefixes : Wish → Modal → Cmd → Setting → Value → Meeting
+met_prefixes Up x cmd s v = rises x s v
+met_prefixes Down x cmd s v = falls x s v
+met_prefixes wish x cmd s v = met_resting wish (rested x) cmd s v
+
+abbrev pub met_by : Standing → Modal → Cmd → Setting → Value → Meeting
+met_by Off x cmd s v = passed x cmd v
+met_by Rests x cmd s v = met_resting (wish_of cmd) x cmd s v
+met_by Prefixes x cmd s v = met_prefixes (wish_of cmd) x cmd s v
+met_by Searches x cmd s v = acted (act_of cmd) x cmd s v
+
+abbrev pub meeting : Modal → Cmd → Setting → Value → Meeting
+meeting x cmd s v = met_by x.standing x cmd s v
+
+abbrev pub meeting_effect : Modal → Cmd → Transition
+meeting_effect x cmd s v = (meeting x cmd s v).effect
+
+-- a search shows its prompt in place of the line's
+abbrev pub seen_by : Standing → Modal → Setting → Value → Option (List ℕ) → Sight
+seen_by Searches x s v info =
+    sight_with false (search_prompt x) v.line.text v.line.place info
+seen_by standing x s v info = sight_of s v info
+
+abbrev pub modal_seen : Modal → Setting → Value → Option (List ℕ) → Sight
+modal_seen x s v info = seen_by x.standing x s v info
+
+-- with the setting off each command is done as it comes
+abbrev pub OffPasses : Type 0
+OffPasses =
+    (x : Modal) (cmd : Cmd) (s : Setting) (v : Value) → x.standing ≡ Off
+    → meeting x cmd s v ≡ passed x cmd v

@@ -1,0 +1,110 @@
+-- What stands between the commands of a line, and what it makes of one before it is done.
+use Rattle.std.specs.Prelude.{ℕ, Bool, true, false, List, [], string_bytes}
+use Rattle.line_help.specs.declared.search.SearchDirection.{SearchDirection}
+use Rattle.line_help.specs.declared.search.SearchDirection.TheVariants.{Forward, Reverse}
+use Rattle.line_keys.specs.declared.command.Cmd.{Cmd}
+use Rattle.line_keys.specs.declared.command.Cmd.TheVariants.{EndOfHistory, ForwardSearchHistory, HistorySearchBackward, HistorySearchForward, LineDownOrNextHistory, LineUpOrPreviousHistory, ReverseSearchHistory, Unknown}
+use Rattle.line_editor.specs.Values.{Value, Setting, Effect, Transition}
+use Rattle.line_editor.specs.declared.modal_state.ModalState.{ModalState}
+use Rattle.line_editor.specs.declared.modal_state.Next.{Next}
+use Rattle.line_editor.specs.declared.modal_state.Next.TheVariants.{Nothing, Same, Earlier, Later, Own}
+use Rattle.line_editor.specs.declared.modal_state.Standing.{Standing}
+use Rattle.line_editor.specs.declared.modal_state.Standing.TheVariants.{Off, Rests, Searches}
+use Rattle.line_editor.specs.declared.modal_state.Wish.{Wish}
+use Rattle.line_editor.specs.declared.modal_state.Wish.TheVariants.{Search, Up, Down, Other}
+
+pub record Modal : Type 0 where
+  pub standing : Standing
+  -- the text of a search; if `fresh`, it is the last search's, and nothing was typed yet
+  pub query : List ℕ
+  pub fresh : Bool
+  pub dir : SearchDirection
+  -- nothing was found for the query
+  pub fails : Bool
+  -- an entry is shown in place of the line
+  pub put : Bool
+  -- the entry at which it began, and the current one
+  pub start : ℕ
+  pub at : ℕ
+  -- the cursor's place before it
+  pub place : ℕ
+
+abbrev pub modal_of : ModalState → Modal
+modal_of x = record {
+  standing = x.standing;
+  query = string_bytes x.query;
+  fresh = x.fresh;
+  dir = x.dir;
+  fails = x.fails;
+  put = x.put;
+  start = x.start;
+  at = x.at;
+  place = x.place;
+}
+
+abbrev pub standing_first : Bool → Standing
+standing_first true = Rests
+standing_first false = Off
+
+-- as a line begins: nothing stands, and the query is the last search's
+abbrev pub modal_first : Bool → List ℕ → Modal
+modal_first on query = record {
+  standing = standing_first on;
+  query = query;
+  fresh = true;
+  dir = Reverse;
+  fails = false;
+  put = false;
+  start = 0;
+  at = 0;
+  place = 0;
+}
+
+abbrev pub rested : Modal → Modal
+rested x = record x { standing = Rests }
+
+-- nothing stands, so a command is done as it comes unless it begins something
+abbrev pub is_at_rest : Standing → Bool
+is_at_rest Off = true
+is_at_rest Rests = true
+is_at_rest standing = false
+
+-- the session's own prompt is before the line
+abbrev pub shows_own : Standing → Bool
+shows_own Searches = false
+shows_own standing = true
+
+-- ---- a command before it is done
+
+-- what is made before it is done, what stands then, and which command is done: none, if what stands
+-- took it
+pub record Meeting : Type 0 where
+  pub effect : Effect
+  pub modal : Modal
+  pub next : Cmd
+
+abbrev pub passed : Modal → Cmd → Value → Meeting
+passed x cmd v = record { effect = record { value = v; steps = [] }; modal = x; next = cmd }
+
+abbrev pub takes : Transition → Modal → Setting → Value → Meeting
+takes edit y s v = record { effect = edit s v; modal = y; next = Unknown }
+
+-- another command is done in its place
+abbrev pub goes : Transition → Modal → Cmd → Setting → Value → Meeting
+goes edit y next s v = record { effect = edit s v; modal = y; next = next }
+
+-- ---- what a command is between commands
+
+abbrev pub wish_of : Cmd → Wish
+wish_of ReverseSearchHistory = Search Reverse
+wish_of ForwardSearchHistory = Search Forward
+wish_of (LineUpOrPreviousHistory n) = Up
+wish_of (LineDownOrNextHistory n) = Down
+wish_of cmd = Other
+
+abbrev pub next_of : Next → Cmd → Cmd
+next_of Nothing cmd = Unknown
+next_of Same cmd = cmd
+next_of Earlier cmd = HistorySearchBackward
+next_of Later cmd = HistorySearchForward
+next_of Own cmd = EndOfHistory

@@ -1,0 +1,334 @@
+//! A command that may be taken before it is done.
+ghost use Rattle.std.specs.Prelude.{◌≡◌, OnOk, IsCharBoundary, IsTrue, length, ◌==◌, Some, Ok};
+ghost use Rattle.line_help.specs.Search.{Finds};
+ghost use Rattle.line_editor.specs.declared.modal_state.Standing.TheVariants.{Searches};
+ghost use Rattle.line_editor.specs.Modal.{modal_of, rested};
+ghost use Rattle.line_editor.specs.Searching.{hit_back, hit_put, search_drawn, look, looked, sought, is_place, placed, placing, given_up, begin_search, begun_if, begun_at, queried, emptied, emptied_effect};
+
+use crate::modal_state::{Act, ModalState, Next, Standing, Wish, act_of, wish_of};
+use crate::renderer::Renderer;
+use crate::state::State;
+use line_buffer::LineBuffer;
+use line_config::ReadlineError;
+use line_help::{Helper, History, SearchDirection, SearchResult};
+use line_keys::Cmd;
+
+/// Whether the cursor may stand at a place.
+fn is_place(line: &LineBuffer, place: usize) -> bool
+    ensures value { result ≡ is_place place line.now }
+    ensures boundary { IsTrue result → IsCharBoundary line.now.text place }
+{
+    place <= line.len() && line.as_str().is_char_boundary(place)
+}
+
+/// Puts the cursor at a place, where it may stand there.
+fn place_cursor(line: &mut LineBuffer, place: usize)
+    ensures { line.new ≡ placed place line.old }
+{
+    if is_place(line, place) {
+        line.set_pos(place);
+    }
+}
+
+impl<'p, 'h, Out: Renderer, H: Helper + Drop, Hi: History> State<'p, 'h, Out, H, Hi> {
+    ghost use Rattle.line_edits.specs.Edits.{updating_in_group};
+    ghost use Rattle.line_editor.specs.Searching.{typed_effect, looks, typed_in, onward, erased_effect, looks_erased, looks_on};
+    ghost use Rattle.line_editor.specs.States.{value_of, setting_of, Does};
+    ghost use Rattle.line_editor.specs.Meeting.{met_resting, met_prefixes};
+    ghost use Rattle.line_editor.specs.Turning.{Meets, MeetsAs, MeetsBy};
+    ghost use Rattle.line_editor.specs.Values.{rewriting};
+
+    /// Undoes the entry that stands in place of the line, if there is one.
+    fn take_hit_back(&mut self, put: bool) -> Result<(), ReadlineError>
+        ensures does { Does (hit_back put) self.old self.new result }
+    {
+        if !put {
+            return Ok(());
+        }
+        self.known = None;
+        self.recorded.undo(self.alloc, 1)?;
+        Ok(())
+    }
+
+    /// Puts an entry in place of the line. Nothing is drawn.
+    fn put_entry(&mut self, entry: &str, pos: usize) -> Result<(), ReadlineError>
+        requires { IsCharBoundary entry.now pos }
+        ensures does { Does (rewriting (updating_in_group entry.now pos)) self.old self.new
+            result }
+    {
+        self.known = None;
+        self.recorded.update_grouped(self.alloc, entry, pos)?;
+        Ok(())
+    }
+
+    /// The same in place of the last entry that was found.
+    fn put_hit(&mut self, put: bool, entry: &str, pos: usize) -> Result<(), ReadlineError>
+        requires { IsCharBoundary entry.now pos }
+        ensures does { Does (hit_put put entry.now pos) self.old self.new result }
+    {
+        self.take_hit_back(put)?;
+        self.put_entry(entry, pos)
+    }
+
+    /// Draws the line after the search's prompt.
+    fn show_search(&mut self, modal: &ModalState) -> Result<(), ReadlineError>
+        ensures does { Does (search_drawn (modal_of modal.now)) self.old self.new result }
+    {
+        let prompt = modal.prompt(self.alloc)?;
+        self.refresh_behind(prompt.as_str())
+    }
+
+    /// Puts the cursor at a place, where it may stand there.
+    fn put_cursor(&mut self, place: usize)
+        ensures does { Does {A = Unit {0}} (placing place) self.old self.new (Ok (tt {0})) }
+    {
+        self.known = None;
+        let recorded = &mut self.recorded;
+        place_cursor(&mut recorded.line, place);
+    }
+
+    /// Begins a search.
+    fn begin_search(
+        &mut self,
+        modal: &mut ModalState,
+        dir: SearchDirection,
+    ) -> Result<(), ReadlineError>
+        ensures does { Does (begin_search dir (modal_of modal.old)) self.old self.new result }
+        ensures modal { OnOk result (modal_of modal.new
+            ≡ begun_at dir (length (setting_of self.old).entries) (value_of self.old)
+            (modal_of modal.old)) }
+    {
+        let count = self.ctx.history().len();
+        modal.standing = Standing::Searches;
+        modal.fresh = true;
+        modal.dir = dir;
+        modal.fails = false;
+        modal.put = false;
+        modal.start = self.ctx.history_index().min(count.saturating_sub(1));
+        modal.at = modal.start;
+        modal.place = self.recorded.line.pos();
+        self.close_groups()?;
+        self.show_search(modal)
+    }
+
+    /// Looks for the query from an entry on, and shows what is found in place of the line.
+    fn look(
+        &mut self,
+        modal: &mut ModalState,
+        dir: SearchDirection,
+        from: Option<usize>,
+    ) -> Result<(), ReadlineError>
+        ensures does { Does (look dir from (modal_of modal.old)) self.old self.new result }
+        ensures modal { OnOk result (modal_of modal.new
+            ≡ looked dir (sought (modal_of modal.old).query dir from
+            (setting_of self.old).entries) (modal_of modal.old)) }
+    {
+        let history = self.ctx.history();
+        let found = sought(history, modal.query.as_str(), dir, from);
+        modal.dir = dir;
+        modal.fresh = false;
+        match found {
+            Some(hit) => {
+                self.put_hit(modal.put, entry_of(hit.entry), hit.pos)?;
+                modal.fails = false;
+                modal.put = true;
+                modal.at = hit.idx;
+                self.show_search(modal)
+            }
+            None => {
+                modal.fails = !modal.query.is_empty();
+                self.show_search(modal)
+            }
+        }
+    }
+
+    /// The line as it was before the search.
+    fn give_up(&mut self, modal: &mut ModalState) -> Result<(), ReadlineError>
+        ensures does { Does (given_up (modal_of modal.old)) self.old self.new result }
+        ensures modal { modal_of modal.new ≡ rested (modal_of modal.old) }
+    {
+        modal.standing = Standing::Rests;
+        self.take_hit_back(modal.put)?;
+        self.put_cursor(modal.place);
+        self.refresh()
+    }
+
+    /// A character more of the query.
+    fn search_typed(&mut self, modal: &mut ModalState, c: char) -> Result<(), ReadlineError>
+        ensures does { Does (typed_effect c (modal_of modal.old)) self.old self.new result }
+        ensures modal { OnOk result (modal_of modal.new
+            ≡ (looks (modal_of modal.old).dir (Some (modal_of modal.old).at)
+            (typed_in c (modal_of modal.old)) (setting_of self.old) (value_of self.old)).modal) }
+    {
+        modal.type_in(c)?;
+        let (dir, at) = (modal.dir, modal.at);
+        self.look(modal, dir, Some(at))
+    }
+
+    /// The query without its last character.
+    fn search_erased(&mut self, modal: &mut ModalState) -> Result<(), ReadlineError>
+        ensures does { Does (erased_effect (modal_of modal.old)) self.old self.new result }
+        ensures modal { OnOk result (modal_of modal.new
+            ≡ (looks_erased (modal_of modal.old) (setting_of self.old) (value_of self.old)).modal) }
+    {
+        modal.erase();
+        if modal.query.is_empty() {
+            return self.search_emptied(modal);
+        }
+        let (dir, at) = (modal.dir, modal.start);
+        self.look(modal, dir, Some(at))
+    }
+
+    /// The line as it was before a search, which goes on with an empty query.
+    fn search_emptied(&mut self, modal: &mut ModalState) -> Result<(), ReadlineError>
+        ensures does { Does (emptied_effect (modal_of modal.old)) self.old self.new result }
+        ensures modal { OnOk result (modal_of modal.new ≡ emptied (modal_of modal.old)) }
+    {
+        let place = modal.place;
+        self.take_hit_back(modal.put)?;
+        self.put_cursor(place);
+        modal.fails = false;
+        modal.put = false;
+        self.show_search(modal)
+    }
+
+    /// The next entry that has the query.
+    fn search_on(
+        &mut self,
+        modal: &mut ModalState,
+        dir: SearchDirection,
+    ) -> Result<(), ReadlineError>
+        ensures does { Does (look dir
+            (onward dir (modal_of modal.old) (length (setting_of self.old).entries))
+            (queried (modal_of modal.old).query (modal_of modal.old)))
+            self.old self.new result }
+        ensures modal { OnOk result (modal_of modal.new
+            ≡ (looks_on dir (modal_of modal.old) (setting_of self.old)
+            (value_of self.old)).modal) }
+    {
+        let from = modal.onward(dir, self.ctx.history().len());
+        modal.fresh = false;
+        self.look(modal, dir, from)
+    }
+
+    /// What a search that stands makes of a command.
+    fn met_standing(&mut self, modal: &mut ModalState, cmd: &Cmd) -> Result<Next, ReadlineError>
+        requires { modal.old.standing ≡ Searches }
+        ensures { MeetsBy cmd.now self.old (modal_of modal.old) self.new (modal_of modal.new)
+            result }
+    {
+        match act_of(cmd) {
+            Act::Types(c) => self.search_typed(modal, c)?,
+            Act::Erases => self.search_erased(modal)?,
+            Act::Goes(dir) => self.search_on(modal, dir)?,
+            Act::Leaves => self.give_up(modal)?,
+            Act::Ends => {
+                modal.standing = Standing::Rests;
+                self.refresh()?;
+                return Ok(Next::Same);
+            }
+        }
+        Ok(Next::Nothing)
+    }
+
+    /// Begins a search, unless the history is empty.
+    fn met_search(
+        &mut self,
+        modal: &mut ModalState,
+        dir: SearchDirection,
+        cmd: &Cmd,
+    ) -> Result<Next, ReadlineError>
+        ensures { MeetsAs (begun_if (length (setting_of self.old).entries == 0) dir
+            (modal_of modal.old) cmd.now) cmd.now self.old self.new (modal_of modal.new) result }
+    {
+        if self.ctx.history().len() == 0 {
+            return Ok(Next::Same);
+        }
+        self.begin_search(modal, dir)?;
+        Ok(Next::Nothing)
+    }
+
+    /// What a command begins if nothing stands.
+    fn met_resting(
+        &mut self,
+        modal: &mut ModalState,
+        wish: Wish,
+        cmd: &Cmd,
+    ) -> Result<Next, ReadlineError>
+        ensures { MeetsAs (met_resting wish (modal_of modal.old) cmd.now) cmd.now
+            self.old self.new (modal_of modal.new) result }
+    {
+        match wish {
+            Wish::Search(dir) => self.met_search(modal, dir, cmd),
+            Wish::Up => self.met_up(modal, cmd),
+            Wish::Down | Wish::Other => Ok(Next::Same),
+        }
+    }
+
+    /// What a command makes of the entries that begin with the line.
+    fn met_prefixes(
+        &mut self,
+        modal: &mut ModalState,
+        wish: Wish,
+        cmd: &Cmd,
+    ) -> Result<Next, ReadlineError>
+        ensures { MeetsAs (met_prefixes wish (modal_of modal.old) cmd.now) cmd.now
+            self.old self.new (modal_of modal.new) result }
+    {
+        match wish {
+            Wish::Up => self.rise(modal, cmd),
+            Wish::Down => self.fall(modal, cmd),
+            _ => {
+                modal.standing = Standing::Rests;
+                self.met_resting(modal, wish, cmd)
+            }
+        }
+    }
+
+    /// What stands between commands makes of a command.
+    fn met(&mut self, modal: &mut ModalState, cmd: &Cmd) -> Result<Next, ReadlineError>
+        ensures { MeetsBy cmd.now self.old (modal_of modal.old) self.new (modal_of modal.new)
+            result }
+    {
+        match modal.standing {
+            Standing::Off => Ok(Next::Same),
+            Standing::Rests => self.met_resting(modal, wish_of(cmd), cmd),
+            Standing::Prefixes => self.met_prefixes(modal, wish_of(cmd), cmd),
+            Standing::Searches => self.met_standing(modal, cmd),
+        }
+    }
+
+    /// A command before it is done: what stands between commands makes of it, and which one is done
+    /// in its place.
+    pub(crate) fn meet(&mut self, modal: &mut ModalState, cmd: Cmd) -> Result<Cmd, ReadlineError>
+        ensures { Meets cmd self.old (modal_of modal.old) self.new (modal_of modal.new)
+            result }
+    {
+        match self.met(modal, &cmd)? {
+            Next::Nothing => Ok(Cmd::Unknown),
+            Next::Same => Ok(cmd),
+            Next::Earlier => Ok(Cmd::HistorySearchBackward),
+            Next::Later => Ok(Cmd::HistorySearchForward),
+            Next::Own => Ok(Cmd::EndOfHistory),
+        }
+    }
+}
+
+/// The nearest entry from a place on, if there is a place, that has the query.
+fn sought<'a, Hi: History>(
+    history: &'a Hi,
+    query: &str,
+    dir: SearchDirection,
+    from: Option<usize>,
+) -> Option<SearchResult<'a>>
+    ensures { Finds (sought query.now dir from) (Hi.entries history.now) result }
+{
+    history.search(query, from?, dir)
+}
+
+/// The text of an entry, which its history lends.
+fn entry_of<'a>(text: &'a str) -> &'a str
+    ensures { result.now ≡ text.now }
+{
+    text
+}

@@ -1,0 +1,242 @@
+//! What stands between the commands of a line: a search of the history, or nothing.
+ghost use Rattle.std.specs.Prelude.{◌≡◌, ◌++◌, encode_utf8, IfErr, OnOk, string_bytes};
+ghost use Rattle.std.specs.Char.{IsScalar};
+ghost use Rattle.line_config.specs.Refusals.{OrMemory};
+ghost use Rattle.line_config.specs.declared.errors.ReadlineError.TheVariants.{Memory};
+ghost use Rattle.line_editor.specs.Modal.{modal_of, modal_first, standing_first, wish_of};
+ghost use Rattle.line_editor.specs.Searching.{query_in, queried, without_last, erased, heading, search_prompt, erased_by, act_of, next_at, onward};
+
+use line_buffer::Movement;
+use line_config::ReadlineError;
+use line_help::SearchDirection;
+use line_keys::Cmd;
+use std::alloc::Global;
+
+/// What stands between the commands of a line.
+#[derive(Clone, Copy)]
+pub enum Standing {
+    /// Nothing ever does: the setting is off.
+    Off,
+    /// Nothing.
+    Rests,
+    /// An entry that begins with the line, and to which Up went.
+    Prefixes,
+    /// A search of the history.
+    Searches,
+}
+
+/// What a command may begin between commands, or go on with.
+#[derive(Clone, Copy)]
+pub enum Wish {
+    /// A search of the history.
+    Search(SearchDirection),
+    /// The row above, or an earlier entry.
+    Up,
+    /// The row below, or a later entry.
+    Down,
+    /// None of these.
+    Other,
+}
+
+/// Which command is done in place of one that came.
+#[derive(Clone, Copy)]
+pub enum Next {
+    /// None.
+    Nothing,
+    /// That one.
+    Same,
+    /// The one that goes to the earlier entry with the same beginning.
+    Earlier,
+    /// The one that goes to the later entry with the same beginning.
+    Later,
+    /// The one that comes back to the line that was saved.
+    Own,
+}
+
+/// What a command is to a search that stands.
+#[derive(Clone, Copy)]
+pub enum Act {
+    /// A character more of the query.
+    Types(char),
+    /// The query's last character goes.
+    Erases,
+    /// The next entry in a direction.
+    Goes(SearchDirection),
+    /// The line as it was.
+    Leaves,
+    /// The line that was found.
+    Ends,
+}
+
+/// What stands between the commands of a line, or what is left of the last search.
+#[derive(Drop)]
+pub struct ModalState {
+    pub(crate) standing: Standing,
+    pub(crate) query: String,
+    pub(crate) fresh: bool,
+    pub(crate) dir: SearchDirection,
+    pub(crate) fails: bool,
+    pub(crate) put: bool,
+    pub(crate) start: usize,
+    pub(crate) at: usize,
+    pub(crate) place: usize,
+}
+
+fn standing_first(on: bool) -> Standing
+    ensures { result ≡ standing_first on }
+{
+    if on { Standing::Rests } else { Standing::Off }
+}
+
+/// What stands before the query.
+fn heading(dir: SearchDirection, fails: bool) -> &'static str
+    ensures { result.now ≡ heading dir fails }
+{
+    match (dir, fails) {
+        (SearchDirection::Reverse, false) => "(reverse-i-search)`",
+        (SearchDirection::Reverse, true) => "(failed reverse-i-search)`",
+        (SearchDirection::Forward, false) => "(i-search)`",
+        (SearchDirection::Forward, true) => "(failed i-search)`",
+    }
+}
+
+/// What a command may begin, or go on with.
+pub(crate) fn wish_of(cmd: &Cmd) -> Wish
+    ensures { result ≡ wish_of cmd.now }
+{
+    match cmd {
+        Cmd::ReverseSearchHistory => Wish::Search(SearchDirection::Reverse),
+        Cmd::ForwardSearchHistory => Wish::Search(SearchDirection::Forward),
+        Cmd::LineUpOrPreviousHistory(_) => Wish::Up,
+        Cmd::LineDownOrNextHistory(_) => Wish::Down,
+        _ => Wish::Other,
+    }
+}
+
+fn erased_by(movement: &Movement) -> Act
+    ensures { result ≡ erased_by movement.now }
+{
+    match movement {
+        Movement::BackwardChar(_) => Act::Erases,
+        _ => Act::Ends,
+    }
+}
+
+/// What a command is to a search that stands.
+pub(crate) fn act_of(cmd: &Cmd) -> Act
+    ensures { result ≡ act_of cmd.now }
+{
+    match cmd {
+        Cmd::SelfInsert(_, c) => Act::Types(*c),
+        Cmd::Kill(movement) => erased_by(movement),
+        Cmd::ReverseSearchHistory => Act::Goes(SearchDirection::Reverse),
+        Cmd::ForwardSearchHistory => Act::Goes(SearchDirection::Forward),
+        Cmd::Abort => Act::Leaves,
+        _ => Act::Ends,
+    }
+}
+
+/// The entry after one, of so many.
+fn next_at(dir: SearchDirection, at: usize, count: usize) -> Option<usize>
+    ensures { result ≡ next_at dir at count }
+{
+    match dir {
+        SearchDirection::Reverse => { if at == 0 { None } else { Some(at - 1) } }
+        SearchDirection::Forward => {
+            if at < count && at + 1 < count {
+                Some(at + 1)
+            } else {
+                None
+            }
+        }
+    }
+}
+
+/// A character is a scalar value.
+fn drop_char(c: char)
+    ensures scalar { IsScalar c }
+{
+    let _len = c.len_utf8();
+}
+
+/// A text without its last character.
+fn drop_last(text: &mut String)
+    ensures { string_bytes text.new ≡ without_last (string_bytes text.old) }
+{
+    match text.pop() {
+        Some(c) => drop_char(c),
+        None => text.clear(),
+    }
+}
+
+impl ModalState {
+    /// As a line begins, after a search for this query.
+    pub(crate) fn new(on: bool, query: String) -> Self
+        ensures { modal_of result ≡ modal_first on (string_bytes query) }
+    {
+        ModalState {
+            standing: standing_first(on),
+            query,
+            fresh: true,
+            dir: SearchDirection::Reverse,
+            fails: false,
+            put: false,
+            start: 0,
+            at: 0,
+            place: 0,
+        }
+    }
+
+    /// What is searched for.
+    fn query(&self) -> &str
+        ensures { result.now ≡ query_in (modal_of self.now) }
+    {
+        if self.fresh { "" } else { self.query.as_str() }
+    }
+
+    /// What is drawn before the line.
+    pub(crate) fn prompt(&self, alloc: Global) -> Result<String, ReadlineError>
+        ensures { OrMemory result (λ s. string_bytes s ≡ search_prompt (modal_of self.now)) }
+    {
+        let heading = heading(self.dir, self.fails);
+        let query = self.query();
+        Ok(format!(in alloc; "{heading}{query}': ")?)
+    }
+
+    /// A character more of the query.
+    pub(crate) fn type_in(&mut self, c: char) -> Result<(), ReadlineError>
+        ensures ok { OnOk result (modal_of self.new
+            ≡ queried (query_in (modal_of self.old) ++ encode_utf8 c) (modal_of self.old)) }
+        ensures err { IfErr result (λ e. e ≡ Memory) }
+    {
+        if self.fresh {
+            self.query.clear();
+        }
+        self.fresh = false;
+        self.query.push(c)?;
+        Ok(())
+    }
+
+    /// The query without its last character, looked for from where the search began.
+    pub(crate) fn erase(&mut self)
+        ensures { modal_of self.new ≡ erased (modal_of self.old) }
+    {
+        if self.fresh {
+            self.query.clear();
+        }
+        self.fresh = false;
+        self.at = self.start;
+        drop_last(&mut self.query);
+    }
+
+    /// From which entry the next one is looked for.
+    pub(crate) fn onward(&self, dir: SearchDirection, count: usize) -> Option<usize>
+        ensures { result ≡ onward dir (modal_of self.now) count }
+    {
+        if self.fresh {
+            Some(self.at)
+        } else {
+            next_at(dir, self.at, count)
+        }
+    }
+}
