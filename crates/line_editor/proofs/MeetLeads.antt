@@ -12,8 +12,8 @@ use Rattle.line_keys.specs.Refreshing.Ask.{Line, Prompted}
 use Rattle.line_keys.specs.Replies.{Reply}
 use Rattle.line_keys.specs.declared.command.Cmd.{Cmd}
 use Rattle.line_keys.specs.declared.command.Cmd.TheVariants.{EndOfHistory, HistorySearchBackward, HistorySearchForward, Unknown}
-use Rattle.line_editor.specs.Candidates.{only_put, only_completed, list_text, listed_with, list_standing, candidate_at, turned_with, turned_modal, cycle_begun, cycle_first, cycle_back, cycle_at, cycled, asked_turned, asked_modal, several, several_modal, offered, offered_modal, offered_if, offered_modal_if, is_ambiguous, tab_effect, tab_by, tab, cycle_by, cycle}
-use Rattle.line_editor.specs.Completing.{elected, updates, word_updated, word_completed, completed_with, candidates_given, candidates_asked}
+use Rattle.line_editor.specs.Candidates.{only_put, listed_with, list_standing, candidate_at, turned_with, cycle_begun, cycle_first, cycle_back, cycle_at, cycled, asked_turned, asked_modal, several, several_modal, offered, offered_modal, offered_if, offered_modal_if, is_ambiguous, tab_by, cycle_by}
+use Rattle.line_editor.specs.Completing.{elected, updates, word_updated, word_completed, completed_with, candidates_given}
 use Rattle.line_editor.specs.Drawing.{drawn_behind, asked_anew, refreshed, refreshed_behind, beeped}
 use Rattle.line_editor.specs.Leads.{redraws_of}
 use Rattle.line_editor.specs.Meeting.{met_resting, met_prefixes, met_tabbed, unlisted, met_lists, met_cycles, met_by, seen_by, modal_seen}
@@ -22,7 +22,7 @@ use Rattle.line_editor.specs.Prefixes.{is_prefix, is_own, earlier, later, risen,
 use Rattle.line_editor.specs.Remembering.{saved_now}
 use Rattle.line_editor.specs.Searching.{search_prompt, queried, erased, sought, looked, onward, hit_back, found_put, search_drawn, typed_in, looks, looks_typed, looks_again, emptied, emptied_effect, placing, begun_at, begin_search, begun_if, acted, act_of}
 use Rattle.line_editor.specs.Sights.{Sight, sight_with, sight_of, sight_all, FitsAll, info_after}
-use Rattle.line_editor.specs.Values.{Value, Setting, EditStep, then_do, hint_reply, helped, shown_hint, rewritten, completion_reply, update_reply, close_groups}
+use Rattle.line_editor.specs.Values.{Value, Setting, EditStep, then_do, hint_reply, helped, shown_hint, completion_reply, update_reply, close_groups}
 use Rattle.line_editor.specs.Values.EditStep.{Draws, Helped, Edits, TakesBack, Takes}
 use Rattle.line_editor.specs.declared.modal_state.Act.{Act}
 use Rattle.line_editor.specs.declared.modal_state.Act.TheVariants.{Types, Erases, Goes, Leaves, Ends}

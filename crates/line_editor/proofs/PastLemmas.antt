@@ -1,5 +1,5 @@
 -- If nothing stands, a command that begins nothing is done as it comes.
-use Rattle.std.proofs.Common.{◌≡◌, ℕ, Bool, true, false, List, ◌∷◌, ◌++◌, Option, None, Some, is_some, refl, ap}
+use Rattle.std.proofs.Common.{◌≡◌, ℕ, Bool, true, false, List, ◌∷◌, ◌++◌, refl, ap}
 use Rattle.line_config.specs.Played.{asked_first}
 use Rattle.line_config.specs.Scripts.{Ends, Asks}
 use Rattle.line_keys.specs.Feeds.{item_at}

@@ -50,7 +50,7 @@ use Rattle.line_record.specs.Held.{closes}
 use Rattle.line_record.specs.Ring.{exchanged}
 use Rattle.line_editor.specs.Accepting.{told_if, verdict_told, verdict_given, validate_by, verdict, bare, accept, accepts, newline_if}
 use Rattle.line_editor.specs.Asks.{ask_effect}
-use Rattle.line_editor.specs.Candidates.{only_text, only_put, text_at, listed_with, candidate_at, turned_with, several, offered_if, is_ambiguous, tab_by, cycle_at, asked_turned, cycle_by}
+use Rattle.line_editor.specs.Candidates.{only_text, text_at, listed_with, candidate_at, turned_with, several, offered_if, is_ambiguous, tab_by, cycle_at, asked_turned, cycle_by}
 use Rattle.line_editor.specs.Commands.{Means, in_vi_command, effect}
 use Rattle.line_editor.specs.Completing.{begins_word, elected_among, elected, word_put, completed_with, candidates_given, complete_if}
 use Rattle.line_editor.specs.Hinting.{at_row_end, completed_by, complete_by}
