@@ -6,19 +6,20 @@ use Rattle.line_editor.specs.Candidates.{tab, cycle}
 use Rattle.line_editor.specs.Drawing.{refreshed}
 use Rattle.line_editor.specs.Modal.{Modal, rested, Meeting, passed, takes, wish_of}
 use Rattle.line_editor.specs.Prefixes.{is_prefix, is_own, rises, rises_if, falls}
-use Rattle.line_editor.specs.Searching.{search_prompt, given_up, begun_if, act_of, acted}
+use Rattle.line_editor.specs.Searching.{search_prompt, given_up, begun_if, search_again, act_of, acted}
 use Rattle.line_editor.specs.Sights.{Sight, sight_of, sight_with}
 use Rattle.line_editor.specs.Values.{Value, Setting, Transition, then_do}
 use Rattle.line_editor.specs.declared.modal_state.Standing.{Standing}
 use Rattle.line_editor.specs.declared.modal_state.Standing.TheVariants.{Off, Rests, Prefixes, Searches, Tabbed, Lists, Cycles}
 use Rattle.line_editor.specs.declared.modal_state.Wish.{Wish}
-use Rattle.line_editor.specs.declared.modal_state.Wish.TheVariants.{Search, Up, Down, Tab, TabBack, Leave}
+use Rattle.line_editor.specs.declared.modal_state.Wish.TheVariants.{Search, Up, Down, Tab, TabBack, Leave, Again}
 
 -- what may begin
 abbrev pub met_resting : Wish → Modal → Cmd → Setting → Value → Meeting
 met_resting (Search dir) x cmd s v = begun_if (length s.entries == 0) dir x cmd s v
 met_resting Up x cmd s v = rises_if (is_own s v && is_prefix v.line) x cmd s v
 met_resting Tab x cmd s v = tab x.lists_at_once x cmd s v
+met_resting (Again way) x cmd s v = search_again way x s v
 met_resting wish x cmd s v = passed x cmd v
 
 -- what goes on among the entries that begin with the line

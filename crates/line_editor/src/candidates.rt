@@ -28,7 +28,7 @@ fn only_put<'c, C: Candidate>(
     ensures boundary { IfSome result (λ _. IsCharBoundary line.now.text start) }
 {
     match candidates {
-        [only] if begins_word(line, start) => Some(only.replacement()),
+        [only] if begins_word(line, start) => Some(only.alone()),
         _ => None,
     }
 }
