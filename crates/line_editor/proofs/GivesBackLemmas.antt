@@ -6,7 +6,7 @@ use Rattle.line_buffer.specs.Event.{Event}
 use Rattle.line_buffer.specs.Event.Event.{Delete, InsertStr, Replace}
 use Rattle.line_buffer.specs.Insertions.{kept_text}
 use Rattle.line_buffer.specs.Line.{Line}
-use Rattle.line_buffer.specs.Replay.{replacement, replayed}
+use Rattle.line_buffer.specs.Replay.{replayed}
 use Rattle.line_buffer.specs.declared.types.Direction.TheVariants.{Forward}
 use Rattle.line_edits.specs.Edits.{by, updating_in_group}
 use Rattle.line_help.specs.Completion.{Offered, Completion, unless_empty}
