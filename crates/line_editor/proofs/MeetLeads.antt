@@ -304,7 +304,7 @@ tab_met : (reply : Option (Reply Completion)) (lists : Bool) (q : Modal) (cmd : 
 tab_met None lists q cmd s v info x own from = passes_met q cmd s v info x own from
 tab_met (Some reply) lists q cmd s v info x own from =
     let found = candidates_given (Some reply) in
-    asked_met v (completion_reply s v) s info x (takes (offered lists q found) (offered_modal lists found v.line q) s v) (offered_met (is_ambiguous found) lists found q s v info x from)
+    asked_met v (completion_reply s v) s info x (takes (offered lists q found) (offered_modal lists found v.line q) s v) (offered_met (is_ambiguous found v.line) lists found q s v info x from)
 
 -- the next candidate, from any sight
 next_drawn : (dir : SearchDirection) (put : Bool) (q : Modal) (s : Setting) (v : Value) (info : Option (List ℕ)) (x : Sight) → (let e = then_do (then_do (hit_back put) (placing q.place)) (asked_turned dir q) s v in

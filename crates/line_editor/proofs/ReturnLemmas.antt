@@ -448,7 +448,7 @@ offered_keeps true lists q found s v = several_keeps q.completion_type lists q f
 
 tab_keeps : (reply : Option (Reply Completion)) (lists : Bool) (q : Modal) (cmd : Cmd) (s : Setting) (v : Value) → Keeps v (tab_by reply lists q cmd s v).effect.value
 tab_keeps None lists q cmd s v = same v
-tab_keeps (Some reply) lists q cmd s v = let found = candidates_given (Some reply) in offered_keeps (is_ambiguous found) lists q found s v
+tab_keeps (Some reply) lists q cmd s v = let found = candidates_given (Some reply) in offered_keeps (is_ambiguous found v.line) lists q found s v
 
 next_keeps : (dir : SearchDirection) (q : Modal) (s : Setting) (v w : Value) → Keeps v w → Keeps v (asked_turned dir q s w).value
 next_keeps dir q s v w h =

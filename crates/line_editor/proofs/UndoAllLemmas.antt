@@ -451,7 +451,7 @@ offered_reached true lists q found s v first r = several_reached q.completion_ty
 
 tab_reached : (reply : Option (Reply Completion)) (lists : Bool) (q : Modal) (cmd : Cmd) (s : Setting) (v : Value) (first : List ℕ) → Reached first v → Reached first (tab_by reply lists q cmd s v).effect.value
 tab_reached None lists q cmd s v first r = r
-tab_reached (Some reply) lists q cmd s v first r = let found = candidates_given (Some reply) in offered_reached (is_ambiguous found) lists q found s v first r
+tab_reached (Some reply) lists q cmd s v first r = let found = candidates_given (Some reply) in offered_reached (is_ambiguous found v.line) lists q found s v first r
 
 next_reached : (dir : SearchDirection) (q : Modal) (s : Setting) (v : Value) (first : List ℕ) → Reached first v → Reached first (asked_turned dir q s v).value
 next_reached dir q s v first r =
