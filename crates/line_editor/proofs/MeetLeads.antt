@@ -17,11 +17,11 @@ use Rattle.line_editor.specs.Completing.{elected, updates, word_updated, word_co
 use Rattle.line_edits.specs.Edits.{updating_in_group}
 use Rattle.line_editor.specs.Drawing.{drawn_behind, asked_anew, refreshed, refreshed_behind, beeped}
 use Rattle.line_editor.specs.Leads.{redraws_of}
-use Rattle.line_editor.specs.Meeting.{met_resting, met_prefixes, met_tabbed, unlisted, met_lists, met_cycles, met_by, seen_by, modal_seen}
+use Rattle.line_editor.specs.Meeting.{met_resting, met_prefixes, met_tabbed, met_anew, met_lists, met_cycles, met_by, seen_by, modal_seen, acted}
 use Rattle.line_editor.specs.Modal.{Modal, Meeting, modal_first, standing_first, rested, shows_own, takes, wish_of}
 use Rattle.line_editor.specs.Prefixes.{is_prefix, is_own, earlier, later, risen, rises_if, fallen}
 use Rattle.line_editor.specs.Remembering.{saved_now}
-use Rattle.line_editor.specs.Searching.{search_prompt, queried, erased, sought, looked, onward, hit_back, found_put, search_drawn, typed_in, looks, looks_typed, looks_again, emptied, emptied_effect, placing, begun_at, begin_search, begun_if, hit_again, found_again, acted, act_of}
+use Rattle.line_editor.specs.Searching.{search_prompt, queried, erased, sought, looked, onward, hit_back, found_put, search_drawn, typed_in, looks, looks_typed, looks_again, emptied, emptied_effect, placing, begun_at, begin_search, begun_if, hit_again, found_again, act_of}
 use Rattle.line_editor.specs.Sights.{Sight, sight_with, sight_of, sight_all, FitsAll, info_after}
 use Rattle.line_editor.specs.Values.{Value, Setting, EditStep, then_do, hint_reply, helped, shown_hint, completion_reply, update_reply, rewriting, close_groups}
 use Rattle.line_editor.specs.Values.EditStep.{Draws, Helped, Edits, TakesBack, Takes}
@@ -173,15 +173,6 @@ again_met true q s v info x is =
     let w = (emptied_effect q s v).value in
     met_drawn s info x _ (looks_again true q s v) _ (emptied_drawn q.put q s v info x) (seen_standing q.standing (emptied q) s w (shown_hint w) is) (inl refl)
 again_met false q s v info x is = looks_met q.dir (Some q.start) q s v info x is
-
-acted_met : (act : Act) (q : Modal) (cmd : Cmd) (s : Setting) (v : Value) (info : Option (List ℕ)) (x : Sight) → q.standing ≡ Searches → Met s info x (acted act q cmd s v)
-acted_met (Types c) q cmd s v info x is =
-    let z = typed_in c q in
-    met_drawn s info x _ (looks_typed c q s v) _ (after_step (Takes v) s.prompt info x _ _ _ refl (looks_drawn q.dir (Some q.at) z s v info x is)) refl (inl refl)
-acted_met Erases q cmd s v info x is = again_met (length (erased q).query == 0) (erased q) s v info x is
-acted_met (Goes dir) q cmd s v info x is = looks_met dir (onward dir q (length s.entries)) (queried q.query q) s v info x is
-acted_met Leaves q cmd s v info x is = met_drawn s info x _ (acted Leaves q cmd s v) _ (left_drawn q.put q.place s v info x) refl (inl refl)
-acted_met Ends q cmd s v info x is = met_drawn s info x _ (acted Ends q cmd s v) _ (own_drawn s v info x) refl (inr refl)
 
 -- it goes on as it came
 passes_met : (q : Modal) (cmd : Cmd) (s : Setting) (v : Value) (info : Option (List ℕ)) (x : Sight) → shows_own q.standing ≡ true → x ≡ sight_of s v info
@@ -369,8 +360,8 @@ tabbed_met (Again way) q cmd s v info x own from = resting_met (Again way) (rest
 tabbed_met Other q cmd s v info x own from = resting_met Other (rested q) cmd s v info x refl from
 
 -- the line is drawn without the list, and then the command is met
-unlisted_met : (wish : Wish) (q : Modal) (cmd : Cmd) (s : Setting) (v : Value) (info : Option (List ℕ)) (x : Sight) → Met s info x (unlisted wish q cmd s v)
-unlisted_met wish q cmd s v info x =
+anew_met : (wish : Wish) (q : Modal) (cmd : Cmd) (s : Setting) (v : Value) (info : Option (List ℕ)) (x : Sight) → Met s info x (met_anew wish q cmd s v)
+anew_met wish q cmd s v info x =
     let e = refreshed s v in
     let first = own_drawn s v info x in
     both_met s info x e.steps (met_resting wish (rested q) cmd s e.value) first.fits
@@ -378,13 +369,13 @@ unlisted_met wish q cmd s v info x =
 
 lists_met : (wish : Wish) (q : Modal) (cmd : Cmd) (s : Setting) (v : Value) (info : Option (List ℕ)) (x : Sight) → shows_own q.standing ≡ true → x ≡ sight_of s v info → Met s info x (met_lists wish q cmd s v)
 lists_met Tab q cmd s v info x own from = tab_met (completion_reply s v) true q cmd s v info x own from
-lists_met (Search dir) q cmd s v info x own from = unlisted_met (Search dir) q cmd s v info x
-lists_met Up q cmd s v info x own from = unlisted_met Up q cmd s v info x
-lists_met Down q cmd s v info x own from = unlisted_met Down q cmd s v info x
-lists_met TabBack q cmd s v info x own from = unlisted_met TabBack q cmd s v info x
-lists_met Leave q cmd s v info x own from = unlisted_met Leave q cmd s v info x
-lists_met (Again way) q cmd s v info x own from = unlisted_met (Again way) q cmd s v info x
-lists_met Other q cmd s v info x own from = unlisted_met Other q cmd s v info x
+lists_met (Search dir) q cmd s v info x own from = anew_met (Search dir) q cmd s v info x
+lists_met Up q cmd s v info x own from = anew_met Up q cmd s v info x
+lists_met Down q cmd s v info x own from = anew_met Down q cmd s v info x
+lists_met TabBack q cmd s v info x own from = anew_met TabBack q cmd s v info x
+lists_met Leave q cmd s v info x own from = anew_met Leave q cmd s v info x
+lists_met (Again way) q cmd s v info x own from = anew_met (Again way) q cmd s v info x
+lists_met Other q cmd s v info x own from = anew_met Other q cmd s v info x
 
 cycles_met : (wish : Wish) (q : Modal) (cmd : Cmd) (s : Setting) (v : Value) (info : Option (List ℕ)) (x : Sight) → shows_own q.standing ≡ true → x ≡ sight_of s v info → Met s info x (met_cycles wish q cmd s v)
 cycles_met Tab q cmd s v info x own from = cycle_met (completion_reply s v) Forward q cmd s v info x own from
@@ -395,6 +386,15 @@ cycles_met Up q cmd s v info x own from = resting_met Up (rested q) cmd s v info
 cycles_met Down q cmd s v info x own from = resting_met Down (rested q) cmd s v info x refl from
 cycles_met (Again way) q cmd s v info x own from = resting_met (Again way) (rested q) cmd s v info x refl from
 cycles_met Other q cmd s v info x own from = resting_met Other (rested q) cmd s v info x refl from
+
+acted_met : (act : Act) (q : Modal) (cmd : Cmd) (s : Setting) (v : Value) (info : Option (List ℕ)) (x : Sight) → q.standing ≡ Searches → Met s info x (acted act q cmd s v)
+acted_met (Types c) q cmd s v info x is =
+    let z = typed_in c q in
+    met_drawn s info x _ (looks_typed c q s v) _ (after_step (Takes v) s.prompt info x _ _ _ refl (looks_drawn q.dir (Some q.at) z s v info x is)) refl (inl refl)
+acted_met Erases q cmd s v info x is = again_met (length (erased q).query == 0) (erased q) s v info x is
+acted_met (Goes dir) q cmd s v info x is = looks_met dir (onward dir q (length s.entries)) (queried q.query q) s v info x is
+acted_met Leaves q cmd s v info x is = met_drawn s info x _ (acted Leaves q cmd s v) _ (left_drawn q.put q.place s v info x) refl (inl refl)
+acted_met Ends q cmd s v info x is = anew_met (wish_of cmd) q cmd s v info x
 
 pub meeting_leads : (at : Standing) (q : Modal) → q.standing ≡ at → (cmd : Cmd) (s : Setting) (v : Value) (info : Option (List ℕ)) (x : Sight) → (shows_own at ≡ true → x ≡ sight_of s v info)
     → Met s info x (met_by at q cmd s v)

@@ -63,10 +63,10 @@ use Rattle.line_editor.specs.Returns.{ValueStep, value_after, value_after_all, B
 use Rattle.line_editor.specs.Returns.ValueStep.{Done, Asked, Met}
 use Rattle.line_editor.specs.Drawing.{refreshed, refreshed_if}
 use Rattle.line_editor.specs.Rewording.{edit_word_effect}
-use Rattle.line_editor.specs.Meeting.{met_resting, met_prefixes, met_tabbed, unlisted, met_lists, met_cycles, met_by}
+use Rattle.line_editor.specs.Meeting.{met_resting, met_prefixes, met_tabbed, met_anew, met_lists, met_cycles, met_by, acted}
 use Rattle.line_editor.specs.Modal.{Modal, rested, wish_of}
 use Rattle.line_editor.specs.Prefixes.{is_prefix, is_own, earlier, later, risen, rises_if, fallen}
-use Rattle.line_editor.specs.Searching.{erased, looks_again, typed_in, sought, onward, hit_back, found_put, is_place, placing, given_up, begun_if, hit_again, found_again, acted, act_of}
+use Rattle.line_editor.specs.Searching.{erased, looks_again, typed_in, sought, onward, hit_back, found_put, is_place, placing, given_up, begun_if, hit_again, found_again, act_of}
 use Rattle.line_editor.specs.Values.{Value, Setting, Effect, then_do, verdict_reply, completion_reply, rewritten, written_of, at_line, close_groups}
 use Rattle.line_editor.specs.Yanking.{anchored, steps_over, behind_yank, yanked_by, yank_text, yank_lent, pop_lent}
 use Rattle.line_editor.specs.declared.modal_state.Act.{Act}
@@ -400,13 +400,6 @@ again_reached : (empty : Bool) (q : Modal) (s : Setting) (v : Value) (first : Li
 again_reached true q s v first r = placed_reached q.put q.place s v first r
 again_reached false q s v first r = put_reached q.put (sought q.query q.dir (Some q.start) s.entries) s v first r
 
-acted_reached : (act : Act) (q : Modal) (cmd : Cmd) (s : Setting) (v : Value) (first : List ℕ) → Reached first v → Reached first (acted act q cmd s v).effect.value
-acted_reached (Types c) q cmd s v first r = put_reached q.put (sought (typed_in c q).query q.dir (Some q.at) s.entries) s v first r
-acted_reached Erases q cmd s v first r = again_reached (length (erased q).query == 0) (erased q) s v first r
-acted_reached (Goes dir) q cmd s v first r = put_reached q.put (sought q.query dir (onward dir q (length s.entries)) s.entries) s v first r
-acted_reached Leaves q cmd s v first r = given_up_reached q s v first r
-acted_reached Ends q cmd s v first r = r
-
 begun_reached : (empty : Bool) (dir : SearchDirection) (q : Modal) (cmd : Cmd) (s : Setting) (v : Value) (first : List ℕ) → Reached first v → Reached first (begun_if empty dir q cmd s v).effect.value
 begun_reached true dir q cmd s v first r = r
 begun_reached false dir q cmd s v first r = ended_reaches first v.held v.line.text r
@@ -499,18 +492,18 @@ tabbed_reached Leave q cmd s v first r = resting_reached Leave (rested q) cmd s 
 tabbed_reached (Again way) q cmd s v first r = resting_reached (Again way) (rested q) cmd s v first r
 tabbed_reached Other q cmd s v first r = resting_reached Other (rested q) cmd s v first r
 
-unlisted_reached : (wish : Wish) (q : Modal) (cmd : Cmd) (s : Setting) (v : Value) (first : List ℕ) → Reached first v → Reached first (unlisted wish q cmd s v).effect.value
-unlisted_reached wish q cmd s v first r = resting_reached wish (rested q) cmd s (refreshed s v).value first r
+anew_reached : (wish : Wish) (q : Modal) (cmd : Cmd) (s : Setting) (v : Value) (first : List ℕ) → Reached first v → Reached first (met_anew wish q cmd s v).effect.value
+anew_reached wish q cmd s v first r = resting_reached wish (rested q) cmd s (refreshed s v).value first r
 
 lists_reached : (wish : Wish) (q : Modal) (cmd : Cmd) (s : Setting) (v : Value) (first : List ℕ) → Reached first v → Reached first (met_lists wish q cmd s v).effect.value
 lists_reached Tab q cmd s v first r = tab_reached (completion_reply s v) true q cmd s v first r
-lists_reached (Search dir) q cmd s v first r = unlisted_reached (Search dir) q cmd s v first r
-lists_reached Up q cmd s v first r = unlisted_reached Up q cmd s v first r
-lists_reached Down q cmd s v first r = unlisted_reached Down q cmd s v first r
-lists_reached TabBack q cmd s v first r = unlisted_reached TabBack q cmd s v first r
-lists_reached Leave q cmd s v first r = unlisted_reached Leave q cmd s v first r
-lists_reached (Again way) q cmd s v first r = unlisted_reached (Again way) q cmd s v first r
-lists_reached Other q cmd s v first r = unlisted_reached Other q cmd s v first r
+lists_reached (Search dir) q cmd s v first r = anew_reached (Search dir) q cmd s v first r
+lists_reached Up q cmd s v first r = anew_reached Up q cmd s v first r
+lists_reached Down q cmd s v first r = anew_reached Down q cmd s v first r
+lists_reached TabBack q cmd s v first r = anew_reached TabBack q cmd s v first r
+lists_reached Leave q cmd s v first r = anew_reached Leave q cmd s v first r
+lists_reached (Again way) q cmd s v first r = anew_reached (Again way) q cmd s v first r
+lists_reached Other q cmd s v first r = anew_reached Other q cmd s v first r
 
 cycles_reached : (wish : Wish) (q : Modal) (cmd : Cmd) (s : Setting) (v : Value) (first : List ℕ) → Reached first v → Reached first (met_cycles wish q cmd s v).effect.value
 cycles_reached Tab q cmd s v first r = cycle_reached (completion_reply s v) Forward q cmd s v first r
@@ -521,6 +514,13 @@ cycles_reached Up q cmd s v first r = resting_reached Up (rested q) cmd s v firs
 cycles_reached Down q cmd s v first r = resting_reached Down (rested q) cmd s v first r
 cycles_reached (Again way) q cmd s v first r = resting_reached (Again way) (rested q) cmd s v first r
 cycles_reached Other q cmd s v first r = resting_reached Other (rested q) cmd s v first r
+
+acted_reached : (act : Act) (q : Modal) (cmd : Cmd) (s : Setting) (v : Value) (first : List ℕ) → Reached first v → Reached first (acted act q cmd s v).effect.value
+acted_reached (Types c) q cmd s v first r = put_reached q.put (sought (typed_in c q).query q.dir (Some q.at) s.entries) s v first r
+acted_reached Erases q cmd s v first r = again_reached (length (erased q).query == 0) (erased q) s v first r
+acted_reached (Goes dir) q cmd s v first r = put_reached q.put (sought q.query dir (onward dir q (length s.entries)) s.entries) s v first r
+acted_reached Leaves q cmd s v first r = given_up_reached q s v first r
+acted_reached Ends q cmd s v first r = anew_reached (wish_of cmd) q cmd s v first r
 
 met_reached : (at : Standing) (q : Modal) (cmd : Cmd) (s : Setting) (v : Value) (first : List ℕ) → Reached first v → Reached first (met_by at q cmd s v).effect.value
 met_reached Off q cmd s v first r = r

@@ -9,9 +9,9 @@ use Rattle.line_record.specs.Held.{ended}
 use Rattle.line_editor.specs.Asks.{ask_effect}
 use Rattle.line_editor.specs.Candidates.{cycle_begun, cycle_first, cycle}
 use Rattle.line_editor.specs.Commands.{Means, effect}
-use Rattle.line_editor.specs.Meeting.{meeting_effect}
+use Rattle.line_editor.specs.Meeting.{meeting_effect, acted}
 use Rattle.line_editor.specs.Modal.{Modal}
-use Rattle.line_editor.specs.Searching.{acted, begun_at, begin_search, given_up, is_place}
+use Rattle.line_editor.specs.Searching.{begun_at, begin_search, given_up, is_place}
 use Rattle.line_editor.specs.Values.{Value, Setting}
 use Rattle.line_editor.specs.Leads.{Reaches, Sound}
 use Rattle.line_editor.specs.declared.modal_state.Act.{Act}

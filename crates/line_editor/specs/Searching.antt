@@ -211,10 +211,3 @@ looks_erased x s v = looks_again (length (erased x).query == 0) (erased x) s v
 
 abbrev pub erased_effect : Modal → Transition
 erased_effect x s v = (looks_erased x s v).effect
-
-abbrev pub acted : Act → Modal → Cmd → Setting → Value → Meeting
-acted (Types c) x cmd s v = looks_typed c x s v
-acted Erases x cmd s v = looks_erased x s v
-acted (Goes dir) x cmd s v = looks_on dir x s v
-acted Leaves x cmd s v = takes (given_up x) (rested x) s v
-acted Ends x cmd s v = record { effect = refreshed s v; modal = rested x; next = cmd }

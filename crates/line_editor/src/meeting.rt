@@ -34,7 +34,7 @@ impl<'p, 'h, Out: Renderer, H: Helper + Drop, Hi: History> State<'p, 'h, Out, H,
     ghost use Rattle.line_edits.specs.Edits.{updating_in_group};
     ghost use Rattle.line_editor.specs.Searching.{typed_effect, looks, typed_in, onward, erased_effect, looks_erased, looks_on, put_again, search_again};
     ghost use Rattle.line_editor.specs.States.{value_of, setting_of, Does};
-    ghost use Rattle.line_editor.specs.Meeting.{met_resting, met_prefixes, met_tabbed, met_lists, met_cycles, unlisted};
+    ghost use Rattle.line_editor.specs.Meeting.{met_resting, met_prefixes, met_tabbed, met_lists, met_cycles, met_anew};
     ghost use Rattle.line_editor.specs.Turning.{Meets, MeetsAs, MeetsBy};
     ghost use Rattle.line_editor.specs.Values.{rewriting};
 
@@ -222,11 +222,7 @@ impl<'p, 'h, Out: Renderer, H: Helper + Drop, Hi: History> State<'p, 'h, Out, H,
             Act::Erases => self.search_erased(modal)?,
             Act::Goes(dir) => self.search_on(modal, dir)?,
             Act::Leaves => self.give_up(modal)?,
-            Act::Ends => {
-                modal.standing = Standing::Rests;
-                self.refresh()?;
-                return Ok(Next::Same);
-            }
+            Act::Ends => return self.meet_anew(modal, wish_of(cmd), cmd),
         }
         Ok(Next::Nothing)
     }
@@ -340,14 +336,14 @@ impl<'p, 'h, Out: Renderer, H: Helper + Drop, Hi: History> State<'p, 'h, Out, H,
         }
     }
 
-    /// Draws the line without the list below it; and what the command begins.
-    fn unlist(
+    /// Draws the line anew behind its own prompt; and what the command begins.
+    fn meet_anew(
         &mut self,
         modal: &mut ModalState,
         wish: Wish,
         cmd: &Cmd,
     ) -> Result<Next, ReadlineError>
-        ensures { MeetsAs (unlisted wish (modal_of modal.old) cmd.now) cmd.now
+        ensures { MeetsAs (met_anew wish (modal_of modal.old) cmd.now) cmd.now
             self.old self.new (modal_of modal.new) result }
     {
         self.refresh()?;
@@ -367,7 +363,7 @@ impl<'p, 'h, Out: Renderer, H: Helper + Drop, Hi: History> State<'p, 'h, Out, H,
     {
         match wish {
             Wish::Tab => self.tab(modal, true, cmd),
-            _ => self.unlist(modal, wish, cmd),
+            _ => self.meet_anew(modal, wish, cmd),
         }
     }
 
