@@ -16,8 +16,7 @@ use Rattle.line_editor.specs.declared.modal_state.Wish.{Wish}
 use Rattle.line_editor.specs.declared.modal_state.Wish.TheVariants.{Search, Up, Down, Tab, TabBack, Leave, Again, Other}
 
 pub record Modal : Type 0 where
-  -- what a completion makes of several candidates: whether the first Tab lists them, and at most how
-  -- many
+  -- what becomes of several candidates, whether the first Tab lists them, and how many at most
   pub completion_type : CompletionType
   pub lists_at_once : Bool
   pub limit : ℕ

@@ -98,7 +98,8 @@ fn list_text<C: Candidate>(
     candidates: &[C],
     limit: usize,
 ) -> Result<String, ReadlineError>
-    ensures { OrMemory result (λ s. string_bytes s ≡ list_text limit (map C.offers candidates.now)) }
+    ensures { OrMemory result (λ s. string_bytes s
+        ≡ list_text limit (map C.offers candidates.now)) }
 {
     let mut text = String::new(alloc);
     push_rows(&mut text, first_of(candidates, limit))?;

@@ -64,8 +64,8 @@ pub fn give_back()
     ensures { GivesBack }
 {}
 
-/// Candidates in turn that are given up, whichever was put last, leave the line, its cursor and what
-/// can be undone as they were, except that open groups are closed.
+/// Candidates in turn that are given up, whichever was put last, leave the line, its cursor and
+/// what can be undone as they were, except that open groups are closed.
 pub fn give_word_back()
     ensures { GivesWordBack }
 {}

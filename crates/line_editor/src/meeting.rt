@@ -21,7 +21,7 @@ fn is_place(line: &LineBuffer, place: usize) -> bool
     place <= line.len() && line.as_str().is_char_boundary(place)
 }
 
-/// Puts the cursor at a place, where it may stand there.
+/// Puts the cursor at a place, if it may stand there.
 fn place_cursor(line: &mut LineBuffer, place: usize)
     ensures { line.new ≡ placed place line.old }
 {
@@ -78,7 +78,7 @@ impl<'p, 'h, Out: Renderer, H: Helper + Drop, Hi: History> State<'p, 'h, Out, H,
         self.refresh_behind(prompt.as_str())
     }
 
-    /// Puts the cursor at a place, where it may stand there.
+    /// Puts the cursor at a place, if it may stand there.
     pub(crate) fn put_cursor(&mut self, place: usize)
         ensures does { Does {A = Unit {0}} (placing place) self.old self.new (Ok (tt {0})) }
     {

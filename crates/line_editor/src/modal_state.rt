@@ -191,8 +191,10 @@ pub(crate) fn cycle_at(dir: SearchDirection, at: usize, count: usize) -> usize
     ensures { result ≡ cycle_at dir at count }
 {
     match dir {
-        SearchDirection::Forward => { if at < count { at + 1 } else { 0 } }
-        SearchDirection::Reverse => { if at == 0 { count } else { at.min(count).saturating_sub(1) } }
+        SearchDirection::Forward if at < count => at + 1,
+        SearchDirection::Forward => 0,
+        SearchDirection::Reverse if at == 0 => count,
+        SearchDirection::Reverse => at.min(count).saturating_sub(1),
     }
 }
 
