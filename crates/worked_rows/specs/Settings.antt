@@ -6,6 +6,7 @@ use Rattle.line_config.specs.Config.{default_config, timeout_of}
 use Rattle.line_config.specs.declared.config.Config.{Config}
 use Rattle.line_config.specs.declared.device.Last.{Last}
 use Rattle.line_config.specs.declared.device.Last.TheVariants.{End}
+use Rattle.line_config.specs.declared.settings.CompletionType.TheVariants.{List as AsList}
 use Rattle.line_config.specs.declared.settings.EditMode.{EditMode}
 use Rattle.line_config.specs.declared.settings.EditMode.TheVariants.{Vi}
 use Rattle.line_editor.specs.Running.{Helping, helping_by}
@@ -88,6 +89,16 @@ adding config = record config { auto_add_history = true }
 -- with commands that go on over several keys
 abbrev pub modal : Config → Config
 modal config = record config { modal_commands = true }
+
+-- several candidates are listed: so many of them, and at the first Tab that adds nothing
+abbrev pub listed : Config → Config
+listed config = record config { completion_type = AsList }
+
+abbrev pub limited : ℕ → Config → Config
+limited n config = record config { completion_prompt_limit = n }
+
+abbrev pub at_once : Config → Config
+at_once config = record config { completion_show_all_if_ambiguous = true }
 
 abbrev pub of_size : ℕ → Config → Config
 of_size n config = record config { max_history_size = n }
