@@ -45,7 +45,7 @@ pub not_begun : {R H K T : Type 0} (canvas : Canvas R) (helps : Option H → Hel
 not_begun canvas helps custom prompt helper entries config out ring query feed = record {
   value = first_value (setting_by (canvas.ruler out) prompt (helps helper) entries);
   input = new_input config;
-  modal = modal_first config.modal_commands query;
+  modal = modal_first config query;
   layout = fresh (canvas.ruler out).mode;
   goes = λ told n h. undrawn canvas (canvas.ruler out) (setting_by (canvas.ruler out) prompt (helps helper) entries) n custom config out ring query feed.coming;
   last = refl;
@@ -107,7 +107,7 @@ module _ {Out H Hi K T : Type 0} {renderer : renderers.Renderer.Ghosts Out} {com
 
   module _ {A : Type 0} (prompt : List ℕ) (helper : Option H) (hist : Hi) (config : Config) (out : Out) (s t : State Out H Hi K T renderer completer candidate hinter hint highlighter validator history)
       (shown : Hi) (place : ℕ) (starts : Starts out prompt helper shown place s) (shown_is : shown ≡ hist) (place_is : place ≡ length (history.entries hist))
-      (custom : Custom) (i i' : Input) (input_is : i ≡ new_input config) (ring ring' : Ring) (modal modal' : Modal) (query query' : List ℕ) (modal_is : modal ≡ modal_first config.modal_commands query) (query_is : query' ≡ modal'.query) (feed feed' : KeyFeed) (result : Result A ReadlineError)
+      (custom : Custom) (i i' : Input) (input_is : i ≡ new_input config) (ring ring' : Ring) (modal modal' : Modal) (query query' : List ℕ) (modal_is : modal ≡ modal_first config query) (query_is : query' ≡ modal'.query) (feed feed' : KeyFeed) (result : Result A ReadlineError)
       (reads : Takes line_script custom config.indent_size s i ring modal feed t i' ring' modal' feed' (text_or result t.recorded.line.text))
       (ran : Ran Out H K T) (out_is : ran.out ≡ t.out) (helper_is : ran.helper ≡ t.helper) (outcome_is : outcome_of ran ≡ text_or result t.recorded.line.text) where
     abbrev setting : Setting

@@ -1,5 +1,6 @@
 -- The drawings of commands lead from the sight of the value before to that of the value after.
 use Rattle.std.specs.Prelude.{◌≡◌, ⊤, ℕ, Bool, true, false, List, [], ◌∷◌, Option, Result, Ok, Err, IsUtf8, IsCharBoundary}
+use Rattle.line_config.specs.declared.config.Config.{Config}
 use Rattle.line_config.specs.declared.errors.ReadlineError.{ReadlineError}
 use Rattle.line_keys.specs.Refreshing.{Ask}
 use Rattle.line_keys.specs.Refreshing.Ask.{Line, Message, Prompted, DoingInsert, DoneInserting}
@@ -125,7 +126,7 @@ module _ (s : Setting) (indent : ℕ) where
 abbrev pub LinesLead : Type 0
 LinesLead =
     (n : ℕ) (s : Setting) (custom : Custom) (indent : ℕ) (input : Input) (r : Ring)
-    (on : Bool) (query : List ℕ) (coming : Coming)
-    → let k = kept (first_value s) input r (modal_first on query) coming in
+    (config : Config) (query : List ℕ) (coming : Coming)
+    → let k = kept (first_value s) input r (modal_first config query) coming in
     let line = played_from s indent (line_script n custom) k in
     LeadsAlong s indent line.answer k no_sight line.asks

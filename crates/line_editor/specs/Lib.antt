@@ -1,6 +1,7 @@
 pub mod Accepting
 pub mod Asks
 pub mod Calls
+pub mod Candidates
 pub mod Commands
 pub mod Completing
 pub mod Courses

@@ -1,20 +1,24 @@
 -- What becomes of a command before it is done, by what stands, and what is to be seen then.
 use Rattle.std.specs.Prelude.{◌≡◌, ℕ, ◌==◌, ◌&&◌, Bool, true, false, List, length, Option}
+use Rattle.line_help.specs.declared.search.SearchDirection.TheVariants.{Forward, Reverse}
 use Rattle.line_keys.specs.declared.command.Cmd.{Cmd}
-use Rattle.line_editor.specs.Modal.{Modal, rested, Meeting, passed, wish_of}
+use Rattle.line_editor.specs.Candidates.{tab, cycle}
+use Rattle.line_editor.specs.Drawing.{refreshed}
+use Rattle.line_editor.specs.Modal.{Modal, rested, Meeting, passed, takes, wish_of}
 use Rattle.line_editor.specs.Prefixes.{is_prefix, is_own, rises, rises_if, falls}
-use Rattle.line_editor.specs.Searching.{search_prompt, begun_if, act_of, acted}
+use Rattle.line_editor.specs.Searching.{search_prompt, given_up, begun_if, act_of, acted}
 use Rattle.line_editor.specs.Sights.{Sight, sight_of, sight_with}
-use Rattle.line_editor.specs.Values.{Value, Setting, Transition}
+use Rattle.line_editor.specs.Values.{Value, Setting, Transition, then_do}
 use Rattle.line_editor.specs.declared.modal_state.Standing.{Standing}
-use Rattle.line_editor.specs.declared.modal_state.Standing.TheVariants.{Off, Rests, Prefixes, Searches}
+use Rattle.line_editor.specs.declared.modal_state.Standing.TheVariants.{Off, Rests, Prefixes, Searches, Tabbed, Lists, Cycles}
 use Rattle.line_editor.specs.declared.modal_state.Wish.{Wish}
-use Rattle.line_editor.specs.declared.modal_state.Wish.TheVariants.{Search, Up, Down}
+use Rattle.line_editor.specs.declared.modal_state.Wish.TheVariants.{Search, Up, Down, Tab, TabBack, Leave}
 
 -- what may begin
 abbrev pub met_resting : Wish → Modal → Cmd → Setting → Value → Meeting
 met_resting (Search dir) x cmd s v = begun_if (length s.entries == 0) dir x cmd s v
 met_resting Up x cmd s v = rises_if (is_own s v && is_prefix v.line) x cmd s v
+met_resting Tab x cmd s v = tab x.lists_at_once x cmd s v
 met_resting wish x cmd s v = passed x cmd v
 
 -- what goes on among the entries that begin with the line
@@ -23,11 +27,42 @@ met_prefixes Up x cmd s v = rises x s v
 met_prefixes Down x cmd s v = falls x s v
 met_prefixes wish x cmd s v = met_resting wish (rested x) cmd s v
 
+-- a second Tab may list the candidates
+abbrev pub met_tabbed : Wish → Modal → Cmd → Setting → Value → Meeting
+met_tabbed Tab x cmd s v = tab true x cmd s v
+met_tabbed wish x cmd s v = met_resting wish (rested x) cmd s v
+
+-- an edit, and then what is made of the command
+abbrev pub then_meets : Transition → (Setting → Value → Meeting) → Setting → Value → Meeting
+then_meets first met s v = let m = met s (first s v).value in record {
+  effect = then_do first (λ a w. (met a w).effect) s v;
+  modal = m.modal;
+  next = m.next;
+}
+
+-- a list goes with the next key
+abbrev pub unlisted : Wish → Modal → Cmd → Setting → Value → Meeting
+unlisted wish x cmd s v = then_meets refreshed (met_resting wish (rested x) cmd) s v
+
+abbrev pub met_lists : Wish → Modal → Cmd → Setting → Value → Meeting
+met_lists Tab x cmd s v = tab true x cmd s v
+met_lists wish x cmd s v = unlisted wish x cmd s v
+
+-- the next candidate, the one before, or the line as it was
+abbrev pub met_cycles : Wish → Modal → Cmd → Setting → Value → Meeting
+met_cycles Tab x cmd s v = cycle Forward x cmd s v
+met_cycles TabBack x cmd s v = cycle Reverse x cmd s v
+met_cycles Leave x cmd s v = takes (given_up x) (rested x) s v
+met_cycles wish x cmd s v = met_resting wish (rested x) cmd s v
+
 abbrev pub met_by : Standing → Modal → Cmd → Setting → Value → Meeting
 met_by Off x cmd s v = passed x cmd v
 met_by Rests x cmd s v = met_resting (wish_of cmd) x cmd s v
 met_by Prefixes x cmd s v = met_prefixes (wish_of cmd) x cmd s v
 met_by Searches x cmd s v = acted (act_of cmd) x cmd s v
+met_by Tabbed x cmd s v = met_tabbed (wish_of cmd) x cmd s v
+met_by Lists x cmd s v = met_lists (wish_of cmd) x cmd s v
+met_by Cycles x cmd s v = met_cycles (wish_of cmd) x cmd s v
 
 abbrev pub meeting : Modal → Cmd → Setting → Value → Meeting
 meeting x cmd s v = met_by x.standing x cmd s v

@@ -1,9 +1,11 @@
 -- What stands between the commands of a line, and what it makes of one before it is done.
 use Rattle.std.specs.Prelude.{ℕ, Bool, true, false, List, [], string_bytes}
+use Rattle.line_config.specs.declared.config.Config.{Config}
+use Rattle.line_config.specs.declared.settings.CompletionType.{CompletionType}
 use Rattle.line_help.specs.declared.search.SearchDirection.{SearchDirection}
 use Rattle.line_help.specs.declared.search.SearchDirection.TheVariants.{Forward, Reverse}
 use Rattle.line_keys.specs.declared.command.Cmd.{Cmd}
-use Rattle.line_keys.specs.declared.command.Cmd.TheVariants.{EndOfHistory, ForwardSearchHistory, HistorySearchBackward, HistorySearchForward, LineDownOrNextHistory, LineUpOrPreviousHistory, ReverseSearchHistory, Unknown}
+use Rattle.line_keys.specs.declared.command.Cmd.TheVariants.{Abort, Complete, CompleteBackward, EndOfHistory, ForwardSearchHistory, HistorySearchBackward, HistorySearchForward, LineDownOrNextHistory, LineUpOrPreviousHistory, ReverseSearchHistory, Unknown}
 use Rattle.line_editor.specs.Values.{Value, Setting, Effect, Transition}
 use Rattle.line_editor.specs.declared.modal_state.ModalState.{ModalState}
 use Rattle.line_editor.specs.declared.modal_state.Next.{Next}
@@ -11,9 +13,14 @@ use Rattle.line_editor.specs.declared.modal_state.Next.TheVariants.{Nothing, Sam
 use Rattle.line_editor.specs.declared.modal_state.Standing.{Standing}
 use Rattle.line_editor.specs.declared.modal_state.Standing.TheVariants.{Off, Rests, Searches}
 use Rattle.line_editor.specs.declared.modal_state.Wish.{Wish}
-use Rattle.line_editor.specs.declared.modal_state.Wish.TheVariants.{Search, Up, Down, Other}
+use Rattle.line_editor.specs.declared.modal_state.Wish.TheVariants.{Search, Up, Down, Tab, TabBack, Leave, Other}
 
 pub record Modal : Type 0 where
+  -- what a completion makes of several candidates: whether the first Tab lists them, and at most how
+  -- many
+  pub completion_type : CompletionType
+  pub lists_at_once : Bool
+  pub limit : ℕ
   pub standing : Standing
   -- the text of a search; if `fresh`, it is the last search's, and nothing was typed yet
   pub query : List ℕ
@@ -21,9 +28,9 @@ pub record Modal : Type 0 where
   pub dir : SearchDirection
   -- nothing was found for the query
   pub fails : Bool
-  -- an entry is shown in place of the line
+  -- an entry is shown in place of the line, or a candidate in place of the word
   pub put : Bool
-  -- the entry at which it began, and the current one
+  -- the entry at which it began, and the current one; or the current candidate
   pub start : ℕ
   pub at : ℕ
   -- the cursor's place before it
@@ -31,6 +38,9 @@ pub record Modal : Type 0 where
 
 abbrev pub modal_of : ModalState → Modal
 modal_of x = record {
+  completion_type = x.completion_type;
+  lists_at_once = x.lists_at_once;
+  limit = x.limit;
   standing = x.standing;
   query = string_bytes x.query;
   fresh = x.fresh;
@@ -47,9 +57,12 @@ standing_first true = Rests
 standing_first false = Off
 
 -- as a line begins: nothing stands, and the query is the last search's
-abbrev pub modal_first : Bool → List ℕ → Modal
-modal_first on query = record {
-  standing = standing_first on;
+abbrev pub modal_first : Config → List ℕ → Modal
+modal_first config query = record {
+  completion_type = config.completion_type;
+  lists_at_once = config.completion_show_all_if_ambiguous;
+  limit = config.completion_prompt_limit;
+  standing = standing_first config.modal_commands;
   query = query;
   fresh = true;
   dir = Reverse;
@@ -100,6 +113,9 @@ wish_of ReverseSearchHistory = Search Reverse
 wish_of ForwardSearchHistory = Search Forward
 wish_of (LineUpOrPreviousHistory n) = Up
 wish_of (LineDownOrNextHistory n) = Down
+wish_of Complete = Tab
+wish_of CompleteBackward = TabBack
+wish_of Abort = Leave
 wish_of cmd = Other
 
 abbrev pub next_of : Next → Cmd → Cmd

@@ -47,7 +47,7 @@ setting_by r prompt helping entries = record {
 -- drawn, and nothing typed
 abbrev pub kept_first : Setting → Config → Ring → List ℕ → Coming → LineState
 kept_first s config ring query coming =
-    let modal = modal_first config.modal_commands query in
+    let modal = modal_first config query in
     kept (first_value s) (new_input config) ring modal coming
 
 abbrev pub stage_first : {R : Type 0} → R → Ruler → Setting → Config → Ring → List ℕ → Coming

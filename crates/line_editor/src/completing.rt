@@ -30,7 +30,7 @@ fn elected_among<C: Candidate>(candidates: &[C], len: usize) -> Option<&str>
 }
 
 /// Whether a word may begin at a place: a character boundary at or before the cursor.
-fn begins_word(line: &LineBuffer, start: usize) -> bool
+pub(crate) fn begins_word(line: &LineBuffer, start: usize) -> bool
     ensures value { result ≡ begins_word start line.now }
     ensures order { IsTrue result → start ≤ line.now.place }
     ensures boundary { IsTrue result → IsCharBoundary line.now.text start }
@@ -39,7 +39,7 @@ fn begins_word(line: &LineBuffer, start: usize) -> bool
 }
 
 /// The text that replaces the word at a place, if any.
-fn elected<'c, C: Candidate>(
+pub(crate) fn elected<'c, C: Candidate>(
     line: &LineBuffer,
     start: usize,
     candidates: &'c [C],
@@ -133,7 +133,7 @@ impl<'p, 'h, Out: Renderer, H: Helper + Drop, Hi: History> State<'p, 'h, Out, H,
     ghost use Rattle.line_editor.specs.Completing.{candidates_given, complete, word_updated, word_completed};
 
     /// The helper's candidates for the word before the cursor, and where the word starts.
-    fn candidates(&self) -> Result<(usize, Vec<H::Candidate>), ReadlineError>
+    pub(crate) fn candidates(&self) -> Result<(usize, Vec<H::Candidate>), ReadlineError>
         requires { is_some self.now.helper ≡ true }
         ensures found { IfOk result (λ found. completion_by H.Candidate.offers found
             ≡ candidates_given (completion_reply (setting_of self.now) (value_of self.now))) }
@@ -171,7 +171,7 @@ impl<'p, 'h, Out: Renderer, H: Helper + Drop, Hi: History> State<'p, 'h, Out, H,
     }
 
     /// Replaces the word at a place, and draws the line.
-    fn complete_word(&mut self, start: usize, text: &str) -> Result<(), ReadlineError>
+    pub(crate) fn complete_word(&mut self, start: usize, text: &str) -> Result<(), ReadlineError>
         requires some { is_some self.old.helper ≡ true }
         requires order { start ≤ self.old.recorded.line.place }
         requires boundary { IsCharBoundary self.old.recorded.line.text start }

@@ -3,6 +3,7 @@
 #![tactic(auto)]
 
 mod accepting;
+mod candidates;
 pub mod commands;
 mod completing;
 mod drawing;

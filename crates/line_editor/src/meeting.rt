@@ -34,12 +34,12 @@ impl<'p, 'h, Out: Renderer, H: Helper + Drop, Hi: History> State<'p, 'h, Out, H,
     ghost use Rattle.line_edits.specs.Edits.{updating_in_group};
     ghost use Rattle.line_editor.specs.Searching.{typed_effect, looks, typed_in, onward, erased_effect, looks_erased, looks_on};
     ghost use Rattle.line_editor.specs.States.{value_of, setting_of, Does};
-    ghost use Rattle.line_editor.specs.Meeting.{met_resting, met_prefixes};
+    ghost use Rattle.line_editor.specs.Meeting.{met_resting, met_prefixes, met_tabbed, met_lists, met_cycles, unlisted};
     ghost use Rattle.line_editor.specs.Turning.{Meets, MeetsAs, MeetsBy};
     ghost use Rattle.line_editor.specs.Values.{rewriting};
 
     /// Undoes the entry that stands in place of the line, if there is one.
-    fn take_hit_back(&mut self, put: bool) -> Result<(), ReadlineError>
+    pub(crate) fn take_hit_back(&mut self, put: bool) -> Result<(), ReadlineError>
         ensures does { Does (hit_back put) self.old self.new result }
     {
         if !put {
@@ -79,7 +79,7 @@ impl<'p, 'h, Out: Renderer, H: Helper + Drop, Hi: History> State<'p, 'h, Out, H,
     }
 
     /// Puts the cursor at a place, where it may stand there.
-    fn put_cursor(&mut self, place: usize)
+    pub(crate) fn put_cursor(&mut self, place: usize)
         ensures does { Does {A = Unit {0}} (placing place) self.old self.new (Ok (tt {0})) }
     {
         self.known = None;
@@ -261,7 +261,8 @@ impl<'p, 'h, Out: Renderer, H: Helper + Drop, Hi: History> State<'p, 'h, Out, H,
         match wish {
             Wish::Search(dir) => self.met_search(modal, dir, cmd),
             Wish::Up => self.met_up(modal, cmd),
-            Wish::Down | Wish::Other => Ok(Next::Same),
+            Wish::Tab => self.tab(modal, modal.lists_at_once, cmd),
+            _ => Ok(Next::Same),
         }
     }
 
@@ -285,6 +286,80 @@ impl<'p, 'h, Out: Renderer, H: Helper + Drop, Hi: History> State<'p, 'h, Out, H,
         }
     }
 
+    /// What a command makes of a completion that left several candidates.
+    fn met_tabbed(
+        &mut self,
+        modal: &mut ModalState,
+        wish: Wish,
+        cmd: &Cmd,
+    ) -> Result<Next, ReadlineError>
+        ensures { MeetsAs (met_tabbed wish (modal_of modal.old) cmd.now) cmd.now
+            self.old self.new (modal_of modal.new) result }
+    {
+        match wish {
+            Wish::Tab => self.tab(modal, true, cmd),
+            _ => {
+                modal.standing = Standing::Rests;
+                self.met_resting(modal, wish, cmd)
+            }
+        }
+    }
+
+    /// Draws the line without the list below it; and what the command begins.
+    fn unlist(
+        &mut self,
+        modal: &mut ModalState,
+        wish: Wish,
+        cmd: &Cmd,
+    ) -> Result<Next, ReadlineError>
+        ensures { MeetsAs (unlisted wish (modal_of modal.old) cmd.now) cmd.now
+            self.old self.new (modal_of modal.new) result }
+    {
+        self.refresh()?;
+        modal.standing = Standing::Rests;
+        self.met_resting(modal, wish, cmd)
+    }
+
+    /// What a command makes of a list of candidates.
+    fn met_lists(
+        &mut self,
+        modal: &mut ModalState,
+        wish: Wish,
+        cmd: &Cmd,
+    ) -> Result<Next, ReadlineError>
+        ensures { MeetsAs (met_lists wish (modal_of modal.old) cmd.now) cmd.now
+            self.old self.new (modal_of modal.new) result }
+    {
+        match wish {
+            Wish::Tab => self.tab(modal, true, cmd),
+            _ => self.unlist(modal, wish, cmd),
+        }
+    }
+
+    /// What a command makes of a candidate that stands in place of the word.
+    fn met_cycles(
+        &mut self,
+        modal: &mut ModalState,
+        wish: Wish,
+        cmd: &Cmd,
+    ) -> Result<Next, ReadlineError>
+        ensures { MeetsAs (met_cycles wish (modal_of modal.old) cmd.now) cmd.now
+            self.old self.new (modal_of modal.new) result }
+    {
+        match wish {
+            Wish::Tab => self.cycle(modal, SearchDirection::Forward, cmd),
+            Wish::TabBack => self.cycle(modal, SearchDirection::Reverse, cmd),
+            Wish::Leave => {
+                self.give_up(modal)?;
+                Ok(Next::Nothing)
+            }
+            _ => {
+                modal.standing = Standing::Rests;
+                self.met_resting(modal, wish, cmd)
+            }
+        }
+    }
+
     /// What stands between commands makes of a command.
     fn met(&mut self, modal: &mut ModalState, cmd: &Cmd) -> Result<Next, ReadlineError>
         ensures { MeetsBy cmd.now self.old (modal_of modal.old) self.new (modal_of modal.new)
@@ -295,6 +370,9 @@ impl<'p, 'h, Out: Renderer, H: Helper + Drop, Hi: History> State<'p, 'h, Out, H,
             Standing::Rests => self.met_resting(modal, wish_of(cmd), cmd),
             Standing::Prefixes => self.met_prefixes(modal, wish_of(cmd), cmd),
             Standing::Searches => self.met_standing(modal, cmd),
+            Standing::Tabbed => self.met_tabbed(modal, wish_of(cmd), cmd),
+            Standing::Lists => self.met_lists(modal, wish_of(cmd), cmd),
+            Standing::Cycles => self.met_cycles(modal, wish_of(cmd), cmd),
         }
     }
 

@@ -1,13 +1,14 @@
-//! What stands between the commands of a line: a search of the history, or nothing.
+//! What stands between the commands of a line: a search of the history, candidates, or nothing.
 ghost use Rattle.std.specs.Prelude.{◌≡◌, ◌++◌, encode_utf8, IfErr, OnOk, string_bytes};
 ghost use Rattle.std.specs.Char.{IsScalar};
 ghost use Rattle.line_config.specs.Refusals.{OrMemory};
 ghost use Rattle.line_config.specs.declared.errors.ReadlineError.TheVariants.{Memory};
+ghost use Rattle.line_editor.specs.Candidates.{cycle_at};
 ghost use Rattle.line_editor.specs.Modal.{modal_of, modal_first, standing_first, wish_of};
 ghost use Rattle.line_editor.specs.Searching.{query_in, queried, without_last, erased, heading, search_prompt, erased_by, act_of, next_at, onward};
 
 use line_buffer::Movement;
-use line_config::ReadlineError;
+use line_config::{CompletionType, Config, ReadlineError};
 use line_help::SearchDirection;
 use line_keys::Cmd;
 use std::alloc::Global;
@@ -23,6 +24,12 @@ pub enum Standing {
     Prefixes,
     /// A search of the history.
     Searches,
+    /// A completion that left several candidates: the next Tab lists them.
+    Tabbed,
+    /// A list of candidates below the line.
+    Lists,
+    /// One of several candidates, in place of the word.
+    Cycles,
 }
 
 /// What a command may begin between commands, or go on with.
@@ -34,6 +41,12 @@ pub enum Wish {
     Up,
     /// The row below, or a later entry.
     Down,
+    /// A completion, or the next candidate.
+    Tab,
+    /// The candidate before.
+    TabBack,
+    /// The line as it was.
+    Leave,
     /// None of these.
     Other,
 }
@@ -71,6 +84,9 @@ pub enum Act {
 /// What stands between the commands of a line, or what is left of the last search.
 #[derive(Drop)]
 pub struct ModalState {
+    pub(crate) completion_type: CompletionType,
+    pub(crate) lists_at_once: bool,
+    pub(crate) limit: usize,
     pub(crate) standing: Standing,
     pub(crate) query: String,
     pub(crate) fresh: bool,
@@ -109,6 +125,9 @@ pub(crate) fn wish_of(cmd: &Cmd) -> Wish
         Cmd::ForwardSearchHistory => Wish::Search(SearchDirection::Forward),
         Cmd::LineUpOrPreviousHistory(_) => Wish::Up,
         Cmd::LineDownOrNextHistory(_) => Wish::Down,
+        Cmd::Complete => Wish::Tab,
+        Cmd::CompleteBackward => Wish::TabBack,
+        Cmd::Abort => Wish::Leave,
         _ => Wish::Other,
     }
 }
@@ -152,6 +171,17 @@ fn next_at(dir: SearchDirection, at: usize, count: usize) -> Option<usize>
     }
 }
 
+/// The candidate after one, of so many, in a direction. After the last one, and before the first,
+/// comes the word as it was.
+pub(crate) fn cycle_at(dir: SearchDirection, at: usize, count: usize) -> usize
+    ensures { result ≡ cycle_at dir at count }
+{
+    match dir {
+        SearchDirection::Forward => { if at < count { at + 1 } else { 0 } }
+        SearchDirection::Reverse => { if at == 0 { count } else { at.min(count).saturating_sub(1) } }
+    }
+}
+
 /// A character is a scalar value.
 fn drop_char(c: char)
     ensures scalar { IsScalar c }
@@ -171,11 +201,14 @@ fn drop_last(text: &mut String)
 
 impl ModalState {
     /// As a line begins, after a search for this query.
-    pub(crate) fn new(on: bool, query: String) -> Self
-        ensures { modal_of result ≡ modal_first on (string_bytes query) }
+    pub(crate) fn new(config: &Config, query: String) -> Self
+        ensures { modal_of result ≡ modal_first config.now (string_bytes query) }
     {
         ModalState {
-            standing: standing_first(on),
+            completion_type: config.completion_type(),
+            lists_at_once: config.completion_show_all_if_ambiguous(),
+            limit: config.completion_prompt_limit(),
+            standing: standing_first(config.modal_commands()),
             query,
             fresh: true,
             dir: SearchDirection::Reverse,

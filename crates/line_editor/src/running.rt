@@ -92,7 +92,7 @@ pub fn run<R: RawReader, Out: Renderer, H: Helper + Drop, Hi: History, D: Decide
     let ctx = Context::new(history);
     let mut state = State::of_parts(alloc, recorded, out, prompt, helper, ctx);
     let query = mem::replace(last_query, String::new(alloc));
-    let mut modal = ModalState::new(config.modal_commands(), query);
+    let mut modal = ModalState::new(config, query);
     let read = state.read_line(&mut input_state, reader, kill_ring, &mut modal, config);
     *last_query = modal.query;
     state.ran(read)

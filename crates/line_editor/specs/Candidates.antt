@@ -1,0 +1,165 @@
+-- What Tab makes of a line: its only candidate, one of several in turn, or a list of them.
+use Rattle.std.specs.Prelude.{ℕ, ◌+◌, ◌-◌, ◌==◌, nat_lt, min, Bool, true, false, if◌then◌else◌, List, [], ◌∷◌, ◌++◌, map, take, length, codes, decimal, slice_get, is_some, Option, Some, None}
+use Rattle.std.specs.List.{concat}
+use Rattle.line_buffer.specs.Line.{Line}
+use Rattle.line_config.specs.declared.settings.CompletionType.{CompletionType}
+use Rattle.line_config.specs.declared.settings.CompletionType.TheVariants as completion_type
+use Rattle.line_help.specs.Completion.{Offered, Completion, unless_empty}
+use Rattle.line_help.specs.declared.search.SearchDirection.{SearchDirection}
+use Rattle.line_help.specs.declared.search.SearchDirection.TheVariants.{Forward, Reverse}
+use Rattle.line_keys.specs.Replies.{Reply}
+use Rattle.line_keys.specs.declared.command.Cmd.{Cmd}
+use Rattle.line_keys.specs.declared.command.CmdKind.TheVariants.{Other}
+use Rattle.line_editor.specs.Completing.{begins_word, elected, word_completed, completed_with, candidates_given, candidates_asked}
+use Rattle.line_editor.specs.Drawing.{beeped, refreshed, told}
+use Rattle.line_editor.specs.Modal.{Modal, rested, Meeting, passed, takes}
+use Rattle.line_editor.specs.Searching.{hit_back, placing}
+use Rattle.line_editor.specs.Values.{Value, Setting, Transition, taking_memory, then_do, close_groups, completion_reply}
+use Rattle.line_editor.specs.declared.modal_state.Standing.{Standing}
+use Rattle.line_editor.specs.declared.modal_state.Standing.TheVariants.{Tabbed, Lists, Cycles}
+
+-- ---- a single candidate
+
+abbrev pub only_text : List Offered → Option (List ℕ)
+only_text (o ∷ []) = Some o.replacement
+only_text candidates = None
+
+abbrev pub only_put : Completion → Line → Option (List ℕ)
+only_put found l = if begins_word found.start l then only_text found.candidates else None
+
+abbrev pub only_completed : Completion → Transition
+only_completed found s v = completed_with found.start (only_put found v.line) s v
+
+-- ---- a list of candidates: each on a row of its own, at most so many, and how many more there are
+
+abbrev pub rows_of : List Offered → List ℕ
+rows_of candidates = concat (map (λ o. 10 ∷ o.display) candidates)
+
+abbrev pub more_row : ℕ → ℕ → List ℕ
+more_row limit count =
+    if nat_lt limit count then codes "\n(" ++ (decimal (count - limit) ++ codes " more)") else []
+
+abbrev pub list_text : ℕ → List Offered → List ℕ
+list_text limit candidates =
+    rows_of (take limit candidates) ++ more_row limit (length candidates)
+
+-- drawn below the line in place of the hint, which takes memory
+abbrev pub list_shown : ℕ → List Offered → Transition
+list_shown limit candidates = then_do taking_memory (told (Some (list_text limit candidates)) Other)
+
+-- the common prefix, if it adds something. Otherwise they are listed, or it beeps
+abbrev pub listed_with : Bool → ℕ → Completion → Option (List ℕ) → Transition
+listed_with lists limit found (Some text) = word_completed found.start text
+listed_with true limit found None = list_shown limit found.candidates
+listed_with false limit found None = beeped
+
+abbrev pub listed : Bool → ℕ → Completion → Transition
+listed lists limit found s v = listed_with lists limit found (elected found v.line) s v
+
+abbrev pub list_standing : Bool → Option (List ℕ) → Standing
+list_standing true None = Lists
+list_standing lists text = Tabbed
+
+-- ---- candidates in turn
+
+-- after the last one, and before the first, comes the word as it was
+abbrev pub cycle_at : SearchDirection → ℕ → ℕ → ℕ
+cycle_at Forward at count = if nat_lt at count then at + 1 else 0
+cycle_at Reverse at count = if at == 0 then count else min at count - 1
+
+-- an empty candidate isn't put
+abbrev pub text_at : Option Offered → Option (List ℕ)
+text_at None = None
+text_at (Some o) = unless_empty o.replacement
+
+abbrev pub candidate_at : ℕ → Completion → Line → Option (List ℕ)
+candidate_at at found l =
+    if begins_word found.start l then text_at (slice_get found.candidates at) else None
+
+-- put in place of the word; or the word as it was, and a beep
+abbrev pub turned_with : ℕ → Option (List ℕ) → Transition
+turned_with start None = then_do refreshed beeped
+turned_with start (Some text) = word_completed start text
+
+abbrev pub turned : ℕ → Completion → Transition
+turned at found s v = turned_with found.start (candidate_at at found v.line) s v
+
+abbrev pub turned_modal : ℕ → Completion → Line → Modal → Modal
+turned_modal at found l x = record x { at = at; put = is_some (candidate_at at found l) }
+
+-- the first one of several
+abbrev pub cycle_begun : Completion → Transition
+cycle_begun found = then_do close_groups (turned 0 found)
+
+abbrev pub cycle_first : Completion → Line → Modal → Modal
+cycle_first found l x =
+    record (turned_modal 0 found l x) { standing = Cycles; place = l.place }
+
+-- what was put is undone, and the cursor is where it was
+abbrev pub cycle_back : Modal → Transition
+cycle_back x = then_do (hit_back x.put) (placing x.place)
+
+-- the helper is asked anew for that line, and the next candidate is put
+abbrev pub next_turned : SearchDirection → Modal → Completion → Transition
+next_turned dir x found = turned (cycle_at dir x.at (length found.candidates)) found
+
+abbrev pub asked_turned : SearchDirection → Modal → Transition
+asked_turned dir x s v =
+    then_do candidates_asked (next_turned dir x (candidates_given (completion_reply s v))) s v
+
+abbrev pub cycled : SearchDirection → Modal → Transition
+cycled dir x = then_do (cycle_back x) (asked_turned dir x)
+
+abbrev pub asked_modal : SearchDirection → Modal → Setting → Value → Modal
+asked_modal dir x s v = let found = candidates_given (completion_reply s v) in
+    turned_modal (cycle_at dir x.at (length found.candidates)) found v.line x
+
+-- ---- what it makes of a command
+
+-- several candidates, by the setting; `lists`: they may be listed now
+abbrev pub several : CompletionType → Bool → Modal → Completion → Transition
+several completion_type.Circular lists x found = cycle_begun found
+several completion_type.List lists x found = listed lists x.limit found
+
+abbrev pub several_modal : CompletionType → Bool → Completion → Line → Modal → Modal
+several_modal completion_type.Circular lists found l x = cycle_first found l x
+several_modal completion_type.List lists found l x =
+    record x { standing = list_standing lists (elected found l) }
+
+abbrev pub offered_if : Bool → Bool → Modal → Completion → Transition
+offered_if false lists x found = only_completed found
+offered_if true lists x found = several x.completion_type lists x found
+
+abbrev pub offered_modal_if : Bool → Bool → Completion → Line → Modal → Modal
+offered_modal_if false lists found l x = rested x
+offered_modal_if true lists found l x = several_modal x.completion_type lists found l x
+
+abbrev pub is_ambiguous : Completion → Bool
+is_ambiguous found = nat_lt 1 (length found.candidates)
+
+abbrev pub offered : Bool → Modal → Completion → Transition
+offered lists x found = offered_if (is_ambiguous found) lists x found
+
+abbrev pub offered_modal : Bool → Completion → Line → Modal → Modal
+offered_modal lists found l x = offered_modal_if (is_ambiguous found) lists found l x
+
+abbrev pub tab_effect : Bool → Modal → Completion → Transition
+tab_effect lists x found = then_do candidates_asked (offered lists x found)
+
+-- without a helper a completion does nothing, as ever
+abbrev pub tab_by : Option (Reply Completion) → Bool → Modal → Cmd → Setting → Value → Meeting
+tab_by None lists x cmd s v = passed x cmd v
+tab_by (Some reply) lists x cmd s v = let found = candidates_given (Some reply) in
+    takes (tab_effect lists x found) (offered_modal lists found v.line x) s v
+
+abbrev pub tab : Bool → Modal → Cmd → Setting → Value → Meeting
+tab lists x cmd s v = tab_by (completion_reply s v) lists x cmd s v
+
+abbrev pub cycle_by : Option (Reply Completion) → SearchDirection → Modal → Cmd → Setting → Value
+    → Meeting
+cycle_by None dir x cmd s v = passed x cmd v
+cycle_by (Some reply) dir x cmd s v =
+    takes (cycled dir x) (asked_modal dir x s (cycle_back x s v).value) s v
+
+abbrev pub cycle : SearchDirection → Modal → Cmd → Setting → Value → Meeting
+cycle dir x cmd s v = cycle_by (completion_reply s v) dir x cmd s v

@@ -1,0 +1,334 @@
+//! What Tab makes of a line: its only candidate, one of several in turn, or a list of them.
+ghost use Rattle.std.specs.Prelude.{◌≡◌, ◌≤◌, true, is_some, map, option_copied, string_bytes, IfSome, OnOk, IsCharBoundary};
+ghost use Rattle.line_config.specs.Refusals.{OrMemory};
+ghost use Rattle.line_editor.specs.Candidates.{only_put, only_completed, list_text, list_shown, listed, list_standing, candidate_at, turned, turned_modal, cycle_begun, cycle_first, cycle_back, asked_turned, asked_modal, cycled, cycle, several, several_modal, offered, offered_modal, tab_effect, tab};
+ghost use Rattle.line_editor.specs.Completing.{elected};
+ghost use Rattle.line_editor.specs.Modal.{modal_of};
+
+use crate::completing::{begins_word, elected};
+use crate::modal_state::{ModalState, Next, Standing, cycle_at};
+use crate::renderer::Renderer;
+use crate::state::State;
+use line_buffer::LineBuffer;
+use line_config::{CompletionType, ReadlineError};
+use line_help::{Candidate, Helper, History, SearchDirection};
+use line_keys::{Cmd, CmdKind};
+use std::alloc::Global;
+
+/// What replaces the word if there is only one candidate.
+fn only_put<'c, C: Candidate>(
+    line: &LineBuffer,
+    start: usize,
+    candidates: &'c [C],
+) -> Option<&'c str>
+    ensures value { option_copied result ≡ only_put
+        (record { start = start; candidates = map C.offers candidates.now }) line.now }
+    ensures order { IfSome result (λ _. start ≤ line.now.place) }
+    ensures boundary { IfSome result (λ _. IsCharBoundary line.now.text start) }
+{
+    match candidates {
+        [only] if begins_word(line, start) => Some(only.replacement()),
+        _ => None,
+    }
+}
+
+/// What replaces the word if the candidate at an index is put: none if there is none, or if it is
+/// empty.
+fn candidate_at<'c, C: Candidate>(
+    line: &LineBuffer,
+    start: usize,
+    candidates: &'c [C],
+    at: usize,
+) -> Option<&'c str>
+    ensures value { option_copied result ≡ candidate_at at
+        (record { start = start; candidates = map C.offers candidates.now }) line.now }
+    ensures order { IfSome result (λ _. start ≤ line.now.place) }
+    ensures boundary { IfSome result (λ _. IsCharBoundary line.now.text start) }
+{
+    if !begins_word(line, start) {
+        return None;
+    }
+    let text = candidates.get(at)?.replacement();
+    if text.is_empty() { None } else { Some(text) }
+}
+
+/// The first candidates, each on a row of its own, and how many more there are.
+fn list_text<C: Candidate>(
+    alloc: Global,
+    candidates: &[C],
+    limit: usize,
+) -> Result<String, ReadlineError>
+    ensures { OrMemory result (λ s. string_bytes s ≡ list_text limit (map C.offers candidates.now)) }
+{
+    let mut text = String::new(alloc);
+    for candidate in candidates.iter().take(limit) {
+        text.push('\n')?;
+        text.push_str(candidate.display())?;
+    }
+    if limit < candidates.len() {
+        let more = candidates.len() - limit;
+        let row = format!(in alloc; "\n({more} more)")?;
+        text.push_str(row.as_str())?;
+    }
+    Ok(text)
+}
+
+impl<'p, 'h, Out: Renderer, H: Helper + Drop, Hi: History> State<'p, 'h, Out, H, Hi> {
+    ghost use Rattle.line_editor.specs.Completing.{candidates_given};
+    ghost use Rattle.line_editor.specs.Drawing.{beeped, refreshed};
+    ghost use Rattle.line_editor.specs.States.{value_of, setting_of, Does};
+    ghost use Rattle.line_editor.specs.Values.{completion_reply, then_do};
+    ghost use Rattle.line_editor.specs.Turning.{MeetsAs};
+
+    /// Replaces the word by the only candidate. Beeps if there is none.
+    fn complete_only(
+        &mut self,
+        start: usize,
+        candidates: &[H::Candidate],
+    ) -> Result<(), ReadlineError>
+        requires { is_some self.old.helper ≡ true }
+        ensures { Does (only_completed
+            (record { start = start; candidates = map H.Candidate.offers candidates.now }))
+            self.old self.new result }
+    {
+        match only_put(&self.recorded.line, start, candidates) {
+            Some(text) => self.complete_word(start, text),
+            None => self.beep(),
+        }
+    }
+
+    /// Draws the candidates below the line.
+    fn show_list(&mut self, candidates: &[H::Candidate], limit: usize) -> Result<(), ReadlineError>
+        ensures { Does (list_shown limit (map H.Candidate.offers candidates.now)) self.old self.new
+            result }
+    {
+        let text = list_text(self.alloc, candidates, limit)?;
+        self.tell(Some(text.as_str()), CmdKind::Other)
+    }
+
+    /// Replaces the word by the common prefix, if that adds something. Otherwise the candidates are
+    /// listed, if they may be now, or it beeps.
+    fn list(
+        &mut self,
+        modal: &mut ModalState,
+        lists: bool,
+        start: usize,
+        candidates: &[H::Candidate],
+    ) -> Result<(), ReadlineError>
+        requires { is_some self.old.helper ≡ true }
+        ensures does { Does (listed lists modal.old.limit
+            (record { start = start; candidates = map H.Candidate.offers candidates.now }))
+            self.old self.new result }
+        ensures modal { OnOk result (modal_of modal.new ≡ record (modal_of modal.old) {
+            standing = list_standing lists (elected
+                (record { start = start; candidates = map H.Candidate.offers candidates.now })
+                self.old.recorded.line) }) }
+    {
+        match elected(&self.recorded.line, start, candidates) {
+            Some(text) => {
+                modal.standing = Standing::Tabbed;
+                self.complete_word(start, text)
+            }
+            None if lists => {
+                modal.standing = Standing::Lists;
+                self.show_list(candidates, modal.limit)
+            }
+            None => {
+                modal.standing = Standing::Tabbed;
+                self.beep()
+            }
+        }
+    }
+
+    /// Draws the word as it was, with a beep.
+    fn show_own_word(&mut self) -> Result<(), ReadlineError>
+        ensures { Does (then_do refreshed beeped) self.old self.new result }
+    {
+        self.refresh()?;
+        self.beep()
+    }
+
+    /// Puts the candidate at an index in place of the word.
+    fn turn_to(
+        &mut self,
+        modal: &mut ModalState,
+        at: usize,
+        start: usize,
+        candidates: &[H::Candidate],
+    ) -> Result<(), ReadlineError>
+        requires { is_some self.old.helper ≡ true }
+        ensures does { Does (turned at
+            (record { start = start; candidates = map H.Candidate.offers candidates.now }))
+            self.old self.new result }
+        ensures modal { OnOk result (modal_of modal.new ≡ turned_modal at
+            (record { start = start; candidates = map H.Candidate.offers candidates.now })
+            self.old.recorded.line (modal_of modal.old)) }
+    {
+        modal.at = at;
+        match candidate_at(&self.recorded.line, start, candidates, at) {
+            Some(text) => {
+                modal.put = true;
+                self.complete_word(start, text)
+            }
+            None => {
+                modal.put = false;
+                self.show_own_word()
+            }
+        }
+    }
+
+    /// Puts the first one of several candidates in place of the word.
+    fn begin_cycle(
+        &mut self,
+        modal: &mut ModalState,
+        start: usize,
+        candidates: &[H::Candidate],
+    ) -> Result<(), ReadlineError>
+        requires { is_some self.old.helper ≡ true }
+        ensures does { Does (cycle_begun
+            (record { start = start; candidates = map H.Candidate.offers candidates.now }))
+            self.old self.new result }
+        ensures modal { OnOk result (modal_of modal.new ≡ cycle_first
+            (record { start = start; candidates = map H.Candidate.offers candidates.now })
+            self.old.recorded.line (modal_of modal.old)) }
+    {
+        modal.standing = Standing::Cycles;
+        modal.place = self.recorded.line.pos();
+        self.close_groups()?;
+        self.turn_to(modal, 0, start, candidates)
+    }
+
+    /// What becomes of several candidates, by the setting.
+    fn offer_several(
+        &mut self,
+        modal: &mut ModalState,
+        lists: bool,
+        start: usize,
+        candidates: &[H::Candidate],
+    ) -> Result<(), ReadlineError>
+        requires { is_some self.old.helper ≡ true }
+        ensures does { Does (several modal.old.completion_type lists (modal_of modal.old)
+            (record { start = start; candidates = map H.Candidate.offers candidates.now }))
+            self.old self.new result }
+        ensures modal { OnOk result (modal_of modal.new
+            ≡ several_modal modal.old.completion_type lists
+            (record { start = start; candidates = map H.Candidate.offers candidates.now })
+            self.old.recorded.line (modal_of modal.old)) }
+    {
+        match modal.completion_type {
+            CompletionType::Circular => self.begin_cycle(modal, start, candidates),
+            CompletionType::List => self.list(modal, lists, start, candidates),
+        }
+    }
+
+    /// What becomes of the helper's candidates.
+    fn offer(
+        &mut self,
+        modal: &mut ModalState,
+        lists: bool,
+        start: usize,
+        candidates: &[H::Candidate],
+    ) -> Result<(), ReadlineError>
+        requires { is_some self.old.helper ≡ true }
+        ensures does { Does (offered lists (modal_of modal.old)
+            (record { start = start; candidates = map H.Candidate.offers candidates.now }))
+            self.old self.new result }
+        ensures modal { OnOk result (modal_of modal.new ≡ offered_modal lists
+            (record { start = start; candidates = map H.Candidate.offers candidates.now })
+            self.old.recorded.line (modal_of modal.old)) }
+    {
+        if candidates.len() > 1 {
+            return self.offer_several(modal, lists, start, candidates);
+        }
+        modal.standing = Standing::Rests;
+        self.complete_only(start, candidates)
+    }
+
+    /// Asks the helper for candidates, and shows what becomes of them.
+    fn ask_and_offer(
+        &mut self,
+        modal: &mut ModalState,
+        lists: bool,
+    ) -> Result<(), ReadlineError>
+        requires { is_some self.old.helper ≡ true }
+        ensures does { Does (λ s v. tab_effect lists (modal_of modal.old)
+            (candidates_given (completion_reply s v)) s v) self.old self.new result }
+        ensures modal { OnOk result (modal_of modal.new ≡ offered_modal lists
+            (candidates_given (completion_reply (setting_of self.old) (value_of self.old)))
+            self.old.recorded.line (modal_of modal.old)) }
+    {
+        let (start, candidates) = self.candidates()?;
+        self.offer(modal, lists, start, &candidates)
+    }
+
+    /// What Tab makes of the line; `lists`: several candidates may be listed now.
+    pub(crate) fn tab(
+        &mut self,
+        modal: &mut ModalState,
+        lists: bool,
+        cmd: &Cmd,
+    ) -> Result<Next, ReadlineError>
+        ensures { MeetsAs (tab lists (modal_of modal.old) cmd.now) cmd.now self.old self.new
+            (modal_of modal.new) result }
+    {
+        if self.helper.is_none() {
+            return Ok(Next::Same);
+        }
+        self.ask_and_offer(modal, lists)?;
+        Ok(Next::Nothing)
+    }
+
+    /// Undoes what was put, and puts the cursor where it was.
+    fn take_candidate_back(&mut self, modal: &ModalState) -> Result<(), ReadlineError>
+        ensures { Does (cycle_back (modal_of modal.now)) self.old self.new result }
+    {
+        self.take_hit_back(modal.put)?;
+        self.put_cursor(modal.place);
+        Ok(())
+    }
+
+    /// Asks the helper for candidates anew, and puts the next one in a direction.
+    fn ask_and_turn(
+        &mut self,
+        modal: &mut ModalState,
+        dir: SearchDirection,
+    ) -> Result<(), ReadlineError>
+        requires { is_some self.old.helper ≡ true }
+        ensures does { Does (asked_turned dir (modal_of modal.old)) self.old self.new result }
+        ensures modal { OnOk result (modal_of modal.new ≡ asked_modal dir (modal_of modal.old)
+            (setting_of self.old) (value_of self.old)) }
+    {
+        let (start, candidates) = self.candidates()?;
+        let at = cycle_at(dir, modal.at, candidates.len());
+        self.turn_to(modal, at, start, &candidates)
+    }
+
+    /// The next candidate in a direction.
+    fn turn_on(&mut self, modal: &mut ModalState, dir: SearchDirection) -> Result<(), ReadlineError>
+        requires { is_some self.old.helper ≡ true }
+        ensures does { Does (cycled dir (modal_of modal.old)) self.old self.new result }
+        ensures modal { OnOk result (modal_of modal.new ≡ asked_modal dir (modal_of modal.old)
+            (setting_of self.old)
+            (cycle_back (modal_of modal.old) (setting_of self.old) (value_of self.old)).value) }
+    {
+        self.take_candidate_back(modal)?;
+        self.ask_and_turn(modal, dir)
+    }
+
+    /// What Tab, or Shift-Tab, makes of a candidate that stands in place of the word.
+    pub(crate) fn cycle(
+        &mut self,
+        modal: &mut ModalState,
+        dir: SearchDirection,
+        cmd: &Cmd,
+    ) -> Result<Next, ReadlineError>
+        ensures { MeetsAs (cycle dir (modal_of modal.old) cmd.now) cmd.now self.old self.new
+            (modal_of modal.new) result }
+    {
+        if self.helper.is_none() {
+            return Ok(Next::Same);
+        }
+        self.turn_on(modal, dir)?;
+        Ok(Next::Nothing)
+    }
+}
