@@ -197,13 +197,12 @@ row_25 = record (row 25 settings_7 (codes "alp\t\t\u{12}x\r") (codes "alpx\n")) 
       codes "\n");
 }
 
--- alp Tab Tab = nothing | shows {} a l p ␇ {alp␛[m␍␊alpha␍␊alpine␛[m␛[2A␛[1D ␛[2B␛[1C␍␊
+-- alp Tab Tab = nothing | shows {} a l p ␇ {alp␛[m␍␊alpha␍␊alpine␛[m␛[2A␛[1D ␍␊
 abbrev pub row_26 : Row
 row_26 = record (row 26 settings_7 (codes "alp\t\t") []) {
   shows = Some
       (codes "\r\u{1b}[J\u{1b}[m> \u{1b}[m\u{1b}[m\u{1b}[malp\u{7}\r\u{1b}[J\u{1b}[m> \u{1b}" ++
-      codes "[malp\u{1b}[m\r\nalpha\r\nalpine\u{1b}[m\u{1b}[2A\u{1b}[1D\u{1b}[2B\u{1b}[1C\r" ++
-      codes "\n");
+      codes "[malp\u{1b}[m\r\nalpha\r\nalpine\u{1b}[m\u{1b}[2A\u{1b}[1D\r\n");
 }
 
 -- alp Tab h Backspace Tab Enter = alp | shows {} a l p ␇ h ␛[1D␛[K ␇ ␍␊ {} ␍␊
@@ -370,9 +369,9 @@ row_51 = record (row 51 settings_49 (codes "al\t\t\u{7}x\r") (codes "alpx\n")) {
       codes "\r\u{1b}[J\u{1b}[m> \u{1b}[m\u{1b}[m\u{1b}[m\r\n");
 }
 
--- x Esc aal Tab Tab Esc u Enter = x
+-- x␠ Esc aal Tab Tab Esc u Enter = x␠
 abbrev pub row_52 : Row
-row_52 = row 52 settings_49 (codes "x\u{1b}aal\t\t\u{1b}u\r") (codes "x\n")
+row_52 = row 52 settings_49 (codes "x \u{1b}aal\t\t\u{1b}u\r") (codes "x \n")
 
 -- al Esc Tab Tab Enter = al | shows {} a l ␛[1D ␛[1C␍␊ {} ␍␊
 abbrev pub row_53 : Row
@@ -1124,13 +1123,13 @@ row_163 = record (row 163 settings_160 (codes "al\t\u{1b}\t\r") (codes "alpha\n"
       codes "\u{1b}[m\r\n");
 }
 
--- x Esc aal Tab Esc u Enter = xal
+-- x␠ Esc aal Tab Esc u Enter = x␠al
 abbrev pub row_164 : Row
-row_164 = row 164 settings_160 (codes "x\u{1b}aal\t\u{1b}u\r") (codes "xal\n")
+row_164 = row 164 settings_160 (codes "x \u{1b}aal\t\u{1b}u\r") (codes "x al\n")
 
--- x Esc aal Tab Esc u u Enter = x
+-- x␠ Esc aal Tab Esc u u Enter = x␠
 abbrev pub row_165 : Row
-row_165 = row 165 settings_160 (codes "x\u{1b}aal\t\u{1b}uu\r") (codes "x\n")
+row_165 = row 165 settings_160 (codes "x \u{1b}aal\t\u{1b}uu\r") (codes "x \n")
 
 -- x␠ Esc aalph Tab Esc u Enter = x␠
 abbrev pub row_166 : Row
