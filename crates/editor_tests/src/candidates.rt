@@ -15,7 +15,7 @@ const LISTED: &str = "
     a l Tab Tab Enter = alp / draw '> |' at 0,2 to 0,2; write 'a'; write 'l'; draw '> alp|' at 0,5 to 0,5; draw '> alp|{␊alpha␊alpine}' at 0,5 to 2,6; draw '> alp|' at 0,5 to 0,5 / - /
     a l p Tab Tab Tab h Enter = alph / draw '> |' at 0,2 to 0,2; write 'a'; write 'l'; write 'p'; beep; draw '> alp|{␊alpha␊alpine}' at 0,5 to 2,6; draw '> alp|{␊alpha␊alpine}' at 0,5 to 2,6; draw '> alp|' at 0,5 to 0,5; write 'h' / - /
     a l p Tab Tab Left C-C = Interrupted / draw '> |' at 0,2 to 0,2; write 'a'; write 'l'; write 'p'; beep; draw '> alp|{␊alpha␊alpine}' at 0,5 to 2,6; draw '> alp|' at 0,5 to 0,5; move 0,5 to 0,4; move 0,4 to 0,5 / - /
-    a l p Tab Tab = Eof / draw '> |' at 0,2 to 0,2; write 'a'; write 'l'; write 'p'; beep; draw '> alp|{␊alpha␊alpine}' at 0,5 to 2,6; move 0,5 to 2,6 / - /
+    a l p Tab Tab = Eof / draw '> |' at 0,2 to 0,2; write 'a'; write 'l'; write 'p'; beep; draw '> alp|{␊alpha␊alpine}' at 0,5 to 2,6 / - /
     a l p Tab h Backspace Tab C-C = Interrupted / draw '> |' at 0,2 to 0,2; write 'a'; write 'l'; write 'p'; beep; write 'h'; move 0,6 to 0,5; clear row; beep / - /
 
     limit: 1 = nothing
