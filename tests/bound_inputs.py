@@ -35,8 +35,8 @@ FIRST = ["C-X", "C-X", "C-X", "F5", "F1", "S-Up", "PageUp", "Insert", "C-O", "C-
 
 BARE = """Abort EndOfFile Interrupt Noop Repaint ClearScreen Suspend Unknown AcceptLine Newline AcceptOrInsertLine
     AcceptAtEndOrInsertLine BeginningOfHistory EndOfHistory ForwardSearchHistory HistorySearchBackward HistorySearchForward
-    NextHistory PreviousHistory ReverseSearchHistory CapitalizeWord Complete CompleteBackward CompleteHint DowncaseWord
-    QuotedInsert TransposeChars UpcaseWord YankPop""".split()
+    NextHistory PreviousHistory ReverseSearchHistory SearchAgain·Same SearchAgain·Opposite CapitalizeWord Complete
+    CompleteBackward CompleteHint DowncaseWord QuotedInsert TransposeChars UpcaseWord YankPop""".split()
 # Keys that show what the hunt looks for come more often.
 BARE += ["CompleteHint", "Complete", "Repaint", "AcceptLine", "Newline", "YankPop", "HistorySearchBackward", "PreviousHistory"] * 2
 BARE += ["AcceptOrInsertLine", "AcceptAtEndOrInsertLine"] * 3

@@ -25,6 +25,8 @@ const ENDS: &str = "
     a|b: Noop = a|b /
     a|b: QuotedInsert = a|b /
     a|b: ReverseSearchHistory = a|b /
+    a|b: SearchAgain Same = a|b /
+    a|b: SearchAgain Opposite = a|b /
     a|b: Suspend = a|b /
     a|b: Unknown = a|b /
 

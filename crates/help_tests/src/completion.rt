@@ -261,6 +261,15 @@ fn a_folder_is_listed_once(rt: HostRuntime) -> Result<(), Fail> {
     rows_hold(rt.alloc(), &mut Listings, LISTINGS)
 }
 
+// A sole candidate is told as it is alone, unless that is its replacement.
+fn tell_alone<C: Candidate>(said: &mut String, candidate: &C) -> Result<(), AllocError> {
+    let alone = candidate.alone();
+    if alone != candidate.replacement() {
+        write!(said, ", alone \"{alone}\"")?;
+    }
+    Ok(())
+}
+
 // Candidates for a line, and their common prefix.
 fn offer_told<C: Candidate>(
     alloc: Global,
@@ -271,6 +280,9 @@ fn offer_told<C: Candidate>(
     let mut said = told(alloc, line, start, candidates)?;
     if let Some(prefix) = longest_common_prefix(candidates) {
         write!(said, ", all with {prefix}")?;
+    }
+    if let [candidate] = candidates {
+        tell_alone(&mut said, candidate)?;
     }
     Ok(said)
 }

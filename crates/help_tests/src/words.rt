@@ -4,19 +4,24 @@ use crate::asks::Ask;
 use crate::completion::completed;
 use crate::history::write_entry;
 use line_config::{ReadlineError, SliceSource};
-use line_help::{WordCompleter, load_words};
+use line_help::{Completer, WholeWordCompleter, WordCompleter, load_words};
 use stand_ins::rows::{Player, raised, rows_hold};
 use stand_ins::tables::{meant_bytes, word_and_rest};
 use std::alloc::{AllocError, Global};
 use std::test::Fail;
 
-/// A completer with the words of a text, separated by spaces.
-pub(crate) fn completer_of(alloc: Global, text: &str) -> Result<WordCompleter, AllocError> {
+// The words of a text, separated by spaces.
+fn words_in(alloc: Global, text: &str) -> Result<Vec<String>, AllocError> {
     let mut words = Vec::new(alloc);
     for word in text.split(' ') {
         words.push(String::from_str(alloc, word)?)?;
     }
-    Ok(WordCompleter::new(words))
+    Ok(words)
+}
+
+/// A completer with the words of a text, separated by spaces.
+pub(crate) fn completer_of(alloc: Global, text: &str) -> Result<WordCompleter, AllocError> {
+    Ok(WordCompleter::new(words_in(alloc, text)?))
 }
 
 const LISTED: &str = "alpha alpine twin twin été étoile e\u{301}a eb 漢字 al";
@@ -42,11 +47,11 @@ const BY_WORDS: &str = "
 
 /// A completer that gets each row's line.
 #[derive(Drop)]
-struct Asked {
-    completer: WordCompleter,
+struct Asked<C> {
+    completer: C,
 }
 
-impl Player for Asked {
+impl<C: Completer> Player for Asked<C> {
     fn play(&mut self, alloc: Global, line: &str) -> Result<String, Fail> {
         raised(completed(alloc, &self.completer, line))
     }
@@ -58,7 +63,26 @@ fn words_complete(rt: HostRuntime) -> Result<(), Fail> {
     rows_hold(rt.alloc(), &mut Asked { completer }, BY_WORDS)
 }
 
-// The same with 100,000 words.
+// The same by whole words, which a space ends.
+const BY_WHOLE_WORDS: &str = "
+    alp|            = |alp; alpha→alpha; alpine→alpine, all with alp
+    alpha|          = |alpha; alpha→alpha, all with alpha, alone \"alpha \"
+    x alpi|ha y     = x |alpiha y; alpine→alpine, all with alpine, alone \"alpine \"
+    été é|t         = été |ét; été→été; étoile→étoile, all with ét
+    漢|              = |漢; 漢字→漢字, all with 漢字, alone \"漢字 \"
+    tw|             = |tw; twin→twin; twin→twin, all with twin
+    alphas|         = |alphas
+    x |             = x |; alpha→alpha; alpine→alpine; twin→twin; twin→twin; été→été; étoile→étoile; e\u{301}a→e\u{301}a; eb→eb; 漢字→漢字; al→al
+";
+
+#[test]
+fn whole_words_complete(rt: HostRuntime) -> Result<(), Fail> {
+    let words = words_in(rt.alloc(), LISTED)?;
+    let completer = WholeWordCompleter::new(words, String::from_str(rt.alloc(), " ")?);
+    rows_hold(rt.alloc(), &mut Asked { completer }, BY_WHOLE_WORDS)
+}
+
+// By 100,000 words.
 const AMONG_MANY: &str = "
     word99999|      = |word99999; word99999→word99999, all with word99999
     word9|9999      = |word99999; word9→word9; word90→word90; word91→word91; word92→word92; word93→word93; word94→word94; word95→word95; word96→word96; word97→word97; word98→word98; word99→word99; word900→word900; 11111 in all, all with word9

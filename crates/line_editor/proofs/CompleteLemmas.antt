@@ -73,7 +73,7 @@ put_refused reply before after old marked new fault (Err e) is why mark left =
 
 -- ---- with a helper
 
-some_mapped : {A B C : Type 0} (f : B → C) (g : A → B) (o : Option A) → is_some (option_map f (option_map g o)) ≡ is_some o
+pub some_mapped : {A B C : Type 0} (f : B → C) (g : A → B) (o : Option A) → is_some (option_map f (option_map g o)) ≡ is_some o
 some_mapped f g None = refl
 some_mapped f g (Some x) = refl
 
@@ -139,7 +139,7 @@ module _ {Out H Hi K T : Type 0} {renderer : renderers.Renderer.Ghosts Out} {com
 
   -- ---- the candidates
 
-  asked_made : {A : Type 0} (s : State Out H Hi K T renderer completer candidate hinter hint highlighter validator history) (x : A)
+  pub asked_made : {A : Type 0} (s : State Out H Hi K T renderer completer candidate hinter hint highlighter validator history) (x : A)
       → IsFalse (fails_by (completion_reply (setting_of s) (value_of s))) → Does candidates_asked s s (Ok x)
   asked_made s x works =
       let reply = completion_reply (setting_of s) (value_of s) in
@@ -152,7 +152,7 @@ module _ {Out H Hi K T : Type 0} {renderer : renderers.Renderer.Ghosts Out} {com
         stops = tt;
       }
 
-  asked_refused : (s : State Out H Hi K T renderer completer candidate hinter hint highlighter validator history) (e : ReadlineError)
+  pub asked_refused : (s : State Out H Hi K T renderer completer candidate hinter hint highlighter validator history) (e : ReadlineError)
       → IsHelpFault (completion_reply (setting_of s) (value_of s)) e → Does {A = ⊤} candidates_asked s s (Err e)
   asked_refused s e why = does_refused candidates_asked s s e (stays_same s)
       (completion_reason (setting_of s).hooks s.recorded.line (setting_of s).entries (value_of s).history (renderer.canvas.failed s.out) e why)

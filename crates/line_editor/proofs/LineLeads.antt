@@ -289,9 +289,9 @@ module _ (s : Setting) (indent : ℕ) where
 
 pub lines_lead : LinesLead
 unfolding line_script
-lines_lead n s custom indent input r on query c =
+lines_lead n s custom indent input r config query c =
     let e = line_begun s (first_value s) in
     let first = asks_lead Line s (first_value s) no_sight in
-    let seen = first.leads ∙ ap (sight_of s e.value) (sym (hint_stands s (first_value s) true s.prompt None)) ∙ sym (first_seen on query s e.value (info_after e.steps None)) in
-    let k = kept e.value input r (modal_first on query) c in
+    let seen = first.leads ∙ ap (sight_of s e.value) (sym (hint_stands s (first_value s) true s.prompt None)) ∙ sym (first_seen config query s e.value (info_after e.steps None)) in
+    let k = kept e.value input r (modal_first config query) c in
     ((tt, first.fits), tt, line_leads s indent n custom k (sight_all no_sight e.steps) (seen_as s indent k _ _ seen))

@@ -1,28 +1,37 @@
 -- What a search makes of a command leads to what is to be seen of the line then.
+use Rattle.std.specs.Prelude.{⊤}
 use Rattle.std.proofs.Common.{◌≡◌, ◌⊎◌, inl, inr, ℕ, ◌==◌, ◌&&◌, Bool, true, false, List, [], ◌∷◌, ◌++◌, length, Option, None, Some, refl, sym, ap, ◌∙◌, subst, if◌then◌else◌}
+use Rattle.line_config.specs.declared.config.Config.{Config}
+use Rattle.line_config.specs.declared.settings.CompletionType.{CompletionType}
+use Rattle.line_config.specs.declared.settings.CompletionType.TheVariants as completion_type
+use Rattle.line_help.specs.Completion.{Completion}
 use Rattle.line_help.specs.Search.{Hit}
 use Rattle.line_help.specs.declared.search.SearchDirection.{SearchDirection}
+use Rattle.line_help.specs.declared.search.SearchDirection.TheVariants.{Forward, Reverse}
 use Rattle.line_keys.specs.Refreshing.Ask.{Line, Prompted}
+use Rattle.line_keys.specs.Replies.{Reply}
 use Rattle.line_keys.specs.declared.command.Cmd.{Cmd}
 use Rattle.line_keys.specs.declared.command.Cmd.TheVariants.{EndOfHistory, HistorySearchBackward, HistorySearchForward, Unknown}
+use Rattle.line_editor.specs.Candidates.{only_put, listed_with, list_standing, candidate_at, turned_with, cycle_begun, cycle_first, cycle_back, cycle_at, cycled, asked_turned, asked_modal, several, several_modal, offered, offered_modal, offered_if, offered_modal_if, is_ambiguous, tab_by, cycle_by}
+use Rattle.line_editor.specs.Completing.{elected, updates, word_updated, word_completed, completed_with, candidates_given}
 use Rattle.line_editor.specs.Drawing.{drawn_behind, asked_anew, refreshed, refreshed_behind, beeped}
 use Rattle.line_editor.specs.Leads.{redraws_of}
-use Rattle.line_editor.specs.Meeting.{met_resting, met_prefixes, met_by, seen_by, modal_seen}
-use Rattle.line_editor.specs.Modal.{Modal, Meeting, modal_first, rested, shows_own, takes, wish_of}
+use Rattle.line_editor.specs.Meeting.{met_resting, met_prefixes, met_tabbed, unlisted, met_lists, met_cycles, met_by, seen_by, modal_seen}
+use Rattle.line_editor.specs.Modal.{Modal, Meeting, modal_first, standing_first, rested, shows_own, takes, wish_of}
 use Rattle.line_editor.specs.Prefixes.{is_prefix, is_own, earlier, later, risen, rises_if, fallen}
 use Rattle.line_editor.specs.Remembering.{saved_now}
 use Rattle.line_editor.specs.Searching.{search_prompt, queried, erased, sought, looked, onward, hit_back, found_put, search_drawn, typed_in, looks, looks_typed, looks_again, emptied, emptied_effect, placing, begun_at, begin_search, begun_if, acted, act_of}
 use Rattle.line_editor.specs.Sights.{Sight, sight_with, sight_of, sight_all, FitsAll, info_after}
-use Rattle.line_editor.specs.Values.{Value, Setting, EditStep, then_do, hint_reply, helped, shown_hint}
+use Rattle.line_editor.specs.Values.{Value, Setting, EditStep, then_do, hint_reply, helped, shown_hint, completion_reply, update_reply, close_groups}
 use Rattle.line_editor.specs.Values.EditStep.{Draws, Helped, Edits, TakesBack, Takes}
 use Rattle.line_editor.specs.declared.modal_state.Act.{Act}
 use Rattle.line_editor.specs.declared.modal_state.Act.TheVariants.{Types, Erases, Goes, Leaves, Ends}
 use Rattle.line_editor.specs.declared.modal_state.Standing.{Standing}
-use Rattle.line_editor.specs.declared.modal_state.Standing.TheVariants.{Off, Rests, Prefixes, Searches}
+use Rattle.line_editor.specs.declared.modal_state.Standing.TheVariants.{Off, Rests, Prefixes, Searches, Tabbed, Lists, Cycles}
 use Rattle.line_editor.specs.declared.modal_state.Wish.{Wish}
-use Rattle.line_editor.specs.declared.modal_state.Wish.TheVariants.{Search, Up, Down, Other}
+use Rattle.line_editor.specs.declared.modal_state.Wish.TheVariants.{Search, Up, Down, Tab, TabBack, Leave, Other}
 use Rattle.line_editor.proofs.CommandsLead.{asks_lead}
-use Rattle.line_editor.proofs.LeadLemmas.{help_info}
+use Rattle.line_editor.proofs.LeadLemmas.{fits_both, sight_both, info_both, help_info}
 
 -- with the hint that was asked for
 pub hint_stands : (s : Setting) (v : Value) (given : Bool) (prompt : List ℕ) (info : Option (List ℕ)) → (let w = (asked_anew s v).value in
@@ -38,16 +47,25 @@ seen_resting Off x s v info h = refl
 seen_resting Rests x s v info h = refl
 seen_resting Prefixes x s v info h = refl
 seen_resting Searches x s v info h = cc
+seen_resting Tabbed x s v info h = refl
+seen_resting Lists x s v info h = refl
+seen_resting Cycles x s v info h = refl
 
 pub seen_info : (at : Standing) (x : Modal) (s : Setting) (v : Value) (info : Option (List ℕ)) → (seen_by at x s v info).info ≡ info
 seen_info Off x s v info = refl
 seen_info Rests x s v info = refl
 seen_info Prefixes x s v info = refl
 seen_info Searches x s v info = refl
+seen_info Tabbed x s v info = refl
+seen_info Lists x s v info = refl
+seen_info Cycles x s v info = refl
 
-pub first_seen : (on : Bool) (query : List ℕ) (s : Setting) (v : Value) (info : Option (List ℕ)) → modal_seen (modal_first on query) s v info ≡ sight_of s v info
-first_seen true query s v info = refl
-first_seen false query s v info = refl
+first_own : (on : Bool) → shows_own (standing_first on) ≡ true
+first_own true = refl
+first_own false = refl
+
+pub first_seen : (config : Config) (query : List ℕ) (s : Setting) (v : Value) (info : Option (List ℕ)) → modal_seen (modal_first config query) s v info ≡ sight_of s v info
+first_seen config query s v info = seen_resting (standing_first config.modal_commands) (modal_first config query) s v info (first_own config.modal_commands)
 
 -- ---- steps that draw nothing, and a drawing after them
 
@@ -200,19 +218,169 @@ fallen_met : (hit : Option Hit) (q : Modal) (s : Setting) (v : Value) (info : Op
 fallen_met None q s v info x own from = passes_met (rested q) EndOfHistory s v info x refl from
 fallen_met (Some hit) q s v info x own from = passes_met q HistorySearchForward s v info x own from
 
+-- ---- candidates
+
+-- the helper is called before it
+asked_drawn : {A : Type 0} (u : Value) (reply : Option (Reply A)) (own : List ℕ) (info : Option (List ℕ)) (x : Sight) (steps : List EditStep) (y : Sight) (shown : Option (List ℕ))
+    → Drawn own info x steps y shown → Drawn own info x (helped u reply ++ steps) y shown
+asked_drawn u None own info x steps y shown h = h
+asked_drawn u (Some reply) own info x steps y shown h = record { fits = (tt, h.fits); leads = h.leads; info_is = h.info_is }
+
+updated_drawn : (reply : Option (Reply ⊤)) (u : Value) (own : List ℕ) (info : Option (List ℕ)) (x : Sight) (steps : List EditStep) (y : Sight) (shown : Option (List ℕ))
+    → Drawn own info x steps y shown → Drawn own info x (updates reply u ++ steps) y shown
+updated_drawn None u own info x steps y shown h = h
+updated_drawn (Some reply) u own info x steps y shown h = record { fits = (tt, (tt, h.fits)); leads = h.leads; info_is = h.info_is }
+
+-- a word replaced
+word_drawn : (start : ℕ) (text : List ℕ) (s : Setting) (v : Value) (info : Option (List ℕ)) (x : Sight) → (let e = word_completed start text s v in
+    Drawn s.prompt info x e.steps (sight_of s e.value (shown_hint e.value)) (shown_hint e.value))
+word_drawn start text s v info x =
+    updated_drawn (update_reply start text s v) v s.prompt info x _ _ _ (own_drawn s (word_updated start text s v).value info x)
+
+beep_behind : (v : Value) (s : Setting) (own : List ℕ) (info : Option (List ℕ)) (x : Sight) (steps : List EditStep) (y : Sight) (shown : Option (List ℕ))
+    → Drawn own info x steps y shown → Drawn own info x (steps ++ (beeped s v).steps) y shown
+beep_behind v s own info x steps y shown h = record {
+  fits = fits_both own x steps (beeped s v).steps h.fits (tt, tt);
+  leads = sight_both x steps (beeped s v).steps ∙ h.leads;
+  info_is = info_both steps (beeped s v).steps info ∙ h.info_is;
+}
+
+-- a candidate in its place, or the word as it was
+turned_drawn : (start : ℕ) (text : Option (List ℕ)) (s : Setting) (v : Value) (info : Option (List ℕ)) (x : Sight) → (let e = turned_with start text s v in
+    Drawn s.prompt info x e.steps (sight_of s e.value (shown_hint e.value)) (shown_hint e.value))
+turned_drawn start None s v info x = beep_behind (refreshed s v).value s s.prompt info x _ _ _ (own_drawn s v info x)
+turned_drawn start (Some text) s v info x = word_drawn start text s v info x
+
+-- drawn so, and the session's own prompt stands
+own_met : (s : Setting) (info : Option (List ℕ)) (x : Sight) (met : Meeting) (shown : Option (List ℕ)) → Drawn s.prompt info x met.effect.steps (sight_of s met.effect.value shown) shown
+    → shows_own met.modal.standing ≡ true → Met s info x met
+own_met s info x met shown drawn own = met_drawn s info x _ met shown drawn (sym (seen_resting met.modal.standing met.modal s met.effect.value shown own)) (inr own)
+
+-- something is done before
+both_met : (s : Setting) (info : Option (List ℕ)) (x : Sight) (first : List EditStep) (met : Meeting) → FitsAll s.prompt x first → Met s (info_after first info) (sight_all x first) met
+    → Met s info x (record { effect = record { value = met.effect.value; steps = first ++ met.effect.steps }; modal = met.modal; next = met.next })
+both_met s info x first met fits h = record {
+  fits = fits_both s.prompt x first met.effect.steps fits h.fits;
+  leads = sight_both x first met.effect.steps ∙ h.leads ∙ ap (modal_seen met.modal s met.effect.value) (sym (info_both first met.effect.steps info));
+  next = h.next;
+}
+
+asked_met : {A : Type 0} (u : Value) (reply : Option (Reply A)) (s : Setting) (info : Option (List ℕ)) (x : Sight) (met : Meeting) → Met s info x met
+    → Met s info x (record { effect = record { value = met.effect.value; steps = helped u reply ++ met.effect.steps }; modal = met.modal; next = met.next })
+asked_met u None s info x met h = record { fits = h.fits; leads = h.leads; next = h.next }
+asked_met u (Some reply) s info x met h = record { fits = (tt, h.fits); leads = h.leads; next = h.next }
+
+-- the only candidate, or a beep
+only_met : (start : ℕ) (text : Option (List ℕ)) (q : Modal) (s : Setting) (v : Value) (info : Option (List ℕ)) (x : Sight) → shows_own q.standing ≡ true → x ≡ sight_of s v info
+    → Met s info x (takes (completed_with start text) q s v)
+only_met start None q s v info x own from = beeped_met q s v info x own from
+only_met start (Some text) q s v info x own from = own_met s info x (takes (word_completed start text) q s v) _ (word_drawn start text s v info x) own
+
+-- the common prefix, a list, or a beep
+listed_met : (lists : Bool) (text : Option (List ℕ)) (found : Completion) (q : Modal) (s : Setting) (v : Value) (info : Option (List ℕ)) (x : Sight) → x ≡ sight_of s v info
+    → Met s info x (takes (listed_with lists q.limit found text) (record q { standing = list_standing lists text }) s v)
+listed_met true (Some text) found q s v info x from =
+    own_met s info x (takes (word_completed found.start text) (record q { standing = Tabbed }) s v) _ (word_drawn found.start text s v info x) refl
+listed_met false (Some text) found q s v info x from =
+    own_met s info x (takes (word_completed found.start text) (record q { standing = Tabbed }) s v) _ (word_drawn found.start text s v info x) refl
+listed_met true None found q s v info x from = record { fits = (tt, ((λ e. refl), tt)); leads = refl; next = inl refl }
+listed_met false None found q s v info x from = beeped_met (record q { standing = Tabbed }) s v info x refl from
+
+several_met : (kind : CompletionType) (lists : Bool) (found : Completion) (q : Modal) (s : Setting) (v : Value) (info : Option (List ℕ)) (x : Sight) → x ≡ sight_of s v info
+    → Met s info x (takes (several kind lists q found) (several_modal kind lists found v.line q) s v)
+several_met completion_type.Circular lists found q s v info x from =
+    let w = (close_groups s v).value in
+    own_met s info x (takes (cycle_begun found) (cycle_first found v.line q) s v) _ (turned_drawn found.start (candidate_at 0 found w.line) s w info x) refl
+several_met completion_type.List lists found q s v info x from = listed_met lists (elected found v.line) found q s v info x from
+
+offered_met : (ambiguous lists : Bool) (found : Completion) (q : Modal) (s : Setting) (v : Value) (info : Option (List ℕ)) (x : Sight) → x ≡ sight_of s v info
+    → Met s info x (takes (offered_if ambiguous lists q found) (offered_modal_if ambiguous lists found v.line q) s v)
+offered_met false lists found q s v info x from = only_met found.start (only_put found v.line) (rested q) s v info x refl from
+offered_met true lists found q s v info x from = several_met q.completion_type lists found q s v info x from
+
+tab_met : (reply : Option (Reply Completion)) (lists : Bool) (q : Modal) (cmd : Cmd) (s : Setting) (v : Value) (info : Option (List ℕ)) (x : Sight) → shows_own q.standing ≡ true → x ≡ sight_of s v info
+    → Met s info x (tab_by reply lists q cmd s v)
+tab_met None lists q cmd s v info x own from = passes_met q cmd s v info x own from
+tab_met (Some reply) lists q cmd s v info x own from =
+    let found = candidates_given (Some reply) in
+    asked_met v (completion_reply s v) s info x (takes (offered lists q found) (offered_modal lists found v.line q) s v) (offered_met (is_ambiguous found) lists found q s v info x from)
+
+-- the next candidate, from any sight
+next_drawn : (dir : SearchDirection) (put : Bool) (q : Modal) (s : Setting) (v : Value) (info : Option (List ℕ)) (x : Sight) → (let e = then_do (then_do (hit_back put) (placing q.place)) (asked_turned dir q) s v in
+    Drawn s.prompt info x e.steps (sight_of s e.value (shown_hint e.value)) (shown_hint e.value))
+next_drawn dir put q s v info x = by put
+  where
+    on : (w : Value) → (let e = asked_turned dir q s w in Drawn s.prompt info x e.steps (sight_of s e.value (shown_hint e.value)) (shown_hint e.value))
+    on w =
+        let found = candidates_given (completion_reply s w) in
+        let at = cycle_at dir q.at (length found.candidates) in
+        asked_drawn w (completion_reply s w) s.prompt info x _ _ _ (turned_drawn found.start (candidate_at at found w.line) s w info x)
+
+    by : (put : Bool) → (let e = then_do (then_do (hit_back put) (placing q.place)) (asked_turned dir q) s v in
+        Drawn s.prompt info x e.steps (sight_of s e.value (shown_hint e.value)) (shown_hint e.value))
+    by true = after_step (TakesBack v 1) s.prompt info x _ _ _ refl (on (then_do (hit_back true) (placing q.place) s v).value)
+    by false = on (then_do (hit_back false) (placing q.place) s v).value
+
+cycle_met : (reply : Option (Reply Completion)) (dir : SearchDirection) (q : Modal) (cmd : Cmd) (s : Setting) (v : Value) (info : Option (List ℕ)) (x : Sight) → shows_own q.standing ≡ true → x ≡ sight_of s v info
+    → Met s info x (cycle_by reply dir q cmd s v)
+cycle_met None dir q cmd s v info x own from = passes_met q cmd s v info x own from
+cycle_met (Some reply) dir q cmd s v info x own from =
+    own_met s info x (takes (cycled dir q) (asked_modal dir q s (cycle_back q s v).value) s v) _ (next_drawn dir q.put q s v info x) own
+
 -- ---- any command
 
 resting_met : (wish : Wish) (q : Modal) (cmd : Cmd) (s : Setting) (v : Value) (info : Option (List ℕ)) (x : Sight) → shows_own q.standing ≡ true → x ≡ sight_of s v info → Met s info x (met_resting wish q cmd s v)
 resting_met (Search dir) q cmd s v info x own from = begun_met (length s.entries == 0) dir q cmd s v info x own from
 resting_met Up q cmd s v info x own from = rises_met (is_own s v && is_prefix v.line) q cmd s v info x own from
 resting_met Down q cmd s v info x own from = passes_met q cmd s v info x own from
+resting_met Tab q cmd s v info x own from = tab_met (completion_reply s v) q.lists_at_once q cmd s v info x own from
+resting_met TabBack q cmd s v info x own from = passes_met q cmd s v info x own from
+resting_met Leave q cmd s v info x own from = passes_met q cmd s v info x own from
 resting_met Other q cmd s v info x own from = passes_met q cmd s v info x own from
 
 prefixes_met : (wish : Wish) (q : Modal) (cmd : Cmd) (s : Setting) (v : Value) (info : Option (List ℕ)) (x : Sight) → shows_own q.standing ≡ true → x ≡ sight_of s v info → Met s info x (met_prefixes wish q cmd s v)
 prefixes_met Up q cmd s v info x own from = risen_met (earlier s v) q s v info x own from
 prefixes_met Down q cmd s v info x own from = fallen_met (later s v) q s v info x own from
 prefixes_met (Search dir) q cmd s v info x own from = resting_met (Search dir) (rested q) cmd s v info x refl from
+prefixes_met Tab q cmd s v info x own from = resting_met Tab (rested q) cmd s v info x refl from
+prefixes_met TabBack q cmd s v info x own from = resting_met TabBack (rested q) cmd s v info x refl from
+prefixes_met Leave q cmd s v info x own from = resting_met Leave (rested q) cmd s v info x refl from
 prefixes_met Other q cmd s v info x own from = resting_met Other (rested q) cmd s v info x refl from
+
+tabbed_met : (wish : Wish) (q : Modal) (cmd : Cmd) (s : Setting) (v : Value) (info : Option (List ℕ)) (x : Sight) → shows_own q.standing ≡ true → x ≡ sight_of s v info → Met s info x (met_tabbed wish q cmd s v)
+tabbed_met Tab q cmd s v info x own from = tab_met (completion_reply s v) true q cmd s v info x own from
+tabbed_met (Search dir) q cmd s v info x own from = resting_met (Search dir) (rested q) cmd s v info x refl from
+tabbed_met Up q cmd s v info x own from = resting_met Up (rested q) cmd s v info x refl from
+tabbed_met Down q cmd s v info x own from = resting_met Down (rested q) cmd s v info x refl from
+tabbed_met TabBack q cmd s v info x own from = resting_met TabBack (rested q) cmd s v info x refl from
+tabbed_met Leave q cmd s v info x own from = resting_met Leave (rested q) cmd s v info x refl from
+tabbed_met Other q cmd s v info x own from = resting_met Other (rested q) cmd s v info x refl from
+
+-- the line is drawn without the list, and then the command is met
+unlisted_met : (wish : Wish) (q : Modal) (cmd : Cmd) (s : Setting) (v : Value) (info : Option (List ℕ)) (x : Sight) → Met s info x (unlisted wish q cmd s v)
+unlisted_met wish q cmd s v info x =
+    let e = refreshed s v in
+    let first = own_drawn s v info x in
+    both_met s info x e.steps (met_resting wish (rested q) cmd s e.value) first.fits
+    (resting_met wish (rested q) cmd s e.value (info_after e.steps info) (sight_all x e.steps) refl (first.leads ∙ ap (sight_of s e.value) (sym first.info_is)))
+
+lists_met : (wish : Wish) (q : Modal) (cmd : Cmd) (s : Setting) (v : Value) (info : Option (List ℕ)) (x : Sight) → shows_own q.standing ≡ true → x ≡ sight_of s v info → Met s info x (met_lists wish q cmd s v)
+lists_met Tab q cmd s v info x own from = tab_met (completion_reply s v) true q cmd s v info x own from
+lists_met (Search dir) q cmd s v info x own from = unlisted_met (Search dir) q cmd s v info x
+lists_met Up q cmd s v info x own from = unlisted_met Up q cmd s v info x
+lists_met Down q cmd s v info x own from = unlisted_met Down q cmd s v info x
+lists_met TabBack q cmd s v info x own from = unlisted_met TabBack q cmd s v info x
+lists_met Leave q cmd s v info x own from = unlisted_met Leave q cmd s v info x
+lists_met Other q cmd s v info x own from = unlisted_met Other q cmd s v info x
+
+cycles_met : (wish : Wish) (q : Modal) (cmd : Cmd) (s : Setting) (v : Value) (info : Option (List ℕ)) (x : Sight) → shows_own q.standing ≡ true → x ≡ sight_of s v info → Met s info x (met_cycles wish q cmd s v)
+cycles_met Tab q cmd s v info x own from = cycle_met (completion_reply s v) Forward q cmd s v info x own from
+cycles_met TabBack q cmd s v info x own from = cycle_met (completion_reply s v) Reverse q cmd s v info x own from
+cycles_met Leave q cmd s v info x own from = own_met s info x (met_cycles Leave q cmd s v) _ (left_drawn q.put q.place s v info x) refl
+cycles_met (Search dir) q cmd s v info x own from = resting_met (Search dir) (rested q) cmd s v info x refl from
+cycles_met Up q cmd s v info x own from = resting_met Up (rested q) cmd s v info x refl from
+cycles_met Down q cmd s v info x own from = resting_met Down (rested q) cmd s v info x refl from
+cycles_met Other q cmd s v info x own from = resting_met Other (rested q) cmd s v info x refl from
 
 pub meeting_leads : (at : Standing) (q : Modal) → q.standing ≡ at → (cmd : Cmd) (s : Setting) (v : Value) (info : Option (List ℕ)) (x : Sight) → (shows_own at ≡ true → x ≡ sight_of s v info)
     → Met s info x (met_by at q cmd s v)
@@ -220,3 +388,6 @@ meeting_leads Off q is cmd s v info x from = passes_met q cmd s v info x (ap sho
 meeting_leads Rests q is cmd s v info x from = resting_met (wish_of cmd) q cmd s v info x (ap shows_own is) (from refl)
 meeting_leads Prefixes q is cmd s v info x from = prefixes_met (wish_of cmd) q cmd s v info x (ap shows_own is) (from refl)
 meeting_leads Searches q is cmd s v info x from = acted_met (act_of cmd) q cmd s v info x is
+meeting_leads Tabbed q is cmd s v info x from = tabbed_met (wish_of cmd) q cmd s v info x (ap shows_own is) (from refl)
+meeting_leads Lists q is cmd s v info x from = lists_met (wish_of cmd) q cmd s v info x (ap shows_own is) (from refl)
+meeting_leads Cycles q is cmd s v info x from = cycles_met (wish_of cmd) q cmd s v info x (ap shows_own is) (from refl)

@@ -1,5 +1,5 @@
 -- If nothing stands, a command that begins nothing is done as it comes.
-use Rattle.std.proofs.Common.{◌≡◌, ℕ, Bool, true, false, List, ◌∷◌, ◌++◌, Option, None, Some, is_some, refl, ap}
+use Rattle.std.proofs.Common.{◌≡◌, ℕ, Bool, true, false, List, ◌∷◌, ◌++◌, refl, ap}
 use Rattle.line_config.specs.Played.{asked_first}
 use Rattle.line_config.specs.Scripts.{Ends, Asks}
 use Rattle.line_keys.specs.Feeds.{item_at}
@@ -10,9 +10,9 @@ use Rattle.line_editor.specs.Meeting.{OffPasses, met_resting, met_by}
 use Rattle.line_editor.specs.Modal.{Modal, Meeting, passed, is_at_rest, standing_first, wish_of}
 use Rattle.line_editor.specs.Values.{Value, Setting}
 use Rattle.line_editor.specs.declared.modal_state.Standing.{Standing}
-use Rattle.line_editor.specs.declared.modal_state.Standing.TheVariants.{Off, Rests, Prefixes, Searches}
+use Rattle.line_editor.specs.declared.modal_state.Standing.TheVariants.{Off, Rests, Prefixes, Searches, Tabbed, Lists, Cycles}
 use Rattle.line_editor.specs.declared.modal_state.Wish.{Wish}
-use Rattle.line_editor.specs.declared.modal_state.Wish.TheVariants.{Search, Up, Down, Other}
+use Rattle.line_editor.specs.declared.modal_state.Wish.TheVariants.{Search, Up, Down, Tab, TabBack, Leave, Other}
 use Rattle.line_editor.proofs.ToldLemmas.{PlayedOf, played_each}
 
 -- whether a command may begin something if nothing stands
@@ -20,6 +20,9 @@ abbrev pub begins : Wish → Bool
 begins (Search dir) = true
 begins Up = true
 begins Down = false
+begins Tab = true
+begins TabBack = false
+begins Leave = false
 begins Other = false
 
 abbrev pub begins_modal : Cmd → Bool
@@ -29,6 +32,9 @@ past_by : (wish : Wish) (q : Modal) (cmd : Cmd) (s : Setting) (v : Value) → be
 past_by (Search dir) q cmd s v none = cc
 past_by Up q cmd s v none = cc
 past_by Down q cmd s v none = refl
+past_by Tab q cmd s v none = cc
+past_by TabBack q cmd s v none = refl
+past_by Leave q cmd s v none = refl
 past_by Other q cmd s v none = refl
 
 goes_past : (at : Standing) (q : Modal) (cmd : Cmd) (s : Setting) (v : Value) → is_at_rest at ≡ true → begins_modal cmd ≡ false → met_by at q cmd s v ≡ passed q cmd v
@@ -36,6 +42,9 @@ goes_past Off q cmd s v rests none = refl
 goes_past Rests q cmd s v rests none = past_by (wish_of cmd) q cmd s v none
 goes_past Prefixes q cmd s v rests none = cc
 goes_past Searches q cmd s v rests none = cc
+goes_past Tabbed q cmd s v rests none = cc
+goes_past Lists q cmd s v rests none = cc
+goes_past Cycles q cmd s v rests none = cc
 
 pub off_passes : OffPasses
 off_passes q cmd s v is = ap (λ at. met_by at q cmd s v) is

@@ -19,6 +19,8 @@ use Rattle.line_buffer.specs.declared.types.At.TheVariants.{Start}
 use Rattle.line_buffer.specs.declared.types.Word.TheVariants.{Big}
 use Rattle.line_buffer.specs.declared.types.WordAction.{WordAction}
 use Rattle.line_buffer.specs.declared.types.WordAction.TheVariants.{Capitalize, Lowercase, Uppercase}
+use Rattle.line_config.specs.declared.settings.CompletionType.{CompletionType}
+use Rattle.line_config.specs.declared.settings.CompletionType.TheVariants as completion_type
 use Rattle.line_edits.specs.Steps.{made, answering, doing_nothing}
 use Rattle.line_edits.specs.Edits.{clusters_after, replacing, replacing_if_any, by, yanking, deleting, overwriting, transposing_chars_in_group, transposing_words_in_group, editing_word_in_group}
 use Rattle.line_edits.specs.Written.{Written, group_opened, group_closed}
@@ -28,19 +30,21 @@ use Rattle.line_help.specs.Completion.{Completion}
 use Rattle.line_keys.specs.Replies.{Reply}
 use Rattle.line_help.specs.Search.{Hit}
 use Rattle.line_help.specs.declared.search.SearchDirection.{SearchDirection}
+use Rattle.line_help.specs.declared.search.SearchDirection.TheVariants.{Forward, Reverse}
 use Rattle.line_help.specs.Validation.{is_valid, has_message}
 use Rattle.line_help.specs.declared.validate.ValidationResult.{ValidationResult}
 use Rattle.line_help.specs.declared.validate.ValidationResult.TheVariants.{Incomplete, Invalid, Valid}
 use Rattle.line_keys.specs.Refreshing.{Ask}
 use Rattle.line_keys.specs.Refreshing.Ask.{Line as LineAsked, Message, Prompted, DoingInsert, DoneInserting}
 use Rattle.line_keys.specs.declared.command.Cmd.{Cmd}
-use Rattle.line_keys.specs.declared.command.Cmd.TheVariants.{Abort, AcceptLine, BeginningOfHistory, CapitalizeWord, ClearScreen, Complete, CompleteBackward, CompleteHint, Dedent, DowncaseWord, EndOfFile, EndOfHistory, ForwardSearchHistory, HistorySearchBackward, HistorySearchForward, Indent, Insert, Interrupt, Kill, Move, NextHistory, Noop, Repaint, Overwrite, PreviousHistory, QuotedInsert, ReplaceChar, Replace, ReverseSearchHistory, SelfInsert, Suspend, TransposeChars, TransposeWords, Undo, Unknown, UpcaseWord, ViYankTo, Yank, YankPop, LineUpOrPreviousHistory, LineDownOrNextHistory, Newline, AcceptOrInsertLine}
+use Rattle.line_keys.specs.declared.command.Cmd.TheVariants.{Abort, AcceptLine, BeginningOfHistory, CapitalizeWord, ClearScreen, Complete, CompleteBackward, CompleteHint, Dedent, DowncaseWord, EndOfFile, EndOfHistory, ForwardSearchHistory, HistorySearchBackward, HistorySearchForward, Indent, Insert, Interrupt, Kill, Move, NextHistory, Noop, Repaint, Overwrite, PreviousHistory, QuotedInsert, ReplaceChar, Replace, ReverseSearchHistory, SearchAgain, SelfInsert, Suspend, TransposeChars, TransposeWords, Undo, Unknown, UpcaseWord, ViYankTo, Yank, YankPop, LineUpOrPreviousHistory, LineDownOrNextHistory, Newline, AcceptOrInsertLine}
 use Rattle.line_keys.specs.declared.command.CmdKind.{CmdKind}
 use Rattle.line_keys.specs.declared.command.CmdKind.TheVariants.{ForcedRefresh, MoveCursor, Other}
 use Rattle.line_record.specs.Held.{has_step, closes}
 use Rattle.line_record.specs.Ring.{exchanged}
 use Rattle.line_editor.specs.Accepting.{told_if, verdict_told, verdict_given, validate_by, verdict, bare, accept, accepts, newline_if}
 use Rattle.line_editor.specs.Asks.{ask_effect}
+use Rattle.line_editor.specs.Candidates.{only_put, listed_with, candidate_at, turned_with, several, offered_if, is_ambiguous, tab_by, cycle_at, asked_turned, cycle_by}
 use Rattle.line_editor.specs.Commands.{Means, in_vi_command, effect}
 use Rattle.line_editor.specs.Completing.{elected, completed_with, candidates_given, complete_if}
 use Rattle.line_editor.specs.Hinting.{at_row_end, completed_by, complete_by}
@@ -50,20 +54,20 @@ use Rattle.line_editor.specs.Moving.{cursor_moved_if, to_found, to_place, move_h
 use Rattle.line_editor.specs.Remembering.{saved_now, saved_on_leaving, recall, come_back as back_at_end, history_step, history_end}
 use Rattle.line_editor.specs.Returns.{ValueStep, value_after, value_after_all, leaving_by, is_search, searches, StaysAway, ComesBack}
 use Rattle.line_editor.specs.Returns.ValueStep.{Done, Asked, Met}
-use Rattle.line_editor.specs.Drawing.{refreshed_if}
+use Rattle.line_editor.specs.Drawing.{refreshed, refreshed_if}
 use Rattle.line_editor.specs.Rewording.{edit_word_effect}
-use Rattle.line_editor.specs.Meeting.{meeting_effect, met_resting, met_prefixes, met_by}
+use Rattle.line_editor.specs.Meeting.{meeting_effect, met_resting, met_prefixes, met_tabbed, unlisted, met_lists, met_cycles, met_by}
 use Rattle.line_editor.specs.Modal.{Modal, rested, wish_of}
 use Rattle.line_editor.specs.Prefixes.{is_prefix, is_own, earlier, later, risen, rises_if, fallen}
-use Rattle.line_editor.specs.Searching.{erased, looks_again, typed_in, sought, onward, hit_back, found_put, is_place, begun_if, acted, act_of}
+use Rattle.line_editor.specs.Searching.{erased, looks_again, typed_in, sought, onward, hit_back, found_put, is_place, placing, given_up, begun_if, acted, act_of}
 use Rattle.line_editor.specs.Values.{Value, Setting, Effect, Saved, then_do, verdict_reply, completion_reply, rewritten, written_of, at_line}
 use Rattle.line_editor.specs.Yanking.{anchored, steps_over, behind_yank, yanked_by, yank_text, yank_lent, pop_lent}
 use Rattle.line_editor.specs.declared.modal_state.Act.{Act}
 use Rattle.line_editor.specs.declared.modal_state.Act.TheVariants.{Types, Erases, Goes, Leaves, Ends}
 use Rattle.line_editor.specs.declared.modal_state.Standing.{Standing}
-use Rattle.line_editor.specs.declared.modal_state.Standing.TheVariants.{Off, Rests, Prefixes, Searches}
+use Rattle.line_editor.specs.declared.modal_state.Standing.TheVariants.{Off, Rests, Prefixes, Searches, Tabbed, Lists, Cycles}
 use Rattle.line_editor.specs.declared.modal_state.Wish.{Wish}
-use Rattle.line_editor.specs.declared.modal_state.Wish.TheVariants.{Search, Up, Down, Other}
+use Rattle.line_editor.specs.declared.modal_state.Wish.TheVariants.{Search, Up, Down, Tab, TabBack, Leave, Other}
 use Rattle.line_editor.proofs.GrowthLemmas.{insert_grows, yank_grows, pop_grows, deletion_grows, kill_grows, indent_grows, word_grows, chars_grow, words_grow, over_grows, back_grows}
 
 -- ---- what keeps the place and the saved line, and whether the line may grow
@@ -334,6 +338,7 @@ command_held m QuotedInsert s text at v quiet inside h away = keeps_held s text 
 command_held m (ReplaceChar n c) s text at v quiet inside h away = keeps_held s text at v (effect m (ReplaceChar n c) s v).value h away (drawn_keeps (is_some (place_forward n v.line)) s v (rewritten (by (replacing_if_any c n)) v) (kept refl refl (any_grows (is_some (place_forward n v.line)) c n v)))
 command_held m (Replace movement new) s text at v quiet inside h away = keeps_held s text at v (effect m (Replace movement new) s v).value h away (then_keeps v (kill_effect movement s v).value _ (kill_keeps movement s v) (text_keeps new s (kill_effect movement s v).value))
 command_held m ReverseSearchHistory s text at v quiet inside h away = keeps_held s text at v (effect m ReverseSearchHistory s v).value h away (same v)
+command_held m (SearchAgain way) s text at v quiet inside h away = keeps_held s text at v (effect m (SearchAgain way) s v).value h away (same v)
 command_held m (SelfInsert n c) s text at v quiet inside h away = keeps_held s text at v (effect m (SelfInsert n c) s v).value h away (insertion_keeps c n s v)
 command_held m Suspend s text at v quiet inside h away = keeps_held s text at v (effect m Suspend s v).value h away (same v)
 command_held m TransposeChars s text at v quiet inside h away = keeps_held s text at v (effect m TransposeChars s v).value h away (drawn_keeps (transposes_chars v.line) s v (rewritten (by transposing_chars_in_group) v) (kept refl refl (chars_grow v.line)))
@@ -385,14 +390,20 @@ again_keeps true q s v =
     kept h.saved h.history (placed_grows (is_place q.place w.line) q.place w.line ∙ h.growth)
 again_keeps false q s v = let h = put_keeps q.put (sought q.query q.dir (Some q.start) s.entries) s v in kept h.saved h.history h.growth
 
+back_keeps : (put : Bool) (place : ℕ) (s : Setting) (v : Value) → Keeps v (then_do (hit_back put) (placing place) s v).value
+back_keeps put place s v =
+    let w = (hit_back put s v).value in
+    let h = hit_back_keeps put s v in
+    kept h.saved h.history (placed_grows (is_place place w.line) place w.line ∙ h.growth)
+
+given_up_keeps : (q : Modal) (s : Setting) (v : Value) → Keeps v (given_up q s v).value
+given_up_keeps q s v = let h = back_keeps q.put q.place s v in kept h.saved h.history h.growth
+
 acted_keeps : (act : Act) (q : Modal) (cmd : Cmd) (s : Setting) (v : Value) → Keeps v (acted act q cmd s v).effect.value
 acted_keeps (Types c) q cmd s v = let h = put_keeps q.put (sought (typed_in c q).query q.dir (Some q.at) s.entries) s v in kept h.saved h.history h.growth
 acted_keeps Erases q cmd s v = again_keeps (length (erased q).query == 0) (erased q) s v
 acted_keeps (Goes dir) q cmd s v = let h = put_keeps q.put (sought q.query dir (onward dir q (length s.entries)) s.entries) s v in kept h.saved h.history h.growth
-acted_keeps Leaves q cmd s v =
-    let w = (hit_back q.put s v).value in
-    let h = hit_back_keeps q.put s v in
-    kept h.saved h.history (placed_grows (is_place q.place w.line) q.place w.line ∙ h.growth)
+acted_keeps Leaves q cmd s v = given_up_keeps q s v
 acted_keeps Ends q cmd s v = kept refl refl refl
 
 begun_keeps : (empty : Bool) (dir : SearchDirection) (q : Modal) (cmd : Cmd) (s : Setting) (v : Value) → Keeps v (begun_if empty dir q cmd s v).effect.value
@@ -415,23 +426,99 @@ fallen_keeps : (hit : Option Hit) (q : Modal) (s : Setting) (v : Value) → Keep
 fallen_keeps None q s v = same v
 fallen_keeps (Some hit) q s v = same v
 
+-- ---- candidates
+
+turned_keeps : (start : ℕ) (o : Option (List ℕ)) (s : Setting) (v w : Value) → Keeps v w → Keeps v (turned_with start o s w).value
+turned_keeps start None s v w h = kept h.saved h.history h.growth
+turned_keeps start (Some text) s v w h = kept h.saved h.history h.growth
+
+listed_keeps : (lists : Bool) (o : Option (List ℕ)) (limit : ℕ) (found : Completion) (s : Setting) (v : Value) → Keeps v (listed_with lists limit found o s v).value
+listed_keeps true (Some text) limit found s v = kept refl refl refl
+listed_keeps false (Some text) limit found s v = kept refl refl refl
+listed_keeps true None limit found s v = kept refl refl refl
+listed_keeps false None limit found s v = same v
+
+several_keeps : (kind : CompletionType) (lists : Bool) (q : Modal) (found : Completion) (s : Setting) (v : Value) → Keeps v (several kind lists q found s v).value
+several_keeps completion_type.Circular lists q found s v = turned_keeps found.start (candidate_at 0 found v.line) s v (rewritten group_closed v) (kept refl refl refl)
+several_keeps completion_type.List lists q found s v = listed_keeps lists (elected found v.line) q.limit found s v
+
+offered_keeps : (ambiguous lists : Bool) (q : Modal) (found : Completion) (s : Setting) (v : Value) → Keeps v (offered_if ambiguous lists q found s v).value
+offered_keeps false lists q found s v = elected_keeps found.start (only_put found v.line) s v
+offered_keeps true lists q found s v = several_keeps q.completion_type lists q found s v
+
+tab_keeps : (reply : Option (Reply Completion)) (lists : Bool) (q : Modal) (cmd : Cmd) (s : Setting) (v : Value) → Keeps v (tab_by reply lists q cmd s v).effect.value
+tab_keeps None lists q cmd s v = same v
+tab_keeps (Some reply) lists q cmd s v = let found = candidates_given (Some reply) in offered_keeps (is_ambiguous found) lists q found s v
+
+next_keeps : (dir : SearchDirection) (q : Modal) (s : Setting) (v w : Value) → Keeps v w → Keeps v (asked_turned dir q s w).value
+next_keeps dir q s v w h =
+    let found = candidates_given (completion_reply s w) in
+    turned_keeps found.start (candidate_at (cycle_at dir q.at (length found.candidates)) found w.line) s v w h
+
+cycle_keeps : (reply : Option (Reply Completion)) (dir : SearchDirection) (q : Modal) (cmd : Cmd) (s : Setting) (v : Value) → Keeps v (cycle_by reply dir q cmd s v).effect.value
+cycle_keeps None dir q cmd s v = same v
+cycle_keeps (Some reply) dir q cmd s v = next_keeps dir q s v (then_do (hit_back q.put) (placing q.place) s v).value (back_keeps q.put q.place s v)
+
+-- ---- any command that is met
+
 resting_keeps : (wish : Wish) (q : Modal) (cmd : Cmd) (s : Setting) (v : Value) → Away s v → Keeps v (met_resting wish q cmd s v).effect.value
 resting_keeps (Search dir) q cmd s v away = begun_keeps (length s.entries == 0) dir q cmd s v
 resting_keeps Up q cmd s v away = rises_keeps (is_own s v && is_prefix v.line) q cmd s v away
 resting_keeps Down q cmd s v away = same v
+resting_keeps Tab q cmd s v away = tab_keeps (completion_reply s v) q.lists_at_once q cmd s v
+resting_keeps TabBack q cmd s v away = same v
+resting_keeps Leave q cmd s v away = same v
 resting_keeps Other q cmd s v away = same v
 
 prefixes_keep : (wish : Wish) (q : Modal) (cmd : Cmd) (s : Setting) (v : Value) → Away s v → Keeps v (met_prefixes wish q cmd s v).effect.value
 prefixes_keep Up q cmd s v away = risen_keeps (earlier s v) q s v away
 prefixes_keep Down q cmd s v away = fallen_keeps (later s v) q s v
 prefixes_keep (Search dir) q cmd s v away = resting_keeps (Search dir) (rested q) cmd s v away
-prefixes_keep Other q cmd s v away = same v
+prefixes_keep Tab q cmd s v away = resting_keeps Tab (rested q) cmd s v away
+prefixes_keep TabBack q cmd s v away = resting_keeps TabBack (rested q) cmd s v away
+prefixes_keep Leave q cmd s v away = resting_keeps Leave (rested q) cmd s v away
+prefixes_keep Other q cmd s v away = resting_keeps Other (rested q) cmd s v away
+
+tabbed_keep : (wish : Wish) (q : Modal) (cmd : Cmd) (s : Setting) (v : Value) → Away s v → Keeps v (met_tabbed wish q cmd s v).effect.value
+tabbed_keep Tab q cmd s v away = tab_keeps (completion_reply s v) true q cmd s v
+tabbed_keep (Search dir) q cmd s v away = resting_keeps (Search dir) (rested q) cmd s v away
+tabbed_keep Up q cmd s v away = resting_keeps Up (rested q) cmd s v away
+tabbed_keep Down q cmd s v away = resting_keeps Down (rested q) cmd s v away
+tabbed_keep TabBack q cmd s v away = resting_keeps TabBack (rested q) cmd s v away
+tabbed_keep Leave q cmd s v away = resting_keeps Leave (rested q) cmd s v away
+tabbed_keep Other q cmd s v away = resting_keeps Other (rested q) cmd s v away
+
+unlisted_keep : (wish : Wish) (q : Modal) (cmd : Cmd) (s : Setting) (v : Value) → Away s v → Keeps v (unlisted wish q cmd s v).effect.value
+unlisted_keep wish q cmd s v away =
+    let w = (refreshed s v).value in
+    then_keeps v w (unlisted wish q cmd s v).effect.value (kept refl refl refl) (resting_keeps wish (rested q) cmd s w away)
+
+lists_keep : (wish : Wish) (q : Modal) (cmd : Cmd) (s : Setting) (v : Value) → Away s v → Keeps v (met_lists wish q cmd s v).effect.value
+lists_keep Tab q cmd s v away = tab_keeps (completion_reply s v) true q cmd s v
+lists_keep (Search dir) q cmd s v away = unlisted_keep (Search dir) q cmd s v away
+lists_keep Up q cmd s v away = unlisted_keep Up q cmd s v away
+lists_keep Down q cmd s v away = unlisted_keep Down q cmd s v away
+lists_keep TabBack q cmd s v away = unlisted_keep TabBack q cmd s v away
+lists_keep Leave q cmd s v away = unlisted_keep Leave q cmd s v away
+lists_keep Other q cmd s v away = unlisted_keep Other q cmd s v away
+
+cycles_keep : (wish : Wish) (q : Modal) (cmd : Cmd) (s : Setting) (v : Value) → Away s v → Keeps v (met_cycles wish q cmd s v).effect.value
+cycles_keep Tab q cmd s v away = cycle_keeps (completion_reply s v) Forward q cmd s v
+cycles_keep TabBack q cmd s v away = cycle_keeps (completion_reply s v) Reverse q cmd s v
+cycles_keep Leave q cmd s v away = given_up_keeps q s v
+cycles_keep (Search dir) q cmd s v away = resting_keeps (Search dir) (rested q) cmd s v away
+cycles_keep Up q cmd s v away = resting_keeps Up (rested q) cmd s v away
+cycles_keep Down q cmd s v away = resting_keeps Down (rested q) cmd s v away
+cycles_keep Other q cmd s v away = resting_keeps Other (rested q) cmd s v away
 
 met_keeps : (at : Standing) (q : Modal) (cmd : Cmd) (s : Setting) (v : Value) → Away s v → Keeps v (met_by at q cmd s v).effect.value
 met_keeps Off q cmd s v away = same v
 met_keeps Rests q cmd s v away = resting_keeps (wish_of cmd) q cmd s v away
 met_keeps Prefixes q cmd s v away = prefixes_keep (wish_of cmd) q cmd s v away
 met_keeps Searches q cmd s v away = acted_keeps (act_of cmd) q cmd s v
+met_keeps Tabbed q cmd s v away = tabbed_keep (wish_of cmd) q cmd s v away
+met_keeps Lists q cmd s v away = lists_keep (wish_of cmd) q cmd s v away
+met_keeps Cycles q cmd s v away = cycles_keep (wish_of cmd) q cmd s v away
 
 step_held : (step : ValueStep) (s : Setting) (text : List ℕ) (at : ℕ) (v : Value) → searches step ≡ false → at ≤ length text → Held s text at v → Away s v → Held s text at (value_after s step v)
 step_held (Done m cmd) s text at v quiet inside h away = command_held m cmd s text at v quiet inside h away

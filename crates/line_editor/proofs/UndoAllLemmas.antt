@@ -1,14 +1,16 @@
 -- Each step leaves a record that reaches the same text.
-use Rattle.std.proofs.Common.{◌≡◌, ℕ, ◌+◌, ◌-◌, ◌≤◌, ◌==◌, ◌&&◌, ◌||◌, not, map, Bool, true, false, List, [], ◌∷◌, length, Option, Some, None, is_some, slice_get, refl, sym, ◌∙◌, subst, if◌then◌else◌}
-use Rattle.std.specs.Prelude.{IsUtf8, IsCharBoundary, IfSome, nat_le, encode_utf8}
-use Rattle.std.proofs.lemmas.Bool.{leb-true}
+use Rattle.std.proofs.Common.{◌≡◌, ℕ, ◌+◌, ◌-◌, ◌≤◌, min, ◌==◌, ◌&&◌, ◌||◌, not, map, take, drop, ◌++◌, Bool, true, false, List, [], ◌∷◌, length, Option, Some, None, is_some, slice_get, refl, sym, ap, ◌∙◌, subst, arith, if◌then◌else◌}
+use Rattle.std.specs.Prelude.{IsUtf8, IsCharBoundary, IfSome, nat_le, encode_utf8, slice_range}
+use Rattle.std.specs.List.{replace_range}
+use Rattle.std.proofs.lemmas.Bool.{leb-true, leb-false}
+use Rattle.std.proofs.lemmas.List.{drop_all, length-take, length-drop}
 use Rattle.line_buffer.specs.Columns.{line_up, line_down}
 use Rattle.line_buffer.specs.Insertions.{is_inside_char, can_take_before, insert as insertion, yank as yanked_in, yank_pop as popped_in}
 use Rattle.line_buffer.specs.Clusters.{place_forward, place_backward}
 use Rattle.line_buffer.specs.Line.{Line, moved_to, put_in, replaced}
 use Rattle.line_buffer.specs.LetterCase.{word_to_edit, edit_word_events, edit_word_line}
 use Rattle.line_buffer.specs.Range.{range_of, copied_range, deletion_events, deletion_line}
-use Rattle.line_buffer.specs.Replay.{insertion as told_insertion, replacement}
+use Rattle.line_buffer.specs.Replay.{insertion as told_insertion, replacement, replayed}
 use Rattle.line_buffer.specs.Transpositions.{transposes_chars, transposes_words, transpose_words_events, transpose_words_line}
 use Rattle.line_buffer.specs.declared.types.Anchor.{Anchor}
 use Rattle.line_buffer.specs.declared.types.Anchor.TheVariants.{After, Before}
@@ -23,6 +25,8 @@ use Rattle.line_buffer.specs.declared.types.WordAction.{WordAction}
 use Rattle.line_buffer.specs.declared.types.WordAction.TheVariants.{Capitalize, Lowercase, Uppercase}
 use Rattle.line_buffer.proofs.ReplayedLemmas.{replayed_all-one, replayed_insertion, replayed_replacement, yank_pop_replayed}
 use Rattle.line_buffer.proofs.SpanLemmas.{IsLater, place_forward-later, deletion_replays}
+use Rattle.line_config.specs.declared.settings.CompletionType.{CompletionType}
+use Rattle.line_config.specs.declared.settings.CompletionType.TheVariants as completion_type
 use Rattle.line_edits.specs.Steps.{WriteSteps, made, answering, doing_nothing}
 use Rattle.line_edits.specs.Edits.{clusters_after, replacing, replacing_if_any, by, yanking, putting_behind, updating, popping, deleting, exchanging, writing_over, overwriting, transposing_chars, transposing_chars_in_group, transposing_words, transposing_words_in_group, editing_word, editing_word_in_group}
 use Rattle.line_edits.specs.Written.{Written, group_opened, group_closed}
@@ -46,8 +50,9 @@ use Rattle.line_record.specs.Held.{closes}
 use Rattle.line_record.specs.Ring.{exchanged}
 use Rattle.line_editor.specs.Accepting.{told_if, verdict_told, verdict_given, validate_by, verdict, bare, accept, accepts, newline_if}
 use Rattle.line_editor.specs.Asks.{ask_effect}
+use Rattle.line_editor.specs.Candidates.{only_text, text_at, listed_with, candidate_at, turned_with, several, offered_if, is_ambiguous, tab_by, cycle_at, asked_turned, cycle_by}
 use Rattle.line_editor.specs.Commands.{Means, in_vi_command, effect}
-use Rattle.line_editor.specs.Completing.{elected_among, elected, word_put, completed_with, candidates_given, complete_if}
+use Rattle.line_editor.specs.Completing.{begins_word, elected_among, elected, word_put, completed_with, candidates_given, complete_if}
 use Rattle.line_editor.specs.Hinting.{at_row_end, completed_by, complete_by}
 use Rattle.line_editor.specs.Inserting.{insert_char, replace_char, overwrite_char}
 use Rattle.line_editor.specs.Killing.{kill_effect, insert_text_if}
@@ -56,20 +61,20 @@ use Rattle.line_editor.specs.Moving.{cursor_moved_if, to_found, to_place, move_h
 use Rattle.line_editor.specs.Remembering.{saved_now, at_place, saved_on_leaving, recall, recalled, restored, hit_shown, history_step, history_end, history_search}
 use Rattle.line_editor.specs.Returns.{ValueStep, value_after, value_after_all, BegunSound, UndoesAll}
 use Rattle.line_editor.specs.Returns.ValueStep.{Done, Asked, Met}
-use Rattle.line_editor.specs.Drawing.{refreshed_if}
+use Rattle.line_editor.specs.Drawing.{refreshed, refreshed_if}
 use Rattle.line_editor.specs.Rewording.{edit_word_effect}
-use Rattle.line_editor.specs.Meeting.{met_resting, met_prefixes, met_by}
+use Rattle.line_editor.specs.Meeting.{met_resting, met_prefixes, met_tabbed, unlisted, met_lists, met_cycles, met_by}
 use Rattle.line_editor.specs.Modal.{Modal, rested, wish_of}
 use Rattle.line_editor.specs.Prefixes.{is_prefix, is_own, earlier, later, risen, rises_if, fallen}
-use Rattle.line_editor.specs.Searching.{erased, looks_again, typed_in, sought, onward, hit_back, found_put, is_place, given_up, begun_if, acted, act_of}
+use Rattle.line_editor.specs.Searching.{erased, looks_again, typed_in, sought, onward, hit_back, found_put, is_place, placing, given_up, begun_if, acted, act_of}
 use Rattle.line_editor.specs.Values.{Value, Setting, Effect, then_do, verdict_reply, completion_reply, rewritten, written_of, at_line}
 use Rattle.line_editor.specs.Yanking.{anchored, steps_over, behind_yank, yanked_by, yank_text, yank_lent, pop_lent}
 use Rattle.line_editor.specs.declared.modal_state.Act.{Act}
 use Rattle.line_editor.specs.declared.modal_state.Act.TheVariants.{Types, Erases, Goes, Leaves, Ends}
 use Rattle.line_editor.specs.declared.modal_state.Standing.{Standing}
-use Rattle.line_editor.specs.declared.modal_state.Standing.TheVariants.{Off, Rests, Prefixes, Searches}
+use Rattle.line_editor.specs.declared.modal_state.Standing.TheVariants.{Off, Rests, Prefixes, Searches, Tabbed, Lists, Cycles}
 use Rattle.line_editor.specs.declared.modal_state.Wish.{Wish}
-use Rattle.line_editor.specs.declared.modal_state.Wish.TheVariants.{Search, Up, Down, Other}
+use Rattle.line_editor.specs.declared.modal_state.Wish.TheVariants.{Search, Up, Down, Tab, TabBack, Leave, Other}
 use Rattle.line_editor.proofs.ReachLemmas.{undo_reached, ended_reaches, edit_reaches, group_reaches, typing_reaches, yanking_reaches, updating_reaches, indenting_reaches, killing_reaches, transposing_reaches}
 use Rattle.line_editor.proofs.ReplaysLemmas.{transpose_words_replays, edit_word_replays}
 use Rattle.line_editor.proofs.UndoLemmas.{undo_reaches, unmade_reached}
@@ -90,11 +95,6 @@ module _ (first : List ℕ) (w : Written) (u : IsUtf8 w.line.text) (b : IsCharBo
   overwriting_reaches : (c : ℕ) → Reaches first (by (overwriting c) w).held (by (overwriting c) w).line.text
   overwriting_reaches c = writing_reaches c (place_forward 1 w.line) (place_forward-later w.line u b 1)
 
-  replacing_reaches : (start : ℕ) (text : List ℕ) → start ≤ w.line.place → Reaches first (word_put start text w).held (word_put start text w).line.text
-  replacing_reaches start text below =
-      edit_reaches (replacement start w.line.place text w.line.text ∷ []) (replaced start w.line.place text w.line) w first
-      (sym (replayed_all-one _ w.line.text ∙ replayed_replacement w.line.text start w.line.place text below b.0)) r
-
   popping_reaches : (size : ℕ) (text : List ℕ) → Reaches first (by (popping size text) w).held (by (popping size text) w).line.text
   popping_reaches size text = edit_reaches (popped_in size text w.line).events (popped_in size text w.line).line w first (sym (yank_pop_replayed size text w.line b.0)) r
 
@@ -103,6 +103,25 @@ module _ (first : List ℕ) (w : Written) (u : IsUtf8 w.line.text) (b : IsCharBo
 
   word_reaches : (action : WordAction) → Reaches first (by (editing_word action) w).held (by (editing_word action) w).line.text
   word_reaches action = edit_reaches (edit_word_events action w.line) (edit_word_line action w.line) w first (sym (edit_word_replays action w.line u b)) r
+
+-- a cursor behind the text's end replaces to the end
+far_replaced : (text : List ℕ) (from upto : ℕ) (added : List ℕ) → from ≤ upto → replayed (replacement from upto added text) text ≡ replace_range text from upto added
+far_replaced text from upto added le = by_order (nat_le upto (length text)) refl
+  where
+    count : length (slice_range text from upto) ≡ min (upto - from) (length text - from)
+    count = length-take (upto - from) (drop from text) ∙ ap (min (upto - from)) (length-drop from text)
+
+    by_order : (b : Bool) → nat_le upto (length text) ≡ b → replayed (replacement from upto added text) text ≡ replace_range text from upto added
+    by_order true h = replayed_replacement text from upto added le (leb-true upto (length text) h)
+    by_order false h =
+        let far = leb-false upto (length text) h in
+        let reach : length text ≤ from + length (slice_range text from upto) = omega (arith, count, le, far) in
+        ap (λ rest. (take from text ++ added) ++ rest) (drop_all (from + length (slice_range text from upto)) text reach ∙ sym (drop_all upto text (omega (arith, far))))
+
+replacing_reaches : (start : ℕ) (text : List ℕ) (w : Written) (first : List ℕ) → start ≤ w.line.place → Reaches first w.held w.line.text → Reaches first (word_put start text w).held (word_put start text w).line.text
+replacing_reaches start text w first below r =
+    edit_reaches (replacement start w.line.place text w.line.text ∷ []) (replaced start w.line.place text w.line) w first
+    (sym (replayed_all-one _ w.line.text ∙ far_replaced w.line.text start w.line.place text below)) r
 
 putting_reaches : (text : List ℕ) (w : Written) (first : List ℕ) → Reaches first w.held w.line.text → Reaches first (by (putting_behind text) w).held (by (putting_behind text) w).line.text
 putting_reaches text w first r =
@@ -237,18 +256,21 @@ begun_before start l inside o text is = by_order (nat_le start l.place) refl is
     by_order true h k = leb-true start l.place h
     by_order false h k = cc
 
-elected_reached : (start : ℕ) (o : Option (List ℕ)) (s : Setting) (v : Value) (first : List ℕ) → Sound v → ((text : List ℕ) → o ≡ Some text → start ≤ v.line.place)
+elected_reached : (start : ℕ) (o : Option (List ℕ)) (s : Setting) (v : Value) (first : List ℕ) → ((text : List ℕ) → o ≡ Some text → start ≤ v.line.place)
     → Reached first v → Reached first (completed_with start o s v).value
-elected_reached start None s v first ok below r = r
-elected_reached start (Some text) s v first ok below r =
-    group_reaches (word_put start text) (written_of v) first (λ k. replacing_reaches first (group_opened (written_of v)) ok.utf8 ok.boundary k start text (below text refl)) r
+elected_reached start None s v first below r = r
+elected_reached start (Some text) s v first below r = group_reaches (word_put start text) (written_of v) first (λ k. replacing_reaches start text (group_opened (written_of v)) first (below text refl) k) r
 
-complete_reached : (reply : Option (Reply Completion)) (s : Setting) (v : Value) (first : List ℕ) → Sound v → Reached first v → Reached first (complete_if reply s v).value
-complete_reached None s v first ok r = r
-complete_reached (Some reply) s v first ok r =
+begun_reached_by : (o : Option (List ℕ)) (found : Completion) (s : Setting) (v : Value) (first : List ℕ) → Reached first v
+    → Reached first (completed_with found.start (if begins_word found.start v.line then o else None) s v).value
+begun_reached_by o found s v first r =
+    elected_reached found.start (if begins_word found.start v.line then o else None) s v first (λ text is. begun_before found.start v.line (not (is_inside_char v.line.text found.start)) o text is) r
+
+complete_reached : (reply : Option (Reply Completion)) (s : Setting) (v : Value) (first : List ℕ) → Reached first v → Reached first (complete_if reply s v).value
+complete_reached None s v first r = r
+complete_reached (Some reply) s v first r =
     let found = candidates_given (Some reply) in
-    elected_reached found.start (elected found v.line) s v first ok
-    (λ text is. begun_before found.start v.line (not (is_inside_char v.line.text found.start)) (elected_among (v.line.place - found.start) (map (λ o. o.replacement) found.candidates)) text is) r
+    begun_reached_by (elected_among (v.line.place - found.start) (map (λ o. o.replacement) found.candidates)) found s v first r
 
 made_reached : (first : List ℕ) (b : Bool) (x y : WriteSteps Bool) (w : Written) → Reaches first (made x w).held (made x w).line.text → Reaches first (made y w).held (made y w).line.text
     → (let z = made (if b then x else y) w in Reaches first z.held z.line.text)
@@ -312,7 +334,7 @@ command_reached m (AcceptOrInsertLine middle) s v first ok r = newline_reached (
 command_reached m CapitalizeWord s v first ok r = word_reached Capitalize s v first ok r
 command_reached m DowncaseWord s v first ok r = word_reached Lowercase s v first ok r
 command_reached m UpcaseWord s v first ok r = word_reached Uppercase s v first ok r
-command_reached m Complete s v first ok r = complete_reached (completion_reply s v) s v first ok r
+command_reached m Complete s v first ok r = complete_reached (completion_reply s v) s v first r
 command_reached m CompleteHint s v first ok r = hint_reached v.hint s v first r
 command_reached m (Indent movement) s v first ok r = indenting_reaches movement m.indent_size false (written_of v) first r
 command_reached m (Dedent movement) s v first ok r = indenting_reaches movement m.indent_size true (written_of v) first r
@@ -366,15 +388,16 @@ placed_text : (b : Bool) (place : ℕ) (l : Line) → (if b then record l { plac
 placed_text true place l = refl
 placed_text false place l = refl
 
+placed_reached : (put : Bool) (place : ℕ) (s : Setting) (v : Value) (first : List ℕ) → Reached first v → Reached first (then_do (hit_back put) (placing place) s v).value
+placed_reached put place s v first r =
+    let w = (hit_back put s v).value in
+    subst (Reaches first w.held) (sym (placed_text (is_place place w.line) place w.line)) (back_reached put s v first r)
+
 given_up_reached : (q : Modal) (s : Setting) (v : Value) (first : List ℕ) → Reached first v → Reached first (given_up q s v).value
-given_up_reached q s v first r =
-    let w = (hit_back q.put s v).value in
-    subst (Reaches first w.held) (sym (placed_text (is_place q.place w.line) q.place w.line)) (back_reached q.put s v first r)
+given_up_reached q s v first r = placed_reached q.put q.place s v first r
 
 again_reached : (empty : Bool) (q : Modal) (s : Setting) (v : Value) (first : List ℕ) → Reached first v → Reached first (looks_again empty q s v).effect.value
-again_reached true q s v first r =
-    let w = (hit_back q.put s v).value in
-    subst (Reaches first w.held) (sym (placed_text (is_place q.place w.line) q.place w.line)) (back_reached q.put s v first r)
+again_reached true q s v first r = placed_reached q.put q.place s v first r
 again_reached false q s v first r = put_reached q.put (sought q.query q.dir (Some q.start) s.entries) s v first r
 
 acted_reached : (act : Act) (q : Modal) (cmd : Cmd) (s : Setting) (v : Value) (first : List ℕ) → Reached first v → Reached first (acted act q cmd s v).effect.value
@@ -400,23 +423,102 @@ fallen_reached : (hit : Option Hit) (q : Modal) (s : Setting) (v : Value) (first
 fallen_reached None q s v first r = r
 fallen_reached (Some hit) q s v first r = r
 
+-- ---- candidates
+
+turned_reached : (start : ℕ) (o : Option (List ℕ)) (s : Setting) (v : Value) (first : List ℕ) → ((text : List ℕ) → o ≡ Some text → start ≤ v.line.place) → Reached first v → Reached first (turned_with start o s v).value
+turned_reached start None s v first below r = r
+turned_reached start (Some text) s v first below r = elected_reached start (Some text) s v first below r
+
+candidate_reached : (at : ℕ) (found : Completion) (s : Setting) (v : Value) (first : List ℕ) → Reached first v → Reached first (turned_with found.start (candidate_at at found v.line) s v).value
+candidate_reached at found s v first r =
+    turned_reached found.start (candidate_at at found v.line) s v first (λ text is. begun_before found.start v.line (not (is_inside_char v.line.text found.start)) (text_at (slice_get found.candidates at)) text is) r
+
+listed_reached : (lists : Bool) (o : Option (List ℕ)) (limit : ℕ) (found : Completion) (s : Setting) (v : Value) (first : List ℕ) → Reached first v → Reached first (completed_with found.start o s v).value
+    → Reached first (listed_with lists limit found o s v).value
+listed_reached true (Some text) limit found s v first r h = h
+listed_reached false (Some text) limit found s v first r h = h
+listed_reached true None limit found s v first r h = r
+listed_reached false None limit found s v first r h = r
+
+several_reached : (kind : CompletionType) (lists : Bool) (q : Modal) (found : Completion) (s : Setting) (v : Value) (first : List ℕ) → Reached first v → Reached first (several kind lists q found s v).value
+several_reached completion_type.Circular lists q found s v first r = candidate_reached 0 found s (rewritten group_closed v) first (ended_reaches first v.held v.line.text r)
+several_reached completion_type.List lists q found s v first r =
+    listed_reached lists (elected found v.line) q.limit found s v first r (begun_reached_by (elected_among (v.line.place - found.start) (map (λ o. o.replacement) found.candidates)) found s v first r)
+
+offered_reached : (ambiguous lists : Bool) (q : Modal) (found : Completion) (s : Setting) (v : Value) (first : List ℕ) → Reached first v → Reached first (offered_if ambiguous lists q found s v).value
+offered_reached false lists q found s v first r = begun_reached_by (only_text found.candidates) found s v first r
+offered_reached true lists q found s v first r = several_reached q.completion_type lists q found s v first r
+
+tab_reached : (reply : Option (Reply Completion)) (lists : Bool) (q : Modal) (cmd : Cmd) (s : Setting) (v : Value) (first : List ℕ) → Reached first v → Reached first (tab_by reply lists q cmd s v).effect.value
+tab_reached None lists q cmd s v first r = r
+tab_reached (Some reply) lists q cmd s v first r = let found = candidates_given (Some reply) in offered_reached (is_ambiguous found) lists q found s v first r
+
+next_reached : (dir : SearchDirection) (q : Modal) (s : Setting) (v : Value) (first : List ℕ) → Reached first v → Reached first (asked_turned dir q s v).value
+next_reached dir q s v first r =
+    let found = candidates_given (completion_reply s v) in candidate_reached (cycle_at dir q.at (length found.candidates)) found s v first r
+
+cycle_reached : (reply : Option (Reply Completion)) (dir : SearchDirection) (q : Modal) (cmd : Cmd) (s : Setting) (v : Value) (first : List ℕ) → Reached first v → Reached first (cycle_by reply dir q cmd s v).effect.value
+cycle_reached None dir q cmd s v first r = r
+cycle_reached (Some reply) dir q cmd s v first r = next_reached dir q s (then_do (hit_back q.put) (placing q.place) s v).value first (placed_reached q.put q.place s v first r)
+
+-- ---- any command that is met
+
 resting_reached : (wish : Wish) (q : Modal) (cmd : Cmd) (s : Setting) (v : Value) (first : List ℕ) → Reached first v → Reached first (met_resting wish q cmd s v).effect.value
 resting_reached (Search dir) q cmd s v first r = begun_reached (length s.entries == 0) dir q cmd s v first r
 resting_reached Up q cmd s v first r = rises_reached (is_own s v && is_prefix v.line) q cmd s v first r
 resting_reached Down q cmd s v first r = r
+resting_reached Tab q cmd s v first r = tab_reached (completion_reply s v) q.lists_at_once q cmd s v first r
+resting_reached TabBack q cmd s v first r = r
+resting_reached Leave q cmd s v first r = r
 resting_reached Other q cmd s v first r = r
 
 prefixes_reached : (wish : Wish) (q : Modal) (cmd : Cmd) (s : Setting) (v : Value) (first : List ℕ) → Reached first v → Reached first (met_prefixes wish q cmd s v).effect.value
 prefixes_reached Up q cmd s v first r = risen_reached (earlier s v) q s v first r
 prefixes_reached Down q cmd s v first r = fallen_reached (later s v) q s v first r
 prefixes_reached (Search dir) q cmd s v first r = resting_reached (Search dir) (rested q) cmd s v first r
-prefixes_reached Other q cmd s v first r = r
+prefixes_reached Tab q cmd s v first r = resting_reached Tab (rested q) cmd s v first r
+prefixes_reached TabBack q cmd s v first r = resting_reached TabBack (rested q) cmd s v first r
+prefixes_reached Leave q cmd s v first r = resting_reached Leave (rested q) cmd s v first r
+prefixes_reached Other q cmd s v first r = resting_reached Other (rested q) cmd s v first r
+
+tabbed_reached : (wish : Wish) (q : Modal) (cmd : Cmd) (s : Setting) (v : Value) (first : List ℕ) → Reached first v → Reached first (met_tabbed wish q cmd s v).effect.value
+tabbed_reached Tab q cmd s v first r = tab_reached (completion_reply s v) true q cmd s v first r
+tabbed_reached (Search dir) q cmd s v first r = resting_reached (Search dir) (rested q) cmd s v first r
+tabbed_reached Up q cmd s v first r = resting_reached Up (rested q) cmd s v first r
+tabbed_reached Down q cmd s v first r = resting_reached Down (rested q) cmd s v first r
+tabbed_reached TabBack q cmd s v first r = resting_reached TabBack (rested q) cmd s v first r
+tabbed_reached Leave q cmd s v first r = resting_reached Leave (rested q) cmd s v first r
+tabbed_reached Other q cmd s v first r = resting_reached Other (rested q) cmd s v first r
+
+unlisted_reached : (wish : Wish) (q : Modal) (cmd : Cmd) (s : Setting) (v : Value) (first : List ℕ) → Reached first v → Reached first (unlisted wish q cmd s v).effect.value
+unlisted_reached wish q cmd s v first r = resting_reached wish (rested q) cmd s (refreshed s v).value first r
+
+lists_reached : (wish : Wish) (q : Modal) (cmd : Cmd) (s : Setting) (v : Value) (first : List ℕ) → Reached first v → Reached first (met_lists wish q cmd s v).effect.value
+lists_reached Tab q cmd s v first r = tab_reached (completion_reply s v) true q cmd s v first r
+lists_reached (Search dir) q cmd s v first r = unlisted_reached (Search dir) q cmd s v first r
+lists_reached Up q cmd s v first r = unlisted_reached Up q cmd s v first r
+lists_reached Down q cmd s v first r = unlisted_reached Down q cmd s v first r
+lists_reached TabBack q cmd s v first r = unlisted_reached TabBack q cmd s v first r
+lists_reached Leave q cmd s v first r = unlisted_reached Leave q cmd s v first r
+lists_reached Other q cmd s v first r = unlisted_reached Other q cmd s v first r
+
+cycles_reached : (wish : Wish) (q : Modal) (cmd : Cmd) (s : Setting) (v : Value) (first : List ℕ) → Reached first v → Reached first (met_cycles wish q cmd s v).effect.value
+cycles_reached Tab q cmd s v first r = cycle_reached (completion_reply s v) Forward q cmd s v first r
+cycles_reached TabBack q cmd s v first r = cycle_reached (completion_reply s v) Reverse q cmd s v first r
+cycles_reached Leave q cmd s v first r = given_up_reached q s v first r
+cycles_reached (Search dir) q cmd s v first r = resting_reached (Search dir) (rested q) cmd s v first r
+cycles_reached Up q cmd s v first r = resting_reached Up (rested q) cmd s v first r
+cycles_reached Down q cmd s v first r = resting_reached Down (rested q) cmd s v first r
+cycles_reached Other q cmd s v first r = resting_reached Other (rested q) cmd s v first r
 
 met_reached : (at : Standing) (q : Modal) (cmd : Cmd) (s : Setting) (v : Value) (first : List ℕ) → Reached first v → Reached first (met_by at q cmd s v).effect.value
 met_reached Off q cmd s v first r = r
 met_reached Rests q cmd s v first r = resting_reached (wish_of cmd) q cmd s v first r
 met_reached Prefixes q cmd s v first r = prefixes_reached (wish_of cmd) q cmd s v first r
 met_reached Searches q cmd s v first r = acted_reached (act_of cmd) q cmd s v first r
+met_reached Tabbed q cmd s v first r = tabbed_reached (wish_of cmd) q cmd s v first r
+met_reached Lists q cmd s v first r = lists_reached (wish_of cmd) q cmd s v first r
+met_reached Cycles q cmd s v first r = cycles_reached (wish_of cmd) q cmd s v first r
 
 one_reached : (step : ValueStep) (s : Setting) (v : Value) (first : List ℕ) → Sound v → Reached first v → Reached first (value_after s step v)
 one_reached (Done m cmd) s v first ok r = command_reached m cmd s v first ok r

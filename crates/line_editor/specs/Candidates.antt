@@ -1,6 +1,5 @@
 -- What Tab makes of a line: its only candidate, one of several in turn, or a list of them.
-use Rattle.std.specs.Prelude.{ℕ, ◌+◌, ◌-◌, ◌==◌, nat_lt, min, Bool, true, false, if◌then◌else◌, List, [], ◌∷◌, ◌++◌, map, take, length, codes, decimal, slice_get, is_some, Option, Some, None}
-use Rattle.std.specs.List.{concat}
+use Rattle.std.specs.Prelude.{ℕ, ◌+◌, ◌-◌, ◌==◌, ◌&&◌, nat_lt, min, Bool, true, false, if◌then◌else◌, List, [], ◌∷◌, ◌++◌, flat_map, take, length, codes, decimal, slice_get, is_some, Option, Some, None}
 use Rattle.line_buffer.specs.Line.{Line}
 use Rattle.line_config.specs.declared.settings.CompletionType.{CompletionType}
 use Rattle.line_config.specs.declared.settings.CompletionType.TheVariants as completion_type
@@ -33,7 +32,7 @@ only_completed found s v = completed_with found.start (only_put found v.line) s 
 -- ---- a list of candidates: each on a row of its own, at most so many, and how many more there are
 
 abbrev pub rows_of : List Offered → List ℕ
-rows_of candidates = concat (map (λ o. 10 ∷ o.display) candidates)
+rows_of candidates = flat_map (λ o. 10 ∷ o.display) candidates
 
 abbrev pub more_row : ℕ → ℕ → List ℕ
 more_row limit count =
@@ -103,6 +102,9 @@ cycle_back x = then_do (hit_back x.put) (placing x.place)
 abbrev pub next_turned : SearchDirection → Modal → Completion → Transition
 next_turned dir x found = turned (cycle_at dir x.at (length found.candidates)) found
 
+abbrev pub next_modal : SearchDirection → Completion → Line → Modal → Modal
+next_modal dir found l x = turned_modal (cycle_at dir x.at (length found.candidates)) found l x
+
 abbrev pub asked_turned : SearchDirection → Modal → Transition
 asked_turned dir x s v =
     then_do candidates_asked (next_turned dir x (candidates_given (completion_reply s v))) s v
@@ -111,12 +113,11 @@ abbrev pub cycled : SearchDirection → Modal → Transition
 cycled dir x = then_do (cycle_back x) (asked_turned dir x)
 
 abbrev pub asked_modal : SearchDirection → Modal → Setting → Value → Modal
-asked_modal dir x s v = let found = candidates_given (completion_reply s v) in
-    turned_modal (cycle_at dir x.at (length found.candidates)) found v.line x
+asked_modal dir x s v = next_modal dir (candidates_given (completion_reply s v)) v.line x
 
 -- ---- what it makes of a command
 
--- several candidates, by the setting; `lists`: they may be listed now
+-- several candidates for a word, by the setting; `lists`: they may be listed now
 abbrev pub several : CompletionType → Bool → Modal → Completion → Transition
 several completion_type.Circular lists x found = cycle_begun found
 several completion_type.List lists x found = listed lists x.limit found
@@ -134,14 +135,14 @@ abbrev pub offered_modal_if : Bool → Bool → Completion → Line → Modal �
 offered_modal_if false lists found l x = rested x
 offered_modal_if true lists found l x = several_modal x.completion_type lists found l x
 
-abbrev pub is_ambiguous : Completion → Bool
-is_ambiguous found = nat_lt 1 (length found.candidates)
+abbrev pub is_ambiguous : Completion → Line → Bool
+is_ambiguous found l = nat_lt 1 (length found.candidates) && begins_word found.start l
 
 abbrev pub offered : Bool → Modal → Completion → Transition
-offered lists x found = offered_if (is_ambiguous found) lists x found
+offered lists x found s v = offered_if (is_ambiguous found v.line) lists x found s v
 
 abbrev pub offered_modal : Bool → Completion → Line → Modal → Modal
-offered_modal lists found l x = offered_modal_if (is_ambiguous found) lists found l x
+offered_modal lists found l x = offered_modal_if (is_ambiguous found l) lists found l x
 
 abbrev pub tab_effect : Bool → Modal → Completion → Transition
 tab_effect lists x found = then_do candidates_asked (offered lists x found)

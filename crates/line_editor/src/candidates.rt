@@ -1,7 +1,8 @@
 //! What Tab makes of a line: its only candidate, one of several in turn, or a list of them.
-ghost use Rattle.std.specs.Prelude.{◌≡◌, ◌≤◌, true, is_some, map, option_copied, string_bytes, IfSome, OnOk, IsCharBoundary};
+ghost use Rattle.std.specs.Prelude.{◌≡◌, ◌≤◌, ◌++◌, true, is_some, map, take, option_copied, string_bytes, IfErr, IfSome, OnOk, IsCharBoundary};
 ghost use Rattle.line_config.specs.Refusals.{OrMemory};
-ghost use Rattle.line_editor.specs.Candidates.{only_put, only_completed, list_text, list_shown, listed, list_standing, candidate_at, turned, turned_modal, cycle_begun, cycle_first, cycle_back, asked_turned, asked_modal, cycled, cycle, several, several_modal, offered, offered_modal, tab_effect, tab};
+ghost use Rattle.line_config.specs.declared.errors.ReadlineError.TheVariants.{Memory};
+ghost use Rattle.line_editor.specs.Candidates.{only_put, only_completed, rows_of, more_row, list_text, list_shown, listed, list_standing, candidate_at, turned, turned_modal, cycle_begun, cycle_first, cycle_back, next_turned, next_modal, asked_turned, asked_modal, cycled, cycle, several, several_modal, offered, offered_modal, tab_effect, tab};
 ghost use Rattle.line_editor.specs.Completing.{elected};
 ghost use Rattle.line_editor.specs.Modal.{modal_of};
 
@@ -52,6 +53,45 @@ fn candidate_at<'c, C: Candidate>(
     if text.is_empty() { None } else { Some(text) }
 }
 
+/// Appends each candidate on a row of its own.
+fn push_rows<C: Candidate>(text: &mut String, candidates: &[C]) -> Result<(), ReadlineError>
+    ensures rows { OnOk result (string_bytes text.new
+        ≡ string_bytes text.old ++ rows_of (map C.offers candidates.now)) }
+    ensures fault { IfErr result (λ e. e ≡ Memory) }
+{
+    for candidate in candidates {
+        text.push('\n')?;
+        text.push_str(candidate.display())?;
+    }
+    Ok(())
+}
+
+/// Appends how many candidates of `count` there are after the first ones.
+fn push_more(
+    text: &mut String,
+    alloc: Global,
+    limit: usize,
+    count: usize,
+) -> Result<(), ReadlineError>
+    ensures more { OnOk result (string_bytes text.new
+        ≡ string_bytes text.old ++ more_row limit count) }
+    ensures fault { IfErr result (λ e. e ≡ Memory) }
+{
+    if limit < count {
+        let more = count - limit;
+        let row = format!(in alloc; "\n({more} more)")?;
+        text.push_str(row.as_str())?;
+    }
+    Ok(())
+}
+
+/// The first candidates of a list.
+fn first_of<C>(candidates: &[C], limit: usize) -> &[C]
+    ensures { result.now ≡ take limit candidates.now }
+{
+    if limit < candidates.len() { &candidates[..limit] } else { candidates }
+}
+
 /// The first candidates, each on a row of its own, and how many more there are.
 fn list_text<C: Candidate>(
     alloc: Global,
@@ -61,15 +101,8 @@ fn list_text<C: Candidate>(
     ensures { OrMemory result (λ s. string_bytes s ≡ list_text limit (map C.offers candidates.now)) }
 {
     let mut text = String::new(alloc);
-    for candidate in candidates.iter().take(limit) {
-        text.push('\n')?;
-        text.push_str(candidate.display())?;
-    }
-    if limit < candidates.len() {
-        let more = candidates.len() - limit;
-        let row = format!(in alloc; "\n({more} more)")?;
-        text.push_str(row.as_str())?;
-    }
+    push_rows(&mut text, first_of(candidates, limit))?;
+    push_more(&mut text, alloc, limit, candidates.len())?;
     Ok(text)
 }
 
@@ -237,7 +270,7 @@ impl<'p, 'h, Out: Renderer, H: Helper + Drop, Hi: History> State<'p, 'h, Out, H,
             (record { start = start; candidates = map H.Candidate.offers candidates.now })
             self.old.recorded.line (modal_of modal.old)) }
     {
-        if candidates.len() > 1 {
+        if candidates.len() > 1 && begins_word(&self.recorded.line, start) {
             return self.offer_several(modal, lists, start, candidates);
         }
         modal.standing = Standing::Rests;
@@ -287,6 +320,26 @@ impl<'p, 'h, Out: Renderer, H: Helper + Drop, Hi: History> State<'p, 'h, Out, H,
         Ok(())
     }
 
+    /// Puts the next one of several candidates in a direction.
+    fn turn_next(
+        &mut self,
+        modal: &mut ModalState,
+        dir: SearchDirection,
+        start: usize,
+        candidates: &[H::Candidate],
+    ) -> Result<(), ReadlineError>
+        requires { is_some self.old.helper ≡ true }
+        ensures does { Does (next_turned dir (modal_of modal.old)
+            (record { start = start; candidates = map H.Candidate.offers candidates.now }))
+            self.old self.new result }
+        ensures modal { OnOk result (modal_of modal.new ≡ next_modal dir
+            (record { start = start; candidates = map H.Candidate.offers candidates.now })
+            self.old.recorded.line (modal_of modal.old)) }
+    {
+        let at = cycle_at(dir, modal.at, candidates.len());
+        self.turn_to(modal, at, start, candidates)
+    }
+
     /// Asks the helper for candidates anew, and puts the next one in a direction.
     fn ask_and_turn(
         &mut self,
@@ -299,8 +352,7 @@ impl<'p, 'h, Out: Renderer, H: Helper + Drop, Hi: History> State<'p, 'h, Out, H,
             (setting_of self.old) (value_of self.old)) }
     {
         let (start, candidates) = self.candidates()?;
-        let at = cycle_at(dir, modal.at, candidates.len());
-        self.turn_to(modal, at, start, &candidates)
+        self.turn_next(modal, dir, start, &candidates)
     }
 
     /// The next candidate in a direction.

@@ -119,6 +119,7 @@ impl<'p, 'h, Out: Renderer, H: Helper + Drop, Hi: History> State<'p, 'h, Out, H,
             | Cmd::Noop
             | Cmd::QuotedInsert
             | Cmd::ReverseSearchHistory
+            | Cmd::SearchAgain(_)
             | Cmd::Suspend
             | Cmd::Unknown => Ok(()),
         }

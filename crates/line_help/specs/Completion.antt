@@ -14,10 +14,12 @@ use Rattle.line_help.specs.declared.quotes.Quote.{Quote}
 use Rattle.line_help.specs.declared.quotes.Quote.TheVariants.{Single}
 use Rattle.line_keys.specs.Replies.{Reply}
 
--- a candidate: the text to list, and the text to insert into the line
+-- a candidate: the text to list, the text to insert into the line, and the one to insert if there is
+-- no other candidate
 pub record Offered : Type 0 where
   pub display : List ℕ
   pub replacement : List ℕ
+  pub alone : List ℕ
 
 pub record Completion : Type 0 where
   pub start : ℕ
@@ -25,7 +27,11 @@ pub record Completion : Type 0 where
 
 -- a text to list and to insert
 abbrev pub text_offered : List ℕ → Offered
-text_offered text = record { display = text; replacement = text }
+text_offered text = record { display = text; replacement = text; alone = text }
+
+-- a word, which ends in a text if there is no other candidate
+abbrev pub word_offered : List ℕ → List ℕ → Offered
+word_offered end word = record { display = word; replacement = word; alone = word ++ end }
 
 abbrev pub nothing_offered : Completion
 nothing_offered = record { start = 0; candidates = [] }
@@ -138,7 +144,23 @@ word_completion words text = record {
 }
 
 -- its candidates take memory
+abbrev pub found_reply : Completion → Reply Completion
+found_reply found = record { answer = Some found; takes = nat_lt 0 (length found.candidates) }
+
 abbrev pub word_reply : List (List ℕ) → List ℕ → Reply Completion
-word_reply words text =
-    let found : Completion = word_completion words text in
-    record { answer = Some found; takes = nat_lt 0 (length found.candidates) }
+word_reply words text = found_reply (word_completion words text)
+
+-- words, and what ends one that is the only candidate
+pub record WholeWords : Type 0 where
+  pub words : List (List ℕ)
+  pub end : List ℕ
+
+abbrev pub whole_word_completion : WholeWords → List ℕ → Completion
+whole_word_completion whole text = record {
+  start = last_word_start text;
+  candidates =
+      map (word_offered whole.end) (words_for (drop (last_word_start text) text) whole.words);
+}
+
+abbrev pub whole_word_reply : WholeWords → List ℕ → Reply Completion
+whole_word_reply whole text = found_reply (whole_word_completion whole text)

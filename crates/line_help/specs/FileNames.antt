@@ -70,11 +70,10 @@ slash_of true = 47 ∷ []
 slash_of false = []
 
 abbrev pub offered_name : Quote → List ℕ → Named → Offered
-offered_name quote folder named = record {
-  display = named.name;
-  replacement = escaped ((folder ++ named.name)
-      ++ slash_of named.is_dir) (Some 92) (is_special quote) quote;
-}
+offered_name quote folder named =
+    let path : List ℕ = (folder ++ named.name) ++ slash_of named.is_dir in
+    let shown : List ℕ = escaped path (Some 92) (is_special quote) quote in
+    record { display = named.name; replacement = shown; alone = shown }
 
 abbrev pub name_begins : List ℕ → Named → Bool
 name_begins name named = starts_with nat_eq named.name name

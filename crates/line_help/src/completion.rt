@@ -15,7 +15,7 @@ use std::marker::Model;
 
 /// A candidate.
 pub trait Candidate: Drop {
-    // Its two texts.
+    // Its texts.
     ghost offers: { Self → Offered };
 
     /// The text to list.
@@ -25,6 +25,12 @@ pub trait Candidate: Drop {
     /// The text to insert into the line.
     fn replacement(&self) -> &str
         ensures { result.now ≡ (offers self.now).replacement };
+
+    /// The text to insert if there is no other candidate: its replacement, and, if that is a whole
+    /// word, what ends a word, such as a space. It is asked for only if the setting
+    /// `modal_commands` is on.
+    fn alone(&self) -> &str
+        ensures { result.now ≡ (offers self.now).alone };
 }
 
 impl<T: AsStr + Drop> Candidate for T {
@@ -35,6 +41,10 @@ impl<T: AsStr + Drop> Candidate for T {
     }
 
     fn replacement(&self) -> &str {
+        self.as_str()
+    }
+
+    fn alone(&self) -> &str {
         self.as_str()
     }
 }
@@ -58,6 +68,7 @@ impl Model for Pair {
       display = string_bytes p.display;
       replacement = string_bytes
           p.replacement;
+      alone = string_bytes p.replacement;
     } };
 }
 
@@ -84,6 +95,10 @@ impl Candidate for Pair {
     }
 
     fn replacement(&self) -> &str {
+        self.replacement.as_str()
+    }
+
+    fn alone(&self) -> &str {
         self.replacement.as_str()
     }
 }

@@ -44,7 +44,11 @@ fn begins_with(word: &str, beginning: &str) -> bool
 }
 
 /// The words that begin with a text, in their order.
-fn words_for(alloc: Global, words: &[String], beginning: &str) -> Result<Vec<String>, AllocError>
+pub(crate) fn words_for(
+    alloc: Global,
+    words: &[String],
+    beginning: &str,
+) -> Result<Vec<String>, AllocError>
     ensures words { IfOk result (λ found. map string_bytes found.items
         ≡ words_for beginning.now (map string_bytes words.now)) }
     ensures memory { IfErr result (λ e.

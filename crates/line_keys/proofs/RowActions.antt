@@ -75,28 +75,28 @@ module _ (shown : Shown) (n : ℕ) (p : Bool) (k : KeyEvent) where
 module _ (modal : Bool) (n : ℕ) (k : KeyEvent) where
   pub first_table : (cmd : Cmd) → Some (Give cmd) ≡ look n true k vi_move_rows → Some (Give cmd) ≡ action_of modal n k
   unfolding action_of
-  first_table cmd is = in_first n true k vi_move_rows (vi_edit_rows ++ (vi_turn_rows modal ++ vi_reading_rows)) (Give cmd) is
+  first_table cmd is = in_first n true k vi_move_rows (vi_edit_rows modal ++ (vi_turn_rows modal ++ vi_reading_rows)) (Give cmd) is
 
-  pub second_table : (cmd : Cmd) → None ≡ look n true k vi_move_rows → Some (Give cmd) ≡ look n true k vi_edit_rows → Some (Give cmd) ≡ action_of modal n k
+  pub second_table : (cmd : Cmd) → None ≡ look n true k vi_move_rows → Some (Give cmd) ≡ look n true k (vi_edit_rows modal) → Some (Give cmd) ≡ action_of modal n k
   unfolding action_of
   second_table cmd none is =
-      in_rest n true k vi_move_rows (vi_edit_rows ++ (vi_turn_rows modal ++ vi_reading_rows)) (Some (Give cmd)) none
-      (in_first n true k vi_edit_rows (vi_turn_rows modal ++ vi_reading_rows) (Give cmd) is)
+      in_rest n true k vi_move_rows (vi_edit_rows modal ++ (vi_turn_rows modal ++ vi_reading_rows)) (Some (Give cmd)) none
+      (in_first n true k (vi_edit_rows modal) (vi_turn_rows modal ++ vi_reading_rows) (Give cmd) is)
 
-  pub third_table : (action : ActionKey) → None ≡ look n true k vi_move_rows → None ≡ look n true k vi_edit_rows → Some action ≡ look n true k (vi_turn_rows modal)
+  pub third_table : (action : ActionKey) → None ≡ look n true k vi_move_rows → None ≡ look n true k (vi_edit_rows modal) → Some action ≡ look n true k (vi_turn_rows modal)
       → Some action ≡ action_of modal n k
   unfolding action_of
   third_table action none nor is =
-      in_rest n true k vi_move_rows (vi_edit_rows ++ (vi_turn_rows modal ++ vi_reading_rows)) (Some action) none
-      (in_rest n true k vi_edit_rows (vi_turn_rows modal ++ vi_reading_rows) (Some action) nor
+      in_rest n true k vi_move_rows (vi_edit_rows modal ++ (vi_turn_rows modal ++ vi_reading_rows)) (Some action) none
+      (in_rest n true k (vi_edit_rows modal) (vi_turn_rows modal ++ vi_reading_rows) (Some action) nor
       (in_first n true k (vi_turn_rows modal) vi_reading_rows action is))
 
-  pub fourth_table : (o : Option ActionKey) → None ≡ look n true k vi_move_rows → None ≡ look n true k vi_edit_rows → None ≡ look n true k (vi_turn_rows modal)
+  pub fourth_table : (o : Option ActionKey) → None ≡ look n true k vi_move_rows → None ≡ look n true k (vi_edit_rows modal) → None ≡ look n true k (vi_turn_rows modal)
       → o ≡ look n true k vi_reading_rows → o ≡ action_of modal n k
   unfolding action_of
   fourth_table o none nor neither is =
-      in_rest n true k vi_move_rows (vi_edit_rows ++ (vi_turn_rows modal ++ vi_reading_rows)) o none
-      (in_rest n true k vi_edit_rows (vi_turn_rows modal ++ vi_reading_rows) o nor
+      in_rest n true k vi_move_rows (vi_edit_rows modal ++ (vi_turn_rows modal ++ vi_reading_rows)) o none
+      (in_rest n true k (vi_edit_rows modal) (vi_turn_rows modal ++ vi_reading_rows) o nor
       (in_rest n true k (vi_turn_rows modal) vi_reading_rows o neither is))
 
 module _ (n : ℕ) (k : KeyEvent) where

@@ -5,8 +5,9 @@ use Rattle.line_buffer.specs.declared.types.Word.TheVariants.{Big, Vi}
 use Rattle.line_buffer.specs.declared.types.At.TheVariants.{Start, BeforeEnd}
 use Rattle.line_buffer.specs.declared.types.Anchor.TheVariants.{After, Before}
 use Rattle.line_keys.specs.declared.command.Cmd.{Cmd}
-use Rattle.line_keys.specs.declared.command.Cmd.TheVariants.{Abort, ClearScreen, Complete, CompleteBackward, CompleteHint, ForwardSearchHistory, Kill, LineDownOrNextHistory, LineUpOrPreviousHistory, Move, NextHistory, Noop, PreviousHistory, Replace, ReplaceChar, ReverseSearchHistory, Undo, Yank}
+use Rattle.line_keys.specs.declared.command.Cmd.TheVariants.{Abort, ClearScreen, Complete, CompleteBackward, CompleteHint, ForwardSearchHistory, Kill, LineDownOrNextHistory, LineUpOrPreviousHistory, Move, NextHistory, Noop, PreviousHistory, Replace, ReplaceChar, ReverseSearchHistory, SearchAgain, Undo, Yank}
 use Rattle.line_keys.specs.declared.command.InputMode.TheVariants.{Insert, Replace as Overwriting}
+use Rattle.line_keys.specs.declared.command.SearchAgain.TheVariants.{Same, Opposite}
 use Rattle.line_keys.specs.declared.key.KeyCode.TheVariants.{BackTab, Backspace, End, Esc, Right, Tab}
 use Rattle.line_keys.specs.declared.key.KeyEvent.{KeyEvent}
 use Rattle.line_keys.specs.declared.keymap.vi.motion.Search.TheVariants.{Forward, ForwardBefore, Backward, BackwardAfter}
@@ -70,8 +71,8 @@ vi_move_rows =
     ∷ []
 
 -- edits without a motion, and other rows
-abbrev pub vi_edit_rows : List (Row Action)
-vi_edit_rows =
+abbrev pub vi_edit_rows : Bool → List (Row Action)
+vi_edit_rows modal =
     char (codes "x") none (by_count (λ n. Give (Kill (ForwardChar n))))
     ∷ char (codes "X") none (by_count (λ n. Give (Kill (BackwardChar n))))
     ∷ char (codes "D") none (always (Give (Kill EndOfLine)))
@@ -79,6 +80,8 @@ vi_edit_rows =
     ∷ char (codes "p") none (by_count (λ n. Give (Yank n After)))
     ∷ char (codes "P") none (by_count (λ n. Give (Yank n Before)))
     ∷ char (codes "u") none (by_count (λ n. Give (Undo n)))
+    ∷ only modal (char (codes "n") none (always (Give (SearchAgain Same))))
+    ∷ only modal (char (codes "N") none (always (Give (SearchAgain Opposite))))
     ∷ char (codes "N") ctrl (always (Give NextHistory))
     ∷ char (codes "P") ctrl (always (Give PreviousHistory))
     ∷ char (codes "L") ctrl (always (Give ClearScreen))
@@ -122,7 +125,8 @@ vi_reading_rows =
     ∷ []
 
 abbrev pub vi_command_rows : Bool → List (Row Action)
-vi_command_rows modal = vi_move_rows ++ (vi_edit_rows ++ (vi_turn_rows modal ++ vi_reading_rows))
+vi_command_rows modal =
+    vi_move_rows ++ (vi_edit_rows modal ++ (vi_turn_rows modal ++ vi_reading_rows))
 
 -- the action of a key in command mode, if it has a row
 unfoldable pub action_of : Bool → ℕ → KeyEvent → Option Action

@@ -72,6 +72,9 @@ pub enum Cmd {
     Replace(Movement, Option<Text>),
     /// reverse-search-history
     ReverseSearchHistory,
+    /// Vi's `n` and `N`: looks for the last searched text again. It acts only if the setting
+    /// `modal_commands` is on.
+    SearchAgain(SearchAgain),
     /// self-insert
     SelfInsert(RepeatCount, char),
     /// The signal that Ctrl-Z sends.
@@ -145,6 +148,7 @@ impl Cmd {
                 copied(alloc, text)?,
             ),
             Cmd::ReverseSearchHistory => Cmd::ReverseSearchHistory,
+            Cmd::SearchAgain(way) => Cmd::SearchAgain(*way),
             Cmd::SelfInsert(n, c) => Cmd::SelfInsert(*n, *c),
             Cmd::Suspend => Cmd::Suspend,
             Cmd::TransposeChars => Cmd::TransposeChars,
@@ -245,6 +249,15 @@ pub(crate) fn recounted(movement: &Movement, new: Option<RepeatCount>) -> Moveme
         Movement::BeginningOfBuffer => Movement::BeginningOfBuffer,
         Movement::EndOfBuffer => Movement::EndOfBuffer,
     }
+}
+
+/// In which direction the history is searched again.
+#[derive(Clone, Copy, Debug, PartialEq, Eq)]
+pub enum SearchAgain {
+    /// That of the last search.
+    Same,
+    /// The other one.
+    Opposite,
 }
 
 /// Why a line is redrawn.

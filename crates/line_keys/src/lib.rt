@@ -16,7 +16,7 @@ pub mod texts;
 pub mod tty;
 
 pub use binding::{Bindings, EventMap};
-pub use command::{Cmd, CmdKind, InputMode};
+pub use command::{Cmd, CmdKind, InputMode, SearchAgain};
 pub use events::{Event, Keys};
 pub use flags::Modifiers;
 pub use handler::{ConditionalEventHandler, Decides, EventContext, EventHandler};

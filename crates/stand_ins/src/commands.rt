@@ -3,7 +3,7 @@
 
 use crate::tables::{meant, named, word_and_rest};
 use line_buffer::{Anchor, At, CharSearch, Movement, RepeatCount, Word};
-use line_keys::{Cmd, Text};
+use line_keys::{Cmd, SearchAgain, Text};
 use std::alloc::Global;
 
 // The character of a word.
@@ -144,11 +144,19 @@ fn changing_command(name: &str) -> Option<Cmd> {
     Some(cmd)
 }
 
-// A command with a movement, and perhaps a text after `with`.
+// A command with a movement, and perhaps a text after `with`; or one with the direction of a search.
 fn moving_command(alloc: Global, name: &str, rest: &str) -> Option<Cmd> {
     match name {
         "Replace" => replacement(alloc, rest),
+        "SearchAgain" => Some(Cmd::SearchAgain(way_named(rest))),
         _ => command_over(name, movement_named(alloc, rest)?),
+    }
+}
+
+fn way_named(name: &str) -> SearchAgain {
+    match name {
+        "Opposite" => SearchAgain::Opposite,
+        _ => SearchAgain::Same,
     }
 }
 

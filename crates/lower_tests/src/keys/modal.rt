@@ -112,7 +112,54 @@ const SEARCHING: &str = "
     C-G                  | Abort in insert mode
 ";
 
+// In command mode the last search goes on, in its direction or in the other one. A count changes
+// nothing, and no change is remembered.
+const AGAIN: &str = "
+    Esc n x              | <done> Move(BackwardChar(1)); Unknown; Kill(ForwardChar(1))
+    Esc N x              | <done> Move(BackwardChar(1)); Unknown; Kill(ForwardChar(1))
+    A-n                  | <done> Unknown
+
+    modal:
+    Esc n x              | <done> Move(BackwardChar(1)); SearchAgain(Same); Kill(ForwardChar(1))
+    Esc N x              | <done> Move(BackwardChar(1)); SearchAgain(Opposite); Kill(ForwardChar(1))
+    Esc 3 n              | <done> Move(BackwardChar(1)); <3> <line> SearchAgain(Same)
+    Esc 2 N              | <done> Move(BackwardChar(1)); <2> <line> SearchAgain(Opposite)
+    A-n x                | <done> SearchAgain(Same); Kill(ForwardChar(1))
+    A-N                  | <done> SearchAgain(Opposite)
+    n N                  | SelfInsert(1, 'n'); SelfInsert(1, 'N')
+    Esc R n N            | <done> Move(BackwardChar(1)); Replace(ForwardChar(0), None); Overwrite('n'); Overwrite('N')
+    Esc d n x            | <done> Move(BackwardChar(1)); Unknown; Kill(ForwardChar(1))
+    Esc f n              | <done> Move(BackwardChar(1)); Move(ViCharSearch(1, Forward('n')))
+    Esc r N              | <done> Move(BackwardChar(1)); ReplaceChar(1, 'N')
+    Esc C-N A-n S-n      | <done> Move(BackwardChar(1)); NextHistory; Unknown; Unknown
+    Esc X n .            | <done> Move(BackwardChar(1)); Kill(BackwardChar(1)); SearchAgain(Same); Kill(BackwardChar(1))
+
+    bind: n              = Repaint
+    bind: C-T            = SearchAgain Opposite
+    Esc n                | <done> Move(BackwardChar(1)); Repaint
+    C-T                  | SearchAgain(Opposite)
+    Esc 3 C-T            | <done> Move(BackwardChar(1)); <3> <line> SearchAgain(Opposite)
+
+    unbind:
+    modes:
+    Esc n                | <done> Move(BackwardChar(1)) in command mode; SearchAgain(Same) in command mode
+    Esc N                | <done> Move(BackwardChar(1)) in command mode; SearchAgain(Opposite) in command mode
+";
+
+// In Emacs mode both are characters, and the command comes by a binding alone.
+const AGAIN_IN_EMACS: &str = "
+    bind: C-T            = SearchAgain Same
+    n N                  | SelfInsert(1, 'n'); SelfInsert(1, 'N')
+    C-T                  | SearchAgain(Same)
+    A-3 C-T              | <3> <line> SearchAgain(Same)
+
+    modal:
+    n N                  | SelfInsert(1, 'n'); SelfInsert(1, 'N')
+    C-T                  | SearchAgain(Same)
+";
+
 #[test]
 fn modal_keys_of_vi(rt: HostRuntime) -> Result<(), Fail> {
-    plays(rt.alloc(), EditMode::Vi, &[VI_QUOTED, SEARCHING])
+    plays(rt.alloc(), EditMode::Vi, &[VI_QUOTED, SEARCHING, AGAIN])?;
+    plays(rt.alloc(), EditMode::Emacs, &[AGAIN_IN_EMACS])
 }

@@ -105,6 +105,8 @@ const COMMANDS: &str = "
     %             | Unknown
     ~             | Unknown
     /             | Unknown
+    n             | Unknown
+    N             | Unknown
     é             | Unknown
     C-C           | Interrupt
     C-\\          | Interrupt

@@ -9,7 +9,7 @@ ghost use Rattle.line_keys.specs.declared.command.Cmd.TheVariants.{Replace};
 ghost use Rattle.line_keys.specs.declared.command.InputMode.TheVariants.{Insert};
 ghost use Rattle.line_keys.specs.declared.keymap.vi.table.Action.TheVariants.{Give, Turn};
 
-use crate::command::{Cmd, InputMode};
+use crate::command::{Cmd, InputMode, SearchAgain};
 use crate::flags::Modifiers;
 use crate::key::{KeyCode, KeyEvent};
 use crate::keymap::vi::motion::Search;
@@ -153,8 +153,8 @@ fn vi_move_row(key: KeyEvent, n: RepeatCount) -> Option<Cmd>
 }
 
 // The rows of edits without a motion, and other rows.
-fn vi_edit_row(key: KeyEvent, n: RepeatCount) -> Option<Cmd>
-    ensures { option_map Give result ≡ look n true key vi_edit_rows }
+fn vi_edit_row(modal: bool, key: KeyEvent, n: RepeatCount) -> Option<Cmd>
+    ensures { option_map Give result ≡ look n true key (vi_edit_rows modal) }
 {
     use KeyCode as K;
     use KeyEvent as E;
@@ -167,6 +167,8 @@ fn vi_edit_row(key: KeyEvent, n: RepeatCount) -> Option<Cmd>
         E(K::Char('p'), M::NONE) => Some(Cmd::Yank(n, Anchor::After)),
         E(K::Char('P'), M::NONE) => Some(Cmd::Yank(n, Anchor::Before)),
         E(K::Char('u'), M::NONE) => Some(Cmd::Undo(n)),
+        E(K::Char('n'), M::NONE) if modal => Some(Cmd::SearchAgain(SearchAgain::Same)),
+        E(K::Char('N'), M::NONE) if modal => Some(Cmd::SearchAgain(SearchAgain::Opposite)),
         E(K::Char('x'), M::NONE) => Some(Cmd::Kill(Movement::ForwardChar(n))),
         E(K::Char('X'), M::NONE) => Some(Cmd::Kill(Movement::BackwardChar(n))),
         E(K::Char('G'), M::CTRL) => Some(Cmd::Abort),
@@ -255,7 +257,7 @@ pub(crate) fn vi_command_row(modal: bool, key: KeyEvent, n: RepeatCount) -> Opti
     if let Some(cmd) = vi_move_row(key, n) {
         return Some(Action::Give(cmd));
     }
-    if let Some(cmd) = vi_edit_row(key, n) {
+    if let Some(cmd) = vi_edit_row(modal, key, n) {
         return Some(Action::Give(cmd));
     }
     match vi_turn_row(modal, key, n) {
