@@ -28,7 +28,7 @@ NAMES = {
     "Rattle.stand_ins.specs.Handlers": ["hint_or_kill", "one_way"],
     "Rattle.stand_ins.specs.declared.handlers.OneWay.TheVariants": ["Count", "Fails", "Nothing"],
     "Rattle.worked_rows.specs.Playing": ["Row", "row"],
-    "Rattle.worked_rows.specs.Settings": ["Settings", "adding", "aide", "always", "at_once", "bound", "command", "counting",
+    "Rattle.worked_rows.specs.Settings": ["Settings", "adding", "aide", "aide_ending", "always", "at_once", "bound", "command", "counting",
                                           "limited", "listed", "modal", "of_size", "plain", "vi"],
 }
 # A text of more such bytes in a row is written with their number.
@@ -143,7 +143,7 @@ def binding_term(word):
 # ---- settings
 
 KNOWN = {"", "vi", "adding", "modal", "listed", "at-once", "bare", "helped", "keys@end"}
-VALUES = ("bind:", "clusters:", "columns:", "limit:", "loaded:", "prompt:", "size:", "words:")
+VALUES = ("bind:", "clusters:", "columns:", "ends:", "limit:", "loaded:", "prompt:", "size:", "words:")
 
 
 def config_term(row):
@@ -159,7 +159,9 @@ def config_term(row):
 def helping_term(row):
     words = row.value("words:", "")
     known = f"Some ({listed(within(term(meant(it))) for it in words.split(','))})" if words else "None"
-    return f"aide {str('helped' in row.settings).lower()} {within(known)}"
+    end = row.value("ends:", "")
+    name = f"aide_ending {within(term(meant(end)))}" if end else "aide"
+    return f"{name} {str('helped' in row.settings).lower()} {within(known)}"
 
 
 def settings_fields(row):

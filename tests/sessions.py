@@ -92,7 +92,7 @@ class Row:
     def is_played(self):
         """Whether the program can play the row: it binds no key, gives no hint, keeps a hundred lines, and lists candidates."""
         words = self.value("words:", "")
-        own = any(word.startswith(("bind:", "size:", "limit:", "at-once", "advised")) for word in self.settings)
+        own = any(word.startswith(("bind:", "size:", "limit:", "at-once", "advised", "ends:")) for word in self.settings)
         hinted = ("helped" in self.settings or words) and self.value("loaded:", "")
         in_turn = "modal" in self.settings and words and "listed" not in self.settings
         return not (own or hinted or in_turn or "" in words.split(",")[1:] or words.startswith(","))

@@ -11,8 +11,8 @@ use session_words::aide::{Aide, aide_of};
 use session_words::bound::{Action, Bound, bound_by};
 use session_words::faults::{Faults, faults_of, sink_of};
 use session_words::notation::{
-    Asking, Row, Setting, after, display_meant, field, lines_meant, number_after, row_of, setting_of,
-    text_meant, typed,
+    Asking, Row, Setting, after, display_meant, field, lines_meant, number_after, row_of,
+    setting_of, text_meant, typed,
 };
 use stand_ins::devices::{Pieces, Turns};
 use stand_ins::rows::raised;

@@ -3,7 +3,7 @@ use Rattle.line_config.specs.declared.errors.ReadlineError.TheVariants.{Interrup
 use Rattle.line_keys.specs.declared.key.KeyCode.TheVariants.{Esc}
 use Rattle.std.specs.Prelude.{List, [], ◌∷◌, ◌++◌, None, Some, true, false, codes, encode_utf8_all}
 use Rattle.worked_rows.specs.Playing.{Row, row}
-use Rattle.worked_rows.specs.Settings.{Settings, aide, at_once, limited, listed, modal, plain, vi}
+use Rattle.worked_rows.specs.Settings.{Settings, aide, aide_ending, at_once, limited, listed, modal, plain, vi}
 
 -- modal listed words:alpha,alpine
 abbrev pub settings_7 : Settings
@@ -1395,6 +1395,120 @@ row_212 = record (row 212 settings_212 (codes "al\t\t\r") (codes "alp\n")) {
       codes "\u{1b}[m\u{1b}[m\u{7}\r\n\r\u{1b}[J\u{1b}[m> \u{1b}[m\u{1b}[m\u{1b}[m\r\n");
 }
 
+-- modal words:alpha ends:␠
+abbrev pub settings_216 : Settings
+settings_216 = record plain {
+  config = modal plain.config;
+  helping = aide_ending (codes " ") false (Some ((codes "alpha") ∷ []));
+}
+
+-- al Tab x Enter = alpha␠x | shows {} a l {alpha␠} x ␍␊ {} ␍␊
+abbrev pub row_216 : Row
+row_216 = record (row 216 settings_216 (codes "al\tx\r") (codes "alpha x\n")) {
+  shows = Some
+      (codes "\r\u{1b}[J\u{1b}[m> \u{1b}[m\u{1b}[m\u{1b}[mal\r\u{1b}[J\u{1b}[m> \u{1b}[malph" ++
+      codes "a \u{1b}[m\u{1b}[mx\r\n\r\u{1b}[J\u{1b}[m> \u{1b}[m\u{1b}[m\u{1b}[m\r\n");
+}
+
+-- al Tab C-_ Enter = al | shows {} a l {alpha␠} {al} ␍␊ {} ␍␊
+abbrev pub row_217 : Row
+row_217 = record (row 217 settings_216 (codes "al\t\u{1f}\r") (codes "al\n")) {
+  shows = Some
+      (codes "\r\u{1b}[J\u{1b}[m> \u{1b}[m\u{1b}[m\u{1b}[mal\r\u{1b}[J\u{1b}[m> \u{1b}[malph" ++
+      codes "a \u{1b}[m\u{1b}[m\r\u{1b}[J\u{1b}[m> \u{1b}[mal\u{1b}[m\u{1b}[m\r\n\r\u{1b}[J" ++
+      codes "\u{1b}[m> \u{1b}[m\u{1b}[m\u{1b}[m\r\n");
+}
+
+-- al Tab Tab Enter = alpha␠alpha␠ | shows {} a l {alpha␠} {alpha␠alpha␠} ␍␊ {} ␍␊
+abbrev pub row_218 : Row
+row_218 = record (row 218 settings_216 (codes "al\t\t\r") (codes "alpha alpha \n")) {
+  shows = Some
+      (codes "\r\u{1b}[J\u{1b}[m> \u{1b}[m\u{1b}[m\u{1b}[mal\r\u{1b}[J\u{1b}[m> \u{1b}[malph" ++
+      codes "a \u{1b}[m\u{1b}[m\r\u{1b}[J\u{1b}[m> \u{1b}[malpha alpha \u{1b}[m\u{1b}[m\r\n" ++
+      codes "\r\u{1b}[J\u{1b}[m> \u{1b}[m\u{1b}[m\u{1b}[m\r\n");
+}
+
+-- al␠x Left Left Tab y Enter = alpha␠y␠x | shows {} a l ␠ x ␛[1D ␛[1D {alpha␠␠x}␛[2D {alpha␠y␠x}␛[2D ␛[2C␍␊ {} ␍␊
+abbrev pub row_219 : Row
+row_219 = record (row 219 settings_216 (codes "al x\u{1b}[D\u{1b}[D\ty\r") (codes "alpha y x\n")) {
+  shows = Some (codes "\r\u{1b}[J\u{1b}[m> \u{1b}[m\u{1b}[m\u{1b}[mal x\u{1b}[1D\u{1b}[1D\r\u{1b}[J"
+      ++ codes "\u{1b}[m> \u{1b}[malpha  x\u{1b}[m\u{1b}[m\u{1b}[2D\r\u{1b}[J\u{1b}[m> \u{1b}[" ++
+      codes "malpha y x\u{1b}[m\u{1b}[m\u{1b}[2D\u{1b}[2C\r\n\r\u{1b}[J\u{1b}[m> \u{1b}[m" ++
+      codes "\u{1b}[m\u{1b}[m\r\n");
+}
+
+-- modal listed words:alpha,alpine ends:␠
+abbrev pub settings_222 : Settings
+settings_222 = record plain {
+  config = listed (modal plain.config);
+  helping = aide_ending (codes " ") false (Some ((codes "alpha") ∷ (codes "alpine") ∷ []));
+}
+
+-- al Tab Tab h Tab Enter = alpha␠ | shows {} a l {alp} {alp␛[m␍␊alpha␍␊alpine␛[m␛[2A␛[1D {alp} h {alpha␠} ␍␊ {} ␍␊
+abbrev pub row_222 : Row
+row_222 = record (row 222 settings_222 (codes "al\t\th\t\r") (codes "alpha \n")) {
+  shows = Some
+      (codes "\r\u{1b}[J\u{1b}[m> \u{1b}[m\u{1b}[m\u{1b}[mal\r\u{1b}[J\u{1b}[m> \u{1b}[malp" ++
+      codes "\u{1b}[m\u{1b}[m\r\u{1b}[J\u{1b}[m> \u{1b}[malp\u{1b}[m\r\nalpha\r\nalpine" ++
+      codes "\u{1b}[m\u{1b}[2A\u{1b}[1D\r\u{1b}[J\u{1b}[m> \u{1b}[malp\u{1b}[m\u{1b}[mh\r" ++
+      codes "\u{1b}[J\u{1b}[m> \u{1b}[malpha \u{1b}[m\u{1b}[m\r\n\r\u{1b}[J\u{1b}[m> \u{1b}" ++
+      codes "[m\u{1b}[m\u{1b}[m\r\n");
+}
+
+-- modal words:alpha,alpine ends:␠
+abbrev pub settings_225 : Settings
+settings_225 = record plain {
+  config = modal plain.config;
+  helping = aide_ending (codes " ") false (Some ((codes "alpha") ∷ (codes "alpine") ∷ []));
+}
+
+-- al Tab Tab Enter = alpine | shows {} a l {alpha} {alpine} ␍␊ {} ␍␊
+abbrev pub row_225 : Row
+row_225 = record (row 225 settings_225 (codes "al\t\t\r") (codes "alpine\n")) {
+  shows = Some
+      (codes "\r\u{1b}[J\u{1b}[m> \u{1b}[m\u{1b}[m\u{1b}[mal\r\u{1b}[J\u{1b}[m> \u{1b}[malph" ++
+      codes "a\u{1b}[m\u{1b}[m\r\u{1b}[J\u{1b}[m> \u{1b}[malpine\u{1b}[m\u{1b}[m\r\n\r" ++
+      codes "\u{1b}[J\u{1b}[m> \u{1b}[m\u{1b}[m\u{1b}[m\r\n");
+}
+
+-- alph Tab x Enter = alpha␠x | shows {} a l p h {alpha␠} x ␍␊ {} ␍␊
+abbrev pub row_226 : Row
+row_226 = record (row 226 settings_225 (codes "alph\tx\r") (codes "alpha x\n")) {
+  shows = Some
+      (codes "\r\u{1b}[J\u{1b}[m> \u{1b}[m\u{1b}[m\u{1b}[malph\r\u{1b}[J\u{1b}[m> \u{1b}[mal" ++
+      codes "pha \u{1b}[m\u{1b}[mx\r\n\r\u{1b}[J\u{1b}[m> \u{1b}[m\u{1b}[m\u{1b}[m\r\n");
+}
+
+-- modal vi words:"my␠file ends:"
+abbrev pub settings_229 : Settings
+settings_229 = record plain {
+  config = modal (vi plain.config);
+  helping = aide_ending (codes "\"") false (Some ((codes "\"my file") ∷ []));
+}
+
+-- ls␠"my Tab Enter = ls␠"my␠file" | shows {} l s ␠ " m y {ls␠"my␠file"} ␍␊ {} ␍␊
+abbrev pub row_229 : Row
+row_229 = record (row 229 settings_229 (codes "ls \"my\t\r") (codes "ls \"my file\"\n")) {
+  shows = Some
+      (codes "\r\u{1b}[J\u{1b}[m> \u{1b}[m\u{1b}[m\u{1b}[mls \"my\r\u{1b}[J\u{1b}[m> \u{1b}[" ++
+      codes "mls \"my file\"\u{1b}[m\u{1b}[m\r\n\r\u{1b}[J\u{1b}[m> \u{1b}[m\u{1b}[m\u{1b}[" ++
+      codes "m\r\n");
+}
+
+-- words:alpha ends:␠
+abbrev pub settings_232 : Settings
+settings_232 = record plain {
+  helping = aide_ending (codes " ") false (Some ((codes "alpha") ∷ []));
+}
+
+-- al Tab Enter = alpha | shows {} a l {alpha} ␍␊ {} ␍␊
+abbrev pub row_232 : Row
+row_232 = record (row 232 settings_232 (codes "al\t\r") (codes "alpha\n")) {
+  shows = Some
+      (codes "\r\u{1b}[J\u{1b}[m> \u{1b}[m\u{1b}[m\u{1b}[mal\r\u{1b}[J\u{1b}[m> \u{1b}[malph" ++
+      codes "a\u{1b}[m\u{1b}[m\r\n\r\u{1b}[J\u{1b}[m> \u{1b}[m\u{1b}[m\u{1b}[m\r\n");
+}
+
 abbrev pub candidates_rows : List Row
 candidates_rows = row_7 ∷ row_8 ∷ row_9 ∷ row_10 ∷ row_11 ∷ row_12 ∷ row_13 ∷ row_14 ∷ row_15 ∷
     row_16 ∷ row_17 ∷ row_18 ∷ row_19 ∷ row_20 ∷ row_21 ∷ row_22 ∷ row_23 ∷ row_24 ∷ row_25 ∷ row_26
@@ -1409,4 +1523,5 @@ candidates_rows = row_7 ∷ row_8 ∷ row_9 ∷ row_10 ∷ row_11 ∷ row_12 ∷
     row_156 ∷ row_157 ∷ row_160 ∷ row_161 ∷ row_162 ∷ row_163 ∷ row_164 ∷ row_165 ∷ row_166 ∷
     row_170 ∷ row_171 ∷ row_172 ∷ row_175 ∷ row_176 ∷ row_179 ∷ row_182 ∷ row_186 ∷ row_187 ∷
     row_188 ∷ row_191 ∷ row_194 ∷ row_195 ∷ row_196 ∷ row_197 ∷ row_198 ∷ row_202 ∷ row_205 ∷
-    row_208 ∷ row_212 ∷ []
+    row_208 ∷ row_212 ∷ row_216 ∷ row_217 ∷ row_218 ∷ row_219 ∷ row_222 ∷ row_225 ∷ row_226 ∷
+    row_229 ∷ row_232 ∷ []
