@@ -78,7 +78,7 @@ const BY_WHOLE_WORDS: &str = "
 #[test]
 fn whole_words_complete(rt: HostRuntime) -> Result<(), Fail> {
     let words = words_in(rt.alloc(), LISTED)?;
-    let completer = WholeWordCompleter::new(words, String::from_str(rt.alloc(), " ")?);
+    let completer = WholeWordCompleter::new(words, " ");
     rows_hold(rt.alloc(), &mut Asked { completer }, BY_WHOLE_WORDS)
 }
 

@@ -8,6 +8,7 @@ use Rattle.line_buffer.specs.Line.{Line}
 use Rattle.line_buffer.specs.declared.types.Anchor.TheVariants.{Before}
 use Rattle.line_buffer.specs.declared.types.CharSearch.{CharSearch}
 use Rattle.line_buffer.specs.declared.layout.GraphemeClusterMode.TheVariants.{Unicode}
+use Rattle.line_config.specs.Config.{default_config}
 use Rattle.line_config.specs.declared.device.Last.{Last}
 use Rattle.line_config.specs.declared.device.Last.TheVariants.{End}
 use Rattle.line_config.specs.declared.settings.EditMode.{EditMode}
@@ -339,7 +340,7 @@ unfolding line_script
 pasted_lines_are_accepted n g x text more last none free paste is =
     let s : Setting = setting_in g x.history.kept.entries in
     let e = line_begun s (first_value s) in
-    let k = kept e.value (new_input g.config) x.ring (modal_first g.config.modal_commands x.query) x.coming in
+    let k = kept e.value (new_input g.config) x.ring (modal_first g.config x.query) x.coming in
     let a = pastes_are_accepted n s g.custom g.config.indent_size k text more last none free (record { empty = refl; grows = refl }) (first_rests g.config.modal_commands) paste is in
     record { outcome = a.outcome; rest_is = a.rest_is }
 
@@ -354,7 +355,7 @@ plain_setting = record { prompt = []; column = 0; mode = Unicode; hooks = None; 
 pasted_in : InputMode → List ℕ → Played LineAsk LineState ReadlineError (List ℕ)
 pasted_in input_mode text =
     played_from plain_setting 2 (turns_script 2 nothing_bound)
-    (kept (empty_at 0) (input_with Vi input_mode Noop None false) (new_ring 60) (modal_first false []) (coming_from Vi (sent_as_paste text ++ 0x0D ∷ codes "b") End))
+    (kept (empty_at 0) (input_with Vi input_mode Noop None false) (new_ring 60) (modal_first default_config []) (coming_from Vi (sent_as_paste text ++ 0x0D ∷ codes "b") End))
 
 later : Coming
 later = Pressed (codes "b") (key_with (Char 0x62) none) (NoMore [] AtItsEnd [])

@@ -1,4 +1,5 @@
--- A command line that may have `--extended` in it: where that word stands, and what is answered to the others.
+-- A command line that may have `--extended` in it: the place of that word, and what is answered to
+-- the others.
 use Rattle.std.specs.Prelude.{◌≡◌, ℕ, suc, Bool, if◌then◌else◌, ◌||◌, List, [], ◌∷◌, remove, bytes_eq, codes, Option, Some, None, is_some, option_map, ⊤}
 use Rattle.std.specs.Option.{option_map_or}
 use Rattle.clap.specs.Words.{Text}

@@ -134,9 +134,9 @@ program_start options old bytes last = start_by (config_of options) old bytes la
 abbrev pub had_by : {W : Type 0} → (W → Option (List ℕ)) → W → List ℕ
 had_by contents writer = unwrap_or (contents writer) []
 
--- the session of these settings, options and words, of a history's text, and of all these bytes followed by
--- this, on a display and a sink of lines that had these bytes. What is drawn, written and saved are
--- its bytes, its lines and its history, or a prefix of them if a fault cut it
+-- the session of these settings, options and words, of a history's text, and of all these bytes
+-- followed by this, on a display and a sink of lines that had these bytes. What is drawn, written
+-- and saved are its bytes, its lines and its history, or a prefix of them if a fault cut it
 pub record PlaysBytes {S D L T : Type 0} (known : Known S D L) (held : T → List ℕ)
     (failed : T → Bool) (config : Config) (options : Options) (words : Option (List (List ℕ)))
     (shown wrote old bytes : List ℕ) (last : Last) (ended : Ended S D L T) : Type 0 where
@@ -166,9 +166,9 @@ pub record PlaysBytes {S D L T : Type 0} (known : Known S D L) (held : T → Lis
   pub reason : SessionReason (given_by config options words) (known.feed ended.source).failed
       (known.show_failed ended.display) (known.write_failed ended.lines) why
 
--- the relation of the program's session, over a reader and two writers that had these bytes. If what the reads gave
--- agrees with the bytes that were assumed of the reader as it was passed in, the session is that of
--- these bytes. A writer that hasn't failed got everything that its sink took
+-- the relation of the program's session, over a reader and two writers that had these bytes. If what
+-- the reads gave agrees with the bytes that were assumed of the reader as it was passed in, the
+-- session is that of these bytes. A writer that hasn't failed got everything that its sink took
 pub record PlaysOver {R K E W T : Type 0}
     (known : Known (ReadSource R K) (WriteSink E) (WriteSink W)) (held : T → List ℕ)
     (failed : T → Bool) (config : Config) (options : Options) (words : Option (List (List ℕ)))

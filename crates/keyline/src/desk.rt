@@ -182,6 +182,7 @@ impl<S: Source + Drop, H: Helper + Drop, D: Sink + Drop, L: Sink + Drop> Desk<S,
             mut out,
             helper,
             outcome,
+            ..
         } = run(
             alloc,
             &mut reader,

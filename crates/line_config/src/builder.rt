@@ -57,7 +57,7 @@ impl Builder {
         self
     }
 
-    /// Sets how several candidates of a completion are shown. Sessions ignore this setting.
+    /// Sets how several candidates of a completion are shown, under `modal_commands`.
     pub fn completion_type(mut self, completion_type: CompletionType) -> Self
         ensures { result ≡ built (record self.config { completion_type = completion_type }) }
     {
@@ -65,7 +65,7 @@ impl Builder {
         self
     }
 
-    /// Sets whether all candidates are listed at once. Sessions ignore this setting.
+    /// Sets whether the first Tab lists all candidates, under `modal_commands`.
     pub fn completion_show_all_if_ambiguous(mut self, yes: bool) -> Self
         ensures { result ≡ built (record self.config { completion_show_all_if_ambiguous = yes }) }
     {
@@ -73,7 +73,7 @@ impl Builder {
         self
     }
 
-    /// Sets how many candidates are listed without a question. Sessions ignore this setting.
+    /// Sets how many candidates are listed at most, under `modal_commands`.
     pub fn completion_prompt_limit(mut self, limit: usize) -> Self
         ensures { result ≡ built (record self.config { completion_prompt_limit = limit }) }
     {

@@ -63,21 +63,21 @@ impl Config {
         self.history_ignore_space
     }
 
-    /// How several candidates of a completion are shown. Sessions ignore this setting.
+    /// How several candidates of a completion are shown, under `modal_commands`.
     pub fn completion_type(&self) -> CompletionType
         ensures { result ≡ self.now.completion_type }
     {
         self.completion_type
     }
 
-    /// Whether all candidates are listed at once. Sessions ignore this setting.
+    /// Whether the first Tab lists all candidates, under `modal_commands`.
     pub fn completion_show_all_if_ambiguous(&self) -> bool
         ensures { result ≡ self.now.completion_show_all_if_ambiguous }
     {
         self.completion_show_all_if_ambiguous
     }
 
-    /// How many candidates are listed without a question. Sessions ignore this setting.
+    /// How many candidates are listed at most, under `modal_commands`.
     pub fn completion_prompt_limit(&self) -> usize
         ensures { result ≡ self.now.completion_prompt_limit }
     {

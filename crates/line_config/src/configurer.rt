@@ -53,7 +53,7 @@ pub trait Configurer {
         self.config_mut().history_ignore_space = yes;
     }
 
-    /// Sets how several candidates of a completion are shown. Sessions ignore this setting.
+    /// Sets how several candidates of a completion are shown, under `modal_commands`.
     fn set_completion_type(&mut self, completion_type: CompletionType)
         ensures { Sets settings with_settings (λ c. record c { completion_type = completion_type })
             self.old self.new }
@@ -61,7 +61,7 @@ pub trait Configurer {
         self.config_mut().completion_type = completion_type;
     }
 
-    /// Sets whether all candidates are listed at once. Sessions ignore this setting.
+    /// Sets whether the first Tab lists all candidates, under `modal_commands`.
     fn set_completion_show_all_if_ambiguous(&mut self, yes: bool)
         ensures { Sets settings with_settings
             (λ c. record c { completion_show_all_if_ambiguous = yes }) self.old self.new }
@@ -69,7 +69,7 @@ pub trait Configurer {
         self.config_mut().completion_show_all_if_ambiguous = yes;
     }
 
-    /// Sets how many candidates are listed without a question. Sessions ignore this setting.
+    /// Sets how many candidates are listed at most, under `modal_commands`.
     fn set_completion_prompt_limit(&mut self, limit: usize)
         ensures { Sets settings with_settings (λ c. record c { completion_prompt_limit = limit })
             self.old self.new }

@@ -1,27 +1,33 @@
--- A search that is given up leaves the line as it was.
-use Rattle.std.proofs.Common.{◌≡◌, ℕ, ◌==◌, ◌||◌, Bool, true, false, List, [], ◌∷◌, ◌++◌, length, drop, Option, Some, None, refl, sym, ap, ◌∙◌, subst, arith, if◌then◌else◌}
+-- A search, or candidates in turn, that are given up leave the line as it was.
+use Rattle.std.proofs.Common.{◌≡◌, ℕ, ◌==◌, ◌||◌, Bool, true, false, List, [], ◌∷◌, ◌++◌, length, drop, Option, Some, None, is_some, slice_get, ◌&&◌, refl, sym, ap, ◌∙◌, subst, arith, if◌then◌else◌}
 use Rattle.std.proofs.lemmas.Bool.Decides.{nat_tests}
 use Rattle.std.specs.Prelude.{◌≢◌, slice_range}
-use Rattle.line_buffer.specs.Event.Event.{Delete, InsertStr}
+use Rattle.line_buffer.specs.Event.{Event}
+use Rattle.line_buffer.specs.Event.Event.{Delete, InsertStr, Replace}
 use Rattle.line_buffer.specs.Insertions.{kept_text}
 use Rattle.line_buffer.specs.Line.{Line}
 use Rattle.line_buffer.specs.Replay.{replayed}
 use Rattle.line_buffer.specs.declared.types.Direction.TheVariants.{Forward}
 use Rattle.line_edits.specs.Edits.{by, updating_in_group}
+use Rattle.line_help.specs.Completion.{Offered, Completion, unless_empty}
 use Rattle.line_help.specs.Search.{Hit, TermAt}
 use Rattle.line_help.specs.declared.search.SearchDirection.{SearchDirection}
 use Rattle.line_help.proofs.FoundLemmas.{nearest_is_found}
+use Rattle.line_keys.specs.Replies.{Reply}
+use Rattle.line_keys.specs.declared.command.Cmd.TheVariants.{Complete}
 use Rattle.line_record.specs.Change.{Change, undo_place}
-use Rattle.line_record.specs.Change.Change.{Inserted}
+use Rattle.line_record.specs.Change.Change.{Inserted, Replaced}
 use Rattle.line_record.specs.Course.{recorded_all}
 use Rattle.line_record.specs.Held.{Held, change_of, stepped_if, recorded_in, has_mark, closes, grouped, ended, line_back}
 use Rattle.line_record.specs.Held.Held.{Opened, Stepped}
 use Rattle.line_record.proofs.GroupLaws.{unchanged}
 use Rattle.line_record.proofs.RecordLaws.{no_mark}
-use Rattle.line_editor.specs.Returns.{GivesBack, is_onward, AllOnward, Sought, sought_first, sought_on, sought_all}
+use Rattle.line_editor.specs.Candidates.{text_at, candidate_at, turned_with, turned, cycle_at, cycle_back, cycle_by}
+use Rattle.line_editor.specs.Completing.{begins_word, word_replaced, candidates_given}
+use Rattle.line_editor.specs.Returns.{GivesBack, is_onward, AllOnward, Between, sought_first, sought_on, sought_all, GivesWordBack, cycled_first, cycled_on, cycled_all}
 use Rattle.line_editor.specs.Modal.{Modal}
 use Rattle.line_editor.specs.Searching.{hit_back, found_put, sought, looked, looks, looks_again, search_drawn, onward, queried, erased, typed_in, is_place, placed}
-use Rattle.line_editor.specs.Values.{Value, Setting, rewritten}
+use Rattle.line_editor.specs.Values.{Value, Setting, rewritten, completion_reply}
 use Rattle.line_editor.specs.declared.modal_state.Act.{Act}
 use Rattle.line_editor.specs.declared.modal_state.Act.TheVariants.{Types, Erases, Goes, Leaves, Ends}
 
@@ -89,7 +95,7 @@ abbrev Standing : Value → Bool → Value → Type 0
 Standing v false u = (u.line ≡ v.line) × (u.held ≡ ended v.held)
 Standing v true u = OneStep v.line.text (ended v.held) u.held × (u.line.growth ≡ v.line.growth) × (u.line.limit ≡ v.line.limit)
 
-record Inside (v : Value) (x : Sought) : Type 0 where
+record Inside (v : Value) (x : Between) : Type 0 where
   place : x.modal.place ≡ v.line.place
   stands : Standing v x.modal.put x.value
 
@@ -179,14 +185,14 @@ again_inside true q s v u grows stands place h =
     record { place = place; stands = (placed_back q.place v.line (hit_back q.put s u).value.line b.line place stands, b.held) }
 again_inside false q s v u grows stands place h = looks_inside q.dir (Some q.start) q s v u grows place h
 
-goes_on : (act : Act) (s : Setting) (v : Value) (x : Sought) → v.line.growth ≡ true → is_place v.line.place v.line ≡ true → is_onward act ≡ true → Inside v x → Inside v (sought_on s act x)
+goes_on : (act : Act) (s : Setting) (v : Value) (x : Between) → v.line.growth ≡ true → is_place v.line.place v.line ≡ true → is_onward act ≡ true → Inside v x → Inside v (sought_on s act x)
 goes_on (Types c) s v x grows stands on h = looks_inside x.modal.dir (Some x.modal.at) (typed_in c x.modal) s v x.value grows h.place h.stands
 goes_on Erases s v x grows stands on h = again_inside (length (erased x.modal).query == 0) (erased x.modal) s v x.value grows stands h.place h.stands
 goes_on (Goes dir) s v x grows stands on h = looks_inside dir (onward dir x.modal (length s.entries)) (queried x.modal.query x.modal) s v x.value grows h.place h.stands
 goes_on Leaves s v x grows stands on h = cc
 goes_on Ends s v x grows stands on h = cc
 
-all_go_on : (acts : List Act) (s : Setting) (v : Value) (x : Sought) → v.line.growth ≡ true → is_place v.line.place v.line ≡ true → AllOnward acts → Inside v x → Inside v (sought_all s acts x)
+all_go_on : (acts : List Act) (s : Setting) (v : Value) (x : Between) → v.line.growth ≡ true → is_place v.line.place v.line ≡ true → AllOnward acts → Inside v x → Inside v (sought_all s acts x)
 all_go_on [] s v x grows stands on h = h
 all_go_on (act ∷ acts) s v x grows stands on h = all_go_on acts s v (sought_on s act x) grows stands on.1 (goes_on act s v x grows stands on.0 h)
 
@@ -197,5 +203,81 @@ gives_back s dir q v acts grows stands on =
     let first = sought_first s dir q v in
     let x = sought_all s acts first in
     let h = all_go_on acts s v first grows stands on (record { place = refl; stands = (refl, refl) }) in
+    let b = taken_back x.modal.put s v x.value h.stands in
+    (placed_back x.modal.place v.line (hit_back x.modal.put s x.value).value.line b.line h.place stands, b.held)
+
+-- ---- a candidate put in place of a word is one step
+
+word_closed : (e : Event) (c : Change) (text : List ℕ) (older : List Held) → has_mark older ≡ false → OneStep text older (ended (stepped_if e (Some c) text (Opened text ∷ older)))
+word_closed e c text older none = let m = no_mark older none in record { place = undo_place c; newest = c; joinable = false; are = rw (m.1, m.0) refl }
+
+replaced_change : (a b : Bool) (c : Change) → b ≡ false → (if a && b then None else Some c) ≡ Some c
+replaced_change true true c h = cc
+replaced_change true false c h = refl
+replaced_change false b c h = refl
+
+word_step : (start : ℕ) (text : List ℕ) (v : Value) → has_mark v.held ≡ false → (length text == 0) ≡ false → OneStep v.line.text v.held (rewritten (word_replaced start text) v).held
+unfolding recorded_all
+word_step start text v none some =
+    let l = v.line in
+    let before = slice_range l.text start l.place in
+    let e = Replace start before text in
+    let c = Replaced start before text in
+    subst (λ o. OneStep l.text v.held (ended (stepped_if e o l.text (Opened l.text ∷ v.held)))) (sym (replaced_change (length before == 0) (length text == 0) c some)) (word_closed e c l.text v.held none)
+
+-- a text that is put isn't empty
+some_text : (t text : List ℕ) → unless_empty t ≡ Some text → (length text == 0) ≡ false
+some_text [] text is = cc
+some_text (b ∷ bs) text is = ap (λ o. length (given o) == 0) (sym is) ∙ first_some b bs
+  where
+    given : Option (List ℕ) → List ℕ
+    given None = []
+    given (Some t) = t
+
+begun_some : (begins : Bool) (o : Option Offered) (text : List ℕ) → (if begins then text_at o else None) ≡ Some text → (length text == 0) ≡ false
+begun_some true None text is = cc
+begun_some true (Some o) text is = some_text o.replacement text is
+begun_some false o text is = cc
+
+turned_stands : (start : ℕ) (o : Option (List ℕ)) (s : Setting) (v w : Value) → ((text : List ℕ) → o ≡ Some text → (length text == 0) ≡ false) → Standing v false w
+    → Standing v (is_some o) (turned_with start o s w).value
+turned_stands start None s v w some h = h
+turned_stands start (Some text) s v w some h =
+    let held = (rewritten (word_replaced start text) w).held in
+    let step = word_step start text w (ap has_mark h.1 ∙ ended_unmarked v.held) (some text refl) in (
+      subst (λ t. OneStep t (ended v.held) held) (ap (λ (l : Line). l.text) h.0) (subst (λ older. OneStep w.line.text older held) h.1 step),
+      ap (λ (l : Line). l.growth) h.0,
+      ap (λ (l : Line). l.limit) h.0,
+    )
+
+candidate_stands : (at : ℕ) (found : Completion) (s : Setting) (v w : Value) → Standing v false w → Standing v (is_some (candidate_at at found w.line)) (turned at found s w).value
+candidate_stands at found s v w h =
+    turned_stands found.start (candidate_at at found w.line) s v w (begun_some (begins_word found.start w.line) (slice_get found.candidates at)) h
+
+-- ---- candidates in turn, given up
+
+cycles_on : (reply : Option (Reply Completion)) (dir : SearchDirection) (s : Setting) (v : Value) (x : Between) → is_place v.line.place v.line ≡ true → Inside v x
+    → Inside v (let m = cycle_by reply dir x.modal Complete s x.value in record { modal = m.modal; value = m.effect.value })
+cycles_on None dir s v x stands h = record { place = h.place; stands = h.stands }
+cycles_on (Some reply) dir s v x stands h =
+    let b = taken_back x.modal.put s v x.value h.stands in
+    let w = (cycle_back x.modal s x.value).value in
+    let found = candidates_given (completion_reply s w) in
+    record {
+      place = h.place;
+      stands = candidate_stands (cycle_at dir x.modal.at (length found.candidates)) found s v w
+          (placed_back x.modal.place v.line (hit_back x.modal.put s x.value).value.line b.line h.place stands, b.held);
+    }
+
+all_cycle : (dirs : List SearchDirection) (s : Setting) (v : Value) (x : Between) → is_place v.line.place v.line ≡ true → Inside v x → Inside v (cycled_all s dirs x)
+all_cycle [] s v x stands h = h
+all_cycle (dir ∷ dirs) s v x stands h = all_cycle dirs s v (cycled_on s dir x) stands (cycles_on (completion_reply s x.value) dir s v x stands h)
+
+pub gives_word_back : GivesWordBack
+gives_word_back s found q v dirs stands =
+    let first = cycled_first s found q v in
+    let x = cycled_all s dirs first in
+    let begun : Value = record v { held = ended v.held } in
+    let h = all_cycle dirs s v first stands (record { place = refl; stands = candidate_stands 0 found s v begun (refl, refl) }) in
     let b = taken_back x.modal.put s v x.value h.stands in
     (placed_back x.modal.place v.line (hit_back x.modal.put s x.value).value.line b.line h.place stands, b.held)

@@ -14,22 +14,23 @@ use Rattle.line_keys.specs.declared.command.Cmd.{Cmd}
 use Rattle.line_keys.specs.declared.command.Cmd.TheVariants.{EndOfHistory, HistorySearchBackward, HistorySearchForward, Unknown}
 use Rattle.line_editor.specs.Candidates.{only_put, listed_with, list_standing, candidate_at, turned_with, cycle_begun, cycle_first, cycle_back, cycle_at, cycled, asked_turned, asked_modal, several, several_modal, offered, offered_modal, offered_if, offered_modal_if, is_ambiguous, tab_by, cycle_by}
 use Rattle.line_editor.specs.Completing.{elected, updates, word_updated, word_completed, completed_with, candidates_given}
+use Rattle.line_edits.specs.Edits.{updating_in_group}
 use Rattle.line_editor.specs.Drawing.{drawn_behind, asked_anew, refreshed, refreshed_behind, beeped}
 use Rattle.line_editor.specs.Leads.{redraws_of}
-use Rattle.line_editor.specs.Meeting.{met_resting, met_prefixes, met_tabbed, unlisted, met_lists, met_cycles, met_by, seen_by, modal_seen}
+use Rattle.line_editor.specs.Meeting.{met_resting, met_prefixes, met_tabbed, met_anew, met_lists, met_cycles, met_by, seen_by, modal_seen, acted}
 use Rattle.line_editor.specs.Modal.{Modal, Meeting, modal_first, standing_first, rested, shows_own, takes, wish_of}
 use Rattle.line_editor.specs.Prefixes.{is_prefix, is_own, earlier, later, risen, rises_if, fallen}
 use Rattle.line_editor.specs.Remembering.{saved_now}
-use Rattle.line_editor.specs.Searching.{search_prompt, queried, erased, sought, looked, onward, hit_back, found_put, search_drawn, typed_in, looks, looks_typed, looks_again, emptied, emptied_effect, placing, begun_at, begin_search, begun_if, acted, act_of}
+use Rattle.line_editor.specs.Searching.{search_prompt, queried, erased, sought, looked, onward, hit_back, found_put, search_drawn, typed_in, looks, looks_typed, looks_again, emptied, emptied_effect, placing, begun_at, begin_search, begun_if, hit_again, found_again, act_of}
 use Rattle.line_editor.specs.Sights.{Sight, sight_with, sight_of, sight_all, FitsAll, info_after}
-use Rattle.line_editor.specs.Values.{Value, Setting, EditStep, then_do, hint_reply, helped, shown_hint, completion_reply, update_reply, close_groups}
+use Rattle.line_editor.specs.Values.{Value, Setting, EditStep, then_do, hint_reply, helped, shown_hint, completion_reply, update_reply, rewriting, close_groups}
 use Rattle.line_editor.specs.Values.EditStep.{Draws, Helped, Edits, TakesBack, Takes}
 use Rattle.line_editor.specs.declared.modal_state.Act.{Act}
 use Rattle.line_editor.specs.declared.modal_state.Act.TheVariants.{Types, Erases, Goes, Leaves, Ends}
 use Rattle.line_editor.specs.declared.modal_state.Standing.{Standing}
 use Rattle.line_editor.specs.declared.modal_state.Standing.TheVariants.{Off, Rests, Prefixes, Searches, Tabbed, Lists, Cycles}
 use Rattle.line_editor.specs.declared.modal_state.Wish.{Wish}
-use Rattle.line_editor.specs.declared.modal_state.Wish.TheVariants.{Search, Up, Down, Tab, TabBack, Leave, Other}
+use Rattle.line_editor.specs.declared.modal_state.Wish.TheVariants.{Search, Up, Down, Tab, TabBack, Leave, Again, Other}
 use Rattle.line_editor.proofs.CommandsLead.{asks_lead}
 use Rattle.line_editor.proofs.LeadLemmas.{fits_both, sight_both, info_both, help_info}
 
@@ -173,15 +174,6 @@ again_met true q s v info x is =
     met_drawn s info x _ (looks_again true q s v) _ (emptied_drawn q.put q s v info x) (seen_standing q.standing (emptied q) s w (shown_hint w) is) (inl refl)
 again_met false q s v info x is = looks_met q.dir (Some q.start) q s v info x is
 
-acted_met : (act : Act) (q : Modal) (cmd : Cmd) (s : Setting) (v : Value) (info : Option (List ℕ)) (x : Sight) → q.standing ≡ Searches → Met s info x (acted act q cmd s v)
-acted_met (Types c) q cmd s v info x is =
-    let z = typed_in c q in
-    met_drawn s info x _ (looks_typed c q s v) _ (after_step (Takes v) s.prompt info x _ _ _ refl (looks_drawn q.dir (Some q.at) z s v info x is)) refl (inl refl)
-acted_met Erases q cmd s v info x is = again_met (length (erased q).query == 0) (erased q) s v info x is
-acted_met (Goes dir) q cmd s v info x is = looks_met dir (onward dir q (length s.entries)) (queried q.query q) s v info x is
-acted_met Leaves q cmd s v info x is = met_drawn s info x _ (acted Leaves q cmd s v) _ (left_drawn q.put q.place s v info x) refl (inl refl)
-acted_met Ends q cmd s v info x is = met_drawn s info x _ (acted Ends q cmd s v) _ (own_drawn s v info x) refl (inr refl)
-
 -- it goes on as it came
 passes_met : (q : Modal) (cmd : Cmd) (s : Setting) (v : Value) (info : Option (List ℕ)) (x : Sight) → shows_own q.standing ≡ true → x ≡ sight_of s v info
     → Met s info x (record { effect = record { value = v; steps = [] }; modal = q; next = cmd })
@@ -303,7 +295,7 @@ tab_met : (reply : Option (Reply Completion)) (lists : Bool) (q : Modal) (cmd : 
 tab_met None lists q cmd s v info x own from = passes_met q cmd s v info x own from
 tab_met (Some reply) lists q cmd s v info x own from =
     let found = candidates_given (Some reply) in
-    asked_met v (completion_reply s v) s info x (takes (offered lists q found) (offered_modal lists found v.line q) s v) (offered_met (is_ambiguous found) lists found q s v info x from)
+    asked_met v (completion_reply s v) s info x (takes (offered lists q found) (offered_modal lists found v.line q) s v) (offered_met (is_ambiguous found v.line) lists found q s v info x from)
 
 -- the next candidate, from any sight
 next_drawn : (dir : SearchDirection) (put : Bool) (q : Modal) (s : Setting) (v : Value) (info : Option (List ℕ)) (x : Sight) → (let e = then_do (then_do (hit_back put) (placing q.place)) (asked_turned dir q) s v in
@@ -327,6 +319,14 @@ cycle_met None dir q cmd s v info x own from = passes_met q cmd s v info x own f
 cycle_met (Some reply) dir q cmd s v info x own from =
     own_met s info x (takes (cycled dir q) (asked_modal dir q s (cycle_back q s v).value) s v) _ (next_drawn dir q.put q s v info x) own
 
+-- ---- the last query once more
+
+again_found_met : (hit : Option Hit) (q : Modal) (s : Setting) (v : Value) (info : Option (List ℕ)) (x : Sight) → shows_own q.standing ≡ true → x ≡ sight_of s v info → Met s info x (found_again hit q s v)
+again_found_met None q s v info x own from = beeped_met q s v info x own from
+again_found_met (Some hit) q s v info x own from =
+    let w = (then_do close_groups (rewriting (updating_in_group hit.entry hit.pos)) s v).value in
+    own_met s info x (found_again (Some hit) q s v) _ (after_step (Edits _ _) s.prompt info x _ _ _ refl (own_drawn s w info x)) own
+
 -- ---- any command
 
 resting_met : (wish : Wish) (q : Modal) (cmd : Cmd) (s : Setting) (v : Value) (info : Option (List ℕ)) (x : Sight) → shows_own q.standing ≡ true → x ≡ sight_of s v info → Met s info x (met_resting wish q cmd s v)
@@ -336,6 +336,7 @@ resting_met Down q cmd s v info x own from = passes_met q cmd s v info x own fro
 resting_met Tab q cmd s v info x own from = tab_met (completion_reply s v) q.lists_at_once q cmd s v info x own from
 resting_met TabBack q cmd s v info x own from = passes_met q cmd s v info x own from
 resting_met Leave q cmd s v info x own from = passes_met q cmd s v info x own from
+resting_met (Again way) q cmd s v info x own from = again_found_met (hit_again way q s v) q s v info x own from
 resting_met Other q cmd s v info x own from = passes_met q cmd s v info x own from
 
 prefixes_met : (wish : Wish) (q : Modal) (cmd : Cmd) (s : Setting) (v : Value) (info : Option (List ℕ)) (x : Sight) → shows_own q.standing ≡ true → x ≡ sight_of s v info → Met s info x (met_prefixes wish q cmd s v)
@@ -345,6 +346,7 @@ prefixes_met (Search dir) q cmd s v info x own from = resting_met (Search dir) (
 prefixes_met Tab q cmd s v info x own from = resting_met Tab (rested q) cmd s v info x refl from
 prefixes_met TabBack q cmd s v info x own from = resting_met TabBack (rested q) cmd s v info x refl from
 prefixes_met Leave q cmd s v info x own from = resting_met Leave (rested q) cmd s v info x refl from
+prefixes_met (Again way) q cmd s v info x own from = resting_met (Again way) (rested q) cmd s v info x refl from
 prefixes_met Other q cmd s v info x own from = resting_met Other (rested q) cmd s v info x refl from
 
 tabbed_met : (wish : Wish) (q : Modal) (cmd : Cmd) (s : Setting) (v : Value) (info : Option (List ℕ)) (x : Sight) → shows_own q.standing ≡ true → x ≡ sight_of s v info → Met s info x (met_tabbed wish q cmd s v)
@@ -354,11 +356,12 @@ tabbed_met Up q cmd s v info x own from = resting_met Up (rested q) cmd s v info
 tabbed_met Down q cmd s v info x own from = resting_met Down (rested q) cmd s v info x refl from
 tabbed_met TabBack q cmd s v info x own from = resting_met TabBack (rested q) cmd s v info x refl from
 tabbed_met Leave q cmd s v info x own from = resting_met Leave (rested q) cmd s v info x refl from
+tabbed_met (Again way) q cmd s v info x own from = resting_met (Again way) (rested q) cmd s v info x refl from
 tabbed_met Other q cmd s v info x own from = resting_met Other (rested q) cmd s v info x refl from
 
 -- the line is drawn without the list, and then the command is met
-unlisted_met : (wish : Wish) (q : Modal) (cmd : Cmd) (s : Setting) (v : Value) (info : Option (List ℕ)) (x : Sight) → Met s info x (unlisted wish q cmd s v)
-unlisted_met wish q cmd s v info x =
+anew_met : (wish : Wish) (q : Modal) (cmd : Cmd) (s : Setting) (v : Value) (info : Option (List ℕ)) (x : Sight) → Met s info x (met_anew wish q cmd s v)
+anew_met wish q cmd s v info x =
     let e = refreshed s v in
     let first = own_drawn s v info x in
     both_met s info x e.steps (met_resting wish (rested q) cmd s e.value) first.fits
@@ -366,12 +369,13 @@ unlisted_met wish q cmd s v info x =
 
 lists_met : (wish : Wish) (q : Modal) (cmd : Cmd) (s : Setting) (v : Value) (info : Option (List ℕ)) (x : Sight) → shows_own q.standing ≡ true → x ≡ sight_of s v info → Met s info x (met_lists wish q cmd s v)
 lists_met Tab q cmd s v info x own from = tab_met (completion_reply s v) true q cmd s v info x own from
-lists_met (Search dir) q cmd s v info x own from = unlisted_met (Search dir) q cmd s v info x
-lists_met Up q cmd s v info x own from = unlisted_met Up q cmd s v info x
-lists_met Down q cmd s v info x own from = unlisted_met Down q cmd s v info x
-lists_met TabBack q cmd s v info x own from = unlisted_met TabBack q cmd s v info x
-lists_met Leave q cmd s v info x own from = unlisted_met Leave q cmd s v info x
-lists_met Other q cmd s v info x own from = unlisted_met Other q cmd s v info x
+lists_met (Search dir) q cmd s v info x own from = anew_met (Search dir) q cmd s v info x
+lists_met Up q cmd s v info x own from = anew_met Up q cmd s v info x
+lists_met Down q cmd s v info x own from = anew_met Down q cmd s v info x
+lists_met TabBack q cmd s v info x own from = anew_met TabBack q cmd s v info x
+lists_met Leave q cmd s v info x own from = anew_met Leave q cmd s v info x
+lists_met (Again way) q cmd s v info x own from = anew_met (Again way) q cmd s v info x
+lists_met Other q cmd s v info x own from = anew_met Other q cmd s v info x
 
 cycles_met : (wish : Wish) (q : Modal) (cmd : Cmd) (s : Setting) (v : Value) (info : Option (List ℕ)) (x : Sight) → shows_own q.standing ≡ true → x ≡ sight_of s v info → Met s info x (met_cycles wish q cmd s v)
 cycles_met Tab q cmd s v info x own from = cycle_met (completion_reply s v) Forward q cmd s v info x own from
@@ -380,7 +384,17 @@ cycles_met Leave q cmd s v info x own from = own_met s info x (met_cycles Leave 
 cycles_met (Search dir) q cmd s v info x own from = resting_met (Search dir) (rested q) cmd s v info x refl from
 cycles_met Up q cmd s v info x own from = resting_met Up (rested q) cmd s v info x refl from
 cycles_met Down q cmd s v info x own from = resting_met Down (rested q) cmd s v info x refl from
+cycles_met (Again way) q cmd s v info x own from = resting_met (Again way) (rested q) cmd s v info x refl from
 cycles_met Other q cmd s v info x own from = resting_met Other (rested q) cmd s v info x refl from
+
+acted_met : (act : Act) (q : Modal) (cmd : Cmd) (s : Setting) (v : Value) (info : Option (List ℕ)) (x : Sight) → q.standing ≡ Searches → Met s info x (acted act q cmd s v)
+acted_met (Types c) q cmd s v info x is =
+    let z = typed_in c q in
+    met_drawn s info x _ (looks_typed c q s v) _ (after_step (Takes v) s.prompt info x _ _ _ refl (looks_drawn q.dir (Some q.at) z s v info x is)) refl (inl refl)
+acted_met Erases q cmd s v info x is = again_met (length (erased q).query == 0) (erased q) s v info x is
+acted_met (Goes dir) q cmd s v info x is = looks_met dir (onward dir q (length s.entries)) (queried q.query q) s v info x is
+acted_met Leaves q cmd s v info x is = met_drawn s info x _ (acted Leaves q cmd s v) _ (left_drawn q.put q.place s v info x) refl (inl refl)
+acted_met Ends q cmd s v info x is = anew_met (wish_of cmd) q cmd s v info x
 
 pub meeting_leads : (at : Standing) (q : Modal) → q.standing ≡ at → (cmd : Cmd) (s : Setting) (v : Value) (info : Option (List ℕ)) (x : Sight) → (shows_own at ≡ true → x ≡ sight_of s v info)
     → Met s info x (met_by at q cmd s v)

@@ -16,8 +16,8 @@ use Rattle.line_edits.specs.Edits.{UndoneInPart}
 use Rattle.line_record.specs.Items.{held_on}
 use Rattle.line_editor.specs.Drawing.{refreshed_behind}
 use Rattle.line_editor.specs.Modal.{Modal, Meeting}
-use Rattle.line_editor.specs.Searching.{search_prompt, search_drawn, hit_back, found_put, found_drawn, look, looked, sought, typed_in, typed_effect, looks_again, erased, acted, act_of}
-use Rattle.line_editor.specs.Meeting.{met_by, meeting, meeting_effect}
+use Rattle.line_editor.specs.Searching.{search_prompt, search_drawn, hit_back, found_put, found_drawn, look, looked, sought, typed_in, typed_effect, looks_again, erased, act_of}
+use Rattle.line_editor.specs.Meeting.{met_by, meeting, meeting_effect, acted}
 use Rattle.line_editor.specs.States.{value_of, setting_of, surface_of, Stays, Does}
 use Rattle.line_editor.specs.Turning.{MeetsBy}
 use Rattle.line_editor.specs.Values.{Value, Setting, Transition, taking_memory, then_do}

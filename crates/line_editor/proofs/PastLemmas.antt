@@ -12,7 +12,7 @@ use Rattle.line_editor.specs.Values.{Value, Setting}
 use Rattle.line_editor.specs.declared.modal_state.Standing.{Standing}
 use Rattle.line_editor.specs.declared.modal_state.Standing.TheVariants.{Off, Rests, Prefixes, Searches, Tabbed, Lists, Cycles}
 use Rattle.line_editor.specs.declared.modal_state.Wish.{Wish}
-use Rattle.line_editor.specs.declared.modal_state.Wish.TheVariants.{Search, Up, Down, Tab, TabBack, Leave, Other}
+use Rattle.line_editor.specs.declared.modal_state.Wish.TheVariants.{Search, Up, Down, Tab, TabBack, Leave, Again, Other}
 use Rattle.line_editor.proofs.ToldLemmas.{PlayedOf, played_each}
 
 -- whether a command may begin something if nothing stands
@@ -23,6 +23,7 @@ begins Down = false
 begins Tab = true
 begins TabBack = false
 begins Leave = false
+begins (Again way) = true
 begins Other = false
 
 abbrev pub begins_modal : Cmd → Bool
@@ -35,6 +36,7 @@ past_by Down q cmd s v none = refl
 past_by Tab q cmd s v none = cc
 past_by TabBack q cmd s v none = refl
 past_by Leave q cmd s v none = refl
+past_by (Again way) q cmd s v none = cc
 past_by Other q cmd s v none = refl
 
 goes_past : (at : Standing) (q : Modal) (cmd : Cmd) (s : Setting) (v : Value) → is_at_rest at ≡ true → begins_modal cmd ≡ false → met_by at q cmd s v ≡ passed q cmd v

@@ -56,10 +56,10 @@ use Rattle.line_editor.specs.Returns.{ValueStep, value_after, value_after_all, l
 use Rattle.line_editor.specs.Returns.ValueStep.{Done, Asked, Met}
 use Rattle.line_editor.specs.Drawing.{refreshed, refreshed_if}
 use Rattle.line_editor.specs.Rewording.{edit_word_effect}
-use Rattle.line_editor.specs.Meeting.{meeting_effect, met_resting, met_prefixes, met_tabbed, unlisted, met_lists, met_cycles, met_by}
+use Rattle.line_editor.specs.Meeting.{meeting_effect, met_resting, met_prefixes, met_tabbed, met_anew, met_lists, met_cycles, met_by, acted}
 use Rattle.line_editor.specs.Modal.{Modal, rested, wish_of}
 use Rattle.line_editor.specs.Prefixes.{is_prefix, is_own, earlier, later, risen, rises_if, fallen}
-use Rattle.line_editor.specs.Searching.{erased, looks_again, typed_in, sought, onward, hit_back, found_put, is_place, placing, given_up, begun_if, acted, act_of}
+use Rattle.line_editor.specs.Searching.{erased, looks_again, typed_in, sought, onward, hit_back, found_put, is_place, placing, given_up, begun_if, hit_again, found_again, act_of}
 use Rattle.line_editor.specs.Values.{Value, Setting, Effect, Saved, then_do, verdict_reply, completion_reply, rewritten, written_of, at_line}
 use Rattle.line_editor.specs.Yanking.{anchored, steps_over, behind_yank, yanked_by, yank_text, yank_lent, pop_lent}
 use Rattle.line_editor.specs.declared.modal_state.Act.{Act}
@@ -67,7 +67,7 @@ use Rattle.line_editor.specs.declared.modal_state.Act.TheVariants.{Types, Erases
 use Rattle.line_editor.specs.declared.modal_state.Standing.{Standing}
 use Rattle.line_editor.specs.declared.modal_state.Standing.TheVariants.{Off, Rests, Prefixes, Searches, Tabbed, Lists, Cycles}
 use Rattle.line_editor.specs.declared.modal_state.Wish.{Wish}
-use Rattle.line_editor.specs.declared.modal_state.Wish.TheVariants.{Search, Up, Down, Tab, TabBack, Leave, Other}
+use Rattle.line_editor.specs.declared.modal_state.Wish.TheVariants.{Search, Up, Down, Tab, TabBack, Leave, Again, Other}
 use Rattle.line_editor.proofs.GrowthLemmas.{insert_grows, yank_grows, pop_grows, deletion_grows, kill_grows, indent_grows, word_grows, chars_grow, words_grow, over_grows, back_grows}
 
 -- ---- what keeps the place and the saved line, and whether the line may grow
@@ -399,13 +399,6 @@ back_keeps put place s v =
 given_up_keeps : (q : Modal) (s : Setting) (v : Value) → Keeps v (given_up q s v).value
 given_up_keeps q s v = let h = back_keeps q.put q.place s v in kept h.saved h.history h.growth
 
-acted_keeps : (act : Act) (q : Modal) (cmd : Cmd) (s : Setting) (v : Value) → Keeps v (acted act q cmd s v).effect.value
-acted_keeps (Types c) q cmd s v = let h = put_keeps q.put (sought (typed_in c q).query q.dir (Some q.at) s.entries) s v in kept h.saved h.history h.growth
-acted_keeps Erases q cmd s v = again_keeps (length (erased q).query == 0) (erased q) s v
-acted_keeps (Goes dir) q cmd s v = let h = put_keeps q.put (sought q.query dir (onward dir q (length s.entries)) s.entries) s v in kept h.saved h.history h.growth
-acted_keeps Leaves q cmd s v = given_up_keeps q s v
-acted_keeps Ends q cmd s v = kept refl refl refl
-
 begun_keeps : (empty : Bool) (dir : SearchDirection) (q : Modal) (cmd : Cmd) (s : Setting) (v : Value) → Keeps v (begun_if empty dir q cmd s v).effect.value
 begun_keeps true dir q cmd s v = same v
 begun_keeps false dir q cmd s v = kept refl refl refl
@@ -448,7 +441,7 @@ offered_keeps true lists q found s v = several_keeps q.completion_type lists q f
 
 tab_keeps : (reply : Option (Reply Completion)) (lists : Bool) (q : Modal) (cmd : Cmd) (s : Setting) (v : Value) → Keeps v (tab_by reply lists q cmd s v).effect.value
 tab_keeps None lists q cmd s v = same v
-tab_keeps (Some reply) lists q cmd s v = let found = candidates_given (Some reply) in offered_keeps (is_ambiguous found) lists q found s v
+tab_keeps (Some reply) lists q cmd s v = let found = candidates_given (Some reply) in offered_keeps (is_ambiguous found v.line) lists q found s v
 
 next_keeps : (dir : SearchDirection) (q : Modal) (s : Setting) (v w : Value) → Keeps v w → Keeps v (asked_turned dir q s w).value
 next_keeps dir q s v w h =
@@ -459,6 +452,10 @@ cycle_keeps : (reply : Option (Reply Completion)) (dir : SearchDirection) (q : M
 cycle_keeps None dir q cmd s v = same v
 cycle_keeps (Some reply) dir q cmd s v = next_keeps dir q s v (then_do (hit_back q.put) (placing q.place) s v).value (back_keeps q.put q.place s v)
 
+again_found_keeps : (hit : Option Hit) (q : Modal) (s : Setting) (v : Value) → Keeps v (found_again hit q s v).effect.value
+again_found_keeps None q s v = same v
+again_found_keeps (Some hit) q s v = kept refl refl refl
+
 -- ---- any command that is met
 
 resting_keeps : (wish : Wish) (q : Modal) (cmd : Cmd) (s : Setting) (v : Value) → Away s v → Keeps v (met_resting wish q cmd s v).effect.value
@@ -468,6 +465,7 @@ resting_keeps Down q cmd s v away = same v
 resting_keeps Tab q cmd s v away = tab_keeps (completion_reply s v) q.lists_at_once q cmd s v
 resting_keeps TabBack q cmd s v away = same v
 resting_keeps Leave q cmd s v away = same v
+resting_keeps (Again way) q cmd s v away = again_found_keeps (hit_again way q s v) q s v
 resting_keeps Other q cmd s v away = same v
 
 prefixes_keep : (wish : Wish) (q : Modal) (cmd : Cmd) (s : Setting) (v : Value) → Away s v → Keeps v (met_prefixes wish q cmd s v).effect.value
@@ -477,6 +475,7 @@ prefixes_keep (Search dir) q cmd s v away = resting_keeps (Search dir) (rested q
 prefixes_keep Tab q cmd s v away = resting_keeps Tab (rested q) cmd s v away
 prefixes_keep TabBack q cmd s v away = resting_keeps TabBack (rested q) cmd s v away
 prefixes_keep Leave q cmd s v away = resting_keeps Leave (rested q) cmd s v away
+prefixes_keep (Again way) q cmd s v away = resting_keeps (Again way) (rested q) cmd s v away
 prefixes_keep Other q cmd s v away = resting_keeps Other (rested q) cmd s v away
 
 tabbed_keep : (wish : Wish) (q : Modal) (cmd : Cmd) (s : Setting) (v : Value) → Away s v → Keeps v (met_tabbed wish q cmd s v).effect.value
@@ -486,21 +485,23 @@ tabbed_keep Up q cmd s v away = resting_keeps Up (rested q) cmd s v away
 tabbed_keep Down q cmd s v away = resting_keeps Down (rested q) cmd s v away
 tabbed_keep TabBack q cmd s v away = resting_keeps TabBack (rested q) cmd s v away
 tabbed_keep Leave q cmd s v away = resting_keeps Leave (rested q) cmd s v away
+tabbed_keep (Again way) q cmd s v away = resting_keeps (Again way) (rested q) cmd s v away
 tabbed_keep Other q cmd s v away = resting_keeps Other (rested q) cmd s v away
 
-unlisted_keep : (wish : Wish) (q : Modal) (cmd : Cmd) (s : Setting) (v : Value) → Away s v → Keeps v (unlisted wish q cmd s v).effect.value
-unlisted_keep wish q cmd s v away =
+anew_keeps : (wish : Wish) (q : Modal) (cmd : Cmd) (s : Setting) (v : Value) → Away s v → Keeps v (met_anew wish q cmd s v).effect.value
+anew_keeps wish q cmd s v away =
     let w = (refreshed s v).value in
-    then_keeps v w (unlisted wish q cmd s v).effect.value (kept refl refl refl) (resting_keeps wish (rested q) cmd s w away)
+    then_keeps v w (met_anew wish q cmd s v).effect.value (kept refl refl refl) (resting_keeps wish (rested q) cmd s w away)
 
 lists_keep : (wish : Wish) (q : Modal) (cmd : Cmd) (s : Setting) (v : Value) → Away s v → Keeps v (met_lists wish q cmd s v).effect.value
 lists_keep Tab q cmd s v away = tab_keeps (completion_reply s v) true q cmd s v
-lists_keep (Search dir) q cmd s v away = unlisted_keep (Search dir) q cmd s v away
-lists_keep Up q cmd s v away = unlisted_keep Up q cmd s v away
-lists_keep Down q cmd s v away = unlisted_keep Down q cmd s v away
-lists_keep TabBack q cmd s v away = unlisted_keep TabBack q cmd s v away
-lists_keep Leave q cmd s v away = unlisted_keep Leave q cmd s v away
-lists_keep Other q cmd s v away = unlisted_keep Other q cmd s v away
+lists_keep (Search dir) q cmd s v away = anew_keeps (Search dir) q cmd s v away
+lists_keep Up q cmd s v away = anew_keeps Up q cmd s v away
+lists_keep Down q cmd s v away = anew_keeps Down q cmd s v away
+lists_keep TabBack q cmd s v away = anew_keeps TabBack q cmd s v away
+lists_keep Leave q cmd s v away = anew_keeps Leave q cmd s v away
+lists_keep (Again way) q cmd s v away = anew_keeps (Again way) q cmd s v away
+lists_keep Other q cmd s v away = anew_keeps Other q cmd s v away
 
 cycles_keep : (wish : Wish) (q : Modal) (cmd : Cmd) (s : Setting) (v : Value) → Away s v → Keeps v (met_cycles wish q cmd s v).effect.value
 cycles_keep Tab q cmd s v away = cycle_keeps (completion_reply s v) Forward q cmd s v
@@ -509,13 +510,21 @@ cycles_keep Leave q cmd s v away = given_up_keeps q s v
 cycles_keep (Search dir) q cmd s v away = resting_keeps (Search dir) (rested q) cmd s v away
 cycles_keep Up q cmd s v away = resting_keeps Up (rested q) cmd s v away
 cycles_keep Down q cmd s v away = resting_keeps Down (rested q) cmd s v away
+cycles_keep (Again way) q cmd s v away = resting_keeps (Again way) (rested q) cmd s v away
 cycles_keep Other q cmd s v away = resting_keeps Other (rested q) cmd s v away
+
+acted_keeps : (act : Act) (q : Modal) (cmd : Cmd) (s : Setting) (v : Value) → Away s v → Keeps v (acted act q cmd s v).effect.value
+acted_keeps (Types c) q cmd s v away = let h = put_keeps q.put (sought (typed_in c q).query q.dir (Some q.at) s.entries) s v in kept h.saved h.history h.growth
+acted_keeps Erases q cmd s v away = again_keeps (length (erased q).query == 0) (erased q) s v
+acted_keeps (Goes dir) q cmd s v away = let h = put_keeps q.put (sought q.query dir (onward dir q (length s.entries)) s.entries) s v in kept h.saved h.history h.growth
+acted_keeps Leaves q cmd s v away = given_up_keeps q s v
+acted_keeps Ends q cmd s v away = anew_keeps (wish_of cmd) q cmd s v away
 
 met_keeps : (at : Standing) (q : Modal) (cmd : Cmd) (s : Setting) (v : Value) → Away s v → Keeps v (met_by at q cmd s v).effect.value
 met_keeps Off q cmd s v away = same v
 met_keeps Rests q cmd s v away = resting_keeps (wish_of cmd) q cmd s v away
 met_keeps Prefixes q cmd s v away = prefixes_keep (wish_of cmd) q cmd s v away
-met_keeps Searches q cmd s v away = acted_keeps (act_of cmd) q cmd s v
+met_keeps Searches q cmd s v away = acted_keeps (act_of cmd) q cmd s v away
 met_keeps Tabbed q cmd s v away = tabbed_keep (wish_of cmd) q cmd s v away
 met_keeps Lists q cmd s v away = lists_keep (wish_of cmd) q cmd s v away
 met_keeps Cycles q cmd s v away = cycles_keep (wish_of cmd) q cmd s v away

@@ -11,6 +11,7 @@ use Rattle.line_buffer.specs.Words.{starts_of, ends_of}
 use Rattle.line_buffer.specs.declared.layout.GraphemeClusterMode.TheVariants.{Unicode}
 use Rattle.line_buffer.specs.declared.layout.Layout.{Layout}
 use Rattle.line_buffer.specs.declared.layout.Position.{Position}
+use Rattle.line_config.specs.Config.{default_config}
 use Rattle.line_config.specs.declared.errors.ReadlineError.TheVariants.{Eof}
 use Rattle.line_config.specs.declared.settings.EditMode.TheVariants.{Emacs}
 use Rattle.line_keys.specs.Answers.{Custom}
@@ -109,7 +110,7 @@ module _ (r : Ring) where
       record { calls = (asked plain (fresh Unicode) (steps_along s 2 k p.asks)).calls; outcome = p.answer }
 
   abbrev line : List (List ℕ) → Custom → List KeyEvent → LineRow
-  line entries custom ks = line_with (modal_first false []) entries custom ks
+  line entries custom ks = line_with (modal_first default_config []) entries custom ks
 
   -- ---- a typed, left, enter
 
@@ -186,7 +187,7 @@ module _ (r : Ring) where
   -- ---- the same entries searched as one types
 
   abbrev searched_line : List ℕ → List KeyEvent → LineRow
-  searched_line query ks = line_with (modal_first true query) entries nothing_bound ks
+  searched_line query ks = line_with (modal_first (record default_config { modal_commands = true }) query) entries nothing_bound ks
 
   abbrev ctrl_r : KeyEvent
   ctrl_r = key_with (Char 0x52) ctrl

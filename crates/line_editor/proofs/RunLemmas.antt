@@ -1,6 +1,7 @@
 -- A whole line.
 use Rattle.std.proofs.Common.{◌≡◌, inl, inr, ℕ, ◌<◌, Bool, List, refl, sym, ap, subst, ◌∙◌, IsTrue, le_refl}
-use Rattle.std.specs.Prelude.{Option, option_map, Result, Ok, Err, length, string_bytes, IfErr, OnOk}
+use Rattle.std.specs.Prelude.{Option, Some, None, option_map, Result, Ok, Err, length, string_bytes, IfErr, OnOk}
+use Rattle.line_buffer.specs.Line.{Line}
 use Rattle.line_config.specs.Scripts.{Goes}
 use Rattle.line_config.specs.declared.config.Config.{Config}
 use Rattle.line_config.specs.declared.errors.ReadlineError.{ReadlineError}
@@ -21,7 +22,7 @@ use Rattle.line_record.specs.Ring.{Ring}
 use Rattle.line_editor.specs.Calls.{Canvas, Ruler}
 use Rattle.line_editor.specs.LineScripts.{LineStage, kept, line_script, line_world, line_stage}
 use Rattle.line_editor.specs.Redraws.{fresh}
-use Rattle.line_editor.specs.Running.{Helping, helping_by, setting_by, stage_first, text_or, outcome_of, Runs}
+use Rattle.line_editor.specs.Running.{Helping, helping_by, setting_by, stage_first, text_or, outcome_of, open_or, IsOpen, Runs}
 use Rattle.line_editor.specs.Modal.{Modal, modal_first}
 use Rattle.line_editor.specs.States.{hooks_of, value_of, setting_of, Stays, Starts}
 use Rattle.line_editor.specs.Steps.{surface}
@@ -41,7 +42,7 @@ undrawn canvas r s n custom config out ring query c =
 
 -- no memory for a line, and nothing was read or drawn
 pub not_begun : {R H K T : Type 0} (canvas : Canvas R) (helps : Option H → Helping) (custom : Custom) (prompt : List ℕ) (helper : Option H) (entries : List (List ℕ)) (config : Config) (out : R)
-    (ring : Ring) (query : List ℕ) (feed : KeyFeed) → Runs {K = K} {T = T} canvas helps custom prompt helper entries config out ring query feed (record { out = out; helper = helper; outcome = Err Memory }) ring query feed
+    (ring : Ring) (query : List ℕ) (feed : KeyFeed) → Runs {K = K} {T = T} canvas helps custom prompt helper entries config out ring query feed (record { out = out; helper = helper; outcome = Err Memory; open_line = None }) ring query feed
 not_begun canvas helps custom prompt helper entries config out ring query feed = record {
   value = first_value (setting_by (canvas.ruler out) prompt (helps helper) entries);
   input = new_input config;
@@ -52,13 +53,14 @@ not_begun canvas helps custom prompt helper entries config out ring query feed =
   told = λ told. told;
   keeps = le_refl feed.bound;
   falls = tt;
+  line_is = tt;
   helper_stays = λ told. refl;
   ruler_stays = λ told. refl;
   reason = tt;
 }
 
 pub not_begun_by : {R H K T : Type 0} (canvas : Canvas R) (helps : Option H → Helping) (custom : Custom) (prompt : List ℕ) (helper : Option H) (entries : List (List ℕ)) (config : Config) (out : R)
-    (ring : Ring) (query : List ℕ) (feed : KeyFeed) (ran : Ran R H K T) → ran ≡ record { out = out; helper = helper; outcome = Err Memory } → Runs canvas helps custom prompt helper entries config out ring query feed ran ring query feed
+    (ring : Ring) (query : List ℕ) (feed : KeyFeed) (ran : Ran R H K T) → ran ≡ record { out = out; helper = helper; outcome = Err Memory; open_line = None } → Runs canvas helps custom prompt helper entries config out ring query feed ran ring query feed
 not_begun_by {K = K} {T = T} canvas helps custom prompt helper entries config out ring query feed ran is =
     subst (λ x. Runs canvas helps custom prompt helper entries config out ring query feed x ring query feed) (sym is) (not_begun {K = K} {T = T} canvas helps custom prompt helper entries config out ring query feed)
 
@@ -74,6 +76,14 @@ same_fall : {X : Type 0} (P : Type 0) (f : X → List ℕ) (o : Result X Readlin
 same_fall P f (Err e) q is h = tt
 same_fall P f (Ok x) (Ok y) is h = h
 same_fall P f (Ok x) (Err e) is h = ok_not_err (f x) e is
+
+-- a line that isn't accepted is the one that stands
+line_left : {A X : Type 0} (f : X → List ℕ) (o : Result X ReadlineError) (read : Result A ReadlineError) (text : List ℕ) (line : Line) → made_of f o ≡ text_or read text → IsOpen o line (open_or read line)
+line_left f (Ok x) (Ok y) text line is = refl
+line_left f (Ok x) (Err e) text line is = ok_not_err (f x) e is
+line_left f (Err e) (Ok y) text line is = ok_not_err text e (sym is)
+line_left f (Err Memory) (Err e) text line is = refl
+line_left f (Err _) (Err e) text line is = refl
 
 -- ---- causes
 
@@ -109,7 +119,8 @@ module _ {Out H Hi K T : Type 0} {renderer : renderers.Renderer.Ghosts Out} {com
       (shown : Hi) (place : ℕ) (starts : Starts out prompt helper shown place s) (shown_is : shown ≡ hist) (place_is : place ≡ length (history.entries hist))
       (custom : Custom) (i i' : Input) (input_is : i ≡ new_input config) (ring ring' : Ring) (modal modal' : Modal) (query query' : List ℕ) (modal_is : modal ≡ modal_first config query) (query_is : query' ≡ modal'.query) (feed feed' : KeyFeed) (result : Result A ReadlineError)
       (reads : Takes line_script custom config.indent_size s i ring modal feed t i' ring' modal' feed' (text_or result t.recorded.line.text))
-      (ran : Ran Out H K T) (out_is : ran.out ≡ t.out) (helper_is : ran.helper ≡ t.helper) (outcome_is : outcome_of ran ≡ text_or result t.recorded.line.text) where
+      (ran : Ran Out H K T) (out_is : ran.out ≡ t.out) (helper_is : ran.helper ≡ t.helper) (outcome_is : outcome_of ran ≡ text_or result t.recorded.line.text)
+      (line_is : ran.open_line ≡ open_or result t.recorded.line) where
     abbrev setting : Setting
     setting = setting_by (renderer.canvas.ruler out) prompt (helps s helper) (history.entries hist)
 
@@ -158,6 +169,7 @@ module _ {Out H Hi K T : Type 0} {renderer : renderers.Renderer.Ghosts Out} {com
       told = reads.told;
       keeps = reads.keeps;
       falls = same_fall (feed'.bound < feed.bound) string_bytes ran.outcome (text_or result t.recorded.line.text) outcome_is reads.falls;
+      line_is = subst (IsOpen ran.outcome t.recorded.line) (sym line_is) (line_left string_bytes ran.outcome result t.recorded.line.text t.recorded.line outcome_is);
       helper_stays = λ told. helper_same_as (reads.stays told);
       ruler_stays = λ told. ap renderer.canvas.ruler out_is ∙ (reads.stays told).ruler ∙ ap renderer.canvas.ruler starts.out_is;
       reason = same_reason string_bytes ran.outcome (text_or result t.recorded.line.text) (Cause custom t feed')

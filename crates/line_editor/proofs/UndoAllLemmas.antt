@@ -63,18 +63,18 @@ use Rattle.line_editor.specs.Returns.{ValueStep, value_after, value_after_all, B
 use Rattle.line_editor.specs.Returns.ValueStep.{Done, Asked, Met}
 use Rattle.line_editor.specs.Drawing.{refreshed, refreshed_if}
 use Rattle.line_editor.specs.Rewording.{edit_word_effect}
-use Rattle.line_editor.specs.Meeting.{met_resting, met_prefixes, met_tabbed, unlisted, met_lists, met_cycles, met_by}
+use Rattle.line_editor.specs.Meeting.{met_resting, met_prefixes, met_tabbed, met_anew, met_lists, met_cycles, met_by, acted}
 use Rattle.line_editor.specs.Modal.{Modal, rested, wish_of}
 use Rattle.line_editor.specs.Prefixes.{is_prefix, is_own, earlier, later, risen, rises_if, fallen}
-use Rattle.line_editor.specs.Searching.{erased, looks_again, typed_in, sought, onward, hit_back, found_put, is_place, placing, given_up, begun_if, acted, act_of}
-use Rattle.line_editor.specs.Values.{Value, Setting, Effect, then_do, verdict_reply, completion_reply, rewritten, written_of, at_line}
+use Rattle.line_editor.specs.Searching.{erased, looks_again, typed_in, sought, onward, hit_back, found_put, is_place, placing, given_up, begun_if, hit_again, found_again, act_of}
+use Rattle.line_editor.specs.Values.{Value, Setting, Effect, then_do, verdict_reply, completion_reply, rewritten, written_of, at_line, close_groups}
 use Rattle.line_editor.specs.Yanking.{anchored, steps_over, behind_yank, yanked_by, yank_text, yank_lent, pop_lent}
 use Rattle.line_editor.specs.declared.modal_state.Act.{Act}
 use Rattle.line_editor.specs.declared.modal_state.Act.TheVariants.{Types, Erases, Goes, Leaves, Ends}
 use Rattle.line_editor.specs.declared.modal_state.Standing.{Standing}
 use Rattle.line_editor.specs.declared.modal_state.Standing.TheVariants.{Off, Rests, Prefixes, Searches, Tabbed, Lists, Cycles}
 use Rattle.line_editor.specs.declared.modal_state.Wish.{Wish}
-use Rattle.line_editor.specs.declared.modal_state.Wish.TheVariants.{Search, Up, Down, Tab, TabBack, Leave, Other}
+use Rattle.line_editor.specs.declared.modal_state.Wish.TheVariants.{Search, Up, Down, Tab, TabBack, Leave, Again, Other}
 use Rattle.line_editor.proofs.ReachLemmas.{undo_reached, ended_reaches, edit_reaches, group_reaches, typing_reaches, yanking_reaches, updating_reaches, indenting_reaches, killing_reaches, transposing_reaches}
 use Rattle.line_editor.proofs.ReplaysLemmas.{transpose_words_replays, edit_word_replays}
 use Rattle.line_editor.proofs.UndoLemmas.{undo_reaches, unmade_reached}
@@ -400,13 +400,6 @@ again_reached : (empty : Bool) (q : Modal) (s : Setting) (v : Value) (first : Li
 again_reached true q s v first r = placed_reached q.put q.place s v first r
 again_reached false q s v first r = put_reached q.put (sought q.query q.dir (Some q.start) s.entries) s v first r
 
-acted_reached : (act : Act) (q : Modal) (cmd : Cmd) (s : Setting) (v : Value) (first : List ℕ) → Reached first v → Reached first (acted act q cmd s v).effect.value
-acted_reached (Types c) q cmd s v first r = put_reached q.put (sought (typed_in c q).query q.dir (Some q.at) s.entries) s v first r
-acted_reached Erases q cmd s v first r = again_reached (length (erased q).query == 0) (erased q) s v first r
-acted_reached (Goes dir) q cmd s v first r = put_reached q.put (sought q.query dir (onward dir q (length s.entries)) s.entries) s v first r
-acted_reached Leaves q cmd s v first r = given_up_reached q s v first r
-acted_reached Ends q cmd s v first r = r
-
 begun_reached : (empty : Bool) (dir : SearchDirection) (q : Modal) (cmd : Cmd) (s : Setting) (v : Value) (first : List ℕ) → Reached first v → Reached first (begun_if empty dir q cmd s v).effect.value
 begun_reached true dir q cmd s v first r = r
 begun_reached false dir q cmd s v first r = ended_reaches first v.held v.line.text r
@@ -451,7 +444,7 @@ offered_reached true lists q found s v first r = several_reached q.completion_ty
 
 tab_reached : (reply : Option (Reply Completion)) (lists : Bool) (q : Modal) (cmd : Cmd) (s : Setting) (v : Value) (first : List ℕ) → Reached first v → Reached first (tab_by reply lists q cmd s v).effect.value
 tab_reached None lists q cmd s v first r = r
-tab_reached (Some reply) lists q cmd s v first r = let found = candidates_given (Some reply) in offered_reached (is_ambiguous found) lists q found s v first r
+tab_reached (Some reply) lists q cmd s v first r = let found = candidates_given (Some reply) in offered_reached (is_ambiguous found v.line) lists q found s v first r
 
 next_reached : (dir : SearchDirection) (q : Modal) (s : Setting) (v : Value) (first : List ℕ) → Reached first v → Reached first (asked_turned dir q s v).value
 next_reached dir q s v first r =
@@ -463,6 +456,12 @@ cycle_reached (Some reply) dir q cmd s v first r = next_reached dir q s (then_do
 
 -- ---- any command that is met
 
+again_found_reached : (hit : Option Hit) (q : Modal) (s : Setting) (v : Value) (first : List ℕ) → Reached first v → Reached first (found_again hit q s v).effect.value
+again_found_reached None q s v first r = r
+again_found_reached (Some hit) q s v first r =
+    let w = (close_groups s v).value in
+    group_reaches (by (updating hit.entry hit.pos)) (written_of w) first (λ k. updating_reaches hit.entry hit.pos (group_opened (written_of w)) first k) (ended_reaches first v.held v.line.text r)
+
 resting_reached : (wish : Wish) (q : Modal) (cmd : Cmd) (s : Setting) (v : Value) (first : List ℕ) → Reached first v → Reached first (met_resting wish q cmd s v).effect.value
 resting_reached (Search dir) q cmd s v first r = begun_reached (length s.entries == 0) dir q cmd s v first r
 resting_reached Up q cmd s v first r = rises_reached (is_own s v && is_prefix v.line) q cmd s v first r
@@ -470,6 +469,7 @@ resting_reached Down q cmd s v first r = r
 resting_reached Tab q cmd s v first r = tab_reached (completion_reply s v) q.lists_at_once q cmd s v first r
 resting_reached TabBack q cmd s v first r = r
 resting_reached Leave q cmd s v first r = r
+resting_reached (Again way) q cmd s v first r = again_found_reached (hit_again way q s v) q s v first r
 resting_reached Other q cmd s v first r = r
 
 prefixes_reached : (wish : Wish) (q : Modal) (cmd : Cmd) (s : Setting) (v : Value) (first : List ℕ) → Reached first v → Reached first (met_prefixes wish q cmd s v).effect.value
@@ -479,6 +479,7 @@ prefixes_reached (Search dir) q cmd s v first r = resting_reached (Search dir) (
 prefixes_reached Tab q cmd s v first r = resting_reached Tab (rested q) cmd s v first r
 prefixes_reached TabBack q cmd s v first r = resting_reached TabBack (rested q) cmd s v first r
 prefixes_reached Leave q cmd s v first r = resting_reached Leave (rested q) cmd s v first r
+prefixes_reached (Again way) q cmd s v first r = resting_reached (Again way) (rested q) cmd s v first r
 prefixes_reached Other q cmd s v first r = resting_reached Other (rested q) cmd s v first r
 
 tabbed_reached : (wish : Wish) (q : Modal) (cmd : Cmd) (s : Setting) (v : Value) (first : List ℕ) → Reached first v → Reached first (met_tabbed wish q cmd s v).effect.value
@@ -488,19 +489,21 @@ tabbed_reached Up q cmd s v first r = resting_reached Up (rested q) cmd s v firs
 tabbed_reached Down q cmd s v first r = resting_reached Down (rested q) cmd s v first r
 tabbed_reached TabBack q cmd s v first r = resting_reached TabBack (rested q) cmd s v first r
 tabbed_reached Leave q cmd s v first r = resting_reached Leave (rested q) cmd s v first r
+tabbed_reached (Again way) q cmd s v first r = resting_reached (Again way) (rested q) cmd s v first r
 tabbed_reached Other q cmd s v first r = resting_reached Other (rested q) cmd s v first r
 
-unlisted_reached : (wish : Wish) (q : Modal) (cmd : Cmd) (s : Setting) (v : Value) (first : List ℕ) → Reached first v → Reached first (unlisted wish q cmd s v).effect.value
-unlisted_reached wish q cmd s v first r = resting_reached wish (rested q) cmd s (refreshed s v).value first r
+anew_reached : (wish : Wish) (q : Modal) (cmd : Cmd) (s : Setting) (v : Value) (first : List ℕ) → Reached first v → Reached first (met_anew wish q cmd s v).effect.value
+anew_reached wish q cmd s v first r = resting_reached wish (rested q) cmd s (refreshed s v).value first r
 
 lists_reached : (wish : Wish) (q : Modal) (cmd : Cmd) (s : Setting) (v : Value) (first : List ℕ) → Reached first v → Reached first (met_lists wish q cmd s v).effect.value
 lists_reached Tab q cmd s v first r = tab_reached (completion_reply s v) true q cmd s v first r
-lists_reached (Search dir) q cmd s v first r = unlisted_reached (Search dir) q cmd s v first r
-lists_reached Up q cmd s v first r = unlisted_reached Up q cmd s v first r
-lists_reached Down q cmd s v first r = unlisted_reached Down q cmd s v first r
-lists_reached TabBack q cmd s v first r = unlisted_reached TabBack q cmd s v first r
-lists_reached Leave q cmd s v first r = unlisted_reached Leave q cmd s v first r
-lists_reached Other q cmd s v first r = unlisted_reached Other q cmd s v first r
+lists_reached (Search dir) q cmd s v first r = anew_reached (Search dir) q cmd s v first r
+lists_reached Up q cmd s v first r = anew_reached Up q cmd s v first r
+lists_reached Down q cmd s v first r = anew_reached Down q cmd s v first r
+lists_reached TabBack q cmd s v first r = anew_reached TabBack q cmd s v first r
+lists_reached Leave q cmd s v first r = anew_reached Leave q cmd s v first r
+lists_reached (Again way) q cmd s v first r = anew_reached (Again way) q cmd s v first r
+lists_reached Other q cmd s v first r = anew_reached Other q cmd s v first r
 
 cycles_reached : (wish : Wish) (q : Modal) (cmd : Cmd) (s : Setting) (v : Value) (first : List ℕ) → Reached first v → Reached first (met_cycles wish q cmd s v).effect.value
 cycles_reached Tab q cmd s v first r = cycle_reached (completion_reply s v) Forward q cmd s v first r
@@ -509,7 +512,15 @@ cycles_reached Leave q cmd s v first r = given_up_reached q s v first r
 cycles_reached (Search dir) q cmd s v first r = resting_reached (Search dir) (rested q) cmd s v first r
 cycles_reached Up q cmd s v first r = resting_reached Up (rested q) cmd s v first r
 cycles_reached Down q cmd s v first r = resting_reached Down (rested q) cmd s v first r
+cycles_reached (Again way) q cmd s v first r = resting_reached (Again way) (rested q) cmd s v first r
 cycles_reached Other q cmd s v first r = resting_reached Other (rested q) cmd s v first r
+
+acted_reached : (act : Act) (q : Modal) (cmd : Cmd) (s : Setting) (v : Value) (first : List ℕ) → Reached first v → Reached first (acted act q cmd s v).effect.value
+acted_reached (Types c) q cmd s v first r = put_reached q.put (sought (typed_in c q).query q.dir (Some q.at) s.entries) s v first r
+acted_reached Erases q cmd s v first r = again_reached (length (erased q).query == 0) (erased q) s v first r
+acted_reached (Goes dir) q cmd s v first r = put_reached q.put (sought q.query dir (onward dir q (length s.entries)) s.entries) s v first r
+acted_reached Leaves q cmd s v first r = given_up_reached q s v first r
+acted_reached Ends q cmd s v first r = anew_reached (wish_of cmd) q cmd s v first r
 
 met_reached : (at : Standing) (q : Modal) (cmd : Cmd) (s : Setting) (v : Value) (first : List ℕ) → Reached first v → Reached first (met_by at q cmd s v).effect.value
 met_reached Off q cmd s v first r = r

@@ -17,10 +17,10 @@ use Rattle.line_editor.specs.Values.{Value, Setting, Transition, taking_memory, 
 use Rattle.line_editor.specs.declared.modal_state.Standing.{Standing}
 use Rattle.line_editor.specs.declared.modal_state.Standing.TheVariants.{Tabbed, Lists, Cycles}
 
--- ---- a single candidate
+-- ---- a single candidate: with what ends it, if it is a whole word
 
 abbrev pub only_text : List Offered → Option (List ℕ)
-only_text (o ∷ []) = Some o.replacement
+only_text (o ∷ []) = Some o.alone
 only_text candidates = None
 
 abbrev pub only_put : Completion → Line → Option (List ℕ)

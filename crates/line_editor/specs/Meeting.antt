@@ -6,19 +6,22 @@ use Rattle.line_editor.specs.Candidates.{tab, cycle}
 use Rattle.line_editor.specs.Drawing.{refreshed}
 use Rattle.line_editor.specs.Modal.{Modal, rested, Meeting, passed, takes, wish_of}
 use Rattle.line_editor.specs.Prefixes.{is_prefix, is_own, rises, rises_if, falls}
-use Rattle.line_editor.specs.Searching.{search_prompt, given_up, begun_if, act_of, acted}
+use Rattle.line_editor.specs.Searching.{search_prompt, given_up, begun_if, looks_typed, looks_erased, looks_on, search_again, act_of}
 use Rattle.line_editor.specs.Sights.{Sight, sight_of, sight_with}
 use Rattle.line_editor.specs.Values.{Value, Setting, Transition, then_do}
+use Rattle.line_editor.specs.declared.modal_state.Act.{Act}
+use Rattle.line_editor.specs.declared.modal_state.Act.TheVariants.{Types, Erases, Goes, Leaves, Ends}
 use Rattle.line_editor.specs.declared.modal_state.Standing.{Standing}
 use Rattle.line_editor.specs.declared.modal_state.Standing.TheVariants.{Off, Rests, Prefixes, Searches, Tabbed, Lists, Cycles}
 use Rattle.line_editor.specs.declared.modal_state.Wish.{Wish}
-use Rattle.line_editor.specs.declared.modal_state.Wish.TheVariants.{Search, Up, Down, Tab, TabBack, Leave}
+use Rattle.line_editor.specs.declared.modal_state.Wish.TheVariants.{Search, Up, Down, Tab, TabBack, Leave, Again}
 
 -- what may begin
 abbrev pub met_resting : Wish → Modal → Cmd → Setting → Value → Meeting
 met_resting (Search dir) x cmd s v = begun_if (length s.entries == 0) dir x cmd s v
 met_resting Up x cmd s v = rises_if (is_own s v && is_prefix v.line) x cmd s v
 met_resting Tab x cmd s v = tab x.lists_at_once x cmd s v
+met_resting (Again way) x cmd s v = search_again way x s v
 met_resting wish x cmd s v = passed x cmd v
 
 -- what goes on among the entries that begin with the line
@@ -40,13 +43,14 @@ then_meets first met s v = let m = met s (first s v).value in record {
   next = m.next;
 }
 
--- a list goes with the next key
-abbrev pub unlisted : Wish → Modal → Cmd → Setting → Value → Meeting
-unlisted wish x cmd s v = then_meets refreshed (met_resting wish (rested x) cmd) s v
+-- the line is drawn anew behind its own prompt, and the command is met as at rest
+abbrev pub met_anew : Wish → Modal → Cmd → Setting → Value → Meeting
+met_anew wish x cmd s v = then_meets refreshed (met_resting wish (rested x) cmd) s v
 
+-- a list goes with the next key
 abbrev pub met_lists : Wish → Modal → Cmd → Setting → Value → Meeting
 met_lists Tab x cmd s v = tab true x cmd s v
-met_lists wish x cmd s v = unlisted wish x cmd s v
+met_lists wish x cmd s v = met_anew wish x cmd s v
 
 -- the next candidate, the one before, or the line as it was
 abbrev pub met_cycles : Wish → Modal → Cmd → Setting → Value → Meeting
@@ -54,6 +58,14 @@ met_cycles Tab x cmd s v = cycle Forward x cmd s v
 met_cycles TabBack x cmd s v = cycle Reverse x cmd s v
 met_cycles Leave x cmd s v = takes (given_up x) (rested x) s v
 met_cycles wish x cmd s v = met_resting wish (rested x) cmd s v
+
+-- what a search that stands makes of it
+abbrev pub acted : Act → Modal → Cmd → Setting → Value → Meeting
+acted (Types c) x cmd s v = looks_typed c x s v
+acted Erases x cmd s v = looks_erased x s v
+acted (Goes dir) x cmd s v = looks_on dir x s v
+acted Leaves x cmd s v = takes (given_up x) (rested x) s v
+acted Ends x cmd s v = met_anew (wish_of cmd) x cmd s v
 
 abbrev pub met_by : Standing → Modal → Cmd → Setting → Value → Meeting
 met_by Off x cmd s v = passed x cmd v

@@ -5,7 +5,7 @@ use Rattle.line_config.specs.declared.settings.CompletionType.{CompletionType}
 use Rattle.line_help.specs.declared.search.SearchDirection.{SearchDirection}
 use Rattle.line_help.specs.declared.search.SearchDirection.TheVariants.{Forward, Reverse}
 use Rattle.line_keys.specs.declared.command.Cmd.{Cmd}
-use Rattle.line_keys.specs.declared.command.Cmd.TheVariants.{Abort, Complete, CompleteBackward, EndOfHistory, ForwardSearchHistory, HistorySearchBackward, HistorySearchForward, LineDownOrNextHistory, LineUpOrPreviousHistory, ReverseSearchHistory, Unknown}
+use Rattle.line_keys.specs.declared.command.Cmd.TheVariants.{Abort, Complete, CompleteBackward, EndOfHistory, ForwardSearchHistory, HistorySearchBackward, HistorySearchForward, LineDownOrNextHistory, LineUpOrPreviousHistory, ReverseSearchHistory, SearchAgain, Unknown}
 use Rattle.line_editor.specs.Values.{Value, Setting, Effect, Transition}
 use Rattle.line_editor.specs.declared.modal_state.ModalState.{ModalState}
 use Rattle.line_editor.specs.declared.modal_state.Next.{Next}
@@ -13,11 +13,10 @@ use Rattle.line_editor.specs.declared.modal_state.Next.TheVariants.{Nothing, Sam
 use Rattle.line_editor.specs.declared.modal_state.Standing.{Standing}
 use Rattle.line_editor.specs.declared.modal_state.Standing.TheVariants.{Off, Rests, Searches}
 use Rattle.line_editor.specs.declared.modal_state.Wish.{Wish}
-use Rattle.line_editor.specs.declared.modal_state.Wish.TheVariants.{Search, Up, Down, Tab, TabBack, Leave, Other}
+use Rattle.line_editor.specs.declared.modal_state.Wish.TheVariants.{Search, Up, Down, Tab, TabBack, Leave, Again, Other}
 
 pub record Modal : Type 0 where
-  -- what a completion makes of several candidates: whether the first Tab lists them, and at most how
-  -- many
+  -- what becomes of several candidates, whether the first Tab lists them, and how many at most
   pub completion_type : CompletionType
   pub lists_at_once : Bool
   pub limit : ℕ
@@ -116,6 +115,7 @@ wish_of (LineDownOrNextHistory n) = Down
 wish_of Complete = Tab
 wish_of CompleteBackward = TabBack
 wish_of Abort = Leave
+wish_of (SearchAgain way) = Again way
 wish_of cmd = Other
 
 abbrev pub next_of : Next → Cmd → Cmd

@@ -1,15 +1,17 @@
 -- Leaving the history's end and coming back to it; and the undo of all changes of a line.
 use Rattle.std.specs.Prelude.{◌≡◌, ⊤, ◌<◌, ◌≤◌, Bool, true, false, List, [], ◌∷◌, length, ℕ}
+use Rattle.line_help.specs.Completion.{Completion}
 use Rattle.line_help.specs.declared.search.SearchDirection.{SearchDirection}
 use Rattle.line_keys.specs.Refreshing.{Ask}
 use Rattle.line_keys.specs.declared.command.Cmd.{Cmd}
-use Rattle.line_keys.specs.declared.command.Cmd.TheVariants.{Abort, BeginningOfHistory, HistorySearchBackward, HistorySearchForward, PreviousHistory, Undo}
+use Rattle.line_keys.specs.declared.command.Cmd.TheVariants.{Abort, BeginningOfHistory, Complete, HistorySearchBackward, HistorySearchForward, PreviousHistory, Undo}
 use Rattle.line_record.specs.Held.{ended}
 use Rattle.line_editor.specs.Asks.{ask_effect}
+use Rattle.line_editor.specs.Candidates.{cycle_begun, cycle_first, cycle}
 use Rattle.line_editor.specs.Commands.{Means, effect}
-use Rattle.line_editor.specs.Meeting.{meeting_effect}
+use Rattle.line_editor.specs.Meeting.{meeting_effect, acted}
 use Rattle.line_editor.specs.Modal.{Modal}
-use Rattle.line_editor.specs.Searching.{acted, begun_at, begin_search, given_up, is_place}
+use Rattle.line_editor.specs.Searching.{begun_at, begin_search, given_up, is_place}
 use Rattle.line_editor.specs.Values.{Value, Setting}
 use Rattle.line_editor.specs.Leads.{Reaches, Sound}
 use Rattle.line_editor.specs.declared.modal_state.Act.{Act}
@@ -99,21 +101,22 @@ abbrev pub AllOnward : List Act → Type 0
 AllOnward [] = ⊤
 AllOnward (act ∷ acts) = (is_onward act ≡ true) × AllOnward acts
 
-pub record Sought : Type 0 where
+-- what stands between two commands, and the value of the line then
+pub record Between : Type 0 where
   pub modal : Modal
   pub value : Value
 
-abbrev pub sought_first : Setting → SearchDirection → Modal → Value → Sought
+abbrev pub sought_first : Setting → SearchDirection → Modal → Value → Between
 sought_first s dir q v = record {
   modal = begun_at dir (length s.entries) v q;
   value = (begin_search dir q s v).value;
 }
 
-abbrev pub sought_on : Setting → Act → Sought → Sought
+abbrev pub sought_on : Setting → Act → Between → Between
 sought_on s act x = let m = acted act x.modal Abort s x.value in
     record { modal = m.modal; value = m.effect.value }
 
-abbrev pub sought_all : Setting → List Act → Sought → Sought
+abbrev pub sought_all : Setting → List Act → Between → Between
 sought_all s [] x = x
 sought_all s (act ∷ acts) x = sought_all s acts (sought_on s act x)
 
@@ -124,5 +127,33 @@ GivesBack =
     (s : Setting) (dir : SearchDirection) (q : Modal) (v : Value) (acts : List Act)
     → v.line.growth ≡ true → is_place v.line.place v.line ≡ true → AllOnward acts
     → let x = sought_all s acts (sought_first s dir q v) in
+    let back = (given_up x.modal s x.value).value in
+    (back.line ≡ v.line) × (back.held ≡ ended v.held)
+
+-- ---- candidates in turn that are given up
+
+-- the first one
+abbrev pub cycled_first : Setting → Completion → Modal → Value → Between
+cycled_first s found q v = record {
+  modal = cycle_first found v.line q;
+  value = (cycle_begun found s v).value;
+}
+
+-- the next one in a direction
+abbrev pub cycled_on : Setting → SearchDirection → Between → Between
+cycled_on s dir x = let m = cycle dir x.modal Complete s x.value in
+    record { modal = m.modal; value = m.effect.value }
+
+abbrev pub cycled_all : Setting → List SearchDirection → Between → Between
+cycled_all s [] x = x
+cycled_all s (dir ∷ dirs) x = cycled_all s dirs (cycled_on s dir x)
+
+-- candidates that are given up after any number of them, in either direction, leave line, cursor
+-- and record as they were, except the groups that the begin closed
+abbrev pub GivesWordBack : Type 0
+GivesWordBack =
+    (s : Setting) (found : Completion) (q : Modal) (v : Value) (dirs : List SearchDirection)
+    → is_place v.line.place v.line ≡ true
+    → let x = cycled_all s dirs (cycled_first s found q v) in
     let back = (given_up x.modal s x.value).value in
     (back.line ≡ v.line) × (back.held ≡ ended v.held)

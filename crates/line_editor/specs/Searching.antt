@@ -9,9 +9,11 @@ use Rattle.line_edits.specs.Edits.{updating_in_group}
 use Rattle.line_help.specs.Search.{Hit, searched}
 use Rattle.line_help.specs.declared.search.SearchDirection.{SearchDirection}
 use Rattle.line_help.specs.declared.search.SearchDirection.TheVariants.{Forward, Reverse}
+use Rattle.line_keys.specs.declared.command.SearchAgain.{SearchAgain}
+use Rattle.line_keys.specs.declared.command.SearchAgain.TheVariants.{Same, Opposite}
 use Rattle.line_keys.specs.declared.command.Cmd.{Cmd}
 use Rattle.line_keys.specs.declared.command.Cmd.TheVariants.{Abort, ForwardSearchHistory, Kill, ReverseSearchHistory, SelfInsert}
-use Rattle.line_editor.specs.Drawing.{refreshed, refreshed_behind}
+use Rattle.line_editor.specs.Drawing.{beeped, refreshed, refreshed_behind}
 use Rattle.line_editor.specs.Modal.{Modal, rested, Meeting, passed, takes}
 use Rattle.line_editor.specs.Rewording.{taking_back}
 use Rattle.line_editor.specs.Values.{Value, Setting, Transition, unchanged, taking_memory, then_do, rewriting, close_groups, at_line}
@@ -137,6 +139,36 @@ abbrev pub begin_search : SearchDirection → Modal → Transition
 begin_search dir x s v =
     then_do close_groups (search_drawn (begun_at dir (length s.entries) v x)) s v
 
+-- ---- the last query once more, without a prompt
+
+abbrev pub dir_again : SearchAgain → SearchDirection → SearchDirection
+dir_again Same dir = dir
+dir_again Opposite Forward = Reverse
+dir_again Opposite Reverse = Forward
+
+-- from the entry after the one that was found last; in a line without a search from the entry that
+-- is shown, or from the last one
+abbrev pub from_again : SearchDirection → Modal → ℕ → ℕ → Option ℕ
+from_again dir x shown count =
+    if x.fresh then Some (min shown (count - 1)) else next_at dir x.at count
+
+abbrev pub hit_again : SearchAgain → Modal → Setting → Value → Option Hit
+hit_again way x s v = let dir = dir_again way x.dir in
+    sought x.query dir (from_again dir x v.history (length s.entries)) s.entries
+
+-- it replaces the line, undone as one
+abbrev pub put_again : List ℕ → ℕ → Transition
+put_again entry pos =
+    then_do close_groups (then_do (rewriting (updating_in_group entry pos)) refreshed)
+
+abbrev pub found_again : Option Hit → Modal → Setting → Value → Meeting
+found_again None x s v = takes beeped x s v
+found_again (Some hit) x s v =
+    takes (put_again hit.entry hit.pos) (record x { fresh = false; at = hit.idx }) s v
+
+abbrev pub search_again : SearchAgain → Modal → Setting → Value → Meeting
+search_again way x s v = found_again (hit_again way x s v) x s v
+
 -- ---- what it makes of a command
 
 -- in an empty history nothing is searched
@@ -179,10 +211,3 @@ looks_erased x s v = looks_again (length (erased x).query == 0) (erased x) s v
 
 abbrev pub erased_effect : Modal → Transition
 erased_effect x s v = (looks_erased x s v).effect
-
-abbrev pub acted : Act → Modal → Cmd → Setting → Value → Meeting
-acted (Types c) x cmd s v = looks_typed c x s v
-acted Erases x cmd s v = looks_erased x s v
-acted (Goes dir) x cmd s v = looks_on dir x s v
-acted Leaves x cmd s v = takes (given_up x) (rested x) s v
-acted Ends x cmd s v = record { effect = refreshed s v; modal = rested x; next = cmd }

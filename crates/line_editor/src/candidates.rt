@@ -28,7 +28,7 @@ fn only_put<'c, C: Candidate>(
     ensures boundary { IfSome result (λ _. IsCharBoundary line.now.text start) }
 {
     match candidates {
-        [only] if begins_word(line, start) => Some(only.replacement()),
+        [only] if begins_word(line, start) => Some(only.alone()),
         _ => None,
     }
 }
@@ -98,7 +98,8 @@ fn list_text<C: Candidate>(
     candidates: &[C],
     limit: usize,
 ) -> Result<String, ReadlineError>
-    ensures { OrMemory result (λ s. string_bytes s ≡ list_text limit (map C.offers candidates.now)) }
+    ensures { OrMemory result (λ s. string_bytes s
+        ≡ list_text limit (map C.offers candidates.now)) }
 {
     let mut text = String::new(alloc);
     push_rows(&mut text, first_of(candidates, limit))?;

@@ -3,7 +3,7 @@
 ghost use Rattle.line_editor.specs.Leads.{CommandsLead, SubmittingLeads, AsksLead, EachTurnLeads, LinesLead};
 ghost use Rattle.line_editor.specs.Leads.{Sound};
 ghost use Rattle.line_editor.specs.Meeting.{OffPasses};
-ghost use Rattle.line_editor.specs.Returns.{ComesBack, UndoReaches, UndoesAll, GivesBack};
+ghost use Rattle.line_editor.specs.Returns.{ComesBack, UndoReaches, UndoesAll, GivesBack, GivesWordBack};
 ghost use Rattle.line_editor.specs.States.{value_of};
 
 use crate::renderer::Renderer;
@@ -62,6 +62,12 @@ pub fn undo_all()
 /// as they were, except that open groups are closed.
 pub fn give_back()
     ensures { GivesBack }
+{}
+
+/// Candidates in turn that are given up, whichever was put last, leave the line, its cursor and
+/// what can be undone as they were, except that open groups are closed.
+pub fn give_word_back()
+    ensures { GivesWordBack }
 {}
 
 /// With the setting off each command is done as it comes.

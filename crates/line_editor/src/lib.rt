@@ -50,7 +50,7 @@ pub use line_help::{
 pub use line_keys::{
     Bindings, Cmd, CmdKind, ConditionalEventHandler, Decides, Event, EventContext, EventHandler,
     EventMap, InputMode, InputState, Invoke, KeyCode, KeyEvent, Keys, Modifiers, RawReader,
-    Refresher, Text,
+    Refresher, SearchAgain, Text,
 };
 pub use renderer::{RefreshKind, Renderer};
 pub use running::{Ran, run};

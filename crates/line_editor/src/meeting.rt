@@ -5,13 +5,13 @@ ghost use Rattle.line_editor.specs.declared.modal_state.Standing.TheVariants.{Se
 ghost use Rattle.line_editor.specs.Modal.{modal_of, rested};
 ghost use Rattle.line_editor.specs.Searching.{hit_back, hit_put, search_drawn, look, looked, sought, is_place, placed, placing, given_up, begin_search, begun_if, begun_at, queried, emptied, emptied_effect};
 
-use crate::modal_state::{Act, ModalState, Next, Standing, Wish, act_of, wish_of};
+use crate::modal_state::{Act, ModalState, Next, Standing, Wish, act_of, dir_again, wish_of};
 use crate::renderer::Renderer;
 use crate::state::State;
 use line_buffer::LineBuffer;
 use line_config::ReadlineError;
 use line_help::{Helper, History, SearchDirection, SearchResult};
-use line_keys::Cmd;
+use line_keys::{Cmd, SearchAgain};
 
 /// Whether the cursor may stand at a place.
 fn is_place(line: &LineBuffer, place: usize) -> bool
@@ -21,7 +21,7 @@ fn is_place(line: &LineBuffer, place: usize) -> bool
     place <= line.len() && line.as_str().is_char_boundary(place)
 }
 
-/// Puts the cursor at a place, where it may stand there.
+/// Puts the cursor at a place, if it may stand there.
 fn place_cursor(line: &mut LineBuffer, place: usize)
     ensures { line.new ≡ placed place line.old }
 {
@@ -32,9 +32,9 @@ fn place_cursor(line: &mut LineBuffer, place: usize)
 
 impl<'p, 'h, Out: Renderer, H: Helper + Drop, Hi: History> State<'p, 'h, Out, H, Hi> {
     ghost use Rattle.line_edits.specs.Edits.{updating_in_group};
-    ghost use Rattle.line_editor.specs.Searching.{typed_effect, looks, typed_in, onward, erased_effect, looks_erased, looks_on};
+    ghost use Rattle.line_editor.specs.Searching.{typed_effect, looks, typed_in, onward, erased_effect, looks_erased, looks_on, put_again, search_again};
     ghost use Rattle.line_editor.specs.States.{value_of, setting_of, Does};
-    ghost use Rattle.line_editor.specs.Meeting.{met_resting, met_prefixes, met_tabbed, met_lists, met_cycles, unlisted};
+    ghost use Rattle.line_editor.specs.Meeting.{met_resting, met_prefixes, met_tabbed, met_lists, met_cycles, met_anew};
     ghost use Rattle.line_editor.specs.Turning.{Meets, MeetsAs, MeetsBy};
     ghost use Rattle.line_editor.specs.Values.{rewriting};
 
@@ -78,7 +78,7 @@ impl<'p, 'h, Out: Renderer, H: Helper + Drop, Hi: History> State<'p, 'h, Out, H,
         self.refresh_behind(prompt.as_str())
     }
 
-    /// Puts the cursor at a place, where it may stand there.
+    /// Puts the cursor at a place, if it may stand there.
     pub(crate) fn put_cursor(&mut self, place: usize)
         ensures does { Does {A = Unit {0}} (placing place) self.old self.new (Ok (tt {0})) }
     {
@@ -222,11 +222,7 @@ impl<'p, 'h, Out: Renderer, H: Helper + Drop, Hi: History> State<'p, 'h, Out, H,
             Act::Erases => self.search_erased(modal)?,
             Act::Goes(dir) => self.search_on(modal, dir)?,
             Act::Leaves => self.give_up(modal)?,
-            Act::Ends => {
-                modal.standing = Standing::Rests;
-                self.refresh()?;
-                return Ok(Next::Same);
-            }
+            Act::Ends => return self.meet_anew(modal, wish_of(cmd), cmd),
         }
         Ok(Next::Nothing)
     }
@@ -248,6 +244,40 @@ impl<'p, 'h, Out: Renderer, H: Helper + Drop, Hi: History> State<'p, 'h, Out, H,
         Ok(Next::Nothing)
     }
 
+    /// Puts an entry in place of the line, and draws it.
+    fn put_again(&mut self, entry: &str, pos: usize) -> Result<(), ReadlineError>
+        requires { IsCharBoundary entry.now pos }
+        ensures { Does (put_again entry.now pos) self.old self.new result }
+    {
+        self.close_groups()?;
+        self.put_entry(entry, pos)?;
+        self.refresh()
+    }
+
+    /// Looks for the last query once more. Beeps if nothing is found.
+    fn met_again(
+        &mut self,
+        modal: &mut ModalState,
+        way: SearchAgain,
+        cmd: &Cmd,
+    ) -> Result<Next, ReadlineError>
+        ensures { MeetsAs (search_again way (modal_of modal.old)) cmd.now self.old self.new
+            (modal_of modal.new) result }
+    {
+        let history = self.ctx.history();
+        let dir = dir_again(way, modal.dir);
+        let from = modal.from_again(dir, self.ctx.history_index(), history.len());
+        match sought(history, modal.query.as_str(), dir, from) {
+            Some(hit) => {
+                modal.fresh = false;
+                modal.at = hit.idx;
+                self.put_again(entry_of(hit.entry), hit.pos)?;
+            }
+            None => self.beep()?,
+        }
+        Ok(Next::Nothing)
+    }
+
     /// What a command begins if nothing stands.
     fn met_resting(
         &mut self,
@@ -262,6 +292,7 @@ impl<'p, 'h, Out: Renderer, H: Helper + Drop, Hi: History> State<'p, 'h, Out, H,
             Wish::Search(dir) => self.met_search(modal, dir, cmd),
             Wish::Up => self.met_up(modal, cmd),
             Wish::Tab => self.tab(modal, modal.lists_at_once, cmd),
+            Wish::Again(way) => self.met_again(modal, way, cmd),
             _ => Ok(Next::Same),
         }
     }
@@ -305,14 +336,14 @@ impl<'p, 'h, Out: Renderer, H: Helper + Drop, Hi: History> State<'p, 'h, Out, H,
         }
     }
 
-    /// Draws the line without the list below it; and what the command begins.
-    fn unlist(
+    /// Draws the line anew behind its own prompt; and what the command begins.
+    fn meet_anew(
         &mut self,
         modal: &mut ModalState,
         wish: Wish,
         cmd: &Cmd,
     ) -> Result<Next, ReadlineError>
-        ensures { MeetsAs (unlisted wish (modal_of modal.old) cmd.now) cmd.now
+        ensures { MeetsAs (met_anew wish (modal_of modal.old) cmd.now) cmd.now
             self.old self.new (modal_of modal.new) result }
     {
         self.refresh()?;
@@ -332,7 +363,7 @@ impl<'p, 'h, Out: Renderer, H: Helper + Drop, Hi: History> State<'p, 'h, Out, H,
     {
         match wish {
             Wish::Tab => self.tab(modal, true, cmd),
-            _ => self.unlist(modal, wish, cmd),
+            _ => self.meet_anew(modal, wish, cmd),
         }
     }
 

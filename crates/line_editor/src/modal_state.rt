@@ -5,12 +5,12 @@ ghost use Rattle.line_config.specs.Refusals.{OrMemory};
 ghost use Rattle.line_config.specs.declared.errors.ReadlineError.TheVariants.{Memory};
 ghost use Rattle.line_editor.specs.Candidates.{cycle_at};
 ghost use Rattle.line_editor.specs.Modal.{modal_of, modal_first, standing_first, wish_of};
-ghost use Rattle.line_editor.specs.Searching.{query_in, queried, without_last, erased, heading, search_prompt, erased_by, act_of, next_at, onward};
+ghost use Rattle.line_editor.specs.Searching.{query_in, queried, without_last, erased, heading, search_prompt, erased_by, act_of, next_at, onward, dir_again, from_again};
 
 use line_buffer::Movement;
 use line_config::{CompletionType, Config, ReadlineError};
 use line_help::SearchDirection;
-use line_keys::Cmd;
+use line_keys::{Cmd, SearchAgain};
 use std::alloc::Global;
 
 /// What stands between the commands of a line.
@@ -47,6 +47,8 @@ pub enum Wish {
     TabBack,
     /// The line as it was.
     Leave,
+    /// The last query once more.
+    Again(SearchAgain),
     /// None of these.
     Other,
 }
@@ -128,6 +130,7 @@ pub(crate) fn wish_of(cmd: &Cmd) -> Wish
         Cmd::Complete => Wish::Tab,
         Cmd::CompleteBackward => Wish::TabBack,
         Cmd::Abort => Wish::Leave,
+        Cmd::SearchAgain(way) => Wish::Again(*way),
         _ => Wish::Other,
     }
 }
@@ -171,14 +174,27 @@ fn next_at(dir: SearchDirection, at: usize, count: usize) -> Option<usize>
     }
 }
 
+/// The direction of the last search, or the other one.
+pub(crate) fn dir_again(way: SearchAgain, dir: SearchDirection) -> SearchDirection
+    ensures { result ≡ dir_again way dir }
+{
+    match (way, dir) {
+        (SearchAgain::Same, dir) => dir,
+        (SearchAgain::Opposite, SearchDirection::Forward) => SearchDirection::Reverse,
+        (SearchAgain::Opposite, SearchDirection::Reverse) => SearchDirection::Forward,
+    }
+}
+
 /// The candidate after one, of so many, in a direction. After the last one, and before the first,
 /// comes the word as it was.
 pub(crate) fn cycle_at(dir: SearchDirection, at: usize, count: usize) -> usize
     ensures { result ≡ cycle_at dir at count }
 {
     match dir {
-        SearchDirection::Forward => { if at < count { at + 1 } else { 0 } }
-        SearchDirection::Reverse => { if at == 0 { count } else { at.min(count).saturating_sub(1) } }
+        SearchDirection::Forward if at < count => at + 1,
+        SearchDirection::Forward => 0,
+        SearchDirection::Reverse if at == 0 => count,
+        SearchDirection::Reverse => at.min(count).saturating_sub(1),
     }
 }
 
@@ -268,6 +284,22 @@ impl ModalState {
     {
         if self.fresh {
             Some(self.at)
+        } else {
+            next_at(dir, self.at, count)
+        }
+    }
+
+    /// From which entry the last query is looked for once more, if this one is shown.
+    pub(crate) fn from_again(
+        &self,
+        dir: SearchDirection,
+        shown: usize,
+        count: usize,
+    ) -> Option<usize>
+        ensures { result ≡ from_again dir (modal_of self.now) shown count }
+    {
+        if self.fresh {
+            Some(shown.min(count.saturating_sub(1)))
         } else {
             next_at(dir, self.at, count)
         }

@@ -1,13 +1,14 @@
 //! A whole line.
-ghost use Rattle.std.specs.Prelude.{◌≡◌, Err, string_bytes};
+ghost use Rattle.std.specs.Prelude.{◌≡◌, Err, None, string_bytes};
 ghost use Rattle.line_config.specs.declared.errors.ReadlineError.TheVariants.{Memory};
 ghost use Rattle.line_keys.specs.Answers.{custom_of};
-ghost use Rattle.line_editor.specs.Running.{Runs, helping_by, outcome_of, text_or};
+ghost use Rattle.line_editor.specs.Running.{Runs, helping_by, open_or, outcome_of, text_or};
 
 use crate::modal_state::ModalState;
 use crate::renderer::Renderer;
 use crate::starting::empty_line;
 use crate::state::State;
+use line_buffer::LineBuffer;
 use line_config::{Config, ReadlineError};
 use line_edits::RecordedLine;
 use line_help::{Context, Helper, History};
@@ -23,17 +24,25 @@ pub struct Ran<Out: Renderer, H: Helper + Drop> {
     pub out: Out,
     pub helper: Option<H>,
     pub outcome: Result<String, ReadlineError>,
+    /// A line that wasn't accepted, as it stands. There is none if no memory was available for it.
+    pub open_line: Option<LineBuffer>,
 }
 
 impl<Out: Renderer, H: Helper + Drop> Ran<Out, H> {
     /// No memory was available for a line.
     fn unread(out: Out, helper: Option<H>) -> Self
-        ensures { result ≡ record { out = out; helper = helper; outcome = Err Memory } }
+        ensures { result ≡ record {
+          out = out;
+          helper = helper;
+          outcome = Err Memory;
+          open_line = None;
+        } }
     {
         Ran {
             out,
             helper,
             outcome: Err(ReadlineError::Memory),
+            open_line: None,
         }
     }
 }
@@ -44,6 +53,7 @@ impl<'p, 'h, Out: Renderer, H: Helper + Drop, Hi: History> State<'p, 'h, Out, H,
         ensures out { result.out ≡ self.entry.out }
         ensures helper { result.helper ≡ self.entry.helper }
         ensures outcome { outcome_of result ≡ text_or read self.entry.recorded.line.text }
+        ensures line { result.open_line ≡ open_or read self.entry.recorded.line }
     {
         let State {
             out,
@@ -52,11 +62,19 @@ impl<'p, 'h, Out: Renderer, H: Helper + Drop, Hi: History> State<'p, 'h, Out, H,
             ..
         } = self;
         let RecordedLine { line, .. } = recorded;
-        let outcome = read.map(|()| line.into_string());
-        Ran {
-            out,
-            helper,
-            outcome,
+        match read {
+            Ok(()) => Ran {
+                out,
+                helper,
+                outcome: Ok(line.into_string()),
+                open_line: None,
+            },
+            Err(e) => Ran {
+                out,
+                helper,
+                outcome: Err(e),
+                open_line: Some(line),
+            },
         }
     }
 }

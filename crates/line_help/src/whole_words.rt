@@ -77,7 +77,7 @@ impl Candidate for WholeWord {
 #[derive(Debug, Drop)]
 pub struct WholeWordCompleter {
     words: Vec<String>,
-    end: String,
+    end: &'static str,
 }
 
 impl Model for WholeWordCompleter {
@@ -88,14 +88,14 @@ impl Model for WholeWordCompleter {
 
     ghost view = { λ c. record {
       words = map string_bytes c.words.items;
-      end = string_bytes c.end;
+      end = c.end.now;
     } };
 }
 
 impl WholeWordCompleter {
     /// A completer with these words, and with what ends a word that is the only candidate.
-    pub fn new(words: Vec<String>, end: String) -> Self
-        ensures { result ≡ record { words = map string_bytes words.items; end = string_bytes end } }
+    pub fn new(words: Vec<String>, end: &'static str) -> Self
+        ensures { result ≡ record { words = map string_bytes words.items; end = end.now } }
     {
         WholeWordCompleter { words, end }
     }
@@ -131,7 +131,7 @@ impl Completer for WholeWordCompleter {
     ) -> Result<(usize, Vec<WholeWord>), HookFault> {
         let (start, word) = extract_word(line, pos, None, |c| c.is_whitespace());
         let found = words_for(alloc, &self.words, word)?;
-        let whole = whole_words(alloc, &found, self.end.as_str())?;
+        let whole = whole_words(alloc, &found, self.end)?;
         Ok((start, whole))
     }
 

@@ -15,7 +15,7 @@ use crate::statements::Statements;
 use anyhow::{Context, Result, bail};
 use keyline::{
     Ending, HelperParts, LineEditor, ReadlineError, SliceSource, StandardEditor, VecSink,
-    WordCompleter, standard_builder,
+    WholeWordCompleter, standard_builder,
 };
 use keyline_files::{load_history, save_history};
 use sqlite::Connection;
@@ -28,15 +28,16 @@ const GREETING: &str = "A database in memory: .help lists commands, .quit leaves
 /// The status if an argument is wrong.
 const WRONG_ARGUMENTS: u8 = 2;
 
-type Help = HelperParts<WordCompleter, Statements, (), Statements>;
+type Help = HelperParts<WholeWordCompleter, Statements, (), Statements>;
 
 /// An editor whose history's text can be saved.
 type Editor = StandardEditor<Help, VecSink>;
 
-/// Completes the names of tables, and waits for the end of a statement.
+/// Completes the names of tables, a sole one with a space after it, and waits for the end of a
+/// statement.
 fn helper(tables: Vec<String>) -> Help {
     HelperParts {
-        completer: WordCompleter::new(tables),
+        completer: WholeWordCompleter::new(tables, " "),
         hinter: Statements,
         highlighter: (),
         validator: Statements,

@@ -288,6 +288,7 @@ const MADE_ANEW: &str = "
     9 abc Replace ForwardChar 0            = Replace(ForwardChar(3), Some(\"abc\"))
     9 abc Kill EndOfLine                   = Kill(EndOfLine)
     9 abc Abort                            = Abort
+    9 abc SearchAgain Opposite             = SearchAgain(Opposite)
 ";
 
 // A line with this text inserted before.
