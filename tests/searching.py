@@ -213,9 +213,6 @@ class Played:
             self.look(way, search.at if first else search.at + way)
         elif name == "abort":
             self.line, self.search = search.before, None
-        elif name in ("up", "down"):
-            self.search = None
-            self.go_one(name)
         else:
             self.search = None
             self.rest(name, text)

@@ -47,14 +47,14 @@ const IN_TURN: &str = "
     a l Tab C-K x Enter = alphax / draw '> |' at 0,2 to 0,2; write 'a'; write 'l'; draw '> alpha|' at 0,7 to 0,7; write 'x' / - /
     a l Tab C-W Enter = / draw '> |' at 0,2 to 0,2; write 'a'; write 'l'; draw '> alpha|' at 0,7 to 0,7; move 0,7 to 0,2; clear row / 'alpha' /
 
-    mode: Vi = nothing
-    x Esc a l Tab Esc u Enter = xl / draw '> |' at 0,2 to 0,2; write 'x'; move 0,3 to 0,2; move 0,2 to 0,3; write 'l'; draw '> alpha|' at 0,7 to 0,7; move 0,7 to 0,6; draw '> xl|' at 0,4 to 0,4 / - /
-
-    mode: Emacs = nothing
     offers: 0 alpha alpha = nothing
     a l Tab Tab Tab Enter = al / draw '> |' at 0,2 to 0,2; write 'a'; write 'l'; draw '> alpha|' at 0,7 to 0,7; draw '> alpha|' at 0,7 to 0,7; draw '> al|' at 0,4 to 0,4; beep / - /
     offers: 0 grün größe = nothing
     Tab Tab C-G Enter = / draw '> |' at 0,2 to 0,2; draw '> grün|' at 0,6 to 0,6; draw '> größe|' at 0,7 to 0,7; draw '> |' at 0,2 to 0,2 / - /
+
+    mode: Vi = nothing
+    offers: 0 alpha alpine = nothing
+    x Esc a l Tab Esc u Enter = xl / draw '> |' at 0,2 to 0,2; write 'x'; move 0,3 to 0,2; move 0,2 to 0,3; write 'l'; draw '> alpha|' at 0,7 to 0,7; move 0,7 to 0,6; draw '> xl|' at 0,4 to 0,4 / - /
 ";
 
 // At each step: displays that fail, and a helper that does.

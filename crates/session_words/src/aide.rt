@@ -5,7 +5,7 @@ use line_help::{HelperParts, HistoryHinter, MatchingBracketValidator, WholeWordC
 use std::alloc::{AllocError, Global};
 
 /// Completion by words, hints from the history, and validation of brackets. A word that is the only
-/// candidate is followed by the text after `ends:`.
+/// candidate is followed by the text after `ends:`, a space or a quote.
 pub type Aide = HelperParts<
     Option<WholeWordCompleter>,
     HistoryHinter,
@@ -13,10 +13,19 @@ pub type Aide = HelperParts<
     Option<MatchingBracketValidator>,
 >;
 
+// The text with this picture.
+fn end_named(shown: &str) -> &'static str {
+    match shown {
+        "␠" => " ",
+        "\"" => "\"",
+        _ => "",
+    }
+}
+
 fn completer_of(
     alloc: Global,
     listed: &str,
-    end: &str,
+    end: &'static str,
 ) -> Result<Option<WholeWordCompleter>, AllocError> {
     if listed.is_empty() {
         return Ok(None);
@@ -25,12 +34,12 @@ fn completer_of(
     for word in listed.split(',') {
         words.push(text_meant(alloc, word)?)?;
     }
-    Ok(Some(WholeWordCompleter::new(words, text_meant(alloc, end)?)))
+    Ok(Some(WholeWordCompleter::new(words, end)))
 }
 
 /// The helper of a setting.
 pub fn aide_of(alloc: Global, setting: &Setting<'_>) -> Result<Option<Aide>, AllocError> {
-    let end = after(setting.all, "ends:").unwrap_or("");
+    let end = end_named(after(setting.all, "ends:").unwrap_or(""));
     let completer = completer_of(alloc, setting.words, end)?;
     if completer.is_none() && !setting.helped {
         return Ok(None);

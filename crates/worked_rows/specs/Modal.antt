@@ -1468,6 +1468,16 @@ row_189 = record (row 189 settings_189 (codes "a\u{1b}nN\r") (codes "a\n")) {
       codes "\u{1b}[m> \u{1b}[m\u{1b}[m\u{1b}[m\r\n");
 }
 
+-- ma C-R Up Enter = make␠test | shows {} m a ''ma} {ma} {make␠test}␛[7D ␛[7C␍␊ {} ␍␊
+abbrev pub row_193 : Row
+row_193 = record (row 193 settings_7 (codes "ma\u{12}\u{1b}[A\r") (codes "make test\n")) {
+  shows = Some
+      (codes "\r\u{1b}[J\u{1b}[m> \u{1b}[m\u{1b}[m\u{1b}[mma\r\u{1b}[J\u{1b}[m(reverse-i-sea" ++
+      codes "rch)`': \u{1b}[mma\u{1b}[m\u{1b}[m\r\u{1b}[J\u{1b}[m> \u{1b}[mma\u{1b}[m\u{1b}" ++
+      codes "[m\r\u{1b}[J\u{1b}[m> \u{1b}[mmake test\u{1b}[m\u{1b}[m\u{1b}[7D\u{1b}[7C\r\n" ++
+      codes "\r\u{1b}[J\u{1b}[m> \u{1b}[m\u{1b}[m\u{1b}[m\r\n");
+}
+
 abbrev pub modal_rows : List Row
 modal_rows = row_7 ∷ row_8 ∷ row_9 ∷ row_10 ∷ row_11 ∷ row_12 ∷ row_13 ∷ row_14 ∷ row_15 ∷ row_16 ∷
     row_17 ∷ row_18 ∷ row_21 ∷ row_22 ∷ row_23 ∷ row_24 ∷ row_25 ∷ row_26 ∷ row_27 ∷ row_28 ∷ row_31
@@ -1481,4 +1491,5 @@ modal_rows = row_7 ∷ row_8 ∷ row_9 ∷ row_10 ∷ row_11 ∷ row_12 ∷ row_
     row_122 ∷ row_123 ∷ row_126 ∷ row_127 ∷ row_131 ∷ row_135 ∷ row_136 ∷ row_140 ∷ row_141 ∷
     row_145 ∷ row_146 ∷ row_150 ∷ row_153 ∷ row_157 ∷ row_158 ∷ row_159 ∷ row_164 ∷ row_165 ∷
     row_166 ∷ row_167 ∷ row_168 ∷ row_169 ∷ row_170 ∷ row_171 ∷ row_172 ∷ row_173 ∷ row_174 ∷
-    row_175 ∷ row_176 ∷ row_177 ∷ row_178 ∷ row_179 ∷ row_180 ∷ row_183 ∷ row_186 ∷ row_189 ∷ []
+    row_175 ∷ row_176 ∷ row_177 ∷ row_178 ∷ row_179 ∷ row_180 ∷ row_183 ∷ row_186 ∷ row_189 ∷
+    row_193 ∷ []
