@@ -1,3 +1,4 @@
+pub mod Asks
 pub mod Call
 pub mod Lines
 pub mod Meant
