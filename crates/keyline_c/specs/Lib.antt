@@ -1,4 +1,5 @@
 pub mod Call
+pub mod Laws
 pub mod Lines
 pub mod Meant
 pub mod Rooms
