@@ -1,5 +1,5 @@
 -- From the last whole drawing on, the bytes of a line's steps show by themselves what all of them show.
-use Rattle.std.proofs.Common.{◌≡◌, ◌⊎◌, inl, inr, ℕ, zero, suc, ◌+◌, ◌/◌, ◌%◌, ◌≤◌, ◌==◌, nat_lt, nat_le, Bool, true, false, not, ◌&&◌, ◌||◌, List, [], ◌∷◌, ◌++◌, decimal, Option, None, Some, encode_utf8, refl, sym, ap, ◌∙◌, subst, append_assoc, append-nil, arith, true≢false, if◌then◌else◌}
+use Rattle.std.proofs.Common.{◌≡◌, ◌⊎◌, inl, inr, ℕ, zero, suc, ◌+◌, ◌-◌, ◌/◌, ◌%◌, ◌<◌, ◌≤◌, ◌==◌, nat_lt, nat_le, Bool, true, false, not, ◌&&◌, ◌||◌, List, [], ◌∷◌, ◌++◌, take, decimal, Option, None, Some, encode_utf8, refl, sym, ap, ◌∙◌, subst, append_assoc, append-nil, arith, true≢false, if◌then◌else◌}
 use Rattle.std.specs.Prelude.{⊤, nat_eq, codes}
 use Rattle.std.specs.Fmt.{digits, digit_glyph, digits_onto}
 use Rattle.std.specs.List.{flat_map, list_all}
@@ -110,16 +110,15 @@ glyph_plain : (d : ℕ) (b : Bool) → not ((if b then 48 + d else 87 + d) == 0x
 glyph_plain d true = grind (arith, nat_tests)
 glyph_plain d false = grind (arith, nat_tests)
 
+calm_if : (b : Bool) (xs ys : List ℕ) → calm xs ≡ true → calm ys ≡ true → calm (if b then xs else ys) ≡ true
+calm_if true xs ys h k = h
+calm_if false xs ys h k = k
+
 calm_digits : (k n : ℕ) (acc : List ℕ) → calm acc ≡ true → calm (digits_onto k 10 false n acc) ≡ true
 calm_digits zero n acc h = h
 calm_digits (suc k) n acc h =
     let more = calm_byte (digit_glyph false (n % 10)) acc (glyph_plain (n % 10) (nat_lt (n % 10) 10)) h in
-    by (n / 10 == 0) more
-  where
-    by : (b : Bool) → calm (digit_glyph false (n % 10) ∷ acc) ≡ true
-        → calm (if b then digit_glyph false (n % 10) ∷ acc else digits_onto k 10 false (n / 10) (digit_glyph false (n % 10) ∷ acc)) ≡ true
-    by true more = more
-    by false more = calm_digits k (n / 10) (digit_glyph false (n % 10) ∷ acc) more
+    calm_if (n / 10 == 0) (digit_glyph false (n % 10) ∷ acc) (digits_onto k 10 false (n / 10) (digit_glyph false (n % 10) ∷ acc)) more (calm_digits k (n / 10) (digit_glyph false (n % 10) ∷ acc) more)
 
 calm_decimal : (n : ℕ) → calm (decimal n) ≡ true
 unfolding digits
