@@ -79,6 +79,9 @@ shows_open s bytes over top l x v line it h seen value is =
     let same = seen_is x line it is (seen.line ∙ ap (λ (u : Line). u.text) value) (seen.place ∙ ap (λ (u : Line). u.place) value) in
     record { display = m.0; means = m.1; shows = subst (λ v. Shows s.columns (widths s) v top m.0) same (m.4 (place_open s x seen.rests)); over_is = m.3 }
 
+drawn_last : (drawn bytes last : List ℕ) → drawn ≡ bytes → last_drawing bytes ≡ Some last → last_drawing drawn ≡ Some last
+drawn_last drawn bytes last is h = ap last_drawing is ∙ h
+
 module _ (held : VecSink → List ℕ) where
   pub last_drawings_show : LastDrawingsShow held
   last_drawings_show n g x left before over top w rest =
@@ -103,6 +106,6 @@ module _ (held : VecSink → List ℕ) where
       let drawn : held left.display ≡ bytes_for s l steps = w.reads.drawn ∙ line_bytes n g x answer in
       let h : DisplayHolds s (before ++ bytes) over top (drawn_by s l steps).layout y = anew.holds before over top rest.good in (
         bytes,
-        ap last_drawing drawn ∙ anew_last s low high a.prompt (bytes_for s l steps) (drawn_by s l steps).layout y anew,
+        drawn_last (held left.display) (bytes_for s l steps) bytes drawn (anew_last s low high a.prompt (bytes_for s l steps) (drawn_by s l steps).layout y anew),
         shows_open s (before ++ bytes) over top (drawn_by s l steps).layout y p.rest.value (line_at_end n g x) left.open_line h seen refl (open_so left.outcome (line_at_end n g x) left.open_line w.more w.reads.line_is),
       )

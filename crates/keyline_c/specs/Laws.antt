@@ -15,6 +15,7 @@ use Rattle.line_editor.specs.Values.{Setting}
 use Rattle.line_editor.specs.Yanking.{behind_yank}
 use Rattle.line_editor.specs.declared.commands.Status.TheVariants.{Proceed}
 use Rattle.line_keys.specs.Answers.{Custom}
+use Rattle.line_screen.specs.Calls.{Screen}
 use Rattle.line_screen.specs.Display.{Display, Placed, cell_at, meaning}
 use Rattle.line_screen.specs.Drawing.{erase_to_end}
 use Rattle.line_screen.specs.Laws.{widths}
@@ -68,6 +69,35 @@ module _ (held : VecSink → List ℕ) where
       → (bytes : List ℕ) × (last_drawing (held left.display) ≡ Some bytes)
       × MomentShown (face g.screen (before ++ bytes) top over (seen_in n g x))
       (seen_in n g x).prompt (open_text left.open_line) (open_place left.open_line)
+
+-- the same cells, and the cursor in the same one
+pub record LookAlike (d e : Display) : Type 0 where
+  pub cells : (row col : ℕ) → cell_at d.placed row col ≡ cell_at e.placed row col
+  pub cursor : d.cursor ≡ e.cursor
+
+-- the same open line and cursor, after the same prompt, and before the same hint or message
+pub record ShowTheSame (n : ℕ) (g : Given) (x y : SessionState) (left other : Left) : Type 0 where
+  pub text : open_text left.open_line ≡ open_text other.open_line
+  pub place : open_place left.open_line ≡ open_place other.open_line
+  pub prompt : (seen_in n g x).prompt ≡ (seen_in n g y).prompt
+  pub info : (seen_in n g x).info ≡ (seen_in n g y).info
+
+module _ (held : VecSink → List ℕ) where
+  -- a display to which bytes were sent, and then those from a line's last whole drawing on
+  pub record DrawnAnew (s : Screen) (before : List ℕ) (left : Left) (d : Display) : Type 0 where
+    pub bytes : List ℕ
+    pub last : last_drawing (held left.display) ≡ Some bytes
+    pub means : meaning s.columns (widths s) (before ++ bytes) ≡ Some d
+
+  -- two key texts whose open lines show the same leave the same display if they are drawn anew,
+  -- whatever their bytes are
+  abbrev pub SameLinesLookAlike : Type 0
+  SameLinesLookAlike =
+      (n : ℕ) (g : Given) (x y : SessionState) (left other : Left)
+      (before : List ℕ) (over : List Placed) (top : ℕ) (d e : Display)
+      → IsOpenAt held n g x left → IsOpenAt held n g y other → ShowTheSame n g x y left other
+      → IsAtRest (face g.screen before top over no_sight)
+      → DrawnAnew g.screen before left d → DrawnAnew g.screen before other e → LookAlike d e
 
 -- ---- a paste
 

@@ -1,6 +1,6 @@
 //! Laws of the definitions. Each is the contract of a function that does nothing.
 
-ghost use Rattle.keyline_c.specs.Laws.{LastDrawingsShow, PastesGoIn};
+ghost use Rattle.keyline_c.specs.Laws.{LastDrawingsShow, PastesGoIn, SameLinesLookAlike};
 
 use keyline::{Sink, VecSink};
 
@@ -8,6 +8,12 @@ use keyline::{Sink, VecSink};
 /// what is sent again after other output, or on a display that was cleared.
 pub fn last_drawing()
     ensures { LastDrawingsShow ⟦<VecSink as Sink>⟧.held }
+{}
+
+/// Two key texts whose open lines show the same leave the same display if they are drawn anew. Their
+/// bytes may differ: what is typed comes after a whole drawing, and what is pasted is in one.
+pub fn same_lines()
+    ensures { SameLinesLookAlike ⟦<VecSink as Sink>⟧.held }
 {}
 
 /// A text that is pasted between two phrases goes to the cursor, in every mode, whatever the line
