@@ -8,7 +8,9 @@ import re
 
 from display import Drawing
 from hunting import without_parts
-from inputs import COLUMNS, ENTER, PASTE, PASTED, UNTYPED, history, keys_of, one_key, searches as searches_of, settings, some, texts
+from inputs import (COLUMNS, ENTER, PASTE, PASTED, UNTYPED, candidate_keys, completed_words, history, keys_of, one_key,
+                    searches as searches_of, settings, some, texts)
+from searching import Completes
 from sessions import NAMED, meant
 
 MESSAGE = re.compile(r"Mismatched brackets: '.' is (unpaired|not properly closed)")
@@ -105,9 +107,17 @@ class Session:
         return meant(self.value("loaded:", ""))
 
     def is_searched(self):
-        """Whether the model of searches knows its settings."""
-        known = ("columns:", "prompt:", "loaded:", "reads:", "clusters:")
-        return "modal" in self.words and all(word in ("modal", "adding", "vi") or word.startswith(known) for word in self.words)
+        """Whether the model of searches and completion knows its settings: with words to complete there are hints of a history."""
+        known = ("columns:", "prompt:", "loaded:", "reads:", "clusters:", "words:", "limit:")
+        alone = ("modal", "adding", "vi", "listed", "at-once")
+        is_known = "modal" in self.words and all(word in alone or word.startswith(known) for word in self.words)
+        return is_known and not (self.value("words:") and ("adding" in self.words or self.history))
+
+    def completes(self, words="words:"):
+        """What Tab completes, for that model, by the words after a name."""
+        listed = meant(self.value(words, "")).decode(errors="replace")
+        return Completes(listed.split(",") if listed else None, "listed" in self.words, int(self.value("limit:", "100")),
+                         "at-once" in self.words)
 
     def cut(self):
         """The word that says how its keys are read the second time."""
@@ -133,6 +143,9 @@ class Session:
     def open_texts(self):
         """What may stand after a line that hasn't ended."""
         yield ""
+        offered = self.completes("offers:")
+        if offered.words and self.is_modal():
+            yield offered.listing(offered.words)
         yield from (meant(self.value(name, "")).decode(errors="replace") for name in ("hint:", "message:"))
 
     def shorter(self):
@@ -257,7 +270,7 @@ def setting(rng):
     """The words of a setting, without bindings, and its mode."""
     given = settings(rng)
     words = ["adding", f"columns:{given['columns']}"] + (["vi"] if given["mode"] == "vi" else [])
-    words += ["modal"] if given["extended"] else []
+    words += ["modal", *rng.choice([[], ["listed"], ["listed", "at-once"], ["listed", f"limit:{some(rng, 0, 3)}"]])] if given["extended"] else []
     if "prompt" in given or rng.random() < 0.2:
         words.append(f"prompt:{noted(given.get('prompt') or texts(rng, 6, UNTYPED))}")
     if given.get("history"):
@@ -342,5 +355,14 @@ def searches(rng):
     return Session(given.keys, tuple(words))
 
 
+def candidates(rng):
+    """Words that are completed over several keys, in each way."""
+    words, mode = completed_words(rng), rng.choice(["emacs", "emacs", "vi"])
+    given = ["modal", f"columns:{rng.choice(COLUMNS)}", f"words:{','.join(map(noted, words))}", reads(rng)]
+    given += rng.choice([[], ["listed"]]) + rng.choice([[], [], ["at-once"]]) + rng.choice([[], [f"limit:{some(rng, 0, 5)}"]])
+    given += ["vi"] if mode == "vi" else []
+    return Session(candidate_keys(rng, words, mode), tuple(given))
+
+
 # How often each kind is played.
-KINDS = {shadowed_keys: 4, bound_sequences: 4, advised_lines: 4, odd_settings: 2, searches: 5}
+KINDS = {shadowed_keys: 4, bound_sequences: 4, advised_lines: 4, odd_settings: 2, searches: 5, candidates: 5}

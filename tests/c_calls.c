@@ -29,7 +29,7 @@ static struct keyline_text text(const char *bytes)
 
 static struct keyline_space space(size_t size)
 {
-    return (struct keyline_space){size > 0 ? malloc(size) : NULL, size};
+    return (struct keyline_space){malloc(size > 0 ? size : 1), size};
 }
 
 static struct call call(const char *keys)
@@ -123,11 +123,6 @@ static void bad_arguments(void)
     STATUS("a history without a pointer", "", c.given.history = ((struct keyline_text){NULL, 1}), KEYLINE_ARGUMENT);
     STATUS("kills without a pointer", "", c.given.kills = ((struct keyline_text){NULL, 1}), KEYLINE_ARGUMENT);
     STATUS("an impossible length", "", c.given.prompt.length = SIZE_MAX, KEYLINE_ARGUMENT);
-    STATUS("a display without a pointer", "", c.room.display.bytes = NULL, KEYLINE_ARGUMENT);
-    STATUS("a line without a pointer", "", c.room.line.bytes = NULL, KEYLINE_ARGUMENT);
-    STATUS("a history's buffer without a pointer", "", c.room.history.bytes = NULL, KEYLINE_ARGUMENT);
-    STATUS("a buffer for kills without a pointer", "", c.room.kills.bytes = NULL, KEYLINE_ARGUMENT);
-    STATUS("a buffer for ends without a pointer", "", c.room.ends = NULL, KEYLINE_ARGUMENT);
     STATUS("an impossible buffer size", "", c.room.line.size = SIZE_MAX, KEYLINE_ARGUMENT);
     struct call c = call("");
     keyline_line(NULL, &c.given, &c.room, &c.step);
@@ -223,6 +218,117 @@ static void rooms(void)
     drop(&c);
 }
 
+static bool is_same_step(const struct keyline_step *a, const struct keyline_step *b)
+{
+    return a->status == b->status && a->display == b->display && a->sent == b->sent && a->line == b->line && a->keys == b->keys &&
+           a->history == b->history && a->kills == b->kills && a->slots == b->slots && a->place == b->place && a->cursor == b->cursor;
+}
+
+/* Of a text that isn't wanted the length is told, and the other buffers are written. */
+static void unwanted(void)
+{
+    struct call all = call("one \x15two\r");
+    made(&all);
+    for (int which = 0; which < 5; which++) {
+        struct call c = call("one \x15two\r");
+        struct keyline_room room = c.room;
+        struct keyline_space *spaces[] = {&c.room.display, &c.room.line, &c.room.history, &c.room.kills};
+        if (which < 4) spaces[which]->bytes = NULL;
+        else c.room.ends = NULL;
+        fill(&room);
+        hold(made(&c) == KEYLINE_LINE && is_same_step(&c.step, &all.step), "a buffer that isn't there, and all lengths");
+        hold((which == 1) == is_filled(room.line.bytes, room.line.size) && (which == 3) == is_filled(room.kills.bytes, room.kills.size),
+             "only its text isn't written");
+        c.room = room;
+        drop(&c);
+    }
+    struct call none = call("ab\x1b[D");
+    struct keyline_room room = none.room;
+    none.room = (struct keyline_room){0};
+    hold(made(&none) == KEYLINE_MORE && none.step.line == 2 && none.step.cursor == 1 && none.step.display > 0, "no buffer at all");
+    none.room = room;
+    drop(&none);
+    drop(&all);
+}
+
+/* Whether the line goes on with this text, and the cursor after so many bytes of it. */
+static void is_open(const char *keys, const char *line, size_t cursor)
+{
+    struct call c = call(keys);
+    hold(made(&c) == KEYLINE_MORE && c.step.line == strlen(line) && memcmp(c.room.line.bytes, line, c.step.line) == 0, "an open line");
+    hold(c.step.cursor == cursor, "its cursor");
+    free(c.room.line.bytes);
+    c.room.line = space(strlen(line));
+    hold(made(&c) == KEYLINE_MORE && memcmp(c.room.line.bytes, line, c.step.line) == 0, "an open line in a buffer of its size");
+    if (c.room.line.size > 0) {
+        c.room.line.size -= 1;
+        fill(&c.room);
+        hold(made(&c) == KEYLINE_ROOM && is_untouched(&c.room) && c.step.line == strlen(line), "an open line, and too small a buffer");
+    }
+    drop(&c);
+}
+
+static void open_lines(void)
+{
+    is_open("", "", 0);
+    is_open("ab", "ab", 2);
+    is_open("ab\x1b[Dc", "acb", 2);
+    is_open("ab\x1b[D\x1b", "ab", 1);
+    is_open("ab\x01", "ab", 0);
+    is_open("h\u00e9\u6f22\x1b[D", "h\u00e9\u6f22", 3);
+    is_open("\x1b[200~a\rb\x1b[201~\x1b[D", "a\nb", 2);
+    is_open("ab\x17", "", 0);
+}
+
+/* The call's status for these keys, if Tab, Ctrl-X Ctrl-E, Alt-. and something that is no key are asked for. */
+static struct keyline_step asked(const char *keys, uint8_t mode)
+{
+    static const char asks[] = "\t\0\x18\x05\0\033.\0\033[";
+    struct call c = call(keys);
+    struct keyline_step step;
+    c.options.mode = mode;
+    c.given.words = text("above\n");
+    c.given.asks = (struct keyline_text){(const uint8_t *)asks, sizeof asks - 1};
+    made(&c);
+    hold(c.step.status != KEYLINE_ASKED || memcmp(c.room.line.bytes, "ab", 2) == 0, "the line before a key that is asked for");
+    step = c.step;
+    drop(&c);
+    return step;
+}
+
+static void is_asked(const char *keys, uint8_t mode, size_t count, size_t cursor)
+{
+    struct keyline_step step = asked(keys, mode);
+    hold(step.status == KEYLINE_ASKED && step.keys == count && step.line == 2 && step.cursor == cursor && step.history == 0, "a key that is asked for");
+}
+
+static void own_keys(void)
+{
+    is_asked("ab\t", KEYLINE_EMACS, 3, 2);
+    is_asked("ab\tcd\r", KEYLINE_EMACS, 3, 2);
+    is_asked("ab\x1b[D\t\t", KEYLINE_EMACS, 6, 1);
+    is_asked("ab\x18\x05", KEYLINE_EMACS, 4, 2);
+    is_asked("ab\x1b.", KEYLINE_EMACS, 4, 2);
+    is_asked("ab\t", KEYLINE_VI, 3, 2);
+    hold(asked("ab\x18", KEYLINE_EMACS).status == KEYLINE_MORE, "half of the keys that are asked for");
+    hold(asked("ab\x05\x12\x1b", KEYLINE_EMACS).status == KEYLINE_MORE, "keys that aren't asked for");
+    hold(asked("\x1b[200~a\tb\x1b[201~", KEYLINE_EMACS).status == KEYLINE_MORE, "a pasted key");
+    hold(asked("ab\r\t", KEYLINE_EMACS).status == KEYLINE_LINE, "a key after the line");
+    STATUS("own keys without a pointer", "", c.given.asks = ((struct keyline_text){NULL, 1}), KEYLINE_ARGUMENT);
+}
+
+/* Incremental search, if it is turned on. */
+static void modal(void)
+{
+    for (int on = 0; on < 2; on++) {
+        struct call c = call("\x12lp\r");
+        c.options.modal = on;
+        c.given.history = text("#V2\nalpha\nbeta\n");
+        hold(made(&c) == KEYLINE_LINE && is_line(&c, on ? "alpha" : "lp"), "Ctrl-R");
+        drop(&c);
+    }
+}
+
 static void lines(void)
 {
     struct call c = call("one \x15two\r");
@@ -282,6 +388,10 @@ int main(void)
     beginnings("ab\x1b[Dc\u00e9\x1b[200~p\rq\x1b[201~\x01\x0b\x19\x1f\r", KEYLINE_EMACS);
     beginnings("one two\x1b" "bdwu0fnx3p\x1b" "A!\r", KEYLINE_VI);
     rooms();
+    unwanted();
+    open_lines();
+    own_keys();
+    modal();
     lines();
     printf("%d passed, %d failed\n", passed, failed);
     return failed > 0;

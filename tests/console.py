@@ -153,9 +153,9 @@ def tab_completes_a_table_that_was_just_made():
         (b"DROP TABLE n" + TAB, ["sql> DROP TABLE n"], (0, 17)),
         (CTRL_C, ["sql> DROP TABLE n", "sql>"], (1, 5)),
         (MADE, ["sql> DROP TABLE n", *MADE_ROWS, "sql>"], (3, 5)),
-        (b"DROP TABLE n" + TAB, ["sql> DROP TABLE n", *MADE_ROWS, "sql> DROP TABLE note"], (3, 20)),
-        (b";" + ENTER, ["sql> DROP TABLE n", *MADE_ROWS, "sql> DROP TABLE note;", "0 changed", "sql>"], (5, 5)),
-        (b"DROP TABLE n" + TAB, ["sql> DROP TABLE n", *MADE_ROWS, "sql> DROP TABLE note;", "0 changed", "sql> DROP TABLE n"], (5, 17)),
+        (b"DROP TABLE n" + TAB, ["sql> DROP TABLE n", *MADE_ROWS, "sql> DROP TABLE note"], (3, 21)),
+        (b";" + ENTER, ["sql> DROP TABLE n", *MADE_ROWS, "sql> DROP TABLE note ;", "0 changed", "sql>"], (5, 5)),
+        (b"DROP TABLE n" + TAB, ["sql> DROP TABLE n", *MADE_ROWS, "sql> DROP TABLE note ;", "0 changed", "sql> DROP TABLE n"], (5, 17)),
     )
 
 

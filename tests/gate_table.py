@@ -1,9 +1,5 @@
 #!/usr/bin/env python3
-"""Writes the times of the last `./test` into the table of docs/GATE.md.
-
-    tests/gate_table.py nothing    the run proved everything from nothing
-    tests/gate_table.py kept       everything was kept from an earlier run
-"""
+"""Writes the times of the last `./test` into the table of docs/GATE.md."""
 import os
 import sys
 
@@ -11,9 +7,9 @@ from wrong_bodies import read, write
 
 TOP = os.path.dirname(os.path.dirname(os.path.realpath(__file__)))
 # The cells of a row that a run fills: its wall and its processor time, in seconds.
-COLUMNS = {"nothing": (2, 3), "kept": (4, 5)}
+COLUMNS = 2, 3
 # The line of the table above its first row.
-RULE = "\n|---|---|---|---|---|---|\n"
+RULE = "\n|---|---|---|---|\n"
 
 
 def parts_of(path):
@@ -23,20 +19,20 @@ def parts_of(path):
     return {**found, "all": tuple(map(sum, zip(*found.values())))}
 
 
-def filled(line, parts, columns):
+def filled(line, parts):
     """The row of a part with its times of a run in the cells, or – if the run had no such part."""
     cells = line.strip("|").split("|")
     times = parts.pop(cells[0].strip(), None)
-    for at, column in enumerate(columns):
+    for at, column in enumerate(COLUMNS):
         cells[column] = f" {times[at]:.0f} " if times else " – "
     return f"|{'|'.join(cells)}|"
 
 
-def main(words):
-    columns, path = COLUMNS[words[0]], os.path.join(TOP, "docs", "GATE.md")
+def main():
+    path = os.path.join(TOP, "docs", "GATE.md")
     parts = parts_of(os.path.join(TOP, "build", "parts.tsv"))
     head, rule, rows = read(path).partition(RULE)
-    lines = [filled(line, parts, columns) if line.startswith("|") else line for line in rows.split("\n")]
+    lines = [filled(line, parts) if line.startswith("|") else line for line in rows.split("\n")]
     write(path, head + rule + "\n".join(lines))
     for name in parts:
         print(f"no row of docs/GATE.md is of the part {name}")
@@ -44,4 +40,4 @@ def main(words):
 
 
 if __name__ == "__main__":
-    sys.exit(main(sys.argv[1:]))
+    sys.exit(main())

@@ -25,7 +25,7 @@ from checks import HUNG, PROGRAM, run_all, shim
 from display import Unjudged
 from hunting import (MUCH, Fault, hunted, is_text, judge_open_line, most_judged, rows_pass, same, same_as_one, saved_after,
                      shown_lines, tell, test_of)
-from inputs import ENTER, KINDS, PASTE, PASTED, Session, large_pastes, searches
+from inputs import ENTER, KINDS, PASTE, PASTED, Session, candidates, large_pastes, searches
 from searching import judge_search, most_are_known
 
 # Sessions that are played each time before the hunt: former finds, and limits of what it looks for.
@@ -201,7 +201,7 @@ def main(words):
     shim("one_byte")
     hunts = hunted(Player, session_of(given.seed), given.sessions)
     run_all([rows_pass(Player, ROWS), *(test_of(kind, hunts) for kind in [*KINDS, large_pastes]), most_judged(hunts),
-             most_are_known(searches)])
+             most_are_known(searches, candidates)])
 
 
 if __name__ == "__main__":

@@ -22,7 +22,7 @@ import random
 import resource
 import subprocess
 
-from bound_inputs import ACCEPTING, KEYS, KINDS, Session, noted_keys, searches
+from bound_inputs import ACCEPTING, KEYS, KINDS, Session, candidates, noted_keys, searches
 from checks import built, run_all
 from display import Unjudged
 from hunting import (MUCH, Fault, hunted, is_text, judge_open_line, most_judged, rows_pass, same, same_as_one, saved_after,
@@ -239,7 +239,7 @@ def main():
     print(f"seed {given.seed}", flush=True)
     hunts = hunted(Player, session_of(given.seed), given.sessions)
     run_all([rows_pass(Player, list(rows_of(ROWS))), *(test_of(kind, hunts) for kind in KINDS), most_judged(hunts),
-             most_are_known(searches)])
+             most_are_known(searches, candidates)])
 
 
 if __name__ == "__main__":

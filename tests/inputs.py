@@ -3,7 +3,8 @@ import dataclasses
 import re
 
 from display import Drawing
-from hunting import without_parts
+from hunting import entries_of, is_text, without_parts
+from searching import Completes
 
 ESC, ENTER = b"\x1b", b"\r"
 PASTE, PASTED = b"\x1b[200~", b"\x1b[201~"
@@ -21,8 +22,9 @@ WIDE = ["漢", "字", "あ", "한", "각", "\u1112\u1161\u11ab", "Ａ", "ㅋ", "
 UNTYPED = ["\t", "\x00", "\x07", "\x1b", "\x1b[H", "\x7f", "\x80", "\x9b", "\r", "\n", "\r\n", "\n\n"]
 ALPHABETS = [PLAIN, MARKS, JOINED, RIGHT_TO_LEFT, WIDTHLESS, WIDE]
 
-# Texts of entries that are searched.
+# Texts of entries that are searched, and of words that are completed.
 SEARCHED = ["a", "b", "ab", "git", " ", "-m", "é", "漢", "\n", "x"]
+COMPLETED = ["a", "ab", "l", "pha", "é", "漢", "字", "x", "", "alphabet"]
 
 COLUMNS = [2, 2, 3, 3, 4, 5, 7, 10, 20, 80, 80, 1000, 1000]
 
@@ -110,8 +112,12 @@ class Session:
         return given + (["--brackets"] if self.brackets else []) + (["--extended"] if self.extended else [])
 
     def is_searched(self):
-        """Whether the model of searches knows its settings."""
-        return self.extended and self.words is None and not self.brackets
+        """Whether the model of searches and completion knows its settings."""
+        return self.extended and not self.brackets and is_text(self.words or b"")
+
+    def completes(self):
+        """What Tab completes, for that model."""
+        return Completes(None if self.words is None else [word for word in entries_of(b"\n" + self.words) if word])
 
 
 def some(rng, least, most):
@@ -333,6 +339,40 @@ def searches(rng):
     return Session(keys=keys, mode=mode, columns=rng.choice(COLUMNS), history="".join(row + "\n" for row in rows).encode(), extended=True)
 
 
+def completed_words(rng):
+    """A few words, some of which begin alike."""
+    begun = "".join(rng.choice(COMPLETED) for _ in range(some(rng, 0, 2)))
+    words = ["".join([begun, *(rng.choice(COMPLETED) for _ in range(some(rng, 0, 3)))]) for _ in range(rng.choice([1, 2, 3, 5, 8]))]
+    return [word for word in words if word] or ["a"]
+
+
+def candidate_keys(rng, words, mode):
+    """Keys that complete the beginnings of these words, and between them."""
+    keys = b""
+    for _ in range(some(rng, 1, 40)):
+        word = rng.choice(words)
+        begun = word[:rng.randrange(len(word) + 1)].encode()
+        often = [(b"\t", 30), (b"\t\t", 12), (b"\x1b[Z", 8), (begun + b"\t", 15), (b" " + begun, 8), (begun, 4), (b"\x07", 6),
+                 (b"\x1f", 8), (b"\x7f", 5), (ENTER, 6), (PASTE + begun + PASTED, 1), (b"\x1b[99~", 2), (b"\x1b[A", 2), (b"\x1b[B", 2),
+                 (b"\x16\t", 1), (b"\x12", 2), (b"\n", 1), (rng.choice(ENDING), 0.3)]
+        moves = [b"\x01", b"\x05", b"\x02", b"\x06", b"\x10", b"\x0e", b"\x0b", b"\x0c", b"\x04"]
+        often += [(key, 1) for key in moves] if mode == "emacs" else []
+        keys += rng.choices([key for key, _ in often], [weight for _, weight in often])[0]
+    return keys
+
+
+def candidates(rng):
+    """Words that are completed, over several keys."""
+    words, mode = completed_words(rng), rng.choice(["emacs", "emacs", "vi"])
+    keys = candidate_keys(rng, words, mode)
+    if rng.random() < 0.2:
+        at = rng.randrange(len(keys) + 1)
+        keys = keys[:at] + one_key(rng, mode) + keys[at:]
+    rows = ["#V2", *(searched_entry(rng).replace("\n", "\\n") for _ in range(rng.choice([0, 0, 2, 5])))]
+    return Session(keys=keys, mode=mode, columns=rng.choice(COLUMNS), history="".join(row + "\n" for row in rows).encode(), extended=True,
+                   words="".join(word + "\n" for word in words).encode())
+
+
 def large_pastes(rng):
     """A megabyte pasted."""
     unit = rng.choice(["0123456789abcdef", "漢字", "e\u0301", "👩\u200d💻", "a\n", "\r\n", "word ", "(", "\x1b[20", "\t"])
@@ -343,4 +383,4 @@ def large_pastes(rng):
 
 # How often each random kind is played.
 KINDS = {random_bytes: 6, keys_cut_anywhere: 10, pastes: 6, counts: 4, odd_texts: 8, odd_prompts: 3, history_files: 3,
-         word_files: 3, searches: 8}
+         word_files: 3, searches: 8, candidates: 8}

@@ -28,8 +28,8 @@ NAMES = {
     "Rattle.stand_ins.specs.Handlers": ["hint_or_kill", "one_way"],
     "Rattle.stand_ins.specs.declared.handlers.OneWay.TheVariants": ["Count", "Fails", "Nothing"],
     "Rattle.worked_rows.specs.Playing": ["Row", "row"],
-    "Rattle.worked_rows.specs.Settings": ["Settings", "adding", "aide", "always", "bound", "command", "counting", "modal",
-                                          "of_size", "plain", "vi"],
+    "Rattle.worked_rows.specs.Settings": ["Settings", "adding", "aide", "aide_ending", "always", "at_once", "bound", "command", "counting",
+                                          "limited", "listed", "modal", "of_size", "plain", "vi"],
 }
 # A text of more such bytes in a row is written with their number.
 RUN = 40
@@ -142,15 +142,15 @@ def binding_term(word):
 
 # ---- settings
 
-KNOWN = {"", "vi", "adding", "modal", "bare", "helped", "keys@end"}
-VALUES = ("bind:", "clusters:", "columns:", "loaded:", "prompt:", "size:", "words:")
+KNOWN = {"", "vi", "adding", "modal", "listed", "at-once", "bare", "helped", "keys@end"}
+VALUES = ("bind:", "clusters:", "columns:", "ends:", "limit:", "loaded:", "prompt:", "size:", "words:")
 
 
 def config_term(row):
     config = "plain.config"
-    for name in ("vi", "adding", "modal"):
-        config = f"{name} {within(config)}" if name in row.settings else config
-    for word, name in (("clusters:", "counting"), ("size:", "of_size")):
+    for word, name in (("vi", "vi"), ("adding", "adding"), ("modal", "modal"), ("listed", "listed"), ("at-once", "at_once")):
+        config = f"{name} {within(config)}" if word in row.settings else config
+    for word, name in (("clusters:", "counting"), ("size:", "of_size"), ("limit:", "limited")):
         value = row.value(word, "")
         config = f"{name} {value} {within(config)}" if value else config
     return config
@@ -159,7 +159,9 @@ def config_term(row):
 def helping_term(row):
     words = row.value("words:", "")
     known = f"Some ({listed(within(term(meant(it))) for it in words.split(','))})" if words else "None"
-    return f"aide {str('helped' in row.settings).lower()} {within(known)}"
+    end = row.value("ends:", "")
+    name = f"aide_ending {within(term(meant(end)))}" if end else "aide"
+    return f"{name} {str('helped' in row.settings).lower()} {within(known)}"
 
 
 def settings_fields(row):

@@ -1,6 +1,6 @@
 #!/usr/bin/env python3
 """Commands that go on over several keys, on a terminal: tmux types into ./keyline, and reports its cells and cursor. A search in a
-history of 1,000 rows, a quoted key, and the same keys with --plain.
+history of 1,000 rows, a list of 30 candidates, a quoted key, and the same keys with --plain.
 
 `rt ci` builds the program first.
 """
@@ -67,6 +67,34 @@ def a_search_in_a_thousand_rows():
         )
 
 
+def a_list_of_thirty_candidates():
+    """It stands below the line, from its first row on, until the next key."""
+    words = [f"name{number:02}" for number in range(1, 31)]
+    with in_window(words=words, rows=40) as terminal:
+        plays(
+            terminal,
+            ("n Tab", ["> name"], (0, 6)),
+            ("Tab", ["> name", *words], (0, 6)),
+            ("Tab", ["> name", *words], (0, 6)),
+            ("0", ["> name0"], (0, 7)),
+            ("Tab", ["> name0"], (0, 7)),
+            ("Tab", ["> name0", *words[:9]], (0, 7)),
+            ("Left", ["> name0"], (0, 6)),
+            ("End 7 Tab", ["> name07"], (0, 8)),
+            ("C-u n␠y Left Left Tab Tab", ["> name y", *words], (0, 6)),
+            ("Enter", ["> name y", "name y", ">"], (2, 2)),
+        )
+
+
+def a_list_that_is_cut_off():
+    """Of more than a hundred candidates the first ones. A list taller than the window scrolls the line away until the next key."""
+    words = [f"w{number:03}" for number in range(150)]
+    with in_window(words=words, rows=120) as terminal:
+        plays(terminal, ("w Tab Tab", ["> w", *words[:100], "(50 more)"], (0, 3)), ("1", ["> w1"], (0, 4)))
+    with in_window(words=words[:12], rows=8) as terminal:
+        plays(terminal, ("w Tab Tab", words[4:12], (0, 4)), ("1 Tab", ["> w01"], (0, 5)))
+
+
 def a_quoted_tab():
     with in_window() as terminal:
         plays(terminal, ("a C-v Tab b", ["> a?b"], (0, 5)), ("Enter", ["> a?b", "a       b", ">"], (2, 2)))
@@ -91,4 +119,5 @@ def plain():
 if __name__ == "__main__":
     os.environ["LC_ALL"] = "C.UTF-8"
     SCRIPT = placed_script()
-    run_all([a_search_in_a_thousand_rows, a_quoted_tab, up_by_the_beginning, plain])
+    run_all([a_search_in_a_thousand_rows, a_list_of_thirty_candidates, a_list_that_is_cut_off, a_quoted_tab, up_by_the_beginning,
+             plain])

@@ -1,9 +1,11 @@
-"""A session in which the history is searched, key by key: the table of docs/COMMANDS.md once more, for the hunts.
+"""A session in which the history is searched or words are completed, key by key: the tables of docs/COMMANDS.md once more, for
+the hunts.
 
 It is independent of the program. A line is a list of copies, so it doesn't know how the program takes a step back. It knows the
-keys of a search and few others, and texts in which each character is a cluster; of any other session it says nothing.
+keys of a search, of completion and few others, and texts in which each character is a cluster; of any other session it says nothing.
 """
 import dataclasses
+import os
 import random
 import re
 
@@ -16,13 +18,15 @@ NAMED = {
     "\r": "accept", "\x12": "backward", "\x13": "forward", "\x07": "abort", "\x7f": "erase", "\x08": "erase", "\x01": "row start",
     "\x05": "row end", "\x02": "back", "\x06": "on", "\x04": "drop", "\x0b": "kill", "\x10": "previous", "\x0e": "next",
     "\x1f": "undo", "\x03": "interrupt", "\x0c": "clear", ESC + "[99~": "noop", ESC + "[A": "up", ESC + "[B": "down",
-    "\x16": "quote", "\x11": "quote",
+    "\x16": "quote", "\x11": "quote", "\t": "tab", ESC + "[Z": "back tab",
 }
 # What Vi's insert mode knows of these.
-BOTH = {"accept", "backward", "forward", "erase", "abort", "undo", "interrupt", "noop", "up", "down", "quote"}
-TOKEN = re.compile("\x1b\\[200~(?P<paste>.*?)\x1b\\[201~|\x1b\\[(99~|A|B)|[^\x1b]", re.S)
+BOTH = {"accept", "backward", "forward", "erase", "abort", "undo", "interrupt", "noop", "up", "down", "quote", "tab", "back tab"}
+TOKEN = re.compile("\x1b\\[200~(?P<paste>.*?)\x1b\\[201~|\x1b\\[(99~|A|B|Z)|[^\x1b]", re.S)
 # Characters that are clusters by themselves, beside each other too.
 PLAIN = re.compile(r"[\x00-\x0c\x0e-~à-öØ-öø-ÿЖλ漢字あ]*")
+# Of these, the ones between words.
+BLANKS = " \t\n\x0b\x0c"
 
 
 class Unknown(Exception):
@@ -83,6 +87,10 @@ class Line:
         """Another text in one step, to which nothing is joined."""
         self.step(False, self.take(0, len(self.text)), self.put(0, text))
 
+    def complete(self, start, text):
+        """Another text from a place to the cursor, in one step."""
+        self.step(False, self.take(start, self.cursor), self.put(start, text))
+
     def undo(self):
         if not self.steps:
             return
@@ -115,11 +123,39 @@ class Search:
         return f"({kind}i-search)`{self.query}': "
 
 
+@dataclasses.dataclass(frozen=True)
+class Completes:
+    """A completer of these words, if there is one, and what it makes of several of them."""
+
+    words: list = None
+    lists: bool = True
+    limit: int = 100
+    at_once: bool = False
+
+    def found(self, line):
+        """Where the word before the cursor begins, and the words that begin so."""
+        begun = re.search(f"[^{BLANKS}]*\\Z", line.text[:line.cursor])
+        return begun.start(), [word for word in self.words if word.startswith(begun[0])]
+
+    def listing(self, found):
+        more = [f"({len(found) - self.limit} more)"] if self.limit < len(found) else []
+        return "".join("\n" + row for row in [*found[:self.limit], *more])
+
+
+@dataclasses.dataclass
+class Cycle:
+    """A candidate that stands in the line, or the word as it was: the line before it, and its number."""
+
+    before: Line
+    at: int = 0
+
+
 class Played:
     """A session after its keys: the accepted lines, how it ended, and what of the last line is shown."""
 
-    def __init__(self, mode, prompt, entries, adds, keys):
+    def __init__(self, mode, prompt, entries, adds, keys, completes=Completes()):
         self.mode, self.own_prompt, self.entries, self.adds = mode, prompt, list(entries), adds
+        self.completes, self.cycle, self.is_tabbed, self.listed = completes, None, False, ""
         self.lines, self.ending, self.last_query = [], None, ""
         self.is_quoting = False
         self.begin()
@@ -131,6 +167,7 @@ class Played:
 
     def begin(self):
         self.line, self.search, self.place, self.saved, self.is_prefixed = Line(), None, len(self.entries), None, False
+        self.cycle, self.is_tabbed, self.listed = None, False, ""
 
     @property
     def prompt(self):
@@ -176,9 +213,6 @@ class Played:
             self.look(way, search.at if first else search.at + way)
         elif name == "abort":
             self.line, self.search = search.before, None
-        elif name in ("up", "down"):
-            self.search = None
-            self.go_one(name)
         else:
             self.search = None
             self.rest(name, text)
@@ -201,7 +235,13 @@ class Played:
 
     def rest(self, name, text):
         line, was_prefixed, self.is_prefixed = self.line, self.is_prefixed, False
-        if name in ("up", "down"):
+        was_tabbed, self.is_tabbed, self.listed = self.is_tabbed, False, ""
+        cycle, self.cycle = self.cycle, None
+        if name in ("tab", "back tab"):
+            self.complete(name, was_tabbed, cycle)
+        elif name == "abort" and cycle:
+            self.line = cycle.before
+        elif name in ("up", "down"):
             self.go(name, was_prefixed)
         elif name == "accept":
             self.accept()
@@ -221,6 +261,33 @@ class Played:
             self.ending = "Interrupted"
         else:
             self.move(name, line)
+
+    # ---- completion
+
+    def complete(self, name, was_tabbed, cycle):
+        """Tab, and Shift-Tab: whether the last key was a Tab that left several candidates, or which of them stands in the line."""
+        if self.completes.words is None or name == "back tab" and not cycle:
+            return
+        if cycle:
+            self.put(cycle.before, cycle.at + (1 if name == "tab" else -1))
+            return
+        start, found = self.completes.found(self.line)
+        common = os.path.commonprefix(found)
+        if len(found) > 1 and not self.completes.lists:
+            self.put(self.line, 0)
+        elif found and (len(found) == 1 or len(common) > self.line.cursor - start):
+            self.line.complete(start, common)
+            self.is_tabbed = len(found) > 1
+        elif found:
+            self.is_tabbed = True
+            self.listed = self.completes.listing(found) if was_tabbed or self.completes.at_once else ""
+
+    def put(self, before, at):
+        """The candidate with a number in place of the word; the number after the last one, and before the first, is the word's."""
+        start, found = self.completes.found(before)
+        self.cycle, self.line = Cycle(before.copy(), at % (len(found) + 1)), before.copy()
+        if self.cycle.at < len(found) and found[self.cycle.at]:
+            self.line.complete(start, found[self.cycle.at])
 
     def move(self, name, line):
         start, end = line.row()
@@ -307,11 +374,11 @@ def played(session, adds):
     saved = session.history or b""
     if not (session.is_searched() and is_text(session.keys) and is_text(saved) and PLAIN.fullmatch(session.prompt)):
         return None
-    entries = entries_loaded(saved)
-    if not all(map(PLAIN.fullmatch, entries)):
+    entries, completes = entries_loaded(saved), session.completes()
+    if not all(map(PLAIN.fullmatch, [*entries, *(completes.words or ())])):
         return None
     try:
-        return Played(session.mode, session.prompt, entries, adds, session.keys)
+        return Played(session.mode, session.prompt, entries, adds, session.keys, completes)
     except Unknown:
         return None
 
@@ -332,7 +399,7 @@ def judge_shown(session, model, display):
     shown = Display(session.columns, session.clusters)
     for _ in shown.read(display.removesuffix(b"\r\n")):
         shown.top = shown.cursor[0]
-    line, texts = model.line, (model.prompt, model.line.text)
+    line, texts = model.line, (model.prompt, model.line.text, model.listed)
     drawn = Drawing(session.columns, *texts, clusters=session.clusters)
     if shown.below(shown.top) != drawn.below(0):
         tell("cells by the model", f"{texts!r} isn't shown, but {shown.text(shown.top, 0)!r}")
@@ -340,13 +407,14 @@ def judge_shown(session, model, display):
     same("cursor by the model", shown.cursor, (shown.top + row, col))
 
 
-def most_are_known(searches):
-    """A test that fails if the model says nothing of many sessions of this kind."""
+def most_are_known(*kinds):
+    """A test that fails if the model says nothing of many sessions of these kinds."""
 
-    def most_searches_are_known():
-        some = [searches(random.Random(f"searches {number}")) for number in range(100)]
-        known = sum(played(session, True) is not None for session in some)
-        if known < 50:
-            raise Failed(f"the model knows {known} of 100")
+    def most_are_known_of_each():
+        for kind in kinds:
+            some = [kind(random.Random(f"{kind.__name__} {number}")) for number in range(100)]
+            known = sum(played(session, True) is not None for session in some)
+            if known < 50:
+                raise Failed(f"of {kind.__name__} the model knows {known} of 100")
 
-    return most_searches_are_known
+    return most_are_known_of_each

@@ -15,7 +15,7 @@ from checks import HUNG, PROGRAM, TOP, Failed, built, run_all, same, shim
 DATA = os.path.join(TOP, "crates", "sessions_program", "data")
 STATUS = {"Eof": 0, "Interrupted": 130, "NotUtf8": 3, "PasteOutOfPlace": 4}
 NAMED = {
-    "nothing": b"", "Enter": b"\r", "Tab": b"\t", "Backspace": b"\x7f", "Esc": b"\x1b", "Left": b"\x1b[D",
+    "nothing": b"", "Enter": b"\r", "Tab": b"\t", "S-Tab": b"\x1b[Z", "Backspace": b"\x7f", "Esc": b"\x1b", "Left": b"\x1b[D",
     "Right": b"\x1b[C", "Up": b"\x1b[A", "Down": b"\x1b[B", "Home": b"\x1b[H", "End": b"\x1b[F",
     "Delete": b"\x1b[3~", "Paste": b"\x1b[200~", "Pasted": b"\x1b[201~",
 }
@@ -90,10 +90,12 @@ class Row:
         return found[0] if found else default
 
     def is_played(self):
-        """Whether the program can play the row: it binds no key, gives no hint and keeps a hundred lines."""
-        helped = "helped" in self.settings or self.value("words:", "")
-        own = any(word.startswith(("bind:", "size:")) for word in self.settings)
-        return not own and not (helped and self.value("loaded:", ""))
+        """Whether the program can play the row: it binds no key, gives no hint, keeps a hundred lines, and lists candidates."""
+        words = self.value("words:", "")
+        own = any(word.startswith(("bind:", "size:", "limit:", "at-once", "advised", "ends:")) for word in self.settings)
+        hinted = ("helped" in self.settings or words) and self.value("loaded:", "")
+        in_turn = "modal" in self.settings and words and "listed" not in self.settings
+        return not (own or hinted or in_turn or "" in words.split(",")[1:] or words.startswith(","))
 
     def arguments(self, folder):
         """The program's arguments; the words to complete are in a file of the folder."""
@@ -200,6 +202,14 @@ def commands_over_several_keys_one_byte_a_read():
     played("modal.txt", True)
 
 
+def candidates():
+    played("candidates.txt", False)
+
+
+def candidates_one_byte_a_read():
+    played("candidates.txt", True)
+
+
 def sizes():
     """Sessions that are too large to be played with each run of `sessions_program`."""
     count = len(list(rows_of("sizes.txt")))
@@ -210,4 +220,5 @@ def sizes():
 if __name__ == "__main__":
     run_all([worked_rows, worked_rows_one_byte_a_read, keys_of_emacs, keys_of_emacs_one_byte_a_read, keys_of_vi,
              keys_of_vi_one_byte_a_read, worked_sessions, worked_sessions_one_byte_a_read, commands_over_several_keys,
-             commands_over_several_keys_one_byte_a_read, sizes])
+             commands_over_several_keys_one_byte_a_read, candidates,
+             candidates_one_byte_a_read, sizes])

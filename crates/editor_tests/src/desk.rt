@@ -4,8 +4,10 @@
 //! A row that begins with one of these words is a setting for the rows after it, and has no result.
 //! For the display: `columns: 10` sets its columns, `colours: yes` whether it has colours,
 //! `answered: 3` how many calls succeed. `history: one,two` sets the entries, `mode: Vi` the
-//! keymap, `modal: yes` that those commands act that go on over several keys. `first:` sets the
-//! commands before those of each row, `tells: ring` what a row's result is.
+//! keymap, `modal: yes` that those commands act that go on over several keys. `completion: List`
+//! has several candidates listed, `at-once: yes` by the first Tab that adds nothing, `limit: 3` at
+//! most so many. `first:` sets the commands before those of each row, `tells: ring` what a row's
+//! result is.
 //!
 //! `helper: InvalidTold no` sets a helper with its verdict and its message, which never fails. For
 //! that helper, `marks: 2` is the place at which it highlights, and `takes: no` says that its hints
@@ -17,7 +19,7 @@
 use crate::calls::CallList;
 use crate::helpers::{Adviser, Offer, Verdict};
 use line_buffer::{LineBuffer, Unit};
-use line_config::{Config, EditMode, ReadlineError};
+use line_config::{CompletionType, Config, EditMode, ReadlineError};
 use line_editor::commands::{Status, execute};
 use line_editor::{RefreshKind, State};
 use line_help::{Context, Helper, History, MemHistory};
@@ -44,6 +46,11 @@ pub(crate) struct Stage {
     pub mode: EditMode,
     /// Whether the commands act that go on over several keys.
     pub modal: bool,
+    /// What becomes of several candidates.
+    pub completion: CompletionType,
+    /// Whether they are listed by the first Tab that adds nothing, and at most how many.
+    pub at_once: bool,
+    pub limit: usize,
     /// The commands that come before each row's own, with `; ` after each.
     first: String,
     pub bindings: Bindings,
@@ -105,6 +112,9 @@ impl Stage {
             answered: None,
             mode: EditMode::Emacs,
             modal: false,
+            completion: CompletionType::Circular,
+            at_once: false,
+            limit: 100,
             first: String::new(alloc),
             bindings,
             tells_ring: false,
@@ -168,6 +178,18 @@ impl Stage {
                 self.helper.offer = offer_of(words);
             }
             "update-fails:" => self.helper.update_fails_at = number,
+            _ => return self.sets_several(word, rest),
+        }
+        true
+    }
+
+    // What becomes of several candidates.
+    fn sets_several(&mut self, word: &str, rest: &str) -> bool {
+        match word {
+            "at-once:" => self.at_once = rest == "yes",
+            "completion:" if rest == "List" => self.completion = CompletionType::List,
+            "completion:" => self.completion = CompletionType::Circular,
+            "limit:" => self.limit = rest.parse().unwrap_or(usize::MAX),
             _ => return false,
         }
         true

@@ -9,6 +9,8 @@ mod asking;
 #[cfg(test)]
 mod calls;
 #[cfg(test)]
+mod candidates;
+#[cfg(test)]
 mod completing;
 #[cfg(test)]
 mod counting;

@@ -250,6 +250,9 @@ fn run_with<H: Helper + Drop, D: Decides>(
     let config = Config::builder()
         .edit_mode(stage.mode)
         .modal_commands(stage.modal)
+        .completion_type(stage.completion)
+        .completion_show_all_if_ambiguous(stage.at_once)
+        .completion_prompt_limit(stage.limit)
         .build();
     let mut reader = KeyList::new(&keys.typed, false, keys.after);
     let mut out = CallList::new(alloc, stage.columns, stage.colours);

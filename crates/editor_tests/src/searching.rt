@@ -46,7 +46,8 @@ impl Player for Searcher {
     }
 }
 
-fn searches(alloc: Global, table: &str) -> Result<(), Fail> {
+/// Whether a table's lines are as its rows say.
+pub(crate) fn plays_lines(alloc: Global, table: &str) -> Result<(), Fail> {
     let stage = Stage::new(alloc)?;
     let query = String::new(alloc);
     rows_hold(alloc, &mut Searcher { stage, query }, table)
@@ -72,6 +73,8 @@ const FOUND: &str = "
     mode: Vi = nothing
     columns: 80 = nothing
     a Esc C-R l Esc u Enter = a / draw '> |' at 0,2 to 0,2; write 'a'; move 0,3 to 0,2; draw '(reverse-i-search)`': |a' at 0,22 to 0,23; draw '(reverse-i-search)`l': |ls -l' at 0,23 to 0,28; draw '> |ls -l' at 0,2 to 0,7; draw '> a|' at 0,3 to 0,3 / - / l
+    Esc / m Esc n Enter = make test / draw '> |' at 0,2 to 0,2; draw '(reverse-i-search)`': |' at 0,22 to 0,22; draw '(reverse-i-search)`m': git co|mmit -m one' at 0,29 to 0,40; draw '> git co|mmit -m one' at 0,8 to 0,19; move 0,8 to 0,7; draw '> |make test' at 0,2 to 0,11; move 0,2 to 0,11 / - / m
+    n Esc n N u Enter = n / draw '> |' at 0,2 to 0,2; write 'n'; move 0,3 to 0,2; draw '> git co|mmit -m one' at 0,8 to 0,19; beep; draw '> n|' at 0,3 to 0,3 / - / m
 ";
 
 // At each step of a search: displays and readers that fail, and a helper that does.
@@ -107,7 +110,7 @@ const TABLES: [&str; 2] = [FOUND, CUT];
 #[test]
 fn lines_of_searches(rt: HostRuntime) -> Result<(), Fail> {
     for table in &TABLES {
-        searches(rt.alloc(), table)?;
+        plays_lines(rt.alloc(), table)?;
     }
     Ok(())
 }

@@ -301,11 +301,18 @@ struct line line_read(struct line_reader *reader, const char *prompt)
     return line;
 }
 
+/* None is null: each call writes to all of them. */
+static bool make_buffers(struct line_reader *reader, size_t history)
+{
+    return grow(&reader->keys, READ_SIZE) && grow(&reader->display, 1) && grow(&reader->line, 1) && grow(&reader->kills, 1) &&
+           grow(&reader->history, history + 1) && grow(&reader->new_kills, 1) && grow(&reader->new_history, 1);
+}
+
 struct line_reader *line_open(const struct line_settings *settings)
 {
     struct line_reader *reader = calloc(1, sizeof *reader);
     if (reader == NULL) return NULL;
-    if (!grow(&reader->keys, READ_SIZE) || !grow(&reader->line, 1) || !grow(&reader->history, settings->history.length)) {
+    if (!make_buffers(reader, settings->history.length)) {
         line_close(reader);
         return NULL;
     }

@@ -15,7 +15,7 @@ use Rattle.line_editor.specs.Courses.{breaks_after}
 use Rattle.line_editor.specs.LineScripts.{LineStage, LineState, kept, line_script, line_stage}
 use Rattle.line_editor.specs.Modal.{Modal}
 use Rattle.line_editor.specs.Redraws.{fresh}
-use Rattle.line_editor.specs.Running.{Helping, Runs, kept_first, outcome_of, stage_first}
+use Rattle.line_editor.specs.Running.{Helping, IsOpen, Runs, kept_first, outcome_of, stage_first}
 use Rattle.line_editor.specs.Steps.{surface}
 use Rattle.line_editor.specs.Values.{Setting, Value}
 use Rattle.line_editor.specs.States.{reason_of}
@@ -25,6 +25,7 @@ use Rattle.line_keys.specs.Answers.{Custom}
 use Rattle.line_keys.specs.Coming.{Coming, made_of, unread}
 use Rattle.line_keys.specs.Feeds.{KeyFeed}
 use Rattle.line_keys.specs.Phrases.{Input}
+use Rattle.line_buffer.specs.Line.{Line}
 use Rattle.line_buffer.specs.declared.layout.Layout.{Layout}
 use Rattle.line_record.specs.Ring.{Ring}
 use Rattle.line_screen.specs.Calls.{Screen, canvas_of, screen_of, sink_of, ruler_of}
@@ -34,12 +35,12 @@ use Rattle.line_screen.specs.Reading.{kept_count}
 use Rattle.line_screen.specs.Drawing.{break_if}
 use Rattle.line_screen.specs.declared.reading.reader.KeyReader.{KeyReader}
 use Rattle.line_screen.specs.declared.renderer.ScreenRenderer.{ScreenRenderer}
-use Rattle.keyline.specs.Program.{EditHelper, config_of, edit_helping, helper_of, nothing_bound, program_given}
+use Rattle.keyline.specs.Program.{EditHelper, edit_helping, helper_of}
 use Rattle.keyline.specs.declared.options.Options.{Options}
 use Rattle.keyline.specs.Events.{Breaks, Event, asks_events, bytes_drawn, end_events, line_course, played_in}
 use Rattle.keyline.specs.Sessions.{coming_from, Given, SessionState, given_of, history_after, setting_in, state_over}
 use Rattle.keyline.proofs.EventLemmas.{Whole, line_went, went_not}
-use Rattle.keyline_c.specs.Lines.{Ends, IsWant, LeftBy, ReadsLine, breaks}
+use Rattle.keyline_c.specs.Lines.{Ends, IsWant, LeftBy, ReadsLine, breaks, given_with, line_at_end}
 use Rattle.keyline_c.specs.declared.line.Left.{Left}
 
 wanting : (failed : Bool) (hook : Type 0) (e : ReadlineError) → reason_of failed hook e → IsWant e
@@ -69,7 +70,7 @@ module _ {H K T : Type 0} (held waits : VecSink → List ℕ) (failed : VecSink 
   state = record { ring = ring; query = query; history = history; coming = feed.coming }
 
   module _ (ends : Ends held (outcome_of ran) (sink_of ran.out) display history history') (fresh_is : held (sink_of old) ≡ []) (adds : config.auto_add_history ≡ true)
-      (outcome_is : left.outcome ≡ ran.outcome) (display_is : left.display ≡ display) (ring_is : left.ring ≡ ring') (history_is : left.history ≡ history')
+      (outcome_is : left.outcome ≡ ran.outcome) (open_is : left.open_line ≡ ran.open_line) (display_is : left.display ≡ display) (ring_is : left.ring ≡ ring') (history_is : left.history ≡ history')
       (rest_is : left.rest ≡ length (left_in F reader)) (coming_is : coming_in F reader ≡ feed'.coming) where
     abbrev setting : Setting
     setting = setting_in given history.kept.entries
@@ -84,8 +85,16 @@ module _ {H K T : Type 0} (held waits : VecSink → List ℕ) (failed : VecSink 
     abbrev LineWhole : ℕ → LineStage (ScreenRenderer VecSink) → Type 0
     LineWhole n y = Whole held unwritten true (tt {0}) history waits failed (screen_of old) setting config.indent_size (line_script n custom) first y (outcome_of ran)
 
-    left_whole : (n : ℕ) (value : Value) (input : Input) (modal : Modal) (layout : Layout) → LineWhole n (line_stage (surface ran.out layout) (kept value input ring' modal feed'.coming)) → LeftBy held (line_course n given state) left
-    left_whole n value input modal layout w =
+    line_left : (n : ℕ) (value : Value) (input : Input) (modal : Modal) → IsOpen ran.outcome value.line ran.open_line → (played_in n given state).rest ≡ kept value input ring' modal feed'.coming
+        → IsOpen left.outcome (line_at_end n given state) left.open_line
+    line_left n value input modal standing rest =
+        subst (λ (k : LineState). IsOpen left.outcome k.value.line left.open_line) (sym rest)
+        (subst (λ (o : Result (String Global) ReadlineError). IsOpen o value.line left.open_line) (sym outcome_is)
+        (subst (λ (l : Option Line). IsOpen ran.outcome value.line l) (sym open_is) standing))
+
+    left_whole : (n : ℕ) (value : Value) (input : Input) (modal : Modal) (layout : Layout) → IsOpen ran.outcome value.line ran.open_line → LineWhole n (line_stage (surface ran.out layout) (kept value input ring' modal feed'.coming))
+        → LeftBy held (line_course n given state) (line_at_end n given state) left
+    left_whole n value input modal layout standing w =
         let c = line_course n given state in
         let o = c.answer.0 in
         let asks : List Event = asks_events (screen_of old) setting config.indent_size (fresh (screen_of old).mode) (kept_first setting config ring query feed.coming) (played_in n given state).asks in
@@ -93,6 +102,7 @@ module _ {H K T : Type 0} (held waits : VecSink → List ℕ) (failed : VecSink 
         record {
           rest_is = rest_is ∙ ap (λ (x : List ℕ). length x) (sym (unread_in F reader) ∙ ap unread (coming_is ∙ ap rest (sym w.rest_is)));
           outcome_is = ap (made_of string_bytes) outcome_is ∙ sym w.answer_is;
+          line_is = line_left n value input modal standing w.rest_is;
           drawn = ap held display_is ∙ (ends.drawn ∙ (ap (λ o. held (sink_of ran.out) ++ break_if (breaks o)) (sym w.answer_is)
               ∙ (ap (λ bytes. bytes ++ break_if (breaks o)) w.are_done.drawn
               ∙ (ap (λ bytes. (bytes ++ flat_map bytes_drawn asks) ++ break_if (breaks o)) fresh_is
@@ -107,7 +117,7 @@ module _ {H K T : Type 0} (held waits : VecSink → List ℕ) (failed : VecSink 
       goes = λ n b.
           let y = line_stage (surface ran.out runs.layout) (kept runs.value runs.input ring' runs.modal feed'.coming) in
           elim (line_went held unwritten true (tt {0}) history waits failed (screen_of old) setting config.indent_size (line_script n custom) first y (outcome_of ran) refl (runs.goes told n b)) [
-            | inl w ↦ inl (left_whole n runs.value runs.input runs.modal runs.layout w)
+            | inl w ↦ inl (left_whole n runs.value runs.input runs.modal runs.layout runs.line_is w)
             | inr cut ↦ inr (went_not held unwritten true (λ e. (outcome_of ran ≡ Err e) × reason_of true ⊤ e)
                 (λ e is. wants left.outcome e (ap (made_of string_bytes) outcome_is ∙ is.0) (wanting true ⊤ e is.1)) _ _ _ cut)
           ];
@@ -119,30 +129,28 @@ bound_at kept count keys none is =
     let zero_more : length keys + kept_count None ≡ length keys = search arith in
     ap (λ k. count + kept_count k) none ∙ (ap (λ n. n + kept_count None) is ∙ zero_more)
 
--- the same by the options of the line
-pub line_read : {K T : Type 0} (held waits : VecSink → List ℕ) (failed : VecSink → Bool) (options : Options) (words : Option (List (List ℕ))) (keys : List ℕ) (last : Last) (config : Config) (custom : Custom) (prompt : List ℕ)
+-- the same by the settings and the options of the line
+pub line_read : {K T : Type 0} (held waits : VecSink → List ℕ) (failed : VecSink → Bool) (config : Config) (options : Options) (words : Option (List (List ℕ))) (keys : List ℕ) (last : Last) (custom bound_to : Custom) (prompt : List ℕ)
     (helper : Option EditHelper) (old : ScreenRenderer VecSink) (display : VecSink) (ring ring' : Ring) (query query' : List ℕ) (history history' : Filed) (feed feed' : KeyFeed) (ran : Ran (ScreenRenderer VecSink) EditHelper K T) (F : SliceSource → Feed) (reader : KeyReader SliceSource) (left : Left)
     → Runs (canvas_of held waits failed) edit_helping custom prompt helper history.kept.entries config old ring query feed ran ring' query' feed' → IsTrue feed'.told
     → Ends held (outcome_of ran) (sink_of ran.out) display history history' → held (sink_of old) ≡ []
-    → config ≡ config_of options → custom ≡ nothing_bound → prompt ≡ string_bytes options.prompt → helper ≡ helper_of options words
+    → config.auto_add_history ≡ true → custom ≡ bound_to → prompt ≡ string_bytes options.prompt → helper ≡ helper_of options words
     → screen_of old ≡ record { columns = options.columns; mode = config.grapheme_cluster_mode; bell = config.bell_style }
     → feed.coming ≡ coming_from options.mode keys last → feed.bound ≡ length keys
-    → query ≡ [] → left.outcome ≡ ran.outcome → left.display ≡ display → left.ring ≡ ring' → left.history ≡ history'
+    → query ≡ [] → left.outcome ≡ ran.outcome → left.open_line ≡ ran.open_line → left.display ≡ display → left.ring ≡ ring' → left.history ≡ history'
     → left.rest ≡ length (left_in F reader) → coming_in F reader ≡ feed'.coming
-    → ReadsLine held (program_given options words) (state_over ring [] history options.mode keys last) (length keys) left
-line_read held waits failed options words keys last config custom prompt helper old display ring ring' query query' history history' feed feed' ran F reader left runs told ends fresh config_is custom_is prompt_is helper_is screen_is coming_is bound_is none a b d e rest_is left_is =
-    let adds : config.auto_add_history ≡ true = ap (λ (x : Config). x.auto_add_history) config_is in
-    let read = reads_line held waits failed edit_helping config custom prompt helper old display ring ring' query query' history history' feed feed' ran F reader left ends fresh adds a b d e rest_is left_is runs told in
-    let columns : Config → Screen = λ x. record { columns = options.columns; mode = x.grapheme_cluster_mode; bell = x.bell_style } in
-    let given_is : given_of config custom prompt (screen_of old) (edit_helping helper) ≡ program_given options words =
+    → ReadsLine held (given_with config bound_to options words) (state_over ring [] history options.mode keys last) (length keys) left
+line_read held waits failed config options words keys last custom bound_to prompt helper old display ring ring' query query' history history' feed feed' ran F reader left runs told ends fresh adds custom_is prompt_is helper_is screen_is coming_is bound_is none a open_is b d e rest_is left_is =
+    let read = reads_line held waits failed edit_helping config custom prompt helper old display ring ring' query query' history history' feed feed' ran F reader left ends fresh adds a open_is b d e rest_is left_is runs told in
+    let columns : Screen = record { columns = options.columns; mode = config.grapheme_cluster_mode; bell = config.bell_style } in
+    let given_is : given_of config custom prompt (screen_of old) (edit_helping helper) ≡ given_with config bound_to options words =
     ap (λ (x : Screen). given_of config custom prompt x (edit_helping helper)) screen_is
-    ∙ (ap (λ (x : Config). given_of x custom prompt (columns x) (edit_helping helper)) config_is
-    ∙ (ap (λ (x : Custom). given_of (config_of options) x prompt (columns (config_of options)) (edit_helping helper)) custom_is
-    ∙ (ap (λ (x : List ℕ). given_of (config_of options) nothing_bound x (columns (config_of options)) (edit_helping helper)) prompt_is
-    ∙ ap (λ (x : Option EditHelper). given_of (config_of options) nothing_bound (string_bytes options.prompt) (columns (config_of options)) (edit_helping x)) helper_is))) in
+    ∙ (ap (λ (x : Custom). given_of config x prompt columns (edit_helping helper)) custom_is
+    ∙ (ap (λ (x : List ℕ). given_of config bound_to x columns (edit_helping helper)) prompt_is
+    ∙ ap (λ (x : Option EditHelper). given_of config bound_to (string_bytes options.prompt) columns (edit_helping x)) helper_is)) in
     let on : List ℕ → Given → Coming → ℕ → Type 0 = λ query g c n. ReadsLine held g (record { ring = ring; query = query; history = history; coming = c }) n left in
     let at : Given → Coming → ℕ → Type 0 = on query in
-    subst (λ query. on query (program_given options words) (coming_from options.mode keys last) (length keys)) none
+    subst (λ query. on query (given_with config bound_to options words) (coming_from options.mode keys last) (length keys)) none
     (subst (λ g. at g (coming_from options.mode keys last) (length keys)) given_is
     (subst (λ c. at (given_of config custom prompt (screen_of old) (edit_helping helper)) c (length keys)) coming_is
     (subst (λ n. at (given_of config custom prompt (screen_of old) (edit_helping helper)) feed.coming n) bound_is read)))

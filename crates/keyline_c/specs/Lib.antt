@@ -1,4 +1,6 @@
+pub mod Asks
 pub mod Call
+pub mod Laws
 pub mod Lines
 pub mod Meant
 pub mod Rooms

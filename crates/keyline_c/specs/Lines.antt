@@ -1,21 +1,28 @@
 -- A line of the keys so far: its arguments and its result.
-use Rattle.std.specs.Prelude.{◌≡◌, ◌⊎◌, ℕ, ◌<◌, ◌++◌, Bool, true, if◌then◌else◌, List, [], Result, Ok, Err, IsErrAnd, length, string_bytes}
+use Rattle.std.specs.Prelude.{◌≡◌, ◌⊎◌, ℕ, ◌<◌, ◌++◌, Bool, true, if◌then◌else◌, List, [], Option, Result, Ok, Err, IsErrAnd, length, string_bytes}
 use Rattle.std.specs.List.{flat_map}
+use Rattle.line_buffer.specs.Line.{Line}
+use Rattle.line_config.specs.declared.config.Config.{Config}
 use Rattle.line_config.specs.declared.device.Last.{Last}
 use Rattle.line_config.specs.declared.device.Last.TheVariants.{End, Failed}
 use Rattle.line_config.specs.declared.errors.ReadlineError.{ReadlineError}
 use Rattle.line_config.specs.declared.errors.ReadlineError.TheVariants.{Display, Helper, Memory}
 use Rattle.line_config.specs.declared.memory.VecSink.{VecSink}
 use Rattle.line_editor.specs.Courses.{breaks_after}
+use Rattle.line_editor.specs.Running.{IsOpen}
 use Rattle.line_help.specs.History.{Filed}
+use Rattle.line_keys.specs.Answers.{Custom}
 use Rattle.line_keys.specs.Coming.{made_of, unread}
+use Rattle.line_keys.specs.declared.events.Event.{Event}
 use Rattle.line_screen.specs.Drawing.{break_if}
-use Rattle.keyline.specs.Program.{config_of, program_given}
+use Rattle.keyline.specs.Program.{config_of, edit_helping, helper_of}
 use Rattle.keyline.specs.Plays.{loaded_from}
-use Rattle.keyline.specs.Events.{Course, bytes_drawn, line_course}
-use Rattle.keyline.specs.Sessions.{Given, SessionState, history_after, state_over}
+use Rattle.keyline.specs.Events.{Course, bytes_drawn, line_course, played_in}
+use Rattle.keyline.specs.Sessions.{Given, SessionState, given_of, history_after, screen_by, state_over}
 use Rattle.keyline.specs.declared.options.Options.{Options}
-use Rattle.keyline_c.specs.Meant.{AreMeant, AreValid, keeping, whole, words_in}
+use Rattle.keyline_c.specs.Asks.{AreAsked, asking_by}
+use Rattle.keyline_c.specs.Meant.{AreMeant, AreValid, settings_by, whole, words_in}
+use Rattle.keyline_c.specs.declared.asking.Asking.{Asking}
 use Rattle.keyline_c.specs.declared.export.KeylineOptions.{KeylineOptions}
 use Rattle.keyline_c.specs.declared.line.Left.{Left}
 use Rattle.keyline_c.specs.declared.status.Status.{Status}
@@ -29,10 +36,22 @@ last_of ended = if ended then End else Failed
 abbrev pub IsWant : ReadlineError → Type 0
 IsWant e = (e ≡ Memory) ⊎ ((e ≡ Display) ⊎ (e ≡ Helper))
 
--- if memory didn't run out, the result is the line's, and so many bytes are unread after it
+-- what is passed in for a line with these settings, bindings, options and words
+abbrev pub given_with : Config → Custom → Options → Option (List (List ℕ)) → Given
+given_with config custom options words = given_of config custom (string_bytes options.prompt)
+    (screen_by config options.columns) (edit_helping (helper_of options words))
+
+-- the line as it stands at its end, or where the keys end
+abbrev pub line_at_end : ℕ → Given → SessionState → Line
+line_at_end n g x = (played_in n g x).rest.value.line
+
+-- if memory didn't run out, the result is the line's, and so many bytes are unread after it. A line
+-- that isn't accepted is returned as it stands
 pub record LeftBy (held : VecSink → List ℕ)
-    (line : Course (Result (List ℕ) ReadlineError × SessionState)) (left : Left) : Type 0 where
+    (line : Course (Result (List ℕ) ReadlineError × SessionState)) (standing : Line) (left : Left)
+    : Type 0 where
   pub outcome_is : made_of string_bytes left.outcome ≡ line.answer.0
+  pub line_is : IsOpen left.outcome standing left.open_line
   pub drawn : held left.display ≡ flat_map bytes_drawn line.events
   pub ring_is : left.ring ≡ line.answer.1.ring
   pub history_is : left.history ≡ line.answer.1.history
@@ -41,7 +60,7 @@ pub record LeftBy (held : VecSink → List ℕ)
 -- the relation of a line. More fuel than the source has bytes is enough
 pub record ReadsLine (held : VecSink → List ℕ) (g : Given) (x : SessionState) (bound : ℕ)
     (left : Left) : Type 0 where
-  pub goes : (n : ℕ) → bound < n → LeftBy held (line_course n g x) left
+  pub goes : (n : ℕ) → bound < n → LeftBy held (line_course n g x) (line_at_end n g x) left
       ⊎ IsErrAnd left.outcome IsWant
 
 -- after an accepted line, and after the endings that say so, the display gets a new row
@@ -58,13 +77,16 @@ pub record Ends (held : VecSink → List ℕ) (outcome : Result (List ℕ) Readl
 module _ (options : KeylineOptions) (prompt words history kills ends : List ℕ) where
   -- the relation of a line and its arguments: they are valid, and it is the line of these keys,
   -- with these words, this history and these slots
-  pub record ReadsKeys (held : VecSink → List ℕ) (keys : List ℕ) (left : Left) : Type 0 where
+  pub record ReadsKeys (held : VecSink → List ℕ) (keys asks : List ℕ) (left : Left) : Type 0 where
     pub valid : AreValid options prompt words history kills ends
     pub chosen : Options
     pub meant : AreMeant options prompt chosen
-    pub reads : ReadsLine held (program_given chosen (words_in words))
-        (state_over valid.ring_is.0 []
-        (loaded_from (keeping options.entries (config_of chosen)) (whole history)) chosen.mode keys
+    -- those keys stop the line
+    pub bindings : List (Event × Asking)
+    pub are_asked : AreAsked chosen.mode asks bindings
+    pub reads : let config = settings_by options (config_of chosen) in
+        ReadsLine held (given_with config (asking_by bindings) chosen (words_in words))
+        (state_over valid.ring_is.0 [] (loaded_from config (whole history)) chosen.mode keys
         (last_of options.ended)) (length keys) left
 
   -- why a line isn't read: an argument is invalid, or all are valid and memory ran out

@@ -22,6 +22,11 @@ abbrev pub keeping : ℕ → Config → Config
 keeping entries config = if entries == 0 then config
     else record config { max_history_size = entries; history_duplicates = AlwaysAdd }
 
+-- the settings of a line and of its history
+abbrev pub settings_by : KeylineOptions → Config → Config
+settings_by options config =
+    record (keeping options.entries config) { modal_commands = options.modal }
+
 -- these are the options of a line after this prompt
 pub record AreMeant (options : KeylineOptions) (prompt : List ℕ) (o : Options) : Type 0 where
   pub mode_is : mode_numbered options.mode ≡ Some o.mode

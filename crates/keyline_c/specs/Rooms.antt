@@ -1,10 +1,11 @@
 -- Texts copied into the caller's buffers, and what is reported of them.
-use Rattle.std.specs.Prelude.{◌≡◌, ◌⊎◌, ◌≤◌, ◌<◌, ◌-◌, ℕ, Bool, true, false, List, ◌++◌, Result, Ok, Err, drop, length}
+use Rattle.std.specs.Prelude.{◌≡◌, ◌⊎◌, ◌≤◌, ◌<◌, ℕ, Bool, true, false, if◌then◌else◌, List, [], ◌++◌, Result, Ok, Err, drop, length}
 use Rattle.keyline_c.specs.declared.export.KeylineStep.{KeylineStep}
+use Rattle.keyline_c.specs.declared.export.KeylineWants.{KeylineWants}
 use Rattle.keyline_c.specs.declared.export.Rooms.{Rooms}
 use Rattle.keyline_c.specs.declared.export.Texts.{Texts}
 use Rattle.keyline_c.specs.declared.status.Status.{Status}
-use Rattle.keyline_c.specs.declared.status.Status.TheVariants.{Argument, Room}
+use Rattle.keyline_c.specs.declared.status.Status.TheVariants.{Room}
 
 -- the content of each buffer
 pub record RoomTexts : Type 0 where
@@ -25,6 +26,15 @@ texts_in rooms = room_texts rooms.display.now rooms.line.now rooms.history.now r
 abbrev pub texts_of : Texts → RoomTexts
 texts_of texts = room_texts texts.display.now texts.line.now texts.history.now texts.kills.now
     texts.ends.now
+
+-- the texts to copy: those that the caller wants
+abbrev pub if_wanted : {T : Type 0} → Bool → List T → List T
+if_wanted wants text = if wants then text else []
+
+abbrev pub wanted_of : KeylineWants → RoomTexts → RoomTexts
+wanted_of wants given = room_texts (if_wanted wants.display given.display)
+    (if_wanted wants.line given.line) (if_wanted wants.history given.history)
+    (if_wanted wants.kills given.kills) (if_wanted wants.ends given.ends)
 
 -- these are the same buffers, whatever their content is now
 abbrev pub SameRooms : Rooms → Rooms → Type 0
@@ -83,20 +93,3 @@ with_lengths given step = record step {
   kills = length given.kills;
   slots = length given.ends;
 }
-
--- the step reports the new display bytes, after those sent before
-abbrev pub with_display : List ℕ → ℕ → KeylineStep → KeylineStep
-with_display bytes sent step =
-    record step { display = length bytes - sent; sent = length bytes }
-
--- the new display bytes are returned, or the step reports only their lengths if they don't fit. If
--- more was sent before than there is, the argument is invalid and nothing is done
-abbrev pub GivesDisplay : {A : Type 0} → List ℕ → ℕ → List ℕ → List ℕ → KeylineStep → KeylineStep
-    → Result A Status → Type 0
-GivesDisplay bytes sent old new step step' (Ok done) = (sent ≤ length bytes)
-    × (step' ≡ with_display bytes sent step) × IsPut (drop sent bytes) old new
-GivesDisplay bytes sent old new step step' (Err Argument) =
-    (length bytes < sent) × (step' ≡ step) × (new ≡ old)
-GivesDisplay bytes sent old new step step' (Err Room) = (sent ≤ length bytes)
-    × (step' ≡ with_display bytes sent step) × (length old < length (drop sent bytes)) × (new ≡ old)
-GivesDisplay bytes sent old new step step' (Err why) = ⊥

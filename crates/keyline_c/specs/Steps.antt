@@ -1,21 +1,45 @@
 -- The result of a call for a line: how it ended, the lengths in its step, and the texts in the
 -- buffers.
-use Rattle.std.specs.Prelude.{◌≡◌, ◌≢◌, ◌⊎◌, ◌<◌, ◌-◌, ℕ, List, [], Result, Err, drop, length, string_bytes}
+use Rattle.std.specs.Prelude.{◌≡◌, ◌≢◌, ◌⊎◌, ◌<◌, ◌-◌, ℕ, List, [], Option, Some, None, Result, Err, drop, length, string_bytes}
 use Rattle.std.specs.Result.{IfOk, result_unwrap_or}
+use Rattle.line_buffer.specs.Line.{Line}
 use Rattle.line_config.specs.declared.memory.VecSink.{VecSink}
 use Rattle.line_help.specs.HistoryText.{text_to_save}
 use Rattle.line_keys.specs.Coming.{made_of}
-use Rattle.keyline_c.specs.Rooms.{RoomTexts, GivesDisplay, GivesTexts, room_texts, with_lengths}
+use Rattle.keyline_c.specs.Rooms.{RoomTexts, GivesTexts, room_texts, wanted_of, with_lengths}
 use Rattle.keyline_c.specs.Slots.{AreSlots}
 use Rattle.keyline_c.specs.Statuses.{ended_as}
 use Rattle.keyline_c.specs.declared.export.KeylineStep.{KeylineStep}
+use Rattle.keyline_c.specs.declared.export.KeylineWants.{KeylineWants}
 use Rattle.keyline_c.specs.declared.line.Left.{Left}
 use Rattle.keyline_c.specs.declared.ring.Slots.{Slots}
 use Rattle.keyline_c.specs.declared.status.Status.{Status}
-use Rattle.keyline_c.specs.declared.status.Status.TheVariants.{More, Argument, Memory}
+use Rattle.keyline_c.specs.declared.status.Status.TheVariants.{More, Argument, Memory, Asked}
 
 abbrev pub accepted_text : Left → List ℕ
 accepted_text left = result_unwrap_or (made_of string_bytes left.outcome) []
+
+-- a line that is still open, and the cursor's place in it
+abbrev pub open_text : Option Line → List ℕ
+open_text (Some line) = line.text
+open_text None = []
+
+abbrev pub open_place : Option Line → ℕ
+open_place (Some line) = line.place
+open_place None = 0
+
+-- its texts: only its new display bytes, and the line as it stands
+abbrev pub texts_open : (VecSink → List ℕ) → ℕ → Left → RoomTexts
+texts_open held sent left =
+    room_texts (drop sent (held left.display)) (open_text left.open_line) [] [] []
+
+-- what is reported beside their lengths, for so many key bytes
+abbrev pub with_open : (VecSink → List ℕ) → ℕ → Left → KeylineStep → KeylineStep
+with_open held keys left step = record step {
+  sent = length (held left.display);
+  keys = keys - left.rest;
+  cursor = open_place left.open_line;
+}
 
 -- the texts of a line that has ended, with only its new display bytes
 abbrev pub texts_left : (VecSink → List ℕ) → ℕ → Left → Slots → RoomTexts
@@ -34,10 +58,21 @@ with_end held keys left slots step = record step {
 abbrev pub TakesMemory : Left → Type 0
 TakesMemory left = (left.history.unsaved ≢ 0) ⊎ (left.ring.slots ≢ [])
 
-module _ (held : VecSink → List ℕ) (sent keys : ℕ) (left : Left) (old new : RoomTexts)
-    (step step' : KeylineStep) where
+module _ (held : VecSink → List ℕ) (sent keys : ℕ) (wants : KeylineWants) (left : Left)
+    (old new : RoomTexts) (step step' : KeylineStep) where
   abbrev pub NothingDone : Type 0
   NothingDone = (step' ≡ step) × (new ≡ old)
+
+  -- for a line that is still open its lengths and the cursor's place are reported, and its texts are
+  -- returned or one doesn't fit
+  pub record TellsOpen {A : Type 0} (result : Result A Status) : Type 0 where
+    pub step_is : step' ≡ with_lengths (texts_open held sent left) (with_open held keys left step)
+    pub texts : GivesTexts (wanted_of wants (texts_open held sent left)) old new result
+
+  -- or more was sent than there is
+  abbrev pub GivesOpen : {A : Type 0} → Result A Status → Type 0
+  GivesOpen (Err Argument) = (length (held left.display) < sent) × NothingDone
+  GivesOpen result = TellsOpen result
 
   -- for a line that has ended all lengths are reported, and its texts are returned or one doesn't
   -- fit
@@ -46,7 +81,7 @@ module _ (held : VecSink → List ℕ) (sent keys : ℕ) (left : Left) (old new 
     pub are_slots : AreSlots left.ring slots
     pub step_is : step' ≡ with_lengths (texts_left held sent left slots)
         (with_end held keys left slots step)
-    pub texts : GivesTexts (texts_left held sent left slots) old new result
+    pub texts : GivesTexts (wanted_of wants (texts_left held sent left slots)) old new result
 
   -- or memory runs out for that, or more was sent than there is
   abbrev pub GivesEnd : {A : Type 0} → Result A Status → Type 0
@@ -54,12 +89,11 @@ module _ (held : VecSink → List ℕ) (sent keys : ℕ) (left : Left) (old new 
   GivesEnd (Err Argument) = (length (held left.display) < sent) × NothingDone
   GivesEnd result = TellsEnd result
 
-  -- by how it ended: a line that continues returns only its display bytes
+  -- by how it ended
   abbrev pub GivesBy : Status → Result Status Status → Type 0
   GivesBy Memory result = (result ≡ Err Memory) × NothingDone
-  GivesBy More result =
-      GivesDisplay (held left.display) sent old.display new.display step step' result
-      × (new ≡ record old { display = new.display })
+  GivesBy More result = GivesOpen result
+  GivesBy Asked result = GivesOpen result
   GivesBy status result = GivesEnd result
 
   -- the relation of what is returned for a line

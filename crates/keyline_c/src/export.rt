@@ -10,10 +10,11 @@ ghost use Rattle.keyline_c.specs.Call.{Answers, Calls, status_in};
 ghost use Rattle.keyline_c.specs.Lines.{IsRefused, ReadsKeys};
 ghost use Rattle.keyline.specs.Plays.{loaded_from};
 ghost use Rattle.keyline.specs.Program.{config_of, word_texts};
-ghost use Rattle.keyline_c.specs.Meant.{AreMeant, AreValid, keeping, mode_numbered, whole, words_in};
-ghost use Rattle.keyline_c.specs.Rooms.{FitsRooms, GivesDisplay, GivesTexts, SameRooms, room_texts, texts_in, texts_of, with_lengths};
-ghost use Rattle.keyline_c.specs.Steps.{Gives, GivesEnd};
+ghost use Rattle.keyline_c.specs.Meant.{AreMeant, AreValid, mode_numbered, settings_by, whole, words_in};
+ghost use Rattle.keyline_c.specs.Rooms.{FitsRooms, GivesTexts, SameRooms, if_wanted, room_texts, texts_in, texts_of, wanted_of, with_lengths};
+ghost use Rattle.keyline_c.specs.Steps.{Gives, GivesEnd, GivesOpen, open_place, open_text};
 
+use crate::asking::bindings_of;
 use crate::line::{Left, read_line};
 use crate::ring::{is_ring, ring_of, slots_of};
 use crate::room::put;
@@ -22,6 +23,7 @@ use keyline::{
     Config, Configurer, EditMode, FileHistory, Options, ReadlineError, Sink, SliceSource, VecSink,
     config_of, load_words,
 };
+use line_buffer::LineBuffer;
 use std::alloc::Global;
 
 /// How a line is read. Everything except `ended` and `sent` stays the same during a line.
@@ -42,6 +44,8 @@ pub struct KeylineOptions {
     pub place: usize,
     /// The most entries of the history, equal neighbours too; 0 stands for 100 without these.
     pub entries: usize,
+    /// The setting `modal_commands`.
+    pub modal: bool,
 }
 
 /// The result of a call. If the status says that a buffer is too small, the lengths are those that
@@ -55,7 +59,7 @@ pub struct KeylineStep {
     pub display: usize,
     /// The number of display bytes of this line so far.
     pub sent: usize,
-    /// The length of the line, in bytes.
+    /// The length of the line, in bytes; of a line that continues, as it stands.
     pub line: usize,
     /// The number of key bytes that belong to the line; the keys after them are for the next one.
     pub keys: usize,
@@ -67,6 +71,19 @@ pub struct KeylineStep {
     pub slots: usize,
     /// The current slot.
     pub place: usize,
+    /// The cursor's place in a line that continues, in bytes.
+    pub cursor: usize,
+}
+
+/// Which texts are wanted. Of the others only the lengths are reported.
+#[repr(C)]
+#[derive(Drop)]
+pub struct KeylineWants {
+    pub display: bool,
+    pub line: bool,
+    pub history: bool,
+    pub kills: bool,
+    pub ends: bool,
 }
 
 /// The texts passed in.
@@ -75,6 +92,7 @@ struct Handed<'k> {
     keys: &'k [u8],
     prompt: &'k [u8],
     words: &'k [u8],
+    asks: &'k [u8],
     history: &'k [u8],
     kills: &'k [u8],
     ends: &'k [usize],
@@ -169,15 +187,16 @@ fn words_of(alloc: Global, text: &[u8]) -> Result<Option<Vec<String>>, Status>
     Ok(Some(load_words(alloc, &mut SliceSource::new(text))?))
 }
 
-/// The settings of the history.
-fn history_config(options: &KeylineOptions, chosen: &Options) -> Config
-    ensures { result ≡ keeping options.now.entries (config_of chosen.now) }
+/// The settings of a line and of its history.
+fn settings_by(options: &KeylineOptions, chosen: &Options) -> Config
+    ensures { result ≡ settings_by options.now (config_of chosen.now) }
 {
     let mut config = config_of(chosen);
     if options.entries > 0 {
         let _ = config.set_max_history_size(options.entries);
         let _ = config.set_history_ignore_dups(false);
     }
+    config.set_modal_commands(options.modal);
     config
 }
 
@@ -197,7 +216,7 @@ fn history_of(alloc: Global, config: &Config, text: &[u8]) -> Result<FileHistory
 fn play<'k>(alloc: Global, options: &KeylineOptions, handed: &Handed<'k>) -> Result<Left, Status>
     ensures { let reads = ReadsKeys options.now handed.now.prompt.now handed.now.words.now
         handed.now.history.now handed.now.kills.now handed.now.ends.now in
-        MatchResult result (reads ⟦<VecSink as Sink>⟧.held handed.now.keys.now)
+        MatchResult result (reads ⟦<VecSink as Sink>⟧.held handed.now.keys.now handed.now.asks.now)
         (IsRefused options.now handed.now.prompt.now handed.now.words.now handed.now.history.now
         handed.now.kills.now handed.now.ends.now) }
 {
@@ -206,30 +225,14 @@ fn play<'k>(alloc: Global, options: &KeylineOptions, handed: &Handed<'k>) -> Res
     };
     let chosen = options_of(alloc, options, mode, prompt)?;
     let words = words_of(alloc, handed.words)?;
-    let config = history_config(options, &chosen);
+    let config = settings_by(options, &chosen);
     let history = history_of(alloc, &config, handed.history)?;
+    let bindings = bindings_of(alloc, chosen.mode, handed.asks)?;
     let ring = ring_of(alloc, handed.kills, handed.ends, options.place)?;
     let (keys, ended) = (handed.keys, options.ended);
-    Ok(read_line(alloc, &chosen, words, history, ring, keys, ended)?)
-}
-
-/// Copies the new display bytes.
-fn give_display(
-    bytes: &[u8],
-    sent: usize,
-    room: &mut [u8],
-    step: &mut KeylineStep,
-) -> Result<(), Status>
-    ensures { GivesDisplay bytes.now sent room.old room.new step.old step.new result }
-{
-    let fresh = bytes.get(sent..).ok_or(Status::Argument)?;
-    step.display = fresh.len();
-    step.sent = bytes.len();
-    if fresh.len() > room.len() {
-        return Err(Status::Room);
-    }
-    put(fresh, room);
-    Ok(())
+    Ok(read_line(
+        alloc, &config, &chosen, words, &bindings, history, ring, keys, ended,
+    )?)
 }
 
 /// Reports the length of each text.
@@ -271,6 +274,70 @@ fn put_all(texts: &Texts<'_>, rooms: &mut Rooms<'_>) -> Result<(), Status>
     Ok(())
 }
 
+/// A text, if it is wanted.
+fn if_wanted<T>(wants: bool, text: &[T]) -> &[T]
+    ensures { result.now ≡ if_wanted wants text.now }
+{
+    if wants { text } else { &[] }
+}
+
+/// Copies each text that is wanted into its buffer, or none of them if one doesn't fit.
+fn put_wanted(texts: &Texts<'_>, wants: &KeylineWants, rooms: &mut Rooms<'_>) -> Result<(), Status>
+    ensures gives { GivesTexts (wanted_of wants.now (texts_of texts.now))
+        (texts_in rooms.old) (texts_in rooms.new) result }
+    ensures same { SameRooms rooms.old rooms.new }
+{
+    let wanted = Texts {
+        display: if_wanted(wants.display, texts.display),
+        line: if_wanted(wants.line, texts.line),
+        history: if_wanted(wants.history, texts.history),
+        kills: if_wanted(wants.kills, texts.kills),
+        ends: if_wanted(wants.ends, texts.ends),
+    };
+    put_all(&wanted, rooms)
+}
+
+/// The text of an open line, and the cursor's place in it.
+fn open_parts(line: &Option<LineBuffer>) -> (&str, usize)
+    ensures text { result.0.now ≡ open_text line.now }
+    ensures place { result.1 ≡ open_place line.now }
+{
+    match line {
+        Some(line) => (line.as_str(), line.pos()),
+        None => ("", 0),
+    }
+}
+
+/// Returns the texts of a line that is still open.
+fn give_open(
+    sent: usize,
+    keys: usize,
+    left: &Left,
+    wants: &KeylineWants,
+    rooms: &mut Rooms<'_>,
+    step: &mut KeylineStep,
+) -> Result<(), Status>
+    requires { sent ≤ length (⟦<VecSink as Sink>⟧.held left.now.display) }
+    ensures gives { GivesOpen ⟦<VecSink as Sink>⟧.held sent keys wants.now left.now
+        (texts_in rooms.old) (texts_in rooms.new) step.old step.new result }
+    ensures same { SameRooms rooms.old rooms.new }
+{
+    let bytes = left.display.bytes();
+    let (line, cursor) = open_parts(&left.open_line);
+    let texts = Texts {
+        display: &bytes[sent..],
+        line: line.as_bytes(),
+        history: &[],
+        kills: &[],
+        ends: &[],
+    };
+    step.sent = bytes.len();
+    step.keys = keys.saturating_sub(left.rest);
+    step.cursor = cursor;
+    tell_lengths(&texts, step);
+    put_wanted(&texts, wants, rooms)
+}
+
 /// The text of a line; empty if there is none.
 fn text_of(outcome: &Result<String, ReadlineError>) -> &str
     ensures { result.now ≡ result_unwrap_or (made_of string_bytes outcome.now) [] }
@@ -300,11 +367,12 @@ fn give_end(
     sent: usize,
     keys: usize,
     left: Left,
+    wants: &KeylineWants,
     rooms: &mut Rooms<'_>,
     step: &mut KeylineStep,
 ) -> Result<(), Status>
     requires { sent ≤ length (⟦<VecSink as Sink>⟧.held left.display) }
-    ensures gives { GivesEnd ⟦<VecSink as Sink>⟧.held sent keys left
+    ensures gives { GivesEnd ⟦<VecSink as Sink>⟧.held sent keys wants.now left
         (texts_in rooms.old) (texts_in rooms.new) step.old step.new result }
     ensures same { SameRooms rooms.old rooms.new }
 {
@@ -314,6 +382,7 @@ fn give_end(
         history,
         ring,
         rest,
+        ..
     } = left;
     let history = saved(alloc, history)?;
     let slots = slots_of(alloc, &ring)?;
@@ -328,7 +397,7 @@ fn give_end(
     step.keys = keys.saturating_sub(rest);
     step.place = slots.place;
     tell_lengths(&texts, step);
-    put_all(&texts, rooms)
+    put_wanted(&texts, wants, rooms)
 }
 
 /// Returns the texts of a line, and how it ended.
@@ -337,10 +406,11 @@ fn give(
     options: &KeylineOptions,
     keys: usize,
     left: Left,
+    wants: &KeylineWants,
     rooms: &mut Rooms<'_>,
     step: &mut KeylineStep,
 ) -> Result<Status, Status>
-    ensures gives { Gives ⟦<VecSink as Sink>⟧.held options.now.sent keys left
+    ensures gives { Gives ⟦<VecSink as Sink>⟧.held options.now.sent keys wants.now left
         (texts_in rooms.old) (texts_in rooms.new) step.old step.new result }
     ensures same { SameRooms rooms.old rooms.new }
 {
@@ -351,11 +421,11 @@ fn give(
     if left.display.bytes().len() < options.sent {
         return Err(Status::Argument);
     }
-    if status == Status::More {
-        give_display(left.display.bytes(), options.sent, rooms.display, step)?;
+    if status.is_open() {
+        give_open(options.sent, keys, &left, wants, rooms, step)?;
         return Ok(status);
     }
-    give_end(alloc, options.sent, keys, left, rooms, step)?;
+    give_end(alloc, options.sent, keys, left, wants, rooms, step)?;
     Ok(status)
 }
 
@@ -364,17 +434,18 @@ fn answer<'k>(
     alloc: Global,
     options: &KeylineOptions,
     handed: &Handed<'k>,
+    wants: &KeylineWants,
     rooms: &mut Rooms<'_>,
     step: &mut KeylineStep,
 ) -> Result<Status, Status>
     ensures answers { Answers ⟦<VecSink as Sink>⟧.held options.now handed.now.keys.now
-        handed.now.prompt.now handed.now.words.now handed.now.history.now handed.now.kills.now
-        handed.now.ends.now
+        handed.now.prompt.now handed.now.words.now handed.now.asks.now handed.now.history.now
+        handed.now.kills.now handed.now.ends.now wants.now
         (texts_in rooms.old) (texts_in rooms.new) step.old step.new result }
     ensures same { SameRooms rooms.old rooms.new }
 {
     let left = play(alloc, options, handed)?;
-    give(alloc, options, handed.keys.len(), left, rooms, step)
+    give(alloc, options, handed.keys.len(), left, wants, rooms, step)
 }
 
 /// How a call ended, whether it succeeded or failed.
@@ -406,9 +477,11 @@ pub extern "C" fn keyline_line_checked<'k>(
     keys: &'k [u8],
     prompt: &'k [u8],
     words: &'k [u8],
+    asks: &'k [u8],
     history: &'k [u8],
     kills: &'k [u8],
     ends: &'k [usize],
+    wants: &KeylineWants,
     display_room: &mut [u8],
     line_room: &mut [u8],
     history_room: &mut [u8],
@@ -417,7 +490,7 @@ pub extern "C" fn keyline_line_checked<'k>(
     step: &mut KeylineStep,
 )
     ensures { Calls ⟦<VecSink as Sink>⟧.held options.now keys.entry.now prompt.entry.now
-        words.entry.now history.entry.now kills.entry.now ends.entry.now
+        words.entry.now asks.entry.now history.entry.now kills.entry.now ends.entry.now wants.now
         (room_texts display_room.old line_room.old history_room.old kills_room.old ends_room.old)
         (room_texts display_room.new line_room.new history_room.new kills_room.new ends_room.new)
         step.new }
@@ -432,11 +505,13 @@ pub extern "C" fn keyline_line_checked<'k>(
         kills: 0,
         slots: 0,
         place: 0,
+        cursor: 0,
     };
     let handed = Handed {
         keys,
         prompt,
         words,
+        asks,
         history,
         kills,
         ends,
@@ -448,6 +523,6 @@ pub extern "C" fn keyline_line_checked<'k>(
         kills: kills_room,
         ends: ends_room,
     };
-    let status = status_in(answer(alloc, options, &handed, &mut rooms, step));
+    let status = status_in(answer(alloc, options, &handed, wants, &mut rooms, step));
     step.status = status.code();
 }

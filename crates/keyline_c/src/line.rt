@@ -7,15 +7,19 @@ ghost use Rattle.line_keys.specs.Coming.{made_of};
 ghost use Rattle.line_screen.specs.Calls.{screen_of, sink_of};
 ghost use Rattle.line_screen.specs.Reader.{left_in};
 ghost use Rattle.line_screen.specs.Drawing.{row_break};
-ghost use Rattle.keyline.specs.Program.{program_given, word_texts};
+ghost use Rattle.keyline.specs.Program.{word_texts};
 ghost use Rattle.keyline.specs.Sessions.{history_after, screen_by, state_over};
-ghost use Rattle.keyline_c.specs.Lines.{Ends, IsWant, ReadsLine, breaks, last_of};
+ghost use Rattle.keyline_c.specs.Asks.{asking_by};
+ghost use Rattle.keyline_c.specs.Lines.{Ends, IsWant, ReadsLine, breaks, given_with, last_of};
 
+use crate::asking::Asking;
 use keyline::{
-    Bindings, Config, FileHistory, History, Options, ReadlineError, Sink, SliceSource, Source,
-    VecSink, config_of, helper_of,
+    Config, FileHistory, History, Options, ReadlineError, Sink, SliceSource, Source, VecSink,
+    helper_of,
 };
+use line_buffer::LineBuffer;
 use line_editor::{Ran, Renderer, run};
+use line_keys::EventMap;
 use line_record::KillRing;
 use line_screen::{KeyReader, ScreenRenderer};
 use std::alloc::Global;
@@ -24,6 +28,8 @@ use std::alloc::Global;
 #[derive(Drop)]
 pub(crate) struct Left {
     pub(crate) outcome: Result<String, ReadlineError>,
+    /// A line that wasn't accepted, as it stands.
+    pub(crate) open_line: Option<LineBuffer>,
     /// The display bytes.
     pub(crate) display: VecSink,
     pub(crate) history: FileHistory,
@@ -124,31 +130,34 @@ fn close(
 /// at its end.
 pub(crate) fn read_line<'k>(
     alloc: Global,
+    config: &Config,
     options: &Options,
     words: Option<Vec<String>>,
+    bindings: &EventMap<Asking>,
     history: FileHistory,
     ring: KillRing,
     keys: &'k [u8],
     ended: bool,
 ) -> Result<Left, ReadlineError>
-    requires { (2 ≤ options.now.columns) × (options.now.columns ≤ 1000) }
-    ensures { let given = program_given options.now (word_texts words) in
+    requires columns { (2 ≤ options.now.columns) × (options.now.columns ≤ 1000) }
+    requires adds { config.now.auto_add_history ≡ true }
+    ensures { let given = given_with config.now (asking_by bindings.now) options.now
+        (word_texts words) in
         let state = state_over ring [] history options.now.mode keys.entry.now (last_of ended) in
         MatchResult result (ReadsLine ⟦<VecSink as Sink>⟧.held given state
         (length keys.entry.now)) IsWant }
 {
-    let config = config_of(options);
-    let bindings = Bindings::new(alloc).unwrap();
     let mut history = history;
     let mut ring = ring;
     let mut last_query = String::new(alloc);
     let mut reader = KeyReader::new(source_of(keys, ended), options.mode);
-    let out = screen(alloc, options, &config);
+    let out = screen(alloc, options, config);
     let helper = helper_of(options, words);
     let prompt = options.prompt.as_str();
     let Ran {
         mut out,
         outcome,
+        open_line,
         ..
     } = run(
         alloc,
@@ -157,14 +166,15 @@ pub(crate) fn read_line<'k>(
         prompt,
         helper,
         &history,
-        &config,
-        &bindings,
+        config,
+        bindings,
         &mut ring,
         &mut last_query,
     );
     close(alloc, &outcome, &mut out, &mut history)?;
     Ok(Left {
         outcome,
+        open_line,
         display: out.into_sink(),
         history,
         ring,

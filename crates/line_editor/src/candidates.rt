@@ -89,7 +89,11 @@ fn push_more(
 fn first_of<C>(candidates: &[C], limit: usize) -> &[C]
     ensures { result.now ≡ take limit candidates.now }
 {
-    if limit < candidates.len() { &candidates[..limit] } else { candidates }
+    if limit < candidates.len() {
+        &candidates[..limit]
+    } else {
+        candidates
+    }
 }
 
 /// The first candidates, each on a row of its own, and how many more there are.
@@ -154,9 +158,10 @@ impl<'p, 'h, Out: Renderer, H: Helper + Drop, Hi: History> State<'p, 'h, Out, H,
             (record { start = start; candidates = map H.Candidate.offers candidates.now }))
             self.old self.new result }
         ensures modal { OnOk result (modal_of modal.new ≡ record (modal_of modal.old) {
-            standing = list_standing lists (elected
-                (record { start = start; candidates = map H.Candidate.offers candidates.now })
-                self.old.recorded.line) }) }
+          standing = list_standing lists (elected
+              (record { start = start; candidates = map H.Candidate.offers candidates.now })
+              self.old.recorded.line);
+        }) }
     {
         match elected(&self.recorded.line, start, candidates) {
             Some(text) => {
@@ -279,11 +284,7 @@ impl<'p, 'h, Out: Renderer, H: Helper + Drop, Hi: History> State<'p, 'h, Out, H,
     }
 
     /// Asks the helper for candidates, and shows what becomes of them.
-    fn ask_and_offer(
-        &mut self,
-        modal: &mut ModalState,
-        lists: bool,
-    ) -> Result<(), ReadlineError>
+    fn ask_and_offer(&mut self, modal: &mut ModalState, lists: bool) -> Result<(), ReadlineError>
         requires { is_some self.old.helper ≡ true }
         ensures does { Does (λ s v. tab_effect lists (modal_of modal.old)
             (candidates_given (completion_reply s v)) s v) self.old self.new result }

@@ -4,7 +4,7 @@ use Rattle.std.specs.Prelude.{codes, bytes_eq}
 use Rattle.std.specs.Str.{chars}
 use lib.Utf8.{encode}
 use Rattle.line_buffer.specs.Insertions.{last_cut}
-use Rattle.line_help.specs.Completion.{longest_common_prefix, word_start, is_among, break_characters}
+use Rattle.line_help.specs.Completion.{Offered, longest_common_prefix, word_start, is_among, break_characters}
 use Rattle.line_help.specs.FileNames.{Named, path_completion, unsorted_completion}
 use Rattle.line_keys.specs.Replies.{Reply, gives, gives_at_once}
 use Rattle.line_help.specs.Quotes.{escaped, unescaped, unclosed_quote}
@@ -67,15 +67,18 @@ escape_at_the_end_goes = refl
 abbrev held : List ℕ → Reply (List Named)
 held folder = gives_at_once (cond (bytes_eq folder (codes "/usr/")) (record { name = codes "log"; is_dir = false } ∷ record { name = codes "my file"; is_dir = false } ∷ record { name = codes "local"; is_dir = true } ∷ []) [])
 
-names_that_begin_alike : path_completion held (codes "ls /usr/lo") ≡ gives (record { start = 3; candidates = record { display = codes "local"; replacement = codes "/usr/local/" } ∷ record { display = codes "log"; replacement = codes "/usr/log" } ∷ [] })
+abbrev pair : List ℕ → List ℕ → Offered
+pair display replacement = record { display = display; replacement = replacement; alone = replacement }
+
+names_that_begin_alike : path_completion held (codes "ls /usr/lo") ≡ gives (record { start = 3; candidates = pair (codes "local") (codes "/usr/local/") ∷ pair (codes "log") (codes "/usr/log") ∷ [] })
 unfolding chars encode
 names_that_begin_alike = refl
 
-unsorted_as_listed : unsorted_completion held (codes "ls /usr/lo") ≡ gives (record { start = 3; candidates = record { display = codes "log"; replacement = codes "/usr/log" } ∷ record { display = codes "local"; replacement = codes "/usr/local/" } ∷ [] })
+unsorted_as_listed : unsorted_completion held (codes "ls /usr/lo") ≡ gives (record { start = 3; candidates = pair (codes "log") (codes "/usr/log") ∷ pair (codes "local") (codes "/usr/local/") ∷ [] })
 unfolding chars encode
 unsorted_as_listed = refl
 
-name_with_a_space : path_completion held (codes "ls /usr/m") ≡ gives (record { start = 3; candidates = record { display = codes "my file"; replacement = codes "/usr/my" ++ (92 ∷ codes " file") } ∷ [] })
+name_with_a_space : path_completion held (codes "ls /usr/m") ≡ gives (record { start = 3; candidates = pair (codes "my file") (codes "/usr/my" ++ (92 ∷ codes " file")) ∷ [] })
 unfolding chars encode
 name_with_a_space = refl
 

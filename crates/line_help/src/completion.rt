@@ -99,7 +99,7 @@ impl Candidate for Pair {
     }
 
     fn alone(&self) -> &str {
-        self.replacement()
+        &self.replacement
     }
 }
 

@@ -3,16 +3,16 @@
 ghost use Rattle.std.specs.Prelude.{◌≡◌, false};
 
 use keyline::{
-    Bindings, Config, Decides, Ended, Ending, EventHandler, Helper, LineRead, ReadSource,
-    ReadlineError, Session, Sink, SliceSource, Source, VecSink,
+    Bindings, CompletionType, Config, Decides, Ended, Ending, EventHandler, Helper, LineRead,
+    ReadSource, ReadlineError, Session, Sink, SliceSource, Source, VecSink,
 };
 use session_words::advice::{Texts, texts_of};
 use session_words::aide::{Aide, aide_of};
 use session_words::bound::{Action, Bound, bound_by};
 use session_words::faults::{Faults, faults_of, sink_of};
 use session_words::notation::{
-    Asking, Row, Setting, display_meant, field, lines_meant, number_after, row_of, setting_of,
-    text_meant, typed,
+    Asking, Row, Setting, after, display_meant, field, lines_meant, number_after, row_of,
+    setting_of, text_meant, typed,
 };
 use stand_ins::devices::{Pieces, Turns};
 use stand_ins::rows::raised;
@@ -30,11 +30,23 @@ pub struct Left {
     pub shown: Vec<u8>,
 }
 
+/// What becomes of several candidates: they are listed, or come in turn.
+fn completion_of(words: &str) -> CompletionType {
+    if after(words, "listed").is_some() {
+        CompletionType::List
+    } else {
+        CompletionType::Circular
+    }
+}
+
 fn config_of(setting: &Setting<'_>) -> Result<Config, ReadlineError> {
     let config = Config::builder()
         .edit_mode(setting.mode)
         .auto_add_history(setting.adding)
         .modal_commands(setting.modal)
+        .completion_type(completion_of(setting.all))
+        .completion_show_all_if_ambiguous(after(setting.all, "at-once").is_some())
+        .completion_prompt_limit(number_after(setting.all, "limit:", 100))
         .grapheme_cluster_mode(setting.clusters)
         .max_history_size(number_after(setting.all, "size:", 100))?
         .build();

@@ -3,11 +3,12 @@
 //! The word `advised` asks for it. Its words for hints are `hint:`, `taken:` (what the hint adds to
 //! the line), `hint-from:` and `marked:`. Those for verdicts are `verdict:`, `later:`,
 //! `later-from:` and `message:`. Those for completion are `offers:` (a candidate, or two with a
-//! comma between them) and `start:`. Those for faults are `hint-fails:`, `verdict-fails:`,
+//! comma between them), `start:`, `ends:` (what follows a candidate that is the only one) and
+//! `shown:` (what follows one in a list). Those for faults are `hint-fails:`, `verdict-fails:`,
 //! `completion-fails:`, `update-fails:` and `wants-memory`.
 
 ghost use Rattle.std.specs.Prelude.{◌≡◌, ◌==◌, nat_le, option_copied, option_map, length, None, Some, false, if◌then◌else◌, IfErr};
-ghost use Rattle.line_help.specs.Completion.{text_offered};
+ghost use Rattle.line_help.specs.Completion.{Offered};
 ghost use Rattle.line_keys.specs.Replies.{gives_at_once, gives_unless};
 ghost use Rattle.line_config.specs.declared.errors.HookFault.TheVariants.{Memory};
 
@@ -16,7 +17,7 @@ use line_buffer::{ChangeListener, LineBuffer};
 use line_config::{CompletionType, HookFault};
 use line_help::{
     Completer, Context, Helper, Highlighter, Hint, Hinter, History, ValidationContext,
-    ValidationResult, Validator, update_line,
+    ValidationResult, Validator, WholeWord, update_line,
 };
 use line_keys::{CmdKind, Text};
 use std::alloc::{AllocError, Global};
@@ -76,6 +77,8 @@ pub struct Adviser<'a> {
     verdict_fails_from: usize,
     offer: Offer<'a>,
     start: usize,
+    ends: &'a str,
+    shown: &'a str,
     completion_fails_from: usize,
     update_fails_from: usize,
     marked_at: usize,
@@ -83,7 +86,31 @@ pub struct Adviser<'a> {
 }
 
 impl Adviser<'_> {
-    ghost use Rattle.std.specs.Prelude.{IfOk};
+    ghost use Rattle.std.specs.Prelude.{IfOk, ◌++◌};
+
+    /// A candidate with what follows it where it stands alone, and in a list.
+    fn offered(&self, alloc: Global, word: &str) -> Result<WholeWord, HookFault>
+        ensures word { IfOk result (λ whole. whole
+            ≡ record {
+              display = word.now ++ self.now.shown.now;
+              replacement = word.now;
+              alone = word.now ++ self.now.ends.now;
+            }) }
+        ensures fault { IfErr result (λ e. e ≡ Memory) }
+    {
+        let WholeWord {
+            display,
+            replacement,
+            alone,
+        } = WholeWord::new(alloc, word, self.ends)?;
+        let mut display = display;
+        display.push_str(self.shown)?;
+        Ok(WholeWord {
+            display,
+            replacement,
+            alone,
+        })
+    }
 
     fn fault(&self) -> HookFault {
         if self.wants_memory {
@@ -105,18 +132,19 @@ impl Adviser<'_> {
 }
 
 impl Completer for Adviser<'_> {
-    ghost use Rattle.std.specs.Prelude.{◌∷◌, []};
+    ghost use Rattle.std.specs.Prelude.{◌∷◌, [], ◌++◌};
     ghost use Rattle.session_words.specs.declared.advice.Offer.TheVariants.{Nothing, One, Two};
 
-    type Candidate = String;
+    type Candidate = WholeWord;
 
     ghost completion_of = { λ self line pos entries place. gives_unless (nat_le self.completion_fails_from (length line))
         (record {
           start = self.start;
           candidates = elim self.offer [
             | Nothing ↦ []
-            | One a ↦ text_offered a.now ∷ []
-            | Two a b ↦ text_offered a.now ∷ (text_offered b.now ∷ [])
+            | One a ↦ (record { display = a.now ++ self.shown.now; replacement = a.now; alone = a.now ++ self.ends.now }) ∷ []
+            | Two a b ↦ (record { display = a.now ++ self.shown.now; replacement = a.now; alone = a.now ++ self.ends.now })
+                ∷ ((record { display = b.now ++ self.shown.now; replacement = b.now; alone = b.now ++ self.ends.now }) ∷ [])
           ];
         }) };
 
@@ -128,17 +156,17 @@ impl Completer for Adviser<'_> {
         line: &str,
         _pos: usize,
         _ctx: &Context<'_, Hi>,
-    ) -> Result<(usize, Vec<String>), HookFault> {
+    ) -> Result<(usize, Vec<WholeWord>), HookFault> {
         if line.len() >= self.completion_fails_from {
             return Err(self.fault());
         }
         let mut candidates = Vec::new(alloc);
         match self.offer {
             Offer::Nothing => {}
-            Offer::One(word) => candidates.push(String::from_str(alloc, word)?)?,
+            Offer::One(word) => candidates.push(self.offered(alloc, word)?)?,
             Offer::Two(word, other) => {
-                candidates.push(String::from_str(alloc, word)?)?;
-                candidates.push(String::from_str(alloc, other)?)?;
+                candidates.push(self.offered(alloc, word)?)?;
+                candidates.push(self.offered(alloc, other)?)?;
             }
         }
         Ok((self.start, candidates))
@@ -291,6 +319,8 @@ pub struct Texts {
     taken: Option<String>,
     message: String,
     offers: Option<String>,
+    ends: String,
+    shown: String,
 }
 
 fn text_after(alloc: Global, words: &str, beginning: &str) -> Result<Option<String>, AllocError> {
@@ -307,6 +337,8 @@ pub fn texts_of(alloc: Global, words: &str) -> Result<Texts, AllocError> {
         taken: text_after(alloc, words, "taken:")?,
         message: text_meant(alloc, after(words, "message:").unwrap_or(""))?,
         offers: text_after(alloc, words, "offers:")?,
+        ends: text_meant(alloc, after(words, "ends:").unwrap_or(""))?,
+        shown: text_meant(alloc, after(words, "shown:").unwrap_or(""))?,
     })
 }
 
@@ -354,6 +386,8 @@ impl Texts {
             verdict_fails_from: number_after(words, "verdict-fails:", usize::MAX),
             offer: self.offer(),
             start: number_after(words, "start:", 0),
+            ends: self.ends.as_str(),
+            shown: self.shown.as_str(),
             completion_fails_from: number_after(words, "completion-fails:", usize::MAX),
             update_fails_from: number_after(words, "update-fails:", usize::MAX),
             marked_at: number_after(words, "marked:", usize::MAX),

@@ -1,18 +1,32 @@
 //! A helper for sessions.
 
-use crate::notation::{Setting, text_meant};
-use line_help::{HelperParts, HistoryHinter, MatchingBracketValidator, WordCompleter};
+use crate::notation::{Setting, after, text_meant};
+use line_help::{HelperParts, HistoryHinter, MatchingBracketValidator, WholeWordCompleter};
 use std::alloc::{AllocError, Global};
 
-/// Completion by words, hints from the history, and validation of brackets.
+/// Completion by words, hints from the history, and validation of brackets. A word that is the only
+/// candidate is followed by the text after `ends:`, a space or a quote.
 pub type Aide = HelperParts<
-    Option<WordCompleter>,
+    Option<WholeWordCompleter>,
     HistoryHinter,
     (),
     Option<MatchingBracketValidator>,
 >;
 
-fn completer_of(alloc: Global, listed: &str) -> Result<Option<WordCompleter>, AllocError> {
+// The text with this picture.
+fn end_named(shown: &str) -> &'static str {
+    match shown {
+        "␠" => " ",
+        "\"" => "\"",
+        _ => "",
+    }
+}
+
+fn completer_of(
+    alloc: Global,
+    listed: &str,
+    end: &'static str,
+) -> Result<Option<WholeWordCompleter>, AllocError> {
     if listed.is_empty() {
         return Ok(None);
     }
@@ -20,12 +34,13 @@ fn completer_of(alloc: Global, listed: &str) -> Result<Option<WordCompleter>, Al
     for word in listed.split(',') {
         words.push(text_meant(alloc, word)?)?;
     }
-    Ok(Some(WordCompleter::new(words)))
+    Ok(Some(WholeWordCompleter::new(words, end)))
 }
 
 /// The helper of a setting.
 pub fn aide_of(alloc: Global, setting: &Setting<'_>) -> Result<Option<Aide>, AllocError> {
-    let completer = completer_of(alloc, setting.words)?;
+    let end = end_named(after(setting.all, "ends:").unwrap_or(""));
+    let completer = completer_of(alloc, setting.words, end)?;
     if completer.is_none() && !setting.helped {
         return Ok(None);
     }

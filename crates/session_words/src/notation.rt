@@ -154,7 +154,7 @@ pub fn row_of(text: &str) -> Option<Row<'_>> {
 
 /// The bytes of named keys.
 const NAMED: &str =
-    "nothing: Enter:␍ Tab:␉ Backspace:␡ Esc:␛ Left:␛[D Right:␛[C Up:␛[A Down:␛[B Home:␛[H End:␛[F \
+    "nothing: Enter:␍ Tab:␉ S-Tab:␛[Z Backspace:␡ Esc:␛ Left:␛[D Right:␛[C Up:␛[A Down:␛[B Home:␛[H End:␛[F \
     Delete:␛[3~ Paste:␛[200~ Pasted:␛[201~";
 
 /// The bytes of a named key.

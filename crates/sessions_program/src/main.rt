@@ -19,12 +19,13 @@ use session_rows::play::{Played, play};
 use session_rows::refusals::{play_grown, play_refused};
 use std::{env, fs, io};
 
-const FILES: [&str; 7] = [
+const FILES: [&str; 8] = [
     "rows.txt",
     "emacs.txt",
     "vi.txt",
     "worked.txt",
     "modal.txt",
+    "candidates.txt",
     "faults.txt",
     REFUSED,
 ];

@@ -1,4 +1,5 @@
 pub mod Calls
+pub mod Candidates
 pub mod Comparing
 pub mod Emacs
 pub mod Faults

@@ -1231,6 +1231,253 @@ row_159 = record (row 159 settings_157 (codes "a\u{16}b\r") (codes "ab\n")) {
       codes "\u{1b}[m\u{1b}[m\r\n");
 }
 
+-- Esc / git Esc n Enter = git␠status | shows {} ''} 'g'git␠commit␠-m␠one}␛[17D 'gi'git␠commit␠-m␠one}␛[17D 'git'git␠commit␠-m␠one}␛[17D {git␠commit␠-m␠one}␛[17D {git␠status}␛[10D ␛[10C␍␊ {} ␍␊
+abbrev pub row_164 : Row
+row_164 = record (row 164 settings_94 (codes "\u{1b}/git\u{1b}n\r") (codes "git status\n")) {
+  shows = Some
+      (codes "\r\u{1b}[J\u{1b}[m> \u{1b}[m\u{1b}[m\u{1b}[m\r\u{1b}[J\u{1b}[m(reverse-i-searc" ++
+      codes "h)`': \u{1b}[m\u{1b}[m\u{1b}[m\r\u{1b}[J\u{1b}[m(reverse-i-search)`g': \u{1b}[" ++
+      codes "mgit commit -m one\u{1b}[m\u{1b}[m\u{1b}[17D\r\u{1b}[J\u{1b}[m(reverse-i-searc" ++
+      codes "h)`gi': \u{1b}[mgit commit -m one\u{1b}[m\u{1b}[m\u{1b}[17D\r\u{1b}[J\u{1b}[m(" ++
+      codes "reverse-i-search)`git': \u{1b}[mgit commit -m one\u{1b}[m\u{1b}[m\u{1b}[17D\r" ++
+      codes "\u{1b}[J\u{1b}[m> \u{1b}[mgit commit -m one\u{1b}[m\u{1b}[m\u{1b}[17D\r\u{1b}[" ++
+      codes "J\u{1b}[m> \u{1b}[mgit status\u{1b}[m\u{1b}[m\u{1b}[10D\u{1b}[10C\r\n\r\u{1b}[" ++
+      codes "J\u{1b}[m> \u{1b}[m\u{1b}[m\u{1b}[m\r\n");
+}
+
+-- Esc / git Esc n n Enter = git␠status | shows {} ''} 'g'git␠commit␠-m␠one}␛[17D 'gi'git␠commit␠-m␠one}␛[17D 'git'git␠commit␠-m␠one}␛[17D {git␠commit␠-m␠one}␛[17D {git␠status}␛[10D ␇ ␛[10C␍␊ {} ␍␊
+abbrev pub row_165 : Row
+row_165 = record (row 165 settings_94 (codes "\u{1b}/git\u{1b}nn\r") (codes "git status\n")) {
+  shows = Some
+      (codes "\r\u{1b}[J\u{1b}[m> \u{1b}[m\u{1b}[m\u{1b}[m\r\u{1b}[J\u{1b}[m(reverse-i-searc" ++
+      codes "h)`': \u{1b}[m\u{1b}[m\u{1b}[m\r\u{1b}[J\u{1b}[m(reverse-i-search)`g': \u{1b}[" ++
+      codes "mgit commit -m one\u{1b}[m\u{1b}[m\u{1b}[17D\r\u{1b}[J\u{1b}[m(reverse-i-searc" ++
+      codes "h)`gi': \u{1b}[mgit commit -m one\u{1b}[m\u{1b}[m\u{1b}[17D\r\u{1b}[J\u{1b}[m(" ++
+      codes "reverse-i-search)`git': \u{1b}[mgit commit -m one\u{1b}[m\u{1b}[m\u{1b}[17D\r" ++
+      codes "\u{1b}[J\u{1b}[m> \u{1b}[mgit commit -m one\u{1b}[m\u{1b}[m\u{1b}[17D\r\u{1b}[" ++
+      codes "J\u{1b}[m> \u{1b}[mgit status\u{1b}[m\u{1b}[m\u{1b}[10D\u{7}\u{1b}[10C\r\n\r" ++
+      codes "\u{1b}[J\u{1b}[m> \u{1b}[m\u{1b}[m\u{1b}[m\r\n");
+}
+
+-- Esc / git Esc n N Enter = git␠commit␠-m␠one | shows {} ''} 'g'git␠commit␠-m␠one}␛[17D 'gi'git␠commit␠-m␠one}␛[17D 'git'git␠commit␠-m␠one}␛[17D {git␠commit␠-m␠one}␛[17D {git␠status}␛[10D {git␠commit␠-m␠one}␛[17D ␛[17C␍␊ {} ␍␊
+abbrev pub row_166 : Row
+row_166 = record (row 166 settings_94 (codes "\u{1b}/git\u{1b}nN\r") (codes "git commit -m one\n")) {
+  shows = Some
+      (codes "\r\u{1b}[J\u{1b}[m> \u{1b}[m\u{1b}[m\u{1b}[m\r\u{1b}[J\u{1b}[m(reverse-i-searc" ++
+      codes "h)`': \u{1b}[m\u{1b}[m\u{1b}[m\r\u{1b}[J\u{1b}[m(reverse-i-search)`g': \u{1b}[" ++
+      codes "mgit commit -m one\u{1b}[m\u{1b}[m\u{1b}[17D\r\u{1b}[J\u{1b}[m(reverse-i-searc" ++
+      codes "h)`gi': \u{1b}[mgit commit -m one\u{1b}[m\u{1b}[m\u{1b}[17D\r\u{1b}[J\u{1b}[m(" ++
+      codes "reverse-i-search)`git': \u{1b}[mgit commit -m one\u{1b}[m\u{1b}[m\u{1b}[17D\r" ++
+      codes "\u{1b}[J\u{1b}[m> \u{1b}[mgit commit -m one\u{1b}[m\u{1b}[m\u{1b}[17D\r\u{1b}[" ++
+      codes "J\u{1b}[m> \u{1b}[mgit status\u{1b}[m\u{1b}[m\u{1b}[10D\r\u{1b}[J\u{1b}[m> " ++
+      codes "\u{1b}[mgit commit -m one\u{1b}[m\u{1b}[m\u{1b}[17D\u{1b}[17C\r\n\r\u{1b}[J" ++
+      codes "\u{1b}[m> \u{1b}[m\u{1b}[m\u{1b}[m\r\n");
+}
+
+-- Esc / git Esc N Enter = git␠commit␠-m␠one | shows {} ''} 'g'git␠commit␠-m␠one}␛[17D 'gi'git␠commit␠-m␠one}␛[17D 'git'git␠commit␠-m␠one}␛[17D {git␠commit␠-m␠one}␛[17D ␇ ␛[17C␍␊ {} ␍␊
+abbrev pub row_167 : Row
+row_167 = record (row 167 settings_94 (codes "\u{1b}/git\u{1b}N\r") (codes "git commit -m one\n")) {
+  shows = Some
+      (codes "\r\u{1b}[J\u{1b}[m> \u{1b}[m\u{1b}[m\u{1b}[m\r\u{1b}[J\u{1b}[m(reverse-i-searc" ++
+      codes "h)`': \u{1b}[m\u{1b}[m\u{1b}[m\r\u{1b}[J\u{1b}[m(reverse-i-search)`g': \u{1b}[" ++
+      codes "mgit commit -m one\u{1b}[m\u{1b}[m\u{1b}[17D\r\u{1b}[J\u{1b}[m(reverse-i-searc" ++
+      codes "h)`gi': \u{1b}[mgit commit -m one\u{1b}[m\u{1b}[m\u{1b}[17D\r\u{1b}[J\u{1b}[m(" ++
+      codes "reverse-i-search)`git': \u{1b}[mgit commit -m one\u{1b}[m\u{1b}[m\u{1b}[17D\r" ++
+      codes "\u{1b}[J\u{1b}[m> \u{1b}[mgit commit -m one\u{1b}[m\u{1b}[m\u{1b}[17D\u{7}" ++
+      codes "\u{1b}[17C\r\n\r\u{1b}[J\u{1b}[m> \u{1b}[m\u{1b}[m\u{1b}[m\r\n");
+}
+
+-- C-R st Esc n Enter = git␠status | shows {} ''} 's'ls␠-l}␛[4D 'st'make␠test}␛[2D {make␠test}␛[2D ␛[1D {git␠status}␛[6D ␛[6C␍␊ {} ␍␊
+abbrev pub row_168 : Row
+row_168 = record (row 168 settings_94 (codes "\u{12}st\u{1b}n\r") (codes "git status\n")) {
+  shows = Some
+      (codes "\r\u{1b}[J\u{1b}[m> \u{1b}[m\u{1b}[m\u{1b}[m\r\u{1b}[J\u{1b}[m(reverse-i-searc" ++
+      codes "h)`': \u{1b}[m\u{1b}[m\u{1b}[m\r\u{1b}[J\u{1b}[m(reverse-i-search)`s': \u{1b}[" ++
+      codes "mls -l\u{1b}[m\u{1b}[m\u{1b}[4D\r\u{1b}[J\u{1b}[m(reverse-i-search)`st': " ++
+      codes "\u{1b}[mmake test\u{1b}[m\u{1b}[m\u{1b}[2D\r\u{1b}[J\u{1b}[m> \u{1b}[mmake tes" ++
+      codes "t\u{1b}[m\u{1b}[m\u{1b}[2D\u{1b}[1D\r\u{1b}[J\u{1b}[m> \u{1b}[mgit status" ++
+      codes "\u{1b}[m\u{1b}[m\u{1b}[6D\u{1b}[6C\r\n\r\u{1b}[J\u{1b}[m> \u{1b}[m\u{1b}[m" ++
+      codes "\u{1b}[m\r\n");
+}
+
+-- Esc / git Enter Esc n Enter = git␠commit␠-m␠one git␠commit␠-m␠one | shows {} ''} 'g'git␠commit␠-m␠one}␛[17D 'gi'git␠commit␠-m␠one}␛[17D 'git'git␠commit␠-m␠one}␛[17D {git␠commit␠-m␠one}␛[17D ␛[17C␍␊ {} {git␠commit␠-m␠one}␛[17D ␛[17C␍␊ {} ␍␊
+abbrev pub row_169 : Row
+row_169 = record (row 169 settings_94 (codes "\u{1b}/git\r\u{1b}n\r")
+    (codes "git commit -m one\ngit commit -m one\n")) {
+      shows = Some
+          (codes "\r\u{1b}[J\u{1b}[m> \u{1b}[m\u{1b}[m\u{1b}[m\r\u{1b}[J\u{1b}[m(reverse-i-searc" ++
+          codes "h)`': \u{1b}[m\u{1b}[m\u{1b}[m\r\u{1b}[J\u{1b}[m(reverse-i-search)`g': \u{1b}[" ++
+          codes "mgit commit -m one\u{1b}[m\u{1b}[m\u{1b}[17D\r\u{1b}[J\u{1b}[m(reverse-i-searc" ++
+          codes "h)`gi': \u{1b}[mgit commit -m one\u{1b}[m\u{1b}[m\u{1b}[17D\r\u{1b}[J\u{1b}[m(" ++
+          codes "reverse-i-search)`git': \u{1b}[mgit commit -m one\u{1b}[m\u{1b}[m\u{1b}[17D\r" ++
+          codes "\u{1b}[J\u{1b}[m> \u{1b}[mgit commit -m one\u{1b}[m\u{1b}[m\u{1b}[17D\u{1b}[17" ++
+          codes "C\r\n\r\u{1b}[J\u{1b}[m> \u{1b}[m\u{1b}[m\u{1b}[m\r\u{1b}[J\u{1b}[m> \u{1b}[mg" ++
+          codes "it commit -m one\u{1b}[m\u{1b}[m\u{1b}[17D\u{1b}[17C\r\n\r\u{1b}[J\u{1b}[m> " ++
+          codes "\u{1b}[m\u{1b}[m\u{1b}[m\r\n");
+    }
+
+-- Esc k k k ? git Esc n N Enter = git␠status | shows {} {ls␠-l} {git␠commit␠-m␠one} {make␠test} >''make␠test} >'g'git␠commit␠-m␠one}␛[17D >'gi'git␠commit␠-m␠one}␛[17D >'git'git␠commit␠-m␠one}␛[17D {git␠commit␠-m␠one}␛[17D ␇ {git␠status}␛[10D ␛[10C␍␊ {} ␍␊
+abbrev pub row_170 : Row
+row_170 = record (row 170 settings_94 (codes "\u{1b}kkk?git\u{1b}nN\r") (codes "git status\n")) {
+  shows = Some
+      (codes "\r\u{1b}[J\u{1b}[m> \u{1b}[m\u{1b}[m\u{1b}[m\r\u{1b}[J\u{1b}[m> \u{1b}[mls -l" ++
+      codes "\u{1b}[m\u{1b}[m\r\u{1b}[J\u{1b}[m> \u{1b}[mgit commit -m one\u{1b}[m\u{1b}[m" ++
+      codes "\r\u{1b}[J\u{1b}[m> \u{1b}[mmake test\u{1b}[m\u{1b}[m\r\u{1b}[J\u{1b}[m(i-sear" ++
+      codes "ch)`': \u{1b}[mmake test\u{1b}[m\u{1b}[m\r\u{1b}[J\u{1b}[m(i-search)`g': " ++
+      codes "\u{1b}[mgit commit -m one\u{1b}[m\u{1b}[m\u{1b}[17D\r\u{1b}[J\u{1b}[m(i-search" ++
+      codes ")`gi': \u{1b}[mgit commit -m one\u{1b}[m\u{1b}[m\u{1b}[17D\r\u{1b}[J\u{1b}[m(i" ++
+      codes "-search)`git': \u{1b}[mgit commit -m one\u{1b}[m\u{1b}[m\u{1b}[17D\r\u{1b}[J" ++
+      codes "\u{1b}[m> \u{1b}[mgit commit -m one\u{1b}[m\u{1b}[m\u{1b}[17D\u{7}\r\u{1b}[J" ++
+      codes "\u{1b}[m> \u{1b}[mgit status\u{1b}[m\u{1b}[m\u{1b}[10D\u{1b}[10C\r\n\r\u{1b}[J" ++
+      codes "\u{1b}[m> \u{1b}[m\u{1b}[m\u{1b}[m\r\n");
+}
+
+-- abc Esc / git Esc n u Enter = git␠commit␠-m␠one | shows {} a b c ␛[1D ''abc}␛[1D 'g'git␠commit␠-m␠one}␛[17D 'gi'git␠commit␠-m␠one}␛[17D 'git'git␠commit␠-m␠one}␛[17D {git␠commit␠-m␠one}␛[17D {git␠status}␛[10D {git␠commit␠-m␠one} ␍␊ {} ␍␊
+abbrev pub row_171 : Row
+row_171 = record (row 171 settings_94 (codes "abc\u{1b}/git\u{1b}nu\r")
+    (codes "git commit -m one\n")) {
+      shows = Some
+          (codes "\r\u{1b}[J\u{1b}[m> \u{1b}[m\u{1b}[m\u{1b}[mabc\u{1b}[1D\r\u{1b}[J\u{1b}[m(rev" ++
+          codes "erse-i-search)`': \u{1b}[mabc\u{1b}[m\u{1b}[m\u{1b}[1D\r\u{1b}[J\u{1b}[m(rever" ++
+          codes "se-i-search)`g': \u{1b}[mgit commit -m one\u{1b}[m\u{1b}[m\u{1b}[17D\r\u{1b}[J" ++
+          codes "\u{1b}[m(reverse-i-search)`gi': \u{1b}[mgit commit -m one\u{1b}[m\u{1b}[m" ++
+          codes "\u{1b}[17D\r\u{1b}[J\u{1b}[m(reverse-i-search)`git': \u{1b}[mgit commit -m one" ++
+          codes "\u{1b}[m\u{1b}[m\u{1b}[17D\r\u{1b}[J\u{1b}[m> \u{1b}[mgit commit -m one\u{1b}[" ++
+          codes "m\u{1b}[m\u{1b}[17D\r\u{1b}[J\u{1b}[m> \u{1b}[mgit status\u{1b}[m\u{1b}[m" ++
+          codes "\u{1b}[10D\r\u{1b}[J\u{1b}[m> \u{1b}[mgit commit -m one\u{1b}[m\u{1b}[m\r\n\r" ++
+          codes "\u{1b}[J\u{1b}[m> \u{1b}[m\u{1b}[m\u{1b}[m\r\n");
+    }
+
+-- abc Esc / git Esc n u u Enter = abc
+abbrev pub row_172 : Row
+row_172 = row 172 settings_94 (codes "abc\u{1b}/git\u{1b}nuu\r") (codes "abc\n")
+
+-- Esc / git Esc n C-P Enter = ls␠-l | shows {} ''} 'g'git␠commit␠-m␠one}␛[17D 'gi'git␠commit␠-m␠one}␛[17D 'git'git␠commit␠-m␠one}␛[17D {git␠commit␠-m␠one}␛[17D {git␠status}␛[10D {ls␠-l} ␍␊ {} ␍␊
+abbrev pub row_173 : Row
+row_173 = record (row 173 settings_94 (codes "\u{1b}/git\u{1b}n\u{10}\r") (codes "ls -l\n")) {
+  shows = Some
+      (codes "\r\u{1b}[J\u{1b}[m> \u{1b}[m\u{1b}[m\u{1b}[m\r\u{1b}[J\u{1b}[m(reverse-i-searc" ++
+      codes "h)`': \u{1b}[m\u{1b}[m\u{1b}[m\r\u{1b}[J\u{1b}[m(reverse-i-search)`g': \u{1b}[" ++
+      codes "mgit commit -m one\u{1b}[m\u{1b}[m\u{1b}[17D\r\u{1b}[J\u{1b}[m(reverse-i-searc" ++
+      codes "h)`gi': \u{1b}[mgit commit -m one\u{1b}[m\u{1b}[m\u{1b}[17D\r\u{1b}[J\u{1b}[m(" ++
+      codes "reverse-i-search)`git': \u{1b}[mgit commit -m one\u{1b}[m\u{1b}[m\u{1b}[17D\r" ++
+      codes "\u{1b}[J\u{1b}[m> \u{1b}[mgit commit -m one\u{1b}[m\u{1b}[m\u{1b}[17D\r\u{1b}[" ++
+      codes "J\u{1b}[m> \u{1b}[mgit status\u{1b}[m\u{1b}[m\u{1b}[10D\r\u{1b}[J\u{1b}[m> " ++
+      codes "\u{1b}[mls -l\u{1b}[m\u{1b}[m\r\n\r\u{1b}[J\u{1b}[m> \u{1b}[m\u{1b}[m\u{1b}[m" ++
+      codes "\r\n");
+}
+
+-- Esc / git Esc n i x Enter = xgit␠status
+abbrev pub row_174 : Row
+row_174 = row 174 settings_94 (codes "\u{1b}/git\u{1b}nix\r") (codes "xgit status\n")
+
+-- Esc / git Esc 3 n Enter = git␠status
+abbrev pub row_175 : Row
+row_175 = row 175 settings_94 (codes "\u{1b}/git\u{1b}3n\r") (codes "git status\n")
+
+-- Esc / git C-G Esc n Enter = git␠status | shows {} ''} 'g'git␠commit␠-m␠one}␛[17D 'gi'git␠commit␠-m␠one}␛[17D 'git'git␠commit␠-m␠one}␛[17D {} {git␠status}␛[10D ␛[10C␍␊ {} ␍␊
+abbrev pub row_176 : Row
+row_176 = record (row 176 settings_94 (codes "\u{1b}/git\u{7}\u{1b}n\r") (codes "git status\n")) {
+  shows = Some
+      (codes "\r\u{1b}[J\u{1b}[m> \u{1b}[m\u{1b}[m\u{1b}[m\r\u{1b}[J\u{1b}[m(reverse-i-searc" ++
+      codes "h)`': \u{1b}[m\u{1b}[m\u{1b}[m\r\u{1b}[J\u{1b}[m(reverse-i-search)`g': \u{1b}[" ++
+      codes "mgit commit -m one\u{1b}[m\u{1b}[m\u{1b}[17D\r\u{1b}[J\u{1b}[m(reverse-i-searc" ++
+      codes "h)`gi': \u{1b}[mgit commit -m one\u{1b}[m\u{1b}[m\u{1b}[17D\r\u{1b}[J\u{1b}[m(" ++
+      codes "reverse-i-search)`git': \u{1b}[mgit commit -m one\u{1b}[m\u{1b}[m\u{1b}[17D\r" ++
+      codes "\u{1b}[J\u{1b}[m> \u{1b}[m\u{1b}[m\u{1b}[m\r\u{1b}[J\u{1b}[m> \u{1b}[mgit stat" ++
+      codes "us\u{1b}[m\u{1b}[m\u{1b}[10D\u{1b}[10C\r\n\r\u{1b}[J\u{1b}[m> \u{1b}[m\u{1b}[m" ++
+      codes "\u{1b}[m\r\n");
+}
+
+-- Esc / g Backspace Esc n Enter = "" | shows {} ''} 'g'git␠commit␠-m␠one}␛[17D ''} {} ␇ ␍␊ {} ␍␊
+abbrev pub row_177 : Row
+row_177 = record (row 177 settings_94 (codes "\u{1b}/g\u{7f}\u{1b}n\r") (codes "\n")) {
+  shows = Some
+      (codes "\r\u{1b}[J\u{1b}[m> \u{1b}[m\u{1b}[m\u{1b}[m\r\u{1b}[J\u{1b}[m(reverse-i-searc" ++
+      codes "h)`': \u{1b}[m\u{1b}[m\u{1b}[m\r\u{1b}[J\u{1b}[m(reverse-i-search)`g': \u{1b}[" ++
+      codes "mgit commit -m one\u{1b}[m\u{1b}[m\u{1b}[17D\r\u{1b}[J\u{1b}[m(reverse-i-searc" ++
+      codes "h)`': \u{1b}[m\u{1b}[m\u{1b}[m\r\u{1b}[J\u{1b}[m> \u{1b}[m\u{1b}[m\u{1b}[m" ++
+      codes "\u{7}\r\n\r\u{1b}[J\u{1b}[m> \u{1b}[m\u{1b}[m\u{1b}[m\r\n");
+}
+
+-- Esc / zz Esc n Enter = "" | shows {} ''} !'z'} !'zz'} {} ␇ ␍␊ {} ␍␊
+abbrev pub row_178 : Row
+row_178 = record (row 178 settings_94 (codes "\u{1b}/zz\u{1b}n\r") (codes "\n")) {
+  shows = Some
+      (codes "\r\u{1b}[J\u{1b}[m> \u{1b}[m\u{1b}[m\u{1b}[m\r\u{1b}[J\u{1b}[m(reverse-i-searc" ++
+      codes "h)`': \u{1b}[m\u{1b}[m\u{1b}[m\r\u{1b}[J\u{1b}[m(failed reverse-i-search)`z': " ++
+      codes "\u{1b}[m\u{1b}[m\u{1b}[m\r\u{1b}[J\u{1b}[m(failed reverse-i-search)`zz': " ++
+      codes "\u{1b}[m\u{1b}[m\u{1b}[m\r\u{1b}[J\u{1b}[m> \u{1b}[m\u{1b}[m\u{1b}[m\u{7}\r\n" ++
+      codes "\r\u{1b}[J\u{1b}[m> \u{1b}[m\u{1b}[m\u{1b}[m\r\n");
+}
+
+-- Esc n N Enter = "" | shows {} ␇ ␇ ␍␊ {} ␍␊
+abbrev pub row_179 : Row
+row_179 = record (row 179 settings_94 (codes "\u{1b}nN\r") (codes "\n")) {
+  shows = Some
+      (codes "\r\u{1b}[J\u{1b}[m> \u{1b}[m\u{1b}[m\u{1b}[m\u{7}\u{7}\r\n\r\u{1b}[J\u{1b}[m> " ++
+      codes "\u{1b}[m\u{1b}[m\u{1b}[m\r\n");
+}
+
+-- a n N Enter = anN | shows {} a n N ␍␊ {} ␍␊
+abbrev pub row_180 : Row
+row_180 = record (row 180 settings_94 (codes "anN\r") (codes "anN\n")) {
+  shows = Some
+      (codes "\r\u{1b}[J\u{1b}[m> \u{1b}[m\u{1b}[m\u{1b}[manN\r\n\r\u{1b}[J\u{1b}[m> \u{1b}[" ++
+      codes "m\u{1b}[m\u{1b}[m\r\n");
+}
+
+-- modal vi adding loaded:#V2␊git␠status␊make␠test␊git␠commit␠-m␠one␊ls␠-l␊
+abbrev pub settings_183 : Settings
+settings_183 = record plain {
+  config = modal (adding (vi plain.config));
+  loaded = codes "#V2\ngit status\nmake test\ngit commit -m one\nls -l\n";
+}
+
+-- Esc / git Enter Esc k k k k n Enter = git␠commit␠-m␠one git␠status
+abbrev pub row_183 : Row
+row_183 = row 183 settings_183 (codes "\u{1b}/git\r\u{1b}kkkkn\r")
+    (codes "git commit -m one\ngit status\n")
+
+-- modal vi
+abbrev pub settings_186 : Settings
+settings_186 = record plain {
+  config = modal (vi plain.config);
+}
+
+-- a Esc n N Enter = a | shows {} a ␛[1D ␇ ␇ ␛[1C␍␊ {} ␍␊
+abbrev pub row_186 : Row
+row_186 = record (row 186 settings_186 (codes "a\u{1b}nN\r") (codes "a\n")) {
+  shows = Some
+      (codes "\r\u{1b}[J\u{1b}[m> \u{1b}[m\u{1b}[m\u{1b}[ma\u{1b}[1D\u{7}\u{7}\u{1b}[1C\r\n" ++
+      codes "\r\u{1b}[J\u{1b}[m> \u{1b}[m\u{1b}[m\u{1b}[m\r\n");
+}
+
+-- vi loaded:#V2␊git␠status␊
+abbrev pub settings_189 : Settings
+settings_189 = record plain {
+  config = vi plain.config;
+  loaded = codes "#V2\ngit status\n";
+}
+
+-- a Esc n N Enter = a | shows {} a ␛[1D ␛[1C␍␊ {} ␍␊
+abbrev pub row_189 : Row
+row_189 = record (row 189 settings_189 (codes "a\u{1b}nN\r") (codes "a\n")) {
+  shows = Some
+      (codes "\r\u{1b}[J\u{1b}[m> \u{1b}[m\u{1b}[m\u{1b}[ma\u{1b}[1D\u{1b}[1C\r\n\r\u{1b}[J" ++
+      codes "\u{1b}[m> \u{1b}[m\u{1b}[m\u{1b}[m\r\n");
+}
+
+-- ma C-R Up Enter = make␠test | shows {} m a ''ma} {ma} {make␠test}␛[7D ␛[7C␍␊ {} ␍␊
+abbrev pub row_193 : Row
+row_193 = record (row 193 settings_7 (codes "ma\u{12}\u{1b}[A\r") (codes "make test\n")) {
+  shows = Some
+      (codes "\r\u{1b}[J\u{1b}[m> \u{1b}[m\u{1b}[m\u{1b}[mma\r\u{1b}[J\u{1b}[m(reverse-i-sea" ++
+      codes "rch)`': \u{1b}[mma\u{1b}[m\u{1b}[m\r\u{1b}[J\u{1b}[m> \u{1b}[mma\u{1b}[m\u{1b}" ++
+      codes "[m\r\u{1b}[J\u{1b}[m> \u{1b}[mmake test\u{1b}[m\u{1b}[m\u{1b}[7D\u{1b}[7C\r\n" ++
+      codes "\r\u{1b}[J\u{1b}[m> \u{1b}[m\u{1b}[m\u{1b}[m\r\n");
+}
+
 abbrev pub modal_rows : List Row
 modal_rows = row_7 ∷ row_8 ∷ row_9 ∷ row_10 ∷ row_11 ∷ row_12 ∷ row_13 ∷ row_14 ∷ row_15 ∷ row_16 ∷
     row_17 ∷ row_18 ∷ row_21 ∷ row_22 ∷ row_23 ∷ row_24 ∷ row_25 ∷ row_26 ∷ row_27 ∷ row_28 ∷ row_31
@@ -1242,4 +1489,7 @@ modal_rows = row_7 ∷ row_8 ∷ row_9 ∷ row_10 ∷ row_11 ∷ row_12 ∷ row_
     row_99 ∷ row_100 ∷ row_101 ∷ row_102 ∷ row_103 ∷ row_104 ∷ row_107 ∷ row_108 ∷ row_111 ∷ row_112
     ∷ row_113 ∷ row_114 ∷ row_115 ∷ row_116 ∷ row_117 ∷ row_118 ∷ row_119 ∷ row_120 ∷ row_121 ∷
     row_122 ∷ row_123 ∷ row_126 ∷ row_127 ∷ row_131 ∷ row_135 ∷ row_136 ∷ row_140 ∷ row_141 ∷
-    row_145 ∷ row_146 ∷ row_150 ∷ row_153 ∷ row_157 ∷ row_158 ∷ row_159 ∷ []
+    row_145 ∷ row_146 ∷ row_150 ∷ row_153 ∷ row_157 ∷ row_158 ∷ row_159 ∷ row_164 ∷ row_165 ∷
+    row_166 ∷ row_167 ∷ row_168 ∷ row_169 ∷ row_170 ∷ row_171 ∷ row_172 ∷ row_173 ∷ row_174 ∷
+    row_175 ∷ row_176 ∷ row_177 ∷ row_178 ∷ row_179 ∷ row_180 ∷ row_183 ∷ row_186 ∷ row_189 ∷
+    row_193 ∷ []

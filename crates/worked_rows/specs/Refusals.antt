@@ -5,7 +5,7 @@ use Rattle.line_keys.specs.declared.events.Event.TheVariants.{KeySeq}
 use Rattle.line_keys.specs.declared.key.KeyCode.TheVariants.{Char, Esc}
 use Rattle.std.specs.Prelude.{List, [], ◌∷◌, None, Some, true, false, codes}
 use Rattle.worked_rows.specs.Playing.{Row, row}
-use Rattle.worked_rows.specs.Settings.{Settings, adding, aide, bound, command, modal, plain, vi}
+use Rattle.worked_rows.specs.Settings.{Settings, adding, aide, bound, command, limited, listed, modal, plain, vi}
 
 -- abc C-a X Enter = Xabc
 abbrev pub row_5 : Row
@@ -158,7 +158,40 @@ settings_45 = record plain {
 abbrev pub row_45 : Row
 row_45 = row 45 settings_45 (codes "ab\u{12}te\u{1b}u\r") (codes "ab\n")
 
+-- modal listed limit:1 adding words:alpha,alpine
+abbrev pub settings_48 : Settings
+settings_48 = record plain {
+  config = limited 1 (listed (modal (adding plain.config)));
+  helping = aide false (Some ((codes "alpha") ∷ (codes "alpine") ∷ []));
+}
+
+-- al Tab Tab Tab h Tab Enter = alpha
+abbrev pub row_48 : Row
+row_48 = row 48 settings_48 (codes "al\t\t\th\t\r") (codes "alpha\n")
+
+-- modal adding words:alpha,alpine
+abbrev pub settings_51 : Settings
+settings_51 = record plain {
+  config = modal (adding plain.config);
+  helping = aide false (Some ((codes "alpha") ∷ (codes "alpine") ∷ []));
+}
+
+-- al Tab Tab Tab Tab Enter x␠al Tab C-G Tab C-_ Enter = alpha x␠al
+abbrev pub row_51 : Row
+row_51 = row 51 settings_51 (codes "al\t\t\t\t\rx al\t\u{7}\t\u{1f}\r") (codes "alpha\nx al\n")
+
+-- modal vi adding loaded:#V2␊git␠status␊make␠test␊git␠diff␊
+abbrev pub settings_54 : Settings
+settings_54 = record plain {
+  config = modal (adding (vi plain.config));
+  loaded = codes "#V2\ngit status\nmake test\ngit diff\n";
+}
+
+-- ab Esc / git Esc n N u Enter = git␠status
+abbrev pub row_54 : Row
+row_54 = row 54 settings_54 (codes "ab\u{1b}/git\u{1b}nNu\r") (codes "git status\n")
+
 abbrev pub refusals_rows : List Row
 refusals_rows = row_5 ∷ row_6 ∷ row_7 ∷ row_8 ∷ row_9 ∷ row_12 ∷ row_13 ∷ row_14 ∷ row_15 ∷ row_18 ∷
     row_21 ∷ row_24 ∷ row_27 ∷ row_28 ∷ row_31 ∷ row_34 ∷ row_37 ∷ row_40 ∷ row_41 ∷ row_42 ∷ row_45
-    ∷ []
+    ∷ row_48 ∷ row_51 ∷ row_54 ∷ []

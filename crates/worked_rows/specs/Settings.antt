@@ -6,10 +6,11 @@ use Rattle.line_config.specs.Config.{default_config, timeout_of}
 use Rattle.line_config.specs.declared.config.Config.{Config}
 use Rattle.line_config.specs.declared.device.Last.{Last}
 use Rattle.line_config.specs.declared.device.Last.TheVariants.{End}
+use Rattle.line_config.specs.declared.settings.CompletionType.TheVariants.{List as AsList}
 use Rattle.line_config.specs.declared.settings.EditMode.{EditMode}
 use Rattle.line_config.specs.declared.settings.EditMode.TheVariants.{Vi}
 use Rattle.line_editor.specs.Running.{Helping, helping_by}
-use Rattle.line_help.specs.Completion.{nothing_offered, word_reply}
+use Rattle.line_help.specs.Completion.{nothing_offered, whole_word_reply}
 use Rattle.line_help.specs.Hints.{hint_of_history}
 use Rattle.line_help.specs.HistoryText.{entries_of, text_rows}
 use Rattle.line_help.specs.Validation.{bracket_reply}
@@ -89,20 +90,35 @@ adding config = record config { auto_add_history = true }
 abbrev pub modal : Config → Config
 modal config = record config { modal_commands = true }
 
+-- several candidates are listed: so many of them, and at the first Tab that adds nothing
+abbrev pub listed : Config → Config
+listed config = record config { completion_type = AsList }
+
+abbrev pub limited : ℕ → Config → Config
+limited n config = record config { completion_prompt_limit = n }
+
+abbrev pub at_once : Config → Config
+at_once config = record config { completion_show_all_if_ambiguous = true }
+
 abbrev pub of_size : ℕ → Config → Config
 of_size n config = record config { max_history_size = n }
 
 abbrev pub counting : GraphemeClusterMode → Config → Config
 counting mode config = record config { grapheme_cluster_mode = mode }
 
--- hints of the history, completion by words, and lines whose brackets are balanced
-abbrev pub aide : Bool → Option (List (List ℕ)) → Helping
-aide brackets words =
+-- hints of the history, completion by words, one of which ends in a text if there is no other one,
+-- and lines whose brackets are balanced
+abbrev pub aide_ending : List ℕ → Bool → Option (List (List ℕ)) → Helping
+aide_ending end brackets words =
     helping_by {H = ⊤} (λ h line pos entries place. hint_of_history line pos entries place)
     (λ h text. if brackets then bracket_reply text else gives_at_once (Valid None))
-    (λ h line pos entries place. option_map_or (λ ws. word_reply ws (take pos line)) words
+    (λ h line pos entries place. option_map_or
+    (λ ws. whole_word_reply (record { words = ws; end = end }) (take pos line)) words
     (gives_at_once nothing_offered)) (λ h line start elected. gives tt)
     (λ h line pos kind. false) (Some tt)
+
+abbrev pub aide : Bool → Option (List (List ℕ)) → Helping
+aide = aide_ending []
 
 -- a command that is bound by itself, and one that a handler answers
 abbrev pub command : Cmd → Meaning

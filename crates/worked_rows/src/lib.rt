@@ -8,6 +8,7 @@
 
 ghost use Rattle.std.specs.Prelude.{◌≡◌, []};
 ghost use Rattle.worked_rows.specs.Calls.{Edits, Motions, Records, Rings};
+ghost use Rattle.worked_rows.specs.Candidates.{candidates_rows};
 ghost use Rattle.worked_rows.specs.Emacs.{emacs_rows};
 ghost use Rattle.worked_rows.specs.Faults.{faults_rows};
 ghost use Rattle.worked_rows.specs.Modal.{modal_rows};
@@ -65,6 +66,13 @@ pub fn worked()
 pub fn modal()
     ensures given { differing modal_rows ≡ [] }
     ensures shown { AllShown (short modal_rows) }
+{}
+
+/// The definition gives each row of `candidates.txt`: its lines, its ending, the history's text and
+/// the display bytes. At each moment the bytes so far show prompt and line.
+pub fn candidates()
+    ensures given { differing candidates_rows ≡ [] }
+    ensures shown { AllShown (short candidates_rows) }
 {}
 
 /// Where motions go from a place in a line.

@@ -71,6 +71,13 @@ static uint8_t call(const char *more, size_t count, size_t already_sent)
     }
 }
 
+/* Each buffer gets its text, from the first call on. */
+static void make_room(void)
+{
+    struct keyline_space *spaces[] = {&room.display, &room.line, &room.history, &room.kills};
+    for (size_t it = 0; it < sizeof spaces / sizeof *spaces; it++) fit(spaces[it], 1);
+}
+
 static const char *display(void)
 {
     return (const char *)room.display.bytes;
@@ -156,6 +163,7 @@ void line_begin(const char *text)
     history_add_text(&history);
     given.history = text_of(&history);
     options.entries = MOST_ENTRIES;
+    make_room();
     options.columns = terminal_columns();
     options.mode = rl_editing_mode == 0 ? KEYLINE_VI : KEYLINE_EMACS;
     display_begin();

@@ -10,8 +10,17 @@ use Rattle.worked_rows.proofs.modal.Goals as goal
 abbrev part : ℕ → List Row
 part n = take 9 (drop n modal_rows)
 
+abbrev from_126 : List Row
+from_126 = drop 126 modal_rows
+
+abbrev from_117 : List Row
+from_117 = part 117 ++ from_126
+
+abbrev from_108 : List Row
+from_108 = part 108 ++ from_117
+
 abbrev from_99 : List Row
-from_99 = drop 99 modal_rows
+from_99 = part 99 ++ from_108
 
 abbrev from_90 : List Row
 from_90 = part 90 ++ from_99
@@ -170,16 +179,49 @@ unshown-90 = refl
 shown-90 : AllShown (short (part 90))
 shown-90 = all_shown (short (part 90)) unshown-90
 
-given-99 : differing from_99 ≡ []
+given-99 : differing (part 99) ≡ []
 unfolding computing
 given-99 = refl
 
-unshown-99 : unshown (short from_99) ≡ []
+unshown-99 : unshown (short (part 99)) ≡ []
 unfolding computing
 unshown-99 = refl
 
-shown-99 : AllShown (short from_99)
-shown-99 = all_shown (short from_99) unshown-99
+shown-99 : AllShown (short (part 99))
+shown-99 = all_shown (short (part 99)) unshown-99
+
+given-108 : differing (part 108) ≡ []
+unfolding computing
+given-108 = refl
+
+unshown-108 : unshown (short (part 108)) ≡ []
+unfolding computing
+unshown-108 = refl
+
+shown-108 : AllShown (short (part 108))
+shown-108 = all_shown (short (part 108)) unshown-108
+
+given-117 : differing (part 117) ≡ []
+unfolding computing
+given-117 = refl
+
+unshown-117 : unshown (short (part 117)) ≡ []
+unfolding computing
+unshown-117 = refl
+
+shown-117 : AllShown (short (part 117))
+shown-117 = all_shown (short (part 117)) unshown-117
+
+given-126 : differing from_126 ≡ []
+unfolding computing
+given-126 = refl
+
+unshown-126 : unshown (short from_126) ≡ []
+unfolding computing
+unshown-126 = refl
+
+shown-126 : AllShown (short from_126)
+shown-126 = all_shown (short from_126) unshown-126
 
 pub returns-clause-given : goal.returns-clause-given
 returns-clause-given c = subst (λ rows. differing rows ≡ []) all-rows
@@ -193,7 +235,10 @@ returns-clause-given c = subst (λ rows. differing rows ≡ []) all-rows
     (both_given (part 63) from_72 given-63
     (both_given (part 72) from_81 given-72
     (both_given (part 81) from_90 given-81
-    (both_given (part 90) from_99 given-90 given-99)))))))))))
+    (both_given (part 90) from_99 given-90
+    (both_given (part 99) from_108 given-99
+    (both_given (part 108) from_117 given-108
+    (both_given (part 117) from_126 given-117 given-126))))))))))))))
 
 pub returns-clause-shown : goal.returns-clause-shown
 returns-clause-shown c = subst (λ rows. AllShown (short rows)) all-rows
@@ -207,4 +252,7 @@ returns-clause-shown c = subst (λ rows. AllShown (short rows)) all-rows
     (both_shown (part 63) from_72 shown-63
     (both_shown (part 72) from_81 shown-72
     (both_shown (part 81) from_90 shown-81
-    (both_shown (part 90) from_99 shown-90 shown-99)))))))))))
+    (both_shown (part 90) from_99 shown-90
+    (both_shown (part 99) from_108 shown-99
+    (both_shown (part 108) from_117 shown-108
+    (both_shown (part 117) from_126 shown-117 shown-126))))))))))))))

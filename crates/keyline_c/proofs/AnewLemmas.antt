@@ -1,0 +1,385 @@
+-- From the last whole drawing on, the bytes of a line's steps show by themselves what all of them show.
+use Rattle.std.proofs.Common.{◌≡◌, ◌⊎◌, inl, inr, ℕ, zero, suc, ◌+◌, ◌-◌, ◌/◌, ◌%◌, ◌<◌, ◌≤◌, ◌==◌, nat_lt, nat_le, Bool, true, false, not, ◌&&◌, ◌||◌, List, [], ◌∷◌, ◌++◌, take, decimal, Option, None, Some, encode_utf8, refl, sym, ap, ◌∙◌, subst, append_assoc, append-nil, arith, true≢false, if◌then◌else◌}
+use Rattle.std.specs.Prelude.{⊤, nat_eq, codes}
+use Rattle.std.specs.Fmt.{digits, digit_glyph, digits_onto}
+use Rattle.std.specs.List.{flat_map, list_all}
+use Rattle.std.specs.Option.{option_or}
+use Rattle.std.proofs.lemmas.Bool.{and_parts, and_from, eqb-true, ltb-true}
+use Rattle.std.proofs.lemmas.Bool.Decides.{nat_tests}
+use Rattle.std.proofs.lemmas.Grind.{flat_map-append}
+use Rattle.std.proofs.lemmas.Str.{encode_ascii}
+use Rattle.line_buffer.specs.Cells.{same_cell}
+use Rattle.line_buffer.specs.Printable.{is_printable, at_plain_end}
+use Rattle.line_buffer.specs.declared.layout.Layout.{Layout}
+use Rattle.line_buffer.specs.declared.layout.Position.{Position}
+use Rattle.line_config.specs.declared.settings.BellStyle.{BellStyle}
+use Rattle.line_config.specs.declared.settings.BellStyle.TheVariants as Bell
+use Rattle.line_editor.specs.Calls.{Marks}
+use Rattle.line_editor.specs.Redraws.{Redraw, info_text, fresh, full, nothing_asked, moved, moved_by_call, typed_short, taken_short, may_type, may_take}
+use Rattle.line_editor.specs.Redraws.Redraw.{Drawn, Moved, Typed, Taken, Bared, ToEnd, Beeped, Cleared}
+use Rattle.line_editor.specs.Sights.{Sight, sight_with, sight_as, no_sight, sight, sight_all, Fits, FitsAll, TypedFits}
+use Rattle.line_editor.specs.Steps.{one}
+use Rattle.line_editor.specs.Values.{EditStep, Value}
+use Rattle.line_editor.specs.Values.EditStep.{Draws, Helped, Edits, TakesBack, Takes}
+use Rattle.line_screen.specs.Calls.{Screen, bell_bytes, bytes_of, ruler_of}
+use Rattle.line_screen.specs.Chain.{Good, empty_view}
+use Rattle.line_screen.specs.Display.{Placed, is_text}
+use Rattle.line_screen.specs.Drawing.{DrawnItem, text_items, no_style, row_break, break_if, break_unless, fenced, fitted_col, sent_one, sent, col_after_one, col_after, control_sequence, erase_to_row_end, row_move, col_move, move_bytes, shown_text, drawing}
+use Rattle.line_screen.specs.Drawing.DrawnItem.{NewRow, Letter, Cluster}
+use Rattle.line_screen.specs.Laws.{widths}
+use Rattle.line_screen.proofs.Draws.{AllFit, Fits as ItemFits, list_all_since}
+use Rattle.line_screen.proofs.Fitting.{items_fit}
+use Rattle.line_screen.proofs.LawLemmas.{start_is_empty}
+use Rattle.keyline.specs.Shows.{DisplayHolds, Low, LowStep, LowAll, bytes_for, drawn_by}
+use Rattle.keyline.proofs.ShowCourse.{flat_both}
+use Rattle.keyline.proofs.ShowSteps.{fresh_holds, step}
+use Rattle.keyline_c.specs.Laws.{drawing_start, begins_drawing, last_drawing}
+
+-- ---- bytes in which no drawing begins: each CR is before an LF
+
+abbrev line_feed_first : List ℕ → Bool
+line_feed_first [] = false
+line_feed_first (b ∷ bs) = b == 0x0A
+
+abbrev calm : List ℕ → Bool
+calm [] = true
+calm (b ∷ bs) = (not (b == 0x0D) || line_feed_first bs) && calm bs
+
+or_false : (b c : Bool) → (b || false) ≡ true → (b || c) ≡ true
+or_false true c h = refl
+or_false false c h = absurd (true≢false (sym h))
+
+calm_first : (x : ℕ) (xs ys : List ℕ) → (not (x == 0x0D) || line_feed_first xs) ≡ true → (not (x == 0x0D) || line_feed_first (xs ++ ys)) ≡ true
+calm_first x [] ys h = or_false (not (x == 0x0D)) (line_feed_first ys) h
+calm_first x (y ∷ xs) ys h = h
+
+calm_both : (xs ys : List ℕ) → calm xs ≡ true → calm ys ≡ true → calm (xs ++ ys) ≡ true
+calm_both [] ys h k = k
+calm_both (x ∷ xs) ys h k =
+    let parts = and_parts (not (x == 0x0D) || line_feed_first xs) (calm xs) h in
+    and_from (not (x == 0x0D) || line_feed_first (xs ++ ys)) (calm (xs ++ ys)) (calm_first x xs ys parts.0) (calm_both xs ys parts.1 k)
+
+or_true : (b c : Bool) → b ≡ true → (b || c) ≡ true
+or_true b c h = ap (λ t. t || c) h
+
+-- one byte
+calm_byte : (b : ℕ) (bs : List ℕ) → not (b == 0x0D) ≡ true → calm bs ≡ true → calm (b ∷ bs) ≡ true
+calm_byte b bs h k = and_from (not (b == 0x0D) || line_feed_first bs) (calm bs) (or_true (not (b == 0x0D)) (line_feed_first bs) h) k
+
+calm_plain : (bs : List ℕ) → list_all (λ b. not (b == 0x0D)) bs ≡ true → calm bs ≡ true
+calm_plain [] h = refl
+calm_plain (b ∷ bs) h = let parts = and_parts (not (b == 0x0D)) (list_all (λ b. not (b == 0x0D)) bs) h in calm_byte b bs parts.0 (calm_plain bs parts.1)
+
+text_plain : (b : ℕ) → is_text b ≡ true → not (b == 0x0D) ≡ true
+text_plain b h = grind (arith, nat_tests)
+
+letter_plain : (b : ℕ) → is_printable b ≡ true → not (b == 0x0D) ≡ true
+letter_plain b h = grind (arith, nat_tests)
+
+-- ---- the bytes of texts
+
+calm_break : (b : Bool) → calm (break_if b) ≡ true
+calm_break true = refl
+calm_break false = refl
+
+calm_unless : (b : Bool) → calm (break_unless b) ≡ true
+calm_unless true = refl
+calm_unless false = refl
+
+calm_fenced : (bytes : List ℕ) → list_all is_text bytes ≡ true → calm (fenced bytes) ≡ true
+calm_fenced bytes h =
+    calm_both (no_style ++ bytes) no_style (calm_both no_style bytes refl (calm_plain bytes (list_all_since is_text (λ b. not (b == 0x0D)) text_plain bytes h))) refl
+
+module _ (columns : ℕ) (wide : List ℕ → Option ℕ) where
+  calm_one : (item : DrawnItem) (col : ℕ) → ItemFits columns wide item → calm (sent_one columns item col) ≡ true
+  calm_one NewRow col h = refl
+  calm_one (Letter c) col h = calm_byte c (break_if (col + 1 == columns)) (letter_plain c h) (calm_break (col + 1 == columns))
+  calm_one (Cluster bytes width) col h =
+      let front = break_unless (nat_le (col + width) columns) in
+      let end = break_if (fitted_col columns width col + width == columns) in
+      calm_both (front ++ fenced bytes) end (calm_both front (fenced bytes) (calm_unless (nat_le (col + width) columns)) (calm_fenced bytes h.text)) (calm_break (fitted_col columns width col + width == columns))
+
+  calm_sent : (items : List DrawnItem) (col : ℕ) → AllFit columns wide items → calm (sent columns items col) ≡ true
+  calm_sent [] col h = refl
+  calm_sent (item ∷ items) col h =
+      calm_both (sent_one columns item col) (sent columns items (col_after_one columns item col)) (calm_one item col h.0) (calm_sent items (col_after_one columns item col) h.1)
+
+-- ---- the bytes of moves
+
+glyph_plain : (d : ℕ) (b : Bool) → not ((if b then 48 + d else 87 + d) == 0x0D) ≡ true
+glyph_plain d true = grind (arith, nat_tests)
+glyph_plain d false = grind (arith, nat_tests)
+
+calm_if : (b : Bool) (xs ys : List ℕ) → calm xs ≡ true → calm ys ≡ true → calm (if b then xs else ys) ≡ true
+calm_if true xs ys h k = h
+calm_if false xs ys h k = k
+
+calm_digits : (k n : ℕ) (acc : List ℕ) → calm acc ≡ true → calm (digits_onto k 10 false n acc) ≡ true
+calm_digits zero n acc h = h
+calm_digits (suc k) n acc h =
+    let more = calm_byte (digit_glyph false (n % 10)) acc (glyph_plain (n % 10) (nat_lt (n % 10) 10)) h in
+    calm_if (n / 10 == 0) (digit_glyph false (n % 10) ∷ acc) (digits_onto k 10 false (n / 10) (digit_glyph false (n % 10) ∷ acc)) more (calm_digits k (n / 10) (digit_glyph false (n % 10) ∷ acc) more)
+
+calm_decimal : (n : ℕ) → calm (decimal n) ≡ true
+unfolding digits
+calm_decimal n = calm_digits 64 n [] refl
+
+calm_sequence : (count final : ℕ) → not (final == 0x0D) ≡ true → calm (control_sequence count final) ≡ true
+calm_sequence count final h = by (count == 0)
+  where
+    by : (b : Bool) → calm (if b then [] else (0x1B ∷ codes "[" ++ decimal count ++ final ∷ [])) ≡ true
+    by true = refl
+    by false = calm_both (decimal count) (final ∷ []) (calm_decimal count) (calm_byte final [] h refl)
+
+calm_move : (old new : Position) → calm (move_bytes old new) ≡ true
+calm_move old new = calm_both (row_move old.row new.row) (col_move old.col new.col) (rows (nat_lt new.row old.row)) (cols (nat_lt new.col old.col))
+  where
+    rows : (b : Bool) → calm (if b then control_sequence (old.row - new.row) 0x41 else control_sequence (new.row - old.row) 0x42) ≡ true
+    rows true = calm_sequence (old.row - new.row) 0x41 refl
+    rows false = calm_sequence (new.row - old.row) 0x42 refl
+    cols : (b : Bool) → calm (if b then control_sequence (old.col - new.col) 0x44 else control_sequence (new.col - old.col) 0x43) ≡ true
+    cols true = calm_sequence (old.col - new.col) 0x44 refl
+    cols false = calm_sequence (new.col - old.col) 0x43 refl
+
+-- ---- where the last drawing begins
+
+first_if : (b y : ℕ) (bs : List ℕ) (t : Bool) → (b == 0x0D) ≡ t → (not t || (y == 0x0A)) ≡ true → begins_drawing (b ∷ y ∷ bs) ≡ false
+first_if b y bs t is h = grind (arith, nat_tests)
+
+none_begins : (b : ℕ) (bs : List ℕ) → calm (b ∷ bs) ≡ true → begins_drawing (b ∷ bs) ≡ false
+none_begins b [] h = grind (arith, nat_tests)
+none_begins b (y ∷ bs) h = let parts = and_parts (not (b == 0x0D) || (y == 0x0A)) (calm (y ∷ bs)) h in first_if b y bs (b == 0x0D) refl parts.0
+
+calm_none : (bs : List ℕ) → calm bs ≡ true → last_drawing bs ≡ None
+calm_none [] h = refl
+calm_none (b ∷ bs) h =
+    ap (λ o. option_or o (if begins_drawing (b ∷ bs) then Some (b ∷ bs) else None)) (calm_none bs (and_parts (not (b == 0x0D) || line_feed_first bs) (calm bs) h).1)
+    ∙ ap (λ t. if t then Some (b ∷ bs) else None) (none_begins b bs h)
+
+-- whatever is before it
+pub last_behind : (a b c : List ℕ) → last_drawing b ≡ Some c → last_drawing (a ++ b) ≡ Some c
+last_behind [] b c h = h
+last_behind (x ∷ a) b c h = ap (λ o. option_or o (if begins_drawing (x ∷ (a ++ b)) then Some (x ∷ (a ++ b)) else None)) (last_behind a b c h)
+
+last_here : (later : List ℕ) → calm later ≡ true → last_drawing (drawing_start ++ later) ≡ Some (drawing_start ++ later)
+last_here later h = ap (λ o. option_or (option_or (option_or (option_or o None) None) None) (Some (drawing_start ++ later))) (calm_none later h)
+
+-- ---- steps
+
+abbrev NotCleared : EditStep → Type 0
+NotCleared (Draws v m Cleared) = ⊥
+NotCleared step = ⊤
+
+-- nothing is shown, or only a cursor was moved since
+pub record Bare (x : Sight) : Type 0 where
+  pub given : x.given ≡ false
+  pub prompt : x.prompt ≡ []
+
+cleared_or : (r : EditStep) → NotCleared r ⊎ ((x : Sight) → Bare (sight x r))
+cleared_or (Draws v m Cleared) = inr (λ x. record { given = refl; prompt = refl })
+cleared_or (Draws v m (Drawn prompt given text at info)) = inl tt
+cleared_or (Draws v m (Moved text at)) = inl tt
+cleared_or (Draws v m (Typed prompt c text at)) = inl tt
+cleared_or (Draws v m (Taken prompt count text at)) = inl tt
+cleared_or (Draws v m (Bared prompt text at)) = inl tt
+cleared_or (Draws v m ToEnd) = inl tt
+cleared_or (Draws v m Beeped) = inl tt
+cleared_or (Helped v fails takes) = inl tt
+cleared_or (Edits v edit) = inl tt
+cleared_or (TakesBack v count) = inl tt
+cleared_or (Takes v) = inl tt
+
+module _ (s : Screen) (low : 2 ≤ s.columns) (high : s.columns ≤ 1000) (own : List ℕ) where
+  some : 1 ≤ s.columns
+  some = omega arith
+
+  abbrev wide : List ℕ → Option ℕ
+  wide = widths s
+
+  calm_texts : (prompt line info : List ℕ) → calm (shown_text s.columns wide prompt line info) ≡ true
+  calm_texts prompt line info =
+      let a = text_items wide prompt in
+      let b = text_items wide line in
+      let c = text_items wide info in
+      let xs = sent s.columns a 0 in
+      let ys = sent s.columns b (col_after s.columns a 0) in
+      let zs = sent s.columns c (col_after s.columns b (col_after s.columns a 0)) in
+      let fits = items_fit s.mode s.columns some in
+      let one_text = calm_both no_style xs refl (calm_sent s.columns wide a 0 (fits prompt)) in
+      let two_texts = calm_both (no_style ++ xs ++ no_style) ys (calm_both (no_style ++ xs) no_style one_text refl) (calm_sent s.columns wide b (col_after s.columns a 0) (fits line)) in
+      let all_texts = calm_both (no_style ++ xs ++ no_style ++ ys ++ no_style) zs (calm_both (no_style ++ xs ++ no_style ++ ys) no_style two_texts refl) (calm_sent s.columns wide c (col_after s.columns b (col_after s.columns a 0)) (fits info)) in
+      calm_both (no_style ++ xs ++ no_style ++ ys ++ no_style ++ zs) no_style all_texts refl
+
+  -- from the last whole drawing on they show it, on any blank rows
+  pub record Anew (bytes : List ℕ) (l : Layout) (x : Sight) : Type 0 where
+    pub earlier : List ℕ
+    pub later : List ℕ
+    pub bytes_are : bytes ≡ earlier ++ (drawing_start ++ later)
+    pub calm_is : calm later ≡ true
+    pub holds : (before : List ℕ) (over : List Placed) (top : ℕ) → Good s.columns wide before over (empty_view top)
+        → DisplayHolds s (before ++ (drawing_start ++ later)) over top l x
+
+  pub anew_last : (bytes : List ℕ) (l : Layout) (x : Sight) (a : Anew bytes l x) → last_drawing bytes ≡ Some (drawing_start ++ a.later)
+  anew_last bytes l x a = ap last_drawing a.bytes_are ∙ last_behind a.earlier (drawing_start ++ a.later) (drawing_start ++ a.later) (last_here a.later a.calm_is)
+
+  -- a whole drawing, whatever came before
+  whole : (v : Value) (bytes : List ℕ) (m : Option Marks) (l : Layout) (prompt : List ℕ) (given : Bool) (text : List ℕ) (at : ℕ) (info : Option (List ℕ)) → Low s (sight_with given prompt text at info)
+      → (let a = full (ruler_of s) m l prompt given text at info in Anew (bytes ++ flat_map (bytes_of s) a.calls) a.layout (sight_with given prompt text at info))
+  whole v bytes m l prompt given text at info rows =
+      let new = (full (ruler_of s) m l prompt given text at info).layout in
+      let up = control_sequence l.cursor.row 0x41 in
+      let texts = drawing s.columns wide prompt text (info_text info) new.end new.cursor in
+      record {
+        earlier = bytes ++ up;
+        later = texts;
+        bytes_are = ap (λ z. bytes ++ z) (append-nil (up ++ drawing_start ++ texts) ∙ append_assoc up drawing_start texts) ∙ sym (append_assoc bytes up (drawing_start ++ texts));
+        calm_is = calm_both (shown_text s.columns wide prompt text (info_text info)) (move_bytes new.end new.cursor) (calm_texts prompt text (info_text info)) (calm_move new.end new.cursor);
+        holds = λ before over top good.
+            subst (λ z. DisplayHolds s (before ++ z) over top new (sight_with given prompt text at info)) (append-nil (drawing_start ++ texts))
+            (step s low high prompt before over top (fresh s.mode) no_sight (Draws v m (Drawn prompt given text at info)) (fresh_holds s low high before over top (fresh s.mode) good) (λ e. refl) rows);
+      }
+
+  -- what follows it
+  kept_on : (bytes : List ℕ) (l : Layout) (x : Sight) (more : List ℕ) (l' : Layout) (x' : Sight) → Anew bytes l x → calm more ≡ true
+      → ((before : List ℕ) (over : List Placed) (top : ℕ) → DisplayHolds s before over top l x → DisplayHolds s (before ++ more) over top l' x') → Anew (bytes ++ more) l' x'
+  kept_on bytes l x more l' x' a quiet on = record {
+    earlier = a.earlier;
+    later = a.later ++ more;
+    bytes_are = ap (λ z. z ++ more) a.bytes_are ∙ append_assoc a.earlier (drawing_start ++ a.later) more;
+    calm_is = calm_both a.later more a.calm_is quiet;
+    holds = λ before over top good.
+        subst (λ z. DisplayHolds s z over top l' x') (append_assoc before (drawing_start ++ a.later) more) (on (before ++ (drawing_start ++ a.later)) over top (a.holds before over top good));
+  }
+
+  calm_moved : (l : Layout) (to : Position) (b : Bool) → calm (flat_map (bytes_of s) (if b then nothing_asked l else moved_by_call l to).calls) ≡ true
+  calm_moved l to true = refl
+  calm_moved l to false = calm_both (move_bytes l.cursor to) [] (calm_move l.cursor to) refl
+
+  calm_bell : (b : BellStyle) → calm (bell_bytes b ++ []) ≡ true
+  calm_bell Bell.Audible = refl
+  calm_bell _ = refl
+
+  calm_typed : (l : Layout) (c : ℕ) → is_printable c ≡ true → calm (flat_map (bytes_of s) (typed_short l c).calls) ≡ true
+  calm_typed l c h =
+      let small : c < 128 = (let k = ltb-true c 0x7F (and_parts (nat_le 0x20 c) (nat_lt c 0x7F) h).1 in omega arith) in
+      subst (λ xs. calm (xs ++ []) ≡ true) (sym (encode_ascii c small)) (calm_byte c [] (letter_plain c h) refl)
+
+  calm_taken : (l : Layout) (count : ℕ) → calm (flat_map (bytes_of s) (taken_short l count).calls) ≡ true
+  calm_taken l count =
+      let to = (taken_short l count).layout.end in
+      calm_both (move_bytes l.cursor to ++ erase_to_row_end) [] (calm_both (move_bytes l.cursor to) erase_to_row_end (calm_move l.cursor to) refl) refl
+
+  abbrev After : List ℕ → Layout → EditStep → Sight → Type 0
+  After bytes l r x = Anew (bytes ++ flat_map (bytes_of s) (one (ruler_of s) l r).calls) (one (ruler_of s) l r).layout (sight x r)
+
+  typed_by : (v : Value) (bytes : List ℕ) (m : Option Marks) (l : Layout) (x : Sight) (prompt : List ℕ) (c : ℕ) (text : List ℕ) (at : ℕ) (b : Bool) → may_type (ruler_of s) l ≡ b
+      → (let r = Draws v m (Typed prompt c text at) in Anew bytes l x → Fits own x r → LowStep s x r → After bytes l r x)
+  typed_by v bytes m l x prompt c text at true e a fits rows =
+      let r = Draws v m (Typed prompt c text at) in
+      let printable = (and_parts (is_printable c) (at_plain_end x.line x.place) (let t : TypedFits x prompt c text at = fits.3 in t.typed)).0 in
+      kept_on bytes l x (flat_map (bytes_of s) (one (ruler_of s) l r).calls) (one (ruler_of s) l r).layout (sight x r) a
+      (subst (λ t. calm (flat_map (bytes_of s) (if t then typed_short l c else full (ruler_of s) m l prompt true text at None).calls) ≡ true) (sym e) (calm_typed l c printable))
+      (λ before over top h. step s low high own before over top l x r h fits rows)
+  typed_by v bytes m l x prompt c text at false e a fits rows =
+      subst (λ t. (let q = if t then typed_short l c else full (ruler_of s) m l prompt true text at None in Anew (bytes ++ flat_map (bytes_of s) q.calls) q.layout (sight_as prompt text at None))) (sym e) (whole v bytes m l prompt true text at None rows)
+
+  taken_by : (v : Value) (bytes : List ℕ) (m : Option Marks) (l : Layout) (x : Sight) (prompt : List ℕ) (count : ℕ) (text : List ℕ) (at : ℕ) (b : Bool) → may_take l count ≡ b
+      → (let r = Draws v m (Taken prompt count text at) in Anew bytes l x → Fits own x r → LowStep s x r → After bytes l r x)
+  taken_by v bytes m l x prompt count text at true e a fits rows =
+      let r = Draws v m (Taken prompt count text at) in
+      kept_on bytes l x (flat_map (bytes_of s) (one (ruler_of s) l r).calls) (one (ruler_of s) l r).layout (sight x r) a
+      (subst (λ t. calm (flat_map (bytes_of s) (if t then taken_short l count else full (ruler_of s) m l prompt true text at None).calls) ≡ true) (sym e) (calm_taken l count))
+      (λ before over top h. step s low high own before over top l x r h fits rows)
+  taken_by v bytes m l x prompt count text at false e a fits rows =
+      subst (λ t. (let q = if t then taken_short l count else full (ruler_of s) m l prompt true text at None in Anew (bytes ++ flat_map (bytes_of s) q.calls) q.layout (sight_as prompt text at None))) (sym e) (whole v bytes m l prompt true text at None rows)
+
+  bared_by : (v : Value) (bytes : List ℕ) (m : Option Marks) (l : Layout) (x : Sight) (prompt text : List ℕ) (at : ℕ) (b : Bool) → l.default_prompt ≡ b
+      → (let r = Draws v m (Bared prompt text at) in Anew bytes l x → Fits own x r → LowStep s x r → After bytes l r x)
+  bared_by v bytes m l x prompt text at true e a fits rows =
+      let r = Draws v m (Bared prompt text at) in
+      kept_on bytes l x (flat_map (bytes_of s) (one (ruler_of s) l r).calls) (one (ruler_of s) l r).layout (sight x r) a
+      (subst (λ t. calm (flat_map (bytes_of s) (if t then nothing_asked l else full (ruler_of s) m l prompt true text at None).calls) ≡ true) (sym e) refl)
+      (λ before over top h. step s low high own before over top l x r h fits rows)
+  bared_by v bytes m l x prompt text at false e a fits rows =
+      let h : DisplayHolds s ([] ++ (drawing_start ++ a.later)) [] 0 l x = a.holds [] [] 0 (start_is_empty s low high) in
+      absurd (true≢false (sym (sym e ∙ h.given_is ∙ fits)))
+
+  -- a step with no clearing of the screen
+  step_anew : (r : EditStep) (bytes : List ℕ) (l : Layout) (x : Sight) → Anew bytes l x → Fits own x r → LowStep s x r → NotCleared r → After bytes l r x
+  step_anew (Draws v m (Drawn prompt given text at info)) bytes l x a fits rows none = whole v bytes m l prompt given text at info rows
+  step_anew (Draws v m (Moved text at)) bytes l x a fits rows none =
+      let r = Draws v m (Moved text at) in
+      let to = (ruler_of s).measure (take at text) l.prompt_size in
+      kept_on bytes l x (flat_map (bytes_of s) (one (ruler_of s) l r).calls) (one (ruler_of s) l r).layout (sight x r) a (calm_moved l to (same_cell l.cursor to)) (λ before over top h. step s low high own before over top l x r h fits rows)
+  step_anew (Draws v m (Typed prompt c text at)) bytes l x a fits rows none = typed_by v bytes m l x prompt c text at (may_type (ruler_of s) l) refl a fits rows
+  step_anew (Draws v m (Taken prompt count text at)) bytes l x a fits rows none = taken_by v bytes m l x prompt count text at (may_take l count) refl a fits rows
+  step_anew (Draws v m (Bared prompt text at)) bytes l x a fits rows none = bared_by v bytes m l x prompt text at l.default_prompt refl a fits rows
+  step_anew (Draws v m ToEnd) bytes l x a fits rows none =
+      let r = Draws v m ToEnd in
+      kept_on bytes l x (flat_map (bytes_of s) (one (ruler_of s) l r).calls) (one (ruler_of s) l r).layout (sight x r) a (calm_moved l l.end (same_cell l.cursor l.end)) (λ before over top h. step s low high own before over top l x r h fits rows)
+  step_anew (Draws v m Beeped) bytes l x a fits rows none =
+      kept_on bytes l x (bell_bytes s.bell ++ []) l x a (calm_bell s.bell) (λ before over top h. step s low high own before over top l x (Draws v m Beeped) h fits rows)
+  step_anew (Draws v m Cleared) bytes l x a fits rows none = absurd none
+  step_anew (Helped v fails takes) bytes l x a fits rows none = kept_on bytes l x [] l x a refl (λ before over top h. step s low high own before over top l x (Helped v fails takes) h fits rows)
+  step_anew (Edits v edit) bytes l x a fits rows none = kept_on bytes l x [] l x a refl (λ before over top h. step s low high own before over top l x (Edits v edit) h fits rows)
+  step_anew (TakesBack v count) bytes l x a fits rows none = kept_on bytes l x [] l x a refl (λ before over top h. step s low high own before over top l x (TakesBack v count) h fits rows)
+  step_anew (Takes v) bytes l x a fits rows none = kept_on bytes l x [] l x a refl (λ before over top h. step s low high own before over top l x (Takes v) h fits rows)
+
+  -- they show it so, or nothing is shown
+  abbrev pub Either : List ℕ → Layout → Sight → Type 0
+  Either bytes l x = Anew bytes l x ⊎ Bare x
+
+  abbrev EitherAfter : List ℕ → Layout → EditStep → Sight → Type 0
+  EitherAfter bytes l r x = Either (bytes ++ flat_map (bytes_of s) (one (ruler_of s) l r).calls) (one (ruler_of s) l r).layout (sight x r)
+
+  not_given : (x : Sight) → Bare x → x.given ≡ true → ⊥
+  not_given x b is = true≢false (sym is ∙ b.given)
+
+  step_bare : (r : EditStep) (bytes : List ℕ) (l : Layout) (x : Sight) → Bare x → Fits own x r → LowStep s x r → EitherAfter bytes l r x
+  step_bare (Draws v m (Drawn prompt given text at info)) bytes l x b fits rows = inl (whole v bytes m l prompt given text at info rows)
+  step_bare (Draws v m (Moved text at)) bytes l x b fits rows = inr (record { given = b.given; prompt = b.prompt })
+  step_bare (Draws v m (Typed prompt c text at)) bytes l x b fits rows = absurd (not_given x b fits.0)
+  step_bare (Draws v m (Taken prompt count text at)) bytes l x b fits rows = absurd (not_given x b fits.0)
+  step_bare (Draws v m (Bared prompt text at)) bytes l x b fits rows = absurd (not_given x b fits)
+  step_bare (Draws v m ToEnd) bytes l x b fits rows = inr (record { given = b.given; prompt = b.prompt })
+  step_bare (Draws v m Beeped) bytes l x b fits rows = inr b
+  step_bare (Draws v m Cleared) bytes l x b fits rows = inr (record { given = refl; prompt = refl })
+  step_bare (Helped v fails takes) bytes l x b fits rows = inr b
+  step_bare (Edits v edit) bytes l x b fits rows = inr b
+  step_bare (TakesBack v count) bytes l x b fits rows = inr b
+  step_bare (Takes v) bytes l x b fits rows = inr b
+
+  step_either : (r : EditStep) (bytes : List ℕ) (l : Layout) (x : Sight) → Either bytes l x → Fits own x r → LowStep s x r → EitherAfter bytes l r x
+  step_either r bytes l x (inr b) fits rows = step_bare r bytes l x b fits rows
+  step_either r bytes l x (inl a) fits rows = by (cleared_or r)
+    where
+      by : NotCleared r ⊎ ((x : Sight) → Bare (sight x r)) → EitherAfter bytes l r x
+      by (inl none) = inl (step_anew r bytes l x a fits rows none)
+      by (inr bare) = inr (bare x)
+
+  joined : (r : EditStep) (rs : List EditStep) (bytes : List ℕ) (l : Layout)
+      → (bytes ++ flat_map (bytes_of s) (one (ruler_of s) l r).calls) ++ bytes_for s (one (ruler_of s) l r).layout rs ≡ bytes ++ bytes_for s l (r ∷ rs)
+  joined r rs bytes l =
+      let q = one (ruler_of s) l r in
+      append_assoc bytes (flat_map (bytes_of s) q.calls) (bytes_for s q.layout rs) ∙ ap (λ b. bytes ++ b) (sym (flat_both (bytes_of s) q.calls (drawn_by s q.layout rs).calls))
+
+  pub all_either : (rs : List EditStep) (bytes : List ℕ) (l : Layout) (x : Sight) → Either bytes l x → FitsAll own x rs → LowAll s x rs
+      → Either (bytes ++ bytes_for s l rs) (drawn_by s l rs).layout (sight_all x rs)
+  all_either [] bytes l x h fits rows = subst (λ b. Either b l x) (sym (append-nil bytes)) h
+  all_either (r ∷ rs) bytes l x h fits rows =
+      let q = one (ruler_of s) l r in
+      subst (λ b. Either b (drawn_by s l (r ∷ rs)).layout (sight_all x (r ∷ rs))) (joined r rs bytes l)
+      (all_either rs (bytes ++ flat_map (bytes_of s) q.calls) q.layout (sight x r) (step_either r bytes l x h fits.0 rows.0) fits.1 rows.1)
+
+  -- none of the steps clears the screen
+  abbrev pub NoneCleared : List EditStep → Type 0
+  NoneCleared [] = ⊤
+  NoneCleared (r ∷ rs) = NotCleared r × NoneCleared rs
+
+  pub all_anew : (rs : List EditStep) (bytes : List ℕ) (l : Layout) (x : Sight) → Anew bytes l x → FitsAll own x rs → LowAll s x rs → NoneCleared rs
+      → Anew (bytes ++ bytes_for s l rs) (drawn_by s l rs).layout (sight_all x rs)
+  all_anew [] bytes l x h fits rows none = subst (λ b. Anew b l x) (sym (append-nil bytes)) h
+  all_anew (r ∷ rs) bytes l x h fits rows none =
+      let q = one (ruler_of s) l r in
+      subst (λ b. Anew b (drawn_by s l (r ∷ rs)).layout (sight_all x (r ∷ rs))) (joined r rs bytes l)
+      (all_anew rs (bytes ++ flat_map (bytes_of s) q.calls) q.layout (sight x r) (step_anew r bytes l x h fits.0 rows.0 none.0) fits.1 rows.1 none.1)

@@ -1,0 +1,5 @@
+use Rattle.keyline_c.proofs.PasteInLemmas.{pastes_go_in}
+use Rattle.keyline_c.proofs.laws.paste.Goals as goal
+
+pub returns : goal.returns
+returns c = pastes_go_in

@@ -1,0 +1,120 @@
+-- Laws for a program that draws an open line anew, or types for its user: what the bytes from the
+-- last whole drawing on show, and where a pasted text goes.
+use Rattle.std.specs.Prelude.{◌≡◌, ℕ, suc, nat_eq, Bool, if◌then◌else◌, List, [], ◌∷◌, ◌++◌, length, true, Option, Some, None, Ok}
+use Rattle.std.specs.List.{starts_with}
+use Rattle.std.specs.Option.{option_or}
+use Rattle.line_buffer.specs.Insertions.{put_at_cursor}
+use Rattle.line_buffer.specs.Line.{Line}
+use Rattle.line_config.specs.declared.device.Last.{Last}
+use Rattle.line_config.specs.declared.memory.VecSink.{VecSink}
+use Rattle.line_editor.specs.Commands.{in_vi_command, means_of}
+use Rattle.line_editor.specs.LineScripts.{LineState, made_from, played_from, turn_script}
+use Rattle.line_editor.specs.Modal.{is_at_rest}
+use Rattle.line_editor.specs.Sights.{Sight, no_sight, sight_all}
+use Rattle.line_editor.specs.Values.{Setting}
+use Rattle.line_editor.specs.Yanking.{behind_yank}
+use Rattle.line_editor.specs.declared.commands.Status.TheVariants.{Proceed}
+use Rattle.line_keys.specs.Answers.{Custom}
+use Rattle.line_screen.specs.Calls.{Screen}
+use Rattle.line_screen.specs.Display.{Display, Placed, cell_at, meaning}
+use Rattle.line_screen.specs.Drawing.{erase_to_end}
+use Rattle.line_screen.specs.Laws.{widths}
+use Rattle.keyline.specs.Events.{line_course}
+use Rattle.keyline.specs.Pasting.{IsPasteable, IsUnbound, sent_as_paste}
+use Rattle.keyline.specs.SessionLaws.{steps_in}
+use Rattle.keyline.specs.Sessions.{Given, SessionState, coming_from}
+use Rattle.keyline.specs.Shows.{IsAtRest, LowAll, MomentShown, face}
+use Rattle.keyline_c.specs.Lines.{LeftBy, line_at_end}
+use Rattle.keyline_c.specs.Statuses.{ended_as}
+use Rattle.keyline_c.specs.Steps.{open_place, open_text}
+use Rattle.keyline_c.specs.declared.line.Left.{Left}
+use Rattle.keyline_c.specs.declared.status.Status.TheVariants.{More}
+
+-- ---- whole drawings
+
+-- CR ESC [ J begins one
+abbrev pub drawing_start : List ℕ
+drawing_start = 0x0D ∷ erase_to_end
+
+abbrev pub begins_drawing : List ℕ → Bool
+begins_drawing bytes = starts_with nat_eq bytes drawing_start
+
+-- the bytes from the last one's beginning on
+abbrev pub last_drawing : List ℕ → Option (List ℕ)
+last_drawing [] = None
+last_drawing (byte ∷ bytes) = option_or (last_drawing bytes)
+    (if begins_drawing (byte ∷ bytes) then Some (byte ∷ bytes) else None)
+
+-- ---- what they show
+
+-- what the steps of a line show: a prompt, the line with its cursor, and a hint or message
+abbrev pub seen_in : ℕ → Given → SessionState → Sight
+seen_in n g x = sight_all no_sight (steps_in n g x)
+
+module _ (held : VecSink → List ℕ) where
+  -- more keys are wanted for a line, and everything shown is within the rows that can be counted
+  pub record IsOpenAt (n : ℕ) (g : Given) (x : SessionState) (left : Left) : Type 0 where
+    pub reads : LeftBy held (line_course n g x) (line_at_end n g x) left
+    pub more : ended_as left.outcome ≡ More
+    pub low : LowAll g.screen no_sight (steps_in n g x)
+
+  -- the bytes from the last whole drawing on show the open line by themselves, on any blank rows
+  -- below others: its text and its cursor, behind the prompt that is shown for it. The rows above
+  -- stay
+  abbrev pub LastDrawingsShow : Type 0
+  LastDrawingsShow =
+      (n : ℕ) (g : Given) (x : SessionState) (left : Left)
+      (before : List ℕ) (over : List Placed) (top : ℕ)
+      → IsOpenAt n g x left → IsAtRest (face g.screen before top over no_sight)
+      → (bytes : List ℕ) × (last_drawing (held left.display) ≡ Some bytes)
+      × MomentShown (face g.screen (before ++ bytes) top over (seen_in n g x))
+      (seen_in n g x).prompt (open_text left.open_line) (open_place left.open_line)
+
+-- the same cells, and the cursor in the same one
+pub record LookAlike (d e : Display) : Type 0 where
+  pub cells : (row col : ℕ) → cell_at d.placed row col ≡ cell_at e.placed row col
+  pub cursor : d.cursor ≡ e.cursor
+
+-- the same open line and cursor, after the same prompt, and before the same hint or message
+pub record ShowTheSame (n : ℕ) (g : Given) (x y : SessionState) (left other : Left) : Type 0 where
+  pub text : open_text left.open_line ≡ open_text other.open_line
+  pub place : open_place left.open_line ≡ open_place other.open_line
+  pub prompt : (seen_in n g x).prompt ≡ (seen_in n g y).prompt
+  pub info : (seen_in n g x).info ≡ (seen_in n g y).info
+
+module _ (held : VecSink → List ℕ) where
+  -- a display to which bytes were sent, and then those from a line's last whole drawing on
+  pub record DrawnAnew (s : Screen) (before : List ℕ) (left : Left) (d : Display) : Type 0 where
+    pub bytes : List ℕ
+    pub last : last_drawing (held left.display) ≡ Some bytes
+    pub means : meaning s.columns (widths s) (before ++ bytes) ≡ Some d
+
+  -- two key texts whose open lines show the same leave the same display if they are drawn anew,
+  -- whatever their bytes are
+  abbrev pub SameLinesLookAlike : Type 0
+  SameLinesLookAlike =
+      (n : ℕ) (g : Given) (x y : SessionState) (left other : Left)
+      (before : List ℕ) (over : List Placed) (top : ℕ) (d e : Display)
+      → IsOpenAt held n g x left → IsOpenAt held n g y other → ShowTheSame n g x y left other
+      → IsAtRest (face g.screen before top over no_sight)
+      → DrawnAnew g.screen before left d → DrawnAnew g.screen before other e → LookAlike d e
+
+-- ---- a paste
+
+-- a text goes to the cursor, and the cursor after it; in Vi's command mode onto its last cluster
+abbrev pub pasted_in : Bool → List ℕ → Line → Line
+pasted_in vi [] l = l
+pasted_in vi (byte ∷ bytes) l = behind_yank vi (put_at_cursor (byte ∷ bytes) l)
+
+-- if nothing is bound, a text that is pasted between two phrases goes to the cursor of the line, if
+-- no search stands. Everything that follows it remains
+abbrev pub PastesGoIn : Type 0
+PastesGoIn =
+    (n : ℕ) (s : Setting) (custom : Custom) (indent : ℕ) (k : LineState) (text more : List ℕ)
+    (last : Last)
+    → IsUnbound custom → k.value.line.growth ≡ true → is_at_rest k.modal.standing ≡ true
+    → IsPasteable text → k.coming ≡ coming_from k.input.mode (sent_as_paste text ++ more) last
+    → let p = played_from s indent (turn_script (suc (suc n)) custom) k in
+    let vi = in_vi_command (means_of k.input indent k.ring) in
+    (p.answer ≡ Ok Proceed) × (p.rest.coming ≡ coming_from k.input.mode more last)
+    × (p.rest.value.line ≡ pasted_in vi text k.value.line)
