@@ -265,7 +265,7 @@ cycles_on (Some reply) dir s v x stands h =
     let found = candidates_given (completion_reply s w) in
     record {
       place = h.place;
-      stands = candidate_stands (cycle_at dir x.modal.at (length found.candidates)) found s v w
+      stands = candidate_stands (cycle_at dir x.modal.candidate (length found.candidates)) found s v w
           (placed_back x.modal.place v.line (hit_back x.modal.put s x.value).value.line b.line h.place stands, b.held);
     }
 

@@ -305,7 +305,7 @@ next_drawn dir put q s v info x = by put
     on : (w : Value) → (let e = asked_turned dir q s w in Drawn s.prompt info x e.steps (sight_of s e.value (shown_hint e.value)) (shown_hint e.value))
     on w =
         let found = candidates_given (completion_reply s w) in
-        let at = cycle_at dir q.at (length found.candidates) in
+        let at = cycle_at dir q.candidate (length found.candidates) in
         asked_drawn w (completion_reply s w) s.prompt info x _ _ _ (turned_drawn found.start (candidate_at at found w.line) s w info x)
 
     by : (put : Bool) → (let e = then_do (then_do (hit_back put) (placing q.place)) (asked_turned dir q) s v in

@@ -446,7 +446,7 @@ tab_keeps (Some reply) lists q cmd s v = let found = candidates_given (Some repl
 next_keeps : (dir : SearchDirection) (q : Modal) (s : Setting) (v w : Value) → Keeps v w → Keeps v (asked_turned dir q s w).value
 next_keeps dir q s v w h =
     let found = candidates_given (completion_reply s w) in
-    turned_keeps found.start (candidate_at (cycle_at dir q.at (length found.candidates)) found w.line) s v w h
+    turned_keeps found.start (candidate_at (cycle_at dir q.candidate (length found.candidates)) found w.line) s v w h
 
 cycle_keeps : (reply : Option (Reply Completion)) (dir : SearchDirection) (q : Modal) (cmd : Cmd) (s : Setting) (v : Value) → Keeps v (cycle_by reply dir q cmd s v).effect.value
 cycle_keeps None dir q cmd s v = same v

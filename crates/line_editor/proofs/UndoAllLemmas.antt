@@ -448,7 +448,7 @@ tab_reached (Some reply) lists q cmd s v first r = let found = candidates_given 
 
 next_reached : (dir : SearchDirection) (q : Modal) (s : Setting) (v : Value) (first : List ℕ) → Reached first v → Reached first (asked_turned dir q s v).value
 next_reached dir q s v first r =
-    let found = candidates_given (completion_reply s v) in candidate_reached (cycle_at dir q.at (length found.candidates)) found s v first r
+    let found = candidates_given (completion_reply s v) in candidate_reached (cycle_at dir q.candidate (length found.candidates)) found s v first r
 
 cycle_reached : (reply : Option (Reply Completion)) (dir : SearchDirection) (q : Modal) (cmd : Cmd) (s : Setting) (v : Value) (first : List ℕ) → Reached first v → Reached first (cycle_by reply dir q cmd s v).effect.value
 cycle_reached None dir q cmd s v first r = r

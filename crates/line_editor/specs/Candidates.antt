@@ -84,7 +84,8 @@ abbrev pub turned : ℕ → Completion → Transition
 turned at found s v = turned_with found.start (candidate_at at found v.line) s v
 
 abbrev pub turned_modal : ℕ → Completion → Line → Modal → Modal
-turned_modal at found l x = record x { at = at; put = is_some (candidate_at at found l) }
+turned_modal at found l x =
+    record x { candidate = at; put = is_some (candidate_at at found l) }
 
 -- the first one of several
 abbrev pub cycle_begun : Completion → Transition
@@ -100,10 +101,10 @@ cycle_back x = then_do (hit_back x.put) (placing x.place)
 
 -- the helper is asked anew for that line, and the next candidate is put
 abbrev pub next_turned : SearchDirection → Modal → Completion → Transition
-next_turned dir x found = turned (cycle_at dir x.at (length found.candidates)) found
+next_turned dir x found = turned (cycle_at dir x.candidate (length found.candidates)) found
 
 abbrev pub next_modal : SearchDirection → Completion → Line → Modal → Modal
-next_modal dir found l x = turned_modal (cycle_at dir x.at (length found.candidates)) found l x
+next_modal dir found l x = turned_modal (cycle_at dir x.candidate (length found.candidates)) found l x
 
 abbrev pub asked_turned : SearchDirection → Modal → Transition
 asked_turned dir x s v =

@@ -29,9 +29,11 @@ pub record Modal : Type 0 where
   pub fails : Bool
   -- an entry is shown in place of the line, or a candidate in place of the word
   pub put : Bool
-  -- the entry at which it began, and the current one; or the current candidate
+  -- the entry at which it began, and the current one
   pub start : ℕ
   pub at : ℕ
+  -- the current candidate
+  pub candidate : ℕ
   -- the cursor's place before it
   pub place : ℕ
 
@@ -48,6 +50,7 @@ modal_of x = record {
   put = x.put;
   start = x.start;
   at = x.at;
+  candidate = x.candidate;
   place = x.place;
 }
 
@@ -69,6 +72,7 @@ modal_first config query = record {
   put = false;
   start = 0;
   at = 0;
+  candidate = 0;
   place = 0;
 }
 

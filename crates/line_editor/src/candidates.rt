@@ -203,7 +203,7 @@ impl<'p, 'h, Out: Renderer, H: Helper + Drop, Hi: History> State<'p, 'h, Out, H,
             (record { start = start; candidates = map H.Candidate.offers candidates.now })
             self.old.recorded.line (modal_of modal.old)) }
     {
-        modal.at = at;
+        modal.candidate = at;
         match candidate_at(&self.recorded.line, start, candidates, at) {
             Some(text) => {
                 modal.put = true;
@@ -338,7 +338,7 @@ impl<'p, 'h, Out: Renderer, H: Helper + Drop, Hi: History> State<'p, 'h, Out, H,
             (record { start = start; candidates = map H.Candidate.offers candidates.now })
             self.old.recorded.line (modal_of modal.old)) }
     {
-        let at = cycle_at(dir, modal.at, candidates.len());
+        let at = cycle_at(dir, modal.candidate, candidates.len());
         self.turn_to(modal, at, start, candidates)
     }
 

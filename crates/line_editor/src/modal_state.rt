@@ -97,6 +97,7 @@ pub struct ModalState {
     pub(crate) put: bool,
     pub(crate) start: usize,
     pub(crate) at: usize,
+    pub(crate) candidate: usize,
     pub(crate) place: usize,
 }
 
@@ -232,6 +233,7 @@ impl ModalState {
             put: false,
             start: 0,
             at: 0,
+            candidate: 0,
             place: 0,
         }
     }
