@@ -1,5 +1,5 @@
 -- What a program draws anew shows the open line.
-use Rattle.std.proofs.Common.{◌≡◌, inr, ℕ, ◌≤◌, true, false, List, [], ◌∷◌, ◌++◌, Option, Some, Result, Ok, Err, refl, sym, ap, ◌∙◌, subst, append-nil, if◌then◌else◌}
+use Rattle.std.proofs.Common.{◌≡◌, inr, ℕ, ◌≤◌, true, false, List, [], ◌++◌, Option, Some, Result, Err, refl, sym, ap, ◌∙◌, subst, append-nil, if◌then◌else◌}
 use Rattle.std.specs.Prelude.{string_bytes}
 use Rattle.std.specs.List.{flat_map}
 use Rattle.line_buffer.specs.Line.{Line}
@@ -7,7 +7,7 @@ use Rattle.line_buffer.specs.declared.layout.Layout.{Layout}
 use Rattle.line_config.specs.declared.errors.ReadlineError.{ReadlineError}
 use Rattle.line_config.specs.declared.errors.ReadlineError.TheVariants.{Reader}
 use Rattle.line_config.specs.declared.memory.VecSink.{VecSink}
-use Rattle.line_editor.specs.LineScripts.{LineState, line_script, steps_along}
+use Rattle.line_editor.specs.LineScripts.{LineState, line_script}
 use Rattle.line_editor.specs.Redraws.{fresh}
 use Rattle.line_editor.specs.Running.{IsOpen, kept_first}
 use Rattle.line_editor.specs.Sights.{Sight, no_sight, sight_as}
@@ -17,16 +17,16 @@ use Rattle.line_keys.specs.Coming.{made_of}
 use Rattle.line_keys.specs.InputStates.{new_input}
 use Rattle.line_screen.specs.Calls.{Screen}
 use Rattle.line_screen.specs.Chain.{Shows, cursor_of, finish_of}
-use Rattle.line_screen.specs.Display.{Display, Placed}
+use Rattle.line_screen.specs.Display.{Placed}
 use Rattle.line_screen.specs.Laws.{widths}
 use Rattle.line_screen.proofs.LawLemmas.{shown_is_meant}
 use Rattle.keyline.specs.Events.{asks_events, bytes_drawn, end_events, line_course, played_in}
 use Rattle.keyline.specs.SessionLaws.{steps_in}
 use Rattle.keyline.specs.Sessions.{Given, SessionState, setting_in}
-use Rattle.keyline.specs.Shows.{DisplayHolds, IsAtRest, LowAll, MomentShown, bytes_for, drawn_by, face, picture, place_in, view_in}
+use Rattle.keyline.specs.Shows.{DisplayHolds, LowAll, MomentShown, bytes_for, face, picture, place_in, view_in}
 use Rattle.keyline.proofs.ShowCourse.{flat_both}
 use Rattle.keyline_c.specs.Laws.{IsOpenAt, LastDrawingsShow, drawing_start, layout_in, last_drawing, seen_in}
-use Rattle.keyline_c.specs.Lines.{LeftBy, line_at_end}
+use Rattle.keyline_c.specs.Lines.{line_at_end}
 use Rattle.keyline_c.specs.Statuses.{ended_as}
 use Rattle.keyline_c.specs.Steps.{open_place, open_text}
 use Rattle.keyline_c.specs.declared.line.Left.{Left}

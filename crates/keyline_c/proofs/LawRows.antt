@@ -9,7 +9,7 @@ use Rattle.line_config.specs.declared.settings.BellStyle.TheVariants as Bells
 use Rattle.line_config.specs.declared.settings.EditMode.TheVariants.{Vi}
 use Rattle.line_editor.specs.LineScripts.{LineAsk, LineState, kept, played_from, turn_script}
 use Rattle.line_editor.specs.Modal.{modal_first}
-use Rattle.line_editor.specs.Values.{Setting, Value, at_line, empty_at}
+use Rattle.line_editor.specs.Values.{Setting, at_line, empty_at}
 use Rattle.line_editor.specs.declared.commands.Status.{Status}
 use Rattle.line_editor.specs.declared.commands.Status.TheVariants.{Proceed}
 use Rattle.line_keys.specs.Coming.{Coming, Pressed, Ends as NoMore, End as AtItsEnd}

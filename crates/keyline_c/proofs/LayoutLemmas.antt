@@ -1,5 +1,5 @@
 -- What is kept of a drawing is known from what it shows.
-use Rattle.std.proofs.Common.{◌≡◌, ℕ, ◌≤◌, Bool, true, false, List, [], ◌∷◌, ◌++◌, take, Option, None, Some, is_some, refl, sym, ap, ◌∙◌, subst, if◌then◌else◌}
+use Rattle.std.proofs.Common.{◌≡◌, ℕ, Bool, true, false, List, [], ◌∷◌, ◌++◌, take, Option, None, Some, is_some, refl, sym, ap, ◌∙◌, if◌then◌else◌}
 use Rattle.line_buffer.specs.Cells.{origin, same_cell}
 use Rattle.line_buffer.specs.Line.{Line}
 use Rattle.line_buffer.specs.declared.layout.Layout.{Layout}
@@ -10,24 +10,19 @@ use Rattle.line_editor.specs.Redraws.{fresh, full, moved_by_call, may_take, may_
 use Rattle.line_editor.specs.Redraws.Redraw.{Drawn, Moved, Typed, Taken, Bared, ToEnd, Beeped, Cleared}
 use Rattle.line_editor.specs.Sights.{Sight}
 use Rattle.line_editor.specs.Steps.{one}
-use Rattle.line_editor.specs.Values.{EditStep, Value}
+use Rattle.line_editor.specs.Values.{EditStep}
 use Rattle.line_editor.specs.Values.EditStep.{Draws, Helped, Edits, TakesBack, Takes}
 use Rattle.line_screen.specs.Calls.{Screen, ruler_of}
 use Rattle.line_screen.specs.Chain.{finish_of}
 use Rattle.line_screen.specs.Laws.{widths}
 use Rattle.line_screen.specs.Measure.{measure_of}
 use Rattle.line_screen.proofs.LawLemmas.{start_is_empty}
-use Rattle.keyline.specs.Events.{played_in}
 use Rattle.keyline.specs.SessionLaws.{steps_in}
-use Rattle.keyline.specs.Sessions.{Given, SessionState}
-use Rattle.keyline.specs.Shows.{DisplayHolds, bytes_for, drawn_by, picture, place_in}
-use Rattle.keyline_c.specs.Laws.{IsOpenAt, SameLinesGoOnAlike, drawing_start, layout_in, seen_in}
+use Rattle.keyline.specs.Shows.{DisplayHolds, drawn_by, picture, place_in}
+use Rattle.keyline_c.specs.Laws.{SameLinesGoOnAlike, drawing_start, layout_in, seen_in}
 use Rattle.keyline_c.specs.Lines.{line_at_end}
 use Rattle.keyline_c.specs.Steps.{open_place, open_text}
-use Rattle.keyline_c.specs.declared.line.Left.{Left}
-use Rattle.keyline_c.proofs.AnewLemmas.{Anew}
 use Rattle.keyline_c.proofs.LastLemmas.{StandsAnew, stands_anew, stands_open, wants_keys}
-use Rattle.keyline_c.proofs.OpenLemmas.{Seen}
 
 -- ---- how clusters are counted stays
 

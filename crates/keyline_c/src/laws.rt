@@ -10,8 +10,8 @@ pub fn last_drawing()
     ensures { LastDrawingsShow ⟦<VecSink as Sink>⟧.held }
 {}
 
-/// Two key texts whose open lines show the same leave the same display if they are drawn anew. Their
-/// bytes may differ: what is typed comes after a whole drawing, and what is pasted is in one.
+/// Two key texts whose open lines show the same leave the same display if they are drawn anew.
+/// Their bytes may differ: what is typed comes after a whole drawing, what is pasted is in one.
 pub fn same_lines()
     ensures shown { SameLinesLookAlike ⟦<VecSink as Sink>⟧.held }
     ensures next { SameLinesGoOnAlike ⟦<VecSink as Sink>⟧.held }

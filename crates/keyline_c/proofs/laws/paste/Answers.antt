@@ -1,4 +1,3 @@
-use Rattle.keyline_c.proofs.LawRows.{no_drawing_row}
 use Rattle.keyline_c.proofs.PasteInLemmas.{pastes_go_in}
 use Rattle.keyline_c.proofs.laws.paste.Goals as goal
 
