@@ -1,18 +1,17 @@
 -- Two displays that show the same have the same cells.
-use Rattle.std.proofs.Common.{◌≡◌, ℕ, ◌+◌, ◌-◌, ◌<◌, ◌≤◌, ◌==◌, nat_lt, Bool, true, false, cond, ◌&&◌, List, [], ◌∷◌, ◌++◌, Option, Some, refl, sym, ap, ◌∙◌, subst, arith, if◌then◌else◌}
-use Rattle.std.specs.Prelude.{option_map}
+use Rattle.std.proofs.Common.{◌≡◌, ℕ, ◌+◌, ◌-◌, ◌<◌, ◌==◌, nat_lt, Bool, true, false, cond, ◌&&◌, List, [], ◌∷◌, ◌++◌, Option, Some, refl, sym, ap, ◌∙◌, subst, arith, if◌then◌else◌}
 use Rattle.std.specs.List.{filter}
 use Rattle.std.proofs.lemmas.Bool.Decides.{nat_tests}
 use Rattle.line_config.specs.declared.memory.VecSink.{VecSink}
 use Rattle.line_editor.specs.Sights.{Sight, sight_as}
 use Rattle.line_screen.specs.Calls.{Screen}
-use Rattle.line_screen.specs.Chain.{Picture, Shows, above, cells_of}
+use Rattle.line_screen.specs.Chain.{Picture, Shows, above}
 use Rattle.line_screen.specs.Display.{Cell, Display, Placed, cell_at, meaning}
 use Rattle.line_screen.specs.Display.Cell.{Head, Tail}
 use Rattle.line_screen.specs.Laws.{widths}
 use Rattle.line_screen.proofs.LawLemmas.{cells_are_shown}
 use Rattle.keyline.specs.Shows.{MomentShown, face, picture}
-use Rattle.keyline_c.specs.Laws.{DrawnAnew, LookAlike, SameLinesLookAlike, last_drawing, seen_in}
+use Rattle.keyline_c.specs.Laws.{LookAlike, SameLinesLookAlike, last_drawing, seen_in}
 use Rattle.keyline_c.specs.Steps.{open_place, open_text}
 use Rattle.keyline_c.proofs.LastLemmas.{last_drawings_show}
 

@@ -1,12 +1,11 @@
 -- From the last whole drawing on, the bytes of a line's steps show by themselves what all of them show.
-use Rattle.std.proofs.Common.{◌≡◌, ◌⊎◌, inl, inr, ℕ, zero, suc, ◌+◌, ◌-◌, ◌/◌, ◌%◌, ◌<◌, ◌≤◌, ◌==◌, nat_lt, nat_le, Bool, true, false, not, ◌&&◌, ◌||◌, List, [], ◌∷◌, ◌++◌, take, decimal, Option, None, Some, encode_utf8, refl, sym, ap, ◌∙◌, subst, append_assoc, append-nil, arith, true≢false, if◌then◌else◌}
-use Rattle.std.specs.Prelude.{⊤, nat_eq, codes}
+use Rattle.std.proofs.Common.{◌≡◌, ◌⊎◌, inl, inr, ℕ, zero, suc, ◌+◌, ◌-◌, ◌/◌, ◌%◌, ◌<◌, ◌≤◌, ◌==◌, nat_lt, nat_le, Bool, true, false, not, ◌&&◌, ◌||◌, List, [], ◌∷◌, ◌++◌, take, decimal, Option, None, Some, refl, sym, ap, ◌∙◌, subst, append_assoc, append-nil, arith, true≢false, if◌then◌else◌}
+use Rattle.std.specs.Prelude.{⊤, codes}
 use Rattle.std.specs.Fmt.{digits, digit_glyph, digits_onto}
 use Rattle.std.specs.List.{flat_map, list_all}
 use Rattle.std.specs.Option.{option_or}
-use Rattle.std.proofs.lemmas.Bool.{and_parts, and_from, eqb-true, ltb-true}
+use Rattle.std.proofs.lemmas.Bool.{and_parts, and_from, ltb-true}
 use Rattle.std.proofs.lemmas.Bool.Decides.{nat_tests}
-use Rattle.std.proofs.lemmas.Grind.{flat_map-append}
 use Rattle.std.proofs.lemmas.Str.{encode_ascii}
 use Rattle.line_buffer.specs.Cells.{same_cell}
 use Rattle.line_buffer.specs.Printable.{is_printable, at_plain_end}
@@ -15,7 +14,7 @@ use Rattle.line_buffer.specs.declared.layout.Position.{Position}
 use Rattle.line_config.specs.declared.settings.BellStyle.{BellStyle}
 use Rattle.line_config.specs.declared.settings.BellStyle.TheVariants as Bell
 use Rattle.line_editor.specs.Calls.{Marks}
-use Rattle.line_editor.specs.Redraws.{Redraw, info_text, fresh, full, nothing_asked, moved, moved_by_call, typed_short, taken_short, may_type, may_take}
+use Rattle.line_editor.specs.Redraws.{info_text, fresh, full, nothing_asked, moved_by_call, typed_short, taken_short, may_type, may_take}
 use Rattle.line_editor.specs.Redraws.Redraw.{Drawn, Moved, Typed, Taken, Bared, ToEnd, Beeped, Cleared}
 use Rattle.line_editor.specs.Sights.{Sight, sight_with, sight_as, no_sight, sight, sight_all, Fits, FitsAll, TypedFits}
 use Rattle.line_editor.specs.Steps.{one}
@@ -24,7 +23,7 @@ use Rattle.line_editor.specs.Values.EditStep.{Draws, Helped, Edits, TakesBack, T
 use Rattle.line_screen.specs.Calls.{Screen, bell_bytes, bytes_of, ruler_of}
 use Rattle.line_screen.specs.Chain.{Good, empty_view}
 use Rattle.line_screen.specs.Display.{Placed, is_text}
-use Rattle.line_screen.specs.Drawing.{DrawnItem, text_items, no_style, row_break, break_if, break_unless, fenced, fitted_col, sent_one, sent, col_after_one, col_after, control_sequence, erase_to_row_end, row_move, col_move, move_bytes, shown_text, drawing}
+use Rattle.line_screen.specs.Drawing.{DrawnItem, text_items, no_style, break_if, break_unless, fenced, fitted_col, sent_one, sent, col_after_one, col_after, control_sequence, erase_to_row_end, row_move, col_move, move_bytes, shown_text, drawing}
 use Rattle.line_screen.specs.Drawing.DrawnItem.{NewRow, Letter, Cluster}
 use Rattle.line_screen.specs.Laws.{widths}
 use Rattle.line_screen.proofs.Draws.{AllFit, Fits as ItemFits, list_all_since}
@@ -137,6 +136,7 @@ calm_move old new = calm_both (row_move old.row new.row) (col_move old.col new.c
     rows : (b : Bool) → calm (if b then control_sequence (old.row - new.row) 0x41 else control_sequence (new.row - old.row) 0x42) ≡ true
     rows true = calm_sequence (old.row - new.row) 0x41 refl
     rows false = calm_sequence (new.row - old.row) 0x42 refl
+
     cols : (b : Bool) → calm (if b then control_sequence (old.col - new.col) 0x44 else control_sequence (new.col - old.col) 0x43) ≡ true
     cols true = calm_sequence (old.col - new.col) 0x44 refl
     cols false = calm_sequence (new.col - old.col) 0x43 refl

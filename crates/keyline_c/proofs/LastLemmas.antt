@@ -1,5 +1,5 @@
 -- What a program draws anew shows the open line.
-use Rattle.std.proofs.Common.{◌≡◌, inr, ℕ, ◌≤◌, true, false, List, [], ◌∷◌, ◌++◌, Option, Some, Result, Ok, Err, refl, sym, ap, ◌∙◌, subst, append-nil, if◌then◌else◌}
+use Rattle.std.proofs.Common.{◌≡◌, inr, ℕ, ◌≤◌, true, false, List, [], ◌++◌, Option, Some, Result, Err, refl, sym, ap, ◌∙◌, subst, append-nil, if◌then◌else◌}
 use Rattle.std.specs.Prelude.{string_bytes}
 use Rattle.std.specs.List.{flat_map}
 use Rattle.line_buffer.specs.Line.{Line}
@@ -7,7 +7,7 @@ use Rattle.line_buffer.specs.declared.layout.Layout.{Layout}
 use Rattle.line_config.specs.declared.errors.ReadlineError.{ReadlineError}
 use Rattle.line_config.specs.declared.errors.ReadlineError.TheVariants.{Reader}
 use Rattle.line_config.specs.declared.memory.VecSink.{VecSink}
-use Rattle.line_editor.specs.LineScripts.{LineState, line_script, steps_along}
+use Rattle.line_editor.specs.LineScripts.{LineState, line_script}
 use Rattle.line_editor.specs.Redraws.{fresh}
 use Rattle.line_editor.specs.Running.{IsOpen, kept_first}
 use Rattle.line_editor.specs.Sights.{Sight, no_sight, sight_as}
@@ -17,16 +17,16 @@ use Rattle.line_keys.specs.Coming.{made_of}
 use Rattle.line_keys.specs.InputStates.{new_input}
 use Rattle.line_screen.specs.Calls.{Screen}
 use Rattle.line_screen.specs.Chain.{Shows, cursor_of, finish_of}
-use Rattle.line_screen.specs.Display.{Display, Placed}
+use Rattle.line_screen.specs.Display.{Placed}
 use Rattle.line_screen.specs.Laws.{widths}
 use Rattle.line_screen.proofs.LawLemmas.{shown_is_meant}
 use Rattle.keyline.specs.Events.{asks_events, bytes_drawn, end_events, line_course, played_in}
 use Rattle.keyline.specs.SessionLaws.{steps_in}
 use Rattle.keyline.specs.Sessions.{Given, SessionState, setting_in}
-use Rattle.keyline.specs.Shows.{DisplayHolds, IsAtRest, MomentShown, bytes_for, drawn_by, face, picture, place_in, view_in}
+use Rattle.keyline.specs.Shows.{DisplayHolds, LowAll, MomentShown, bytes_for, face, picture, place_in, view_in}
 use Rattle.keyline.proofs.ShowCourse.{flat_both}
-use Rattle.keyline_c.specs.Laws.{IsOpenAt, LastDrawingsShow, drawing_start, last_drawing, seen_in}
-use Rattle.keyline_c.specs.Lines.{LeftBy, line_at_end}
+use Rattle.keyline_c.specs.Laws.{IsOpenAt, LastDrawingsShow, drawing_start, layout_in, last_drawing, seen_in}
+use Rattle.keyline_c.specs.Lines.{line_at_end}
 use Rattle.keyline_c.specs.Statuses.{ended_as}
 use Rattle.keyline_c.specs.Steps.{open_place, open_text}
 use Rattle.keyline_c.specs.declared.line.Left.{Left}
@@ -82,30 +82,46 @@ shows_open s bytes over top l x v line it h seen value is =
 drawn_last : (drawn bytes last : List ℕ) → drawn ≡ bytes → last_drawing bytes ≡ Some last → last_drawing drawn ≡ Some last
 drawn_last drawn bytes last is h = ap last_drawing is ∙ h
 
+-- a line for which more keys are wanted shows its value, also by the bytes from its last drawing on
+pub record StandsAnew (n : ℕ) (g : Given) (x : SessionState) (low : 2 ≤ g.screen.columns) (high : g.screen.columns ≤ 1000) : Type 0 where
+  pub anew : Anew g.screen low high g.prompt (bytes_for g.screen (fresh g.screen.mode) (steps_in n g x)) (layout_in n g x) (seen_in n g x)
+  pub seen : Seen (played_in n g x).rest.value (seen_in n g x)
+
+pub stands_anew : (n : ℕ) (g : Given) (x : SessionState) (low : 2 ≤ g.screen.columns) (high : g.screen.columns ≤ 1000) → (played_in n g x).answer ≡ Err Reader → LowAll g.screen no_sight (steps_in n g x)
+    → StandsAnew n g x low high
+stands_anew n g x low high answer rows =
+    let s = g.screen in
+    let a : Setting = setting_in g x.history.kept.entries in
+    let indent = g.config.indent_size in
+    let k : LineState = kept_first a g.config x.ring x.query x.coming in
+    let p = played_in n g x in
+    let steps = steps_in n g x in
+    let lead = lines_lead n a g.custom indent (new_input g.config) x.ring g.config.modal_commands x.query x.coming in
+    let ends : in_phrase false p.asks ≡ true = line_ends a indent n g.custom k Reader answer tt in
+    let at : At s low high a indent (in_phrase false p.asks) ([] ++ bytes_for s (fresh s.mode) steps) (layout_in n g x) (seen_in n g x) _ =
+    walk s low high a indent p.answer p.asks k false [] (fresh s.mode) no_sight (record { either = inr (record { given = refl; prompt = refl }); anew = λ e. cc; seen = λ e. cc }) lead rows in
+    record { anew = at.anew ends; seen = subst (λ (j : LineState). Seen j.value (seen_in n g x)) (rest_by s low high a indent (line_script n g.custom) k) (at.seen ends) }
+
 module _ (held : VecSink → List ℕ) where
+  pub wants_keys : (n : ℕ) (g : Given) (x : SessionState) (left : Left) → IsOpenAt held n g x left → (played_in n g x).answer ≡ Err Reader
+  wants_keys n g x left w = sym w.reads.outcome_is ∙ failed_source string_bytes left.outcome w.more
+
+  pub stands_open : (n : ℕ) (g : Given) (x : SessionState) (left : Left) → IsOpenAt held n g x left → left.open_line ≡ Some (line_at_end n g x)
+  stands_open n g x left w = open_so left.outcome (line_at_end n g x) left.open_line w.more w.reads.line_is
+
   pub last_drawings_show : LastDrawingsShow held
   last_drawings_show n g x left before over top w rest =
       let s = g.screen in
       let low = rest.screen.least in
       let high = rest.screen.most in
-      let a : Setting = setting_in g x.history.kept.entries in
-      let indent = g.config.indent_size in
-      let k : LineState = kept_first a g.config x.ring x.query x.coming in
-      let p = played_in n g x in
-      let l = fresh s.mode in
-      let steps = steps_in n g x in
+      let l = layout_in n g x in
       let y : Sight = seen_in n g x in
-      let answer : p.answer ≡ Err Reader = sym w.reads.outcome_is ∙ failed_source string_bytes left.outcome w.more in
-      let lead = lines_lead n a g.custom indent (new_input g.config) x.ring g.config.modal_commands x.query x.coming in
-      let ends : in_phrase false p.asks ≡ true = line_ends a indent n g.custom k Reader answer tt in
-      let at : At s low high a indent (in_phrase false p.asks) ([] ++ bytes_for s l steps) (drawn_by s l steps).layout y _ =
-      walk s low high a indent p.answer p.asks k false [] l no_sight (record { either = inr (record { given = refl; prompt = refl }); anew = λ e. cc; seen = λ e. cc }) lead w.low in
-      let anew : Anew s low high a.prompt (bytes_for s l steps) (drawn_by s l steps).layout y = at.anew ends in
-      let seen = subst (λ (j : LineState). Seen j.value y) (rest_by s low high a indent (line_script n g.custom) k) (at.seen ends) in
-      let bytes = drawing_start ++ anew.later in
-      let drawn : held left.display ≡ bytes_for s l steps = w.reads.drawn ∙ line_bytes n g x answer in
-      let h : DisplayHolds s (before ++ bytes) over top (drawn_by s l steps).layout y = anew.holds before over top rest.good in (
+      let answer = wants_keys n g x left w in
+      let stands = stands_anew n g x low high answer w.low in
+      let a = stands.anew in
+      let bytes = drawing_start ++ a.later in
+      let steps = bytes_for s (fresh s.mode) (steps_in n g x) in (
         bytes,
-        drawn_last (held left.display) (bytes_for s l steps) bytes drawn (anew_last s low high a.prompt (bytes_for s l steps) (drawn_by s l steps).layout y anew),
-        shows_open s (before ++ bytes) over top (drawn_by s l steps).layout y p.rest.value (line_at_end n g x) left.open_line h seen refl (open_so left.outcome (line_at_end n g x) left.open_line w.more w.reads.line_is),
+        drawn_last (held left.display) steps bytes (w.reads.drawn ∙ line_bytes n g x answer) (anew_last s low high g.prompt steps l y a),
+        shows_open s (before ++ bytes) over top l y (played_in n g x).rest.value (line_at_end n g x) left.open_line (a.holds before over top rest.good) stands.seen refl (stands_open n g x left w),
       )

@@ -1,5 +1,5 @@
 -- A line for which more keys are wanted ends within a phrase, and shows its value there.
-use Rattle.std.proofs.Common.{◌≡◌, ◌⊎◌, inl, inr, ℕ, zero, suc, ◌≤◌, ◌==◌, Bool, true, false, List, [], ◌∷◌, ◌++◌, length, Option, None, Some, Result, Ok, Err, refl, sym, ap, ◌∙◌, subst, append_assoc, append-nil, true≢false, if◌then◌else◌}
+use Rattle.std.proofs.Common.{◌≡◌, inl, inr, ℕ, zero, suc, ◌≤◌, ◌==◌, Bool, true, false, List, [], ◌∷◌, ◌++◌, length, Option, None, Some, Result, Ok, Err, refl, sym, ap, ◌∙◌, subst, append_assoc, append-nil, true≢false, if◌then◌else◌}
 use Rattle.std.specs.Prelude.{⊤}
 use Rattle.std.specs.List.{flat_map}
 use Rattle.line_buffer.specs.declared.layout.Layout.{Layout}
@@ -10,7 +10,6 @@ use Rattle.line_config.specs.declared.errors.ReadlineError.TheVariants.{Eof, Int
 use Rattle.line_help.specs.declared.search.SearchDirection.{SearchDirection}
 use Rattle.line_help.specs.declared.search.SearchDirection.TheVariants.{Forward, Reverse}
 use Rattle.line_keys.specs.Answers.{Custom}
-use Rattle.line_keys.specs.Feeds.{InputItem}
 use Rattle.line_keys.specs.Phrases.{Answer, Steps, Needs, Shows, Reads, Becomes, Refuses, steps}
 use Rattle.line_keys.specs.Refreshing.{Ask}
 use Rattle.line_keys.specs.Refreshing.Ask.{Line, Message, Prompted, DoingInsert, DoneInserting}
@@ -19,14 +18,14 @@ use Rattle.line_keys.specs.declared.command.Cmd.{Cmd}
 use Rattle.line_keys.specs.declared.command.Cmd.TheVariants.{AcceptLine, AcceptOrInsertLine, EndOfFile, Interrupt}
 use Rattle.line_editor.specs.Accepting.{accepts}
 use Rattle.line_editor.specs.Asks.{ask_effect, shown_in}
-use Rattle.line_editor.specs.Commands.{Means, end_of_file, outcome}
+use Rattle.line_editor.specs.Commands.{Means, outcome}
 use Rattle.line_keys.specs.Modes.{is_emacs}
 use Rattle.line_editor.specs.Leads.{BeginShows, LeadsAlong}
-use Rattle.line_editor.specs.LineScripts.{Begins, Keys, Meets, Obeys, Makes, LineAsk, LineScript, LineState, answer_at, beginning, effect_at, keyed, left_at, line_plan, line_script, means_at, met_then, obeying, phrase_script, played_from, steps_along, turn_script, turned_on, turns_script}
+use Rattle.line_editor.specs.LineScripts.{Begins, Keys, Meets, Obeys, Makes, LineAsk, LineScript, LineState, answer_at, effect_at, keyed, left_at, line_plan, line_script, means_at, met_then, obeying, played_from, steps_along, turn_script, turned_on, turns_script}
 use Rattle.line_editor.specs.Meeting.{meeting, modal_seen, seen_by}
 use Rattle.line_editor.specs.Modal.{Modal}
 use Rattle.line_editor.specs.NextCommand.{line_phrase}
-use Rattle.line_editor.specs.Searching.{heading, search_prompt}
+use Rattle.line_editor.specs.Searching.{heading}
 use Rattle.line_editor.specs.Sights.{Sight, sight, sight_all, FitsAll}
 use Rattle.line_editor.specs.Steps.{one}
 use Rattle.line_editor.specs.Values.{EditStep, Setting, Value, helped, hint_reply}

@@ -33,7 +33,7 @@ use Rattle.line_keys.specs.ViTables.{insert_action, action_of}
 use Rattle.line_editor.specs.Asks.{shown_in}
 use Rattle.line_editor.specs.Commands.{in_vi_command, means_of}
 use Rattle.line_editor.specs.Drawing.{refreshed}
-use Rattle.line_editor.specs.LineScripts.{Begins, Keys, Obeys, LineState, LineAsk, beginning, kept, keyed, left_at, line_plan, met_then, phrase_script, played_from, turn_script}
+use Rattle.line_editor.specs.LineScripts.{Begins, Keys, LineState, LineAsk, beginning, kept, keyed, line_plan, met_then, phrase_script, played_from, turn_script}
 use Rattle.line_editor.specs.NextCommand.{reset_by, with_group_begun}
 use Rattle.line_editor.specs.Modal.{is_at_rest}
 use Rattle.line_editor.specs.Values.{Setting, Value, unchanged, then_do, at_line}

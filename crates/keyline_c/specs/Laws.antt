@@ -1,15 +1,17 @@
 -- Laws for a program that draws an open line anew, or types for its user: what the bytes from the
 -- last whole drawing on show, and where a pasted text goes.
-use Rattle.std.specs.Prelude.{◌≡◌, ℕ, suc, nat_eq, Bool, if◌then◌else◌, List, [], ◌∷◌, ◌++◌, length, true, Option, Some, None, Ok}
+use Rattle.std.specs.Prelude.{◌≡◌, ℕ, suc, nat_eq, Bool, if◌then◌else◌, List, [], ◌∷◌, ◌++◌, true, Option, Some, None, Ok}
 use Rattle.std.specs.List.{starts_with}
 use Rattle.std.specs.Option.{option_or}
 use Rattle.line_buffer.specs.Insertions.{put_at_cursor}
 use Rattle.line_buffer.specs.Line.{Line}
+use Rattle.line_buffer.specs.declared.layout.Layout.{Layout}
 use Rattle.line_config.specs.declared.device.Last.{Last}
 use Rattle.line_config.specs.declared.memory.VecSink.{VecSink}
 use Rattle.line_editor.specs.Commands.{in_vi_command, means_of}
-use Rattle.line_editor.specs.LineScripts.{LineState, made_from, played_from, turn_script}
+use Rattle.line_editor.specs.LineScripts.{LineState, played_from, turn_script}
 use Rattle.line_editor.specs.Modal.{is_at_rest}
+use Rattle.line_editor.specs.Redraws.{fresh}
 use Rattle.line_editor.specs.Sights.{Sight, no_sight, sight_all}
 use Rattle.line_editor.specs.Values.{Setting}
 use Rattle.line_editor.specs.Yanking.{behind_yank}
@@ -23,7 +25,7 @@ use Rattle.keyline.specs.Events.{line_course}
 use Rattle.keyline.specs.Pasting.{IsPasteable, IsUnbound, sent_as_paste}
 use Rattle.keyline.specs.SessionLaws.{steps_in}
 use Rattle.keyline.specs.Sessions.{Given, SessionState, coming_from}
-use Rattle.keyline.specs.Shows.{IsAtRest, LowAll, MomentShown, face}
+use Rattle.keyline.specs.Shows.{IsAtRest, IsScreen, LowAll, MomentShown, drawn_by, face}
 use Rattle.keyline_c.specs.Lines.{LeftBy, line_at_end}
 use Rattle.keyline_c.specs.Statuses.{ended_as}
 use Rattle.keyline_c.specs.Steps.{open_place, open_text}
@@ -50,6 +52,10 @@ last_drawing (byte ∷ bytes) = option_or (last_drawing bytes)
 -- what the steps of a line show: a prompt, the line with its cursor, and a hint or message
 abbrev pub seen_in : ℕ → Given → SessionState → Sight
 seen_in n g x = sight_all no_sight (steps_in n g x)
+
+-- what is kept of the drawing, from which the bytes for the next keys follow
+abbrev pub layout_in : ℕ → Given → SessionState → Layout
+layout_in n g x = (drawn_by g.screen (fresh g.screen.mode) (steps_in n g x)).layout
 
 module _ (held : VecSink → List ℕ) where
   -- more keys are wanted for a line, and everything shown is within the rows that can be counted
@@ -98,6 +104,15 @@ module _ (held : VecSink → List ℕ) where
       → IsOpenAt held n g x left → IsOpenAt held n g y other → ShowTheSame n g x y left other
       → IsAtRest (face g.screen before top over no_sight)
       → DrawnAnew g.screen before left d → DrawnAnew g.screen before other e → LookAlike d e
+
+  -- and the same is kept of both drawings, if each prompt is the session's own, or neither is. So
+  -- what follows on the one display may follow on the other
+  abbrev pub SameLinesGoOnAlike : Type 0
+  SameLinesGoOnAlike =
+      (n : ℕ) (g : Given) (x y : SessionState) (left other : Left)
+      → IsOpenAt held n g x left → IsOpenAt held n g y other → ShowTheSame n g x y left other
+      → (seen_in n g x).given ≡ (seen_in n g y).given → IsScreen g.screen
+      → layout_in n g x ≡ layout_in n g y
 
 -- ---- a paste
 

@@ -1,6 +1,6 @@
 //! Laws of the definitions. Each is the contract of a function that does nothing.
 
-ghost use Rattle.keyline_c.specs.Laws.{LastDrawingsShow, PastesGoIn, SameLinesLookAlike};
+ghost use Rattle.keyline_c.specs.Laws.{LastDrawingsShow, PastesGoIn, SameLinesGoOnAlike, SameLinesLookAlike};
 
 use keyline::{Sink, VecSink};
 
@@ -10,10 +10,11 @@ pub fn last_drawing()
     ensures { LastDrawingsShow ⟦<VecSink as Sink>⟧.held }
 {}
 
-/// Two key texts whose open lines show the same leave the same display if they are drawn anew. Their
-/// bytes may differ: what is typed comes after a whole drawing, and what is pasted is in one.
+/// Two key texts whose open lines show the same leave the same display if they are drawn anew.
+/// Their bytes may differ: what is typed comes after a whole drawing, what is pasted is in one.
 pub fn same_lines()
-    ensures { SameLinesLookAlike ⟦<VecSink as Sink>⟧.held }
+    ensures shown { SameLinesLookAlike ⟦<VecSink as Sink>⟧.held }
+    ensures next { SameLinesGoOnAlike ⟦<VecSink as Sink>⟧.held }
 {}
 
 /// A text that is pasted between two phrases goes to the cursor, in every mode, whatever the line

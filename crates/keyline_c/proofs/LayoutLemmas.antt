@@ -1,0 +1,118 @@
+-- What is kept of a drawing is known from what it shows.
+use Rattle.std.proofs.Common.{◌≡◌, ℕ, Bool, true, false, List, [], ◌∷◌, ◌++◌, take, Option, None, Some, is_some, refl, sym, ap, ◌∙◌, if◌then◌else◌}
+use Rattle.line_buffer.specs.Cells.{origin, same_cell}
+use Rattle.line_buffer.specs.Line.{Line}
+use Rattle.line_buffer.specs.declared.layout.Layout.{Layout}
+use Rattle.line_buffer.specs.declared.layout.Position.{Position}
+use Rattle.line_config.specs.declared.memory.VecSink.{VecSink}
+use Rattle.line_editor.specs.Calls.{Marks}
+use Rattle.line_editor.specs.Redraws.{fresh, full, moved_by_call, may_take, may_type, nothing_asked, taken_short, typed_short}
+use Rattle.line_editor.specs.Redraws.Redraw.{Drawn, Moved, Typed, Taken, Bared, ToEnd, Beeped, Cleared}
+use Rattle.line_editor.specs.Sights.{Sight}
+use Rattle.line_editor.specs.Steps.{one}
+use Rattle.line_editor.specs.Values.{EditStep}
+use Rattle.line_editor.specs.Values.EditStep.{Draws, Helped, Edits, TakesBack, Takes}
+use Rattle.line_screen.specs.Calls.{Screen, ruler_of}
+use Rattle.line_screen.specs.Chain.{finish_of}
+use Rattle.line_screen.specs.Laws.{widths}
+use Rattle.line_screen.specs.Measure.{measure_of}
+use Rattle.line_screen.proofs.LawLemmas.{start_is_empty}
+use Rattle.keyline.specs.SessionLaws.{steps_in}
+use Rattle.keyline.specs.Shows.{DisplayHolds, drawn_by, picture, place_in}
+use Rattle.keyline_c.specs.Laws.{SameLinesGoOnAlike, drawing_start, layout_in, seen_in}
+use Rattle.keyline_c.specs.Lines.{line_at_end}
+use Rattle.keyline_c.specs.Steps.{open_place, open_text}
+use Rattle.keyline_c.proofs.LastLemmas.{StandsAnew, stands_anew, stands_open, wants_keys}
+
+-- ---- how clusters are counted stays
+
+module _ (s : Screen) where
+  abbrev Counts : Layout → Type 0
+  Counts l = l.grapheme_cluster_mode ≡ s.mode
+
+  moved_counts : (l : Layout) (to : Position) (b : Bool) → Counts l → Counts (if b then nothing_asked l else moved_by_call l to).layout
+  moved_counts l to true h = h
+  moved_counts l to false h = h
+
+  typed_counts : (l : Layout) (m : Option Marks) (c : ℕ) (prompt text : List ℕ) (at : ℕ) (b : Bool) → Counts l → Counts (if b then typed_short l c else full (ruler_of s) m l prompt true text at None).layout
+  typed_counts l m c prompt text at true h = h
+  typed_counts l m c prompt text at false h = refl
+
+  taken_counts : (l : Layout) (m : Option Marks) (count : ℕ) (prompt text : List ℕ) (at : ℕ) (b : Bool) → Counts l → Counts (if b then taken_short l count else full (ruler_of s) m l prompt true text at None).layout
+  taken_counts l m count prompt text at true h = h
+  taken_counts l m count prompt text at false h = refl
+
+  bared_counts : (l : Layout) (m : Option Marks) (prompt text : List ℕ) (at : ℕ) (b : Bool) → Counts l → Counts (if b then nothing_asked l else full (ruler_of s) m l prompt true text at None).layout
+  bared_counts l m prompt text at true h = h
+  bared_counts l m prompt text at false h = refl
+
+  step_counts : (r : EditStep) (l : Layout) → Counts l → Counts (one (ruler_of s) l r).layout
+  step_counts (Draws v m (Drawn prompt given text at info)) l h = refl
+  step_counts (Draws v m (Moved text at)) l h = (let to = (ruler_of s).measure (take at text) l.prompt_size in moved_counts l to (same_cell l.cursor to) h)
+  step_counts (Draws v m (Typed prompt c text at)) l h = typed_counts l m c prompt text at (may_type (ruler_of s) l) h
+  step_counts (Draws v m (Taken prompt count text at)) l h = taken_counts l m count prompt text at (may_take l count) h
+  step_counts (Draws v m (Bared prompt text at)) l h = bared_counts l m prompt text at l.default_prompt h
+  step_counts (Draws v m ToEnd) l h = moved_counts l l.end (same_cell l.cursor l.end) h
+  step_counts (Draws v m Beeped) l h = h
+  step_counts (Draws v m Cleared) l h = h
+  step_counts (Helped v fails takes) l h = h
+  step_counts (Edits v edit) l h = h
+  step_counts (TakesBack v count) l h = h
+  step_counts (Takes v) l h = h
+
+  all_count : (rs : List EditStep) (l : Layout) → Counts l → Counts (drawn_by s l rs).layout
+  all_count [] l h = h
+  all_count (r ∷ rs) l h = all_count rs (one (ruler_of s) l r).layout (step_counts r l h)
+
+-- ---- the other fields
+
+layout_by : (l m : Layout) → l.grapheme_cluster_mode ≡ m.grapheme_cluster_mode → l.prompt_size ≡ m.prompt_size → l.default_prompt ≡ m.default_prompt → l.cursor ≡ m.cursor → l.end ≡ m.end → l.has_info ≡ m.has_info → l ≡ m
+layout_by l m mode size given cursor end info =
+    ap (λ p. let q : Layout = record l { grapheme_cluster_mode = p } in q) mode
+    ∙ ap (λ p. let q : Layout = record l { grapheme_cluster_mode = m.grapheme_cluster_mode; prompt_size = p } in q) size
+    ∙ ap (λ p. let q : Layout = record l { grapheme_cluster_mode = m.grapheme_cluster_mode; prompt_size = m.prompt_size; default_prompt = p } in q) given
+    ∙ ap (λ p. let q : Layout = record l { grapheme_cluster_mode = m.grapheme_cluster_mode; prompt_size = m.prompt_size; default_prompt = m.default_prompt; cursor = p } in q) cursor
+    ∙ ap (λ p. let q : Layout = record l { grapheme_cluster_mode = m.grapheme_cluster_mode; prompt_size = m.prompt_size; default_prompt = m.default_prompt; cursor = m.cursor; end = p } in q) end
+    ∙ ap (λ p. let q : Layout = record m { has_info = p } in q) info
+
+same_layout : (s : Screen) (bytes again : List ℕ) (l m : Layout) (x y : Sight) → DisplayHolds s bytes [] 0 l x → DisplayHolds s again [] 0 m y → x ≡ y → l.grapheme_cluster_mode ≡ s.mode → m.grapheme_cluster_mode ≡ s.mode → l ≡ m
+same_layout s bytes again l m x y h k is one two =
+    layout_by l m (one ∙ sym two)
+    (h.prompt_size ∙ ap (λ (z : Sight). measure_of s.mode s.columns z.prompt origin) is ∙ sym k.prompt_size)
+    (h.given_is ∙ ap (λ (z : Sight). z.given) is ∙ sym k.given_is)
+    (h.cursor ∙ ap (place_in s) is ∙ sym k.cursor)
+    (h.finish ∙ ap (λ z. finish_of s.columns (widths s) (picture z)) is ∙ sym k.finish)
+    (h.info_is ∙ ap (λ (z : Sight). is_some z.info) is ∙ sym k.info_is)
+
+sight_by : (x y : Sight) → x.prompt ≡ y.prompt → x.line ≡ y.line → x.place ≡ y.place → x.info ≡ y.info → x.given ≡ y.given → x.ended ≡ y.ended → x ≡ y
+sight_by x y prompt line place info given ended =
+    ap (λ p. let q : Sight = record x { prompt = p } in q) prompt
+    ∙ ap (λ p. let q : Sight = record x { prompt = y.prompt; line = p } in q) line
+    ∙ ap (λ p. let q : Sight = record x { prompt = y.prompt; line = y.line; place = p } in q) place
+    ∙ ap (λ p. let q : Sight = record x { prompt = y.prompt; line = y.line; place = y.place; info = p } in q) info
+    ∙ ap (λ p. let q : Sight = record x { prompt = y.prompt; line = y.line; place = y.place; info = y.info; given = p } in q) given
+    ∙ ap (λ p. let q : Sight = record y { ended = p } in q) ended
+
+-- the open line's text and place are those of the value
+text_of : (it : Option Line) (line : Line) → it ≡ Some line → open_text it ≡ line.text
+text_of it line is = ap open_text is
+
+place_of : (it : Option Line) (line : Line) → it ≡ Some line → open_place it ≡ line.place
+place_of it line is = ap open_place is
+
+module _ (held : VecSink → List ℕ) where
+  pub same_lines_go_on_alike : SameLinesGoOnAlike held
+  same_lines_go_on_alike n g x y left other w v same given screen =
+      let s = g.screen in
+      let low = screen.least in
+      let high = screen.most in
+      let one : StandsAnew n g x low high = stands_anew n g x low high (wants_keys held n g x left w) w.low in
+      let two : StandsAnew n g y low high = stands_anew n g y low high (wants_keys held n g y other v) v.low in
+      let a = one.anew in
+      let b = two.anew in
+      let text = one.seen.line ∙ sym (text_of left.open_line (line_at_end n g x) (stands_open held n g x left w)) ∙ same.text ∙ text_of other.open_line (line_at_end n g y) (stands_open held n g y other v) ∙ sym two.seen.line in
+      let place = one.seen.place ∙ sym (place_of left.open_line (line_at_end n g x) (stands_open held n g x left w)) ∙ same.place ∙ place_of other.open_line (line_at_end n g y) (stands_open held n g y other v) ∙ sym two.seen.place in
+      same_layout s ([] ++ (drawing_start ++ a.later)) ([] ++ (drawing_start ++ b.later)) (layout_in n g x) (layout_in n g y) (seen_in n g x) (seen_in n g y)
+      (a.holds [] [] 0 (start_is_empty s low high)) (b.holds [] [] 0 (start_is_empty s low high))
+      (sight_by (seen_in n g x) (seen_in n g y) same.prompt text place same.info given (one.seen.rests ∙ sym two.seen.rests))
+      (all_count s (steps_in n g x) (fresh s.mode) refl) (all_count s (steps_in n g y) (fresh s.mode) refl)
