@@ -218,6 +218,12 @@ static void rooms(void)
     drop(&c);
 }
 
+static bool is_same_step(const struct keyline_step *a, const struct keyline_step *b)
+{
+    return a->status == b->status && a->display == b->display && a->sent == b->sent && a->line == b->line && a->keys == b->keys &&
+           a->history == b->history && a->kills == b->kills && a->slots == b->slots && a->place == b->place && a->cursor == b->cursor;
+}
+
 /* Of a text that isn't wanted the length is told, and the other buffers are written. */
 static void unwanted(void)
 {
@@ -230,7 +236,7 @@ static void unwanted(void)
         if (which < 4) spaces[which]->bytes = NULL;
         else c.room.ends = NULL;
         fill(&room);
-        hold(made(&c) == KEYLINE_LINE && memcmp(&c.step, &all.step, sizeof c.step) == 0, "a buffer that isn't there, and all lengths");
+        hold(made(&c) == KEYLINE_LINE && is_same_step(&c.step, &all.step), "a buffer that isn't there, and all lengths");
         hold((which == 1) == is_filled(room.line.bytes, room.line.size) && (which == 3) == is_filled(room.kills.bytes, room.kills.size),
              "only its text isn't written");
         c.room = room;
@@ -272,6 +278,43 @@ static void open_lines(void)
     is_open("h\u00e9\u6f22\x1b[D", "h\u00e9\u6f22", 3);
     is_open("\x1b[200~a\rb\x1b[201~\x1b[D", "a\nb", 2);
     is_open("ab\x17", "", 0);
+}
+
+/* The call's status for these keys, if Tab, Ctrl-X Ctrl-E, Alt-. and something that is no key are asked for. */
+static struct keyline_step asked(const char *keys, uint8_t mode)
+{
+    static const char asks[] = "\t\0\x18\x05\0\033.\0\033[";
+    struct call c = call(keys);
+    struct keyline_step step;
+    c.options.mode = mode;
+    c.given.words = text("above\n");
+    c.given.asks = (struct keyline_text){(const uint8_t *)asks, sizeof asks - 1};
+    made(&c);
+    hold(c.step.status != KEYLINE_ASKED || memcmp(c.room.line.bytes, "ab", 2) == 0, "the line before a key that is asked for");
+    step = c.step;
+    drop(&c);
+    return step;
+}
+
+static void is_asked(const char *keys, uint8_t mode, size_t count, size_t cursor)
+{
+    struct keyline_step step = asked(keys, mode);
+    hold(step.status == KEYLINE_ASKED && step.keys == count && step.line == 2 && step.cursor == cursor && step.history == 0, "a key that is asked for");
+}
+
+static void own_keys(void)
+{
+    is_asked("ab\t", KEYLINE_EMACS, 3, 2);
+    is_asked("ab\tcd\r", KEYLINE_EMACS, 3, 2);
+    is_asked("ab\x1b[D\t\t", KEYLINE_EMACS, 6, 1);
+    is_asked("ab\x18\x05", KEYLINE_EMACS, 4, 2);
+    is_asked("ab\x1b.", KEYLINE_EMACS, 4, 2);
+    is_asked("ab\t", KEYLINE_VI, 3, 2);
+    hold(asked("ab\x18", KEYLINE_EMACS).status == KEYLINE_MORE, "half of the keys that are asked for");
+    hold(asked("ab\x05\x12\x1b", KEYLINE_EMACS).status == KEYLINE_MORE, "keys that aren't asked for");
+    hold(asked("\x1b[200~a\tb\x1b[201~", KEYLINE_EMACS).status == KEYLINE_MORE, "a pasted key");
+    hold(asked("ab\r\t", KEYLINE_EMACS).status == KEYLINE_LINE, "a key after the line");
+    STATUS("own keys without a pointer", "", c.given.asks = ((struct keyline_text){NULL, 1}), KEYLINE_ARGUMENT);
 }
 
 /* Incremental search, if it is turned on. */
@@ -347,6 +390,7 @@ int main(void)
     rooms();
     unwanted();
     open_lines();
+    own_keys();
     modal();
     lines();
     printf("%d passed, %d failed\n", passed, failed);

@@ -1,7 +1,7 @@
 #!/usr/bin/env python3
 """Lines for programs in C: `libkeyline_c.a`, with crates/keyline_c/c/keyline.h, under tests/c_calls.c, and the console of
 crates/keyline_c/c/console.c over c/line.c. It runs on pipes, compared with the program `keyline` for the same keys, on a
-terminal with signals, on tmux in windows of several widths, and under valgrind.
+terminal with signals, on tmux in windows of several widths, and under valgrind. So does the second example, c/complete.c.
 
 `rt ci` proves the crate and leaves its libraries. The archive is built from these here, since `rt lib` would prove them all
 again. `--archive` only builds it, and `--built` uses it as it is.
@@ -29,6 +29,7 @@ from wrong_bodies import below, crates_of
 CRATE = os.path.join(TOP, "crates", "keyline_c")
 ARCHIVE = os.path.join(CRATE, "out", "libkeyline_c.a")
 CONSOLE = os.path.join(TOP, "build", "console")
+COMPLETE = os.path.join(TOP, "build", "complete")
 CALLS = os.path.join(TOP, "build", "c_calls")
 KIT = os.path.dirname(os.path.dirname(os.path.realpath(shutil.which("rt") or "/")))
 REFUSED = b"console: out of memory\n"
@@ -73,12 +74,13 @@ def build_archive():
 
 
 def made():
-    """The two programs, linked with the archive."""
+    """The programs, linked with the archive."""
     if "--built" not in sys.argv:
         build_archive()
     os.makedirs(os.path.dirname(CONSOLE), exist_ok=True)
     console = [os.path.join(CRATE, "c", name) for name in ("console.c", "line.c")]
-    for program, sources in ((CONSOLE, console), (CALLS, [os.path.join(TOP, "tests", "c_calls.c")])):
+    complete = [os.path.join(CRATE, "c", "complete.c")]
+    for program, sources in ((CONSOLE, console), (COMPLETE, complete), (CALLS, [os.path.join(TOP, "tests", "c_calls.c")])):
         words = ["gcc", "-std=c11", "-Wall", "-Wextra", "-Wpedantic", "-Werror", "-O2", "-g", "-o", program]
         subprocess.run([*words, *sources, ARCHIVE, os.path.join(KIT, "c", "liblibc_c.a")], check=True)
 
@@ -127,7 +129,7 @@ def calls():
 
 
 def under_valgrind():
-    for words, keys in (([CALLS], b""), ([CONSOLE], EMACS[3] + EMACS[4] + EMACS[6]), ([CONSOLE, "vi"], b"".join(VI))):
+    for words, keys in (([CALLS], b""), ([CONSOLE], EMACS[3] + EMACS[4] + EMACS[6]), ([CONSOLE, "vi"], b"".join(VI)), ([COMPLETE], b"cl\t\r\x04")):
         done = run([*VALGRIND, *words], keys)
         if done.returncode:
             raise Failed(f"valgrind at {words}: {done.returncode}, {done.stderr[-3000:].decode(errors='replace')}")
@@ -254,14 +256,14 @@ def stopped_and_continued():
 
 
 @contextlib.contextmanager
-def on_tmux(columns, redirected=""):
-    """The console in a window with so many columns, its folder, and after it the terminal's settings compared."""
+def on_tmux(columns, redirected="", program=CONSOLE, prompt="c>"):
+    """A program in a window with so many columns, its folder, and after it the terminal's settings compared."""
     with tempfile.TemporaryDirectory() as folder:
-        run_it = f"stty -g >before; {shlex.quote(CONSOLE)} {redirected}; echo status $?; stty -g >after"
+        run_it = f"stty -g >before; {shlex.quote(program)} {redirected}; echo status $?; stty -g >after"
         pane = Terminal(folder, columns, f"cd {shlex.quote(folder)}; {run_it}; exec sleep {HUNG}")
         try:
             until_taken(pane)
-            expect(pane, "before the first key", (["c>"], (0, 3)))
+            expect(pane, "before the first key", ([prompt], (0, len(prompt) + 1)))
             yield pane, pathlib.Path(folder)
             before, after = (pathlib.Path(folder, name) for name in ("before", "after"))
             wait_for("its end", lambda: after.exists() and after.read_text(encoding="utf-8").endswith("\n"))
@@ -294,6 +296,30 @@ def lines_on_tmux():
         expect(pane, "the line before", (["c> abcd"], (0, 7)))
         type_keys(pane, "Down", "Enter", "C-d")
         expect(pane, "the end", (["c> y", "got: y", "c>", "status 0"], (4, 0)))
+
+
+def words_on_pipes():
+    """Tab completes a word in the line's end and in its middle, and Alt-? changes no line."""
+    keys = b"cl\to\t\r" + b"x q\t\r" + b"op now" + LEFT * 4 + b"\t\r" + b"he\x1b?\t\r" + b"zz\t\r" + b"ab\x03quit\r\x04"
+    done = run([COMPLETE], keys)
+    same("the lines", done.stdout, b"got: close\ngot: x quit\ngot: open now\ngot: help\ngot: zz\ngot: quit\n")
+    same("the status", done.returncode, 0)
+    ends_with(run([COMPLETE], b"ab\xff"), b"\ncomplete: the keys are not UTF-8\n")
+
+
+def words_on_tmux():
+    """The candidates stand below the line, and a new width draws the line anew on an empty screen."""
+    with on_tmux(40, program=COMPLETE, prompt=">") as (pane, _):
+        type_keys(pane, "c", "l", "Tab")
+        expect(pane, "candidates", (["> cl", "clear  close", "> cl"], (2, 4)))
+        type_keys(pane, "o", "Tab", "Left")
+        expect(pane, "a word", (["> cl", "clear  close", "> close"], (2, 6)))
+        pane.ask("resize-window", "-x", "20")
+        expect(pane, "another width", (["> close"], (0, 6)))
+        type_bytes(pane, b"x" * 14)
+        expect(pane, "a line of two rows", (["> closxxxxxxxxxxxxxx", "e"], (1, 0)))
+        type_keys(pane, "Enter", "C-d")
+        expect(pane, "the end", (["> closxxxxxxxxxxxxxx", "e", "got: closxxxxxxxxxxx", "xxxe", ">", "status 0"], (6, 0)))
 
 
 def windows():
@@ -346,6 +372,8 @@ def main():
         a_window_that_is_closed,
         stopped_and_continued,
         lines_on_tmux,
+        words_on_pipes,
+        words_on_tmux,
         windows,
         a_long_paste_is_one_text,
         under_valgrind,

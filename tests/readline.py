@@ -124,7 +124,7 @@ def what_is_installed():
     same("names without a declaration", listed, set())
     page = pathlib.Path(PREFIX, "share/man/man3/keyline-readline.3").read_text(encoding="utf-8")
     same("names that the man page lacks", names_of(LIBRARY) - set(re.findall(r"\w+", page)), set())
-    names = names_of(os.path.join(PREFIX, "lib", "libkeyline.so.0"))
+    names = names_of(os.path.join(PREFIX, "lib", "libkeyline.so.1"))
     same("other names of libkeyline", {it for it in names if not it.startswith(("keyline_", "line_"))}, set())
     same("files", all(os.path.isfile(os.path.join(PREFIX, it)) for it in (
         "lib/keyline/libkeyline-readline.so", "lib/pkgconfig/keyline-readline.pc", "lib/pkgconfig/keyline.pc", "lib/libkeyline.so",

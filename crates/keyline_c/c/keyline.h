@@ -5,6 +5,9 @@
  * until the line ends. The bytes sent for fewer keys are a prefix of those sent for more. Meanwhile `line` and `cursor` tell
  * the line as it stands.
  *
+ * A key of `asks` ends the call by KEYLINE_ASKED. The line goes on: the program leaves that key out of the line's keys, or
+ * puts others in its place, and calls again.
+ *
  * A call may begin the drawing anew: `sent` is 0 again, and `columns` may differ. From the last "\r\x1b[J" on, the display
  * bytes draw the line whole.
  *
@@ -39,7 +42,8 @@ enum keyline_status {
     KEYLINE_PASTE_OUT_OF_PLACE, /* text was pasted where no command expects it */
     KEYLINE_ARGUMENT,           /* invalid argument; no effect */
     KEYLINE_ROOM,               /* a buffer is too small: none was written, and the step has all lengths. Retry the call with larger ones */
-    KEYLINE_MEMORY              /* out of memory, though each argument is valid; the call can be retried */
+    KEYLINE_MEMORY,             /* out of memory, though each argument is valid; the call can be retried */
+    KEYLINE_ASKED               /* a key of `asks` came: it ends the first `keys` key bytes, and nothing was made of it */
 };
 
 enum keyline_mode { KEYLINE_EMACS, KEYLINE_VI };
@@ -64,11 +68,12 @@ struct keyline_text {
     size_t length;
 };
 
-/* The input of a call. All texts are UTF-8; the keys may be any bytes. */
+/* The input of a call. All texts are UTF-8; `keys` and `asks` may be any bytes. */
 struct keyline_given {
     struct keyline_text keys;    /* typed since the line began */
     struct keyline_text prompt;
     struct keyline_text words;   /* the words that Tab completes, one per row */
+    struct keyline_text asks;    /* the program's own keys, each as it is sent, with a zero after it: "\t\0\033?" */
     struct keyline_text history; /* the history's text */
     struct keyline_text kills;   /* the kill ring's texts, one after the other */
     const size_t *ends;          /* the offset at which each of them ends */
@@ -99,21 +104,22 @@ struct keyline_step {
     uint8_t status;  /* a keyline_status */
     size_t display;  /* length of the new display bytes, to be sent now */
     size_t sent;     /* display bytes of this line so far: `sent` of the next call */
-    size_t line;     /* length of the line; at KEYLINE_MORE, of the line as it stands */
-    size_t keys;     /* number of key bytes that belong to the line */
+    size_t line;     /* length of the line; at KEYLINE_MORE and KEYLINE_ASKED, of the line as it stands */
+    size_t keys;     /* number of key bytes that belong to the line; at KEYLINE_ASKED, up to the key and with it */
     size_t history;  /* length of the history's text; 0 if it hasn't changed */
     size_t kills;    /* length of the kill ring's texts */
     size_t slots;    /* their number */
     size_t place;    /* `place` of the next line */
-    size_t cursor;   /* at KEYLINE_MORE, number of bytes of the line before the cursor */
+    size_t cursor;   /* at KEYLINE_MORE and KEYLINE_ASKED, number of bytes of the line before the cursor */
 };
 
 /* Called by keyline_line once no pointer is null. */
 void keyline_line_checked(const struct keyline_options *options, const uint8_t *keys, size_t keys_length,
                           const uint8_t *prompt, size_t prompt_length, const uint8_t *words, size_t words_length,
-                          const uint8_t *history, size_t history_length, const uint8_t *kills, size_t kills_length,
-                          const size_t *ends, size_t slots, const struct keyline_wants *wants, uint8_t *display_room,
-                          size_t display_size, uint8_t *line_room, size_t line_size, uint8_t *history_room, size_t history_size,
+                          const uint8_t *asks, size_t asks_length, const uint8_t *history, size_t history_length,
+                          const uint8_t *kills, size_t kills_length, const size_t *ends, size_t slots,
+                          const struct keyline_wants *wants, uint8_t *display_room, size_t display_size,
+                          uint8_t *line_room, size_t line_size, uint8_t *history_room, size_t history_size,
                           uint8_t *kills_room, size_t kills_size, size_t *ends_room, size_t ends_size,
                           struct keyline_step *step);
 
@@ -144,6 +150,7 @@ static inline const char *keyline_status_text(uint8_t status) {
     case KEYLINE_ARGUMENT: return "invalid argument";
     case KEYLINE_ROOM: return "a buffer is too small";
     case KEYLINE_MEMORY: return "out of memory";
+    case KEYLINE_ASKED: return "a key of the program's own";
     default: return "no status";
     }
 }
@@ -166,13 +173,14 @@ static inline void keyline_line(const struct keyline_options *options, const str
     wants.ends = r.ends != NULL;
     if (r.ends == NULL) r.ends = &no_ends;
     if (!keyline_is_text(&g.keys) || !keyline_is_text(&g.prompt) || !keyline_is_text(&g.words) ||
-        !keyline_is_text(&g.history) || !keyline_is_text(&g.kills) || g.ends == NULL || g.slots > KEYLINE_SLOTS ||
+        !keyline_is_text(&g.asks) || !keyline_is_text(&g.history) || !keyline_is_text(&g.kills) || g.ends == NULL ||
+        g.slots > KEYLINE_SLOTS ||
         !keyline_is_space(&r.display, &wants.display) || !keyline_is_space(&r.line, &wants.line) ||
         !keyline_is_space(&r.history, &wants.history) || !keyline_is_space(&r.kills, &wants.kills))
         return;
     keyline_line_checked(options, g.keys.bytes, g.keys.length, g.prompt.bytes, g.prompt.length, g.words.bytes,
-                         g.words.length, g.history.bytes, g.history.length, g.kills.bytes, g.kills.length, g.ends,
-                         g.slots, &wants, r.display.bytes, r.display.size, r.line.bytes, r.line.size, r.history.bytes,
+                         g.words.length, g.asks.bytes, g.asks.length, g.history.bytes, g.history.length,
+                         g.kills.bytes, g.kills.length, g.ends, g.slots, &wants, r.display.bytes, r.display.size, r.line.bytes, r.line.size, r.history.bytes,
                          r.history.size, r.kills.bytes, r.kills.size, r.ends, wants.ends ? KEYLINE_SLOTS : 0, step);
 }
 

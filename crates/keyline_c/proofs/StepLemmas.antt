@@ -1,18 +1,18 @@
 -- What is told and given of a line.
-use Rattle.std.proofs.Common.{◌≡◌, ◌≢◌, ◌∙◌, ℕ, List, [], drop, refl, sym, ap, subst}
+use Rattle.std.proofs.Common.{◌≡◌, ◌≢◌, ◌∙◌, true, false, true≢false, ℕ, List, [], drop, refl, sym, ap, subst}
 use Rattle.std.specs.Prelude.{Result, Ok, Err, IsErrAnd}
 use Rattle.line_config.specs.declared.memory.VecSink.{VecSink}
 use Rattle.line_help.specs.HistoryText.{text_to_save}
 use Rattle.keyline_c.specs.Rooms.{RoomTexts, GivesTexts, room_texts, wanted_of, with_lengths}
 use Rattle.keyline_c.specs.Slots.{AreSlots}
-use Rattle.keyline_c.specs.Statuses.{ended_as}
+use Rattle.keyline_c.specs.Statuses.{ended_as, is_open}
 use Rattle.keyline_c.specs.Steps.{Gives, GivesBy, GivesEnd, GivesOpen, TakesMemory, accepted_text, open_text, texts_left, texts_open, with_end, with_open}
 use Rattle.keyline_c.specs.declared.export.KeylineStep.{KeylineStep}
 use Rattle.keyline_c.specs.declared.export.KeylineWants.{KeylineWants}
 use Rattle.keyline_c.specs.declared.line.Left.{Left}
 use Rattle.keyline_c.specs.declared.ring.Slots.{Slots}
 use Rattle.keyline_c.specs.declared.status.Status.{Status}
-use Rattle.keyline_c.specs.declared.status.Status.TheVariants.{More, Argument, Room, Memory}
+use Rattle.keyline_c.specs.declared.status.Status.TheVariants.{More, Argument, Room, Memory, Asked}
 
 -- ---- the end of a line
 
@@ -56,9 +56,10 @@ module _ (held : VecSink → List ℕ) (sent keys : ℕ) (wants : KeylineWants) 
 -- ---- by how it ended
 
 module _ (held : VecSink → List ℕ) (sent keys : ℕ) (wants : KeylineWants) (left : Left) (old new : RoomTexts) (step step' : KeylineStep) where
-  ended : (status : Status) (result : Result Status Status) → status ≢ Memory → status ≢ More → GivesEnd held sent keys wants left old new step step' result → GivesBy held sent keys wants left old new step step' status result
+  ended : (status : Status) (result : Result Status Status) → status ≢ Memory → is_open status ≡ false → GivesEnd held sent keys wants left old new step step' result → GivesBy held sent keys wants left old new step step' status result
   ended Memory result some other h = absurd (some refl)
-  ended More result some other h = absurd (other refl)
+  ended More result some other h = absurd (true≢false other)
+  ended Asked result some other h = absurd (true≢false other)
   ended _ result some other h = h
 
   again : (A : Type 0) (e : Status) → GivesEnd held sent keys wants left old new step step' {A = A} (Err e) → GivesEnd held sent keys wants left old new step step' {A = Status} (Err e)
@@ -67,34 +68,36 @@ module _ (held : VecSink → List ℕ) (sent keys : ℕ) (wants : KeylineWants) 
   again A Room h = record { slots = h.slots; are_slots = h.are_slots; step_is = h.step_is; texts = h.texts }
   again A _ h = absurd h.texts
 
-  pub end_so : (A : Type 0) (done : A) (status : Status) → status ≡ ended_as left.outcome → status ≢ Memory → status ≢ More → GivesEnd held sent keys wants left old new step step' (Ok done)
+  pub end_so : (A : Type 0) (done : A) (status : Status) → status ≡ ended_as left.outcome → status ≢ Memory → is_open status ≡ false → GivesEnd held sent keys wants left old new step step' (Ok done)
       → Gives held sent keys wants left old new step step' (Ok status)
   end_so A done status is some other h =
       let end : GivesEnd held sent keys wants left old new step step' (Ok status) = record { slots = h.slots; are_slots = h.are_slots; step_is = h.step_is; texts = h.texts } in
       (is, subst (λ s. GivesBy held sent keys wants left old new step step' s (Ok status)) is (ended status (Ok status) some other end))
 
-  pub end_not_so : (A : Type 0) (status e : Status) (result : Result Status Status) → status ≡ ended_as left.outcome → status ≢ Memory → status ≢ More → GivesEnd held sent keys wants left old new step step' {A = A} (Err e)
+  pub end_not_so : (A : Type 0) (status e : Status) (result : Result Status Status) → status ≡ ended_as left.outcome → status ≢ Memory → is_open status ≡ false → GivesEnd held sent keys wants left old new step step' {A = A} (Err e)
       → IsErrAnd result (λ x. x ≡ e) → Gives held sent keys wants left old new step step' result
   end_not_so A status e (Ok x) is some other h refused = absurd refused
   end_not_so A status e (Err x) is some other h refused =
       subst (λ y. Gives held sent keys wants left old new step step' (Err y)) (sym refused)
       (tt, subst (λ s. GivesBy held sent keys wants left old new step step' s (Err e)) is (ended status (Err e) some other (again A e h)))
 
-  open_by : (status : Status) (result : Result Status Status) → status ≡ More → GivesOpen held sent keys wants left old new step step' result → GivesBy held sent keys wants left old new step step' status result
-  open_by status result more h = subst (λ s. GivesBy held sent keys wants left old new step step' s result) (sym more) h
+  open_by : (status : Status) (result : Result Status Status) → is_open status ≡ true → GivesOpen held sent keys wants left old new step step' result → GivesBy held sent keys wants left old new step step' status result
+  open_by More result more h = h
+  open_by Asked result more h = h
+  open_by _ result more h = absurd (true≢false (sym more))
 
   open_again : (A : Type 0) (e : Status) → GivesOpen held sent keys wants left old new step step' {A = A} (Err e) → GivesOpen held sent keys wants left old new step step' {A = Status} (Err e)
   open_again A Argument h = h
   open_again A Room h = record { step_is = h.step_is; texts = h.texts }
   open_again A _ h = absurd h.texts
 
-  pub open_so : (A : Type 0) (done : A) (status : Status) → status ≡ ended_as left.outcome → status ≡ More → GivesOpen held sent keys wants left old new step step' (Ok done)
+  pub open_so : (A : Type 0) (done : A) (status : Status) → status ≡ ended_as left.outcome → is_open status ≡ true → GivesOpen held sent keys wants left old new step step' (Ok done)
       → Gives held sent keys wants left old new step step' (Ok status)
   open_so A done status is more h =
       let so : GivesOpen held sent keys wants left old new step step' (Ok status) = record { step_is = h.step_is; texts = h.texts } in
       (is, subst (λ s. GivesBy held sent keys wants left old new step step' s (Ok status)) is (open_by status (Ok status) more so))
 
-  pub open_not_so : (A : Type 0) (status e : Status) (result : Result Status Status) → status ≡ ended_as left.outcome → status ≡ More → GivesOpen held sent keys wants left old new step step' {A = A} (Err e)
+  pub open_not_so : (A : Type 0) (status e : Status) (result : Result Status Status) → status ≡ ended_as left.outcome → is_open status ≡ true → GivesOpen held sent keys wants left old new step step' {A = A} (Err e)
       → IsErrAnd result (λ x. x ≡ e) → Gives held sent keys wants left old new step step' result
   open_not_so A status e (Ok x) is more h refused = absurd refused
   open_not_so A status e (Err x) is more h refused =

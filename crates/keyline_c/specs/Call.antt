@@ -31,12 +31,12 @@ status_in (Ok status) = status
 status_in (Err status) = status
 
 module _ (held : VecSink → List ℕ) (options : KeylineOptions)
-    (keys prompt words history kills ends : List ℕ) (wants : KeylineWants) (old new : RoomTexts)
+    (keys prompt words asks history kills ends : List ℕ) (wants : KeylineWants) (old new : RoomTexts)
   where
     -- the line of these keys was read, and its texts are returned
     pub record GivesLine (step step' : KeylineStep) (result : Result Status Status) : Type 0 where
       pub left : Left
-      pub reads : ReadsKeys options prompt words history kills ends held keys left
+      pub reads : ReadsKeys options prompt words history kills ends held keys asks left
       pub gives : Gives held options.sent (length keys) wants left old new step step' result
 
     -- or it wasn't, because an argument is invalid or memory ran out, and nothing is done

@@ -1,3 +1,4 @@
+pub mod Asks
 pub mod Call
 pub mod Laws
 pub mod Lines

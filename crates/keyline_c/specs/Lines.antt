@@ -13,13 +13,16 @@ use Rattle.line_editor.specs.Running.{IsOpen}
 use Rattle.line_help.specs.History.{Filed}
 use Rattle.line_keys.specs.Answers.{Custom}
 use Rattle.line_keys.specs.Coming.{made_of, unread}
+use Rattle.line_keys.specs.declared.events.Event.{Event}
 use Rattle.line_screen.specs.Drawing.{break_if}
-use Rattle.keyline.specs.Program.{config_of, edit_helping, helper_of, nothing_bound}
+use Rattle.keyline.specs.Program.{config_of, edit_helping, helper_of}
 use Rattle.keyline.specs.Plays.{loaded_from}
 use Rattle.keyline.specs.Events.{Course, bytes_drawn, line_course, played_in}
 use Rattle.keyline.specs.Sessions.{Given, SessionState, given_of, history_after, screen_by, state_over}
 use Rattle.keyline.specs.declared.options.Options.{Options}
+use Rattle.keyline_c.specs.Asks.{AreAsked, asking_by}
 use Rattle.keyline_c.specs.Meant.{AreMeant, AreValid, settings_by, whole, words_in}
+use Rattle.keyline_c.specs.declared.asking.Asking.{Asking}
 use Rattle.keyline_c.specs.declared.export.KeylineOptions.{KeylineOptions}
 use Rattle.keyline_c.specs.declared.line.Left.{Left}
 use Rattle.keyline_c.specs.declared.status.Status.{Status}
@@ -74,12 +77,15 @@ pub record Ends (held : VecSink → List ℕ) (outcome : Result (List ℕ) Readl
 module _ (options : KeylineOptions) (prompt words history kills ends : List ℕ) where
   -- the relation of a line and its arguments: they are valid, and it is the line of these keys,
   -- with these words, this history and these slots
-  pub record ReadsKeys (held : VecSink → List ℕ) (keys : List ℕ) (left : Left) : Type 0 where
+  pub record ReadsKeys (held : VecSink → List ℕ) (keys asks : List ℕ) (left : Left) : Type 0 where
     pub valid : AreValid options prompt words history kills ends
     pub chosen : Options
     pub meant : AreMeant options prompt chosen
+    -- those keys stop the line
+    pub bindings : List (Event × Asking)
+    pub are_asked : AreAsked chosen.mode asks bindings
     pub reads : let config = settings_by options (config_of chosen) in
-        ReadsLine held (given_with config nothing_bound chosen (words_in words))
+        ReadsLine held (given_with config (asking_by bindings) chosen (words_in words))
         (state_over valid.ring_is.0 [] (loaded_from config (whole history)) chosen.mode keys
         (last_of options.ended)) (length keys) left
 

@@ -14,7 +14,7 @@ use Rattle.keyline_c.specs.declared.export.KeylineWants.{KeylineWants}
 use Rattle.keyline_c.specs.declared.line.Left.{Left}
 use Rattle.keyline_c.specs.declared.ring.Slots.{Slots}
 use Rattle.keyline_c.specs.declared.status.Status.{Status}
-use Rattle.keyline_c.specs.declared.status.Status.TheVariants.{More, Argument, Memory}
+use Rattle.keyline_c.specs.declared.status.Status.TheVariants.{More, Argument, Memory, Asked}
 
 abbrev pub accepted_text : Left → List ℕ
 accepted_text left = result_unwrap_or (made_of string_bytes left.outcome) []
@@ -93,6 +93,7 @@ module _ (held : VecSink → List ℕ) (sent keys : ℕ) (wants : KeylineWants) 
   abbrev pub GivesBy : Status → Result Status Status → Type 0
   GivesBy Memory result = (result ≡ Err Memory) × NothingDone
   GivesBy More result = GivesOpen result
+  GivesBy Asked result = GivesOpen result
   GivesBy status result = GivesEnd result
 
   -- the relation of what is returned for a line

@@ -14,6 +14,7 @@ ghost use Rattle.keyline_c.specs.Meant.{AreMeant, AreValid, mode_numbered, setti
 ghost use Rattle.keyline_c.specs.Rooms.{FitsRooms, GivesTexts, SameRooms, if_wanted, room_texts, texts_in, texts_of, wanted_of, with_lengths};
 ghost use Rattle.keyline_c.specs.Steps.{Gives, GivesEnd, GivesOpen, open_place, open_text};
 
+use crate::asking::bindings_of;
 use crate::line::{Left, read_line};
 use crate::ring::{is_ring, ring_of, slots_of};
 use crate::room::put;
@@ -91,6 +92,7 @@ struct Handed<'k> {
     keys: &'k [u8],
     prompt: &'k [u8],
     words: &'k [u8],
+    asks: &'k [u8],
     history: &'k [u8],
     kills: &'k [u8],
     ends: &'k [usize],
@@ -214,7 +216,7 @@ fn history_of(alloc: Global, config: &Config, text: &[u8]) -> Result<FileHistory
 fn play<'k>(alloc: Global, options: &KeylineOptions, handed: &Handed<'k>) -> Result<Left, Status>
     ensures { let reads = ReadsKeys options.now handed.now.prompt.now handed.now.words.now
         handed.now.history.now handed.now.kills.now handed.now.ends.now in
-        MatchResult result (reads ⟦<VecSink as Sink>⟧.held handed.now.keys.now)
+        MatchResult result (reads ⟦<VecSink as Sink>⟧.held handed.now.keys.now handed.now.asks.now)
         (IsRefused options.now handed.now.prompt.now handed.now.words.now handed.now.history.now
         handed.now.kills.now handed.now.ends.now) }
 {
@@ -225,9 +227,12 @@ fn play<'k>(alloc: Global, options: &KeylineOptions, handed: &Handed<'k>) -> Res
     let words = words_of(alloc, handed.words)?;
     let config = settings_by(options, &chosen);
     let history = history_of(alloc, &config, handed.history)?;
+    let bindings = bindings_of(alloc, chosen.mode, handed.asks)?;
     let ring = ring_of(alloc, handed.kills, handed.ends, options.place)?;
     let (keys, ended) = (handed.keys, options.ended);
-    Ok(read_line(alloc, &config, &chosen, words, history, ring, keys, ended)?)
+    Ok(read_line(
+        alloc, &config, &chosen, words, &bindings, history, ring, keys, ended,
+    )?)
 }
 
 /// Reports the length of each text.
@@ -416,7 +421,7 @@ fn give(
     if left.display.bytes().len() < options.sent {
         return Err(Status::Argument);
     }
-    if status == Status::More {
+    if status.is_open() {
         give_open(options.sent, keys, &left, wants, rooms, step)?;
         return Ok(status);
     }
@@ -434,8 +439,8 @@ fn answer<'k>(
     step: &mut KeylineStep,
 ) -> Result<Status, Status>
     ensures answers { Answers ⟦<VecSink as Sink>⟧.held options.now handed.now.keys.now
-        handed.now.prompt.now handed.now.words.now handed.now.history.now handed.now.kills.now
-        handed.now.ends.now wants.now
+        handed.now.prompt.now handed.now.words.now handed.now.asks.now handed.now.history.now
+        handed.now.kills.now handed.now.ends.now wants.now
         (texts_in rooms.old) (texts_in rooms.new) step.old step.new result }
     ensures same { SameRooms rooms.old rooms.new }
 {
@@ -472,6 +477,7 @@ pub extern "C" fn keyline_line_checked<'k>(
     keys: &'k [u8],
     prompt: &'k [u8],
     words: &'k [u8],
+    asks: &'k [u8],
     history: &'k [u8],
     kills: &'k [u8],
     ends: &'k [usize],
@@ -484,7 +490,7 @@ pub extern "C" fn keyline_line_checked<'k>(
     step: &mut KeylineStep,
 )
     ensures { Calls ⟦<VecSink as Sink>⟧.held options.now keys.entry.now prompt.entry.now
-        words.entry.now history.entry.now kills.entry.now ends.entry.now wants.now
+        words.entry.now asks.entry.now history.entry.now kills.entry.now ends.entry.now wants.now
         (room_texts display_room.old line_room.old history_room.old kills_room.old ends_room.old)
         (room_texts display_room.new line_room.new history_room.new kills_room.new ends_room.new)
         step.new }
@@ -505,6 +511,7 @@ pub extern "C" fn keyline_line_checked<'k>(
         keys,
         prompt,
         words,
+        asks,
         history,
         kills,
         ends,

@@ -7,16 +7,19 @@ ghost use Rattle.line_keys.specs.Coming.{made_of};
 ghost use Rattle.line_screen.specs.Calls.{screen_of, sink_of};
 ghost use Rattle.line_screen.specs.Reader.{left_in};
 ghost use Rattle.line_screen.specs.Drawing.{row_break};
-ghost use Rattle.keyline.specs.Program.{nothing_bound, word_texts};
+ghost use Rattle.keyline.specs.Program.{word_texts};
 ghost use Rattle.keyline.specs.Sessions.{history_after, screen_by, state_over};
+ghost use Rattle.keyline_c.specs.Asks.{asking_by};
 ghost use Rattle.keyline_c.specs.Lines.{Ends, IsWant, ReadsLine, breaks, given_with, last_of};
 
+use crate::asking::Asking;
 use keyline::{
-    Bindings, Config, FileHistory, History, Options, ReadlineError, Sink, SliceSource, Source,
-    VecSink, helper_of,
+    Config, FileHistory, History, Options, ReadlineError, Sink, SliceSource, Source, VecSink,
+    helper_of,
 };
 use line_buffer::LineBuffer;
 use line_editor::{Ran, Renderer, run};
+use line_keys::EventMap;
 use line_record::KillRing;
 use line_screen::{KeyReader, ScreenRenderer};
 use std::alloc::Global;
@@ -130,6 +133,7 @@ pub(crate) fn read_line<'k>(
     config: &Config,
     options: &Options,
     words: Option<Vec<String>>,
+    bindings: &EventMap<Asking>,
     history: FileHistory,
     ring: KillRing,
     keys: &'k [u8],
@@ -137,12 +141,12 @@ pub(crate) fn read_line<'k>(
 ) -> Result<Left, ReadlineError>
     requires columns { (2 ≤ options.now.columns) × (options.now.columns ≤ 1000) }
     requires adds { config.now.auto_add_history ≡ true }
-    ensures { let given = given_with config.now nothing_bound options.now (word_texts words) in
+    ensures { let given = given_with config.now (asking_by bindings.now) options.now
+        (word_texts words) in
         let state = state_over ring [] history options.now.mode keys.entry.now (last_of ended) in
         MatchResult result (ReadsLine ⟦<VecSink as Sink>⟧.held given state
         (length keys.entry.now)) IsWant }
 {
-    let bindings = Bindings::new(alloc).unwrap();
     let mut history = history;
     let mut ring = ring;
     let mut last_query = String::new(alloc);
@@ -163,7 +167,7 @@ pub(crate) fn read_line<'k>(
         helper,
         &history,
         config,
-        &bindings,
+        bindings,
         &mut ring,
         &mut last_query,
     );

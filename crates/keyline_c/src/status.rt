@@ -1,7 +1,7 @@
 //! How a call ends.
 
 ghost use Rattle.std.specs.Prelude.{◌≡◌};
-ghost use Rattle.keyline_c.specs.Statuses.{code_of, ended_as};
+ghost use Rattle.keyline_c.specs.Statuses.{code_of, ended_as, is_open};
 ghost use Rattle.keyline_c.specs.declared.status.Status.TheVariants.{Memory};
 
 use keyline::ReadlineError;
@@ -29,6 +29,8 @@ pub(crate) enum Status {
     Room,
     /// An allocation failed.
     Memory,
+    /// A key of the caller's own was typed.
+    Asked,
 }
 
 impl Status {
@@ -45,18 +47,27 @@ impl Status {
             Status::Argument => 6,
             Status::Room => 7,
             Status::Memory => 8,
+            Status::Asked => 9,
         }
+    }
+
+    /// Whether the line continues.
+    pub(crate) fn is_open(self) -> bool
+        ensures { result ≡ is_open self }
+    {
+        matches!(self, Status::More | Status::Asked)
     }
 }
 
-/// How a line ends. The devices are in memory and no handler is bound, so any other failure is a
-/// failed allocation.
+/// How a line ends. The devices are in memory and no key is bound except those of the caller's own,
+/// so any other failure is a failed allocation.
 pub(crate) fn status_of<T>(outcome: &Result<T, ReadlineError>) -> Status
     ensures { result ≡ ended_as outcome.now }
 {
     match outcome {
         Ok(_) => Status::Line,
         Err(ReadlineError::Reader) => Status::More,
+        Err(ReadlineError::Handler) => Status::Asked,
         Err(ReadlineError::Eof) => Status::End,
         Err(ReadlineError::Interrupted) => Status::Interrupted,
         Err(ReadlineError::NotUtf8) => Status::NotUtf8,

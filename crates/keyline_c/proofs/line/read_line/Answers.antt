@@ -1,24 +1,21 @@
 -- What `run` leaves of the keys, by the options.
-use Rattle.std.proofs.Common.{◌≡◌, [], refl, ◌∙◌, ap, length}
+use Rattle.std.proofs.Common.{refl, ◌∙◌, ap, length}
 use Rattle.std.specs.Prelude.{string_bytes}
-use Rattle.std.proofs.lemmas.Result.{MatchResult-at_ok}
 use Rattle.line_config.specs.Feed.{Feed}
 use Rattle.line_config.specs.contracts.memory.SliceSourceSource.TheImpl as slice_source
 use Rattle.line_config.specs.declared.memory.SliceSource.{SliceSource}
 use Rattle.keyline.specs.Program.{word_texts}
 use Rattle.keyline.specs.Sessions.{coming_from}
-use Rattle.keyline.proofs.EditLemmas.{none_bound}
 use Rattle.keyline_c.specs.Lines.{last_of}
 use Rattle.keyline_c.proofs.LineLemmas.{bound_at, line_read}
 use Rattle.keyline_c.proofs.line.read_line.Goals as goal
 
 pub returns : goal.returns
 returns c =
-    let bound = none_bound c.unwrap-bindings.result _ (MatchResult-at_ok (λ b. b ≡ []) (λ _. ⊥) c.unwrap-bindings.result c.unwrap-bindings.ensures c.new.ensures) in
     line_read _ _ _ c.args.config.now c.args.options.now (word_texts c.args.words) c.args.keys.now (last_of c.args.ended) _ _ c.as_str-prompt.result.now c.helper_of-helper.result
     c.screen-out.result _ c.args.ring _ (string_bytes c.new-last_query.result) _ c.args.history _ _ _ c.run-out.result slice_source.ghosts.feed c.run-out.new.reader _
     c.run-out.ensures refl c.in_ok-close.ensures c.screen-out.ensures.empty
-    c.requires.adds bound c.as_str-prompt.ensures.value c.helper_of-helper.ensures c.screen-out.ensures.screen
+    c.requires.adds refl c.as_str-prompt.ensures.value c.helper_of-helper.ensures c.screen-out.ensures.screen
     (c.new-reader.ensures.coming (ap (λ (f : Feed). f.failed) c.source_of.ensures) ∙ ap (λ (f : Feed). coming_from c.args.options.now.mode f.coming f.last) c.source_of.ensures)
     (bound_at _ _ _ c.new-reader.ensures.kept
     (ap (λ (s : SliceSource). length s.bytes.now) c.new-reader.ensures.source ∙ ap (λ (f : Feed). f.bound) c.source_of.ensures))

@@ -1,0 +1,151 @@
+-- Keys of the caller's own: rows, their keys, and what is bound.
+use Rattle.std.proofs.Common.{◌≡◌, ◌≢◌, ◌∙◌, ◌||◌, inl, inr, Bool, true, false, ℕ, suc, ◌+◌, ◌-◌, ◌≤◌, List, [], ◌∷◌, ◌++◌, length, take, drop, refl, sym, ap, subst, arith, append_assoc}
+use Rattle.std.specs.Prelude.{Option, Some, None, Result, Ok, Err, cond, if◌then◌else◌, is_some, nat_lt, option_map}
+use Rattle.std.specs.List.{list_any, position, position_or_len}
+use Rattle.std.proofs.lemmas.Bool.{ltb-false}
+use Rattle.std.proofs.lemmas.List.{drop_all, take_all, take_rest}
+use Rattle.line_config.specs.declared.errors.ReadlineError.{ReadlineError}
+use Rattle.line_config.specs.declared.errors.ReadlineError.TheVariants.{PasteOutOfPlace}
+use Rattle.line_config.proofs.ScriptLaws.{ok_not_err}
+use Rattle.line_keys.specs.Bound.{find, put_at, same_event}
+use Rattle.line_keys.specs.Coming.{Coming, Pressed, Pasted, CutOff, Ends, Refused, key_at, behind_key, refusal_of}
+use Rattle.line_keys.specs.Feeds.{ReadAs}
+use Rattle.line_keys.specs.Feeds.InputItem.{Key}
+use Rattle.line_keys.specs.Events.{normal_event}
+use Rattle.line_keys.specs.declared.events.Event.{Event}
+use Rattle.line_keys.specs.declared.events.Event.TheVariants.{KeySeq}
+use Rattle.line_keys.specs.declared.key.KeyEvent.{KeyEvent}
+use Rattle.keyline_c.specs.Asks.{in_front, is_event, is_zero, keys_alone, none_more, rows_of}
+use Rattle.keyline_c.specs.declared.asking.Asking.{Asking}
+
+-- ---- the keys of a row
+
+pub key_taken : (c c' : Coming) (k : KeyEvent) → ReadAs Key (key_at c) (behind_key c) (Ok k) c' → keys_alone c ≡ option_map (λ keys. k ∷ keys) (keys_alone c')
+key_taken (Pressed bytes p rest) c' k (inl (is, at)) =
+    let same : k ≡ p = cc in
+    rw (same, at) refl
+key_taken (Pasted bytes text rest) c' k (inl (is, at)) = ok_not_err k PasteOutOfPlace is
+key_taken (CutOff bytes last left) c' k (inl (is, at)) = ok_not_err k PasteOutOfPlace is
+key_taken (Ends bytes last left) c' k (inl (is, at)) = ok_not_err k _ is
+key_taken (Refused bytes why) c' k (inl (is, at)) = ok_not_err k _ is
+key_taken c c' k (inr (e, left, never, is, at)) = absurd never
+
+pub keys_ended : (c c' : Coming) (e : ReadlineError) → ReadAs {X = KeyEvent} Key (key_at c) (behind_key c) (Err e) c' → keys_alone c ≡ none_more e
+keys_ended (Pressed bytes p rest) c' e (inl (is, at)) = ok_not_err p e (sym is)
+keys_ended (Pasted bytes text rest) c' e (inl (is, at)) = let same : e ≡ PasteOutOfPlace = cc in rw same refl
+keys_ended (CutOff bytes last left) c' e (inl (is, at)) = let same : e ≡ PasteOutOfPlace = cc in rw same refl
+keys_ended (Ends bytes last left) c' e (inl (is, at)) = let same : e ≡ refusal_of last = cc in rw same refl
+keys_ended (Refused bytes why) c' e (inl (is, at)) = let same : e ≡ why = cc in rw same refl
+keys_ended c c' e (inr (d, left, never, is, at)) = absurd never
+
+-- a key more
+more : (done : List KeyEvent) (k : KeyEvent) (o : Option (List KeyEvent)) → option_map (λ keys. done ++ keys) (option_map (λ keys. k ∷ keys) o) ≡ option_map (λ keys. (done ++ k ∷ []) ++ keys) o
+more done k None = refl
+more done k (Some keys) = ap (λ (x : List KeyEvent). Some x) (sym (append_assoc done (k ∷ []) keys))
+
+pub one_more : (all : Option (List KeyEvent)) (done done' : List KeyEvent) (k : KeyEvent) (c c' : Coming) (r : Result KeyEvent ReadlineError) → all ≡ option_map (λ keys. done ++ keys) (keys_alone c)
+    → ReadAs Key (key_at c) (behind_key c) r c' → r ≡ Ok k → done' ≡ done ++ k ∷ [] → all ≡ option_map (λ keys. done' ++ keys) (keys_alone c')
+one_more all done done' k c c' r is reads ok pushed =
+    is ∙ (ap (λ o. option_map (λ keys. done ++ keys) o) (key_taken c c' k (subst (λ (x : Result KeyEvent ReadlineError). ReadAs Key (key_at c) (behind_key c) x c') ok reads))
+    ∙ (more done k (keys_alone c') ∙ ap (λ (d : List KeyEvent). option_map (λ keys. d ++ keys) (keys_alone c')) (sym pushed)))
+
+pub last_key : (all : Option (List KeyEvent)) (done : List KeyEvent) (e : ReadlineError) (c c' : Coming) (r : Result KeyEvent ReadlineError) → all ≡ option_map (λ keys. done ++ keys) (keys_alone c)
+    → ReadAs Key (key_at c) (behind_key c) r c' → r ≡ Err e → option_map (λ keys. done ++ keys) (none_more e) ≡ all
+last_key all done e c c' r is reads err =
+    sym (is ∙ ap (λ o. option_map (λ keys. done ++ keys) o) (keys_ended c c' e (subst (λ (x : Result KeyEvent ReadlineError). ReadAs Key (key_at c) (behind_key c) x c') err reads)))
+
+-- ---- rows
+
+abbrev place : List ℕ → ℕ
+place text = position_or_len is_zero text
+
+abbrev Cut : ℕ → List ℕ → Type 0
+Cut byte bytes = rows_of (byte ∷ bytes) ≡ take (place (byte ∷ bytes)) (byte ∷ bytes) ∷ rows_of (drop (place (byte ∷ bytes) + 1) (byte ∷ bytes))
+
+cut_here : (byte : ℕ) (bytes : List ℕ) → is_zero byte ≡ true → Cut byte bytes
+cut_here byte bytes is = rw is refl
+
+cut_last : (byte : ℕ) → is_zero byte ≡ false → Cut byte []
+cut_last byte is = rw is refl
+
+cut_later : (byte next : ℕ) (bytes : List ℕ) → is_zero byte ≡ false → Cut next bytes → Cut byte (next ∷ bytes)
+cut_later byte next bytes is later =
+    let rest : List ℕ = next ∷ bytes in
+    let n : ℕ = place rest in
+    let one : suc n ≡ 1 + n = omega arith in
+    let two : suc (n + 1) ≡ 1 + n + 1 = omega arith in
+    let taken : (byte ∷ take n rest) ∷ rows_of (drop (n + 1) rest) ≡ take (1 + n) (byte ∷ rest) ∷ rows_of (drop (1 + n + 1) (byte ∷ rest)) =
+    ap (λ (m : ℕ). take m (byte ∷ rest) ∷ rows_of (drop (n + 1) rest)) one ∙ ap (λ (m : ℕ). take (1 + n) (byte ∷ rest) ∷ rows_of (drop m (byte ∷ rest))) two in
+    rw is (ap (in_front byte) later ∙ taken)
+
+chosen : {X : Type 0} (b : Bool) → (b ≡ true → X) → (b ≡ false → X) → X
+chosen true f _ = f refl
+chosen false _ g = g refl
+
+cut : (byte : ℕ) (bytes : List ℕ) → Cut byte bytes
+cut byte [] = chosen (is_zero byte) (cut_here byte []) (cut_last byte)
+cut byte (next ∷ bytes) = chosen (is_zero byte) (cut_here byte (next ∷ bytes)) (λ is. cut_later byte next bytes is (cut next bytes))
+
+found : (at n : ℕ) (b : Bool) → Some at ≡ cond b (Some n) None → at ≡ n
+found at n true is = cc
+found at n false is = absurd (cc)
+
+lost : (n : ℕ) (b : Bool) → ◌≡◌ {A = Option ℕ} None (cond b (Some n) None) → b ≡ false
+lost n true is = absurd (cc)
+lost n false is = refl
+
+pub cut_some : (text : List ℕ) (at : ℕ) → Some at ≡ position is_zero text → rows_of text ≡ take at text ∷ rows_of (take (length text - (at + 1)) (drop (at + 1) text))
+cut_some [] at is = absurd (cc)
+cut_some (byte ∷ bytes) at is =
+    let text : List ℕ = byte ∷ bytes in
+    let same : at ≡ place text = found at (place text) (nat_lt (place text) (length text)) is in
+    subst (λ (n : ℕ). rows_of text ≡ take n text ∷ rows_of (take (length text - (n + 1)) (drop (n + 1) text))) (sym same)
+    (cut byte bytes ∙ ap (λ (x : List ℕ). take (place text) text ∷ rows_of x) (sym (take_rest text (place text + 1))))
+
+pub cut_none : (text : List ℕ) → text ≢ [] → ◌≡◌ {A = Option ℕ} None (position is_zero text) → rows_of text ≡ text ∷ []
+cut_none [] some is = absurd (some refl)
+cut_none (byte ∷ bytes) some is =
+    let text : List ℕ = byte ∷ bytes in
+    let long : length text ≤ place text = ltb-false (place text) (length text) (lost (place text) (nat_lt (place text) (length text)) is) in
+    cut byte bytes ∙ (ap (λ (x : List ℕ). x ∷ rows_of (drop (place text + 1) text)) (take_all (place text) text long)
+    ∙ ap (λ (x : List ℕ). text ∷ rows_of x) (drop_all (place text + 1) text (omega (arith, long))))
+
+-- ---- what is bound
+
+pub put_one : (e named : Event) (asking : Asking) (o : Option Asking) → is_some (if same_event named e then Some asking else o) ≡ (same_event named e || is_some o)
+put_one e named asking o = by (same_event named e)
+  where
+    by : (b : Bool) → is_some (if b then Some asking else o) ≡ (b || is_some o)
+    by true = refl
+    by false = refl
+
+-- the keys of a row are bound
+pub row_bound : (e : Event) (keys : List KeyEvent) (row : Option (List KeyEvent)) (asking : Asking) (old new : List (Event × Asking)) → Some keys ≡ row
+    → find e new ≡ put_at (normal_event (KeySeq keys)) asking (λ o. find o old) e → is_some (find e new) ≡ (is_event e row || is_some (find e old))
+row_bound e keys row asking old new is put =
+    subst (λ (r : Option (List KeyEvent)). is_some (find e new) ≡ (is_event e r || is_some (find e old))) is
+    (ap (λ (o : Option Asking). is_some o) put ∙ put_one e (normal_event (KeySeq keys)) asking (find e old))
+
+pub row_passed : (e : Event) (row : Option (List KeyEvent)) (bound : Bool) → None ≡ row → bound ≡ (is_event e row || bound)
+row_passed e row bound is = subst (λ (r : Option (List KeyEvent)). bound ≡ (is_event e r || bound)) is refl
+
+or_moved : (a b c : Bool) → (a || (b || c)) ≡ ((b || a) || c)
+or_moved true true c = refl
+or_moved true false c = refl
+or_moved false true c = refl
+or_moved false false c = refl
+
+or_more : (a : Bool) (P : List ℕ → Bool) (row : List ℕ) (rows rows' : List (List ℕ)) (b : Bool) → rows ≡ row ∷ rows' → b ≡ (P row || a) → (a || list_any P rows) ≡ (b || list_any P rows')
+or_more a P row rows rows' b is more =
+    ap (λ (x : List (List ℕ)). a || list_any P x) is ∙ (or_moved a (P row) (list_any P rows') ∙ ap (λ (x : Bool). x || list_any P rows') (sym more))
+
+-- a row more is bound
+pub one_row : (all a : Bool) (P : List ℕ → Bool) (row : List ℕ) (rows rows' : List (List ℕ)) (b : Bool) → all ≡ (a || list_any P rows) → rows ≡ row ∷ rows' → b ≡ (P row || a) → all ≡ (b || list_any P rows')
+one_row all a P row rows rows' b is cut more = is ∙ or_more a P row rows rows' b cut more
+
+or_false : (a : Bool) → (a || false) ≡ a
+or_false true = refl
+or_false false = refl
+
+pub all_bound : (all a : Bool) (P : List ℕ → Bool) (rest : List ℕ) → all ≡ (a || list_any P (rows_of rest)) → rest ≡ [] → a ≡ all
+all_bound all a P rest is none = sym (is ∙ (ap (λ (x : List ℕ). a || list_any P (rows_of x)) none ∙ or_false a))
