@@ -15,8 +15,6 @@ use Rattle.line_keys.specs.declared.command.Cmd.{Cmd}
 use Rattle.line_keys.specs.declared.command.Cmd.TheVariants.{Insert}
 use Rattle.line_keys.specs.declared.command.InputMode.{InputMode}
 use Rattle.line_keys.specs.declared.command.InputMode.TheVariants.{Command, Insert as Inserting, Replace as Overwriting}
-use Rattle.line_keys.specs.declared.events.Event.TheVariants.{Any}
-use Rattle.line_keys.specs.declared.key.KeyEvent.{KeyEvent}
 use Rattle.line_keys.specs.Answers.{Custom, answer_by}
 use Rattle.line_keys.specs.Coming.{Coming, Pressed, Pasted}
 use Rattle.line_keys.specs.Common.{common_action, command_or, bound_or, decided, terminal_command}
