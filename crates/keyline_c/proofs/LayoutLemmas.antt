@@ -22,7 +22,7 @@ use Rattle.keyline.specs.Shows.{DisplayHolds, drawn_by, picture, place_in}
 use Rattle.keyline_c.specs.Laws.{SameLinesGoOnAlike, drawing_start, layout_in, seen_in}
 use Rattle.keyline_c.specs.Lines.{line_at_end}
 use Rattle.keyline_c.specs.Steps.{open_place, open_text}
-use Rattle.keyline_c.proofs.LastLemmas.{StandsAnew, stands_anew, stands_open, wants_keys}
+use Rattle.keyline_c.proofs.LastLemmas.{StandsAnew, stands_anew, stands_open, is_cut}
 
 -- ---- how clusters are counted stays
 
@@ -106,8 +106,8 @@ module _ (held : VecSink → List ℕ) where
       let s = g.screen in
       let low = screen.least in
       let high = screen.most in
-      let one : StandsAnew n g x low high = stands_anew n g x low high (wants_keys held n g x left w) w.low in
-      let two : StandsAnew n g y low high = stands_anew n g y low high (wants_keys held n g y other v) v.low in
+      let one : StandsAnew n g x low high = stands_anew n g x low high (is_cut held n g x left w) w.low in
+      let two : StandsAnew n g y low high = stands_anew n g y low high (is_cut held n g y other v) v.low in
       let a = one.anew in
       let b = two.anew in
       let text = one.seen.line ∙ sym (text_of left.open_line (line_at_end n g x) (stands_open held n g x left w)) ∙ same.text ∙ text_of other.open_line (line_at_end n g y) (stands_open held n g y other v) ∙ sym two.seen.line in

@@ -15,8 +15,6 @@ use Rattle.line_keys.specs.declared.command.Cmd.{Cmd}
 use Rattle.line_keys.specs.declared.command.Cmd.TheVariants.{Insert}
 use Rattle.line_keys.specs.declared.command.InputMode.{InputMode}
 use Rattle.line_keys.specs.declared.command.InputMode.TheVariants.{Command, Insert as Inserting, Replace as Overwriting}
-use Rattle.line_keys.specs.declared.events.Event.TheVariants.{Any}
-use Rattle.line_keys.specs.declared.key.KeyEvent.{KeyEvent}
 use Rattle.line_keys.specs.Answers.{Custom, answer_by}
 use Rattle.line_keys.specs.Coming.{Coming, Pressed, Pasted}
 use Rattle.line_keys.specs.Common.{common_action, command_or, bound_or, decided, terminal_command}
@@ -45,22 +43,22 @@ use Rattle.line_editor.specs.declared.modal_state.Standing.TheVariants.{Off, Res
 use Rattle.line_editor.proofs.ToldLemmas.{follows, joined, played_then}
 use Rattle.line_screen.specs.KeyGrammar.{coming_of, marker, paste_start, with_newlines}
 use Rattle.line_screen.proofs.Pasting.{pasted_text_is_before_its_mark}
-use Rattle.keyline.specs.Pasting.{sent_as_paste, IsPasteable, IsUnbound}
+use Rattle.keyline.specs.Pasting.{sent_as_paste, IsPasteable}
 use Rattle.keyline.specs.Sessions.{coming_from}
-use Rattle.keyline_c.specs.Laws.{pasted_in, PastesGoIn}
+use Rattle.keyline_c.specs.Laws.{LetsPastesIn, PastesGoIn, pasted_in}
 
 -- ---- what no binding answers, the tables do
 
-unbound_answer : (s : Situation) (k : KeyEvent) → IsUnbound s.custom → custom_answer s k ≡ gives_at_once None
-unbound_answer s k free =
-    ap (λ bound. answer_by (or_any s.custom bound) (shown_for s (single k))) (free (single k))
-    ∙ ap (λ bound. answer_by (option_map (λ meaning s. taking (meaning s)) bound) (shown_for s (single k))) (free Any)
+unbound_answer : (s : Situation) → LetsPastesIn s.custom → custom_answer s paste_start ≡ gives_at_once None
+unbound_answer s free =
+    ap (λ bound. answer_by (or_any s.custom bound) (shown_for s (single paste_start))) free.announced
+    ∙ ap (λ bound. answer_by (option_map (λ meaning s. taking (meaning s)) bound) (shown_for s (single paste_start))) free.any
 
-by_the_table : (new : Option ℕ) (s : Situation) (k : KeyEvent) (table : Part Cmd) (n : ℕ) → IsUnbound s.custom → terminal_command s.shown k ≡ None
-    → steps (decided new s k table) n ≡ steps table n
+by_the_table : (new : Option ℕ) (s : Situation) (table : Part Cmd) (n : ℕ) → LetsPastesIn s.custom → terminal_command s.shown paste_start ≡ None
+    → steps (decided new s paste_start table) n ≡ steps table n
 unfolding deciding
-by_the_table new s k table n free none =
-    ap (λ reply. steps (deciding (bound_or new s (command_or table (terminal_command s.shown k))) reply) n) (unbound_answer s k free)
+by_the_table new s table n free none =
+    ap (λ reply. steps (deciding (bound_or new s (command_or table (terminal_command s.shown paste_start))) reply) n) (unbound_answer s free)
     ∙ ap (λ command. steps (command_or table command) n) none
 
 -- what stands between commands
@@ -88,22 +86,22 @@ keeping Vi input text = Asks Needs (λ none. Asks (Becomes (with_last (Insert 1 
 abbrev pasting : EditMode → Input → Steps Cmd
 pasting mode input = Asks (Reads Paste) (keeping mode input)
 
-pastes : (mode : EditMode) (input_mode : InputMode) (custom : Custom) (last : Cmd) (search : Option CharSearch) (modal : Bool) (shown : Shown) (n : ℕ) → IsUnbound custom
+pastes : (mode : EditMode) (input_mode : InputMode) (custom : Custom) (last : Cmd) (search : Option CharSearch) (modal : Bool) (shown : Shown) (n : ℕ) → LetsPastesIn custom
     → steps (phrase_from mode custom (input_with mode input_mode last search modal) shown paste_start) (suc n) ≡ pasting mode (input_with mode input_mode last search modal)
 unfolding answered needing with_read from_key asking becoming deciding and_then emacs_action common_action action_of insert_action command_table vi_counted vi_command insert_table vi_insert
 pastes Emacs input_mode custom last search modal shown n free =
     let s = situation custom (input_with Emacs input_mode last search modal) shown 1 true in
-    by_the_table (Some 1) s paste_start (emacs_command s paste_start) (suc n) free refl
+    by_the_table (Some 1) s (emacs_command s paste_start) (suc n) free refl
 pastes Vi Command custom last search modal shown n free =
     let input = input_with Vi Command last search modal in
     let s = situation custom input shown 1 true in
-    by_the_table None s paste_start (and_then input shown (command_table None s paste_start) changed) (suc n) free refl
+    by_the_table None s (and_then input shown (command_table None s paste_start) changed) (suc n) free refl
 pastes Vi Inserting custom last search modal shown n free =
     let input = input_with Vi Inserting last search modal in
-    by_the_table None (situation custom input shown 0 true) paste_start (and_then input shown (insert_table custom input shown paste_start) typed) (suc n) free refl
+    by_the_table None (situation custom input shown 0 true) (and_then input shown (insert_table custom input shown paste_start) typed) (suc n) free refl
 pastes Vi Overwriting custom last search modal shown n free =
     let input = input_with Vi Overwriting last search modal in
-    by_the_table None (situation custom input shown 0 true) paste_start (and_then input shown (insert_table custom input shown paste_start) typed) (suc n) free refl
+    by_the_table None (situation custom input shown 0 true) (and_then input shown (insert_table custom input shown paste_start) typed) (suc n) free refl
 
 abbrev kept_asks : EditMode → List ℕ → Input → List LineAsk
 kept_asks Emacs text input = []
@@ -120,7 +118,7 @@ paste_played mode text k rest =
 abbrev grouped : ℕ → Cmd → Input → Shown → Steps Cmd
 grouped n cmd input shown = steps (with_group_begun cmd input shown) n
 
-module _ (s : Setting) (indent : ℕ) (custom : Custom) (free : IsUnbound custom) where
+module _ (s : Setting) (indent : ℕ) (custom : Custom) (free : LetsPastesIn custom) where
   abbrev behind_key : ℕ → LineState → Coming → Steps Cmd → Played LineAsk LineState ReadlineError Cmd
   behind_key n k rest script = asked_first (Keys (Reads Key)) (played_from s indent (keyed (after (grouped n) k.input (shown_in k.value) script)) (with_rest k rest))
 
@@ -186,7 +184,7 @@ same_mode Vi text input indent k = refl
 abbrev GoesIn : Played LineAsk LineState ReadlineError Status → Line → Coming → Type 0
 GoesIn p line rest = (p.answer ≡ Ok Proceed) × (p.rest.coming ≡ rest) × (p.rest.value.line ≡ line)
 
-module _ (s : Setting) (indent : ℕ) (custom : Custom) (free : IsUnbound custom) where
+module _ (s : Setting) (indent : ℕ) (custom : Custom) (free : LetsPastesIn custom) where
   abbrev turn_on : Played LineAsk LineState ReadlineError Cmd → Played LineAsk LineState ReadlineError Status
   turn_on p = asked_first Begins (joined (follows (line_plan s indent) met_then) p)
 

@@ -17,20 +17,22 @@ use Rattle.line_editor.specs.Values.{Setting}
 use Rattle.line_editor.specs.Yanking.{behind_yank}
 use Rattle.line_editor.specs.declared.commands.Status.TheVariants.{Proceed}
 use Rattle.line_keys.specs.Answers.{Custom}
+use Rattle.line_keys.specs.Events.{single}
+use Rattle.line_keys.specs.declared.events.Event.TheVariants.{Any}
 use Rattle.line_screen.specs.Calls.{Screen}
 use Rattle.line_screen.specs.Display.{Display, Placed, cell_at, meaning}
 use Rattle.line_screen.specs.Drawing.{erase_to_end}
+use Rattle.line_screen.specs.KeyGrammar.{paste_start}
 use Rattle.line_screen.specs.Laws.{widths}
 use Rattle.keyline.specs.Events.{line_course}
-use Rattle.keyline.specs.Pasting.{IsPasteable, IsUnbound, sent_as_paste}
+use Rattle.keyline.specs.Pasting.{IsPasteable, sent_as_paste}
 use Rattle.keyline.specs.SessionLaws.{steps_in}
 use Rattle.keyline.specs.Sessions.{Given, SessionState, coming_from}
 use Rattle.keyline.specs.Shows.{IsAtRest, IsScreen, LowAll, MomentShown, drawn_by, face}
 use Rattle.keyline_c.specs.Lines.{LeftBy, line_at_end}
-use Rattle.keyline_c.specs.Statuses.{ended_as}
+use Rattle.keyline_c.specs.Statuses.{ended_as, is_open}
 use Rattle.keyline_c.specs.Steps.{open_place, open_text}
 use Rattle.keyline_c.specs.declared.line.Left.{Left}
-use Rattle.keyline_c.specs.declared.status.Status.TheVariants.{More}
 
 -- ---- whole drawings
 
@@ -58,10 +60,10 @@ abbrev pub layout_in : ℕ → Given → SessionState → Layout
 layout_in n g x = (drawn_by g.screen (fresh g.screen.mode) (steps_in n g x)).layout
 
 module _ (held : VecSink → List ℕ) where
-  -- more keys are wanted for a line, and everything shown is within the rows that can be counted
+  -- a line continues, and everything shown is within the rows that can be counted
   pub record IsOpenAt (n : ℕ) (g : Given) (x : SessionState) (left : Left) : Type 0 where
     pub reads : LeftBy held (line_course n g x) (line_at_end n g x) left
-    pub more : ended_as left.outcome ≡ More
+    pub continues : is_open (ended_as left.outcome) ≡ true
     pub low : LowAll g.screen no_sight (steps_in n g x)
 
   -- the bytes from the last whole drawing on show the open line by themselves, on any blank rows
@@ -121,13 +123,18 @@ abbrev pub pasted_in : Bool → List ℕ → Line → Line
 pasted_in vi [] l = l
 pasted_in vi (byte ∷ bytes) l = behind_yank vi (put_at_cursor (byte ∷ bytes) l)
 
--- if nothing is bound, a text that is pasted between two phrases goes to the cursor of the line, if
--- no search stands. Everything that follows it remains
+-- no binding is for the key that announces a paste
+pub record LetsPastesIn (custom : Custom) : Type 0 where
+  pub announced : custom.answers (single paste_start) ≡ None
+  pub any : custom.answers Any ≡ None
+
+-- a text that is pasted between two phrases goes to the cursor of the line, if no binding is for it
+-- and no search stands. Everything that follows it remains
 abbrev pub PastesGoIn : Type 0
 PastesGoIn =
     (n : ℕ) (s : Setting) (custom : Custom) (indent : ℕ) (k : LineState) (text more : List ℕ)
     (last : Last)
-    → IsUnbound custom → k.value.line.growth ≡ true → is_at_rest k.modal.standing ≡ true
+    → LetsPastesIn custom → k.value.line.growth ≡ true → is_at_rest k.modal.standing ≡ true
     → IsPasteable text → k.coming ≡ coming_from k.input.mode (sent_as_paste text ++ more) last
     → let p = played_from s indent (turn_script (suc (suc n)) custom) k in
     let vi = in_vi_command (means_of k.input indent k.ring) in

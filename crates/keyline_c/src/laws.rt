@@ -18,7 +18,8 @@ pub fn same_lines()
 {}
 
 /// A text that is pasted between two phrases goes to the cursor, in every mode, whatever the line
-/// is. In Vi's command mode the cursor is then on its last cluster.
+/// is, and with any bindings of other keys. In Vi's command mode the cursor is then on its last
+/// cluster.
 pub fn paste()
     ensures { PastesGoIn }
 {}
