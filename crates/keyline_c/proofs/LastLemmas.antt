@@ -104,7 +104,7 @@ stands_anew n g x low high cut rows =
     let k : LineState = kept_first a g.config x.ring x.query x.coming in
     let p = played_in n g x in
     let steps = steps_in n g x in
-    let lead = lines_lead n a g.custom indent (new_input g.config) x.ring g.config.modal_commands x.query x.coming in
+    let lead = lines_lead n a g.custom indent (new_input g.config) x.ring g.config x.query x.coming in
     let ends : in_phrase false p.asks ≡ true = line_ends a indent n g.custom k cut.error cut.is cut.of_phrase in
     let at : At s low high a indent (in_phrase false p.asks) ([] ++ bytes_for s (fresh s.mode) steps) (layout_in n g x) (seen_in n g x) _ =
     walk s low high a indent p.answer p.asks k false [] (fresh s.mode) no_sight (record { either = inr (record { given = refl; prompt = refl }); anew = λ e. cc; seen = λ e. cc }) lead rows in

@@ -2,6 +2,7 @@
 use Rattle.std.specs.Prelude.{◌≡◌, ℕ, true, false, List, [], ◌∷◌, ◌++◌, Option, None, Some, Ok, codes, refl}
 use Rattle.line_buffer.specs.Line.{Line}
 use Rattle.line_buffer.specs.declared.layout.GraphemeClusterMode.TheVariants as Modes
+use Rattle.line_config.specs.Config.{default_config}
 use Rattle.line_config.specs.Played.{Played}
 use Rattle.line_config.specs.declared.device.Last.TheVariants.{End}
 use Rattle.line_config.specs.declared.errors.ReadlineError.{ReadlineError}
@@ -97,7 +98,7 @@ setting = record { prompt = []; column = 0; mode = Modes.Unicode; hooks = None; 
 played_row : Played LineAsk LineState ReadlineError Status
 played_row =
     played_from setting 2 (turn_script 2 nothing_bound)
-    (kept (at_line (line_at (codes "abcd") 2) (empty_at 0)) (record { mode = Vi; input_mode = Inserting; last = Noop; search = None; modal_commands = true }) (new_ring 60) (modal_first true [])
+    (kept (at_line (line_at (codes "abcd") 2) (empty_at 0)) (record { mode = Vi; input_mode = Inserting; last = Noop; search = None; modal_commands = true }) (new_ring 60) (modal_first (record default_config { modal_commands = true }) [])
     (coming_from Vi (sent_as_paste (codes "xy") ++ codes "b") End))
 
 later : Coming
