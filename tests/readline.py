@@ -336,11 +336,11 @@ def display_of(pieces, columns=40):
             for piece in [*pieces, LAST]:
                 os.write(master, piece)
                 end = time.monotonic() + HUNG
-                while waiting(slave) > 0 and time.monotonic() < end:
+                while waiting(slave) > 0:
                     # (A program whose output nobody reads waits as soon as the terminal's buffer is full.)
                     shown += read_all(master)
-                if waiting(slave) > 0:
-                    raise Failed(f"hung before the keys are read, with status {process.poll()}: {shown[-300:]!r}")
+                    if time.monotonic() > end:
+                        raise Failed(f"hung before the keys are read, with status {process.poll()}: {shown[-300:]!r}")
                 shown += read_all(master)
             end = time.monotonic() + HUNG
             while not strip(shown).endswith(b"got <last>\r\n\r\x1b[J> "):
