@@ -180,6 +180,8 @@ impl Renderer for CallList {
         old_layout: Option<Layout>,
         new_layout: &Layout,
         highlighter: Option<&H>,
+        _marked: bool,
+        _told: bool,
     ) -> Result<(), ReadlineError> {
         let call = match drawn(self.log.alloc, prompt, line, hint) {
             Ok(text) => drawing(

@@ -3,7 +3,7 @@
 //! hinter, the validator, the completer and the highlighter of characters. A handlers' row has
 //! keys, and after ` = ` how often each handler was called.
 
-ghost use Rattle.std.specs.Prelude.{◌≡◌, None, false, refl};
+ghost use Rattle.std.specs.Prelude.{◌≡◌, [], None, false, refl};
 ghost use Rattle.line_help.specs.Completion.{nothing_offered};
 ghost use Rattle.line_keys.specs.Replies.{gives, gives_at_once};
 
@@ -104,7 +104,10 @@ impl Validator for Counting<'_> {
 }
 
 impl Highlighter for Counting<'_> {
-    ghost marks = { λ self line pos kind. false };
+    ghost marks = { λ self. record {
+        marked = λ line pos kind. false;
+        paints = λ part text from. [];
+    } };
 
     ghost kept = { λ before after. after ≡ before };
 
@@ -146,6 +149,10 @@ impl Highlighter for Counting<'_> {
     fn highlight_char(&mut self, _line: &str, _pos: usize, _kind: CmdKind) -> bool {
         count(self.marks);
         false
+    }
+
+    fn next_span(&self, _part: Part, _text: &str, _from: Mark) -> Option<(Span, Mark)> {
+        None
     }
 }
 

@@ -1,6 +1,6 @@
 //! A helper that answers as a test says.
 
-ghost use Rattle.std.specs.Prelude.{◌≡◌, ◌==◌, nat_le, option_map, length, Option, Some, None, false, if◌then◌else◌, refl, string_bytes, IfErr};
+ghost use Rattle.std.specs.Prelude.{◌≡◌, ◌==◌, [], nat_le, option_map, length, Option, Some, None, false, if◌then◌else◌, refl, string_bytes, IfErr};
 ghost use Rattle.line_help.specs.Completion.{text_offered};
 ghost use Rattle.line_help.specs.Hints.{history_hint};
 ghost use Rattle.line_keys.specs.Replies.{gives_at_once, gives_unless};
@@ -9,8 +9,7 @@ ghost use Rattle.line_config.specs.declared.errors.HookFault.TheVariants.{Memory
 use line_buffer::{ChangeListener, LineBuffer};
 use line_config::{CompletionType, HookFault};
 use line_help::{
-    Completer, Context, Helper, Highlighter, Hint, Hinter, History, HistoryHinter,
-    ValidationContext, ValidationResult, Validator, update_line,
+    Completer, Context, Helper, Highlighter, Hint, Hinter, History, HistoryHinter, Mark, Part, Span, ValidationContext, ValidationResult, Validator, update_line,
 };
 use line_keys::{CmdKind, Text};
 use std::alloc::Global;
@@ -187,7 +186,10 @@ impl Hinter for Adviser {
 }
 
 impl Highlighter for Adviser {
-    ghost marks = { λ self line pos kind. pos == self.marked_at };
+    ghost marks = { λ self. record {
+        marked = λ line pos kind. pos == self.marked_at;
+        paints = λ part text from. [];
+    } };
 
     ghost kept = { λ before after. after ≡ before };
 
@@ -228,6 +230,10 @@ impl Highlighter for Adviser {
 
     fn highlight_char(&mut self, _line: &str, pos: usize, _kind: CmdKind) -> bool {
         pos == self.marked_at
+    }
+
+    fn next_span(&self, _part: Part, _text: &str, _from: Mark) -> Option<(Span, Mark)> {
+        None
     }
 }
 

@@ -13,9 +13,7 @@ use crate::words::completer_of;
 use line_buffer::{ChangeListener, LineBuffer};
 use line_config::{CompletionType, HookFault};
 use line_help::{
-    Completer, Context, Helper, HelperParts, Highlighter, Hinter, History, HistoryHinter,
-    MatchingBracketHighlighter, MatchingBracketValidator, MemHistory, Prompt, ValidationContext,
-    ValidationResult, Validator, WordCompleter,
+    Completer, Context, Helper, HelperParts, Highlighter, Hinter, History, HistoryHinter, Mark, MatchingBracketHighlighter, MatchingBracketValidator, MemHistory, Part, Prompt, Span, ValidationContext, ValidationResult, Validator, WordCompleter,
 };
 use line_keys::CmdKind;
 use stand_ins::rows::{Player, raised, rows_hold};
@@ -98,7 +96,10 @@ impl Hinter for Refusing {
 }
 
 impl Highlighter for Refusing {
-    ghost marks = { λ self line pos kind. true };
+    ghost marks = { λ self. record {
+        marked = λ line pos kind. true;
+        paints = λ part text from. [];
+    } };
 
     ghost kept = { λ before after. after ≡ before };
 
@@ -139,6 +140,10 @@ impl Highlighter for Refusing {
 
     fn highlight_char(&mut self, _line: &str, _pos: usize, _kind: CmdKind) -> bool {
         true
+    }
+
+    fn next_span(&self, _part: Part, _text: &str, _from: Mark) -> Option<(Span, Mark)> {
+        None
     }
 }
 

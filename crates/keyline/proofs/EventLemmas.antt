@@ -19,7 +19,7 @@ use Rattle.line_editor.specs.LineScripts.{Begins as TurnBegins, DrawnBy, FaultLe
 use Rattle.line_editor.specs.Redraws.{Asked, asked_by}
 use Rattle.line_editor.specs.States.{reason_of}
 use Rattle.line_editor.specs.Steps.{one, Surface, StepCut, Unhelped, Stops as StepsStop}
-use Rattle.line_editor.specs.Values.{Value, Setting, EditStep}
+use Rattle.line_editor.specs.Values.{Value, Setting, EditStep, shown_marks}
 use Rattle.line_editor.specs.Values.EditStep.{Draws as DrawStep, Helped as HelpStep, Edits as EditingStep, TakesBack as BackStep, Takes as TakingStep}
 use Rattle.line_editor.proofs.StopsLemmas.{asked_both}
 use Rattle.line_editor.proofs.ToldLemmas.{AllDone, StoppedIn, left_along, rest_along, stopped_cause, went}
@@ -67,7 +67,7 @@ module _ (s : Screen) where
   step_bytes : (l : Layout) (rs : List EditStep) → drawn_in (step_events s l rs) ≡ flat_map (bytes_of s) (drawn_by s l rs).calls
   step_bytes l [] = refl
   step_bytes l (DrawStep v marks redraw ∷ rs) =
-      let a = asked_by (ruler_of s) marks l redraw in
+      let a = asked_by (ruler_of s) (shown_marks v marks) l redraw in
       let more = (drawn_by s a.layout rs).calls in
       ap (λ b. b ++ drawn_in (step_events s a.layout rs)) (all_of_map (bytes_of s) a.calls)
       ∙ ap (λ b. flat_map (bytes_of s) a.calls ++ b) (step_bytes a.layout rs)
@@ -77,13 +77,13 @@ module _ (s : Screen) where
 
   step_left : (c : Coming) (l : Layout) (rs : List EditStep) → left_to_come c (step_events s l rs) ≡ c
   step_left c l [] = refl
-  step_left c l (DrawStep v marks redraw ∷ rs) = step_left c (asked_by (ruler_of s) marks l redraw).layout rs
+  step_left c l (DrawStep v marks redraw ∷ rs) = step_left c (asked_by (ruler_of s) (shown_marks v marks) l redraw).layout rs
   step_left c l (HelpStep v fails takes ∷ rs) = step_left c l rs
   step_left c l (_ ∷ rs) = step_left c l rs
 
   pub step_quiet : (l : Layout) (rs : List EditStep) → (flat_map lines_kept (step_events s l rs) ≡ []) × (flat_map lines_written (step_events s l rs) ≡ [])
   step_quiet l [] = (refl, refl)
-  step_quiet l (DrawStep v marks redraw ∷ rs) = step_quiet (asked_by (ruler_of s) marks l redraw).layout rs
+  step_quiet l (DrawStep v marks redraw ∷ rs) = step_quiet (asked_by (ruler_of s) (shown_marks v marks) l redraw).layout rs
   step_quiet l (HelpStep v fails takes ∷ rs) = step_quiet l rs
   step_quiet l (_ ∷ rs) = step_quiet l rs
 
@@ -297,7 +297,7 @@ module _ {D L : Type 0} (shown : D → List ℕ) (written_in : L → List ℕ) (
     steps_answered : (l : Layout) (rs : List EditStep) (a b : ScreenRenderer D) → Drawn (drawn_by s l rs).calls a b → AllAnswered (step_events s l rs)
     steps_answered l [] a b made = tt
     steps_answered l (DrawStep v marks redraw ∷ rs) a b made =
-        let x = asked_by (ruler_of s) marks l redraw in
+        let x = asked_by (ruler_of s) (shown_marks v marks) l redraw in
         let parts = folds_apart (MadeIn canvas) x.calls (drawn_by s x.layout rs).calls a b made in
         steps_answered x.layout rs parts.0 b parts.2
     steps_answered l (HelpStep v fails takes ∷ rs) a b made = (made.1.0, steps_answered l rs made.0 b made.2)
@@ -321,8 +321,8 @@ module _ {D L : Type 0} (shown : D → List ℕ) (written_in : L → List ℕ) (
         → IsStopped shown written_in adds (on a.out c) (step_event s a.layout step) e (on b.out c)
     unfolding BrokenOff
     step_stopped (DrawStep v marks redraw) c e left a b is h =
-        subst (λ why. IsStopped shown written_in adds (on a.out c) (Draws redraw (map (bytes_of s) (asked_by (ruler_of s) marks a.layout redraw).calls)) why (on b.out c)) (sym h.0)
-        (by (asked_by (ruler_of s) marks a.layout redraw).calls h.1)
+        subst (λ why. IsStopped shown written_in adds (on a.out c) (Draws redraw (map (bytes_of s) (asked_by (ruler_of s) (shown_marks v marks) a.layout redraw).calls)) why (on b.out c)) (sym h.0)
+        (by (asked_by (ruler_of s) (shown_marks v marks) a.layout redraw).calls h.1)
       where
         by : (calls : List Call) → BrokenOff canvas calls a.out b.out → IsStopped shown written_in adds (on a.out c) (Draws redraw (map (bytes_of s) calls)) Display (on b.out c)
         by [] broken = absurd broken

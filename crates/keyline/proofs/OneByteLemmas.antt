@@ -24,7 +24,7 @@ use Rattle.line_editor.specs.Redraws.{Asked, full, nothing_asked, moved_by_call,
 use Rattle.line_editor.specs.Redraws.Redraw.{Drawn, Moved, Typed, Taken, Bared, ToEnd, Beeped, Cleared}
 use Rattle.line_editor.specs.Sights.{Sight, sight, Fits}
 use Rattle.line_editor.specs.Steps.{one}
-use Rattle.line_editor.specs.Values.{Value, Setting, Effect, EditStep, helped, hint_reply, unchanged}
+use Rattle.line_editor.specs.Values.{shown_marks, Value, Setting, Effect, EditStep, helped, hint_reply, unchanged}
 use Rattle.line_editor.specs.Values.EditStep.{Draws, Helped, Edits, TakesBack, Takes}
 use Rattle.line_editor.specs.declared.commands.Status.{Status}
 use Rattle.line_editor.proofs.PastLemmas.{plays_past, steps_past, phrase_keeps}
@@ -51,17 +51,17 @@ one_tells s own l x (Draws v m (Moved text at)) h fits =
     record { info_is = t.info_is; given_is = t.given_is }
 one_tells s own l x (Draws v m (Typed prompt c text at)) h fits = by_test (may_type (ruler_of s) l) refl
   where
-    by_test : (b : Bool) → may_type (ruler_of s) l ≡ b → TellsSight (if b then typed_short l c else full (ruler_of s) m l prompt true text at None).layout (sight x (Draws v m (Typed prompt c text at)))
+    by_test : (b : Bool) → may_type (ruler_of s) l ≡ b → TellsSight (if b then typed_short l c else full (ruler_of s) (shown_marks v m) l prompt true text at None).layout (sight x (Draws v m (Typed prompt c text at)))
     by_test true e = record { info_is = not-true l.has_info (and_parts (not l.has_info) _ e).0; given_is = h.given_is ∙ fits.0 }
     by_test false e = record { info_is = refl; given_is = refl }
 one_tells s own l x (Draws v m (Taken prompt count text at)) h fits = by_test (may_take l count) refl
   where
-    by_test : (b : Bool) → may_take l count ≡ b → TellsSight (if b then taken_short l count else full (ruler_of s) m l prompt true text at None).layout (sight x (Draws v m (Taken prompt count text at)))
+    by_test : (b : Bool) → may_take l count ≡ b → TellsSight (if b then taken_short l count else full (ruler_of s) (shown_marks v m) l prompt true text at None).layout (sight x (Draws v m (Taken prompt count text at)))
     by_test true e = record { info_is = not-true l.has_info (and_parts (not l.has_info) _ e).0; given_is = h.given_is ∙ fits.0 }
     by_test false e = record { info_is = refl; given_is = refl }
 one_tells s own l x (Draws v m (Bared prompt text at)) h fits = by_test l.default_prompt (h.given_is ∙ fits)
   where
-    by_test : (b : Bool) → b ≡ true → TellsSight (if b then nothing_asked l else full (ruler_of s) m l prompt true text at None).layout x
+    by_test : (b : Bool) → b ≡ true → TellsSight (if b then nothing_asked l else full (ruler_of s) (shown_marks v m) l prompt true text at None).layout x
     by_test true e = h
     by_test false e = cc
 one_tells s own l x (Draws v m ToEnd) h fits =
@@ -113,7 +113,7 @@ typed_bytes s l a v c t = sent_short s l a _ _ c (is_some (insertion c 1 v.line)
 
 short_bytes : (s : Screen) (l : Layout) (v : Value) (m : Option Marks) (prompt : List ℕ) (c : ℕ) (text : List ℕ) (at : ℕ) → is_printable c ≡ true → may_type (ruler_of s) l ≡ true → bytes_for s l (Draws v m (Typed prompt c text at) ∷ []) ≡ c ∷ []
 short_bytes s l v m prompt c text at printable may =
-    ap (λ b. flat_map (bytes_of s) ((if b then typed_short l c else full (ruler_of s) m l prompt true text at None).calls ++ [])) may
+    ap (λ b. flat_map (bytes_of s) ((if b then typed_short l c else full (ruler_of s) (shown_marks v m) l prompt true text at None).calls ++ [])) may
     ∙ append-nil (encode_utf8 c) ∙ encode_ascii c (small c printable)
 
 turned_steps : (n : ℕ) (a : Setting) (custom : Custom) (indent : ℕ) (k : LineState) (c : ℕ) → is_at_rest k.modal.standing ≡ true → (let phrase = phrase_script n custom (beginning k) in ReadAlone a indent k phrase c

@@ -15,7 +15,7 @@ own : List ℕ
 own = codes "> "
 
 eighty : Screen
-eighty = record { columns = 80; mode = Modes.Unicode; bell = Bells.Audible }
+eighty = record { columns = 80; mode = Modes.Unicode; bell = Bells.Audible; colours = false }
 
 a : List ℕ
 a = codes "a"

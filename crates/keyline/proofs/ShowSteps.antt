@@ -14,7 +14,7 @@ use Rattle.line_editor.specs.Redraws.{info_text, fresh, layout_of, full, nothing
 use Rattle.line_editor.specs.Redraws.Redraw.{Drawn, Moved, Typed, Taken, Bared, ToEnd, Beeped, Cleared}
 use Rattle.line_editor.specs.Sights.{Sight, sight_with, sight_as, no_sight, sight, ended_sight, TypedFits, TakenFits, Fits}
 use Rattle.line_editor.specs.Steps.{one}
-use Rattle.line_editor.specs.Values.{EditStep}
+use Rattle.line_editor.specs.Values.{shown_marks, EditStep}
 use Rattle.line_editor.specs.Values.EditStep.{Draws, Helped, Edits, TakesBack, Takes}
 use Rattle.line_screen.specs.Calls.{Screen, bytes_of, ruler_of}
 use Rattle.line_screen.specs.Chain.{View, Good, Inside, LeadsView, empty_view, Types, Picture, finish_of, cursor_of, above}
@@ -294,7 +294,7 @@ module _ (s : Screen) (low : 2 ≤ s.columns) (high : s.columns ≤ 1000) where
 
   pub step : (own bytes : List ℕ) (over : List Placed) (top : ℕ) (l : Layout) (x : Sight) (r : EditStep) → DisplayHolds s bytes over top l x → Fits own x r → LowStep s x r
       → DisplayHolds s (bytes ++ flat_map (bytes_of s) (one (ruler_of s) l r).calls) (above_by r over) (top_by r top) (one (ruler_of s) l r).layout (sight x r)
-  step own bytes over top l x (Draws v m (Drawn prompt given text at info)) h fits rows = drawn_holds bytes over top m l x prompt given text at info h.good h.cursor rows
+  step own bytes over top l x (Draws v m (Drawn prompt given text at info)) h fits rows = drawn_holds bytes over top (shown_marks v m) l x prompt given text at info h.good h.cursor rows
   step own bytes over top l x (Draws v m (Moved text at)) h fits rows =
       let y = sight_with x.given x.prompt x.line at x.info in
       let cursor = measure_of s.mode s.columns (take at text) l.prompt_size in
@@ -302,9 +302,9 @@ module _ (s : Screen) (low : 2 ≤ s.columns) (high : s.columns ≤ 1000) where
       let is : cursor ≡ cursor_of s.columns (widths s) (picture y) =
       ap (measure_of s.mode s.columns (take at text)) h.prompt_size ∙ ap (λ t. measure_of s.mode s.columns (take at t) (measure_of s.mode s.columns x.prompt origin)) fits ∙ measured.0 rows.cursor in
       moved_if bytes over top l x at cursor (same_cell l.cursor cursor) h is rows refl
-  step own bytes over top l x (Draws v m (Typed prompt c text at)) h fits rows = typed_if bytes over top m l x prompt c text at (may_type (ruler_of s) l) h fits.0 fits.2 fits.3 rows refl
-  step own bytes over top l x (Draws v m (Taken prompt count text at)) h fits rows = taken_if bytes over top m l x prompt count text at (may_take l count) h fits.0 fits.2 rows refl
-  step own bytes over top l x (Draws v m (Bared prompt text at)) h fits rows = bared_if bytes over top m l x prompt text at l.default_prompt h (h.given_is ∙ fits)
+  step own bytes over top l x (Draws v m (Typed prompt c text at)) h fits rows = typed_if bytes over top (shown_marks v m) l x prompt c text at (may_type (ruler_of s) l) h fits.0 fits.2 fits.3 rows refl
+  step own bytes over top l x (Draws v m (Taken prompt count text at)) h fits rows = taken_if bytes over top (shown_marks v m) l x prompt count text at (may_take l count) h fits.0 fits.2 rows refl
+  step own bytes over top l x (Draws v m (Bared prompt text at)) h fits rows = bared_if bytes over top (shown_marks v m) l x prompt text at l.default_prompt h (h.given_is ∙ fits)
   step own bytes over top l x (Draws v m ToEnd) h fits rows = end_if bytes over top l x (same_cell l.cursor l.end) h (record { finish = rows.finish; cursor = rows.cursor }) refl
   step own bytes over top l x (Draws v m Beeped) h fits rows = same_holds bytes over top l x Beep h refl (λ e. cc)
   step own bytes over top l x (Draws v m Cleared) h fits rows = fresh_holds (bytes ++ flat_map (bytes_of s) (ClearScreen ∷ [])) [] 0 l (cleared_led bytes over (view_in s top x) h.good)

@@ -93,7 +93,7 @@ edit_helping = helping_by (λ helper line pos entries place. gives_at_once None)
     helper.completer (gives_at_once nothing_offered))
     (λ helper line start elected. option_map_or (λ words. gives (tt {0})) helper.completer
     (gives (tt {0})))
-    (λ helper line pos kind. false)
+    (λ helper. no_marks)
 
 abbrev pub nothing_bound : Custom
 nothing_bound = record { answers = λ event. None; begins = λ keys. false }

@@ -29,8 +29,12 @@ given_of config custom prompt screen helping =
     record { config = config; custom = custom; prompt = prompt; screen = screen; helping = helping }
 
 abbrev pub screen_by : Config → ℕ → Screen
-screen_by config columns =
-    record { columns = columns; mode = config.grapheme_cluster_mode; bell = config.bell_style }
+screen_by config columns = record {
+  columns = columns;
+  mode = config.grapheme_cluster_mode;
+  bell = config.bell_style;
+  colours = false;
+}
 
 -- what is passed in for one of its lines: a prompt, and the columns of the screen's rows
 pub record LineGiven : Type 0 where

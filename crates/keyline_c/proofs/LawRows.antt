@@ -59,7 +59,7 @@ no_drawing_row = refl
 -- ---- both show the same below other text
 
 eighty : Screen
-eighty = record { columns = 80; mode = Modes.Unicode; bell = Bells.Audible }
+eighty = record { columns = 80; mode = Modes.Unicode; bell = Bells.Audible; colours = false }
 
 above_it : List ℕ
 above_it = codes "ok" ++ 0x0D ∷ 0x0A ∷ []

@@ -13,7 +13,7 @@ use Rattle.line_help.specs.declared.highlight as highlights
 use Rattle.line_help.specs.declared.validate as verdicts
 use Rattle.line_help.specs.declared.history as histories
 use Rattle.line_edits.specs.Steps.{WriteSteps}
-use Rattle.line_editor.specs.Calls.{Ruler, MadeIn}
+use Rattle.line_editor.specs.Calls.{Marks, Ruler, MadeIn}
 use Rattle.line_editor.specs.Redraws.{Asked, then_asked}
 use Rattle.line_editor.specs.Steps.{asked, Surface, surface, Stops}
 use Rattle.line_editor.specs.States.{hooks_of, value_of, setting_of, reason_of, surface_of, Stays, Does, Renders}
@@ -31,7 +31,7 @@ pub if_refused : {A : Type 0} {Q R : ReadlineError → Type 0} (result : Result 
 if_refused (Ok x) go k = tt
 if_refused (Err e) go k = go e k
 
-abbrev setting_by : Ruler → List ℕ → Option Hooks → Option (List ℕ → ℕ → CmdKind → Bool) → List (List ℕ) → Setting
+abbrev setting_by : Ruler → List ℕ → Option Hooks → Option Marks → List (List ℕ) → Setting
 setting_by r prompt hooks marks entries = record {
   prompt = prompt;
   column = (r.measure prompt origin).col;

@@ -18,7 +18,7 @@ use Rattle.line_editor.specs.Redraws.{Redraw, Asked, asked_by, nothing_asked, mo
 use Rattle.line_editor.specs.Redraws.Redraw.{Drawn, Typed, Taken, Bared}
 use Rattle.line_editor.specs.States.{value_of, setting_of, surface_of, Stays, Does, Renders}
 use Rattle.line_editor.specs.Steps.{Surface}
-use Rattle.line_editor.specs.Values.{Setting, Value, Transition, redrawn}
+use Rattle.line_editor.specs.Values.{Setting, Value, Transition, redrawn, shown_marks}
 use Rattle.line_editor.specs.declared.renderer as renderers
 use Rattle.line_editor.specs.declared.state.State.{State}
 use Rattle.line_editor.proofs.DoesLemmas.{does_refused, if_refused, is_err}
@@ -31,7 +31,7 @@ asks a = then_asked a (nothing_asked a.layout)
 module _ {Out H Hi K T : Type 0} {renderer : renderers.Renderer.Ghosts Out} {completer : completions.Completer.Ghosts H K} {candidate : completions.Candidate.Ghosts K}
     {hinter : hints.Hinter.Ghosts H T} {hint : hints.Hint.Ghosts T} {highlighter : highlights.Highlighter.Ghosts H} {validator : verdicts.Validator.Ghosts H} {history : histories.History.Ghosts Hi} where
   drawn_as : {A : Type 0} (x y : Setting → Value → Redraw) (s t : State Out H Hi K T renderer completer candidate hinter hint highlighter validator history) (result : Result A ReadlineError)
-      → (let r : Ruler = renderer.canvas.ruler s.out in asked_by r (setting_of s).marks s.layout (x (setting_of s) (value_of s)) ≡ asked_by r (setting_of s).marks s.layout (y (setting_of s) (value_of s)))
+      → (let r : Ruler = renderer.canvas.ruler s.out in asked_by r (shown_marks (value_of s) (setting_of s).marks) s.layout (x (setting_of s) (value_of s)) ≡ asked_by r (shown_marks (value_of s) (setting_of s).marks) s.layout (y (setting_of s) (value_of s)))
       → Does (λ a v. redrawn (x a v) a v) s t result → Does (λ a v. redrawn (y a v) a v) s t result
   drawn_as x y s t result same h = record {
     value = h.value;
@@ -46,23 +46,23 @@ module _ {Out H Hi K T : Type 0} {renderer : renderers.Renderer.Ghosts Out} {com
   pub typed_drawn : {A : Type 0} (c : ℕ) (s t : State Out H Hi K T renderer completer candidate hinter hint highlighter validator history) (result : Result A ReadlineError)
       → may_type (renderer.canvas.ruler s.out) s.layout ≡ false → Does (drawn_with None) s t result → Does (λ a v. redrawn (Typed a.prompt c v.line.text v.line.place) a v) s t result
   typed_drawn c s t result is h = drawn_as (λ a v. Drawn a.prompt true v.line.text v.line.place None) (λ a v. Typed a.prompt c v.line.text v.line.place) s t result
-      (ap (λ b. if b then typed_short s.layout c else full (renderer.canvas.ruler s.out) (setting_of s).marks s.layout s.prompt.now true s.recorded.line.text s.recorded.line.place None) (sym is)) h
+      (ap (λ b. if b then typed_short s.layout c else full (renderer.canvas.ruler s.out) (shown_marks (value_of s) (setting_of s).marks) s.layout s.prompt.now true s.recorded.line.text s.recorded.line.place None) (sym is)) h
 
   pub taken_drawn : {A : Type 0} (count : ℕ) (s t : State Out H Hi K T renderer completer candidate hinter hint highlighter validator history) (result : Result A ReadlineError)
       → may_take s.layout count ≡ false → Does (drawn_with None) s t result → Does (λ a v. redrawn (Taken a.prompt count v.line.text v.line.place) a v) s t result
   taken_drawn count s t result is h = drawn_as (λ a v. Drawn a.prompt true v.line.text v.line.place None) (λ a v. Taken a.prompt count v.line.text v.line.place) s t result
-      (ap (λ b. if b then taken_short s.layout count else full (renderer.canvas.ruler s.out) (setting_of s).marks s.layout s.prompt.now true s.recorded.line.text s.recorded.line.place None) (sym is)) h
+      (ap (λ b. if b then taken_short s.layout count else full (renderer.canvas.ruler s.out) (shown_marks (value_of s) (setting_of s).marks) s.layout s.prompt.now true s.recorded.line.text s.recorded.line.place None) (sym is)) h
 
   pub bared_drawn : {A : Type 0} (s t : State Out H Hi K T renderer completer candidate hinter hint highlighter validator history) (result : Result A ReadlineError)
       → s.layout.default_prompt ≡ false → Does (drawn_with None) s t result → Does (λ a v. redrawn (Bared a.prompt v.line.text v.line.place) a v) s t result
   bared_drawn s t result is h = drawn_as (λ a v. Drawn a.prompt true v.line.text v.line.place None) (λ a v. Bared a.prompt v.line.text v.line.place) s t result
-      (ap (λ b. if b then nothing_asked s.layout else full (renderer.canvas.ruler s.out) (setting_of s).marks s.layout s.prompt.now true s.recorded.line.text s.recorded.line.place None) (sym is)) h
+      (ap (λ b. if b then nothing_asked s.layout else full (renderer.canvas.ruler s.out) (shown_marks (value_of s) (setting_of s).marks) s.layout s.prompt.now true s.recorded.line.text s.recorded.line.place None) (sym is)) h
 
   -- ---- the cursor moved to a cell
 
   -- it stands there
   pub cursor_rests : {A : Type 0} (x : Setting → Value → Redraw) (p : Position) (s t : State Out H Hi K T renderer completer candidate hinter hint highlighter validator history) (y : A)
-      → moved s.layout p ≡ asked_by (renderer.canvas.ruler s.out) (setting_of s).marks s.layout (x (setting_of s) (value_of s)) → same_cell s.layout.cursor p ≡ true
+      → moved s.layout p ≡ asked_by (renderer.canvas.ruler s.out) (shown_marks (value_of s) (setting_of s).marks) s.layout (x (setting_of s) (value_of s)) → same_cell s.layout.cursor p ≡ true
       → value_of t ≡ value_of s → surface_of t ≡ surface_of s → Stays s t → Renders (λ a v. redrawn (x a v) a v) s t (Ok y)
   cursor_rests x p s t y is same value surface stays =
       let asked = ap (λ b. if b then nothing_asked s.layout else moved_by_call s.layout p) (sym same) ∙ is in
@@ -80,7 +80,7 @@ module _ {Out H Hi K T : Type 0} {renderer : renderers.Renderer.Ghosts Out} {com
 
   -- it was moved
   pub cursor_goes : {A : Type 0} (x : Setting → Value → Redraw) (p : Position) (s t : State Out H Hi K T renderer completer candidate hinter hint highlighter validator history) (y : A)
-      → moved s.layout p ≡ asked_by (renderer.canvas.ruler s.out) (setting_of s).marks s.layout (x (setting_of s) (value_of s)) → same_cell s.layout.cursor p ≡ false
+      → moved s.layout p ≡ asked_by (renderer.canvas.ruler s.out) (shown_marks (value_of s) (setting_of s).marks) s.layout (x (setting_of s) (value_of s)) → same_cell s.layout.cursor p ≡ false
       → value_of t ≡ value_of s → renderer.canvas.made s.out (Move s.layout.cursor p) t.out → t.layout ≡ record s.layout { cursor = p } → Stays s t → Renders (λ a v. redrawn (x a v) a v) s t (Ok y)
   cursor_goes x p s t y is same value made layout stays =
       let asked = ap (λ b. if b then nothing_asked s.layout else moved_by_call s.layout p) (sym same) ∙ is in
@@ -99,7 +99,7 @@ module _ {Out H Hi K T : Type 0} {renderer : renderers.Renderer.Ghosts Out} {com
   -- it failed
   pub cursor_refused : {A : Type 0} (x : Setting → Value → Redraw) (p : Position) (s t : State Out H Hi K T renderer completer candidate hinter hint highlighter validator history)
       (e : ReadlineError) (result : Result A ReadlineError) → IsErrAnd result (λ y. y ≡ e) → e ≡ Display
-      → moved s.layout p ≡ asked_by (renderer.canvas.ruler s.out) (setting_of s).marks s.layout (x (setting_of s) (value_of s)) → same_cell s.layout.cursor p ≡ false
+      → moved s.layout p ≡ asked_by (renderer.canvas.ruler s.out) (shown_marks (value_of s) (setting_of s).marks) s.layout (x (setting_of s) (value_of s)) → same_cell s.layout.cursor p ≡ false
       → value_of t ≡ value_of s → renderer.canvas.refused s.out (Move s.layout.cursor p) t.out → IsTrue (renderer.canvas.failed t.out) → t.layout ≡ s.layout → Stays s t
       → Renders (λ a v. redrawn (x a v) a v) s t result
   cursor_refused {A} x p s t e result failed fault is same value refused why layout stays =

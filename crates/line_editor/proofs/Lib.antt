@@ -14,6 +14,7 @@ pub mod MeetLeads
 pub mod MeetLemmas
 pub mod LeadLemmas
 pub mod LineLeads
+pub mod MarkLemmas
 pub mod CandidateLemmas
 pub mod CarriesLemmas
 pub mod ObeyLemmas

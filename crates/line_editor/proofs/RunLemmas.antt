@@ -17,9 +17,8 @@ use Rattle.line_keys.specs.Coming.{Coming, made_of}
 use Rattle.line_keys.specs.Feeds.{KeyFeed}
 use Rattle.line_keys.specs.InputStates.{new_input}
 use Rattle.line_keys.specs.Phrases.{Input}
-use Rattle.line_keys.specs.declared.command.CmdKind.{CmdKind}
 use Rattle.line_record.specs.Ring.{Ring}
-use Rattle.line_editor.specs.Calls.{Canvas, Ruler}
+use Rattle.line_editor.specs.Calls.{Canvas, Marks, Ruler}
 use Rattle.line_editor.specs.LineScripts.{LineStage, kept, line_script, line_world, line_stage}
 use Rattle.line_editor.specs.Redraws.{fresh}
 use Rattle.line_editor.specs.Running.{Helping, helping_by, setting_by, stage_first, text_or, outcome_of, open_or, IsOpen, Runs}
@@ -94,7 +93,7 @@ cause_to custom b c P Q feed _ same go why = why
 
 -- ---- the line's setting
 
-abbrev helping : Option Hooks → Option (List ℕ → ℕ → CmdKind → Bool) → Helping
+abbrev helping : Option Hooks → Option Marks → Helping
 helping hooks marks = record { hooks = hooks; marks = marks }
 
 abbrev Failing : Helping → Type 0

@@ -14,7 +14,7 @@ use Rattle.line_editor.specs.Completing.{updates}
 use Rattle.line_editor.specs.Redraws.{Redraw, Asked, asked_by, then_asked}
 use Rattle.line_editor.specs.States.{fails_by, IsHelpFault}
 use Rattle.line_editor.specs.Steps.{one, asked, Surface, surface, SameBeside, Unhelped, UndonePartly, StepMade, Stops}
-use Rattle.line_editor.specs.Values.{Value, EditStep, written_of, rewritten, helped}
+use Rattle.line_editor.specs.Values.{Value, EditStep, written_of, rewritten, helped, shown_marks}
 use Rattle.line_editor.specs.Values.EditStep.{Draws, Edits, TakesBack, Takes}
 
 -- ---- calls
@@ -74,14 +74,14 @@ module _ {R : Type 0} (canvas : Canvas R) (r : Ruler) where
 
   -- at a drawing
   pub stops_drawing : (stands : Value) (marks : Option Marks) (x : Redraw) (more : List EditStep) (old new : Surface R) (fault : ReadlineError) (v : Value)
-      → fault ≡ Display → BrokenOff canvas (asked_by r marks old.layout x).calls old.out new.out → new.layout ≡ old.layout → v ≡ stands
+      → fault ≡ Display → BrokenOff canvas (asked_by r (shown_marks stands marks) old.layout x).calls old.out new.out → new.layout ≡ old.layout → v ≡ stands
       → Stops canvas r (Draws stands marks x ∷ more) old fault v new
   unfolding Stops
   stops_drawing stands marks x more old new fault v is broken layout value = inr (is, broken, layout, value)
 
   -- another drawing asks the same
   pub stops_drawn_as : (stands : Value) (marks : Option Marks) (x y : Redraw) (old new : Surface R) (fault : ReadlineError) (v : Value)
-      → asked_by r marks old.layout x ≡ asked_by r marks old.layout y → Stops canvas r (Draws stands marks x ∷ []) old fault v new → Stops canvas r (Draws stands marks y ∷ []) old fault v new
+      → asked_by r (shown_marks stands marks) old.layout x ≡ asked_by r (shown_marks stands marks) old.layout y → Stops canvas r (Draws stands marks x ∷ []) old fault v new → Stops canvas r (Draws stands marks y ∷ []) old fault v new
   unfolding Stops
   stops_drawn_as stands marks x y old new fault v same (inl (between, made, h)) = absurd h
   stops_drawn_as stands marks x y old new fault v same (inr (is, broken, layout, value)) =

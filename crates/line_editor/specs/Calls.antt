@@ -6,12 +6,11 @@ use Rattle.line_buffer.specs.declared.layout.Layout.{Layout}
 use Rattle.line_buffer.specs.declared.layout.Position.{Position}
 use Rattle.line_config.specs.declared.errors.ReadlineError.{ReadlineError}
 use Rattle.line_config.specs.declared.errors.ReadlineError.TheVariants.{Display}
-use Rattle.line_keys.specs.declared.command.CmdKind.{CmdKind}
+use Rattle.line_help.specs.Paints as help
 
--- which characters a highlighter marks, depending on the line, the place and the reason of the
--- drawing
+-- what a highlighter marks, and the styles of each text
 abbrev pub Marks : Type 0
-Marks = List ℕ → ℕ → CmdKind → Bool
+Marks = help.Marks
 
 pub data Call : Type 0 where
   -- prompt, line and information drawn in full, in place of an older drawing, if there is one. A

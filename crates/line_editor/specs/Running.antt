@@ -17,7 +17,6 @@ use Rattle.line_keys.specs.Coming.{Coming, made_of}
 use Rattle.line_keys.specs.Feeds.{KeyFeed}
 use Rattle.line_keys.specs.InputStates.{new_input}
 use Rattle.line_keys.specs.Phrases.{Input}
-use Rattle.line_keys.specs.declared.command.CmdKind.{CmdKind}
 use Rattle.line_record.specs.Ring.{Ring}
 use Rattle.line_editor.specs.Calls.{Canvas, Ruler}
 use Rattle.line_editor.specs.LineScripts.{LineState, LineAsk, LineStage, kept, line_script, line_world, played_from, line_stage}
@@ -31,7 +30,7 @@ use Rattle.line_editor.specs.declared.running.Ran.{Ran}
 -- the replies of a helper's hooks, if there is one
 pub record Helping : Type 0 where
   pub hooks : Option Hooks
-  pub marks : Option (List ℕ → ℕ → CmdKind → Bool)
+  pub marks : Option Marks
 
 -- what is passed in for a line
 abbrev pub setting_by : Ruler → List ℕ → Helping → List (List ℕ) → Setting
@@ -65,7 +64,7 @@ line_played n s custom config ring query c =
 -- a helper, if there is one, by its replies
 abbrev pub helping_by : {H : Type 0} → (H → Answers (Reply (Option Hinted)))
     → (H → List ℕ → Reply ValidationResult) → (H → Answers (Reply Completion))
-    → (H → Line → ℕ → List ℕ → Reply ⊤) → (H → List ℕ → ℕ → CmdKind → Bool) → Option H → Helping
+    → (H → Line → ℕ → List ℕ → Reply ⊤) → (H → Marks) → Option H → Helping
 helping_by hint_of verdict_of completion_of update_of marks helper = record {
   hooks = option_map (hooks_by hint_of verdict_of completion_of update_of) helper;
   marks = option_map marks helper;

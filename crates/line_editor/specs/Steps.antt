@@ -9,7 +9,7 @@ use Rattle.line_record.specs.Items.{Item, BackInPart, DoneStand, done_held, last
 use Rattle.line_editor.specs.Calls.{Canvas, Ruler, MadeIn, BrokenOff}
 use Rattle.line_editor.specs.Calls.Call.{Help}
 use Rattle.line_editor.specs.Redraws.{Asked, asked_by, nothing_asked, then_asked}
-use Rattle.line_editor.specs.Values.{Value, EditStep, written_of}
+use Rattle.line_editor.specs.Values.{Value, EditStep, written_of, shown_marks}
 use Rattle.line_editor.specs.Values.EditStep.{Draws, Helped, Edits, TakesBack, Takes}
 
 -- ---- the calls of steps
@@ -18,7 +18,7 @@ abbrev pub help_asked : Layout → Bool → Asked
 help_asked l fails = record { calls = Help fails ∷ []; layout = l }
 
 abbrev pub one : Ruler → Layout → EditStep → Asked
-one r l (Draws v marks x) = asked_by r marks l x
+one r l (Draws v marks x) = asked_by r (shown_marks v marks) l x
 one r l (Helped v fails takes) = help_asked l fails
 one r l (Edits v edit) = nothing_asked l
 one r l (TakesBack v count) = nothing_asked l
@@ -68,7 +68,8 @@ StepMade canvas r s step t =
 abbrev pub StepCut : {R : Type 0} → Canvas R → Ruler → Surface R → EditStep → ReadlineError → Value
     → Surface R → Type 0
 StepCut canvas r s (Draws v marks x) fault value t =
-    (fault ≡ Display) × BrokenOff canvas (asked_by r marks s.layout x).calls s.out t.out
+    (fault ≡ Display) × BrokenOff canvas (asked_by r (shown_marks v marks) s.layout x).calls s.out
+    t.out
     × (t.layout ≡ s.layout) × (value ≡ v)
 StepCut canvas r s (Helped v fails takes) fault value t =
     Unhelped fails takes fault × (t ≡ s) × (value ≡ v)

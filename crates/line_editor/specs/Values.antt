@@ -1,5 +1,5 @@
 -- The editor's value, what is passed in for a line, and the effect of an edit.
-use Rattle.std.specs.Prelude.{◌⊎◌, ⊤, ℕ, Bool, true, false, List, [], ◌∷◌, ◌++◌, Option, Some, None, length, ◌==◌, if◌then◌else◌, option_map, IsTrue, IsSomeAnd}
+use Rattle.std.specs.Prelude.{◌⊎◌, ⊤, ℕ, Bool, true, false, List, [], ◌∷◌, ◌++◌, Option, Some, None, is_some, not, length, ◌==◌, if◌then◌else◌, option_map, IsTrue, IsSomeAnd}
 use Rattle.line_buffer.specs.Line.{Line}
 use Rattle.line_buffer.specs.declared.layout.GraphemeClusterMode.{GraphemeClusterMode}
 use Rattle.line_edits.specs.Edits.{by}
@@ -7,6 +7,10 @@ use Rattle.line_edits.specs.Steps.{WriteSteps, answering}
 use Rattle.line_edits.specs.Written.{Written, group_opened, group_closed}
 use Rattle.line_help.specs.Completion.{Completion}
 use Rattle.line_help.specs.Hints.{Hinted, Answers}
+use Rattle.line_help.specs.declared.style.Mark.{Mark}
+use Rattle.line_help.specs.declared.style.Part.{Part}
+use Rattle.line_help.specs.declared.style.Part.TheVariants.{Line as OfLine, Hint as OfHint, Message}
+use Rattle.line_help.specs.declared.style.Span.{Span}
 use Rattle.line_keys.specs.Replies.{Reply, fails}
 use Rattle.line_help.specs.declared.validate.ValidationResult.{ValidationResult}
 use Rattle.line_keys.specs.declared.command.CmdKind.{CmdKind}
@@ -92,6 +96,29 @@ pub record Effect : Type 0 where
 
 abbrev pub Transition : Type 0
 Transition = Setting → Value → Effect
+
+-- of a highlighter's styles those that a drawing has: the line's own only where the line is marked,
+-- and a message's in the place of a hint's where one is told
+abbrev pub seen_paints : Bool → Bool → (Part → List ℕ → Mark → List Span) → Part → List ℕ → Mark
+    → List Span
+seen_paints marked told paints (OfLine pos) text from =
+    if marked then paints (OfLine pos) text from else []
+seen_paints marked told paints OfHint text from =
+    paints (if told then Message else OfHint) text from
+seen_paints marked told paints part text from = paints part text from
+
+abbrev pub seen_marks : Bool → Bool → Marks → Marks
+seen_marks marked told m = record {
+  marked = m.marked;
+  paints = seen_paints marked told m.paints;
+}
+
+abbrev pub seen : Bool → Bool → Option Marks → Option Marks
+seen marked told marks = option_map (seen_marks marked told) marks
+
+-- those that the drawing of a value has: what stands after a line without a hint is a message
+abbrev pub shown_marks : Value → Option Marks → Option Marks
+shown_marks v marks = seen v.marked (not (is_some v.hint)) marks
 
 -- ---- one edit, then another
 
@@ -200,7 +227,7 @@ shown_hint v = option_map (λ h. h.display) v.hint
 
 abbrev pub marked_by : Option Marks → List ℕ → ℕ → CmdKind → Bool
 marked_by None text place kind = false
-marked_by (Some marks) text place kind = marks text place kind
+marked_by (Some marks) text place kind = marks.marked text place kind
 
 -- new marks
 abbrev pub with_mark : CmdKind → Setting → Value → Value

@@ -1,9 +1,9 @@
 //! Draws a state.
-ghost use Rattle.std.specs.Prelude.{◌≡◌, ◌+◌, ◌<◌, ◌≤◌, Some, None, if◌then◌else◌, IfOk, IsTrue, option_map, option_copied};
+ghost use Rattle.std.specs.Prelude.{◌≡◌, ◌+◌, ◌<◌, ◌≤◌, Some, None, is_some, not, if◌then◌else◌, IfOk, IsTrue, option_map, option_copied};
 ghost use Rattle.line_buffer.specs.Cells.{origin};
 ghost use Rattle.line_editor.specs.Calls.{Makes};
 ghost use Rattle.line_editor.specs.Calls.Call.{Draw};
-ghost use Rattle.line_editor.specs.Values.{hooks_by, marked_by};
+ghost use Rattle.line_editor.specs.Values.{hooks_by, marked_by, seen};
 ghost use Rattle.line_editor.specs.Redraws.{layout_of, may_type, may_take};
 
 use crate::renderer::{RefreshKind, Renderer};
@@ -74,9 +74,19 @@ fn may_take(layout: &Layout, count: usize) -> bool
     !layout.has_info && layout.cursor.row == layout.end.row && count <= usize::from(layout.end.col)
 }
 
+/// Whether a text after the line is a message: no hint is kept.
+fn tells<T: Hint>(hint: &Option<T>) -> bool
+    ensures { result ≡ not (is_some (option_map T.says hint.now)) }
+{
+    match hint {
+        Some(_) => false,
+        None => true,
+    }
+}
+
 /// Draws a line, and what is shown after it, over an older drawing. Returns the layout of the new
 /// one.
-fn draw_over<Out: Renderer, H: Highlighter>(
+fn draw_over<Out: Renderer, H: Highlighter, T: Hint>(
     out: &mut Out,
     old: Layout,
     prompt: &str,
@@ -84,13 +94,16 @@ fn draw_over<Out: Renderer, H: Highlighter>(
     line: &LineBuffer,
     info: Option<&str>,
     helper: &Option<H>,
+    marked: bool,
+    hint: &Option<T>,
 ) -> Result<Layout, ReadlineError>
     ensures makes { let ruler = Out.canvas.ruler out.old in
         let new = layout_of ruler (ruler.measure prompt.now origin) given line.now.text
         line.now.place (option_copied info.entry) in
         Makes Out.canvas (Draw prompt.now line.now.text line.now.place
         (option_copied info.entry) (Some old) new
-        (if ruler.colours then option_map H.marks helper.now else None))
+        (seen marked (not (is_some (option_map T.says hint.now)))
+        (if ruler.colours then option_map H.marks helper.now else None)))
         out.old out.new result }
     ensures layout { let ruler = Out.canvas.ruler out.old in
         IfOk result (λ new. new ≡ layout_of ruler (ruler.measure prompt.now origin) given
@@ -100,7 +113,17 @@ fn draw_over<Out: Renderer, H: Highlighter>(
     let start = out.calculate_position(prompt, origin);
     let layout = out.compute_layout(start, given, line, info);
     let highlighter = highlighter_of(helper, out.colors_enabled());
-    out.refresh_line(prompt, line, info, Some(old), &layout, highlighter)?;
+    let told = tells(hint);
+    out.refresh_line(
+        prompt,
+        line,
+        info,
+        Some(old),
+        &layout,
+        highlighter,
+        marked,
+        told,
+    )?;
     Ok(layout)
 }
 
@@ -181,6 +204,8 @@ impl<'p, 'h, Out: Renderer, H: Helper + Drop, Hi: History> State<'p, 'h, Out, H,
             &self.recorded.line,
             info,
             &self.helper,
+            self.highlight_char,
+            &self.hint,
         )?;
         self.known = Some((pos, self.layout.cursor));
         Ok(())
@@ -200,6 +225,8 @@ impl<'p, 'h, Out: Renderer, H: Helper + Drop, Hi: History> State<'p, 'h, Out, H,
             &self.recorded.line,
             info,
             &self.helper,
+            self.highlight_char,
+            &self.hint,
         )?;
         self.known = Some((pos, self.layout.cursor));
         Ok(())

@@ -6,6 +6,7 @@ ghost use Rattle.line_config.specs.declared.errors.ReadlineError.TheVariants.{Di
 ghost use Rattle.line_editor.specs.Calls.{Canvas, Makes, Idles};
 ghost use Rattle.line_editor.specs.Calls.Call.{Draw, Move, Write, Beep, ClearScreen, ClearRows, ClearToEol, MoveAndClearToEol, ToLeftmost};
 ghost use Rattle.line_editor.specs.Redraws.{layout_of};
+ghost use Rattle.line_editor.specs.Values.{seen};
 
 use line_buffer::{GraphemeClusterMode, Layout, LineBuffer, Position, Unit};
 use line_config::ReadlineError;
@@ -35,7 +36,8 @@ pub trait Renderer: Drop {
     /// is erased: then the cursor must be on the prompt's first cell, and the cells from there on
     /// blank.
     ///
-    /// A highlighter is given if the display has colours.
+    /// A highlighter is given if the display has colours. The line has its styles if it is
+    /// `marked`. The text after it is a message if `told`, else a hint.
     fn refresh_line<H: Highlighter>(
         &mut self,
         prompt: &str,
@@ -44,10 +46,13 @@ pub trait Renderer: Drop {
         old_layout: Option<Layout>,
         new_layout: &Layout,
         highlighter: Option<&H>,
+        marked: bool,
+        told: bool,
     ) -> Result<(), ReadlineError>
         ensures { Makes canvas (Draw prompt.now line.now.text line.now.place
             (option_copied hint.entry) old_layout new_layout.now
-            (option_map H.marks (option_copied highlighter.entry))) self.old self.new result };
+            (seen marked told (option_map H.marks (option_copied highlighter.entry))))
+            self.old self.new result };
 
     /// Writes a text at the cursor.
     fn write_and_flush(&mut self, text: &str) -> Result<(), ReadlineError>

@@ -6,6 +6,7 @@ pub mod History
 pub mod HistoryText
 pub mod Highlights
 pub mod Hints
+pub mod Paints
 pub mod Quotes
 pub mod Search
 pub mod Validation

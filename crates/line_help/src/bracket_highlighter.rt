@@ -1,9 +1,12 @@
 //! Highlights the bracket that matches the one at the cursor.
 ghost use Rattle.std.specs.Prelude.{◌≡◌, ◌<◌, ⊤, IfOk, IfSome, is_some, string_bytes, slice_get, Some, None};
+ghost use Rattle.line_help.specs.declared.style.Part.TheVariants.{Line};
+ghost use Rattle.line_help.specs.Paints.{paints_match, IsNextSpan, lit, match_place};
 ghost use Rattle.line_help.specs.Highlights.{kept_bracket, match_to_show, shown_with_match, with_bold_byte};
 
 use crate::brackets::{check_bracket, find_matching_bracket};
 use crate::highlight::Highlighter;
+use crate::style::{Colour, Hue, Mark, Part, Span, Style};
 use line_config::{CompletionType, HookFault};
 use line_keys::CmdKind;
 use std::alloc::{AllocError, Global};
@@ -59,7 +62,10 @@ impl Default for MatchingBracketHighlighter {
 
 #[tactic(auto, using(crate::proofs::HighlightLemmas::plain))]
 impl Highlighter for MatchingBracketHighlighter {
-    ghost marks = { λ self line pos kind. is_some (kept_bracket line pos kind) };
+    ghost marks = { λ self. record {
+        marked = λ line pos kind. is_some (kept_bracket line pos kind);
+        paints = paints_match;
+    } };
 
     ghost kept = { λ before after. ⊤ };
 
@@ -116,6 +122,69 @@ impl Highlighter for MatchingBracketHighlighter {
             CmdKind::MoveCursor | CmdKind::Other => check_bracket(line, pos),
         };
         self.bracket.is_some()
+    }
+
+    /// Three spans: up to the match of the bracket at the cursor, the match, and what follows. It is
+    /// looked for at the first one, so nothing that is kept matters.
+    fn next_span(&self, part: Part, text: &str, from: Mark) -> Option<(Span, Mark)> {
+        match part {
+            Part::Line(pos) => match_span(text, pos, from),
+            Part::Prompt(_) | Part::Hint | Part::Message => None,
+        }
+    }
+}
+
+/// The place of the match that is to be shown.
+fn match_place(text: &str, pos: usize) -> Option<usize>
+    ensures { result ≡ match_place text.now pos }
+{
+    let kept = MatchingBracketHighlighter {
+        bracket: check_bracket(text, pos),
+    };
+    let (_, place) = kept.match_in(text)?;
+    Some(place)
+}
+
+fn match_span(text: &str, pos: usize, from: Mark) -> Option<(Span, Mark)>
+    ensures { IsNextSpan (paints_match (Line pos) text.now) from result }
+{
+    match from.state {
+        0 => match match_place(text, pos) {
+                Some(place) => Some((
+                    Span {
+                        len: place,
+                        style: Style::plain(),
+                    },
+                    Mark { at: place, state: 1 },
+                )),
+                None => None,
+            },
+        1 => Some((
+            Span {
+                len: 1,
+                style: lit(),
+            },
+            Mark {
+                at: from.at,
+                state: 2,
+            },
+        )),
+        _ => None,
+    }
+}
+
+/// Bold and blue.
+fn lit() -> Style
+    ensures { result ≡ lit }
+{
+    Style {
+        text: Colour::Basic(Hue::Blue),
+        ground: Colour::Terminal,
+        bold: true,
+        faint: false,
+        italic: false,
+        underline: false,
+        reverse: false,
     }
 }
 

@@ -8,6 +8,7 @@ use crate::helper::Helper;
 use crate::highlight::Highlighter;
 use crate::hint::Hinter;
 use crate::history::History;
+use crate::style::{Mark, Part, Span};
 use crate::validate::{ValidationContext, ValidationResult, Validator};
 use line_buffer::{ChangeListener, LineBuffer};
 use line_config::{CompletionType, HookFault};
@@ -119,6 +120,10 @@ impl<C, I, L: Highlighter, V> Highlighter for HelperParts<C, I, L, V> {
 
     fn highlight_char(&mut self, line: &str, pos: usize, kind: CmdKind) -> bool {
         self.highlighter.highlight_char(line, pos, kind)
+    }
+
+    fn next_span(&self, part: Part, text: &str, from: Mark) -> Option<(Span, Mark)> {
+        self.highlighter.next_span(part, text, from)
     }
 }
 

@@ -1,11 +1,12 @@
 //! Highlighting: lines, prompts, hints and candidates with styles.
-ghost use Rattle.std.specs.Prelude.{◌≡◌, ℕ, List, Bool, false, box_value};
+ghost use Rattle.std.specs.Prelude.{◌≡◌, ℕ, List, [], box_value};
 ghost use Rattle.std.specs.Cow.{cow_str_bytes};
-ghost use Rattle.line_keys.specs.declared.command.CmdKind.{CmdKind};
 ghost use Rattle.line_help.specs.Highlights.{DisplayPart, Highlights};
 ghost use Rattle.line_help.specs.Highlights.DisplayPart.{OfLine, OfPrompt, OfHint, OfCandidate};
+ghost use Rattle.line_help.specs.Paints.{Marks, no_marks, IsNextSpan};
 ghost use Rattle.line_keys.specs.Replies.{Reply, gives_at_once};
 
+use crate::style::{Mark, Part, Span};
 use line_config::{CompletionType, HookFault};
 use line_keys::CmdKind;
 use std::alloc::{Allocator, Global};
@@ -17,8 +18,8 @@ use std::borrow::CowStr;
 /// drawn. So it takes the same number of columns.
 pub trait Highlighter {
     // Whether something in a line is highlighted, depending on the line, the place and the reason
-    // of the drawing.
-    ghost marks: { Self → List ℕ → ℕ → CmdKind → Bool };
+    // of the drawing, and the spans of each text.
+    ghost marks: { Self → Marks };
 
     // How `highlight_char` may change the highlighter.
     ghost kept: { Self → Self → Type 0 };
@@ -66,16 +67,22 @@ pub trait Highlighter {
     /// Whether something is highlighted in the line to draw, with the cursor at `pos`. The answer
     /// depends only on the line, the place and the reason. No call changes later answers.
     fn highlight_char(&mut self, line: &str, pos: usize, kind: CmdKind) -> bool
-        ensures marks { result ≡ marks self.old line.now pos kind }
+        ensures marks { result ≡ (marks self.old).marked line.now pos kind }
         ensures same { marks self.new ≡ marks self.old }
         ensures shown { shown_as self.new ≡ shown_after self.old line.now pos kind }
         ensures kept { kept self.old self.new };
+
+    /// The next span of a text in a part of a drawing: the first one from `Mark::first()`, and each
+    /// further one from the mark that came with the one before. None where what is left of the text
+    /// has no style.
+    fn next_span(&self, part: Part, text: &str, from: Mark) -> Option<(Span, Mark)>
+        ensures { IsNextSpan ((marks self.now).paints part text.now) from result };
 }
 
 /// Highlights nothing: every text stays as it is.
 #[tactic(auto, using(crate::proofs::HighlightLemmas::plain))]
 impl Highlighter for () {
-    ghost marks = { λ self line pos kind. false };
+    ghost marks = { λ self. no_marks };
 
     ghost kept = { λ before after. before ≡ after };
 
@@ -116,6 +123,10 @@ impl Highlighter for () {
 
     fn highlight_char(&mut self, _line: &str, _pos: usize, _kind: CmdKind) -> bool {
         false
+    }
+
+    fn next_span(&self, _part: Part, _text: &str, _from: Mark) -> Option<(Span, Mark)> {
+        None
     }
 }
 
@@ -162,5 +173,9 @@ impl<H: Highlighter, A: Allocator> Highlighter for Box<H, A> {
 
     fn highlight_char(&mut self, line: &str, pos: usize, kind: CmdKind) -> bool {
         self.as_mut().highlight_char(line, pos, kind)
+    }
+
+    fn next_span(&self, part: Part, text: &str, from: Mark) -> Option<(Span, Mark)> {
+        (**self).next_span(part, text, from)
     }
 }

@@ -6,7 +6,7 @@ use Rattle.std.proofs.lemmas.Bool.{ne_eqb}
 use Rattle.line_config.specs.declared.device.DeviceFailed.{DeviceFailed}
 use Rattle.line_config.specs.Sending.{Takes, TakesSome, Sends}
 use Rattle.line_config.proofs.Taking.{takes_then, some_of_more, some_then, sends_then, sends_cut}
-use Rattle.line_screen.specs.Drawing.{control_sequence, no_style, break_if, break_unless, fitted_col, fenced, sent_one, col_after_one, SendsTo}
+use Rattle.line_screen.specs.Drawing.{control_sequence, no_style, left_col, break_if, break_unless, fitted_col, fenced, sent_one, col_after_one, SendsTo}
 use Rattle.line_screen.specs.Drawing.DrawnItem.{Cluster}
 
 module _ {D : Type 0} (held : D → List ℕ) (failed : D → Bool) where
@@ -26,6 +26,33 @@ module _ {D : Type 0} (held : D → List ℕ) (failed : D → Bool) where
       → IsErrAnd r Q → IsTrue (failed b) → TakesSome held a b xs → SendsTo (xs ++ ys) column columns held failed a b r
   sends_to_cut Q column columns xs ys {a = a} {b = b} {r = Ok x} refused fails some = absurd refused
   sends_to_cut Q column columns xs ys {a = a} {b = b} {r = Err e} refused fails some = record { sends = sends_cut held failed Q xs ys {a = a} {b = b} {r = Err e} refused fails some; next = tt; inside = tt }
+
+  -- ---- a text in place of a cluster's: space for it, the text, and the end of a full row
+  module _ (columns width col : ℕ) (fence : List ℕ) where
+    abbrev front : List ℕ
+    front = break_unless (nat_le (col + width) columns)
+
+    abbrev behind : List ℕ
+    behind = break_if (fitted_col columns width col + width == columns)
+
+    abbrev at_last : ℕ
+    at_last = left_col columns (fitted_col columns width col + width)
+
+    abbrev SendsFence : D → D → Result ℕ DeviceFailed → Type 0
+    SendsFence a b r = SendsTo (front ++ fence ++ behind) at_last columns held failed a b r
+
+    pub no_room : (Q : DeviceFailed → Type 0) {a b : D} {r : Result ℕ DeviceFailed} → IsErrAnd r Q → IsTrue (failed b) → TakesSome held a b front → SendsFence a b r
+    no_room Q {a = a} {b = b} refused fails some = sends_to_cut Q at_last columns (front ++ fence) behind refused fails (some_of_more held a b front fence some)
+
+    pub no_text : (Q : DeviceFailed → Type 0) {a b c : D} {r : Result ℕ DeviceFailed} → IsErrAnd r Q
+        → Takes held a b front → IsTrue (failed c) → TakesSome held b c fence → SendsFence a c r
+    no_text Q {a = a} {b = b} {c = c} refused took fails some =
+        sends_to_cut Q at_last columns (front ++ fence) behind refused fails (some_then held a b c front fence took some)
+
+    pub all_of_it : {a b c d : D} {r : Result ℕ DeviceFailed} → Takes held a b front → failed b ≡ failed a → Takes held b c fence → failed c ≡ failed b
+        → SendsTo behind at_last columns held failed c d r → SendsFence a d r
+    all_of_it {a = a} {b = b} {c = c} took works took_text works_on s =
+        sends_to_then at_last columns (front ++ fence) behind (takes_then held a b c front fence took took_text) (works_on ∙ works) s
 
   -- ---- a cluster: a row that has space for it, its text, and the end of a full row
   module _ (columns width col : ℕ) (cluster : List ℕ) where

@@ -88,6 +88,7 @@ pub data DisplayReading : Type 0 where
   Escape : (display : Display) → DisplayReading
   Bracket : (display : Display) → DisplayReading
   Number : (display : Display) (count : ℕ) → DisplayReading
+  Style : (display : Display) → DisplayReading
   Lost : DisplayReading
 
 -- no ASCII control character
@@ -128,12 +129,13 @@ erased stays d =
     then Text (record { placed = filter (stays d.cursor) d.placed; cursor = d.cursor }) []
     else Lost
 
--- ESC [ m (SGR) changes no cell. ESC [ J (ED) keeps everything that begins before the cursor. ESC [
+-- ESC [ m and ESC [ 0 ; .. m (SGR) change no cell. ESC [ J (ED) keeps everything that begins before the cursor. ESC [
 -- K (EL) keeps everything except what ends after the cursor in its row. ESC [ H (CUP) goes to the
 -- first cell
 abbrev pub plain_sequence : ℕ → Display → ℕ → DisplayReading
 plain_sequence columns d byte =
     if byte == 0x6D then Text d []
+    else if byte == 0x30 then Style d
     else if not (is_inside columns d) then Lost
     else if byte == 0x4A then erased starts_before d
     else if byte == 0x4B then erased stays_in_row d
@@ -162,6 +164,14 @@ numbered_sequence columns d count final =
     then Text (at_cursor (moved_by d.cursor count final) d) []
     else Lost
 
+-- what the parameters of a style are made of: digits and semicolons
+abbrev pub is_parameter : ℕ → Bool
+is_parameter byte = is_digit byte || (byte == 0x3B)
+
+abbrev pub style_sequence : Display → ℕ → DisplayReading
+style_sequence d byte =
+    if is_parameter byte then Style d else if byte == 0x6D then Text d [] else Lost
+
 abbrev pub on_run : ℕ → ℕ → Option Display → DisplayReading
 on_run columns byte None = Lost
 on_run columns byte (Some d) = after_control columns d byte
@@ -176,6 +186,7 @@ step columns wide (Bracket d) byte =
 step columns wide (Number d count) byte =
     if is_digit byte then Number d (count * 10 + (byte - 0x30))
     else numbered_sequence columns d count byte
+step columns wide (Style d) byte = style_sequence d byte
 step columns wide Lost byte = Lost
 
 abbrev pub read : ℕ → (List ℕ → Option ℕ) → DisplayReading → List ℕ → DisplayReading

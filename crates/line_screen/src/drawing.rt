@@ -1,5 +1,8 @@
 //! Drawings, written straight to a sink: each function writes its bytes and stores nothing.
 
+pub(crate) mod coloured;
+pub(crate) mod painted;
 pub(crate) mod sequences;
+pub(crate) mod styles;
 pub(crate) mod text;
 pub(crate) mod whole;

@@ -4,6 +4,7 @@ ghost use Rattle.line_screen.specs.Input.{EncodedCharsAreRead, CharsAreEncoded};
 ghost use Rattle.line_screen.specs.KeyGrammar.{WholeKeysStay, PastedTextIsBeforeItsMark, PastedTextIsCutOff, ControlIsOneKey};
 ghost use Rattle.line_screen.specs.Laws.{TypingLeads, KillingLeads, FullDrawingShows, StartIsEmpty, CallsLead, ChainsLead, PlaceIsFree, LineEndsAnywhere, EndedLineStays, MeasuresGoOn, ShownIsMeant, CellsAreShown};
 ghost use Rattle.line_screen.specs.Calls.{ReadsFindNothingWaiting};
+ghost use Rattle.line_screen.specs.ColourLaws.{PaintedDrawingShows, ColoursStand, FullDrawingPaints, PaintingsShowCells, NumbersAreStyles};
 
 use line_config::Sink;
 
@@ -11,6 +12,32 @@ use line_config::Sink;
 /// above.
 pub fn full_drawing()
     ensures { FullDrawingShows }
+{}
+
+/// A drawing with styles shows what the drawing without them shows.
+pub fn painted_drawing()
+    ensures { PaintedDrawingShows }
+{}
+
+/// Each cluster of a drawing with styles has its own, and none stands at its end.
+pub fn styles_stand()
+    ensures { ColoursStand }
+{}
+
+/// A full drawing leaves each of its clusters with its style, and no style standing, whatever stood
+/// from its top on.
+pub fn painted_rows()
+    ensures { FullDrawingPaints }
+{}
+
+/// A display that keeps styles shows the cells and the cursor of one that doesn't.
+pub fn paintings()
+    ensures { PaintingsShowCells }
+{}
+
+/// The numbers of each style are digits and semicolons.
+pub fn looks()
+    ensures { NumbersAreStyles }
 {}
 
 /// Before the first call nothing is shown.

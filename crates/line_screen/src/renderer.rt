@@ -1,8 +1,12 @@
 //! The renderer: the calls by which an editor draws.
 
 ghost use Rattle.std.specs.Prelude.{◌≡◌, ◌≤◌, ◌++◌, ◌∷◌, [], IsTrue, OnOk, OnErr, IfErr, false};
-ghost use Rattle.line_screen.specs.Calls.{Screen, screen_of, sink_of, canvas_of, display_answer};
+ghost use Rattle.line_screen.specs.Calls.{Screen, screen_of, sink_of, canvas_of, display_answer, styles_by};
+ghost use Rattle.line_screen.specs.Colours.{styles_in};
+ghost use Rattle.line_editor.specs.Values.{seen_marks};
 
+use crate::drawing::coloured::{Painting, paint};
+use crate::drawing::painted::Brush;
 use crate::drawing::sequences::{clear, go, move_and_erase, send_flushed};
 use crate::drawing::whole::{Shown, draw};
 use crate::grid::Grid;
@@ -10,7 +14,7 @@ use crate::measuring::{measure, measure_on};
 use line_buffer::{GraphemeClusterMode, Layout, LineBuffer, Position, Unit};
 use line_config::{BellStyle, DeviceFailed, ReadlineError, Sink};
 use line_editor::Renderer;
-use line_help::Highlighter;
+use line_help::{Highlighter, Part};
 
 /// Draws a line on rows of cells by writing to a sink.
 ///
@@ -22,10 +26,11 @@ pub struct ScreenRenderer<D> {
     sink: D,
     grid: Grid,
     bell_style: BellStyle,
+    colours: bool,
 }
 
 impl<D: Sink> ScreenRenderer<D> {
-    /// A screen with `columns` columns. Nothing is written.
+    /// A screen with `columns` columns, without colours. Nothing is written.
     pub fn new(
         sink: D,
         columns: Unit,
@@ -36,7 +41,12 @@ impl<D: Sink> ScreenRenderer<D> {
         requires high { columns ≤ 1000 }
         ensures sink { sink_of result ≡ sink }
         ensures screen { screen_of result
-            ≡ record { columns = columns; mode = grapheme_cluster_mode; bell = bell_style } }
+            ≡ record {
+            columns = columns;
+            mode = grapheme_cluster_mode;
+            bell = bell_style;
+            colours = false;
+        } }
     {
         ScreenRenderer {
             sink,
@@ -45,6 +55,7 @@ impl<D: Sink> ScreenRenderer<D> {
                 mode: grapheme_cluster_mode,
             },
             bell_style,
+            colours: false,
         }
     }
 
@@ -57,6 +68,15 @@ impl<D: Sink> ScreenRenderer<D> {
             ≡ record (screen_of self.old) { columns = columns } }
     {
         self.grid.columns = columns;
+    }
+
+    /// From now on a highlighter's styles are drawn, or not. Nothing is written.
+    pub fn set_colours(&mut self, colours: bool)
+        ensures sink { sink_of self.new ≡ sink_of self.old }
+        ensures screen { screen_of self.new
+            ≡ record (screen_of self.old) { colours = colours } }
+    {
+        self.colours = colours;
     }
 
     /// The sink, with what was written to it.
@@ -82,7 +102,7 @@ impl<D: Sink + Drop> Renderer for ScreenRenderer<D> {
         answer(go(&mut self.sink, old, new))
     }
 
-    /// There are no colours, so the highlighter isn't called.
+    /// With the styles of the highlighter, if there is one.
     fn refresh_line<H: Highlighter>(
         &mut self,
         prompt: &str,
@@ -90,14 +110,21 @@ impl<D: Sink + Drop> Renderer for ScreenRenderer<D> {
         hint: Option<&str>,
         old_layout: Option<Layout>,
         new_layout: &Layout,
-        _highlighter: Option<&H>,
+        highlighter: Option<&H>,
+        marked: bool,
+        told: bool,
     ) -> Result<(), ReadlineError> {
         let row = old_layout.map(|layout| layout.cursor.row);
         let grid = self.grid;
+        let info = hint.unwrap_or("");
+        if let Some(highlighter) = highlighter {
+            let painting = painting_of(highlighter, marked, told, prompt, line, info, new_layout);
+            return answer(paint(&mut self.sink, grid, row, &painting));
+        }
         let shown = Shown {
             prompt,
             line: line.as_str(),
-            info: hint.unwrap_or(""),
+            info,
             end: new_layout.end,
             cursor: new_layout.cursor,
         };
@@ -152,7 +179,7 @@ impl<D: Sink + Drop> Renderer for ScreenRenderer<D> {
     }
 
     fn colors_enabled(&self) -> bool {
-        false
+        self.colours
     }
 
     fn grapheme_cluster_mode(&self) -> GraphemeClusterMode {
@@ -172,6 +199,48 @@ impl<D: Sink + Drop> Renderer for ScreenRenderer<D> {
     ) -> Position {
         let (columns, mode) = (self.grid.columns, self.grid.mode);
         measure_on(text, start, known.0, known.1, place, columns, mode)
+    }
+}
+
+/// The texts of a line with a highlighter's styles: the line's own if it is marked, and after it
+/// those of a hint, or of a message if `told`.
+fn painting_of<'a, H: Highlighter>(
+    highlighter: &'a H,
+    marked: bool,
+    told: bool,
+    prompt: &'a str,
+    line: &'a LineBuffer,
+    info: &'a str,
+    layout: &Layout,
+) -> Painting<'a, H>
+    ensures styles { styles_in H.marks result ≡ styles_by (seen_marks marked told
+        (H.marks highlighter.now)) layout.now.default_prompt prompt.now line.now.text
+        line.now.place info.now }
+    ensures prompt { result.prompt.text.now ≡ prompt.now }
+    ensures line { result.line.text.now ≡ line.now.text }
+    ensures info { result.info.text.now ≡ info.now }
+    ensures end { result.end ≡ layout.now.end }
+    ensures cursor { result.cursor ≡ layout.now.cursor }
+{
+    let part = if told { Part::Message } else { Part::Hint };
+    Painting {
+        prompt: Brush {
+            highlighter: Some(highlighter),
+            part: Part::Prompt(layout.default_prompt),
+            text: prompt,
+        },
+        line: Brush {
+            highlighter: if marked { Some(highlighter) } else { None },
+            part: Part::Line(line.pos()),
+            text: line.as_str(),
+        },
+        info: Brush {
+            highlighter: Some(highlighter),
+            part,
+            text: info,
+        },
+        end: layout.end,
+        cursor: layout.cursor,
     }
 }
 

@@ -212,7 +212,10 @@ impl<'a> Hinter for Adviser<'a> {
 }
 
 impl Highlighter for Adviser<'_> {
-    ghost marks = { λ self line pos kind. pos == self.marked_at };
+    ghost marks = { λ self. record {
+        marked = λ line pos kind. pos == self.marked_at;
+        paints = λ part text from. [];
+    } };
 
     ghost kept = { λ before after. after ≡ before };
 
@@ -253,6 +256,10 @@ impl Highlighter for Adviser<'_> {
 
     fn highlight_char(&mut self, _line: &str, pos: usize, _kind: CmdKind) -> bool {
         pos == self.marked_at
+    }
+
+    fn next_span(&self, _part: Part, _text: &str, _from: Mark) -> Option<(Span, Mark)> {
+        None
     }
 }
 

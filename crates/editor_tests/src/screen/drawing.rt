@@ -42,7 +42,7 @@ fn draw_over<Out: Renderer>(
     old: Option<Layout>,
     new: &Layout,
 ) -> Result<(), ReadlineError> {
-    screen.refresh_line(shown.prompt, shown.line, shown.info, old, new, None::<&()>)
+    screen.refresh_line(shown.prompt, shown.line, shown.info, old, new, None::<&()>, false, false)
 }
 
 /// Draws over a drawing with its cursor in its first row.
@@ -229,7 +229,7 @@ fn call_made<Out: Renderer>(
         "leftmost" => screen.move_cursor_at_leftmost(),
         "begin" => screen.begin_synchronized_update(),
         "end" => screen.end_synchronized_update(),
-        _ => screen.refresh_line("> ", text, None, None, &layout, None::<&()>),
+        _ => screen.refresh_line("> ", text, None, None, &layout, None::<&()>, false, false),
     }
 }
 

@@ -18,7 +18,7 @@ use line_config::{DeviceFailed, Sink};
 use unicode_segmentation::UnicodeSegmentation;
 
 /// Leaves a full row. Returns the column, like each function here.
-fn leave_full<D: Sink>(sink: &mut D, grid: Grid, col: Unit) -> Result<Unit, DeviceFailed>
+pub(crate) fn leave_full<D: Sink>(sink: &mut D, grid: Grid, col: Unit) -> Result<Unit, DeviceFailed>
     requires inside { col ≤ grid.columns }
     ensures { SendsTo (break_if (col == grid.columns))
         (left_col grid.columns col)
@@ -32,7 +32,7 @@ fn leave_full<D: Sink>(sink: &mut D, grid: Grid, col: Unit) -> Result<Unit, Devi
 }
 
 /// Goes to the next row if so many columns don't fit after `col`.
-fn make_room<D: Sink>(
+pub(crate) fn make_room<D: Sink>(
     sink: &mut D,
     grid: Grid,
     col: Unit,
@@ -126,7 +126,7 @@ fn send_cluster<D: Sink>(
     }
 }
 
-fn send_letters<D: Sink>(
+pub(crate) fn send_letters<D: Sink>(
     sink: &mut D,
     grid: Grid,
     start: Unit,

@@ -1,0 +1,87 @@
+-- What the loops over spans send.
+use Rattle.std.proofs.Common.{◌≡◌, ℕ, ◌+◌, ◌<◌, ◌≤◌, nat_le, Bool, true, false, List, [], ◌∷◌, ◌++◌, map, length, take, drop, min, get_or, Option, Some, None, suc, inl, inr, refl, sym, ap, ◌∙◌, arith, take_all, add-one, drop-cons}
+use Rattle.std.proofs.lemmas.Bool.{leb-true}
+use Rattle.line_screen.specs.Styles.{numbers}
+use Rattle.line_screen.proofs.SequenceLemmas.{by_test}
+use Rattle.std.proofs.lemmas.Bool.Decides.{nat_tests}
+use Rattle.std.proofs.lemmas.List.{drop_all}
+use Rattle.line_screen.specs.Drawing.{drawn_item, split_rows}
+use Rattle.line_screen.specs.Colours.{Span, span_of, spans_from, spans_in, skip, first_style, PaintedItem, shaded, painted_letters, painted_item, painted_clusters, painted_rows, painted_behind, next_painted, spans_behind, bare_letters}
+use Rattle.line_screen.specs.declared.drawing.painted.Spans as spans
+use Rattle.line_help.specs.declared.style.Span as span
+use Rattle.line_help.specs.declared.style.Mark.{Mark}
+
+more_than : (n m : ℕ) → nat_le n m ≡ false → m ≤ n
+more_than n m h = grind (arith, nat_tests)
+
+pub take_fewer : (n : ℕ) (xs : List ℕ) → take (min n (length xs)) xs ≡ take n xs
+take_fewer n xs = elim (by_test (nat_le n (length xs))) [
+  | inl h ↦ let low = leb-true n (length xs) h in let same : min n (length xs) ≡ n = omega arith in ap (λ k. take k xs) same
+  | inr h ↦ let high = more_than n (length xs) h in let same : min n (length xs) ≡ length xs = omega arith in
+      ap (λ k. take k xs) same ∙ take_all (length xs) xs (omega arith) ∙ sym (take_all n xs high)
+]
+
+pub drop_fewer : (n : ℕ) (xs : List ℕ) → drop (min n (length xs)) xs ≡ drop n xs
+drop_fewer n xs = elim (by_test (nat_le n (length xs))) [
+  | inl h ↦ let low = leb-true n (length xs) h in let same : min n (length xs) ≡ n = omega arith in ap (λ k. drop k xs) same
+  | inr h ↦ let high = more_than n (length xs) h in let same : min n (length xs) ≡ length xs = omega arith in
+      ap (λ k. drop k xs) same ∙ drop_all (length xs) xs (omega arith) ∙ sym (drop_all n xs high)
+]
+
+-- the letters of the first span are next
+pub first_span_next : (paints : Mark → List span.Span) (left : spans.Spans) (s : span.Span) (letters front back : List ℕ) (count : ℕ) → left.first ≡ Some s → count ≡ min s.len (length letters)
+    → front ≡ take count letters → back ≡ drop count letters
+    → painted_letters (spans_in paints left) letters ≡ shaded (numbers s.style) front ++ painted_letters (map span_of (paints left.mark)) back
+first_span_next paints left s letters front back count is counted front_is back_is =
+    let f : front ≡ take s.len letters = front_is ∙ ap (λ k. take k letters) counted ∙ take_fewer s.len letters in
+    let b : back ≡ drop s.len letters = back_is ∙ ap (λ k. drop k letters) counted ∙ drop_fewer s.len letters in
+    ap (λ o. painted_letters (spans_from o (map span_of (paints left.mark))) letters) is
+    ∙ ap (λ xs. shaded (numbers s.style) xs ++ painted_letters (map span_of (paints left.mark)) (drop s.len letters)) (sym f)
+    ∙ ap (λ xs. shaded (numbers s.style) front ++ painted_letters (map span_of (paints left.mark)) xs) (sym b)
+
+pub next_span : (paints : Mark → List span.Span) (left next : spans.Spans) (s : span.Span) (letters front back : List ℕ) (count : ℕ) → left.first ≡ Some s → count ≡ min s.len (length letters)
+    → front ≡ take count letters → back ≡ drop count letters → spans_in paints next ≡ map span_of (paints left.mark)
+    → painted_letters (spans_in paints left) letters ≡ shaded (numbers s.style) front ++ painted_letters (spans_in paints next) back
+next_span paints left next s letters front back count is counted front_is back_is next_is =
+    first_span_next paints left s letters front back count is counted front_is back_is
+    ∙ ap (λ ss. shaded (numbers s.style) front ++ painted_letters ss back) (sym next_is)
+
+pub no_span : (paints : Mark → List span.Span) (left : spans.Spans) (letters : List ℕ) → left.first ≡ None → painted_letters (spans_in paints left) letters ≡ bare_letters letters
+no_span paints left letters is = ap (λ o. painted_letters (spans_from o (map span_of (paints left.mark))) letters) is
+
+-- the next cluster, and those after it
+pub next_cluster : (wide : List ℕ → Option ℕ) (spans later : List Span) (before left : List (List ℕ)) (g : List ℕ) (style : List ℕ) → before ≡ g ∷ left → style ≡ first_style spans → later ≡ skip (length g) spans
+    → painted_clusters wide spans before ≡ painted_item style (drawn_item wide g) ++ painted_clusters wide later left
+next_cluster wide spans later before left g style is style_is later_is =
+    ap (painted_clusters wide spans) is
+    ∙ ap (λ s. painted_item s (drawn_item wide g) ++ painted_clusters wide (skip (length g) spans) left) (sym style_is)
+    ∙ ap (λ ss. painted_item style (drawn_item wide g) ++ painted_clusters wide ss left) (sym later_is)
+
+-- ---- rows
+
+abbrev pub painted_left : (List ℕ → Option ℕ) → Bool → List Span → List (List ℕ) → List PaintedItem
+painted_left wide true spans rows = painted_rows wide spans rows
+painted_left wide false spans rows = painted_behind wide spans rows
+
+abbrev pub painted_from : (List ℕ → Option ℕ) → List ℕ → Bool → List Span → ℕ → List PaintedItem
+painted_from wide text is_first spans n = painted_left wide is_first spans (drop n (split_rows text))
+
+row_step : (wide : List ℕ → Option ℕ) (is_first : Bool) (spans : List Span) (row : List ℕ) (rows : List (List ℕ))
+    → painted_left wide is_first spans (row ∷ rows) ≡ next_painted wide is_first spans row ++ painted_left wide false (spans_behind is_first spans row) rows
+row_step wide true spans row rows = refl
+row_step wide false spans row rows = refl
+
+row_none : (wide : List ℕ → Option ℕ) (is_first : Bool) (spans : List Span) → painted_left wide is_first spans [] ≡ []
+row_none wide true spans = refl
+row_none wide false spans = refl
+
+pub rows_take : (wide : List ℕ → Option ℕ) (text : List ℕ) (is_first : Bool) (spans later : List Span) (n m : ℕ) (row : List ℕ) → n < length (split_rows text) → row ≡ get_or (split_rows text) n row → m ≡ n + 1 → later ≡ spans_behind is_first spans row
+    → painted_from wide text is_first spans n ≡ next_painted wide is_first spans row ++ painted_from wide text false later m
+rows_take wide text is_first spans later n m row low is more later_is =
+    let rest : drop (n + 1) (split_rows text) ≡ drop m (split_rows text) = ap (λ k. drop k (split_rows text)) (sym more) in
+    let split : drop n (split_rows text) ≡ row ∷ drop (n + 1) (split_rows text) = rw add-one (drop-cons (split_rows text) n row low ∙ ap (λ r. r ∷ drop (suc n) (split_rows text)) (sym is)) in
+    ap (painted_left wide is_first spans) (split ∙ ap (λ rs. row ∷ rs) rest) ∙ row_step wide is_first spans row (drop m (split_rows text))
+    ∙ ap (λ ss. next_painted wide is_first spans row ++ painted_left wide false ss (drop m (split_rows text))) (sym later_is)
+
+pub rows_end : (wide : List ℕ → Option ℕ) (text : List ℕ) (is_first : Bool) (spans : List Span) (n : ℕ) → drop n (split_rows text) ≡ [] → painted_from wide text is_first spans n ≡ []
+rows_end wide text is_first spans n h = ap (painted_left wide is_first spans) h ∙ row_none wide is_first spans

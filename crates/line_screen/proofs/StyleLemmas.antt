@@ -1,0 +1,87 @@
+-- The numbers of a style are digits and semicolons, and there are none where it is plain.
+use Rattle.std.proofs.Common.{◌≡◌, ℕ, ◌+◌, ◌%◌, ◌^◌, ◌<◌, ◌==◌, ◌&&◌, not, Bool, true, false, List, [], ◌∷◌, ◌++◌, length, map, decimal, Result, refl, sym, ap, ◌∙◌, subst, arith}
+use Rattle.std.proofs.lemmas.Bool.{and_from, eqb-true}
+use Rattle.std.proofs.lemmas.Bool.Decides.{nat_tests}
+use Rattle.std.proofs.lemmas.Fmt.{decimal_by_steps}
+use Rattle.std.proofs.lemmas.List.Folds.{list_all-append}
+use Rattle.line_help.specs.declared.style.Colour.{Colour}
+use Rattle.line_help.specs.declared.style.Colour.TheVariants.{Terminal, Basic, Bright, Palette, Rgb}
+use Rattle.line_help.specs.declared.style.Mark.{Mark}
+use Rattle.line_help.specs.declared.style.Span as span
+use Rattle.line_help.specs.declared.style.Style.{Style}
+use Rattle.line_config.specs.Sending.{Sends}
+use Rattle.line_screen.specs.Display.{is_parameter}
+use Rattle.line_screen.specs.Drawing.{no_style}
+use Rattle.line_screen.specs.Colours.{is_style, are_styles, span_of, style_bytes}
+use Rattle.line_screen.specs.ColourLaws.{NumbersAreStyles}
+use Rattle.line_screen.specs.Styles.{hue_number, number, numbers_of, flag, flags, flag_codes, colour_codes, colour_numbers, numbers, is_terminal, is_plain_style}
+
+digit : (n : ℕ) → n < 10 → is_parameter (48 + n) ≡ true
+digit n h = grind (arith, nat_tests)
+
+both : (xs ys : List ℕ) → is_style xs ≡ true → is_style ys ≡ true → is_style (xs ++ ys) ≡ true
+both xs ys h k = list_all-append is_parameter xs ys ∙ and_from _ _ h k
+
+digits_are : (n : ℕ) → n < 2 ^ 64 → is_style (decimal n) ≡ true
+digits_are n h = decimal_by_steps (λ m ds. is_style ds ≡ true) (λ m low. and_from _ _ (digit m low) refl)
+    (λ m ds ten so_far. both ds ((48 + m % 10) ∷ []) so_far (and_from _ _ (digit (m % 10) (omega arith)) refl)) n h
+
+number_is : (n : ℕ) → is_style (number n) ≡ true
+number_is n = and_from _ _ refl (digits_are (n % 256) (omega arith))
+
+codes_are : (codes : List ℕ) → is_style (numbers_of codes) ≡ true
+codes_are [] = refl
+codes_are (c ∷ []) = number_is c
+codes_are (c ∷ (d ∷ codes)) = both (number c) (numbers_of (d ∷ codes)) (number_is c) (codes_are (d ∷ codes))
+
+pub numbers_are : NumbersAreStyles
+numbers_are s =
+    let flag_is = λ (b : Bool) (n : ℕ). codes_are (flag_codes b n) in
+    both (flags s) _
+    (both (flag s.bold 1) _ (flag_is s.bold 1) (both (flag s.faint 2) _ (flag_is s.faint 2) (both (flag s.italic 3) _ (flag_is s.italic 3) (both (flag s.underline 4) _ (flag_is s.underline 4) (flag_is s.reverse 7)))))
+    (both (colour_numbers 30 s.text) (colour_numbers 40 s.ground) (codes_are (colour_codes 30 s.text)) (codes_are (colour_codes 40 s.ground)))
+
+pub spans_are : (spans : List span.Span) → are_styles (map span_of spans) ≡ true
+spans_are [] = refl
+spans_are (s ∷ spans) = and_from _ _ (numbers_are s.style) (spans_are spans)
+
+-- ---- plain
+
+none_of : (xs ys : List ℕ) → (length (xs ++ ys) == 0) ≡ ((length xs == 0) && (length ys == 0))
+none_of [] ys = refl
+none_of (x ∷ xs) ys = grind (arith, nat_tests)
+
+no_code : (c : ℕ) (codes : List ℕ) → (length (numbers_of (c ∷ codes)) == 0) ≡ false
+no_code c [] = grind (arith, nat_tests)
+no_code c (d ∷ codes) = grind (arith, nat_tests)
+
+flag_none : (b : Bool) (n : ℕ) → (length (flag b n) == 0) ≡ not b
+flag_none true n = no_code n []
+flag_none false n = refl
+
+colour_none : (front : ℕ) (c : Colour) → (length (colour_numbers front c) == 0) ≡ is_terminal c
+colour_none front Terminal = refl
+colour_none front (Basic hue) = no_code (front + hue_number hue) []
+colour_none front (Bright hue) = no_code (front + 60 + hue_number hue) []
+colour_none front (Palette n) = no_code (front + 8) (5 ∷ (n ∷ []))
+colour_none front (Rgb r g b) = no_code (front + 8) (2 ∷ (r ∷ (g ∷ (b ∷ []))))
+
+then_none : (xs ys : List ℕ) (a b : Bool) → (length xs == 0) ≡ a → (length ys == 0) ≡ b → (length (xs ++ ys) == 0) ≡ (a && b)
+then_none xs ys a b h k = none_of xs ys ∙ ap (λ x. x && (length ys == 0)) h ∙ ap (λ y. a && y) k
+
+pub plain_none : (s : Style) → is_plain_style s ≡ (length (numbers s) == 0)
+plain_none s = sym (then_none (flags s) _ _ _
+    (then_none (flag s.bold 1) _ _ _ (flag_none s.bold 1) (then_none (flag s.faint 2) _ _ _ (flag_none s.faint 2) (then_none (flag s.italic 3) _ _ _ (flag_none s.italic 3) (then_none (flag s.underline 4) _ _ _ (flag_none s.underline 4) (flag_none s.reverse 7)))))
+    (then_none (colour_numbers 30 s.text) _ _ _ (colour_none 30 s.text) (colour_none 40 s.ground)))
+
+-- ---- what is sent
+
+pub sends_digits : {D A E : Type 0} (held : D → List ℕ) (failed : D → Bool) (bytes digits : List ℕ) {a b : D} {r : Result A E} → Sends held failed bytes a b r → bytes ≡ digits → Sends held failed digits a b r
+sends_digits held failed bytes digits {a = a} {b = b} {r = r} s same = subst (λ x. Sends held failed x a b r) same s
+
+none_sent : (style : List ℕ) → true ≡ (length style == 0) → style_bytes style ≡ no_style
+none_sent [] h = refl
+none_sent (p ∷ style) h = let none = eqb-true (length (p ∷ style)) 0 (sym h) in absurd (omega arith)
+
+pub sends_plain : {D A E : Type 0} (held : D → List ℕ) (failed : D → Bool) (style : List ℕ) {a b : D} {r : Result A E} → true ≡ (length style == 0) → Sends held failed no_style a b r → Sends held failed (style_bytes style) a b r
+sends_plain held failed style {a = a} {b = b} {r = r} plain s = subst (λ x. Sends held failed x a b r) (sym (none_sent style plain)) s

@@ -1,0 +1,229 @@
+-- Coloured drawings: texts with a style for each cluster, and the bytes that draw them. They stand in
+-- the cells in which they would stand without styles.
+use Rattle.std.specs.Prelude.{option_map, option_copied, Result, Some, None, ℕ, ◌+◌, ◌-◌, ◌==◌, nat_lt, nat_le, Bool, true, List, [], ◌∷◌, ◌++◌, length, take, drop, Option, if◌then◌else◌, map}
+use Rattle.std.specs.List.{list_all, flat_map}
+use Rattle.unicode_segmentation.specs.Grapheme.{graphemes}
+use Rattle.line_buffer.specs.declared.layout.Position.{Position}
+use Rattle.line_screen.specs.Display.{is_printable, is_parameter}
+use Rattle.line_config.specs.declared.device.DeviceFailed.{DeviceFailed}
+use Rattle.line_help.specs.declared.style.Mark.{Mark}
+use Rattle.line_help.specs.declared.style.Part.{Part}
+use Rattle.line_help.specs.declared.style.Span as span
+use Rattle.line_help.specs.Paints.{Marks, first_mark}
+use Rattle.line_screen.specs.declared.drawing.painted.Brush as brush
+use Rattle.line_screen.specs.declared.drawing.painted.Spans as spans
+use Rattle.line_screen.specs.declared.drawing.coloured.Painting as painting
+use Rattle.line_screen.specs.Styles.{numbers}
+use Rattle.line_screen.specs.Drawing.{SendsTo, DrawnItem, drawn_item, split_rows, row_break, no_style, break_if, break_unless, fitted_col, sent_one, col_after, clearing_bytes, move_bytes}
+use Rattle.line_screen.specs.Drawing.DrawnItem.{NewRow, Letter, Cluster}
+
+-- ---- styles
+
+-- so many bytes of a text have this style: what stands after the 0 of a control sequence SGR, as
+-- `;1;34`; nothing: no style
+pub record Span : Type 0 where
+  pub len : ℕ
+  pub style : List ℕ
+
+-- digits and semicolons
+abbrev pub is_style : List ℕ → Bool
+is_style style = list_all is_parameter style
+
+abbrev pub are_styles : List Span → Bool
+are_styles spans = list_all (λ s. is_style s.style) spans
+
+-- what is left of them after so many bytes
+abbrev pub skip : ℕ → List Span → List Span
+skip n [] = []
+skip n (s ∷ spans) = if nat_lt n s.len then (record { len = s.len - n; style = s.style } ∷ spans)
+    else skip (n - s.len) spans
+
+-- the style of the first byte; what stands after the last span has none
+abbrev pub first_style : List Span → List ℕ
+first_style [] = []
+first_style (s ∷ spans) = if s.len == 0 then first_style spans else s.style
+
+-- ESC [ 0 ; 1 ; 34 m sets this style and no other, ESC [ m none
+abbrev pub style_bytes : List ℕ → List ℕ
+style_bytes [] = no_style
+style_bytes (c ∷ style) = 0x1B ∷ (0x5B ∷ (0x30 ∷ (c ∷ (style ++ 0x6D ∷ []))))
+
+-- ---- a text as items with styles
+
+-- an item without style; a style that begins, or ends; a letter after such a one; and a cluster
+-- with a style of its own
+pub data PaintedItem : Type 0 where
+  Bare : (item : DrawnItem) → PaintedItem
+  Begins : (style : List ℕ) → PaintedItem
+  Shaded : (style : List ℕ) (c : ℕ) → PaintedItem
+  Fenced : (style : List ℕ) (bytes : List ℕ) (width : ℕ) → PaintedItem
+
+-- the same without styles
+abbrev pub unpainted : PaintedItem → List DrawnItem
+unpainted (Bare item) = item ∷ []
+unpainted (Begins style) = []
+unpainted (Shaded style c) = Letter c ∷ []
+unpainted (Fenced style bytes width) = Cluster bytes width ∷ []
+
+abbrev pub all_unpainted : List PaintedItem → List DrawnItem
+all_unpainted xs = flat_map unpainted xs
+
+abbrev pub bare_letters : List ℕ → List PaintedItem
+bare_letters letters = map (λ c. Bare (Letter c)) letters
+
+-- letters of one style, between its beginning and its end
+abbrev pub shaded : List ℕ → List ℕ → List PaintedItem
+shaded style [] = []
+shaded [] (c ∷ letters) = bare_letters (c ∷ letters)
+shaded (p ∷ style) (c ∷ letters) =
+    Begins (p ∷ style) ∷ (map (Shaded (p ∷ style)) (c ∷ letters) ++ Begins [] ∷ [])
+
+-- a row of printable ASCII, span by span
+abbrev pub painted_letters : List Span → List ℕ → List PaintedItem
+painted_letters [] letters = bare_letters letters
+painted_letters (s ∷ spans) letters =
+    shaded s.style (take s.len letters) ++ painted_letters spans (drop s.len letters)
+
+-- a cluster has the style of its first byte
+abbrev pub painted_item : List ℕ → DrawnItem → List PaintedItem
+painted_item [] item = Bare item ∷ []
+painted_item (p ∷ style) NewRow = Bare NewRow ∷ []
+painted_item (p ∷ style) (Letter c) = shaded (p ∷ style) (c ∷ [])
+painted_item (p ∷ style) (Cluster bytes width) = Fenced (p ∷ style) bytes width ∷ []
+
+abbrev pub painted_clusters : (List ℕ → Option ℕ) → List Span → List (List ℕ) → List PaintedItem
+painted_clusters wide spans [] = []
+painted_clusters wide spans (cluster ∷ clusters) =
+    painted_item (first_style spans) (drawn_item wide cluster)
+    ++ painted_clusters wide (skip (length cluster) spans) clusters
+
+abbrev pub painted_row : (List ℕ → Option ℕ) → List Span → List ℕ → List PaintedItem
+painted_row wide spans row =
+    if list_all is_printable row then painted_letters spans row
+    else painted_clusters wide spans (graphemes true row)
+
+abbrev pub painted_behind : (List ℕ → Option ℕ) → List Span → List (List ℕ) → List PaintedItem
+painted_behind wide spans [] = []
+painted_behind wide spans (row ∷ rows) = Bare NewRow ∷ (painted_row wide (skip 1 spans) row
+    ++ painted_behind wide (skip (length row) (skip 1 spans)) rows)
+
+abbrev pub painted_rows : (List ℕ → Option ℕ) → List Span → List (List ℕ) → List PaintedItem
+painted_rows wide spans [] = []
+painted_rows wide spans (row ∷ rows) =
+    painted_row wide spans row ++ painted_behind wide (skip (length row) spans) rows
+
+abbrev pub painted_text : (List ℕ → Option ℕ) → List Span → List ℕ → List PaintedItem
+painted_text wide spans text = painted_rows wide spans (split_rows text)
+
+-- the first row, or a row after another, and what is left of the spans after it
+abbrev pub next_painted : (List ℕ → Option ℕ) → Bool → List Span → List ℕ → List PaintedItem
+next_painted wide is_first spans row = if is_first then painted_row wide spans row
+    else (Bare NewRow ∷ painted_row wide (skip 1 spans) row)
+
+abbrev pub spans_behind : Bool → List Span → List ℕ → List Span
+spans_behind is_first spans row = skip (length row) (if is_first then spans else skip 1 spans)
+
+-- ---- the bytes that draw them
+
+-- the next row begins without style, so that a terminal that fills new rows fills them plain
+abbrev pub shaded_break : List ℕ → Bool → List ℕ
+shaded_break style b = if b then no_style ++ row_break ++ style_bytes style else []
+
+abbrev pub painted_one : ℕ → PaintedItem → ℕ → List ℕ
+painted_one columns (Bare item) col = sent_one columns item col
+painted_one columns (Begins style) col = style_bytes style
+painted_one columns (Shaded style c) col = c ∷ shaded_break style (col + 1 == columns)
+painted_one columns (Fenced style bytes width) col =
+    break_unless (nat_le (col + width) columns) ++ (style_bytes style ++ bytes ++ no_style)
+    ++ break_if (fitted_col columns width col + width == columns)
+
+abbrev pub painted : ℕ → List PaintedItem → ℕ → List ℕ
+painted columns [] col = []
+painted columns (x ∷ xs) col =
+    painted_one columns x col ++ painted columns xs (col_after columns (unpainted x) col)
+
+-- ---- whole drawings
+
+-- the styles of prompt, line, and the hint or message after it
+pub record Styles : Type 0 where
+  pub prompt : List Span
+  pub line : List Span
+  pub info : List Span
+
+abbrev pub no_styles : Styles
+no_styles = record { prompt = []; line = []; info = [] }
+
+abbrev pub painted_three : ℕ → List PaintedItem → List PaintedItem → List PaintedItem → List ℕ
+painted_three columns a b c =
+    let end_a = col_after columns (all_unpainted a) 0 in
+    no_style ++ painted columns a 0
+    ++ no_style ++ painted columns b end_a
+    ++ no_style ++ painted columns c (col_after columns (all_unpainted b) end_a)
+    ++ no_style
+
+abbrev pub painted_shown : ℕ → (List ℕ → Option ℕ) → Styles → List ℕ → List ℕ → List ℕ → List ℕ
+painted_shown columns wide styles prompt line info = painted_three columns
+    (painted_text wide styles.prompt prompt) (painted_text wide styles.line line)
+    (painted_text wide styles.info info)
+
+abbrev pub painted_drawing : ℕ → (List ℕ → Option ℕ) → Styles → List ℕ → List ℕ → List ℕ → Position
+    → Position → List ℕ
+painted_drawing columns wide styles prompt line info finish cursor =
+    painted_shown columns wide styles prompt line info ++ move_bytes finish cursor
+
+abbrev pub painted_full : ℕ → (List ℕ → Option ℕ) → Styles → ℕ → List ℕ → List ℕ → List ℕ
+    → Position → Position → List ℕ
+painted_full columns wide styles old_row prompt line info finish cursor =
+    clearing_bytes old_row ++ painted_drawing columns wide styles prompt line info finish cursor
+
+abbrev pub painted_bytes : ℕ → (List ℕ → Option ℕ) → Styles → Option ℕ → List ℕ → List ℕ → List ℕ
+    → Position → Position → List ℕ
+painted_bytes columns wide styles None prompt line info finish cursor =
+    painted_drawing columns wide styles prompt line info finish cursor
+painted_bytes columns wide styles (Some row) prompt line info finish cursor =
+    painted_full columns wide styles row prompt line info finish cursor
+
+-- ---- what code is said to do
+
+abbrev pub span_of : span.Span → Span
+span_of s = record { len = s.len; style = numbers s.style }
+
+-- what highlights a text, if anything does, and its spans from a mark on
+abbrev pub paints_by : Option Marks → Part → List ℕ → Mark → List span.Span
+paints_by None part text from = []
+paints_by (Some m) part text from = m.paints part text from
+
+abbrev pub brush_paints : {H : Type 0} → (H → Marks) → brush.Brush H → Mark → List span.Span
+brush_paints marks b from = paints_by (option_map marks (option_copied b.highlighter)) b.part b.text.now from
+
+abbrev pub all_spans : (Mark → List span.Span) → List Span
+all_spans paints = map span_of (paints first_mark)
+
+abbrev pub spans_from : Option span.Span → List Span → List Span
+spans_from None rest = []
+spans_from (Some s) rest = span_of s ∷ rest
+
+-- those that are still to come
+abbrev pub spans_in : (Mark → List span.Span) → spans.Spans → List Span
+spans_in paints s = spans_from s.first (map span_of (paints s.mark))
+
+abbrev pub brush_spans : {H : Type 0} → (H → Marks) → brush.Brush H → List Span
+brush_spans marks b = all_spans (brush_paints marks b)
+
+abbrev pub styles_in : {H : Type 0} → (H → Marks) → painting.Painting H → Styles
+styles_in marks p = record {
+  prompt = brush_spans marks p.prompt;
+  line = brush_spans marks p.line;
+  info = brush_spans marks p.info;
+}
+
+-- the column after items
+abbrev pub end_of : ℕ → List PaintedItem → ℕ → ℕ
+end_of columns xs col = col_after columns (all_unpainted xs) col
+
+-- a call sends the bytes of items with styles, from a column on
+abbrev pub SendsPainted : {D : Type 0} → List PaintedItem → ℕ → ℕ → (D → List ℕ) → (D → Bool) → D → D
+    → Result ℕ DeviceFailed → Type 0
+SendsPainted xs start columns held failed old new result =
+    SendsTo (painted columns xs start)
+    (col_after columns (all_unpainted xs) start) columns held failed old new result

@@ -1,0 +1,59 @@
+-- The numbers of a style, as a control sequence SGR says them.
+use Rattle.std.specs.Prelude.{ℕ, ◌+◌, ◌%◌, ◌&&◌, not, Bool, true, false, List, [], ◌∷◌, ◌++◌, decimal, if◌then◌else◌}
+use Rattle.line_help.specs.declared.style.Hue.{Hue}
+use Rattle.line_help.specs.declared.style.Hue.TheVariants as hues
+use Rattle.line_help.specs.declared.style.Colour.{Colour}
+use Rattle.line_help.specs.declared.style.Colour.TheVariants.{Terminal, Basic, Bright, Palette, Rgb}
+use Rattle.line_help.specs.declared.style.Style.{Style}
+
+abbrev pub hue_number : Hue → ℕ
+hue_number hues.Black = 0
+hue_number hues.Red = 1
+hue_number hues.Green = 2
+hue_number hues.Yellow = 3
+hue_number hues.Blue = 4
+hue_number hues.Magenta = 5
+hue_number hues.Cyan = 6
+hue_number hues.White = 7
+
+-- of a text from 30 on, of what it stands on from 40 on
+abbrev pub colour_codes : ℕ → Colour → List ℕ
+colour_codes front Terminal = []
+colour_codes front (Basic hue) = (front + hue_number hue) ∷ []
+colour_codes front (Bright hue) = (front + 60 + hue_number hue) ∷ []
+colour_codes front (Palette n) = (front + 8) ∷ (5 ∷ (n ∷ []))
+colour_codes front (Rgb r g b) = (front + 8) ∷ (2 ∷ (r ∷ (g ∷ (b ∷ []))))
+
+abbrev pub flag_codes : Bool → ℕ → List ℕ
+flag_codes b n = if b then n ∷ [] else []
+
+-- a number of one byte after its semicolon
+abbrev pub number : ℕ → List ℕ
+number n = 0x3B ∷ decimal (n % 256)
+
+abbrev pub numbers_of : List ℕ → List ℕ
+numbers_of [] = []
+numbers_of (c ∷ []) = number c
+numbers_of (c ∷ (d ∷ codes)) = number c ++ numbers_of (d ∷ codes)
+
+abbrev pub flag : Bool → ℕ → List ℕ
+flag b n = numbers_of (flag_codes b n)
+
+abbrev pub colour_numbers : ℕ → Colour → List ℕ
+colour_numbers front c = numbers_of (colour_codes front c)
+
+abbrev pub flags : Style → List ℕ
+flags s = flag s.bold 1 ++ (flag s.faint 2 ++ (flag s.italic 3 ++ (flag s.underline 4
+    ++ flag s.reverse 7)))
+
+-- what stands after the 0 of the sequence: nothing where the style is plain
+abbrev pub numbers : Style → List ℕ
+numbers s = flags s ++ (colour_numbers 30 s.text ++ colour_numbers 40 s.ground)
+
+abbrev pub is_terminal : Colour → Bool
+is_terminal Terminal = true
+is_terminal c = false
+
+abbrev pub is_plain_style : Style → Bool
+is_plain_style s = (not s.bold && (not s.faint && (not s.italic && (not s.underline && not s.reverse))))
+    && (is_terminal s.text && is_terminal s.ground)

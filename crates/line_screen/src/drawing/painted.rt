@@ -1,0 +1,380 @@
+//! A text with styles: it stands in the cells in which it would stand without.
+
+ghost use Rattle.std.specs.Prelude.{◌≡◌, ◌≤◌, ◌<◌, ◌==◌, ◌+◌, ◌++◌, [], true, IsTrue, OnOk, OnErr, IfOk, length, map, nat_le};
+ghost use Rattle.unicode_segmentation.specs.Grapheme.{graphemes};
+ghost use Rattle.line_screen.specs.Drawing.{left_col, drawn_item, SendsTo, col_after, break_if, break_unless, fitted_col, col_after_one, no_style};
+ghost use Rattle.line_screen.specs.Drawing.DrawnItem.{Cluster};
+ghost use Rattle.line_screen.specs.Measure.{cluster_width};
+ghost use Rattle.line_screen.specs.Colours.{style_bytes, shaded_break, shaded, painted_letters, painted_clusters, painted_row, painted_text, painted_item, painted_one, SendsPainted, spans_in, span_of, brush_paints, brush_spans, first_style, skip, next_painted, spans_behind};
+ghost use Rattle.line_screen.specs.Styles.{numbers};
+ghost use Rattle.line_help.specs.Paints.{IsNextSpan};
+ghost use Rattle.line_screen.specs.Colours.PaintedItem.{Shaded, Fenced};
+ghost use Rattle.line_config.specs.Sending.{Sends};
+
+use crate::drawing::sequences::send;
+use crate::drawing::styles::{is_plain, send_style};
+use crate::drawing::text::{leave_full, make_room, send_letters};
+use crate::grid::{Grid, is_letter};
+use line_help::{Highlighter, Mark, Part, Span, Style};
+use line_buffer::{Unit, is_printable_text};
+use line_config::{DeviceFailed, Sink};
+use unicode_segmentation::UnicodeSegmentation;
+
+/// What gives the spans of a text: a highlighter, if there is one.
+#[derive(Drop)]
+pub(crate) struct Brush<'a, H> {
+    pub highlighter: Option<&'a H>,
+    pub part: Part,
+    pub text: &'a str,
+}
+
+impl<H: Highlighter> Brush<'_, H> {
+    /// The next span from a mark on.
+    fn next(&self, from: Mark) -> Option<(Span, Mark)>
+        ensures { IsNextSpan (brush_paints H.marks self.now) from result }
+    {
+        match self.highlighter {
+            Some(highlighter) => highlighter.next_span(self.part, self.text, from),
+            None => None,
+        }
+    }
+}
+
+/// Spans that are still to come: the first one as far as it is left, and those from a mark on.
+#[derive(Clone, Copy)]
+pub(crate) struct Spans {
+    first: Option<Span>,
+    mark: Mark,
+}
+
+impl Spans {
+    pub(crate) fn new<H: Highlighter>(brush: &Brush<'_, H>) -> Self
+        ensures { spans_in (brush_paints H.marks brush.now) result ≡ brush_spans H.marks brush.now }
+    {
+        Spans {
+            first: None,
+            mark: Mark::first(),
+        }
+        .behind(brush)
+    }
+
+    /// Those after the first.
+    fn behind<H: Highlighter>(self, brush: &Brush<'_, H>) -> Self
+        ensures { spans_in (brush_paints H.marks brush.now) result
+            ≡ map span_of (brush_paints H.marks brush.now self.mark) }
+    {
+        match brush.next(self.mark) {
+            Some((span, mark)) => Spans {
+                first: Some(span),
+                mark,
+            },
+            None => Spans {
+                first: None,
+                mark: self.mark,
+            },
+        }
+    }
+
+    /// What is left after so many bytes.
+    fn skip<H: Highlighter>(self, brush: &Brush<'_, H>, count: usize) -> Self
+        ensures { spans_in (brush_paints H.marks brush.now) result
+            ≡ skip count (spans_in (brush_paints H.marks brush.now) self) }
+    {
+        let mut left = self;
+        let mut count = count;
+        while let Some(span) = left.first {
+            if count < span.len {
+                left.first = Some(Span {
+                    len: span.len - count,
+                    style: span.style,
+                });
+                return left;
+            }
+            count -= span.len;
+            left = left.behind(brush);
+        }
+        left
+    }
+
+    /// The style of the first byte.
+    fn style<H: Highlighter>(self, brush: &Brush<'_, H>) -> Style
+        ensures { numbers result ≡ first_style (spans_in (brush_paints H.marks brush.now) self) }
+    {
+        let mut left = self;
+        while let Some(span) = left.first {
+            if span.len > 0 {
+                return span.style;
+            }
+            left = left.behind(brush);
+        }
+        Style::plain()
+    }
+}
+
+/// Leaves a full row without style.
+fn leave_shaded<D: Sink>(
+    sink: &mut D,
+    grid: Grid,
+    style: Style,
+    col: Unit,
+) -> Result<Unit, DeviceFailed>
+    requires inside { col ≤ grid.columns }
+    ensures { SendsTo (shaded_break (numbers style) (col == grid.columns))
+        (left_col grid.columns col)
+        grid.columns D.held D.has_failed sink.old sink.new result }
+{
+    if col == grid.columns {
+        send(sink, b"\x1B[m\r\n")?;
+        send_style(sink, style)?;
+        return Ok(0);
+    }
+    Ok(col)
+}
+
+/// Letters of a style that stands, that fit in the row.
+fn send_shaded_run<D: Sink>(
+    sink: &mut D,
+    grid: Grid,
+    style: Style,
+    col: Unit,
+    letters: &[u8],
+) -> Result<Unit, DeviceFailed>
+    requires inside { col < grid.columns }
+    requires room { col + length letters.now ≤ grid.columns }
+    ensures { SendsPainted (map (Shaded (numbers style)) letters.now) col
+        grid.columns D.held D.has_failed sink.old sink.new result }
+{
+    send(sink, letters)?;
+    leave_shaded(sink, grid, style, col + letters.len() as Unit)
+}
+
+/// Letters of a style that stands.
+fn send_shades<D: Sink>(
+    sink: &mut D,
+    grid: Grid,
+    style: Style,
+    start: Unit,
+    letters: &[u8],
+) -> Result<Unit, DeviceFailed>
+    requires inside { start < grid.columns }
+    ensures { SendsPainted (map (Shaded (numbers style)) letters.now) start
+        grid.columns D.held D.has_failed sink.old sink.new result }
+{
+    let mut col = start;
+    let mut rest = letters;
+    while !rest.is_empty() {
+        let count = rest.len().min(usize::from(grid.columns - col));
+        let (front, back) = rest.split_at(count);
+        col = send_shaded_run(sink, grid, style, col, front)?;
+        rest = back;
+    }
+    Ok(col)
+}
+
+/// Letters of one style, between its beginning and its end.
+fn send_shaded<D: Sink>(
+    sink: &mut D,
+    grid: Grid,
+    style: Style,
+    col: Unit,
+    letters: &[u8],
+) -> Result<Unit, DeviceFailed>
+    requires inside { col < grid.columns }
+    ensures { SendsPainted (shaded (numbers style) letters.now) col
+        grid.columns D.held D.has_failed sink.old sink.new result }
+{
+    if is_plain(style) {
+        return send_letters(sink, grid, col, letters);
+    }
+    if letters.is_empty() {
+        return Ok(col);
+    }
+    send_style(sink, style)?;
+    let end = send_shades(sink, grid, style, col, letters)?;
+    send(sink, b"\x1B[m")?;
+    Ok(end)
+}
+
+/// A row of printable ASCII, span by span.
+fn send_spans<D: Sink, H: Highlighter>(
+    sink: &mut D,
+    grid: Grid,
+    start: Unit,
+    brush: &Brush<'_, H>,
+    spans: Spans,
+    letters: &[u8],
+) -> Result<Unit, DeviceFailed>
+    requires inside { start < grid.columns }
+    ensures { SendsPainted (painted_letters (spans_in (brush_paints H.marks brush.now) spans) letters.now) start
+        grid.columns D.held D.has_failed sink.old sink.new result }
+{
+    let mut col = start;
+    let mut left = spans;
+    let mut rest = letters;
+    while let Some(span) = left.first {
+        let count = span.len.min(rest.len());
+        let (front, back) = rest.split_at(count);
+        col = send_shaded(sink, grid, span.style, col, front)?;
+        rest = back;
+        left = left.behind(brush);
+    }
+    send_letters(sink, grid, col, rest)
+}
+
+/// The text of a cluster between its style and its end.
+fn send_framed<D: Sink>(sink: &mut D, style: Style, cluster: &str) -> Result<(), DeviceFailed>
+    ensures { Sends D.held D.has_failed (style_bytes (numbers style) ++ cluster.now ++ no_style)
+        sink.old sink.new result }
+{
+    send_style(sink, style)?;
+    send(sink, cluster.as_bytes())?;
+    send(sink, b"\x1B[m")
+}
+
+fn send_tinted<D: Sink>(
+    sink: &mut D,
+    grid: Grid,
+    style: Style,
+    col: Unit,
+    cluster: &str,
+    width: Unit,
+) -> Result<Unit, DeviceFailed>
+    requires inside { col < grid.columns }
+    requires narrow { width ≤ grid.columns }
+    ensures { SendsTo (painted_one grid.columns (Fenced (numbers style) cluster.now width) col)
+        (col_after_one grid.columns (Cluster cluster.now width) col)
+        grid.columns D.held D.has_failed sink.old sink.new result }
+{
+    let start = make_room(sink, grid, col, width)?;
+    send_framed(sink, style, cluster)?;
+    leave_full(sink, grid, start + width)
+}
+
+/// A cluster, or a question mark in the place of one that a display can't hold.
+fn send_painted_cluster<D: Sink>(
+    sink: &mut D,
+    grid: Grid,
+    style: Style,
+    col: Unit,
+    cluster: &str,
+) -> Result<Unit, DeviceFailed>
+    requires inside { col < grid.columns }
+    ensures { SendsPainted (painted_item (numbers style)
+        (drawn_item (cluster_width grid.mode grid.columns) cluster.now)) col
+        grid.columns D.held D.has_failed sink.old sink.new result }
+{
+    if is_letter(cluster) {
+        return send_shaded(sink, grid, style, col, cluster.as_bytes());
+    }
+    match grid.cluster_columns(cluster) {
+        Some(width) => send_tinted(sink, grid, style, col, cluster, width),
+        None => send_tinted(sink, grid, style, col, "?", 1),
+    }
+}
+
+fn send_painted_clusters<D: Sink, H: Highlighter>(
+    sink: &mut D,
+    grid: Grid,
+    start: Unit,
+    brush: &Brush<'_, H>,
+    spans: Spans,
+    row: &str,
+) -> Result<Unit, DeviceFailed>
+    requires inside { start < grid.columns }
+    ensures { SendsPainted (painted_clusters (cluster_width grid.mode grid.columns)
+        (spans_in (brush_paints H.marks brush.now) spans) (graphemes true row.now)) start
+        grid.columns D.held D.has_failed sink.old sink.new result }
+{
+    let mut col = start;
+    let mut left = spans;
+    for cluster in row.graphemes(true) {
+        col = send_painted_cluster(sink, grid, left.style(brush), col, cluster)?;
+        left = left.skip(brush, cluster.len());
+    }
+    Ok(col)
+}
+
+/// A row of the text: by spans where all are printable ASCII, else by clusters.
+fn send_painted_row<D: Sink, H: Highlighter>(
+    sink: &mut D,
+    grid: Grid,
+    start: Unit,
+    brush: &Brush<'_, H>,
+    spans: Spans,
+    row: &str,
+) -> Result<Unit, DeviceFailed>
+    requires inside { start < grid.columns }
+    ensures { SendsPainted (painted_row (cluster_width grid.mode grid.columns)
+        (spans_in (brush_paints H.marks brush.now) spans) row.now) start
+        grid.columns D.held D.has_failed sink.old sink.new result }
+{
+    if is_printable_text(row) {
+        send_spans(sink, grid, start, brush, spans, row.as_bytes())
+    } else {
+        send_painted_clusters(sink, grid, start, brush, spans, row)
+    }
+}
+
+/// The first row of a text, or the next one.
+fn send_next_painted<D: Sink, H: Highlighter>(
+    sink: &mut D,
+    grid: Grid,
+    start: Unit,
+    is_first: bool,
+    brush: &Brush<'_, H>,
+    spans: Spans,
+    row: &str,
+) -> Result<Unit, DeviceFailed>
+    requires inside { start < grid.columns }
+    ensures { SendsPainted (next_painted (cluster_width grid.mode grid.columns) is_first
+        (spans_in (brush_paints H.marks brush.now) spans) row.now) start
+        grid.columns D.held D.has_failed sink.old sink.new result }
+{
+    if is_first {
+        return send_painted_row(sink, grid, start, brush, spans, row);
+    }
+    send(sink, b"\r\n")?;
+    send_painted_row(sink, grid, 0, brush, spans.skip(brush, 1), row)
+}
+
+/// What is left of the spans after a row.
+fn behind_row<H: Highlighter>(
+    is_first: bool,
+    brush: &Brush<'_, H>,
+    spans: Spans,
+    row: &str,
+) -> Spans
+    ensures { spans_in (brush_paints H.marks brush.now) result
+        ≡ spans_behind is_first (spans_in (brush_paints H.marks brush.now) spans) row.now }
+{
+    let here = if is_first {
+        spans
+    } else {
+        spans.skip(brush, 1)
+    };
+    here.skip(brush, row.len())
+}
+
+/// A text with its styles, from a column on.
+pub(crate) fn send_painted<D: Sink, H: Highlighter>(
+    sink: &mut D,
+    grid: Grid,
+    start: Unit,
+    brush: &Brush<'_, H>,
+) -> Result<Unit, DeviceFailed>
+    requires inside { start < grid.columns }
+    ensures { SendsPainted (painted_text (cluster_width grid.mode grid.columns)
+        (brush_spans H.marks brush.now) brush.now.text.now) start
+        grid.columns D.held D.has_failed sink.old sink.new result }
+{
+    let text = brush.text;
+    let mut col = start;
+    let mut left = Spans::new(brush);
+    let mut is_first = true;
+    for row in text.split('\n') {
+        col = send_next_painted(sink, grid, col, is_first, brush, left, row)?;
+        left = behind_row(is_first, brush, left, row);
+        is_first = false;
+    }
+    Ok(col)
+}
