@@ -1,5 +1,5 @@
 -- An open session: its parts, what it passes in for a line, and the effect of its calls.
-use Rattle.std.specs.Prelude.{◌≡◌, ℕ, List, Option, Result, string_bytes}
+use Rattle.std.specs.Prelude.{◌≡◌, ℕ, Bool, List, Option, Result, string_bytes}
 use Rattle.line_config.specs.declared.config.Config.{Config}
 use Rattle.line_config.specs.declared.errors.ReadlineError.{ReadlineError}
 use Rattle.line_editor.specs.Running.{Helping}
@@ -61,7 +61,7 @@ module _ {S H D L T B : Type 0} where
     pub display : sink_of new.desk.out ≡ sink_of old.desk.out
     pub others : new ≡ record old { desk = record old.desk { out = new.desk.out } }
 
-  -- a highlighter's styles are drawn from now on, or not, and all else is as it was
+  -- the helper's styles are drawn from now on, or not, and all else is as it was
   pub record SetsColours (colours : Bool) (old new : Session S H D L T B) : Type 0 where
     pub screen : screen_of new.desk.out ≡ record (screen_of old.desk.out) { colours = colours }
     pub display : sink_of new.desk.out ≡ sink_of old.desk.out

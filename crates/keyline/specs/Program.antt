@@ -58,6 +58,7 @@ config_of options = record standard_config {
 abbrev pub profile_of : Bool → Config → Config
 profile_of extended config = record config {
   modal_commands = extended;
+  draw_colours = extended;
   completion_type = if extended then AsList else Circular;
 }
 

@@ -33,7 +33,7 @@ screen_by config columns = record {
   columns = columns;
   mode = config.grapheme_cluster_mode;
   bell = config.bell_style;
-  colours = false;
+  colours = config.draw_colours;
 }
 
 -- what is passed in for one of its lines: a prompt, and the columns of the screen's rows

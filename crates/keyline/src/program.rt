@@ -42,6 +42,7 @@ pub(crate) fn with_profile(config: Config, extended: bool) -> Config
 {
     let mut config = config;
     config.set_modal_commands(extended);
+    config.set_draw_colours(extended);
     config.set_completion_type(if extended {
         CompletionType::List
     } else {

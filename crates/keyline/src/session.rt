@@ -7,7 +7,7 @@ ghost use Rattle.line_keys.specs.Coming.{made_of};
 ghost use Rattle.line_editor.specs.Running.{helping_by};
 ghost use Rattle.keyline.specs.Known.{known_by};
 ghost use Rattle.keyline.specs.Playing.{Saves, ending_after};
-ghost use Rattle.keyline.specs.Opened.{HasGiven, ReadsNext, SetsColumns, desk_of, given_in, history_of, prompt_of, text_sink, with_entry};
+ghost use Rattle.keyline.specs.Opened.{HasGiven, ReadsNext, SetsColours, SetsColumns, desk_of, given_in, history_of, prompt_of, text_sink, with_entry};
 ghost use Rattle.keyline.specs.Plays.{BeginsSession, Finishes, LoadRefused, Loaded, Opens, Remains, RunsSession, Unopens, text_to_save};
 
 use crate::boxed::Devices;
@@ -267,9 +267,11 @@ where
             lines,
         } = devices;
         let mode = config.grapheme_cluster_mode();
+        let mut out = ScreenRenderer::new(display, columns, mode, config.bell_style());
+        out.set_colours(config.draw_colours());
         let desk = Desk {
             reader: KeyReader::new(source, config.edit_mode()),
-            out: ScreenRenderer::new(display, columns, mode, config.bell_style()),
+            out,
             helper,
             history: loaded,
             ring,
@@ -328,6 +330,14 @@ where
         ensures { SetsColumns columns self.old self.new }
     {
         self.desk.out.set_columns(columns);
+    }
+
+    /// Sets whether the helper's styles are drawn in further lines. Nothing is drawn. At first the
+    /// setting `draw_colours` says it.
+    pub fn set_colours(&mut self, colours: bool)
+        ensures { SetsColours colours self.old self.new }
+    {
+        self.desk.out.set_colours(colours);
     }
 
     /// Adds a line to the history, whatever the settings say about accepted lines, and returns

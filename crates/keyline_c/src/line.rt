@@ -56,12 +56,14 @@ fn screen(alloc: Global, options: &Options, config: &Config) -> ScreenRenderer<V
     ensures empty { ⟦<VecSink as Sink>⟧.held (sink_of result) ≡ [] }
     ensures screen { screen_of result ≡ screen_by config.now options.now.columns }
 {
-    ScreenRenderer::new(
+    let mut screen = ScreenRenderer::new(
         VecSink::new(alloc),
         options.columns,
         config.grapheme_cluster_mode(),
         config.bell_style(),
-    )
+    );
+    screen.set_colours(config.draw_colours());
+    screen
 }
 
 /// The number of bytes that a reader has left: those of its source, and the one read ahead.

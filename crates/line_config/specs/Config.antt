@@ -35,6 +35,7 @@ default_config = record {
   enable_synchronized_output = true;
   enable_signals = false;
   modal_commands = false;
+  draw_colours = false;
 }
 
 -- a holder of settings is as before, except for the change of its settings

@@ -188,6 +188,14 @@ impl Builder {
         self.set_modal_commands(yes);
         self
     }
+
+    /// Sets whether a highlighter's styles are drawn.
+    pub fn draw_colours(mut self, yes: bool) -> Self
+        ensures { result ≡ built (record self.config { draw_colours = yes }) }
+    {
+        self.set_draw_colours(yes);
+        self
+    }
 }
 
 impl Configurer for Builder {

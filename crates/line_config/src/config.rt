@@ -32,6 +32,7 @@ pub struct Config {
     pub(crate) enable_synchronized_output: bool,
     pub(crate) enable_signals: bool,
     pub(crate) modal_commands: bool,
+    pub(crate) draw_colours: bool,
 }
 
 impl Config {
@@ -183,6 +184,13 @@ impl Config {
     {
         self.modal_commands
     }
+
+    /// Whether a highlighter's styles are drawn.
+    pub fn draw_colours(&self) -> bool
+        ensures { result ≡ self.now.draw_colours }
+    {
+        self.draw_colours
+    }
 }
 
 impl Default for Config {
@@ -210,6 +218,7 @@ impl Default for Config {
             enable_synchronized_output: true,
             enable_signals: false,
             modal_commands: false,
+            draw_colours: false,
         }
     }
 }

@@ -188,6 +188,14 @@ pub trait Configurer {
         self.config_mut().modal_commands = yes;
     }
 
+    /// Sets whether a highlighter's styles are drawn.
+    fn set_draw_colours(&mut self, yes: bool)
+        ensures { Sets settings with_settings (λ c. record c { draw_colours = yes })
+            self.old self.new }
+    {
+        self.config_mut().draw_colours = yes;
+    }
+
     // Settings are read as they were set.
     ghost settings_as_set: { (holder : Self) (config : Config)
         → settings (with_settings holder config) ≡ config };
