@@ -62,7 +62,7 @@ ColoursStand =
     }))
     × (clusters_of (lay_painted s.columns items origin) ≡ cells_of s.columns (widths s) v)
 
--- where bytes have a meaning with styles, it has the cells and the cursor of their meaning without
+-- if bytes have a meaning with styles, its cells and cursor are those of their meaning without
 abbrev pub PaintingsShowCells : Type 0
 PaintingsShowCells =
     (columns : ℕ) (wide : List ℕ → Option ℕ) (bytes : List ℕ) (p : Painting)
@@ -72,7 +72,7 @@ PaintingsShowCells =
 abbrev pub down_painted : ℕ → Painted → Painted
 down_painted top x = record { cluster = down_placed top x.cluster; style = x.style }
 
--- wherever no style stands, a full drawing leaves the rows above its top as they are, and from there
+-- if no style stands, a full drawing leaves the rows above its top as they are, and from there
 -- on each cluster of the value with its style, and nothing else; no style stands after it
 abbrev pub FullDrawingPaints : Type 0
 FullDrawingPaints =
