@@ -94,7 +94,6 @@ module _ (s : Setting) (indent : ℕ) (custom : Custom) (free : IsUnbound custom
   plays_enter n k bytes rest =
       let input = k.input in ap (behind_key s indent (suc n) k rest) (enters input.mode input.input_mode custom input.last input.search input.modal_commands (shown_in k.value) n free)
 
-
 -- ---- the paste's text is the line's
 
 put_some : (text : List ℕ) (place : ℕ) → (take place [] ++ repeat 1 text) ++ drop place [] ≡ text

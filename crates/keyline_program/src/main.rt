@@ -13,7 +13,8 @@ ghost use Rattle.keyline.specs.Program.{IsByEnvironment, PlaysOver, invoked_conf
 
 use keyline::{
     Ended, Ending, Foretold, Invocation, Invoked, Options, ReadlineError, Sink, SliceSource,
-    Source, StandardKeys, Unopened, VecSink, WriteSink, by_environment, invoked_config, load_words, play_with,
+    Source, StandardKeys, Unopened, VecSink, WriteSink, by_environment, invoked_config, load_words,
+    play_with,
 };
 use keyline_files::{load_history, read_file, save_history};
 use std::env;
