@@ -64,7 +64,7 @@ const PARTS: [(&str, Part); 4] = [
 // A style in words.
 fn style_told(style: &Style) -> &'static str {
     let is_other = style.italic || style.underline || style.reverse;
-    match (style.text, style.ground) {
+    match (style.text, style.background) {
         _ if is_other => "another",
         (Colour::Terminal, Colour::Terminal) if style.faint && !style.bold => "faint",
         (Colour::Terminal, Colour::Terminal) if !style.faint && !style.bold => "plain",

@@ -35,7 +35,7 @@ IsNextSpan spans from (Some next) = spans from ≡ next.0 ∷ spans next.1
 abbrev pub plain : Style
 plain = record {
   text = Terminal;
-  ground = Terminal;
+  background = Terminal;
   bold = false;
   faint = false;
   italic = false;
@@ -47,7 +47,7 @@ plain = record {
 abbrev pub match_style : Style
 match_style = record {
   text = Basic Blue;
-  ground = Terminal;
+  background = Terminal;
   bold = true;
   faint = false;
   italic = false;
@@ -59,7 +59,7 @@ match_style = record {
 abbrev pub hint_style : Style
 hint_style = record {
   text = Terminal;
-  ground = Terminal;
+  background = Terminal;
   bold = false;
   faint = true;
   italic = false;
@@ -71,7 +71,7 @@ hint_style = record {
 abbrev pub message_style : Style
 message_style = record {
   text = Basic Red;
-  ground = Terminal;
+  background = Terminal;
   bold = false;
   faint = false;
   italic = false;

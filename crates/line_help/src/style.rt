@@ -38,7 +38,7 @@ pub struct Style {
     /// The colour of the text.
     pub text: Colour,
     /// The colour of its background.
-    pub ground: Colour,
+    pub background: Colour,
     /// SGR 1.
     pub bold: bool,
     /// SGR 2.
@@ -58,7 +58,7 @@ impl Style {
     {
         Style {
             text: Colour::Terminal,
-            ground: Colour::Terminal,
+            background: Colour::Terminal,
             bold: false,
             faint: false,
             italic: false,

@@ -48,7 +48,7 @@ flags s = flag s.bold 1 ++ (flag s.faint 2 ++ (flag s.italic 3 ++ (flag s.underl
 
 -- what stands after the 0 of the sequence: nothing where the style is plain
 abbrev pub numbers : Style → List ℕ
-numbers s = flags s ++ (colour_numbers 30 s.text ++ colour_numbers 40 s.ground)
+numbers s = flags s ++ (colour_numbers 30 s.text ++ colour_numbers 40 s.background)
 
 abbrev pub is_terminal : Colour → Bool
 is_terminal Terminal = true
@@ -56,4 +56,4 @@ is_terminal c = false
 
 abbrev pub is_plain_style : Style → Bool
 is_plain_style s = (not s.bold && (not s.faint && (not s.italic && (not s.underline && not s.reverse))))
-    && (is_terminal s.text && is_terminal s.ground)
+    && (is_terminal s.text && is_terminal s.background)

@@ -24,7 +24,7 @@ pub(crate) fn is_plain(style: Style) -> bool
     ensures { result ≡ is_plain_style style }
 {
     let flags = style.bold || style.faint || style.italic || style.underline || style.reverse;
-    !flags && is_terminal(style.text) && is_terminal(style.ground)
+    !flags && is_terminal(style.text) && is_terminal(style.background)
 }
 
 fn number_of(hue: Hue) -> u8
@@ -114,7 +114,7 @@ fn send_numbers<D: Sink>(sink: &mut D, style: Style) -> Result<(), DeviceFailed>
 {
     send_flags(sink, style)?;
     send_colour(sink, 30, style.text)?;
-    send_colour(sink, 40, style.ground)
+    send_colour(sink, 40, style.background)
 }
 
 /// From here on the terminal draws in this style.
