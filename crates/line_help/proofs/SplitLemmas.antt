@@ -1,5 +1,5 @@
 -- Splitting a text with control sequences: what each step of its loops leaves.
-use Rattle.std.proofs.Common.{◌≡◌, ◌≢◌, ◌<◌, ◌≤◌, ℕ, zero, suc, ◌+◌, ◌-◌, ◌==◌, ◌&&◌, Bool, true, false, not, List, [], ◌∷◌, ◌++◌, length, get_or, take, drop, add-one, drop-cons, map, replicate, Option, None, Some, option_map, refl, sym, ap, ◌∙◌, append_assoc, arith, ne_eqb, eqb-true, string_bytes, subst}
+use Rattle.std.proofs.Common.{◌≡◌, ◌≢◌, ◌<◌, ◌≤◌, ℕ, suc, ◌+◌, ◌-◌, ◌==◌, ◌&&◌, Bool, true, false, not, List, [], ◌∷◌, ◌++◌, length, get_or, take, drop, add-one, drop-cons, map, replicate, Option, None, Some, option_map, refl, sym, ap, ◌∙◌, append_assoc, arith, ne_eqb, eqb-true, subst}
 use Rattle.std.proofs.Math.Bool.{beq}
 use Rattle.std.specs.Cmp.{booleans_Decides}
 use Rattle.std.specs.Str.{IsUtf8, IsCharBoundary}

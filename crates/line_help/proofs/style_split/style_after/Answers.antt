@@ -1,4 +1,4 @@
-use Rattle.std.proofs.Common.{◌≡◌, ◌∷◌, ◌+◌, ◌∙◌, sym, ap, drop}
+use Rattle.std.proofs.Common.{◌∷◌, ◌+◌, ◌∙◌, sym, ap, drop}
 use Rattle.line_help.proofs.SplitLemmas.{reading, at_place, at_end}
 use Rattle.line_help.proofs.style_split.style_after.Goals as goal
 

@@ -6,7 +6,7 @@ use Rattle.line_help.proofs.style_split.Split.turn.Goals.{then-self-len+in_ok-pu
 pub returns-clause-differ : goal.returns-clause-differ
 returns-clause-differ c =
     let other : c.args.self.now.style ≢ c.args.style =
-        λ e. let same : c.same_style.result ≡ true = c.same_style.ensures.1 e in cc in
+    λ e. let same : c.same_style.result ≡ true = c.same_style.ensures.1 e in cc in
     elim c.if-self-len.branch [
       | then-self-len+in_ok-push w ↦
           let some : 0 < c.len-len.result - c.args.self.now.start = omega (arith, w.if-self-len.true) in
