@@ -1,11 +1,13 @@
 -- Splitting a text with control sequences: what each step of its loops leaves.
-use Rattle.std.proofs.Common.{◌≡◌, ◌≢◌, ◌<◌, ◌≤◌, ℕ, suc, ◌+◌, ◌-◌, ◌==◌, ◌&&◌, Bool, true, false, not, List, [], ◌∷◌, ◌++◌, length, get_or, take, drop, add-one, drop-cons, map, replicate, Option, None, Some, option_map, refl, sym, ap, ◌∙◌, append_assoc, arith, ne_eqb, eqb-true, subst}
+use Rattle.std.proofs.Common.{◌≡◌, ◌≢◌, ◌<◌, ◌≤◌, ℕ, zero, suc, ◌+◌, ◌-◌, ◌==◌, ◌&&◌, Bool, true, false, not, List, [], ◌∷◌, ◌++◌, length, length-append, get_or, take, drop, add-one, drop-cons, map, replicate, Option, None, Some, option_map, refl, sym, ap, ◌∙◌, append_assoc, arith, ne_eqb, eqb-true, subst}
 use Rattle.std.proofs.Math.Bool.{beq}
 use Rattle.std.specs.Cmp.{booleans_Decides}
 use Rattle.std.specs.Str.{IsUtf8, IsCharBoundary}
 use Rattle.std.proofs.lemmas.Str.{IsCharBoundary-after_ascii}
 use Rattle.std.proofs.lemmas.Grind.{common_steps}
-use Rattle.std.proofs.lemmas.List.{append-nil, replicate-append-replicate}
+use Rattle.std.proofs.lemmas.List.{append-nil, length-replicate, replicate-append-replicate}
+use Rattle.std.proofs.lemmas.List.Sums.{sum_by-cons}
+use Rattle.std.specs.Prelude.{sum_by}
 use Rattle.std.specs.Int.{is_in_range}
 use Rattle.std.specs.Bool.{Decides}
 use Rattle.line_help.specs.declared.style.Colour.{Colour}
@@ -16,7 +18,8 @@ use Rattle.line_help.specs.declared.style.Span.{Span}
 use Rattle.line_help.specs.declared.style.Style.{Style}
 use Rattle.line_help.specs.declared.style_split.Open.{Open}
 use Rattle.line_help.specs.declared.style_split.Open.TheVariants.{Nothing, Kind, Index, Parts, OnePart, TwoParts, Dropped}
-use Rattle.line_help.specs.SplitStyles.{Piece, final_len, sequence_len, pieces_after, changed_by, with_digit, numbers_in, style_by, style_after, text_of, styles_of, styles_in, Differ, open_numbers, styles_so_far, hue_at, hue_number, same_colour}
+use Rattle.line_help.specs.Paints.{plain}
+use Rattle.line_help.specs.SplitStyles.{Piece, TextStays, SpansFit, final_len, sequence_len, pieces_after, changed_by, with_digit, numbers_in, style_by, style_after, text_of, styles_of, styles_in, Differ, open_numbers, styles_so_far, hue_at, hue_number, same_colour}
 use Rattle.line_help.specs.SplitStyles.Piece.{Byte, Sequence}
 
 pub at_place : (text : List ℕ) (place : ℕ) → place < length text → drop place text ≡ get_or text place 0 ∷ drop (place + 1) text
@@ -341,3 +344,54 @@ pub last_styles : (old : List Style) (s : Style) (rest : List ℕ) → NoEscape 
 last_styles old s rest none =
     ap (λ text. old ++ styles_of s (pieces_after 0 text)) (sym (append-nil rest)) ∙ styles_step old s rest [] none
     ∙ append-nil (old ++ replicate (length rest) s)
+
+-- ---- laws
+
+abbrev AllPlain : List Style → Type 0
+AllPlain [] = Unit {0}
+AllPlain (s ∷ ss) = (s ≡ plain) × AllPlain ss
+
+plain_run : (n : ℕ) → AllPlain (replicate n plain)
+plain_run zero = tt
+plain_run (suc n) = (refl, plain_run n)
+
+first_plain : (n : ℕ) (s : Style) (later : List Style) → 0 < n → AllPlain (replicate n s ++ later) → s ≡ plain
+first_plain zero s later some all = absurd (omega arith)
+first_plain (suc n) s later some all = all.0
+
+later_plain : (n : ℕ) (s : Style) (later : List Style) → AllPlain (replicate n s ++ later) → AllPlain later
+later_plain zero s later all = all
+later_plain (suc n) s later all = later_plain n s later all.1
+
+no_spans : (spans : List Span) (rest : List Style) → AllPlain (styles_in spans ++ rest) → Differ spans plain → spans ≡ []
+no_spans [] rest all differ = refl
+no_spans (span ∷ []) rest all differ =
+    absurd (differ.1 (first_plain span.len span.style ([] ++ rest) differ.0 (rw append_assoc at all)))
+no_spans (span ∷ (next ∷ spans)) rest all differ =
+    let none = no_spans (next ∷ spans) rest (later_plain span.len span.style (styles_in (next ∷ spans) ++ rest) (rw append_assoc at all)) differ.2 in cc
+
+pub text_stays : TextStays
+text_stays shown text spans splits none =
+    let plain_styles : styles_in spans ++ replicate splits.rest plain ≡ replicate (length shown) plain =
+    sym splits.styles ∙ last_styles [] plain shown none in (
+      splits.bytes ∙ last_text [] shown none,
+      no_spans spans (replicate splits.rest plain) (rw plain_styles (plain_run (length shown))) splits.differ,
+    )
+
+as_many : (s : Style) (pieces : List Piece) → length (styles_of s pieces) ≡ length (text_of pieces)
+as_many s [] = refl
+as_many s (Byte b ∷ pieces) = ap (λ n. suc n) (as_many s pieces)
+as_many s (Sequence sequence ∷ pieces) = as_many (style_after sequence s) pieces
+
+bytes_of_spans : (spans : List Span) → length (styles_in spans) ≡ sum_by (λ span. span.len) spans
+bytes_of_spans [] = refl
+bytes_of_spans (span ∷ spans) =
+    length-append (replicate span.len span.style) (styles_in spans)
+    ∙ ap (λ n. n + length (styles_in spans)) (length-replicate span.len span.style)
+    ∙ ap (λ n. span.len + n) (bytes_of_spans spans)
+    ∙ sym (sum_by-cons (λ (s : Span). s.len) span spans)
+
+pub spans_fit : SpansFit
+spans_fit shown text spans splits =
+    let whole = ap length splits.styles ∙ length-append (styles_in spans) (replicate splits.rest plain) in
+    rw (splits.bytes, ← bytes_of_spans spans) (omega (arith, as_many plain (pieces_after 0 shown), whole))

@@ -1,5 +1,5 @@
 -- Texts with control sequences (ECMA-48): the text without them, and the styles that SGR gives it.
-use Rattle.std.specs.Prelude.{◌≡◌, ◌≢◌, ◌<◌, ◌≤◌, ⊤, ℕ, zero, suc, ◌+◌, ◌-◌, ◌*◌, ◌==◌, ◌&&◌, nat_lt, min, Bool, true, false, if◌then◌else◌, List, [], ◌∷◌, ◌++◌, length, take, drop, flat_map, replicate, Option, None, Some, option_map, unwrap_or}
+use Rattle.std.specs.Prelude.{◌≡◌, ◌≢◌, ◌<◌, ◌≤◌, ⊤, ℕ, zero, suc, ◌+◌, ◌-◌, ◌*◌, ◌==◌, ◌&&◌, nat_lt, min, Bool, true, false, if◌then◌else◌, List, [], ◌∷◌, ◌++◌, length, take, drop, slice_index, sum_by, flat_map, replicate, Option, None, Some, option_map, unwrap_or}
 use Rattle.std.specs.Borrow.{Bor}
 use Rattle.std.specs.Int.{is_in_range}
 use Rattle.line_help.specs.declared.style_split.Open.{Open}
@@ -170,6 +170,15 @@ pub record Splits (shown text : List ℕ) (spans : List Span) : Type 0 where
   pub rest : ℕ
   pub styles : styles_of plain (pieces_after 0 shown) ≡ styles_in spans ++ replicate rest plain
   pub differ : Differ spans plain
+
+-- a text without ESC stays as it is and has no spans; and spans are never longer than the text
+abbrev pub TextStays : Type 0
+TextStays = (shown text : List ℕ) (spans : List Span) → Splits shown text spans
+    → ((i : ℕ) → i < length shown → slice_index shown i ≢ 0x1B) → (text ≡ shown) × (spans ≡ [])
+
+abbrev pub SpansFit : Type 0
+SpansFit = (shown text : List ℕ) (spans : List Span) → Splits shown text spans
+    → sum_by (λ span. span.len) spans ≤ length text
 
 -- ---- the steps of a split
 

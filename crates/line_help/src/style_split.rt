@@ -1,7 +1,7 @@
 //! Splits a text with control sequences into the text without them and its styles.
 ghost use Rattle.std.specs.Prelude.{◌≡◌, ◌≤◌, ◌≢◌, ℕ, ⊤, List, ◌∷◌, ◌++◌, IfOk, OnOk, length, replicate, string_bytes, IsTrue};
 ghost use Rattle.std.specs.Bool.{Decides};
-ghost use Rattle.line_help.specs.SplitStyles.{Splits, SplitsSequence, Stands, Differ, final_len, hue_at, hue_number, colour_at, bright_at, with_colour, with_colour_number, with_number, palette, rgb, changed_by, open_numbers, style_after, styles_so_far, same_colour};
+ghost use Rattle.line_help.specs.SplitStyles.{Splits, TextStays, SpansFit, SplitsSequence, Stands, Differ, final_len, hue_at, hue_number, colour_at, bright_at, with_colour, with_colour_number, with_number, palette, rgb, changed_by, open_numbers, style_after, styles_so_far, same_colour};
 
 use crate::style::{Colour, Hue, Span, Style};
 use std::alloc::{AllocError, Global};
@@ -373,3 +373,13 @@ pub fn split_styles(alloc: Global, shown: &str) -> Result<(String, Vec<Span>), A
     split.turn(Style::plain())?;
     Ok((split.text, split.spans))
 }
+
+/// A text without ESC stays as it is, and has no spans.
+pub fn text_stays()
+    ensures { TextStays }
+{}
+
+/// The bytes of all spans together are at most those of the text.
+pub fn spans_fit()
+    ensures { SpansFit }
+{}
