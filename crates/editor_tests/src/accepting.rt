@@ -108,9 +108,9 @@ const HIGHLIGHTS: &str = "
     colours: yes = nothing
     helper: Valid = nothing
     marks: 2 = nothing
-    ab|: AcceptLine = Submit ab| / draw '> ab|' at 0,4 to 0,4 lit
+    ab|: AcceptLine = Submit ab| / draw '> ab|' at 0,4 to 0,4 lit marked
     a|b: AcceptLine = Submit a|b /
-    ab|: Repaint; Move BackwardChar 1 = a|b / draw '> a|b' at 0,3 to 0,4 lit
+    ab|: Repaint; Move BackwardChar 1 = a|b / draw '> a|b' at 0,3 to 0,4 lit marked
     ab|: Repaint; Move BackwardChar 1; AcceptLine = Submit a|b /
 ";
 

@@ -13,7 +13,9 @@ use crate::words::completer_of;
 use line_buffer::{ChangeListener, LineBuffer};
 use line_config::{CompletionType, HookFault};
 use line_help::{
-    Completer, Context, Helper, HelperParts, Highlighter, Hinter, History, HistoryHinter, Mark, MatchingBracketHighlighter, MatchingBracketValidator, MemHistory, Part, Prompt, Span, ValidationContext, ValidationResult, Validator, WordCompleter,
+    Completer, Context, Helper, HelperParts, Highlighter, Hinter, History, HistoryHinter, Mark,
+    MatchingBracketHighlighter, MatchingBracketValidator, MemHistory, Part, Prompt, Span,
+    ValidationContext, ValidationResult, Validator, WordCompleter,
 };
 use line_keys::CmdKind;
 use stand_ins::rows::{Player, raised, rows_hold};
@@ -97,8 +99,8 @@ impl Hinter for Refusing {
 
 impl Highlighter for Refusing {
     ghost marks = { λ self. record {
-        marked = λ line pos kind. true;
-        paints = λ part text from. [];
+      marked = λ line pos kind. true;
+      paints = λ part text from. [];
     } };
 
     ghost kept = { λ before after. after ≡ before };

@@ -16,4 +16,6 @@ mod history;
 #[cfg(test)]
 mod resuming;
 #[cfg(test)]
+mod styles;
+#[cfg(test)]
 mod words;

@@ -134,7 +134,7 @@ pub line_read : {K T : Type 0} (held waits : VecSink → List ℕ) (failed : Vec
     (helper : Option EditHelper) (old : ScreenRenderer VecSink) (display : VecSink) (ring ring' : Ring) (query query' : List ℕ) (history history' : Filed) (feed feed' : KeyFeed) (ran : Ran (ScreenRenderer VecSink) EditHelper K T) (F : SliceSource → Feed) (reader : KeyReader SliceSource) (left : Left)
     → Runs (canvas_of held waits failed) edit_helping custom prompt helper history.kept.entries config old ring query feed ran ring' query' feed' → IsTrue feed'.told
     → Ends held (outcome_of ran) (sink_of ran.out) display history history' → held (sink_of old) ≡ []
-    → config.auto_add_history ≡ true → custom ≡ bound_to → prompt ≡ string_bytes options.prompt → helper ≡ helper_of options words
+    → config.auto_add_history ≡ true → custom ≡ bound_to → prompt ≡ string_bytes options.prompt → helper ≡ helper_of config options words
     → screen_of old ≡ record { columns = options.columns; mode = config.grapheme_cluster_mode; bell = config.bell_style; colours = config.draw_colours }
     → feed.coming ≡ coming_from options.mode keys last → feed.bound ≡ length keys
     → query ≡ [] → left.outcome ≡ ran.outcome → left.open_line ≡ ran.open_line → left.display ≡ display → left.ring ≡ ring' → left.history ≡ history'

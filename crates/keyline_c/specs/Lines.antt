@@ -39,7 +39,7 @@ IsWant e = (e ≡ Memory) ⊎ ((e ≡ Display) ⊎ (e ≡ Helper))
 -- what is passed in for a line with these settings, bindings, options and words
 abbrev pub given_with : Config → Custom → Options → Option (List (List ℕ)) → Given
 given_with config custom options words = given_of config custom (string_bytes options.prompt)
-    (screen_by config options.columns) (edit_helping (helper_of options words))
+    (screen_by config options.columns) (edit_helping (helper_of config options words))
 
 -- the line as it stands at its end, or where the keys end
 abbrev pub line_at_end : ℕ → Given → SessionState → Line

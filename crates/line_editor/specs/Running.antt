@@ -18,7 +18,7 @@ use Rattle.line_keys.specs.Feeds.{KeyFeed}
 use Rattle.line_keys.specs.InputStates.{new_input}
 use Rattle.line_keys.specs.Phrases.{Input}
 use Rattle.line_record.specs.Ring.{Ring}
-use Rattle.line_editor.specs.Calls.{Canvas, Ruler}
+use Rattle.line_editor.specs.Calls.{Canvas, Marks, Ruler}
 use Rattle.line_editor.specs.LineScripts.{LineState, LineAsk, LineStage, kept, line_script, line_world, played_from, line_stage}
 use Rattle.line_editor.specs.Modal.{Modal, modal_first}
 use Rattle.line_editor.specs.Redraws.{fresh}

@@ -2,7 +2,7 @@
 ghost use Rattle.std.specs.Prelude.{◌≡◌, OnOk, IsCharBoundary, IsTrue, length, ◌==◌, Some, Ok};
 ghost use Rattle.line_help.specs.Search.{Finds};
 ghost use Rattle.line_editor.specs.declared.modal_state.Standing.TheVariants.{Searches};
-ghost use Rattle.line_editor.specs.Modal.{modal_of, rested};
+ghost use Rattle.line_editor.specs.Modal.{modal_of, rested, answered_by};
 ghost use Rattle.line_editor.specs.Searching.{hit_back, hit_put, search_drawn, look, looked, sought, is_place, placed, placing, given_up, begin_search, begun_if, begun_at, queried, emptied, emptied_effect};
 
 use crate::modal_state::{Act, ModalState, Next, Standing, Wish, act_of, dir_again, wish_of};
@@ -409,17 +409,22 @@ impl<'p, 'h, Out: Renderer, H: Helper + Drop, Hi: History> State<'p, 'h, Out, H,
 
     /// A command before it is done: what stands between commands makes of it, and which one is done
     /// in its place.
-    pub(crate) fn meet(&mut self, modal: &mut ModalState, cmd: Cmd) -> Result<Cmd, ReadlineError>
-        ensures { Meets cmd self.old (modal_of modal.old) self.new (modal_of modal.new)
-            result }
+    pub(crate) fn meet(
+        &mut self,
+        modal: &mut ModalState,
+        cmd: &mut Cmd,
+    ) -> Result<(), ReadlineError>
+        ensures { Meets cmd.old self.old (modal_of modal.old) self.new (modal_of modal.new)
+            (answered_by result cmd.new) }
     {
-        match self.met(modal, &cmd)? {
-            Next::Nothing => Ok(Cmd::Unknown),
-            Next::Same => Ok(cmd),
-            Next::Earlier => Ok(Cmd::HistorySearchBackward),
-            Next::Later => Ok(Cmd::HistorySearchForward),
-            Next::Own => Ok(Cmd::EndOfHistory),
+        match self.met(modal, cmd)? {
+            Next::Nothing => *cmd = Cmd::Unknown,
+            Next::Same => {}
+            Next::Earlier => *cmd = Cmd::HistorySearchBackward,
+            Next::Later => *cmd = Cmd::HistorySearchForward,
+            Next::Own => *cmd = Cmd::EndOfHistory,
         }
+        Ok(())
     }
 }
 

@@ -1,18 +1,19 @@
--- Styles of what is shown: spans of a text, given one after the other.
-use Rattle.std.specs.Prelude.{◌≡◌, ℕ, ◌==◌, Bool, true, false, if◌then◌else◌, List, [], ◌∷◌, Option, Some, None, option_map}
+-- Styles of drawn texts: the spans of a text, one after another.
+use Rattle.std.specs.Prelude.{◌≡◌, ℕ, ◌==◌, ◌&&◌, nat_lt, Bool, true, false, if◌then◌else◌, List, [], ◌∷◌, length, Option, Some, None, is_some, option_map}
+use Rattle.std.specs.List.{position_or_len}
 use Rattle.line_keys.specs.declared.command.CmdKind.{CmdKind}
 use Rattle.line_help.specs.declared.style.Colour.TheVariants.{Terminal, Basic}
-use Rattle.line_help.specs.declared.style.Hue.TheVariants.{Blue}
+use Rattle.line_help.specs.declared.style.Hue.TheVariants.{Blue, Red}
 use Rattle.line_help.specs.declared.style.Mark.{Mark}
 use Rattle.line_help.specs.declared.style.Part.{Part}
-use Rattle.line_help.specs.declared.style.Part.TheVariants.{Line}
+use Rattle.line_help.specs.declared.style.Part.TheVariants.{Line, Hint, Message}
 use Rattle.line_help.specs.declared.style.Span.{Span}
 use Rattle.line_help.specs.declared.style.Style.{Style}
 use Rattle.line_help.specs.Brackets.{bracket_to_match}
-use Rattle.line_help.specs.Highlights.{match_to_show}
+use Rattle.line_help.specs.Highlights.{kept_bracket, match_to_show}
 
--- what a highlighter does: whether something in a line is marked, by line, place and reason of the
--- drawing; and the spans of a text in a part of a drawing, from a mark on
+-- what a highlighter does: whether it marks something in a line, depending on the line, the place
+-- and the reason for the drawing; and the spans of a text in a part of a drawing, after a mark
 pub record Marks : Type 0 where
   pub marked : List ℕ → ℕ → CmdKind → Bool
   pub paints : Part → List ℕ → Mark → List Span
@@ -23,15 +24,54 @@ no_marks = record { marked = λ line pos kind. false; paints = λ part text from
 abbrev pub first_mark : Mark
 first_mark = record { at = 0; state = 0 }
 
--- the next of the spans from a mark on, and the mark after it; none after the last
+-- the first of the spans after a mark, and the mark after it; none if there are no more
 abbrev pub IsNextSpan : (Mark → List Span) → Mark → Option (Span × Mark) → Type 0
 IsNextSpan spans from None = spans from ≡ []
 IsNextSpan spans from (Some next) = spans from ≡ next.0 ∷ spans next.1
 
+-- ---- styles
+
+-- the terminal's colours, and nothing else
 abbrev pub plain : Style
 plain = record {
   text = Terminal;
-  ground = Terminal;
+  background = Terminal;
+  bold = false;
+  faint = false;
+  italic = false;
+  underline = false;
+  reverse = false;
+}
+
+-- bold and blue
+abbrev pub match_style : Style
+match_style = record {
+  text = Basic Blue;
+  background = Terminal;
+  bold = true;
+  faint = false;
+  italic = false;
+  underline = false;
+  reverse = false;
+}
+
+-- faint
+abbrev pub hint_style : Style
+hint_style = record {
+  text = Terminal;
+  background = Terminal;
+  bold = false;
+  faint = true;
+  italic = false;
+  underline = false;
+  reverse = false;
+}
+
+-- red
+abbrev pub message_style : Style
+message_style = record {
+  text = Basic Red;
+  background = Terminal;
   bold = false;
   faint = false;
   italic = false;
@@ -41,34 +81,46 @@ plain = record {
 
 -- ---- the match of the bracket at the cursor
 
--- bold and blue
-abbrev pub lit : Style
-lit = record {
-  text = Basic Blue;
-  ground = Terminal;
-  bold = true;
-  faint = false;
-  italic = false;
-  underline = false;
-  reverse = false;
-}
-
-abbrev pub lit_byte : Span
-lit_byte = record { len = 1; style = lit }
+abbrev pub match_byte : Span
+match_byte = record { len = 1; style = match_style }
 
 -- the place of the match that is to be shown
 abbrev pub match_place : List ℕ → ℕ → Option ℕ
 match_place text pos =
     option_map (λ found. found.1) (match_to_show text (bracket_to_match text pos))
 
--- what stands before it is plain, and so is what stands after it
+-- the text before it is plain; what follows it has no span
 abbrev pub match_spans : Option ℕ → List Span
 match_spans None = []
-match_spans (Some place) = record { len = place; style = plain } ∷ (lit_byte ∷ [])
+match_spans (Some place) = record { len = place; style = plain } ∷ (match_byte ∷ [])
 
--- before the first span nothing was noted, and after it 1
+-- the mark's state is 0 at the start, and 1 after the plain span
 abbrev pub paints_match : Part → List ℕ → Mark → List Span
 paints_match (Line pos) text from =
     if from.state == 0 then match_spans (match_place text pos)
-    else if from.state == 1 then (lit_byte ∷ []) else []
+    else if from.state == 1 then (match_byte ∷ []) else []
 paints_match part text from = []
+
+-- ---- the standard highlighter
+
+-- one span over the first bytes of a text, if there are any
+abbrev pub first_bytes : Style → ℕ → Mark → List Span
+first_bytes style len from = if from.state == 0 && nat_lt 0 len
+    then record { len = len; style = style } ∷ [] else []
+
+-- the number of bytes before the first newline
+abbrev pub first_row_len : List ℕ → ℕ
+first_row_len text = position_or_len (λ byte. byte == 10) text
+
+-- a line's match is bold and blue, a hint faint, a message's first row red, and a prompt plain
+abbrev pub standard_paints : Part → List ℕ → Mark → List Span
+standard_paints (Line pos) text from = paints_match (Line pos) text from
+standard_paints Hint text from = first_bytes hint_style (length text) from
+standard_paints Message text from = first_bytes message_style (first_row_len text) from
+standard_paints part text from = []
+
+abbrev pub standard_marks : Marks
+standard_marks = record {
+  marked = λ line pos kind. is_some (kept_bracket line pos kind);
+  paints = standard_paints;
+}

@@ -1,7 +1,7 @@
 //! Highlights the bracket that matches the one at the cursor.
 ghost use Rattle.std.specs.Prelude.{◌≡◌, ◌<◌, ⊤, IfOk, IfSome, is_some, string_bytes, slice_get, Some, None};
 ghost use Rattle.line_help.specs.declared.style.Part.TheVariants.{Line};
-ghost use Rattle.line_help.specs.Paints.{paints_match, IsNextSpan, lit, match_place};
+ghost use Rattle.line_help.specs.Paints.{paints_match, IsNextSpan, match_style, match_place};
 ghost use Rattle.line_help.specs.Highlights.{kept_bracket, match_to_show, shown_with_match, with_bold_byte};
 
 use crate::brackets::{check_bracket, find_matching_bracket};
@@ -63,8 +63,8 @@ impl Default for MatchingBracketHighlighter {
 #[tactic(auto, using(crate::proofs::HighlightLemmas::plain))]
 impl Highlighter for MatchingBracketHighlighter {
     ghost marks = { λ self. record {
-        marked = λ line pos kind. is_some (kept_bracket line pos kind);
-        paints = paints_match;
+      marked = λ line pos kind. is_some (kept_bracket line pos kind);
+      paints = paints_match;
     } };
 
     ghost kept = { λ before after. ⊤ };
@@ -124,8 +124,8 @@ impl Highlighter for MatchingBracketHighlighter {
         self.bracket.is_some()
     }
 
-    /// Three spans: up to the match of the bracket at the cursor, the match, and what follows. It is
-    /// looked for at the first one, so nothing that is kept matters.
+    /// Up to the match of the bracket at the cursor a span is plain, and the match is bold and blue.
+    /// A kept bracket changes no span.
     fn next_span(&self, part: Part, text: &str, from: Mark) -> Option<(Span, Mark)> {
         match part {
             Part::Line(pos) => match_span(text, pos, from),
@@ -134,7 +134,7 @@ impl Highlighter for MatchingBracketHighlighter {
     }
 }
 
-/// The place of the match that is to be shown.
+/// The place of the match of the bracket at the cursor.
 fn match_place(text: &str, pos: usize) -> Option<usize>
     ensures { result ≡ match_place text.now pos }
 {
@@ -145,27 +145,31 @@ fn match_place(text: &str, pos: usize) -> Option<usize>
     Some(place)
 }
 
+/// The next span of a line: the text before the match, or the match.
 fn match_span(text: &str, pos: usize, from: Mark) -> Option<(Span, Mark)>
     ensures { IsNextSpan (paints_match (Line pos) text.now) from result }
 {
     match from.state {
         0 => match match_place(text, pos) {
-                Some(place) => Some((
-                    Span {
-                        len: place,
-                        style: Style::plain(),
-                    },
-                    Mark { at: place, state: 1 },
-                )),
-                None => None,
-            },
+            Some(place) => Some((
+                Span {
+                    len: place,
+                    style: Style::plain(),
+                },
+                Mark {
+                    at: place,
+                    state: 1,
+                },
+            )),
+            None => None,
+        },
         1 => Some((
             Span {
                 len: 1,
-                style: lit(),
+                style: match_style(),
             },
             Mark {
-                at: from.at,
+                at: from.at.saturating_add(1),
                 state: 2,
             },
         )),
@@ -174,17 +178,13 @@ fn match_span(text: &str, pos: usize, from: Mark) -> Option<(Span, Mark)>
 }
 
 /// Bold and blue.
-fn lit() -> Style
-    ensures { result ≡ lit }
+fn match_style() -> Style
+    ensures { result ≡ match_style }
 {
     Style {
         text: Colour::Basic(Hue::Blue),
-        ground: Colour::Terminal,
         bold: true,
-        faint: false,
-        italic: false,
-        underline: false,
-        reverse: false,
+        ..Style::plain()
     }
 }
 

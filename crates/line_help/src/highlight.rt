@@ -1,6 +1,7 @@
 //! Highlighting: lines, prompts, hints and candidates with styles.
 ghost use Rattle.std.specs.Prelude.{◌≡◌, ℕ, List, [], box_value};
 ghost use Rattle.std.specs.Cow.{cow_str_bytes};
+ghost use Rattle.line_keys.specs.declared.command.CmdKind.{CmdKind};
 ghost use Rattle.line_help.specs.Highlights.{DisplayPart, Highlights};
 ghost use Rattle.line_help.specs.Highlights.DisplayPart.{OfLine, OfPrompt, OfHint, OfCandidate};
 ghost use Rattle.line_help.specs.Paints.{Marks, no_marks, IsNextSpan};
@@ -14,11 +15,12 @@ use std::borrow::CowStr;
 
 /// Highlights a line and the texts shown with it, for a display with colours.
 ///
-/// A highlighted text is the text with inserted control sequences that change how characters are
-/// drawn. So it takes the same number of columns.
+/// A display with colours is drawn by `highlight_char` and `next_span`. The calls `highlight` to
+/// `highlight_candidate` return a text with inserted control sequences that change how characters
+/// are drawn. So it takes the same number of columns.
 pub trait Highlighter {
     // Whether something in a line is highlighted, depending on the line, the place and the reason
-    // of the drawing, and the spans of each text.
+    // for the drawing; and the spans of each text after a mark.
     ghost marks: { Self → Marks };
 
     // How `highlight_char` may change the highlighter.
@@ -72,9 +74,10 @@ pub trait Highlighter {
         ensures shown { shown_as self.new ≡ shown_after self.old line.now pos kind }
         ensures kept { kept self.old self.new };
 
-    /// The next span of a text in a part of a drawing: the first one from `Mark::first()`, and each
-    /// further one from the mark that came with the one before. None where what is left of the text
-    /// has no style.
+    /// The next span of a text in a part of a drawing, and the mark after it; `None` if the rest of
+    /// the text has no style. `from` is `Mark::first()`, or the mark that came with the span before.
+    /// The answer depends only on the part, the text and the mark. A line in which
+    /// `highlight_char` highlights nothing is drawn without its spans.
     fn next_span(&self, part: Part, text: &str, from: Mark) -> Option<(Span, Mark)>
         ensures { IsNextSpan ((marks self.now).paints part text.now) from result };
 }

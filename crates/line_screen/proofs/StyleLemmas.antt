@@ -39,7 +39,7 @@ numbers_are s =
     let flag_is = λ (b : Bool) (n : ℕ). codes_are (flag_codes b n) in
     both (flags s) _
     (both (flag s.bold 1) _ (flag_is s.bold 1) (both (flag s.faint 2) _ (flag_is s.faint 2) (both (flag s.italic 3) _ (flag_is s.italic 3) (both (flag s.underline 4) _ (flag_is s.underline 4) (flag_is s.reverse 7)))))
-    (both (colour_numbers 30 s.text) (colour_numbers 40 s.ground) (codes_are (colour_codes 30 s.text)) (codes_are (colour_codes 40 s.ground)))
+    (both (colour_numbers 30 s.text) (colour_numbers 40 s.background) (codes_are (colour_codes 30 s.text)) (codes_are (colour_codes 40 s.background)))
 
 pub spans_are : (spans : List span.Span) → are_styles (map span_of spans) ≡ true
 spans_are [] = refl
@@ -72,7 +72,7 @@ then_none xs ys a b h k = none_of xs ys ∙ ap (λ x. x && (length ys == 0)) h �
 pub plain_none : (s : Style) → is_plain_style s ≡ (length (numbers s) == 0)
 plain_none s = sym (then_none (flags s) _ _ _
     (then_none (flag s.bold 1) _ _ _ (flag_none s.bold 1) (then_none (flag s.faint 2) _ _ _ (flag_none s.faint 2) (then_none (flag s.italic 3) _ _ _ (flag_none s.italic 3) (then_none (flag s.underline 4) _ _ _ (flag_none s.underline 4) (flag_none s.reverse 7)))))
-    (then_none (colour_numbers 30 s.text) _ _ _ (colour_none 30 s.text) (colour_none 40 s.ground)))
+    (then_none (colour_numbers 30 s.text) _ _ _ (colour_none 30 s.text) (colour_none 40 s.background)))
 
 -- ---- what is sent
 

@@ -1,11 +1,17 @@
 -- What holds of a display over drawings with styles.
-use Rattle.std.specs.Prelude.{◌≡◌, ℕ, ◌+◌, ◌^◌, ◌<◌, ◌≤◌, List, [], ◌++◌, map, true, Bool, Some, Option}
-use Rattle.std.specs.List.{filter, list_all}
+use Rattle.std.specs.Prelude.{◌≡◌, ◌≢◌, ℕ, ◌+◌, ◌^◌, ◌<◌, ◌≤◌, List, [], ◌∷◌, ◌++◌, map, true, false, not, Bool, Some, Option, is_some}
+use Rattle.std.specs.List.{filter, flat_map, FoldsTo, list_all}
+use Rattle.line_buffer.specs.declared.layout.Layout.{Layout}
 use Rattle.line_buffer.specs.declared.layout.Position.{Position}
-use Rattle.line_screen.specs.Calls.{Screen}
+use Rattle.line_editor.specs.Calls.{Call}
+use Rattle.line_editor.specs.Calls.Call.{Draw}
+use Rattle.line_editor.specs.Redraws.{Redraw, asked_by}
+use Rattle.line_editor.specs.Running.{Helping, setting_by}
+use Rattle.line_editor.specs.Values.{Value, shown_marks}
+use Rattle.line_screen.specs.Calls.{Screen, bytes_of, ruler_of}
 use Rattle.line_screen.specs.Display as displays
-use Rattle.line_screen.specs.Display.{read, start, is_printable}
-use Rattle.line_screen.specs.Chain.{Picture, Stands, Shows, cells_of, finish_of, cursor_of, above, down, down_placed}
+use Rattle.line_screen.specs.Display.{Placed, read, start, is_printable}
+use Rattle.line_screen.specs.Chain.{Picture, View, Good, LeadsView, Stands, Shows, cells_of, finish_of, cursor_of, above, down, down_placed}
 use Rattle.line_buffer.specs.Cells.{origin}
 use Rattle.line_screen.specs.Colours.{Styles, is_style, are_styles, painted_full, painted_shown, painted_text, PaintedItem}
 use Rattle.line_screen.specs.Painting.{Painted, PaintReading, paint_read, paint_letters, Painting, cells_of_painting, painting_of, lay_painted, clusters_of}
@@ -56,7 +62,7 @@ ColoursStand =
     }))
     × (clusters_of (lay_painted s.columns items origin) ≡ cells_of s.columns (widths s) v)
 
--- where bytes have a meaning with styles, it has the cells and the cursor of their meaning without
+-- if bytes have a meaning with styles, its cells and cursor are those of their meaning without
 abbrev pub PaintingsShowCells : Type 0
 PaintingsShowCells =
     (columns : ℕ) (wide : List ℕ → Option ℕ) (bytes : List ℕ) (p : Painting)
@@ -66,7 +72,7 @@ PaintingsShowCells =
 abbrev pub down_painted : ℕ → Painted → Painted
 down_painted top x = record { cluster = down_placed top x.cluster; style = x.style }
 
--- wherever no style stands, a full drawing leaves the rows above its top as they are, and from there
+-- if no style stands, a full drawing leaves the rows above its top as they are, and from there
 -- on each cluster of the value with its style, and nothing else; no style stands after it
 abbrev pub FullDrawingPaints : Type 0
 FullDrawingPaints =
@@ -93,3 +99,35 @@ FullDrawingPaints =
 -- the numbers of each style are digits and semicolons
 abbrev pub NumbersAreStyles : Type 0
 NumbersAreStyles = (s : Style) → is_style (numbers s) ≡ true
+
+-- ---- without styles
+
+-- a style begins with ESC [ 0, which stands nowhere in these bytes
+abbrev pub BeginsNoStyle : List ℕ → Type 0
+BeginsNoStyle bytes =
+    (before after : List ℕ) → bytes ≢ before ++ (0x1B ∷ (0x5B ∷ (0x30 ∷ after)))
+
+-- a call doesn't draw with a highlighter
+abbrev pub has_no_marks : Call → Bool
+has_no_marks (Draw prompt text place info old new marks) = not (is_some marks)
+has_no_marks call = true
+
+-- the bytes of calls without a highlighter begin no style
+abbrev pub UnmarkedCallsBeginNone : Type 0
+UnmarkedCallsBeginNone =
+    (s : Screen) → 2 ≤ s.columns → s.columns ≤ 1000
+    → (calls : List Call) (bytes : List ℕ) (over : List Placed) (a b : View)
+    → Good s.columns (widths s) bytes over a → FoldsTo (LeadsView s.columns (widths s)) a calls b
+    → list_all has_no_marks calls ≡ true → BeginsNoStyle (flat_map (bytes_of s) calls)
+
+-- on a screen without colours no call draws with a highlighter, whatever is to be drawn
+abbrev pub ScreensWithoutColours : Type 0
+ScreensWithoutColours =
+    (s : Screen) → s.colours ≡ false
+    → (prompt : List ℕ) (helping : Helping) (entries : List (List ℕ))
+    → let marks = (setting_by (ruler_of s) prompt helping entries).marks in
+    (v : Value) (l : Layout) (x : Redraw)
+    → list_all has_no_marks (asked_by (ruler_of s) (shown_marks v marks) l x).calls ≡ true
+
+abbrev pub Uncoloured : Type 0
+Uncoloured = UnmarkedCallsBeginNone × ScreensWithoutColours

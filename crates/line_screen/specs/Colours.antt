@@ -1,5 +1,5 @@
--- Coloured drawings: texts with a style for each cluster, and the bytes that draw them. They stand in
--- the cells in which they would stand without styles.
+-- Drawings with styles: texts with a style for each cluster, and the bytes that draw them. Each
+-- cluster has the cells that it has without styles.
 use Rattle.std.specs.Prelude.{option_map, option_copied, Result, Some, None, ℕ, ◌+◌, ◌-◌, ◌==◌, nat_lt, nat_le, Bool, true, List, [], ◌∷◌, ◌++◌, length, take, drop, Option, if◌then◌else◌, map}
 use Rattle.std.specs.List.{list_all, flat_map}
 use Rattle.unicode_segmentation.specs.Grapheme.{graphemes}
@@ -19,7 +19,7 @@ use Rattle.line_screen.specs.Drawing.DrawnItem.{NewRow, Letter, Cluster}
 
 -- ---- styles
 
--- so many bytes of a text have this style: what stands after the 0 of a control sequence SGR, as
+-- so many bytes of a text have this style: the rest of the control sequence SGR after its 0, as
 -- `;1;34`; nothing: no style
 pub record Span : Type 0 where
   pub len : ℕ
@@ -50,8 +50,8 @@ style_bytes (c ∷ style) = 0x1B ∷ (0x5B ∷ (0x30 ∷ (c ∷ (style ++ 0x6D �
 
 -- ---- a text as items with styles
 
--- an item without style; a style that begins, or ends; a letter after such a one; and a cluster
--- with a style of its own
+-- an item without style; a style that begins, or ends; a letter between these; and a cluster with a
+-- style of its own
 pub data PaintedItem : Type 0 where
   Bare : (item : DrawnItem) → PaintedItem
   Begins : (style : List ℕ) → PaintedItem
@@ -183,12 +183,12 @@ painted_bytes columns wide styles None prompt line info finish cursor =
 painted_bytes columns wide styles (Some row) prompt line info finish cursor =
     painted_full columns wide styles row prompt line info finish cursor
 
--- ---- what code is said to do
+-- ---- the spans of a highlighter
 
 abbrev pub span_of : span.Span → Span
 span_of s = record { len = s.len; style = numbers s.style }
 
--- what highlights a text, if anything does, and its spans from a mark on
+-- the spans of a text from a mark on, if there is a highlighter
 abbrev pub paints_by : Option Marks → Part → List ℕ → Mark → List span.Span
 paints_by None part text from = []
 paints_by (Some m) part text from = m.paints part text from
@@ -203,7 +203,7 @@ abbrev pub spans_from : Option span.Span → List Span → List Span
 spans_from None rest = []
 spans_from (Some s) rest = span_of s ∷ rest
 
--- those that are still to come
+-- the remaining spans
 abbrev pub spans_in : (Mark → List span.Span) → spans.Spans → List Span
 spans_in paints s = spans_from s.first (map span_of (paints s.mark))
 

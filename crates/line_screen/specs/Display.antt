@@ -129,9 +129,9 @@ erased stays d =
     then Text (record { placed = filter (stays d.cursor) d.placed; cursor = d.cursor }) []
     else Lost
 
--- ESC [ m and ESC [ 0 ; .. m (SGR) change no cell. ESC [ J (ED) keeps everything that begins before the cursor. ESC [
--- K (EL) keeps everything except what ends after the cursor in its row. ESC [ H (CUP) goes to the
--- first cell
+-- ESC [ m and ESC [ 0 ; .. m (SGR) change no cell. ESC [ J (ED) keeps everything that begins before
+-- the cursor. ESC [ K (EL) keeps everything except what ends after the cursor in its row. ESC [ H
+-- (CUP) goes to the first cell
 abbrev pub plain_sequence : ℕ → Display → ℕ → DisplayReading
 plain_sequence columns d byte =
     if byte == 0x6D then Text d []
@@ -164,7 +164,7 @@ numbered_sequence columns d count final =
     then Text (at_cursor (moved_by d.cursor count final) d) []
     else Lost
 
--- what the parameters of a style are made of: digits and semicolons
+-- the parameters of a style: digits and semicolons
 abbrev pub is_parameter : ℕ → Bool
 is_parameter byte = is_digit byte || (byte == 0x3B)
 

@@ -1,4 +1,4 @@
--- The numbers of a style, as a control sequence SGR says them.
+-- The numbers of a style in the control sequence SGR (ECMA-48, 8.3.117).
 use Rattle.std.specs.Prelude.{ℕ, ◌+◌, ◌%◌, ◌&&◌, not, Bool, true, false, List, [], ◌∷◌, ◌++◌, decimal, if◌then◌else◌}
 use Rattle.line_help.specs.declared.style.Hue.{Hue}
 use Rattle.line_help.specs.declared.style.Hue.TheVariants as hues
@@ -16,7 +16,7 @@ hue_number hues.Magenta = 5
 hue_number hues.Cyan = 6
 hue_number hues.White = 7
 
--- of a text from 30 on, of what it stands on from 40 on
+-- of a text from 30 on, of its background from 40 on
 abbrev pub colour_codes : ℕ → Colour → List ℕ
 colour_codes front Terminal = []
 colour_codes front (Basic hue) = (front + hue_number hue) ∷ []
@@ -46,9 +46,9 @@ abbrev pub flags : Style → List ℕ
 flags s = flag s.bold 1 ++ (flag s.faint 2 ++ (flag s.italic 3 ++ (flag s.underline 4
     ++ flag s.reverse 7)))
 
--- what stands after the 0 of the sequence: nothing where the style is plain
+-- what follows the 0 of the sequence: nothing if the style is plain
 abbrev pub numbers : Style → List ℕ
-numbers s = flags s ++ (colour_numbers 30 s.text ++ colour_numbers 40 s.ground)
+numbers s = flags s ++ (colour_numbers 30 s.text ++ colour_numbers 40 s.background)
 
 abbrev pub is_terminal : Colour → Bool
 is_terminal Terminal = true
@@ -56,4 +56,4 @@ is_terminal c = false
 
 abbrev pub is_plain_style : Style → Bool
 is_plain_style s = (not s.bold && (not s.faint && (not s.italic && (not s.underline && not s.reverse))))
-    && (is_terminal s.text && is_terminal s.ground)
+    && (is_terminal s.text && is_terminal s.background)

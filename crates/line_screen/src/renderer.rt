@@ -42,11 +42,11 @@ impl<D: Sink> ScreenRenderer<D> {
         ensures sink { sink_of result ≡ sink }
         ensures screen { screen_of result
             ≡ record {
-            columns = columns;
-            mode = grapheme_cluster_mode;
-            bell = bell_style;
-            colours = false;
-        } }
+              columns = columns;
+              mode = grapheme_cluster_mode;
+              bell = bell_style;
+              colours = false;
+            } }
     {
         ScreenRenderer {
             sink,
@@ -70,7 +70,7 @@ impl<D: Sink> ScreenRenderer<D> {
         self.grid.columns = columns;
     }
 
-    /// From now on a highlighter's styles are drawn, or not. Nothing is written.
+    /// Sets whether further calls draw a highlighter's styles. Nothing is written.
     pub fn set_colours(&mut self, colours: bool)
         ensures sink { sink_of self.new ≡ sink_of self.old }
         ensures screen { screen_of self.new

@@ -13,7 +13,7 @@ use line_buffer::{Position, Unit};
 use line_config::{DeviceFailed, Sink};
 use line_help::Highlighter;
 
-/// The texts with what styles them, where the drawing ends and where the cursor is to stand.
+/// The texts with their styles, the drawing's end and the cursor.
 #[derive(Drop)]
 pub(crate) struct Painting<'a, H> {
     pub prompt: Brush<'a, H>,
@@ -23,7 +23,7 @@ pub(crate) struct Painting<'a, H> {
     pub cursor: Position,
 }
 
-/// One of the texts, from a column on. Answers the column after it.
+/// One of the texts, from a column on. Returns the column after it.
 fn send_part<D: Sink, H: Highlighter>(
     sink: &mut D,
     grid: Grid,
@@ -42,7 +42,7 @@ fn send_part<D: Sink, H: Highlighter>(
     send_painted(sink, grid, start, brush)
 }
 
-/// The three texts, each from where the one before ends.
+/// The three texts, each from the end of the one before.
 fn send_texts<D: Sink, H: Highlighter>(
     sink: &mut D,
     grid: Grid,
@@ -60,7 +60,7 @@ fn send_texts<D: Sink, H: Highlighter>(
     send(sink, b"\x1B[m")
 }
 
-/// The three texts, then the way from where they end to the cursor.
+/// The three texts, then the move from their end to the cursor.
 fn send_drawing<D: Sink, H: Highlighter>(
     sink: &mut D,
     grid: Grid,

@@ -1,4 +1,4 @@
-//! A text with styles: it stands in the cells in which it would stand without.
+//! A text with styles, in the cells that it has without them.
 
 ghost use Rattle.std.specs.Prelude.{◌≡◌, ◌≤◌, ◌<◌, ◌==◌, ◌+◌, ◌++◌, [], true, IsTrue, OnOk, OnErr, IfOk, length, map, nat_le};
 ghost use Rattle.unicode_segmentation.specs.Grapheme.{graphemes};
@@ -15,12 +15,12 @@ use crate::drawing::sequences::send;
 use crate::drawing::styles::{is_plain, send_style};
 use crate::drawing::text::{leave_full, make_room, send_letters};
 use crate::grid::{Grid, is_letter};
-use line_help::{Highlighter, Mark, Part, Span, Style};
 use line_buffer::{Unit, is_printable_text};
 use line_config::{DeviceFailed, Sink};
+use line_help::{Highlighter, Mark, Part, Span, Style};
 use unicode_segmentation::UnicodeSegmentation;
 
-/// What gives the spans of a text: a highlighter, if there is one.
+/// A text, and the highlighter that returns its spans, if there is one.
 #[derive(Drop)]
 pub(crate) struct Brush<'a, H> {
     pub highlighter: Option<&'a H>,
@@ -40,7 +40,7 @@ impl<H: Highlighter> Brush<'_, H> {
     }
 }
 
-/// Spans that are still to come: the first one as far as it is left, and those from a mark on.
+/// The remaining spans: the rest of the first one, and those from a mark on.
 #[derive(Clone, Copy)]
 pub(crate) struct Spans {
     first: Option<Span>,
@@ -111,7 +111,8 @@ impl Spans {
     }
 }
 
-/// Leaves a full row without style.
+/// Goes to the next row after a full one. The style ends before the row break, and begins again
+/// after it.
 fn leave_shaded<D: Sink>(
     sink: &mut D,
     grid: Grid,
@@ -294,7 +295,7 @@ fn send_painted_clusters<D: Sink, H: Highlighter>(
     Ok(col)
 }
 
-/// A row of the text: by spans where all are printable ASCII, else by clusters.
+/// A row of the text: by spans if all is printable ASCII, else by clusters.
 fn send_painted_row<D: Sink, H: Highlighter>(
     sink: &mut D,
     grid: Grid,

@@ -19,12 +19,12 @@ fn is_terminal(colour: Colour) -> bool
     }
 }
 
-/// Whether it says nothing.
+/// Whether a style is plain.
 pub(crate) fn is_plain(style: Style) -> bool
     ensures { result ≡ is_plain_style style }
 {
     let flags = style.bold || style.faint || style.italic || style.underline || style.reverse;
-    !flags && is_terminal(style.text) && is_terminal(style.ground)
+    !flags && is_terminal(style.text) && is_terminal(style.background)
 }
 
 fn number_of(hue: Hue) -> u8
@@ -95,7 +95,7 @@ fn send_rgb<D: Sink>(
     send_number(sink, blue)
 }
 
-/// A colour of the text from 30 on, of what it stands on from 40 on.
+/// The colour of a text, by numbers from 30 on, or of its background, from 40 on.
 fn send_colour<D: Sink>(sink: &mut D, front: u8, colour: Colour) -> Result<(), DeviceFailed>
     requires { front ≤ 40 }
     ensures { Sends D.held D.has_failed (colour_numbers front colour) sink.old sink.new result }
@@ -114,10 +114,10 @@ fn send_numbers<D: Sink>(sink: &mut D, style: Style) -> Result<(), DeviceFailed>
 {
     send_flags(sink, style)?;
     send_colour(sink, 30, style.text)?;
-    send_colour(sink, 40, style.ground)
+    send_colour(sink, 40, style.background)
 }
 
-/// From here on the terminal draws in this style.
+/// From now on the terminal draws in this style.
 pub(crate) fn send_style<D: Sink>(sink: &mut D, style: Style) -> Result<(), DeviceFailed>
     ensures { Sends D.held D.has_failed (style_bytes (numbers style)) sink.old sink.new result }
 {

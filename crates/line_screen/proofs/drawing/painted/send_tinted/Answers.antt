@@ -1,4 +1,4 @@
--- Room for a cluster, the cluster with its style, and the end of a full row.
+-- Space for a cluster, the cluster with its style, and the end of a full row.
 use Rattle.std.proofs.Common.{ℕ, ◌+◌, ◌==◌, ◌++◌, subst}
 use Rattle.line_screen.specs.Styles.{numbers}
 use Rattle.line_screen.specs.Drawing.{break_if, left_col, no_style, SendsTo}

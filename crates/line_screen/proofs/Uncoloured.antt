@@ -1,0 +1,280 @@
+-- Calls without a highlighter begin no style.
+use Rattle.std.proofs.Common.{◌≡◌, ◌≢◌, ℕ, ◌+◌, ◌-◌, ◌%◌, ◌/◌, ◌^◌, ◌<◌, ◌≤◌, ◌==◌, nat_lt, nat_le, Bool, true, false, not, ◌&&◌, List, [], ◌∷◌, ◌++◌, take, decimal, Option, Some, None, inl, inr, refl, sym, ap, ◌∙◌, subst, arith, if◌then◌else◌}
+use Rattle.std.specs.Prelude.{is_some}
+use Rattle.std.specs.List.{list_all, flat_map, FoldsTo}
+use Rattle.std.proofs.lemmas.Bool.{and_parts, false≢true}
+use Rattle.std.proofs.lemmas.Bool.Decides.{nat_tests}
+use Rattle.std.proofs.lemmas.Fmt.{decimal_by_steps}
+use Rattle.line_buffer.specs.Cells.{same_cell}
+use Rattle.line_buffer.specs.Printable.{is_printable, at_plain_end}
+use Rattle.line_buffer.specs.declared.layout.GraphemeClusterMode.{GraphemeClusterMode}
+use Rattle.line_buffer.specs.declared.layout.Layout.{Layout}
+use Rattle.line_buffer.specs.declared.layout.Position.{Position}
+use Rattle.line_config.specs.declared.settings.BellStyle.{BellStyle}
+use Rattle.line_config.specs.declared.settings.BellStyle.TheVariants as Bells
+use Rattle.line_editor.specs.Calls.{Call, Ruler}
+use Rattle.line_editor.specs.Calls.Call.{Draw, Move, Write, Beep, ClearScreen, ClearRows, ClearToEol, MoveAndClearToEol, ToLeftmost, Help}
+use Rattle.line_editor.specs.Redraws.{Redraw, Asked, asked_by, full, info_text, may_type, may_take, moved, moved_by_call, nothing_asked, typed_short, taken_short}
+use Rattle.line_editor.specs.Redraws.Redraw.{Drawn, Moved, Typed, Taken, Bared, ToEnd, Beeped, Cleared}
+use Rattle.line_editor.specs.Values.{shown_marks}
+use Rattle.line_screen.specs.Calls.{Screen, bytes_of, bell_bytes, old_row, drawing_bytes, ruler_of}
+use Rattle.line_screen.specs.Chain.{View, Good, Inside, Replaces, Redraws, Types, ClosesLine, LeadsView, Picture, finish_of, cursor_of}
+use Rattle.line_screen.specs.ColourLaws.{BeginsNoStyle, has_no_marks, UnmarkedCallsBeginNone, ScreensWithoutColours, Uncoloured}
+use Rattle.line_screen.specs.Display.{Placed, is_text}
+use Rattle.line_screen.specs.Drawing.{DrawnItem, text_items, no_style, row_break, break_if, break_unless, fitted_col, fenced, sent_one, col_after_one, sent, col_after, control_sequence, erase_to_end, erase_to_row_end, go_home, row_move, col_move, move_bytes, clearing_bytes, shown_text, drawing, full_drawing}
+use Rattle.line_screen.specs.Drawing.DrawnItem.{NewRow, Letter, Cluster}
+use Rattle.line_screen.specs.Laws.{widths}
+use Rattle.line_screen.specs.Measure.{cluster_width}
+use Rattle.line_screen.proofs.Standing.{printable_text}
+use Rattle.line_screen.proofs.Draws.{Fits, AllFit}
+use Rattle.line_screen.proofs.Fitting.{items_fit, drawable}
+use Rattle.line_screen.proofs.LawLemmas.{calls_lead}
+
+-- ---- sequences that begin otherwise
+
+-- what was read: text, ESC, ESC [, or an ESC that begins none of these sequences
+data Reading : Type 0 where
+  Plain : Reading
+  Escape : Reading
+  Bracket : Reading
+  Other : Reading
+
+abbrev next : Reading → ℕ → Reading
+next Plain c = if c == 0x1B then Escape else Plain
+next Escape c = if c == 0x5B then Bracket else Other
+next Bracket c = if c == 0x30 then Other else if c == 0x1B then Other else Plain
+next Other c = Other
+
+abbrev go : Reading → List ℕ → Reading
+go r [] = r
+go r (c ∷ cs) = go (next r c) cs
+
+abbrev IsFree : List ℕ → Type 0
+IsFree bytes = go Plain bytes ≡ Plain
+
+abbrev is_other : Reading → Bool
+is_other Other = true
+is_other r = false
+
+go-append : (r : Reading) (xs ys : List ℕ) → go r (xs ++ ys) ≡ go (go r xs) ys
+go-append r [] ys = refl
+go-append r (x ∷ xs) ys = go-append (next r x) xs ys
+
+free_then : (xs ys : List ℕ) → IsFree xs → IsFree ys → IsFree (xs ++ ys)
+free_then xs ys h k = go-append Plain xs ys ∙ ap (λ r. go r ys) h ∙ k
+
+other_stays : (xs : List ℕ) → go Other xs ≡ Other
+other_stays [] = refl
+other_stays (x ∷ xs) = other_stays xs
+
+style_is_other : (r : Reading) (after : List ℕ) → go r (0x1B ∷ (0x5B ∷ (0x30 ∷ after))) ≡ Other
+style_is_other Plain after = other_stays after
+style_is_other Escape after = other_stays after
+style_is_other Bracket after = other_stays after
+style_is_other Other after = other_stays after
+
+free_begins_none : (bytes : List ℕ) → IsFree bytes → BeginsNoStyle bytes
+free_begins_none bytes h before after same =
+    let other : go Plain bytes ≡ Other = ap (go Plain) same ∙ go-append Plain before (0x1B ∷ (0x5B ∷ (0x30 ∷ after))) ∙ style_is_other (go Plain before) after in
+    false≢true (ap is_other (sym h ∙ other))
+
+free_if : (b : Bool) (xs ys : List ℕ) → IsFree xs → IsFree ys → IsFree (if b then xs else ys)
+free_if true xs ys h k = h
+free_if false xs ys h k = k
+
+-- ---- text
+
+no_escape : (c : ℕ) → is_text c ≡ true → (c == 0x1B) ≡ false
+no_escape c h = grind (arith, nat_tests)
+
+text_stays : (c : ℕ) → is_text c ≡ true → next Plain c ≡ Plain
+text_stays c h = ap (λ b. if b then Escape else Plain) (no_escape c h)
+
+text_free : (bytes : List ℕ) → list_all is_text bytes ≡ true → IsFree bytes
+text_free [] h = refl
+text_free (c ∷ cs) h =
+    let parts = and_parts (is_text c) (list_all is_text cs) h in
+    ap (λ r. go r cs) (text_stays c parts.0) ∙ text_free cs parts.1
+
+letter_free : (c : ℕ) → is_printable c ≡ true → IsFree (c ∷ [])
+letter_free c h = text_stays c (printable_text c h)
+
+-- ---- sequences with a number
+
+digit_not_zero : (n : ℕ) → 1 ≤ n → n < 10 → (48 + n == 0x30) ≡ false
+digit_not_zero n some low = grind (arith, nat_tests)
+
+digit_no_escape : (n : ℕ) → n < 10 → (48 + n == 0x1B) ≡ false
+digit_no_escape n low = grind (arith, nat_tests)
+
+digit_text : (n : ℕ) → n < 10 → is_text (48 + n) ≡ true
+digit_text n low = grind (arith, nat_tests)
+
+first_digit : (n : ℕ) → n < 10 → 1 ≤ n → go Bracket ((48 + n) ∷ []) ≡ Plain
+first_digit n low some =
+    ap (λ b. if b then Other else if 48 + n == 0x1B then Other else Plain) (digit_not_zero n some low)
+    ∙ ap (λ b. if b then Other else Plain) (digit_no_escape n low)
+
+more_digits : (n : ℕ) (ds : List ℕ) → 10 ≤ n → (1 ≤ n / 10 → go Bracket ds ≡ Plain) → 1 ≤ n → go Bracket (ds ++ (48 + n % 10) ∷ []) ≡ Plain
+more_digits n ds ten so_far some =
+    let low : n % 10 < 10 = omega arith in
+    go-append Bracket ds ((48 + n % 10) ∷ []) ∙ ap (λ r. go r ((48 + n % 10) ∷ [])) (so_far (omega arith)) ∙ text_stays (48 + n % 10) (digit_text (n % 10) low)
+
+number_free : (n : ℕ) → n < 2 ^ 64 → 1 ≤ n → go Bracket (decimal n) ≡ Plain
+number_free n few some = decimal_by_steps (λ m ds. 1 ≤ m → go Bracket ds ≡ Plain) first_digit more_digits n few some
+
+sequence_if : (count final : ℕ) → count < 2 ^ 64 → is_text final ≡ true → (b : Bool) → (count == 0) ≡ b → IsFree (if b then [] else (0x1B ∷ 0x5B ∷ (decimal count ++ final ∷ [])))
+sequence_if count final few h true e = refl
+sequence_if count final few h false e =
+    let some : 0 < count = grind (arith, nat_tests) in
+    go-append Bracket (decimal count) (final ∷ []) ∙ ap (λ r. go r (final ∷ [])) (number_free count few (omega arith)) ∙ text_stays final h
+
+control_free : (count final : ℕ) → count < 2 ^ 64 → is_text final ≡ true → IsFree (control_sequence count final)
+control_free count final few h = sequence_if count final few h (count == 0) refl
+
+row_move_free : (old new : ℕ) → old < 2 ^ 64 → new < 2 ^ 64 → IsFree (row_move old new)
+row_move_free old new few low =
+    free_if (nat_lt new old) (control_sequence (old - new) 0x41) (control_sequence (new - old) 0x42) (control_free (old - new) 0x41 (omega arith) refl) (control_free (new - old) 0x42 (omega arith) refl)
+
+col_move_free : (old new : ℕ) → old < 2 ^ 64 → new < 2 ^ 64 → IsFree (col_move old new)
+col_move_free old new few low =
+    free_if (nat_lt new old) (control_sequence (old - new) 0x44) (control_sequence (new - old) 0x43) (control_free (old - new) 0x44 (omega arith) refl) (control_free (new - old) 0x43 (omega arith) refl)
+
+clearing_free : (row : ℕ) → row < 2 ^ 64 → IsFree (clearing_bytes row)
+clearing_free row few = free_then (control_sequence row 0x41) (0x0D ∷ erase_to_end) (control_free row 0x41 few refl) refl
+
+-- ---- items
+
+break_free : (b : Bool) → IsFree (break_if b)
+break_free true = refl
+break_free false = refl
+
+unless_free : (b : Bool) → IsFree (break_unless b)
+unless_free true = refl
+unless_free false = refl
+
+fenced_free : (bytes : List ℕ) → list_all is_text bytes ≡ true → IsFree (fenced bytes)
+fenced_free bytes h = free_then (no_style ++ bytes) no_style (free_then no_style bytes refl (text_free bytes h)) refl
+
+one_free : (columns : ℕ) (wide : List ℕ → Option ℕ) (item : DrawnItem) (col : ℕ) → Fits columns wide item → IsFree (sent_one columns item col)
+one_free columns wide NewRow col h = refl
+one_free columns wide (Letter c) col h = free_then (c ∷ []) (break_if (col + 1 == columns)) (letter_free c h) (break_free (col + 1 == columns))
+one_free columns wide (Cluster bytes width) col h =
+    let before = break_unless (nat_le (col + width) columns) in
+    let full = fitted_col columns width col + width == columns in
+    free_then (before ++ fenced bytes) (break_if full) (free_then before (fenced bytes) (unless_free (nat_le (col + width) columns)) (fenced_free bytes h.text)) (break_free full)
+
+items_free : (columns : ℕ) (wide : List ℕ → Option ℕ) (items : List DrawnItem) (col : ℕ) → AllFit columns wide items → IsFree (sent columns items col)
+items_free columns wide [] col h = refl
+items_free columns wide (item ∷ items) col h =
+    free_then (sent_one columns item col) (sent columns items (col_after_one columns item col)) (one_free columns wide item col h.0) (items_free columns wide items (col_after_one columns item col) h.1)
+
+-- ---- drawings
+
+then_plain : (xs : List ℕ) → IsFree xs → IsFree (xs ++ no_style)
+then_plain xs h = free_then xs no_style h refl
+
+module _ (mode : GraphemeClusterMode) (columns : ℕ) (some : 1 ≤ columns) (few : columns < 2 ^ 64) where
+  part_free : (text : List ℕ) (col : ℕ) → IsFree (sent columns (text_items (cluster_width mode columns) text) col)
+  part_free text col = items_free columns (cluster_width mode columns) (text_items (cluster_width mode columns) text) col (items_fit mode columns some text)
+
+  shown_free : (prompt line info : List ℕ) → IsFree (shown_text columns (cluster_width mode columns) prompt line info)
+  shown_free prompt line info =
+      let wide = cluster_width mode columns in
+      let a_end = col_after columns (text_items wide prompt) 0 in
+      let b_end = col_after columns (text_items wide line) a_end in
+      let a = sent columns (text_items wide prompt) 0 in
+      let b = sent columns (text_items wide line) a_end in
+      let c = sent columns (text_items wide info) b_end in
+      let first = free_then no_style a refl (part_free prompt 0) in
+      let second = free_then (no_style ++ a ++ no_style) b (then_plain (no_style ++ a) first) (part_free line a_end) in
+      let third = free_then (no_style ++ a ++ no_style ++ b ++ no_style) c (then_plain (no_style ++ a ++ no_style ++ b) second) (part_free info b_end) in
+      then_plain (no_style ++ a ++ no_style ++ b ++ no_style ++ c) third
+
+  move_free : (old new : Position) → Inside columns old → Inside columns new → IsFree (move_bytes old new)
+  move_free old new from to =
+      let old_row = from.row in
+      let old_col = from.col in
+      let new_row = to.row in
+      let new_col = to.col in
+      free_then (row_move old.row new.row) (col_move old.col new.col) (row_move_free old.row new.row old_row new_row) (col_move_free old.col new.col (omega arith) (omega arith))
+
+  drawing_free : (prompt line info : List ℕ) (finish cursor : Position) → Inside columns finish → Inside columns cursor → IsFree (drawing columns (cluster_width mode columns) prompt line info finish cursor)
+  drawing_free prompt line info finish cursor from to =
+      free_then (shown_text columns (cluster_width mode columns) prompt line info) (move_bytes finish cursor) (shown_free prompt line info) (move_free finish cursor from to)
+
+  -- in the place of a drawing whose cursor's row is known, or of none
+  draw_free : (o : Option ℕ) (a : View) (prompt line info : List ℕ) (finish cursor : Position) → Inside columns a.place → Replaces o a → Inside columns finish → Inside columns cursor
+      → IsFree (drawing_bytes columns (cluster_width mode columns) o prompt line info finish cursor)
+  draw_free None a prompt line info finish cursor here over from to = drawing_free prompt line info finish cursor from to
+  draw_free (Some row) a prompt line info finish cursor here over from to =
+      let row_few : row < 2 ^ 64 = subst (λ n. n < 2 ^ 64) (sym over) here.row in
+      free_then (clearing_bytes row) (drawing columns (cluster_width mode columns) prompt line info finish cursor) (clearing_free row row_few) (drawing_free prompt line info finish cursor from to)
+
+  redraw_free : (o : Option ℕ) (a b : View) (prompt line info : List ℕ) (finish cursor : Position) → Inside columns a.place → Replaces o a → Redraws columns (cluster_width mode columns) a prompt line info finish cursor b
+      → IsFree (drawing_bytes columns (cluster_width mode columns) o prompt line info finish cursor)
+  redraw_free o a b prompt line info finish cursor here over h =
+      let wide = cluster_width mode columns in
+      let able = drawable mode columns some b.shown (subst (λ (p : Position). p.row < 2 ^ 64) h.finish_is h.finish_row) (subst (λ (p : Position). p.row < 2 ^ 64) h.cursor_is h.cursor_row) in
+      draw_free o a prompt line info finish cursor here over (subst (Inside columns) (sym h.finish_is) able.finish) (subst (Inside columns) (sym h.cursor_is) able.cursor)
+
+-- ---- calls
+
+bell_free : (bell : BellStyle) → IsFree (bell_bytes bell)
+bell_free Bells.Audible = refl
+bell_free Bells.None = refl
+bell_free Bells.Visible = refl
+
+call_free : (s : Screen) → 1 ≤ s.columns → s.columns < 2 ^ 64 → (a b : View) (call : Call) → Inside s.columns a.place → LeadsView s.columns (widths s) a call b → has_no_marks call ≡ true → IsFree (bytes_of s call)
+call_free s some few a b (Draw prompt text place info old new None) here h plain =
+    redraw_free s.mode s.columns some few (old_row old) a b prompt text (info_text info) new.end new.cursor here h.0 h.1
+call_free s some few a b (Draw prompt text place info old new (Some m)) here h plain = absurd (false≢true plain)
+call_free s some few a b (Move old new) here h plain = move_free s.mode s.columns some few old new (subst (Inside s.columns) (sym h.old_is) here) h.inside
+call_free s some few a b (Write text) here (inl h) plain = subst IsFree (sym h.text_is) (letter_free h.c (and_parts (is_printable h.c) (at_plain_end a.shown.line a.shown.place) h.typed).0)
+call_free s some few a b (Write text) here (inr h) plain = subst IsFree (sym h.text_is) refl
+call_free s some few a b Beep here h plain = bell_free s.bell
+call_free s some few a b ClearScreen here h plain = refl
+call_free s some few a b (ClearRows layout) here h plain = clearing_free layout.cursor.row (subst (λ n. n < 2 ^ 64) (sym h.0) here.row)
+call_free s some few a b ClearToEol here h plain = refl
+call_free s some few a b (MoveAndClearToEol old new) here h plain =
+    free_then (move_bytes old new) erase_to_row_end (move_free s.mode s.columns some few old new (subst (Inside s.columns) (sym h.1.old_is) here) h.1.inside) refl
+call_free s some few a b ToLeftmost here h plain = refl
+call_free s some few a b (Help fails) here h plain = refl
+
+calls_free : (s : Screen) → 2 ≤ s.columns → s.columns ≤ 1000 → (calls : List Call) (bytes : List ℕ) (over : List Placed) (a b : View) → Good s.columns (widths s) bytes over a → FoldsTo (LeadsView s.columns (widths s)) a calls b
+    → list_all has_no_marks calls ≡ true → IsFree (flat_map (bytes_of s) calls)
+calls_free s low high [] bytes over a b g h plain = refl
+calls_free s low high (call ∷ calls) bytes over a b g h plain =
+    let parts = and_parts (has_no_marks call) (list_all has_no_marks calls) plain in
+    let led = calls_lead s low high bytes over a h.0 call g h.1 in
+    free_then (bytes_of s call) (flat_map (bytes_of s) calls) (call_free s (omega arith) (omega arith) a h.0 call g.inside h.1 parts.0) (calls_free s low high calls (bytes ++ bytes_of s call) led.0 h.0 b led.1 h.2 parts.1)
+
+unmarked_begin_none : UnmarkedCallsBeginNone
+unmarked_begin_none s low high calls bytes over a b g h plain = free_begins_none (flat_map (bytes_of s) calls) (calls_free s low high calls bytes over a b g h plain)
+
+-- ---- screens without colours
+
+abbrev all_plain : Asked → Bool
+all_plain x = list_all has_no_marks x.calls
+
+either_plain : (b : Bool) (x y : Asked) → all_plain x ≡ true → all_plain y ≡ true → all_plain (if b then x else y) ≡ true
+either_plain true x y h k = h
+either_plain false x y h k = k
+
+asked_plain : (r : Ruler) (l : Layout) (x : Redraw) → all_plain (asked_by r None l x) ≡ true
+asked_plain r l (Drawn prompt given text place info) = refl
+asked_plain r l (Moved text place) = let cursor = r.measure (take place text) l.prompt_size in either_plain (same_cell l.cursor cursor) (nothing_asked l) (moved_by_call l cursor) refl refl
+asked_plain r l (Typed prompt c text place) = either_plain (may_type r l) (typed_short l c) (full r None l prompt true text place None) refl refl
+asked_plain r l (Taken prompt count text place) = either_plain (may_take l count) (taken_short l count) (full r None l prompt true text place None) refl refl
+asked_plain r l (Bared prompt text place) = either_plain l.default_prompt (nothing_asked l) (full r None l prompt true text place None) refl refl
+asked_plain r l ToEnd = either_plain (same_cell l.cursor l.end) (nothing_asked l) (moved_by_call l l.end) refl refl
+asked_plain r l Beeped = refl
+asked_plain r l Cleared = refl
+
+screens_without_colours : ScreensWithoutColours
+screens_without_colours s e prompt helping entries v l x =
+    let none = ap (λ b. if b then helping.marks else None) e in
+    subst (λ m. all_plain (asked_by (ruler_of s) (shown_marks v m) l x) ≡ true) (sym none) (asked_plain (ruler_of s) l x)
+
+pub uncoloured : Uncoloured
+uncoloured = (unmarked_begin_none, screens_without_colours)
