@@ -52,13 +52,9 @@ HEADINGS = {"'": "(reverse-i-search)`", "!'": "(failed reverse-i-search)`", ">'"
 SEARCHED = re.compile("(!?>?')([^']*)'(.*)")
 
 
-def drawn(text):
-    """The bytes of a display: `{` begins a drawing, up to the line, and `}` ends one without anything after the line. A piece
-    `'xy'ab}` is a drawing after the prompt of a search for `xy`."""
-    return b"".join(map(piece_drawn, text.split()))
-
-
 def piece_drawn(piece):
+    """The bytes of a piece of a display: `{` begins a drawing, up to the line, and `}` ends one without anything after the line.
+    A piece `'xy'ab}` is a drawing after the prompt of a search for `xy`."""
     found = SEARCHED.fullmatch(piece)
     if found:
         return b"\r\x1b[J\x1b[m" + b"".join(map(meant, (HEADINGS[found[1]], found[2], "': ␛[m"))) + piece_drawn(found[3])
@@ -82,7 +78,8 @@ class Row:
         self.ends = said.get("ends", "Eof").strip()
         self.saves = said.get("saves")
         shows = said.get("shows")
-        self.display = None if shows is None else drawn(shows)
+        self.pieces = [*map(piece_drawn, (shows or "").split())]
+        self.display = None if shows is None else b"".join(self.pieces)
         self.loaded = meant(self.value("loaded:", ""))
 
     def value(self, name, default):
