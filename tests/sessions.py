@@ -86,9 +86,17 @@ class Row:
         found = [word[len(name):] for word in self.settings if word.startswith(name)]
         return found[0] if found else default
 
+    def has_styles(self):
+        """Whether the standard styles may be seen in the row: where a bracket is at the cursor, or a message is told."""
+        texts = re.sub(rb"\x1b\[[0-9;]*[A-Z~]", b"", self.keys) + self.loaded + self.value("words:", "").encode()
+        return re.search(rb"[][(){}]", texts) is not None
+
     def is_played(self):
-        """Whether the program can play the row: it binds no key, gives no hint, keeps a hundred lines, and lists candidates."""
+        """Whether the program can play the row: it binds no key, gives no hint, keeps a hundred lines, lists candidates, and
+        has styles only with the commands that go on over several keys."""
         words = self.value("words:", "")
+        if ("colours" in self.settings) != ("modal" in self.settings) and self.has_styles():
+            return False
         own = any(word.startswith(("bind:", "size:", "limit:", "at-once", "advised", "ends:")) for word in self.settings)
         hinted = ("helped" in self.settings or words) and self.value("loaded:", "")
         in_turn = "modal" in self.settings and words and "listed" not in self.settings
@@ -207,6 +215,16 @@ def candidates_one_byte_a_read():
     played("candidates.txt", True)
 
 
+def styles():
+    """The rows of `colours.txt` that --extended has: too few for `played`."""
+    rows = [row for row in rows_of("colours.txt") if row.is_played()]
+    for row in rows:
+        row.play(False)
+        row.play(True)
+    if len(rows) < 3:
+        raise Failed(f"only {len(rows)} rows")
+
+
 def sizes():
     """Sessions that are too large to be played with each run of `sessions_program`."""
     count = len(list(rows_of("sizes.txt")))
@@ -218,4 +236,4 @@ if __name__ == "__main__":
     run_all([worked_rows, worked_rows_one_byte_a_read, keys_of_emacs, keys_of_emacs_one_byte_a_read, keys_of_vi,
              keys_of_vi_one_byte_a_read, worked_sessions, worked_sessions_one_byte_a_read, commands_over_several_keys,
              commands_over_several_keys_one_byte_a_read, candidates,
-             candidates_one_byte_a_read, sizes])
+             candidates_one_byte_a_read, styles, sizes])

@@ -8,19 +8,22 @@ use Rattle.worked_rows.proofs.colours.Goals as goal
 
 -- some rows at a time: one computation takes only so many steps
 abbrev part : ℕ → List Row
-part n = take 8 (drop n colours_rows)
+part n = take 7 (drop n colours_rows)
 
-abbrev from_24 : List Row
-from_24 = drop 24 colours_rows
+abbrev from_28 : List Row
+from_28 = drop 28 colours_rows
 
-abbrev from_16 : List Row
-from_16 = part 16 ++ from_24
+abbrev from_21 : List Row
+from_21 = part 21 ++ from_28
 
-abbrev from_8 : List Row
-from_8 = part 8 ++ from_16
+abbrev from_14 : List Row
+from_14 = part 14 ++ from_21
+
+abbrev from_7 : List Row
+from_7 = part 7 ++ from_14
 
 abbrev from_0 : List Row
-from_0 = part 0 ++ from_8
+from_0 = part 0 ++ from_7
 
 all-rows : from_0 ≡ colours_rows
 all-rows = refl
@@ -36,47 +39,60 @@ unshown-0 = refl
 shown-0 : AllShown (short (part 0))
 shown-0 = all_shown (short (part 0)) unshown-0
 
-given-8 : differing (part 8) ≡ []
+given-7 : differing (part 7) ≡ []
 unfolding computing
-given-8 = refl
+given-7 = refl
 
-unshown-8 : unshown (short (part 8)) ≡ []
+unshown-7 : unshown (short (part 7)) ≡ []
 unfolding computing
-unshown-8 = refl
+unshown-7 = refl
 
-shown-8 : AllShown (short (part 8))
-shown-8 = all_shown (short (part 8)) unshown-8
+shown-7 : AllShown (short (part 7))
+shown-7 = all_shown (short (part 7)) unshown-7
 
-given-16 : differing (part 16) ≡ []
+given-14 : differing (part 14) ≡ []
 unfolding computing
-given-16 = refl
+given-14 = refl
 
-unshown-16 : unshown (short (part 16)) ≡ []
+unshown-14 : unshown (short (part 14)) ≡ []
 unfolding computing
-unshown-16 = refl
+unshown-14 = refl
 
-shown-16 : AllShown (short (part 16))
-shown-16 = all_shown (short (part 16)) unshown-16
+shown-14 : AllShown (short (part 14))
+shown-14 = all_shown (short (part 14)) unshown-14
 
-given-24 : differing from_24 ≡ []
+given-21 : differing (part 21) ≡ []
 unfolding computing
-given-24 = refl
+given-21 = refl
 
-unshown-24 : unshown (short from_24) ≡ []
+unshown-21 : unshown (short (part 21)) ≡ []
 unfolding computing
-unshown-24 = refl
+unshown-21 = refl
 
-shown-24 : AllShown (short from_24)
-shown-24 = all_shown (short from_24) unshown-24
+shown-21 : AllShown (short (part 21))
+shown-21 = all_shown (short (part 21)) unshown-21
+
+given-28 : differing from_28 ≡ []
+unfolding computing
+given-28 = refl
+
+unshown-28 : unshown (short from_28) ≡ []
+unfolding computing
+unshown-28 = refl
+
+shown-28 : AllShown (short from_28)
+shown-28 = all_shown (short from_28) unshown-28
 
 pub returns-clause-given : goal.returns-clause-given
 returns-clause-given c = subst (λ rows. differing rows ≡ []) all-rows
-    (both_given (part 0) from_8 given-0
-    (both_given (part 8) from_16 given-8
-    (both_given (part 16) from_24 given-16 given-24)))
+    (both_given (part 0) from_7 given-0
+    (both_given (part 7) from_14 given-7
+    (both_given (part 14) from_21 given-14
+    (both_given (part 21) from_28 given-21 given-28))))
 
 pub returns-clause-shown : goal.returns-clause-shown
 returns-clause-shown c = subst (λ rows. AllShown (short rows)) all-rows
-    (both_shown (part 0) from_8 shown-0
-    (both_shown (part 8) from_16 shown-8
-    (both_shown (part 16) from_24 shown-16 shown-24)))
+    (both_shown (part 0) from_7 shown-0
+    (both_shown (part 7) from_14 shown-7
+    (both_shown (part 14) from_21 shown-14
+    (both_shown (part 21) from_28 shown-21 shown-28))))
