@@ -1,5 +1,5 @@
 //! A command that may be taken before it is done.
-ghost use Rattle.std.specs.Prelude.{◌≡◌, OnOk, IsCharBoundary, IsTrue, length, ◌==◌, Some, Ok};
+ghost use Rattle.std.specs.Prelude.{◌≡◌, ◌⊎◌, OnOk, string_bytes, IsCharBoundary, IsTrue, length, ◌==◌, Some, Ok};
 ghost use Rattle.line_help.specs.Search.{Finds};
 ghost use Rattle.line_editor.specs.declared.modal_state.Standing.TheVariants.{Searches};
 ghost use Rattle.line_editor.specs.Modal.{modal_of, rested, answered_by};
@@ -122,6 +122,7 @@ impl<'p, 'h, Out: Renderer, H: Helper + Drop, Hi: History> State<'p, 'h, Out, H,
         ensures modal { OnOk result (modal_of modal.new
             ≡ looked dir (sought (modal_of modal.old).query dir from
             (setting_of self.old).entries) (modal_of modal.old)) }
+        ensures query { modal.new.query ≡ modal.old.query }
     {
         let history = self.ctx.history();
         let found = sought(history, modal.query.as_str(), dir, from);
@@ -159,8 +160,10 @@ impl<'p, 'h, Out: Renderer, H: Helper + Drop, Hi: History> State<'p, 'h, Out, H,
         ensures modal { OnOk result (modal_of modal.new
             ≡ (looks (modal_of modal.old).dir (Some (modal_of modal.old).at)
             (typed_in c (modal_of modal.old)) (setting_of self.old) (value_of self.old)).modal) }
+        ensures query { (modal_of modal.new ≡ modal_of modal.old)
+            ⊎ (string_bytes modal.new.query ≡ (typed_in c (modal_of modal.old)).query) }
     {
-        modal.type_in(c)?;
+        modal.type_in(self.alloc, c)?;
         let (dir, at) = (modal.dir, modal.at);
         self.look(modal, dir, Some(at))
     }
