@@ -1,5 +1,5 @@
 -- A drawing after the highlighter was called: it shows the new mark.
-use Rattle.std.proofs.Common.{◌≡◌, Bool, true, false, ◌||◌, List, ℕ, refl, sym, ap, subst, ◌∙◌, if◌then◌else◌}
+use Rattle.std.proofs.Common.{◌≡◌, Bool, true, false, ◌||◌, ℕ, refl, sym, ap, ◌∙◌, if◌then◌else◌}
 use Rattle.std.specs.Prelude.{Option, Some, None, is_some, Result}
 use Rattle.line_config.specs.declared.errors.ReadlineError.{ReadlineError}
 use Rattle.line_help.specs.declared.completion as completions
@@ -13,11 +13,10 @@ use Rattle.line_buffer.specs.Line.{Line, moved_to}
 use Rattle.line_editor.specs.Accepting.{bare, bared}
 use Rattle.line_editor.specs.Moving.{cursor_moved_if}
 use Rattle.line_editor.specs.Drawing.{drawn_with, cursor_moved}
-use Rattle.line_editor.specs.Redraws.{Redraw}
 use Rattle.line_editor.specs.Redraws.Redraw.{Drawn, Moved, Bared}
 use Rattle.line_editor.specs.States.{value_of, setting_of, surface_of, Stays, Does}
 use Rattle.line_editor.specs.Steps.{surface}
-use Rattle.line_editor.specs.Values.{at_line, unchanged, Setting, Value, Effect, Transition, redrawn, with_mark, without_hint}
+use Rattle.line_editor.specs.Values.{at_line, unchanged, Setting, Value, Transition, redrawn, with_mark, without_hint}
 use Rattle.line_editor.specs.declared.renderer as renderers
 use Rattle.line_editor.specs.declared.state.State.{State}
 use Rattle.line_editor.proofs.DoesLemmas.{does_from, setting_stays}

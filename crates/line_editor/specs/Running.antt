@@ -1,5 +1,5 @@
 -- A whole line: what is passed in for it, what is returned, and what was read and drawn.
-use Rattle.std.specs.Prelude.{◌≡◌, ◌⊎◌, ⊤, ℕ, ◌<◌, ◌≤◌, Bool, List, Option, Some, None, option_map, Result, Ok, Err, string_bytes, if◌then◌else◌, IsTrue, IfErr, OnOk}
+use Rattle.std.specs.Prelude.{◌≡◌, ◌⊎◌, ⊤, ℕ, ◌<◌, ◌≤◌, List, Option, Some, None, option_map, Result, Ok, Err, string_bytes, if◌then◌else◌, IsTrue, IfErr, OnOk}
 use Rattle.line_buffer.specs.Cells.{origin}
 use Rattle.line_buffer.specs.Line.{Line}
 use Rattle.line_buffer.specs.declared.layout.Layout.{Layout}
