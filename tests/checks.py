@@ -12,6 +12,8 @@ import time
 import traceback
 
 TOP = os.path.dirname(os.path.dirname(os.path.realpath(__file__)))
+# With it the program has no styles.
+os.environ.pop("NO_COLOR", None)
 SCRIPT = os.path.join(TOP, "keyline")
 # The command by which the script runs the program on a terminal; it can run any program.
 ON_TERMINAL = os.path.join(TOP, "on_terminal")

@@ -86,16 +86,18 @@ class Row:
         found = [word[len(name):] for word in self.settings if word.startswith(name)]
         return found[0] if found else default
 
-    def has_styles(self):
-        """Whether the standard styles may be seen in the row: where a bracket is at the cursor, or a message is told."""
-        texts = re.sub(rb"\x1b\[[0-9;]*[A-Z~]", b"", self.keys) + self.loaded + self.value("words:", "").encode()
-        return re.search(rb"[][(){}]", texts) is not None
+    def asks_highlighter(self):
+        """Whether a row may show that there is the standard highlighter: a bracket is at the cursor, a message is told, or a
+        helper that has no words is asked for candidates."""
+        words = self.value("words:", "").encode()
+        texts = re.sub(rb"\x1b\[[0-9;]*[A-Z~]", b"", self.keys) + self.loaded + words
+        return re.search(rb"[][(){}]", texts) is not None or not words and b"\t" in self.keys
 
     def is_played(self):
         """Whether the program can play the row: it binds no key, gives no hint, keeps a hundred lines, lists candidates, and
         has styles only with the commands that go on over several keys."""
         words = self.value("words:", "")
-        if ("colours" in self.settings) != ("modal" in self.settings) and self.has_styles():
+        if ("colours" in self.settings) != ("modal" in self.settings) and self.asks_highlighter():
             return False
         own = any(word.startswith(("bind:", "size:", "limit:", "at-once", "advised", "ends:")) for word in self.settings)
         hinted = ("helped" in self.settings or words) and self.value("loaded:", "")

@@ -365,9 +365,17 @@ row_61 = record (row 61 settings_59 (codes "(]\r\u{7f})\r") (codes "()\n")) {
       codes "\u{1b}[m> \u{1b}[m\u{1b}[m\u{1b}[m\r\n");
 }
 
--- [(a) Enter ] Enter = [(a)␊] | shows {} [ ( a {[␛[0;1;34m(␛[ma)} {[(a)} {[(a)␍␊} ␛[1A{␛[0;1;34m[␛[m(a)␍␊]} ␛[1A{[(a)␍␊]} ␍␊ {} ␍␊
+-- al Tab Tab Enter = al | shows {} a l ␇ ␇ ␍␊ {} ␍␊
 abbrev pub row_62 : Row
-row_62 = record (row 62 settings_59 (codes "[(a)\r]\r") (codes "[(a)\n]\n")) {
+row_62 = record (row 62 settings_59 (codes "al\t\t\r") (codes "al\n")) {
+  shows = Some
+      (codes "\r\u{1b}[J\u{1b}[m> \u{1b}[m\u{1b}[m\u{1b}[mal\u{7}\u{7}\r\n\r\u{1b}[J\u{1b}[m" ++
+      codes "> \u{1b}[m\u{1b}[m\u{1b}[m\r\n");
+}
+
+-- [(a) Enter ] Enter = [(a)␊] | shows {} [ ( a {[␛[0;1;34m(␛[ma)} {[(a)} {[(a)␍␊} ␛[1A{␛[0;1;34m[␛[m(a)␍␊]} ␛[1A{[(a)␍␊]} ␍␊ {} ␍␊
+abbrev pub row_63 : Row
+row_63 = record (row 63 settings_59 (codes "[(a)\r]\r") (codes "[(a)\n]\n")) {
   shows = Some (codes "\r\u{1b}[J\u{1b}[m> \u{1b}[m\u{1b}[m\u{1b}[m[(a\r\u{1b}[J\u{1b}[m> \u{1b}[m["
       ++ codes "\u{1b}[0;1;34m(\u{1b}[ma)\u{1b}[m\u{1b}[m\r\u{1b}[J\u{1b}[m> \u{1b}[m[(a)" ++
       codes "\u{1b}[m\u{1b}[m\r\u{1b}[J\u{1b}[m> \u{1b}[m[(a)\r\n\u{1b}[m\u{1b}[m\u{1b}[1A" ++
@@ -377,15 +385,15 @@ row_62 = record (row 62 settings_59 (codes "[(a)\r]\r") (codes "[(a)\n]\n")) {
 }
 
 -- colours vi helped
-abbrev pub settings_65 : Settings
-settings_65 = record plain {
+abbrev pub settings_66 : Settings
+settings_66 = record plain {
   config = colours (vi plain.config);
   helping = aide true None;
 }
 
 -- (a) Esc Enter = (a) | shows {} ( a {␛[0;1;34m(␛[ma)} {␛[0;1;34m(␛[ma)}␛[1D {(a)}␛[1D ␛[1C␍␊ {} ␍␊
-abbrev pub row_65 : Row
-row_65 = record (row 65 settings_65 (codes "(a)\u{1b}\r") (codes "(a)\n")) {
+abbrev pub row_66 : Row
+row_66 = record (row 66 settings_66 (codes "(a)\u{1b}\r") (codes "(a)\n")) {
   shows = Some (codes "\r\u{1b}[J\u{1b}[m> \u{1b}[m\u{1b}[m\u{1b}[m(a\r\u{1b}[J\u{1b}[m> \u{1b}[m"
       ++ codes "\u{1b}[0;1;34m(\u{1b}[ma)\u{1b}[m\u{1b}[m\r\u{1b}[J\u{1b}[m> \u{1b}[m\u{1b}[0;" ++
       codes "1;34m(\u{1b}[ma)\u{1b}[m\u{1b}[m\u{1b}[1D\r\u{1b}[J\u{1b}[m> \u{1b}[m(a)\u{1b}" ++
@@ -394,37 +402,37 @@ row_65 = record (row 65 settings_65 (codes "(a)\u{1b}\r") (codes "(a)\n")) {
 }
 
 -- helped
-abbrev pub settings_69 : Settings
-settings_69 = record plain {
+abbrev pub settings_70 : Settings
+settings_70 = record plain {
   helping = aide true None;
 }
 
 -- (a) Left Left Left x Enter = x(a) | shows {} ( a ) ␛[1D ␛[1D ␛[1D {x(a)}␛[3D ␛[3C␍␊ {} ␍␊
-abbrev pub row_69 : Row
-row_69 = record (row 69 settings_69 (codes "(a)\u{1b}[D\u{1b}[D\u{1b}[Dx\r") (codes "x(a)\n")) {
+abbrev pub row_70 : Row
+row_70 = record (row 70 settings_70 (codes "(a)\u{1b}[D\u{1b}[D\u{1b}[Dx\r") (codes "x(a)\n")) {
   shows = Some (codes "\r\u{1b}[J\u{1b}[m> \u{1b}[m\u{1b}[m\u{1b}[m(a)\u{1b}[1D\u{1b}[1D\u{1b}[1D\r"
       ++ codes "\u{1b}[J\u{1b}[m> \u{1b}[mx(a)\u{1b}[m\u{1b}[m\u{1b}[3D\u{1b}[3C\r\n\r\u{1b}[J" ++
       codes "\u{1b}[m> \u{1b}[m\u{1b}[m\u{1b}[m\r\n");
 }
 
 -- ] Enter C-C = nothing | ends Interrupted | shows {} ] {]␛[mMismatched␠brackets:␠']'␠is␠unpaired␛[m␛[36D ␛[36C␍␊
-abbrev pub row_70 : Row
-row_70 = record (row 70 settings_69 (codes "]\r\u{3}") []) {
+abbrev pub row_71 : Row
+row_71 = record (row 71 settings_70 (codes "]\r\u{3}") []) {
   ends = Interrupted;
   shows = Some (codes "\r\u{1b}[J\u{1b}[m> \u{1b}[m\u{1b}[m\u{1b}[m]\r\u{1b}[J\u{1b}[m> \u{1b}[m]"
       ++ codes "\u{1b}[mMismatched brackets: ']' is unpaired\u{1b}[m\u{1b}[36D\u{1b}[36C\r\n");
 }
 
 -- helped loaded:#V2␊hello␊
-abbrev pub settings_73 : Settings
-settings_73 = record plain {
+abbrev pub settings_74 : Settings
+settings_74 = record plain {
   helping = aide true None;
   loaded = codes "#V2\nhello\n";
 }
 
 -- h Enter = h | shows {} {h␛[mello␛[m␛[4D {h} ␍␊ {} ␍␊
-abbrev pub row_73 : Row
-row_73 = record (row 73 settings_73 (codes "h\r") (codes "h\n")) {
+abbrev pub row_74 : Row
+row_74 = record (row 74 settings_74 (codes "h\r") (codes "h\n")) {
   shows = Some (codes "\r\u{1b}[J\u{1b}[m> \u{1b}[m\u{1b}[m\u{1b}[m\r\u{1b}[J\u{1b}[m> \u{1b}[mh" ++
       codes "\u{1b}[mello\u{1b}[m\u{1b}[4D\r\u{1b}[J\u{1b}[m> \u{1b}[mh\u{1b}[m\u{1b}[m\r\n" ++
       codes "\r\u{1b}[J\u{1b}[m> \u{1b}[m\u{1b}[m\u{1b}[m\r\n");
@@ -434,4 +442,4 @@ abbrev pub colours_rows : List Row
 colours_rows = row_8 ∷ row_9 ∷ row_10 ∷ row_13 ∷ row_14 ∷ row_17 ∷ row_18 ∷ row_21 ∷ row_22 ∷ row_25
     ∷ row_26 ∷ row_27 ∷ row_28 ∷ row_31 ∷ row_32 ∷ row_37 ∷ row_38 ∷ row_39 ∷ row_40 ∷ row_44 ∷
     row_45 ∷ row_46 ∷ row_47 ∷ row_50 ∷ row_54 ∷ row_55 ∷ row_56 ∷ row_59 ∷ row_60 ∷ row_61 ∷ row_62
-    ∷ row_65 ∷ row_69 ∷ row_70 ∷ row_73 ∷ []
+    ∷ row_63 ∷ row_66 ∷ row_70 ∷ row_71 ∷ row_74 ∷ []
