@@ -14,13 +14,16 @@ NOT_SAVED = b"keyline: history text failed\n"
 NO_WORDS = b"keyline: words do not load\n"
 TAB = b"\t"
 BELL = b"\x07"
+# What begins a style, and the values of NO_COLOR with whether there are styles then.
+STYLE = b"\x1b[0;"
+NO_COLOR = [(None, True), (b"", True), (b"0", False), (b"1", False), (b"long" * 1000, False), (b"\xff", False)]
 # The limits of a number of columns: those that are taken, and those that are wrong.
 TAKEN = ["2", "1000", "+07", "0" * 30 + "5"]
 WRONG = ["1", "1001", "65538", "70000", "x", "", "+", "5_0", " 5", "-5", "9" * 5000, "\u0665"]
 
 
 def ran(keys, *arguments, **streams):
-    given = streams if "stdin" in streams else {"input": keys}
+    given = streams if "stdin" in streams else {"input": keys, **streams}
     return subprocess.run([PROGRAM, *arguments], capture_output=True, timeout=HUNG, **given)
 
 
@@ -168,6 +171,17 @@ def extended():
     expect(ran(b"ab\rcd\r\x1b/a\r", "--extended", "--mode", "vi"), b"ab\ncd\nab\n")
     expect(ran(b"ab\rcd\ra\x1b[A\r", "--extended"), b"ab\ncd\nab\n")
     expect(ran(b"ab\rcd\ra\x1b[A\r"), b"ab\ncd\ncd\n")
+
+
+def colours_by_the_environment():
+    """--extended draws a bracket's match in a style, unless NO_COLOR is set and not empty; without it nothing has a style."""
+    others = {name: value for name, value in os.environb.items() if name != b"NO_COLOR"}
+    for text, drawn in NO_COLOR:
+        environment = others if text is None else {**others, b"NO_COLOR": text}
+        run = ran(b"()" + ENTER, "--extended", env=environment)
+        expect(run, b"()\n")
+        same(f"styles of NO_COLOR={text}", STYLE in run.stderr, drawn)
+        same("styles without --extended", STYLE in ran(b"()" + ENTER, env=environment).stderr, False)
 
 
 def a_missing_history():
@@ -364,6 +378,7 @@ if __name__ == "__main__":
         vi_mode,
         brackets,
         extended,
+        colours_by_the_environment,
         a_missing_history,
         two_programs_one_after_the_other,
         rights_are_kept,

@@ -184,8 +184,20 @@ def the_end_of_input_ends_it():
     plays((CTRL_D, ["sql>", "ended 0"], (2, 0)))
 
 
-def run(*arguments, keys=b""):
-    return subprocess.run([PROGRAM, *arguments], input=keys, capture_output=True, timeout=HUNG, check=False)
+def run(*arguments, keys=b"", **variables):
+    own = {name: it for name, it in os.environ.items() if name != "NO_COLOR"}
+    return subprocess.run([PROGRAM, *arguments], input=keys, capture_output=True, timeout=HUNG, check=False, env={**own, **variables})
+
+
+def colours():
+    """A statement is drawn in colours and a hint faint, unless NO_COLOR is set and isn't empty."""
+    keys = b"SELECT 'a', 1 -- b\r"
+    coloured = b"\x1b[0;1;34mSELECT\x1b[m \x1b[0;32m'a'\x1b[m, \x1b[0;35m1\x1b[m \x1b[0;36m-- b\x1b[m"
+    hint = b"\x1b[0;2m(; ends the statement)\x1b[m"
+    for variables, wanted in (({}, True), ({"NO_COLOR": ""}, True), ({"NO_COLOR": "1"}, False)):
+        drawn = run(keys=keys, **variables).stderr
+        same(f"a style with {variables}", b"\x1b[0" in drawn, wanted)
+        same(f"the statement with {variables}", (coloured in drawn, hint in drawn), (wanted, wanted))
 
 
 def arguments():
@@ -246,6 +258,7 @@ if __name__ == "__main__":
         the_end_of_input_ends_it,
         windows,
         arguments,
+        colours,
         a_history_that_lasts,
         histories_that_fail,
     ])

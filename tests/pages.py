@@ -5,7 +5,7 @@ import re
 from names import TOP, files_under, lines_of
 
 # What scripts make in docs/: no rule of style or size is for it.
-GENERATED = ("docs/API.md", "docs/session.svg")
+GENERATED = ("docs/API.md", "docs/console.svg", "docs/session.svg")
 AT_TOP = ("README.md", "CONTRIBUTING.md", "CHANGELOG.md", "bench/README.md", "crates/keyline_c/c/readline/README.md")
 
 CODE = re.compile(r"(`+)(?!`).*?(?<!`)\1(?!`)")

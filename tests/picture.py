@@ -1,12 +1,15 @@
 #!/usr/bin/env python3
-"""The session that README shows: tmux runs ./keyline, is sent the keys of each row, and is asked for what it shows.
+"""The session that README shows, and the console that the guide shows: tmux runs ./keyline and crates/sql_console, is sent
+keys, and is asked for what it shows.
 
-    tests/picture.py            compares README's session and docs/session.svg with what tmux shows
-    tests/picture.py --write    types README's keys, and writes what tmux shows into README and docs/session.svg
+    tests/picture.py            compares README's session, docs/session.svg and docs/console.svg with what tmux shows
+    tests/picture.py --write    types README's keys, and writes what tmux shows into README and docs/session.svg; writes
+                                docs/console.svg
+    tests/picture.py --console  writes docs/console.svg alone
 
 README has the session under "## What it looks like": first the commands of a shell, of which the last runs ./keyline.
 Then each row has keys, and beside them what is shown after them, from the line's first row on; a bar is the cursor.
-`rt ci` builds the program first.
+`rt ci` builds the programs first.
 """
 import os
 import re
@@ -16,17 +19,28 @@ import tempfile
 import time
 import xml.sax.saxutils
 
-from checks import TOP, Failed, placed_script, run_all, same
+from checks import HUNG, ON_TERMINAL, TOP, Failed, built, placed_script, run_all, same
 from drawings import Terminal
-from shown import PATIENCE, key, pictured, until_taken
+from shown import PATIENCE, expect, key, pictured, until_taken
+from styled import runs, styled_rows
+from windows import rows_of, type_bytes
 
 README = os.path.join(TOP, "README.md")
 PICTURE = os.path.join(TOP, "docs", "session.svg")
+CONSOLE = os.path.join(TOP, "docs", "console.svg")
 BLOCK = re.compile(r"(?<=^## What it looks like\n).*?^```text\n(.*?)^```$", re.M | re.S)
 PROMPT = "> "
 COLUMNS, ROWS = 56, 8
 # Where what is shown begins in a row of the session.
 MARGIN = 18
+
+# The statement that is typed into the console, in windows of these columns: Enter after each row. The last row is empty.
+STATEMENT = ["SELECT title, stars -- the best ones, by name", "FROM note WHERE title <> 'it''s me' AND stars > 4.5", ""]
+WINDOWS = (40, 120)
+HINT = "(; ends the statement)"
+
+# The colours of a picture for those of a terminal, by their numbers.
+HUES = {31: "#ff7b72", 32: "#7ee787", 33: "#e3b341", 34: "#79c0ff", 35: "#d2a8ff", 36: "#56d4dd"}
 
 # Of the picture, in pixels and seconds.
 CELL, ROW, LEFT, TOP_ROW, FRAME = 8.4, 19, 16, 62, 1.8
@@ -169,6 +183,61 @@ def picture_of(captions, screens):
     )
 
 
+def console_in(columns):
+    """Types the statement into the console in a window, and answers what is shown with styles, and the cursor's cell."""
+    with tempfile.TemporaryDirectory() as folder:
+        run = f"{shlex.quote(ON_TERMINAL)} {shlex.quote(built('sql_console'))}; exec sleep {HUNG}"
+        terminal = Terminal(folder, columns, run)
+        try:
+            until_taken(terminal)
+            type_bytes(terminal, b"\x0c" + "\r".join(STATEMENT).encode())
+            typed = rows_of(f"sql> {STATEMENT[0]}", columns) + rows_of(STATEMENT[1], columns) + [HINT]
+            cursor = (len(typed) - 1, 0)
+            expect(terminal, f"the statement in {columns} columns", ([it.rstrip() for it in typed], cursor))
+            return styled_rows(terminal.ask("capture-pane", "-p", "-e")), cursor
+        finally:
+            terminal.close()
+
+
+def drawn_run(column, text, style, y):
+    """A run of one style in a row of a picture."""
+    looks = [f' fill="{HUES[style["text"]]}"'] if "text" in style else []
+    looks += [' font-weight="bold"'] if style.get("bold") else []
+    looks += [' opacity="0.5"'] if style.get("faint") else []
+    place = f'x="{LEFT + CELL * column:g}" y="{y}" textLength="{CELL * len(text):g}"'
+    return f'  <text {place}{"".join(looks)}>{xml.sax.saxutils.escape(text)}</text>\n'
+
+
+def window_of(columns, rows, cursor, top):
+    """A window of a picture, from a height on."""
+    y = lambda at: top + 22 + ROW * at
+    frame = f'  <rect x="{LEFT - 8}" y="{top}" width="{CELL * columns + 16:g}" height="{ROW * len(rows) + 16}" rx="6" fill="#161b22"/>\n'
+    texts = "".join(drawn_run(*run, y(at)) for at, cells in enumerate(rows) for run in runs(cells) if run[1].strip())
+    place = f'x="{LEFT + CELL * cursor[1]:g}" y="{y(cursor[0]) - 14}" width="{CELL}" height="{ROW}"'
+    return f'{frame}{texts}  <rect {place} fill="#7ee787" opacity="0.55"/>\n'
+
+
+def console_picture():
+    """The console in each window, one below the other, as an SVG."""
+    windows, top = [], LEFT
+    for columns in WINDOWS:
+        rows, cursor = console_in(columns)
+        windows.append(window_of(columns, rows, cursor, top))
+        top += ROW * len(rows) + 16 + LEFT
+    width = 2 * LEFT + CELL * max(WINDOWS)
+    return (
+        f'<svg xmlns="http://www.w3.org/2000/svg" viewBox="0 0 {width:g} {top}" width="{width:g}" height="{top}">\n'
+        "  <title>A statement in the SQL console, with a hint, as tmux shows it at "
+        f"{' and '.join(map(str, WINDOWS))} columns</title>\n"
+        '  <style>text { font: 14px "DejaVu Sans Mono", Menlo, Consolas, monospace; white-space: pre; fill: #e6edf3 }</style>\n'
+        f'  <rect width="100%" height="100%" rx="8" fill="#0d1117"/>\n{"".join(windows)}</svg>\n'
+    )
+
+
+def guide_shows_what_tmux_shows():
+    same("docs/console.svg", read(CONSOLE), console_picture())
+
+
 def readme_shows_what_tmux_shows():
     commands, steps = parted(BLOCK.search(read(README))[1])
     _, screens = play(commands, steps, True)
@@ -186,7 +255,10 @@ def renew():
 
 if __name__ == "__main__":
     os.environ["LC_ALL"] = "C.UTF-8"
+    os.environ.pop("NO_COLOR", None)
     if sys.argv[1:] == ["--write"]:
         renew()
+    if sys.argv[1:] in (["--write"], ["--console"]):
+        write(CONSOLE, console_picture())
     else:
-        run_all([readme_shows_what_tmux_shows])
+        run_all([readme_shows_what_tmux_shows, guide_shows_what_tmux_shows])

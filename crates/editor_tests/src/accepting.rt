@@ -108,10 +108,20 @@ const HIGHLIGHTS: &str = "
     colours: yes = nothing
     helper: Valid = nothing
     marks: 2 = nothing
-    ab|: AcceptLine = Submit ab| / draw '> ab|' at 0,4 to 0,4 lit
+    ab|: AcceptLine = Submit ab| / draw '> ab|' at 0,4 to 0,4 lit marked
     a|b: AcceptLine = Submit a|b /
-    ab|: Repaint; Move BackwardChar 1 = a|b / draw '> a|b' at 0,3 to 0,4 lit
+    ab|: Repaint; Move BackwardChar 1 = a|b / draw '> a|b' at 0,3 to 0,4 lit marked
     ab|: Repaint; Move BackwardChar 1; AcceptLine = Submit a|b /
+    ab|: Repaint = ab| / draw '> ab|' at 0,4 to 0,4 lit marked
+
+    history: abcd = nothing
+    ab|: Repaint = ab| / draw '> ab|{cd}' at 0,4 to 0,6 lit marked
+    abc|: Repaint = abc| / draw '> abc|{d}' at 0,5 to 0,6 lit
+
+    helper: InvalidTold no = nothing
+    ab|: AcceptOrInsertLine = ab| / draw '> ab|{no}' at 0,4 to 0,6 lit told
+    marks: 2 = nothing
+    ab|: AcceptOrInsertLine = ab| / draw '> ab|{no}' at 0,4 to 0,6 lit marked told
 ";
 
 const TABLES: [&str; 4] = [ENDS, VERDICTS, HINTS, HIGHLIGHTS];

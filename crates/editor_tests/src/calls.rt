@@ -73,8 +73,8 @@ impl CallLog {
 ///
 /// A drawing is `draw '> a|b{c}' at 0,3 to 0,5`. It has prompt, line with a bar at the cursor, and
 /// hint or message in braces, then the place of the cursor and the end. `below 2` follows if the
-/// older drawing's cursor is in row 2, `fresh` if there is no older one, and `lit` if a highlighter
-/// is passed in.
+/// older drawing's cursor is in row 2, and `fresh` if there is no older one. If a highlighter is
+/// passed in, `lit` follows, then `marked` if the line is, and `told` if a message follows it.
 #[derive(Drop)]
 pub struct CallList {
     pub log: CallLog,
@@ -126,17 +126,24 @@ fn drawn(
     Ok(text)
 }
 
+// The words for a highlighter that is passed in.
+fn lit_words(marked: bool, told: bool) -> &'static str {
+    match (marked, told) {
+        (false, false) => " lit",
+        (true, false) => " lit marked",
+        (false, true) => " lit told",
+        (true, true) => " lit marked told",
+    }
+}
+
 // The words after the places of a drawing.
-fn tell_rest(call: &mut String, old: Option<Layout>, lit: bool) -> Result<(), AllocError> {
+fn tell_rest(call: &mut String, old: Option<Layout>, lit: &str) -> Result<(), AllocError> {
     match old {
         None => call.push_str(" fresh")?,
         Some(old) if old.cursor.row == 0 => {}
         Some(old) => write!(call, " below {}", old.cursor.row)?,
     }
-    if lit {
-        call.push_str(" lit")?;
-    }
-    Ok(())
+    call.push_str(lit)
 }
 
 // A drawing in words.
@@ -145,7 +152,7 @@ fn drawing(
     text: &str,
     old: Option<Layout>,
     new: &Layout,
-    lit: bool,
+    lit: &str,
 ) -> Result<String, AllocError> {
     let mut call = format!(in alloc;
         "draw '{text}' at {},{} to {},{}",
@@ -180,17 +187,15 @@ impl Renderer for CallList {
         old_layout: Option<Layout>,
         new_layout: &Layout,
         highlighter: Option<&H>,
-        _marked: bool,
-        _told: bool,
+        marked: bool,
+        told: bool,
     ) -> Result<(), ReadlineError> {
+        let lit = match highlighter {
+            Some(_) => lit_words(marked, told && hint.is_some()),
+            None => "",
+        };
         let call = match drawn(self.log.alloc, prompt, line, hint) {
-            Ok(text) => drawing(
-                self.log.alloc,
-                text.as_str(),
-                old_layout,
-                new_layout,
-                highlighter.is_some(),
-            ),
+            Ok(text) => drawing(self.log.alloc, text.as_str(), old_layout, new_layout, lit),
             Err(refusal) => Err(refusal),
         };
         self.log.note(call)

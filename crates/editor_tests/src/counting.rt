@@ -12,8 +12,8 @@ use crate::lines::{run_bound, run_over, typed};
 use line_buffer::{ChangeListener, LineBuffer, RepeatCount};
 use line_config::{CompletionType, HookFault, ReadlineError};
 use line_help::{
-    Completer, Context, Helper, HelperParts, Highlighter, Hinter, History, ValidationContext,
-    ValidationResult, Validator, update_line,
+    Completer, Context, Helper, HelperParts, Highlighter, Hinter, History, Mark, Part, Span,
+    ValidationContext, ValidationResult, Validator, update_line,
 };
 use line_keys::{Cmd, CmdKind, Decides, Event, EventContext, EventMap, Keys};
 use stand_ins::rows::{Player, raised, rows_hold};
@@ -105,8 +105,8 @@ impl Validator for Counting<'_> {
 
 impl Highlighter for Counting<'_> {
     ghost marks = { λ self. record {
-        marked = λ line pos kind. false;
-        paints = λ part text from. [];
+      marked = λ line pos kind. false;
+      paints = λ part text from. [];
     } };
 
     ghost kept = { λ before after. after ≡ before };

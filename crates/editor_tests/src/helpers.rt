@@ -9,7 +9,8 @@ ghost use Rattle.line_config.specs.declared.errors.HookFault.TheVariants.{Memory
 use line_buffer::{ChangeListener, LineBuffer};
 use line_config::{CompletionType, HookFault};
 use line_help::{
-    Completer, Context, Helper, Highlighter, Hint, Hinter, History, HistoryHinter, Mark, Part, Span, ValidationContext, ValidationResult, Validator, update_line,
+    Completer, Context, Helper, Highlighter, Hint, Hinter, History, HistoryHinter, Mark, Part,
+    Span, ValidationContext, ValidationResult, Validator, update_line,
 };
 use line_keys::{CmdKind, Text};
 use std::alloc::Global;
@@ -187,8 +188,8 @@ impl Hinter for Adviser {
 
 impl Highlighter for Adviser {
     ghost marks = { λ self. record {
-        marked = λ line pos kind. pos == self.marked_at;
-        paints = λ part text from. [];
+      marked = λ line pos kind. pos == self.marked_at;
+      paints = λ part text from. [];
     } };
 
     ghost kept = { λ before after. after ≡ before };

@@ -28,7 +28,7 @@ module _ {F S D L T : Type 0} (loads : F → Feed) (k : Known S D L) (held : T �
       (desk : Desk S EditHelper D L) (config' : Config) (custom : Custom) (prompt : List ℕ) (helper : Option EditHelper)
       → Opens loads k.feed config history helper source options.columns display lines desk
       → RunsSession k held failed (given_of config' custom prompt (screen_of desk.out) (edit_helping desk.helper)) desk text' ended
-      → config' ≡ config → prompt ≡ string_bytes options.prompt → helper ≡ helper_of options words → text' ≡ text → custom ≡ nothing_bound
+      → config' ≡ config → prompt ≡ string_bytes options.prompt → helper ≡ helper_of config options words → text' ≡ text → custom ≡ nothing_bound
       → EditsBy loads k held failed config options words history source display lines text ended
   edited config options words history source display lines text text' ended desk config' custom prompt helper opens runs config_is prompt_is helper_is text_is custom_is =
       let screen = screen_of desk.out in

@@ -4,6 +4,7 @@ pub mod CloseLemmas
 pub mod CuttingLemmas
 pub mod DeskLemmas
 pub mod EditLemmas
+pub mod EnvironmentLemmas
 pub mod EventLemmas
 mod FaultRows
 pub mod HeardBytes
@@ -15,6 +16,7 @@ pub mod OneByteLemmas
 pub mod OptionsLemmas
 pub mod OrderLemmas
 pub mod PasteLemmas
+pub mod PastePhrases
 pub mod PhraseFuel
 pub mod PlayedLemmas
 pub mod PlaysLemmas

@@ -1,5 +1,5 @@
 -- A text that is sent as a paste, and then entered, is accepted as it is.
-use Rattle.std.proofs.Common.{◌≡◌, ◌≢◌, ℕ, suc, ◌==◌, ◌||◌, not, Bool, true, false, if◌then◌else◌, List, [], ◌∷◌, ◌++◌, length, take, drop, Option, None, Some, is_some, option_map, Ok, refl, sym, ap, ◌∙◌, append-nil, arith, subst, eqb-true, true≢false, codes}
+use Rattle.std.proofs.Common.{◌≡◌, ◌≢◌, ℕ, suc, ◌==◌, ◌||◌, not, Bool, true, false, if◌then◌else◌, List, [], ◌∷◌, ◌++◌, length, take, drop, Option, None, Some, is_some, Ok, refl, sym, ap, ◌∙◌, append-nil, arith, subst, true≢false, codes}
 use Rattle.std.specs.List.{repeat}
 use Rattle.std.proofs.Math.Seq.{take-nil, drop-nil}
 use Rattle.std.proofs.lemmas.Bool.Decides.{nat_tests}
@@ -9,7 +9,6 @@ use Rattle.line_buffer.specs.declared.types.Anchor.TheVariants.{Before}
 use Rattle.line_buffer.specs.declared.types.CharSearch.{CharSearch}
 use Rattle.line_buffer.specs.declared.layout.GraphemeClusterMode.TheVariants.{Unicode}
 use Rattle.line_config.specs.Config.{default_config}
-use Rattle.line_config.specs.declared.device.Last.{Last}
 use Rattle.line_config.specs.declared.device.Last.TheVariants.{End}
 use Rattle.line_config.specs.declared.settings.EditMode.{EditMode}
 use Rattle.line_config.specs.declared.settings.EditMode.TheVariants.{Emacs, Vi}
@@ -22,165 +21,78 @@ use Rattle.line_keys.specs.declared.command.InputMode.TheVariants.{Command, Inse
 use Rattle.line_keys.specs.declared.events.Event.TheVariants.{Any}
 use Rattle.line_keys.specs.declared.key.KeyCode.TheVariants.{Char, Enter}
 use Rattle.line_keys.specs.declared.key.KeyEvent.{KeyEvent}
-use Rattle.line_keys.specs.Answers.{Custom, answer_by}
+use Rattle.line_keys.specs.Answers.{Custom}
 use Rattle.line_config.specs.Played.{Played, asked_first}
-use Rattle.line_config.specs.Scripts.{Ends, Asks}
+use Rattle.line_config.specs.Scripts.{Ends}
 use Rattle.line_config.specs.declared.errors.ReadlineError.{ReadlineError}
 use Rattle.line_keys.specs.Coming.{Coming, Pressed, Pasted, Ends as NoMore, End as AtItsEnd}
-use Rattle.line_keys.specs.Common.{common_action, command_or, bound_or, decided, terminal_command}
-use Rattle.line_keys.specs.Custom.{Situation, situation, shown_for, or_any, custom_answer}
+use Rattle.line_keys.specs.Common.{common_action}
+use Rattle.line_keys.specs.Custom.{situation}
 use Rattle.line_keys.specs.Emacs.{emacs_action, emacs_command}
 use Rattle.line_keys.specs.Events.{single}
-use Rattle.line_keys.specs.Feeds.{Key, Paste}
+use Rattle.line_keys.specs.Feeds.{Key}
 use Rattle.line_keys.specs.InputStates.{new_input}
 use Rattle.line_keys.specs.Keys.{key_with, none}
 use Rattle.line_keys.specs.Phrase.{phrase_from}
-use Rattle.line_keys.specs.Phrases.{Input, Steps, Part, steps, Needs, Reads, Becomes, after, answered, needing, with_read, from_key, asking, becoming, deciding, and_then}
+use Rattle.line_keys.specs.Phrases.{steps, Reads, answered, needing, with_read, from_key, asking, becoming, deciding, and_then}
 use Rattle.line_keys.specs.Refreshing.{Shown}
-use Rattle.line_keys.specs.Replies.{gives_at_once, taking}
-use Rattle.line_keys.specs.Vi.{with_last, changed, typed, command_table, vi_counted, vi_command, insert_table, vi_insert}
+use Rattle.line_keys.specs.Vi.{changed, typed, command_table, vi_counted, vi_command, insert_table, vi_insert}
 use Rattle.line_keys.specs.ViTables.{insert_action, action_of}
 use Rattle.line_record.specs.Ring.{new_ring}
 use Rattle.line_editor.specs.Accepting.{accept_or_insert}
 use Rattle.line_editor.specs.Asks.{shown_in}
 use Rattle.line_editor.specs.Commands.{in_vi_command, means_of}
-use Rattle.line_editor.specs.Drawing.{refreshed}
-use Rattle.line_editor.specs.LineScripts.{Begins, Keys, Obeys, LineState, LineAsk, beginning, kept, keyed, left_at, line_plan, line_script, met_then, phrase_script, played_from, turn_script, turned_on, turns_script, line_begun}
-use Rattle.line_editor.specs.NextCommand.{reset_by, with_group_begun}
+use Rattle.line_editor.specs.LineScripts.{Begins, Keys, Obeys, LineState, LineAsk, beginning, kept, left_at, line_plan, line_script, met_then, phrase_script, played_from, turn_script, turned_on, turns_script, line_begun}
+use Rattle.line_editor.specs.NextCommand.{reset_by}
 use Rattle.line_editor.specs.Moving.{cursor_moved_if}
 use Rattle.line_editor.specs.Modal.{is_at_rest, modal_first}
-use Rattle.line_editor.specs.Values.{Setting, Value, empty_at, first_value, unchanged, then_do, at_line}
-use Rattle.line_editor.specs.Yanking.{behind_yank, yanked_by, put_yanked, yank_text}
+use Rattle.line_editor.specs.Values.{Setting, Value, empty_at, first_value, at_line}
+use Rattle.line_editor.specs.Yanking.{behind_yank, yank_text}
 use Rattle.line_editor.specs.declared.commands.Status.{Status}
 use Rattle.line_editor.specs.declared.modal_state.Standing.{Standing}
 use Rattle.line_editor.specs.declared.modal_state.Standing.TheVariants.{Off, Rests}
 use Rattle.line_editor.proofs.PastLemmas.{first_rests}
 use Rattle.line_editor.proofs.ToldLemmas.{follows, joined, played_then}
-use Rattle.line_screen.specs.KeyGrammar.{coming_of, marker, paste_start, with_newlines}
-use Rattle.line_screen.proofs.Pasting.{pasted_text_is_before_its_mark}
+use Rattle.line_screen.specs.KeyGrammar.{paste_start}
+use Rattle.keyline.proofs.PastePhrases.{IsFree, at_rest, behind_key, behind_start, by_the_table, drawn_if, input_with, kept_after, paste_kept, plays_paste, reads_as, with_rest}
 use Rattle.keyline.specs.Program.{nothing_bound}
-use Rattle.keyline.specs.Pasting.{sent_as_paste, IsPasteable, IsUnbound, IsEmptyLine, Accepts, PastesAreAccepted, PastedLinesAreAccepted}
+use Rattle.keyline.specs.Pasting.{sent_as_paste, IsUnbound, IsEmptyLine, Accepts, PastesAreAccepted, PastedLinesAreAccepted}
 use Rattle.keyline.specs.Sessions.{coming_from, setting_in}
 
 abbrev enter : KeyEvent
 enter = key_with Enter none
 
--- ---- what no binding answers, the tables do
+free_key : (custom : Custom) (k : KeyEvent) → IsUnbound custom → IsFree custom k
+free_key custom k free = (free (single k), free Any)
 
-unbound_answer : (s : Situation) (k : KeyEvent) → IsUnbound s.custom → custom_answer s k ≡ gives_at_once None
-unbound_answer s k free =
-    ap (λ bound. answer_by (or_any s.custom bound) (shown_for s (single k))) (free (single k))
-    ∙ ap (λ bound. answer_by (option_map (λ meaning s. taking (meaning s)) bound) (shown_for s (single k))) (free Any)
-
-by_the_table : (new : Option ℕ) (s : Situation) (k : KeyEvent) (table : Part Cmd) (n : ℕ) → IsUnbound s.custom → terminal_command s.shown k ≡ None
-    → steps (decided new s k table) n ≡ steps table n
-unfolding deciding
-by_the_table new s k table n free none =
-    ap (λ reply. steps (deciding (bound_or new s (command_or table (terminal_command s.shown k))) reply) n) (unbound_answer s k free)
-    ∙ ap (λ command. steps (command_or table command) n) none
-
--- what stands between commands
-abbrev at_rest : Standing → LineState → LineState
-at_rest at k = record k { modal = record k.modal { standing = at } }
-
-abbrev with_rest : LineState → Coming → LineState
-with_rest k c = record k { coming = c }
-
-abbrev input_with : EditMode → InputMode → Cmd → Option CharSearch → Bool → Input
-input_with mode input_mode last search modal =
-    record { mode = mode; input_mode = input_mode; last = last; search = search; modal_commands = modal }
-
--- ---- a paste
-
--- in Vi mode it is the last change
-abbrev kept_after : EditMode → List ℕ → Input → Input
-kept_after Emacs text input = input
-kept_after Vi text input = with_last (Insert 1 text) input
-
-abbrev keeping : EditMode → Input → List ℕ → Steps Cmd
-keeping Emacs input text = Ends (Insert 1 text)
-keeping Vi input text = Asks Needs (λ none. Asks (Becomes (with_last (Insert 1 text) input)) (λ also. Ends (Insert 1 text)))
-
-abbrev pasting : EditMode → Input → Steps Cmd
-pasting mode input = Asks (Reads Paste) (keeping mode input)
-
-pastes : (mode : EditMode) (input_mode : InputMode) (custom : Custom) (last : Cmd) (search : Option CharSearch) (modal : Bool) (shown : Shown) (n : ℕ) → IsUnbound custom
-    → steps (phrase_from mode custom (input_with mode input_mode last search modal) shown paste_start) (suc n) ≡ pasting mode (input_with mode input_mode last search modal)
-unfolding answered needing with_read from_key asking becoming deciding and_then emacs_action common_action action_of insert_action command_table vi_counted vi_command insert_table vi_insert
-pastes Emacs input_mode custom last search modal shown n free =
-    let s = situation custom (input_with Emacs input_mode last search modal) shown 1 true in
-    by_the_table (Some 1) s paste_start (emacs_command s paste_start) (suc n) free refl
-pastes Vi Command custom last search modal shown n free =
-    let input = input_with Vi Command last search modal in
-    let s = situation custom input shown 1 true in
-    by_the_table None s paste_start (and_then input shown (command_table None s paste_start) changed) (suc n) free refl
-pastes Vi Inserting custom last search modal shown n free =
-    let input = input_with Vi Inserting last search modal in
-    by_the_table None (situation custom input shown 0 true) paste_start (and_then input shown (insert_table custom input shown paste_start) typed) (suc n) free refl
-pastes Vi Overwriting custom last search modal shown n free =
-    let input = input_with Vi Overwriting last search modal in
-    by_the_table None (situation custom input shown 0 true) paste_start (and_then input shown (insert_table custom input shown paste_start) typed) (suc n) free refl
+-- ---- Enter
 
 enters : (mode : EditMode) (input_mode : InputMode) (custom : Custom) (last : Cmd) (search : Option CharSearch) (modal : Bool) (shown : Shown) (n : ℕ) → IsUnbound custom
     → steps (phrase_from mode custom (input_with mode input_mode last search modal) shown enter) n ≡ Ends (AcceptOrInsertLine true)
 unfolding answered needing with_read from_key asking becoming deciding and_then emacs_action common_action action_of insert_action command_table vi_counted vi_command insert_table vi_insert
 enters Emacs input_mode custom last search modal shown n free =
     let s = situation custom (input_with Emacs input_mode last search modal) shown 1 true in
-    by_the_table (Some 1) s enter (emacs_command s enter) n free refl
+    by_the_table (Some 1) s enter (emacs_command s enter) n (free_key custom enter free) refl
 enters Vi Command custom last search modal shown n free =
     let input = input_with Vi Command last search modal in
     let s = situation custom input shown 1 true in
-    by_the_table None s enter (and_then input shown (command_table None s enter) changed) n free refl
+    by_the_table None s enter (and_then input shown (command_table None s enter) changed) n (free_key custom enter free) refl
 enters Vi Inserting custom last search modal shown n free =
     let input = input_with Vi Inserting last search modal in
-    by_the_table None (situation custom input shown 0 true) enter (and_then input shown (insert_table custom input shown enter) typed) n free refl
+    by_the_table None (situation custom input shown 0 true) enter (and_then input shown (insert_table custom input shown enter) typed) n (free_key custom enter free) refl
 enters Vi Overwriting custom last search modal shown n free =
     let input = input_with Vi Overwriting last search modal in
-    by_the_table None (situation custom input shown 0 true) enter (and_then input shown (insert_table custom input shown enter) typed) n free refl
-
--- ---- the phrases, played
-
-abbrev kept_asks : EditMode → List ℕ → Input → List LineAsk
-kept_asks Emacs text input = []
-kept_asks Vi text input = Keys Needs ∷ Keys (Becomes (with_last (Insert 1 text) input)) ∷ []
-
-abbrev paste_kept : EditMode → List ℕ → LineState → Coming → LineState
-paste_kept mode text k rest = kept k.value (kept_after mode text k.input) k.ring k.modal rest
-
--- behind its first key
-abbrev paste_played : EditMode → List ℕ → LineState → Coming → Played LineAsk LineState ReadlineError Cmd
-paste_played mode text k rest =
-    record { answer = Ok (Insert 1 text); asks = Keys (Reads Paste) ∷ kept_asks mode text k.input; rest = paste_kept mode text k rest }
+    by_the_table None (situation custom input shown 0 true) enter (and_then input shown (insert_table custom input shown enter) typed) n (free_key custom enter free) refl
 
 abbrev enter_played : LineState → Coming → Played LineAsk LineState ReadlineError Cmd
 enter_played k rest = record { answer = Ok (AcceptOrInsertLine true); asks = []; rest = with_rest k rest }
 
-abbrev grouped : ℕ → Cmd → Input → Shown → Steps Cmd
-grouped n cmd input shown = steps (with_group_begun cmd input shown) n
-
 module _ (s : Setting) (indent : ℕ) (custom : Custom) (free : IsUnbound custom) where
-  abbrev behind_key : ℕ → LineState → Coming → Steps Cmd → Played LineAsk LineState ReadlineError Cmd
-  behind_key n k rest script = asked_first (Keys (Reads Key)) (played_from s indent (keyed (after (grouped n) k.input (shown_in k.value) script)) (with_rest k rest))
-
-  plays_keeping : (n : ℕ) (mode : EditMode) (text : List ℕ) (k : LineState) (rest : Coming)
-      → (bytes : List ℕ) → behind_key n k (Pasted bytes text rest) (pasting mode k.input) ≡ asked_first (Keys (Reads Key)) (paste_played mode text k rest)
-  unfolding answered
-  plays_keeping n Emacs text k rest bytes = refl
-  plays_keeping n Vi text k rest bytes = refl
-
-  plays_paste : (n : ℕ) (k : LineState) (before bytes text : List ℕ) (rest : Coming)
-      → (let on = with_rest k (Pressed before paste_start (Pasted bytes text rest)) in played_from s indent (phrase_script (suc (suc n)) custom (beginning k)) on ≡ asked_first (Keys (Reads Key)) (paste_played k.input.mode text k rest))
-  unfolding and_then with_read
-  plays_paste n k before bytes text rest =
-      let input = k.input in
-      ap (behind_key (suc (suc n)) k (Pasted bytes text rest)) (pastes input.mode input.input_mode custom input.last input.search input.modal_commands (shown_in k.value) n free)
-      ∙ plays_keeping (suc (suc n)) input.mode text k rest bytes
-
   plays_enter : (n : ℕ) (k : LineState) (bytes : List ℕ) (rest : Coming)
       → (let on = with_rest k (Pressed bytes enter rest) in played_from s indent (phrase_script (suc n) custom (beginning k)) on ≡ asked_first (Keys (Reads Key)) (enter_played k rest))
   unfolding and_then with_read answered
   plays_enter n k bytes rest =
-      let input = k.input in ap (behind_key (suc n) k rest) (enters input.mode input.input_mode custom input.last input.search input.modal_commands (shown_in k.value) n free)
+      let input = k.input in ap (behind_key s indent (suc n) k rest) (enters input.mode input.input_mode custom input.last input.search input.modal_commands (shown_in k.value) n free)
 
 -- ---- the paste's text is the line's
 
@@ -203,11 +115,6 @@ put_into_empty : (text : List ℕ) (l : Line) → l.text ≡ [] → l.growth ≡
 put_into_empty text l empty grows =
     subst (λ b. (yanked_in text 1 (record l { growth = b })).line.text ≡ text) (sym grows)
     (subst (λ t. (yanked_in text 1 (record l { text = t; growth = true })).line.text ≡ text) (sym empty) (put_into text l.place l.limit))
-
-drawn_if : (b vi : Bool) (text : List ℕ) (n : ℕ) (s : Setting) (v : Value)
-    → (if b then then_do (put_yanked vi text n) refreshed s v else unchanged s (yanked_by vi text n v)).value.line ≡ (yanked_by vi text n v).line
-drawn_if true vi text n s v = refl
-drawn_if false vi text n s v = refl
 
 -- the step back moves the cursor alone
 stepped_text : (vi : Bool) (l : Line) → (behind_yank vi l).text ≡ l.text
@@ -285,7 +192,7 @@ module _ (s : Setting) (indent : ℕ) (custom : Custom) (free : IsUnbound custom
       let after_paste = left_at bare indent (paste_kept k.input.mode text k entered) (Obeys (Insert 1 text)) in
       let vi : Bool = in_vi_command (means_of (kept_after k.input.mode text k.input) indent (reset_by (Insert 1 text) k.ring)) in
       let a = enter_accepts Off refl n after_paste others rest in
-      subst (λ p. Takes p text rest) (sym (turns_on (suc n) on ∙ ap (line_on (suc n)) (plays_paste bare indent custom free n k before bytes text entered))) (
+      subst (λ p. Takes p text rest) (sym (turns_on (suc n) on ∙ ap (line_on (suc n)) (plays_paste bare indent custom (free_key custom paste_start free) n k before bytes text entered))) (
         a.0 ∙ ap Ok (pasted_text vi text bare k.value empty.empty empty.grows),
         a.1,
       )
@@ -296,43 +203,18 @@ module _ (s : Setting) (indent : ℕ) (custom : Custom) (free : IsUnbound custom
       let after_paste = left_at bare indent (paste_kept k.input.mode text k entered) (Obeys (Insert 1 text)) in
       let vi : Bool = in_vi_command (means_of (kept_after k.input.mode text k.input) indent (reset_by (Insert 1 text) k.ring)) in
       let a = enter_accepts Rests refl n after_paste others rest in
-      subst (λ p. Takes p text rest) (sym (turns_on (suc n) on ∙ ap (line_on (suc n)) (plays_paste bare indent custom free n k before bytes text entered))) (
+      subst (λ p. Takes p text rest) (sym (turns_on (suc n) on ∙ ap (line_on (suc n)) (plays_paste bare indent custom (free_key custom paste_start free) n k before bytes text entered))) (
         a.0 ∙ ap Ok (pasted_text vi text bare k.value empty.empty empty.grows),
         a.1,
       )
   paste_accepts _ rests n j before bytes text others rest empty = absurd (cc)
-
--- ---- what the bytes read as
-
-plain_byte : (b : ℕ) (bytes : List ℕ) → (b == 0x0D) ≡ false → with_newlines (b ∷ bytes) ≡ b ∷ with_newlines bytes
-plain_byte b bytes is = rw is (rw is refl)
-
-stays : (bytes : List ℕ) → ((before after : List ℕ) → bytes ≢ before ++ 0x0D ∷ after) → with_newlines bytes ≡ bytes
-stays [] plain = refl
-stays (b ∷ bytes) plain =
-    plain_byte b bytes (other (b == 0x0D) refl) ∙ ap (λ t. b ∷ t) (stays bytes (λ before after is. plain (b ∷ before) after (ap (λ t. b ∷ t) is)))
-  where
-    other : (t : Bool) → (b == 0x0D) ≡ t → t ≡ false
-    other true is = absurd (plain [] bytes (ap (λ x. x ∷ bytes) (eqb-true b 0x0D is)))
-    other false is = refl
-
--- the bytes after the mark that begins the paste, and those after the one that ends it
-abbrev behind_start : List ℕ → List ℕ → List ℕ
-behind_start text more = text ++ marker ++ 0x0D ∷ more
-
-reads_as : (mode : EditMode) (text more : List ℕ) (last : Last) → IsPasteable text
-    → coming_from mode (sent_as_paste text ++ 0x0D ∷ more) last
-    ≡ Pressed (sent_as_paste text ++ 0x0D ∷ more) paste_start (Pasted (behind_start text more) text (Pressed (0x0D ∷ more) enter (coming_from mode more last)))
-reads_as mode text more last paste =
-    ap (coming_of (sent_as_paste text ++ 0x0D ∷ more)) (pasted_text_is_before_its_mark mode text (0x0D ∷ more) last paste.utf8 paste.no_marker)
-    ∙ ap (λ t. Pressed (sent_as_paste text ++ 0x0D ∷ more) paste_start (Pasted (behind_start text more) t (coming_from mode (0x0D ∷ more) last))) (stays text paste.no_return)
 
 pub pastes_are_accepted : PastesAreAccepted
 pastes_are_accepted n s custom indent k text more last none free empty rests paste comes =
     let left = coming_from k.input.mode more last in
     let turns = turns_script (suc (suc n)) custom in
     let taken = subst (λ hooks. Takes (played_from (record s { hooks = hooks }) indent turns k) text left) (sym none)
-    (subst (λ c. Takes (played_from (without_hooks s) indent turns (with_rest k c)) text left) (sym (comes ∙ reads_as k.input.mode text more last paste)) (paste_accepts s indent custom free k.modal.standing rests n k (sent_as_paste text ++ 0x0D ∷ more) (behind_start text more) text (0x0D ∷ more) left empty)) in
+    (subst (λ c. Takes (played_from (without_hooks s) indent turns (with_rest k c)) text left) (sym (comes ∙ reads_as k.input.mode text (0x0D ∷ more) last paste)) (paste_accepts s indent custom free k.modal.standing rests n k (sent_as_paste text ++ 0x0D ∷ more) (behind_start text (0x0D ∷ more)) text (0x0D ∷ more) left empty)) in
     record { outcome = taken.0; rest_is = taken.1 }
 
 pub pasted_lines_are_accepted : PastedLinesAreAccepted

@@ -13,7 +13,7 @@ use Rattle.line_editor.specs.Redraws.{asked_by, fresh}
 use Rattle.line_editor.specs.Running.{kept_first}
 use Rattle.line_editor.specs.Sights.{Sight, no_sight, sight, sight_all, sight_drawn, sight_with, FitsAll}
 use Rattle.line_editor.specs.Steps.{one}
-use Rattle.line_editor.specs.Values.{EditStep, Setting, Value}
+use Rattle.line_editor.specs.Values.{EditStep, Setting, Value, shown_marks}
 use Rattle.line_editor.specs.declared.modal_state.Standing.{Standing}
 use Rattle.line_editor.specs.declared.modal_state.Standing.TheVariants.{Searches}
 use Rattle.line_editor.specs.Values.EditStep.{Draws as DrawStep, Helped as HelpStep}
@@ -101,7 +101,7 @@ module _ (s : Screen) (low : 2 ≤ s.columns) (high : s.columns ≤ 1000) (own :
       → EachShown (face s bytes top over x) (step_events s l rs ++ later)
   steps_shown later [] bytes over top l x h fits next = next bytes over top h
   steps_shown later (DrawStep v m redraw ∷ rs) bytes over top l x h fits next = λ rows.
-      let a = asked_by (ruler_of s) m l redraw in
+      let a = asked_by (ruler_of s) (shown_marks v m) l redraw in
       let new = bytes ++ all_of (map (bytes_of s) a.calls) in
       let over' = above_drawn redraw over in
       let top' = top_drawn redraw top in

@@ -98,7 +98,7 @@ module _ (s : Screen) (low : 2 ≤ s.columns) (high : s.columns ≤ 1000) where
 
   -- ---- a full drawing, over anything that is shown, with any layout whose cursor is the display's
 
-  drawn_holds : (bytes : List ℕ) (over : List Placed) (top : ℕ) (m : Option Marks) (l : Layout) (x : Sight) (prompt : List ℕ) (given : Bool) (text : List ℕ) (at : ℕ) (info : Option (List ℕ))
+  pub drawn_holds : (bytes : List ℕ) (over : List Placed) (top : ℕ) (m : Option Marks) (l : Layout) (x : Sight) (prompt : List ℕ) (given : Bool) (text : List ℕ) (at : ℕ) (info : Option (List ℕ))
       → Good s.columns (widths s) bytes over (view_in s top x) → l.cursor ≡ place_in s x → Low s (sight_with given prompt text at info)
       → (let a = full (ruler_of s) m l prompt given text at info in DisplayHolds s (bytes ++ flat_map (bytes_of s) a.calls) over top a.layout (sight_with given prompt text at info))
   drawn_holds bytes over top m l x prompt given text at info g cursor rows =

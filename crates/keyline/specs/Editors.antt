@@ -1,9 +1,9 @@
 -- An editor: a session that reads one line at each call, until an error ends it.
-use Rattle.std.specs.Prelude.{◌≡◌, ℕ, List, Option, Result, Err, MatchOption, IfSome, IsSomeAnd}
+use Rattle.std.specs.Prelude.{◌≡◌, ℕ, Bool, List, Option, Result, Err, MatchOption, IfSome, IsSomeAnd}
 use Rattle.line_config.specs.declared.errors.ReadlineError.{ReadlineError}
 use Rattle.keyline.specs.Endings.{ended_by}
 use Rattle.keyline.specs.Known.{Known}
-use Rattle.keyline.specs.Opened.{ReadsNext, SetsColumns}
+use Rattle.keyline.specs.Opened.{ReadsNext, SetsColours, SetsColumns}
 use Rattle.keyline.specs.Sessions.{Given}
 use Rattle.keyline.specs.declared.editor.LineEditor.{LineEditor}
 use Rattle.keyline.specs.declared.session.Session.{Session}
@@ -31,3 +31,9 @@ module _ {S H D L T B : Type 0} where
       → Type 0
   SetsSessionColumns columns old new =
       IfSome old (λ s. IsSomeAnd new (λ t. SetsColumns columns s t))
+
+  -- the same for colours
+  abbrev pub SetsSessionColours : Bool → Option (Session S H D L T B) → Option (Session S H D L T B)
+      → Type 0
+  SetsSessionColours colours old new =
+      IfSome old (λ s. IsSomeAnd new (λ t. SetsColours colours s t))

@@ -13,7 +13,7 @@ use Rattle.line_editor.specs.Redraws.{Redraw, asked_by, fresh}
 use Rattle.line_editor.specs.Running.{kept_first, line_played}
 use Rattle.line_editor.specs.Sights.{Sight}
 use Rattle.line_editor.specs.Steps.{asked, one}
-use Rattle.line_editor.specs.Values.{EditStep, Setting}
+use Rattle.line_editor.specs.Values.{EditStep, Setting, shown_marks}
 use Rattle.line_editor.specs.Values.EditStep.{Draws as DrawStep, Helped as HelpStep}
 use Rattle.line_keys.specs.Coming.{Coming}
 use Rattle.line_keys.specs.Feeds.{InputItem, behind}
@@ -54,7 +54,7 @@ pub record Course (X : Type 0) : Type 0 where
 -- an edit's step, on a screen with this stored layout
 abbrev pub step_event : Screen → Layout → EditStep → Event
 step_event s l (DrawStep value marks redraw) =
-    Draws redraw (map (bytes_of s) (asked_by (ruler_of s) marks l redraw).calls)
+    Draws redraw (map (bytes_of s) (asked_by (ruler_of s) (shown_marks value marks) l redraw).calls)
 step_event s l (HelpStep value fails takes) = Helped fails takes
 step_event s l step = Takes
 

@@ -61,7 +61,7 @@ module _ {S H D L T B : Type 0} where
     pub display : sink_of new.desk.out ≡ sink_of old.desk.out
     pub others : new ≡ record old { desk = record old.desk { out = new.desk.out } }
 
-  -- the helper's styles are drawn from now on, or not, and all else is as it was
+  -- whether the helper's styles are drawn is as requested, and all else is as it was
   pub record SetsColours (colours : Bool) (old new : Session S H D L T B) : Type 0 where
     pub screen : screen_of new.desk.out ≡ record (screen_of old.desk.out) { colours = colours }
     pub display : sink_of new.desk.out ≡ sink_of old.desk.out

@@ -1,7 +1,9 @@
 -- The program's session: with its options, and by bytes alone.
-use Rattle.std.specs.Prelude.{ℕ, Bool, true, false, if◌then◌else◌, List, Option, Some, None, is_some, option_map, unwrap_or, ◌||◌, ⊤, map, take, String, string_bytes, ◌≡◌, ◌<◌, ◌^◌, [], IsTrue, IsOk}
+use Rattle.std.specs.Prelude.{ℕ, Bool, true, false, if◌then◌else◌, List, Option, Some, None, is_some, option_map, unwrap_or, ◌||◌, ◌⊎◌, nat_lt, Result, Ok, Err, ⊤, map, take, String, string_bytes, ◌≡◌, ◌<◌, ◌^◌, [], IsTrue, IsOk}
 use Rattle.std.specs.Global.{Global, Vec}
 use Rattle.std.specs.Option.{option_map_or}
+use Rattle.std.specs.declared.env.FillError.{FillError}
+use Rattle.std.specs.declared.env.FillError.TheVariants.{NotPresent, TooLong}
 use Rattle.line_config.specs.Config.{default_config, timeout_of}
 use Rattle.line_config.specs.Feed.{Feed, fresh_feed}
 use Rattle.line_config.specs.declared.config.Config.{Config}
@@ -9,9 +11,11 @@ use Rattle.line_config.specs.declared.settings.CompletionType.{CompletionType}
 use Rattle.line_config.specs.declared.settings.CompletionType.TheVariants.{Circular, List as AsList}
 use Rattle.line_keys.specs.Replies.{gives, gives_at_once}
 use Rattle.line_help.specs.Completion.{nothing_offered, word_reply}
+use Rattle.line_help.specs.Paints.{standard_marks}
 use Rattle.line_help.specs.Validation.{bracket_reply}
 use Rattle.line_help.specs.declared.bracket_validator.MatchingBracketValidator.{MatchingBracketValidator}
 use Rattle.line_help.specs.declared.helper_parts.HelperParts.{HelperParts}
+use Rattle.line_help.specs.declared.standard_highlighter.StandardHighlighter.{StandardHighlighter}
 use Rattle.line_help.specs.declared.validate.ValidationResult.TheVariants.{Valid}
 use Rattle.line_keys.specs.Answers.{Custom}
 use Rattle.line_keys.specs.Coming.{unread}
@@ -65,9 +69,23 @@ profile_of extended config = record config {
 abbrev pub invoked_config : Invocation → Config
 invoked_config invocation = profile_of invocation.extended (config_of invocation.options)
 
--- completes words and validates brackets, if requested
+abbrev pub uncoloured : Config → Config
+uncoloured config = record config { draw_colours = false }
+
+-- the same settings, or the same without colours
+abbrev pub IsByEnvironment : Config → Config → Type 0
+IsByEnvironment config result = (result ≡ config) ⊎ (result ≡ uncoloured config)
+
+-- a variable of the environment is set and not empty, by its length
+abbrev pub has_text : Result ℕ FillError → Bool
+has_text (Ok len) = nat_lt 0 len
+has_text (Err TooLong) = true
+has_text (Err NotPresent) = false
+
+-- completes words and validates brackets, if requested, and highlights as the standard does
 abbrev pub EditHelper : Type 0
-EditHelper = HelperParts (Option (List (List ℕ))) ⊤ ⊤ (Option MatchingBracketValidator)
+EditHelper =
+    HelperParts (Option (List (List ℕ))) ⊤ StandardHighlighter (Option MatchingBracketValidator)
 
 abbrev pub word_texts : Option (Vec (String Global)) → Option (List (List ℕ))
 word_texts words = option_map (λ ws. map string_bytes ws.items) words
@@ -75,17 +93,18 @@ word_texts words = option_map (λ ws. map string_bytes ws.items) words
 abbrev pub validator_of : Options → Option MatchingBracketValidator
 validator_of options = if options.brackets then Some (record {}) else None
 
-abbrev pub helper_of : Options → Option (List (List ℕ)) → Option EditHelper
-helper_of options words = if options.brackets || is_some words
+-- there is none if nothing was requested and no colours are drawn
+abbrev pub helper_of : Config → Options → Option (List (List ℕ)) → Option EditHelper
+helper_of config options words = if options.brackets || is_some words || config.draw_colours
     then Some (record {
       completer = words;
       hinter = tt;
-      highlighter = tt;
+      highlighter = record { brackets = None };
       validator = validator_of options;
     })
     else None
 
--- its replies; it helps with nothing else
+-- its replies and its styles; it helps with nothing else
 abbrev pub edit_helping : Option EditHelper → Helping
 edit_helping = helping_by (λ helper line pos entries place. gives_at_once None)
     (λ helper text. option_map_or (λ validator. bracket_reply text) helper.validator
@@ -94,7 +113,7 @@ edit_helping = helping_by (λ helper line pos entries place. gives_at_once None)
     helper.completer (gives_at_once nothing_offered))
     (λ helper line start elected. option_map_or (λ words. gives (tt {0})) helper.completer
     (gives (tt {0})))
-    (λ helper. no_marks)
+    (λ helper. standard_marks)
 
 abbrev pub nothing_bound : Custom
 nothing_bound = record { answers = λ event. None; begins = λ keys. false }
@@ -109,7 +128,7 @@ pub record EditsBy {F S D L T : Type 0} (loads : F → Feed) (k : Known S D L)
     (words : Option (List (List ℕ))) (history : F) (source : S) (display : D) (lines : L) (text : T) (ended : Ended S D L T)
     : Type 0 where
   pub desk : Desk S EditHelper D L
-  pub opens : Opens loads k.feed config history (helper_of options words) source
+  pub opens : Opens loads k.feed config history (helper_of config options words) source
       options.columns display lines desk
   pub runs : RunsSession k held failed (given_to config options desk) desk text ended
 
@@ -118,7 +137,7 @@ pub record EditsBy {F S D L T : Type 0} (loads : F → Feed) (k : Known S D L)
 -- what these settings, options and words pass in for a session
 abbrev pub given_by : Config → Options → Option (List (List ℕ)) → Given
 given_by config options words = given_of config nothing_bound (string_bytes options.prompt)
-    (screen_by config options.columns) (edit_helping (helper_of options words))
+    (screen_by config options.columns) (edit_helping (helper_of config options words))
 
 abbrev pub program_given : Options → Option (List (List ℕ)) → Given
 program_given options words = given_by (config_of options) options words

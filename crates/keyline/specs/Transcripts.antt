@@ -26,7 +26,7 @@ word_helper None = None
 word_helper (Some words) = Some (record {
   completer = Some words;
   hinter = tt;
-  highlighter = tt;
+  highlighter = record { brackets = None };
   validator = None;
 })
 

@@ -4,12 +4,12 @@ ghost use Rattle.std.specs.Prelude.{◌≡◌, ◌≤◌, IfErr, IfOk, Some, [],
 ghost use Rattle.line_config.specs.Adapters.{IsUnread, IsUnused, gave, taken};
 ghost use Rattle.keyline.specs.Builders.{HasDefaults};
 ghost use Rattle.keyline.specs.Columns.{ColumnsBy};
-ghost use Rattle.keyline.specs.Program.{profile_of, standard_config};
+ghost use Rattle.keyline.specs.Program.{IsByEnvironment, profile_of, standard_config};
 ghost use Rattle.keyline.specs.Opened.{HasGiven, desk_of};
 ghost use Rattle.keyline.specs.Plays.{Opens, Unopens};
 
 use crate::editor::LineEditor;
-use crate::program::with_profile;
+use crate::program::{by_environment, with_profile};
 use crate::session::{Session, Unopened};
 use line_config::{Config, Foretold, ReadSource, Sink, SliceSource, Source, WriteSink};
 use line_help::Helper;
@@ -145,7 +145,8 @@ pub fn builder_over<'p, K: Foretold<R>, R: Read + Drop, E: Write + Drop>(
 /// it is not set or is anything else.
 ///
 /// Its settings turn on what the default profile leaves out: the commands that go on over several
-/// keys, such as the search through the history.
+/// keys, such as the search through the history, and the styles of the helper. There are no styles
+/// if the environment variable `NO_COLOR` is set and isn't empty.
 ///
 /// `K` says what is assumed of standard input. A program that does without a proof of its own takes
 /// the default of `StandardEditor`.
@@ -153,8 +154,8 @@ pub fn standard_builder<'p, K: Foretold<StdinLock<'static>>>(
     rt: &HostRuntime,
 ) -> StandardBuilder<'p, K>
     ensures defaults { HasDefaults ⟦<SliceSource<'static> as Source>⟧.feed
-        ⟦<Nowhere as Sink>⟧.has_failed ⟦<Nowhere as Sink>⟧.has_failed (profile_of true standard_config)
-        result }
+        ⟦<Nowhere as Sink>⟧.has_failed ⟦<Nowhere as Sink>⟧.has_failed result.config result }
+    ensures settings { IsByEnvironment (profile_of true standard_config) result.config }
     ensures columns { (2 ≤ result.columns) × (result.columns ≤ 1000) }
     ensures nothing_read { gave result.source ≡ [] }
     ensures nothing_written { taken result.display ≡ [] }
@@ -163,7 +164,7 @@ pub fn standard_builder<'p, K: Foretold<StdinLock<'static>>>(
 {
     builder_over(rt.alloc(), rt.stdin().reader(), rt.stderr())
         .columns(environment_columns(rt))
-        .config(with_profile(standard_config(), true))
+        .config(by_environment(rt, with_profile(standard_config(), true)))
 }
 
 impl<'p, F, S, H, D, L, T, B: Decides> SessionBuilder<'p, F, S, H, D, L, T, B>

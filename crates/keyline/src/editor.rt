@@ -48,7 +48,7 @@ where
     L: Drop,
     T: Drop,
 {
-    ghost use Rattle.keyline.specs.Editors.{EditorReads, SetsSessionColumns, ending_in, session_of};
+    ghost use Rattle.keyline.specs.Editors.{EditorReads, SetsSessionColours, SetsSessionColumns, ending_in, session_of};
     ghost use Rattle.keyline.specs.Opened.{desk_of, given_in, history_of, text_sink, with_entry, with_helper};
 
     /// The lines of this session.
@@ -96,6 +96,17 @@ where
     {
         match &mut self.session.value {
             Some(session) => session.set_columns(columns),
+            None => unreachable!(),
+        }
+    }
+
+    /// Sets whether the helper's styles are drawn in further lines, like `Session::set_colours`.
+    pub fn set_colours(&mut self, colours: bool)
+        ensures session { SetsSessionColours colours (session_of self.old) (session_of self.new) }
+        ensures ended { ending_in self.new ≡ ending_in self.old }
+    {
+        match &mut self.session.value {
+            Some(session) => session.set_colours(colours),
             None => unreachable!(),
         }
     }

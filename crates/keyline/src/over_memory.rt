@@ -14,7 +14,7 @@ use crate::edit_helper::EditHelper;
 use crate::ending::Ending;
 use crate::session::{Ended, Session};
 use line_config::{Config, ReadlineError, Sink, SliceSource, Source, VecSink};
-use line_help::{HelperParts, WordCompleter};
+use line_help::{HelperParts, StandardHighlighter, WordCompleter};
 use line_keys::{Decides, EventMap};
 use std::alloc::{AllocError, Global};
 
@@ -42,7 +42,7 @@ fn helper_by(words: Option<Vec<String>>) -> Option<EditHelper>
     Some(HelperParts {
         completer: words.map(WordCompleter::new),
         hinter: (),
-        highlighter: (),
+        highlighter: StandardHighlighter::new(),
         validator: None,
     })
 }

@@ -1,8 +1,8 @@
 //! A session with the program's options.
 
-ghost use Rattle.std.specs.Prelude.{◌≡◌, ◌≤◌, IfErr, IfOk, [], false};
+ghost use Rattle.std.specs.Prelude.{◌≡◌, ◌≤◌, IfErr, IfOk, [], false, if◌then◌else◌};
 ghost use Rattle.keyline.specs.Known.{known_by};
-ghost use Rattle.keyline.specs.Program.{EditsBy, PlaysOver, UnopensOver, config_of, had_by, helper_of, invoked_config, profile_of, word_texts};
+ghost use Rattle.keyline.specs.Program.{EditsBy, PlaysOver, UnopensOver, IsByEnvironment, config_of, had_by, has_text, helper_of, invoked_config, profile_of, uncoloured, word_texts};
 ghost use Rattle.keyline.specs.Plays.{Unopens};
 
 use crate::edit_helper::EditHelper;
@@ -13,9 +13,10 @@ use line_config::{
     CompletionType, Config, Configurer, Foretold, ReadSource, Sink, SliceSource, Source, VecSink,
     WriteSink,
 };
-use line_help::{HelperParts, MatchingBracketValidator, WordCompleter};
+use line_help::{HelperParts, MatchingBracketValidator, StandardHighlighter, WordCompleter};
 use line_keys::Bindings;
 use std::alloc::Global;
+use std::env::{Env, FillError};
 use std::io::{Read, Write};
 
 /// The settings for the options: each accepted line is added to the history.
@@ -36,7 +37,7 @@ pub fn invoked_config(invocation: &Invocation) -> Config
 }
 
 /// The same settings, and what the default profile leaves out if it is on: the commands that go on
-/// over several keys.
+/// over several keys, and colours.
 pub(crate) fn with_profile(config: Config, extended: bool) -> Config
     ensures { result ≡ profile_of extended config }
 {
@@ -51,11 +52,35 @@ pub(crate) fn with_profile(config: Config, extended: bool) -> Config
     config
 }
 
-/// The helper: it completes these words, and validates brackets if the options say so.
-pub fn helper_of(options: &Options, words: Option<Vec<String>>) -> Option<EditHelper>
-    ensures { result ≡ helper_of options.now (word_texts words) }
+/// The same settings, but without colours if the environment variable `NO_COLOR` is set and isn't
+/// empty.
+pub fn by_environment(rt: &HostRuntime, config: Config) -> Config
+    ensures { IsByEnvironment config result }
 {
-    if !options.brackets && words.is_none() {
+    coloured_by(config, rt.var("NO_COLOR", &mut [0u8; 1]))
+}
+
+/// The same settings, but without colours if this is the length of a text.
+fn coloured_by(config: Config, len: Result<usize, FillError>) -> Config
+    ensures { result ≡ if has_text len then uncoloured config else config }
+{
+    let mut config = config;
+    if matches!(len, Ok(1..) | Err(FillError::TooLong)) {
+        config.set_draw_colours(false);
+    }
+    config
+}
+
+/// The helper: it completes these words, validates brackets if the options say so, and has the
+/// styles of a display with colours. None if there are no words, no brackets and no colours.
+pub fn helper_of(
+    config: &Config,
+    options: &Options,
+    words: Option<Vec<String>>,
+) -> Option<EditHelper>
+    ensures { result ≡ helper_of config.now options.now (word_texts words) }
+{
+    if !options.brackets && words.is_none() && !config.draw_colours() {
         return None;
     }
     let validator = if options.brackets {
@@ -66,7 +91,7 @@ pub fn helper_of(options: &Options, words: Option<Vec<String>>) -> Option<EditHe
     Some(HelperParts {
         completer: words.map(WordCompleter::new),
         hinter: (),
-        highlighter: (),
+        highlighter: StandardHighlighter::new(),
         validator,
     })
 }
@@ -138,12 +163,13 @@ pub fn edit_with<
         config options.now (word_texts words) history source display lines text) }
     ensures refused { IfErr result (Unopens F.feed config history source display lines text) }
 {
+    let helper = helper_of(&config, options, words);
     let session = Session::open(
         alloc,
         config,
         Bindings::new(alloc).unwrap(),
         history,
-        helper_of(options, words),
+        helper,
         options.prompt.as_str(),
         source,
         options.columns,

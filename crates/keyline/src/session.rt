@@ -332,8 +332,8 @@ where
         self.desk.out.set_columns(columns);
     }
 
-    /// Sets whether the helper's styles are drawn in further lines. Nothing is drawn. At first the
-    /// setting `draw_colours` says it.
+    /// Sets whether the helper's styles are drawn in further lines. Nothing is drawn. At first they
+    /// are if the setting `draw_colours` is on.
     pub fn set_colours(&mut self, colours: bool)
         ensures { SetsColours colours self.old self.new }
     {

@@ -18,20 +18,27 @@ use Rattle.line_editor.specs.Redraws.{info_text, fresh, full, nothing_asked, mov
 use Rattle.line_editor.specs.Redraws.Redraw.{Drawn, Moved, Typed, Taken, Bared, ToEnd, Beeped, Cleared}
 use Rattle.line_editor.specs.Sights.{Sight, sight_with, sight_as, no_sight, sight, sight_all, Fits, FitsAll, TypedFits}
 use Rattle.line_editor.specs.Steps.{one}
-use Rattle.line_editor.specs.Values.{EditStep, Value}
+use Rattle.line_editor.specs.Values.{EditStep, Value, shown_marks}
 use Rattle.line_editor.specs.Values.EditStep.{Draws, Helped, Edits, TakesBack, Takes}
-use Rattle.line_screen.specs.Calls.{Screen, bell_bytes, bytes_of, ruler_of}
+use Rattle.line_help.specs.Paints.{first_mark}
+use Rattle.line_help.specs.declared.style.Part.TheVariants.{Prompt as OfPrompt, Line as OfLine, Hint as OfHint}
+use Rattle.line_screen.specs.Calls.{Screen, bell_bytes, bytes_of, ruler_of, styles_by}
 use Rattle.line_screen.specs.Chain.{Good, empty_view}
-use Rattle.line_screen.specs.Display.{Placed, is_text}
+use Rattle.line_screen.specs.Colours.{PaintedItem, Styles, all_unpainted, are_styles, is_style, painted, painted_drawing, painted_one, painted_shown, painted_text, shaded_break, style_bytes, unpainted}
+use Rattle.line_screen.specs.Colours.PaintedItem.{Bare as Plain, Begins, Shaded, Fenced}
+use Rattle.line_screen.specs.Display.{Placed, is_parameter, is_text}
 use Rattle.line_screen.specs.Drawing.{DrawnItem, text_items, no_style, break_if, break_unless, fenced, fitted_col, sent_one, sent, col_after_one, col_after, control_sequence, erase_to_row_end, row_move, col_move, move_bytes, shown_text, drawing}
 use Rattle.line_screen.specs.Drawing.DrawnItem.{NewRow, Letter, Cluster}
 use Rattle.line_screen.specs.Laws.{widths}
+use Rattle.line_screen.proofs.ColourDraws.{AllPainted, FitsPainted}
+use Rattle.line_screen.proofs.ColourTexts.{text_painted}
+use Rattle.line_screen.proofs.StyleLemmas.{spans_are}
 use Rattle.line_screen.proofs.Draws.{AllFit, Fits as ItemFits, list_all_since}
 use Rattle.line_screen.proofs.Fitting.{items_fit}
 use Rattle.line_screen.proofs.LawLemmas.{start_is_empty}
 use Rattle.keyline.specs.Shows.{DisplayHolds, Low, LowStep, LowAll, bytes_for, drawn_by}
 use Rattle.keyline.proofs.ShowCourse.{flat_both}
-use Rattle.keyline.proofs.ShowSteps.{fresh_holds, step}
+use Rattle.keyline.proofs.ShowSteps.{drawn_holds, fresh_holds, step}
 use Rattle.keyline_c.specs.Laws.{drawing_start, begins_drawing, last_drawing}
 
 -- ---- bytes in which no drawing begins: each CR is before an LF
@@ -102,6 +109,47 @@ module _ (columns : ℕ) (wide : List ℕ → Option ℕ) where
   calm_sent [] col h = refl
   calm_sent (item ∷ items) col h =
       calm_both (sent_one columns item col) (sent columns items (col_after_one columns item col)) (calm_one item col h.0) (calm_sent items (col_after_one columns item col) h.1)
+
+-- ---- the bytes of texts with styles
+
+parameter_plain : (b : ℕ) → is_parameter b ≡ true → not (b == 0x0D) ≡ true
+parameter_plain b h = grind (arith, nat_tests)
+
+calm_style : (style : List ℕ) → is_style style ≡ true → calm (style_bytes style) ≡ true
+calm_style [] h = refl
+calm_style (c ∷ style) h =
+    calm_both (c ∷ style) (0x6D ∷ []) (calm_plain (c ∷ style) (list_all_since is_parameter (λ b. not (b == 0x0D)) parameter_plain (c ∷ style) h)) refl
+
+calm_shaded : (style : List ℕ) (b : Bool) → is_style style ≡ true → calm (shaded_break style b) ≡ true
+calm_shaded style true h = calm_style style h
+calm_shaded style false h = refl
+
+module _ (columns : ℕ) (wide : List ℕ → Option ℕ) where
+  calm_painted_one : (item : PaintedItem) (col : ℕ) → FitsPainted columns wide item → calm (painted_one columns item col) ≡ true
+  calm_painted_one (Plain item) col h = calm_one columns wide item col h
+  calm_painted_one (Begins style) col h = calm_style style h
+  calm_painted_one (Shaded style c) col h = calm_byte c (shaded_break style (col + 1 == columns)) (letter_plain c h.1) (calm_shaded style (col + 1 == columns) h.0)
+  calm_painted_one (Fenced style bytes width) col h =
+      let front = break_unless (nat_le (col + width) columns) in
+      let end = break_if (fitted_col columns width col + width == columns) in
+      let plain = calm_plain bytes (list_all_since is_text (λ b. not (b == 0x0D)) text_plain bytes h.1.text) in
+      let styled = calm_both (style_bytes style ++ bytes) no_style (calm_both (style_bytes style) bytes (calm_style style h.0) plain) refl in
+      calm_both (front ++ (style_bytes style ++ bytes ++ no_style)) end (calm_both front (style_bytes style ++ bytes ++ no_style) (calm_unless (nat_le (col + width) columns)) styled)
+      (calm_break (fitted_col columns width col + width == columns))
+
+  calm_painted : (items : List PaintedItem) (col : ℕ) → AllPainted columns wide items → calm (painted columns items col) ≡ true
+  calm_painted [] col h = refl
+  calm_painted (item ∷ items) col h =
+      let next = col_after columns (unpainted item) col in
+      calm_both (painted_one columns item col) (painted columns items next) (calm_painted_one item col h.0) (calm_painted items next h.1)
+
+-- three texts, one after another
+calm_three : (xs ys zs : List ℕ) → calm xs ≡ true → calm ys ≡ true → calm zs ≡ true → calm (no_style ++ xs ++ no_style ++ ys ++ no_style ++ zs ++ no_style) ≡ true
+calm_three xs ys zs a b c =
+    let one_text = calm_both no_style xs refl a in
+    let two_texts = calm_both (no_style ++ xs ++ no_style) ys (calm_both (no_style ++ xs) no_style one_text refl) b in
+    let all_texts = calm_both (no_style ++ xs ++ no_style ++ ys ++ no_style) zs (calm_both (no_style ++ xs ++ no_style ++ ys) no_style two_texts refl) c in
+    calm_both (no_style ++ xs ++ no_style ++ ys ++ no_style ++ zs) no_style all_texts refl
 
 -- ---- the bytes of moves
 
@@ -201,14 +249,24 @@ module _ (s : Screen) (low : 2 ≤ s.columns) (high : s.columns ≤ 1000) (own :
       let a = text_items wide prompt in
       let b = text_items wide line in
       let c = text_items wide info in
-      let xs = sent s.columns a 0 in
-      let ys = sent s.columns b (col_after s.columns a 0) in
-      let zs = sent s.columns c (col_after s.columns b (col_after s.columns a 0)) in
+      let end_a = col_after s.columns a 0 in
+      let end_b = col_after s.columns b end_a in
       let fits = items_fit s.mode s.columns some in
-      let one_text = calm_both no_style xs refl (calm_sent s.columns wide a 0 (fits prompt)) in
-      let two_texts = calm_both (no_style ++ xs ++ no_style) ys (calm_both (no_style ++ xs) no_style one_text refl) (calm_sent s.columns wide b (col_after s.columns a 0) (fits line)) in
-      let all_texts = calm_both (no_style ++ xs ++ no_style ++ ys ++ no_style) zs (calm_both (no_style ++ xs ++ no_style ++ ys) no_style two_texts refl) (calm_sent s.columns wide c (col_after s.columns b (col_after s.columns a 0)) (fits info)) in
-      calm_both (no_style ++ xs ++ no_style ++ ys ++ no_style ++ zs) no_style all_texts refl
+      calm_three (sent s.columns a 0) (sent s.columns b end_a) (sent s.columns c end_b) (calm_sent s.columns wide a 0 (fits prompt)) (calm_sent s.columns wide b end_a (fits line)) (calm_sent s.columns wide c end_b (fits info))
+
+  calm_styled : (styles : Styles) (prompt line info : List ℕ) → are_styles styles.prompt ≡ true → are_styles styles.line ≡ true → are_styles styles.info ≡ true
+      → calm (painted_shown s.columns wide styles prompt line info) ≡ true
+  calm_styled styles prompt line info in_prompt in_line in_info =
+      let a = painted_text wide styles.prompt prompt in
+      let b = painted_text wide styles.line line in
+      let c = painted_text wide styles.info info in
+      let end_a = col_after s.columns (all_unpainted a) 0 in
+      let end_b = col_after s.columns (all_unpainted b) end_a in
+      let fits = items_fit s.mode s.columns some in
+      calm_three (painted s.columns a 0) (painted s.columns b end_a) (painted s.columns c end_b)
+      (calm_painted s.columns wide a 0 (text_painted s.columns wide styles.prompt prompt in_prompt (fits prompt)))
+      (calm_painted s.columns wide b end_a (text_painted s.columns wide styles.line line in_line (fits line)))
+      (calm_painted s.columns wide c end_b (text_painted s.columns wide styles.info info in_info (fits info)))
 
   -- from the last whole drawing on they show it, on any blank rows
   pub record Anew (bytes : List ℕ) (l : Layout) (x : Sight) : Type 0 where
@@ -222,22 +280,35 @@ module _ (s : Screen) (low : 2 ≤ s.columns) (high : s.columns ≤ 1000) (own :
   pub anew_last : (bytes : List ℕ) (l : Layout) (x : Sight) (a : Anew bytes l x) → last_drawing bytes ≡ Some (drawing_start ++ a.later)
   anew_last bytes l x a = ap last_drawing a.bytes_are ∙ last_behind a.earlier (drawing_start ++ a.later) (drawing_start ++ a.later) (last_here a.later a.calm_is)
 
-  -- a whole drawing, whatever came before
-  whole : (v : Value) (bytes : List ℕ) (m : Option Marks) (l : Layout) (prompt : List ℕ) (given : Bool) (text : List ℕ) (at : ℕ) (info : Option (List ℕ)) → Low s (sight_with given prompt text at info)
-      → (let a = full (ruler_of s) m l prompt given text at info in Anew (bytes ++ flat_map (bytes_of s) a.calls) a.layout (sight_with given prompt text at info))
-  whole v bytes m l prompt given text at info rows =
-      let new = (full (ruler_of s) m l prompt given text at info).layout in
-      let up = control_sequence l.cursor.row 0x41 in
-      let texts = drawing s.columns wide prompt text (info_text info) new.end new.cursor in
+  -- a whole drawing of these texts, whatever came before
+  drawn_anew : (bytes : List ℕ) (row : ℕ) (l : Layout) (x : Sight) (texts : List ℕ) → calm texts ≡ true
+      → ((before : List ℕ) (over : List Placed) (top : ℕ) → Good s.columns wide before over (empty_view top) → DisplayHolds s (before ++ (drawing_start ++ texts ++ [])) over top l x)
+      → Anew (bytes ++ (control_sequence row 0x41 ++ drawing_start ++ texts ++ [])) l x
+  drawn_anew bytes row l x texts quiet on =
+      let up = control_sequence row 0x41 in
       record {
         earlier = bytes ++ up;
         later = texts;
         bytes_are = ap (λ z. bytes ++ z) (append-nil (up ++ drawing_start ++ texts) ∙ append_assoc up drawing_start texts) ∙ sym (append_assoc bytes up (drawing_start ++ texts));
-        calm_is = calm_both (shown_text s.columns wide prompt text (info_text info)) (move_bytes new.end new.cursor) (calm_texts prompt text (info_text info)) (calm_move new.end new.cursor);
-        holds = λ before over top good.
-            subst (λ z. DisplayHolds s (before ++ z) over top new (sight_with given prompt text at info)) (append-nil (drawing_start ++ texts))
-            (step s low high prompt before over top (fresh s.mode) no_sight (Draws v m (Drawn prompt given text at info)) (fresh_holds s low high before over top (fresh s.mode) good) (λ e. refl) rows);
+        calm_is = quiet;
+        holds = λ before over top good. subst (λ z. DisplayHolds s (before ++ z) over top l x) (append-nil (drawing_start ++ texts)) (on before over top good);
       }
+
+  whole : (bytes : List ℕ) (m : Option Marks) (l : Layout) (prompt : List ℕ) (given : Bool) (text : List ℕ) (at : ℕ) (info : Option (List ℕ)) → Low s (sight_with given prompt text at info)
+      → (let a = full (ruler_of s) m l prompt given text at info in Anew (bytes ++ flat_map (bytes_of s) a.calls) a.layout (sight_with given prompt text at info))
+  whole bytes None l prompt given text at info rows =
+      let new = (full (ruler_of s) None l prompt given text at info).layout in
+      drawn_anew bytes l.cursor.row new (sight_with given prompt text at info) (drawing s.columns wide prompt text (info_text info) new.end new.cursor)
+      (calm_both (shown_text s.columns wide prompt text (info_text info)) (move_bytes new.end new.cursor) (calm_texts prompt text (info_text info)) (calm_move new.end new.cursor))
+      (λ before over top good. (let h = fresh_holds s low high before over top (fresh s.mode) good in drawn_holds s low high before over top None (fresh s.mode) no_sight prompt given text at info h.good h.cursor rows))
+  whole bytes (Some m) l prompt given text at info rows =
+      let new = (full (ruler_of s) (Some m) l prompt given text at info).layout in
+      let styles = styles_by m given prompt text at (info_text info) in
+      drawn_anew bytes l.cursor.row new (sight_with given prompt text at info) (painted_drawing s.columns wide styles prompt text (info_text info) new.end new.cursor)
+      (calm_both (painted_shown s.columns wide styles prompt text (info_text info)) (move_bytes new.end new.cursor)
+      (calm_styled styles prompt text (info_text info) (spans_are (m.paints (OfPrompt given) prompt first_mark)) (spans_are (m.paints (OfLine at) text first_mark)) (spans_are (m.paints OfHint (info_text info) first_mark)))
+      (calm_move new.end new.cursor))
+      (λ before over top good. (let h = fresh_holds s low high before over top (fresh s.mode) good in drawn_holds s low high before over top (Some m) (fresh s.mode) no_sight prompt given text at info h.good h.cursor rows))
 
   -- what follows it
   kept_on : (bytes : List ℕ) (l : Layout) (x : Sight) (more : List ℕ) (l' : Layout) (x' : Sight) → Anew bytes l x → calm more ≡ true
@@ -278,27 +349,27 @@ module _ (s : Screen) (low : 2 ≤ s.columns) (high : s.columns ≤ 1000) (own :
       let r = Draws v m (Typed prompt c text at) in
       let printable = (and_parts (is_printable c) (at_plain_end x.line x.place) (let t : TypedFits x prompt c text at = fits.3 in t.typed)).0 in
       kept_on bytes l x (flat_map (bytes_of s) (one (ruler_of s) l r).calls) (one (ruler_of s) l r).layout (sight x r) a
-      (subst (λ t. calm (flat_map (bytes_of s) (if t then typed_short l c else full (ruler_of s) m l prompt true text at None).calls) ≡ true) (sym e) (calm_typed l c printable))
+      (subst (λ t. calm (flat_map (bytes_of s) (if t then typed_short l c else full (ruler_of s) (shown_marks v m) l prompt true text at None).calls) ≡ true) (sym e) (calm_typed l c printable))
       (λ before over top h. step s low high own before over top l x r h fits rows)
   typed_by v bytes m l x prompt c text at false e a fits rows =
-      subst (λ t. (let q = if t then typed_short l c else full (ruler_of s) m l prompt true text at None in Anew (bytes ++ flat_map (bytes_of s) q.calls) q.layout (sight_as prompt text at None))) (sym e) (whole v bytes m l prompt true text at None rows)
+      subst (λ t. (let q = if t then typed_short l c else full (ruler_of s) (shown_marks v m) l prompt true text at None in Anew (bytes ++ flat_map (bytes_of s) q.calls) q.layout (sight_as prompt text at None))) (sym e) (whole bytes (shown_marks v m) l prompt true text at None rows)
 
   taken_by : (v : Value) (bytes : List ℕ) (m : Option Marks) (l : Layout) (x : Sight) (prompt : List ℕ) (count : ℕ) (text : List ℕ) (at : ℕ) (b : Bool) → may_take l count ≡ b
       → (let r = Draws v m (Taken prompt count text at) in Anew bytes l x → Fits own x r → LowStep s x r → After bytes l r x)
   taken_by v bytes m l x prompt count text at true e a fits rows =
       let r = Draws v m (Taken prompt count text at) in
       kept_on bytes l x (flat_map (bytes_of s) (one (ruler_of s) l r).calls) (one (ruler_of s) l r).layout (sight x r) a
-      (subst (λ t. calm (flat_map (bytes_of s) (if t then taken_short l count else full (ruler_of s) m l prompt true text at None).calls) ≡ true) (sym e) (calm_taken l count))
+      (subst (λ t. calm (flat_map (bytes_of s) (if t then taken_short l count else full (ruler_of s) (shown_marks v m) l prompt true text at None).calls) ≡ true) (sym e) (calm_taken l count))
       (λ before over top h. step s low high own before over top l x r h fits rows)
   taken_by v bytes m l x prompt count text at false e a fits rows =
-      subst (λ t. (let q = if t then taken_short l count else full (ruler_of s) m l prompt true text at None in Anew (bytes ++ flat_map (bytes_of s) q.calls) q.layout (sight_as prompt text at None))) (sym e) (whole v bytes m l prompt true text at None rows)
+      subst (λ t. (let q = if t then taken_short l count else full (ruler_of s) (shown_marks v m) l prompt true text at None in Anew (bytes ++ flat_map (bytes_of s) q.calls) q.layout (sight_as prompt text at None))) (sym e) (whole bytes (shown_marks v m) l prompt true text at None rows)
 
   bared_by : (v : Value) (bytes : List ℕ) (m : Option Marks) (l : Layout) (x : Sight) (prompt text : List ℕ) (at : ℕ) (b : Bool) → l.default_prompt ≡ b
       → (let r = Draws v m (Bared prompt text at) in Anew bytes l x → Fits own x r → LowStep s x r → After bytes l r x)
   bared_by v bytes m l x prompt text at true e a fits rows =
       let r = Draws v m (Bared prompt text at) in
       kept_on bytes l x (flat_map (bytes_of s) (one (ruler_of s) l r).calls) (one (ruler_of s) l r).layout (sight x r) a
-      (subst (λ t. calm (flat_map (bytes_of s) (if t then nothing_asked l else full (ruler_of s) m l prompt true text at None).calls) ≡ true) (sym e) refl)
+      (subst (λ t. calm (flat_map (bytes_of s) (if t then nothing_asked l else full (ruler_of s) (shown_marks v m) l prompt true text at None).calls) ≡ true) (sym e) refl)
       (λ before over top h. step s low high own before over top l x r h fits rows)
   bared_by v bytes m l x prompt text at false e a fits rows =
       let h : DisplayHolds s ([] ++ (drawing_start ++ a.later)) [] 0 l x = a.holds [] [] 0 (start_is_empty s low high) in
@@ -306,7 +377,7 @@ module _ (s : Screen) (low : 2 ≤ s.columns) (high : s.columns ≤ 1000) (own :
 
   -- a step with no clearing of the screen
   step_anew : (r : EditStep) (bytes : List ℕ) (l : Layout) (x : Sight) → Anew bytes l x → Fits own x r → LowStep s x r → NotCleared r → After bytes l r x
-  step_anew (Draws v m (Drawn prompt given text at info)) bytes l x a fits rows none = whole v bytes m l prompt given text at info rows
+  step_anew (Draws v m (Drawn prompt given text at info)) bytes l x a fits rows none = whole bytes (shown_marks v m) l prompt given text at info rows
   step_anew (Draws v m (Moved text at)) bytes l x a fits rows none =
       let r = Draws v m (Moved text at) in
       let to = (ruler_of s).measure (take at text) l.prompt_size in
@@ -336,7 +407,7 @@ module _ (s : Screen) (low : 2 ≤ s.columns) (high : s.columns ≤ 1000) (own :
   not_given x b is = true≢false (sym is ∙ b.given)
 
   step_bare : (r : EditStep) (bytes : List ℕ) (l : Layout) (x : Sight) → Bare x → Fits own x r → LowStep s x r → EitherAfter bytes l r x
-  step_bare (Draws v m (Drawn prompt given text at info)) bytes l x b fits rows = inl (whole v bytes m l prompt given text at info rows)
+  step_bare (Draws v m (Drawn prompt given text at info)) bytes l x b fits rows = inl (whole bytes (shown_marks v m) l prompt given text at info rows)
   step_bare (Draws v m (Moved text at)) bytes l x b fits rows = inr (record { given = b.given; prompt = b.prompt })
   step_bare (Draws v m (Typed prompt c text at)) bytes l x b fits rows = absurd (not_given x b fits.0)
   step_bare (Draws v m (Taken prompt count text at)) bytes l x b fits rows = absurd (not_given x b fits.0)

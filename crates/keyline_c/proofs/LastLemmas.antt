@@ -26,7 +26,7 @@ use Rattle.keyline.specs.Sessions.{Given, SessionState, setting_in}
 use Rattle.keyline.specs.Shows.{DisplayHolds, LowAll, MomentShown, bytes_for, face, picture, place_in, view_in}
 use Rattle.keyline.proofs.ShowCourse.{flat_both}
 use Rattle.keyline_c.specs.Laws.{IsOpenAt, LastDrawingsShow, drawing_start, layout_in, last_drawing, seen_in}
-use Rattle.keyline_c.specs.Lines.{line_at_end}
+use Rattle.keyline_c.specs.Lines.{line_at_end, value_first}
 use Rattle.keyline_c.specs.Statuses.{ended_as, is_open}
 use Rattle.keyline_c.specs.Steps.{open_place, open_text}
 use Rattle.keyline_c.specs.declared.line.Left.{Left}
@@ -45,10 +45,10 @@ cut_short f (Err Reader) is = record { error = Reader; is = refl; of_phrase = tt
 cut_short f (Err Handler) is = record { error = Handler; is = refl; of_phrase = tt; quiet = refl }
 cut_short f _ is = cc
 
-open_so : {T : Type 0} (o : Result T ReadlineError) (line : Line) (it : Option Line) → is_open (ended_as o) ≡ true → IsOpen o line it → it ≡ Some line
-open_so (Err Reader) line it is h = h
-open_so (Err Handler) line it is h = h
-open_so _ line it is h = cc
+open_so : {T : Type 0} (o : Result T ReadlineError) (first v : Value) (it : Option Line) → is_open (ended_as o) ≡ true → IsOpen o first v it → it ≡ Some v.line
+open_so (Err Reader) first v it is h = h
+open_so (Err Handler) first v it is h = h
+open_so _ first v it is h = cc
 
 module _ (n : ℕ) (g : Given) (x : SessionState) where
   abbrev s : Screen
@@ -115,7 +115,7 @@ module _ (held : VecSink → List ℕ) where
   is_cut n g x left w = subst CutShort w.reads.outcome_is (cut_short string_bytes left.outcome w.continues)
 
   pub stands_open : (n : ℕ) (g : Given) (x : SessionState) (left : Left) → IsOpenAt held n g x left → left.open_line ≡ Some (line_at_end n g x)
-  stands_open n g x left w = open_so left.outcome (line_at_end n g x) left.open_line w.continues w.reads.line_is
+  stands_open n g x left w = open_so left.outcome (value_first g x) (played_in n g x).rest.value left.open_line w.continues w.reads.line_is
 
   pub last_drawings_show : LastDrawingsShow held
   last_drawings_show n g x left before over top w rest =

@@ -10,7 +10,7 @@ use Rattle.line_editor.specs.Redraws.{fresh, full, moved_by_call, may_take, may_
 use Rattle.line_editor.specs.Redraws.Redraw.{Drawn, Moved, Typed, Taken, Bared, ToEnd, Beeped, Cleared}
 use Rattle.line_editor.specs.Sights.{Sight}
 use Rattle.line_editor.specs.Steps.{one}
-use Rattle.line_editor.specs.Values.{EditStep}
+use Rattle.line_editor.specs.Values.{EditStep, shown_marks}
 use Rattle.line_editor.specs.Values.EditStep.{Draws, Helped, Edits, TakesBack, Takes}
 use Rattle.line_screen.specs.Calls.{Screen, ruler_of}
 use Rattle.line_screen.specs.Chain.{finish_of}
@@ -35,8 +35,8 @@ module _ (s : Screen) where
   moved_counts l to false h = h
 
   typed_counts : (l : Layout) (m : Option Marks) (c : ℕ) (prompt text : List ℕ) (at : ℕ) (b : Bool) → Counts l → Counts (if b then typed_short l c else full (ruler_of s) m l prompt true text at None).layout
-  typed_counts l m c prompt text at true h = h
-  typed_counts l m c prompt text at false h = refl
+  typed_counts l (shown_marks v m) c prompt text at true h = h
+  typed_counts l (shown_marks v m) c prompt text at false h = refl
 
   taken_counts : (l : Layout) (m : Option Marks) (count : ℕ) (prompt text : List ℕ) (at : ℕ) (b : Bool) → Counts l → Counts (if b then taken_short l count else full (ruler_of s) m l prompt true text at None).layout
   taken_counts l m count prompt text at true h = h
@@ -49,9 +49,9 @@ module _ (s : Screen) where
   step_counts : (r : EditStep) (l : Layout) → Counts l → Counts (one (ruler_of s) l r).layout
   step_counts (Draws v m (Drawn prompt given text at info)) l h = refl
   step_counts (Draws v m (Moved text at)) l h = (let to = (ruler_of s).measure (take at text) l.prompt_size in moved_counts l to (same_cell l.cursor to) h)
-  step_counts (Draws v m (Typed prompt c text at)) l h = typed_counts l m c prompt text at (may_type (ruler_of s) l) h
-  step_counts (Draws v m (Taken prompt count text at)) l h = taken_counts l m count prompt text at (may_take l count) h
-  step_counts (Draws v m (Bared prompt text at)) l h = bared_counts l m prompt text at l.default_prompt h
+  step_counts (Draws v m (Typed prompt c text at)) l h = typed_counts l (shown_marks v m) c prompt text at (may_type (ruler_of s) l) h
+  step_counts (Draws v m (Taken prompt count text at)) l h = taken_counts l (shown_marks v m) count prompt text at (may_take l count) h
+  step_counts (Draws v m (Bared prompt text at)) l h = bared_counts l (shown_marks v m) prompt text at l.default_prompt h
   step_counts (Draws v m ToEnd) l h = moved_counts l l.end (same_cell l.cursor l.end) h
   step_counts (Draws v m Beeped) l h = h
   step_counts (Draws v m Cleared) l h = h

@@ -17,7 +17,7 @@ use Rattle.line_editor.specs.Modal.{Modal}
 use Rattle.line_editor.specs.Redraws.{fresh}
 use Rattle.line_editor.specs.Running.{Helping, IsOpen, Runs, kept_first, outcome_of, stage_first}
 use Rattle.line_editor.specs.Steps.{surface}
-use Rattle.line_editor.specs.Values.{Setting, Value}
+use Rattle.line_editor.specs.Values.{Setting, Value, first_value}
 use Rattle.line_editor.specs.States.{reason_of}
 use Rattle.line_editor.specs.declared.running.Ran.{Ran}
 use Rattle.line_help.specs.History.{Filed}
@@ -40,7 +40,7 @@ use Rattle.keyline.specs.declared.options.Options.{Options}
 use Rattle.keyline.specs.Events.{Breaks, Event, asks_events, bytes_drawn, end_events, line_course, played_in}
 use Rattle.keyline.specs.Sessions.{coming_from, Given, SessionState, given_of, history_after, setting_in, state_over}
 use Rattle.keyline.proofs.EventLemmas.{Whole, line_went, went_not}
-use Rattle.keyline_c.specs.Lines.{Ends, IsWant, LeftBy, ReadsLine, breaks, given_with, line_at_end}
+use Rattle.keyline_c.specs.Lines.{Ends, IsWant, LeftBy, ReadsLine, breaks, given_with}
 use Rattle.keyline_c.specs.declared.line.Left.{Left}
 
 wanting : (failed : Bool) (hook : Type 0) (e : ReadlineError) → reason_of failed hook e → IsWant e
@@ -85,15 +85,15 @@ module _ {H K T : Type 0} (held waits : VecSink → List ℕ) (failed : VecSink 
     abbrev LineWhole : ℕ → LineStage (ScreenRenderer VecSink) → Type 0
     LineWhole n y = Whole held unwritten true (tt {0}) history waits failed (screen_of old) setting config.indent_size (line_script n custom) first y (outcome_of ran)
 
-    line_left : (n : ℕ) (value : Value) (input : Input) (modal : Modal) → IsOpen ran.outcome value.line ran.open_line → (played_in n given state).rest ≡ kept value input ring' modal feed'.coming
-        → IsOpen left.outcome (line_at_end n given state) left.open_line
+    line_left : (n : ℕ) (value : Value) (input : Input) (modal : Modal) → IsOpen ran.outcome (first_value setting) value ran.open_line → (played_in n given state).rest ≡ kept value input ring' modal feed'.coming
+        → IsOpen left.outcome (first_value setting) (played_in n given state).rest.value left.open_line
     line_left n value input modal standing rest =
-        subst (λ (k : LineState). IsOpen left.outcome k.value.line left.open_line) (sym rest)
-        (subst (λ (o : Result (String Global) ReadlineError). IsOpen o value.line left.open_line) (sym outcome_is)
-        (subst (λ (l : Option Line). IsOpen ran.outcome value.line l) (sym open_is) standing))
+        subst (λ (k : LineState). IsOpen left.outcome (first_value setting) k.value left.open_line) (sym rest)
+        (subst (λ (o : Result (String Global) ReadlineError). IsOpen o (first_value setting) value left.open_line) (sym outcome_is)
+        (subst (λ (l : Option Line). IsOpen ran.outcome (first_value setting) value l) (sym open_is) standing))
 
-    left_whole : (n : ℕ) (value : Value) (input : Input) (modal : Modal) (layout : Layout) → IsOpen ran.outcome value.line ran.open_line → LineWhole n (line_stage (surface ran.out layout) (kept value input ring' modal feed'.coming))
-        → LeftBy held (line_course n given state) (line_at_end n given state) left
+    left_whole : (n : ℕ) (value : Value) (input : Input) (modal : Modal) (layout : Layout) → IsOpen ran.outcome (first_value setting) value ran.open_line → LineWhole n (line_stage (surface ran.out layout) (kept value input ring' modal feed'.coming))
+        → LeftBy held (line_course n given state) (first_value setting) (played_in n given state).rest.value left
     left_whole n value input modal layout standing w =
         let c = line_course n given state in
         let o = c.answer.0 in
@@ -134,7 +134,7 @@ pub line_read : {K T : Type 0} (held waits : VecSink → List ℕ) (failed : Vec
     (helper : Option EditHelper) (old : ScreenRenderer VecSink) (display : VecSink) (ring ring' : Ring) (query query' : List ℕ) (history history' : Filed) (feed feed' : KeyFeed) (ran : Ran (ScreenRenderer VecSink) EditHelper K T) (F : SliceSource → Feed) (reader : KeyReader SliceSource) (left : Left)
     → Runs (canvas_of held waits failed) edit_helping custom prompt helper history.kept.entries config old ring query feed ran ring' query' feed' → IsTrue feed'.told
     → Ends held (outcome_of ran) (sink_of ran.out) display history history' → held (sink_of old) ≡ []
-    → config.auto_add_history ≡ true → custom ≡ bound_to → prompt ≡ string_bytes options.prompt → helper ≡ helper_of options words
+    → config.auto_add_history ≡ true → custom ≡ bound_to → prompt ≡ string_bytes options.prompt → helper ≡ helper_of config options words
     → screen_of old ≡ record { columns = options.columns; mode = config.grapheme_cluster_mode; bell = config.bell_style; colours = config.draw_colours }
     → feed.coming ≡ coming_from options.mode keys last → feed.bound ≡ length keys
     → query ≡ [] → left.outcome ≡ ran.outcome → left.open_line ≡ ran.open_line → left.display ≡ display → left.ring ≡ ring' → left.history ≡ history'

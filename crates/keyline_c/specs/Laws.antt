@@ -29,7 +29,7 @@ use Rattle.keyline.specs.Pasting.{IsPasteable, sent_as_paste}
 use Rattle.keyline.specs.SessionLaws.{steps_in}
 use Rattle.keyline.specs.Sessions.{Given, SessionState, coming_from}
 use Rattle.keyline.specs.Shows.{IsAtRest, IsScreen, LowAll, MomentShown, drawn_by, face}
-use Rattle.keyline_c.specs.Lines.{LeftBy, line_at_end}
+use Rattle.keyline_c.specs.Lines.{LeftBy, value_first}
 use Rattle.keyline_c.specs.Statuses.{ended_as, is_open}
 use Rattle.keyline_c.specs.Steps.{open_place, open_text}
 use Rattle.keyline_c.specs.declared.line.Left.{Left}
@@ -62,7 +62,7 @@ layout_in n g x = (drawn_by g.screen (fresh g.screen.mode) (steps_in n g x)).lay
 module _ (held : VecSink → List ℕ) where
   -- a line continues, and everything shown is within the rows that can be counted
   pub record IsOpenAt (n : ℕ) (g : Given) (x : SessionState) (left : Left) : Type 0 where
-    pub reads : LeftBy held (line_course n g x) (line_at_end n g x) left
+    pub reads : LeftBy held (line_course n g x) (value_first g x) (played_in n g x).rest.value left
     pub continues : is_open (ended_as left.outcome) ≡ true
     pub low : LowAll g.screen no_sight (steps_in n g x)
 

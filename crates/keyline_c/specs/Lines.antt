@@ -10,6 +10,7 @@ use Rattle.line_config.specs.declared.errors.ReadlineError.TheVariants.{Display,
 use Rattle.line_config.specs.declared.memory.VecSink.{VecSink}
 use Rattle.line_editor.specs.Courses.{breaks_after}
 use Rattle.line_editor.specs.Running.{IsOpen}
+use Rattle.line_editor.specs.Values.{Value, first_value}
 use Rattle.line_help.specs.History.{Filed}
 use Rattle.line_keys.specs.Answers.{Custom}
 use Rattle.line_keys.specs.Coming.{made_of, unread}
@@ -18,7 +19,7 @@ use Rattle.line_screen.specs.Drawing.{break_if}
 use Rattle.keyline.specs.Program.{config_of, edit_helping, helper_of}
 use Rattle.keyline.specs.Plays.{loaded_from}
 use Rattle.keyline.specs.Events.{Course, bytes_drawn, line_course, played_in}
-use Rattle.keyline.specs.Sessions.{Given, SessionState, given_of, history_after, screen_by, state_over}
+use Rattle.keyline.specs.Sessions.{Given, SessionState, given_of, history_after, screen_by, setting_in, state_over}
 use Rattle.keyline.specs.declared.options.Options.{Options}
 use Rattle.keyline_c.specs.Asks.{AreAsked, asking_by}
 use Rattle.keyline_c.specs.Meant.{AreMeant, AreValid, settings_by, whole, words_in}
@@ -39,19 +40,23 @@ IsWant e = (e ≡ Memory) ⊎ ((e ≡ Display) ⊎ (e ≡ Helper))
 -- what is passed in for a line with these settings, bindings, options and words
 abbrev pub given_with : Config → Custom → Options → Option (List (List ℕ)) → Given
 given_with config custom options words = given_of config custom (string_bytes options.prompt)
-    (screen_by config options.columns) (edit_helping (helper_of options words))
+    (screen_by config options.columns) (edit_helping (helper_of config options words))
 
 -- the line as it stands at its end, or where the keys end
 abbrev pub line_at_end : ℕ → Given → SessionState → Line
 line_at_end n g x = (played_in n g x).rest.value.line
 
+-- the value at which it begins
+abbrev pub value_first : Given → SessionState → Value
+value_first g x = first_value (setting_in g x.history.kept.entries)
+
 -- if memory didn't run out, the result is the line's, and so many bytes are unread after it. A line
 -- that isn't accepted is returned as it stands
 pub record LeftBy (held : VecSink → List ℕ)
-    (line : Course (Result (List ℕ) ReadlineError × SessionState)) (standing : Line) (left : Left)
-    : Type 0 where
+    (line : Course (Result (List ℕ) ReadlineError × SessionState)) (first standing : Value)
+    (left : Left) : Type 0 where
   pub outcome_is : made_of string_bytes left.outcome ≡ line.answer.0
-  pub line_is : IsOpen left.outcome standing left.open_line
+  pub line_is : IsOpen left.outcome first standing left.open_line
   pub drawn : held left.display ≡ flat_map bytes_drawn line.events
   pub ring_is : left.ring ≡ line.answer.1.ring
   pub history_is : left.history ≡ line.answer.1.history
@@ -60,7 +65,8 @@ pub record LeftBy (held : VecSink → List ℕ)
 -- the relation of a line. More fuel than the source has bytes is enough
 pub record ReadsLine (held : VecSink → List ℕ) (g : Given) (x : SessionState) (bound : ℕ)
     (left : Left) : Type 0 where
-  pub goes : (n : ℕ) → bound < n → LeftBy held (line_course n g x) (line_at_end n g x) left
+  pub goes : (n : ℕ) → bound < n →
+      LeftBy held (line_course n g x) (value_first g x) (played_in n g x).rest.value left
       ⊎ IsErrAnd left.outcome IsWant
 
 -- after an accepted line, and after the endings that say so, the display gets a new row

@@ -154,7 +154,7 @@ pub(crate) fn read_line<'k>(
     let mut last_query = String::new(alloc);
     let mut reader = KeyReader::new(source_of(keys, ended), options.mode);
     let out = screen(alloc, options, config);
-    let helper = helper_of(options, words);
+    let helper = helper_of(config, options, words);
     let prompt = options.prompt.as_str();
     let Ran {
         mut out,

@@ -8,11 +8,13 @@ ghost use Rattle.line_config.specs.Feed.{fresh_feed};
 ghost use Rattle.line_config.specs.declared.device.Last.TheVariants.{End};
 ghost use Rattle.keyline.specs.Known.{known_by};
 ghost use Rattle.keyline.specs.Plays.{LoadRefused};
-ghost use Rattle.keyline.specs.Program.{PlaysOver, invoked_config, word_texts};
+ghost use Rattle.line_config.specs.declared.config.Config.{Config};
+ghost use Rattle.keyline.specs.Program.{IsByEnvironment, PlaysOver, invoked_config, word_texts};
 
 use keyline::{
     Ended, Ending, Foretold, Invocation, Invoked, Options, ReadlineError, Sink, SliceSource,
-    Source, StandardKeys, Unopened, VecSink, WriteSink, invoked_config, load_words, play_with,
+    Source, StandardKeys, Unopened, VecSink, WriteSink, by_environment, invoked_config, load_words,
+    play_with,
 };
 use keyline_files::{load_history, read_file, save_history};
 use std::env;
@@ -113,7 +115,7 @@ type NotPlayed<'a, K> = Unopened<
 
 /// The session. For all bytes that `K` may say of standard input and that agree with what its reads
 /// gave, the writes of standard output and standard error took the lines and the display bytes of
-/// the session of these bytes.
+/// the session of these bytes, by the invocation's settings, or by the same without colours.
 fn play<'a, K: Foretold<StdinLock<'static>>>(
     rt: &HostRuntime,
     invocation: &Invocation,
@@ -127,8 +129,9 @@ fn play<'a, K: Foretold<StdinLock<'static>>>(
         ⟦<WriteSink<Stderr> as Sink>⟧.has_failed
         ⟦<WriteSink<Stdout> as Sink>⟧.held ⟦<WriteSink<Stdout> as Sink>⟧.waits
         ⟦<WriteSink<Stdout> as Sink>⟧.has_failed in
-        IfOk result (λ played. (keys : LockedStdin) × PlaysOver known
-        ⟦<VecSink as Sink>⟧.held ⟦<VecSink as Sink>⟧.has_failed (invoked_config invocation.now)
+        IfOk result (λ played. (keys : LockedStdin) × (config : Config)
+        × IsByEnvironment (invoked_config invocation.now) config × PlaysOver known
+        ⟦<VecSink as Sink>⟧.held ⟦<VecSink as Sink>⟧.has_failed config
         invocation.now.options (word_texts words) [] [] old.entry.now (K.left keys []) K.last played) }
     ensures refused { IfErr result (λ unopened. LoadRefused (invoked_config invocation.now)
         (fresh_feed old.entry.now End) (⟦<SliceSource<'a> as Source>⟧.feed unopened.history)
@@ -136,7 +139,7 @@ fn play<'a, K: Foretold<StdinLock<'static>>>(
 {
     play_with::<K, _, _, _>(
         rt.alloc(),
-        invoked_config(invocation),
+        by_environment(rt, invoked_config(invocation)),
         &invocation.options,
         words,
         old,

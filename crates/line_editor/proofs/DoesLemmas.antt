@@ -1,9 +1,8 @@
 -- One edit, then another.
-use Rattle.std.proofs.Common.{◌≡◌, Bool, List, [], ◌∷◌, ◌++◌, refl, sym, ap, subst, ◌∙◌, if◌then◌else◌, Option, None, option_map}
+use Rattle.std.proofs.Common.{◌≡◌, List, [], ◌∷◌, ◌++◌, refl, sym, ap, subst, ◌∙◌, if◌then◌else◌, Option, None, option_map}
 use Rattle.std.specs.Prelude.{⊤, ℕ, Result, Ok, Err, OnOk, IfErr, IsErrAnd}
 use Rattle.std.proofs.lemmas.Result.{on_ok_weaker}
 use Rattle.line_buffer.specs.Cells.{origin}
-use Rattle.line_keys.specs.declared.command.CmdKind.{CmdKind}
 use Rattle.std.specs.List.{FoldsTo}
 use Rattle.line_config.specs.declared.errors.ReadlineError.{ReadlineError}
 use Rattle.line_config.specs.declared.errors.ReadlineError.TheVariants.{Display}

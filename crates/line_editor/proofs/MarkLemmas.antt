@@ -1,5 +1,5 @@
--- A drawing behind the highlighter's answer, whose mark it shows.
-use Rattle.std.proofs.Common.{◌≡◌, Bool, true, false, ◌||◌, List, ℕ, refl, sym, ap, subst, ◌∙◌, if◌then◌else◌}
+-- A drawing after the highlighter was called: it shows the new mark.
+use Rattle.std.proofs.Common.{◌≡◌, Bool, true, false, ◌||◌, ℕ, refl, sym, ap, ◌∙◌, if◌then◌else◌}
 use Rattle.std.specs.Prelude.{Option, Some, None, is_some, Result}
 use Rattle.line_config.specs.declared.errors.ReadlineError.{ReadlineError}
 use Rattle.line_help.specs.declared.completion as completions
@@ -13,11 +13,10 @@ use Rattle.line_buffer.specs.Line.{Line, moved_to}
 use Rattle.line_editor.specs.Accepting.{bare, bared}
 use Rattle.line_editor.specs.Moving.{cursor_moved_if}
 use Rattle.line_editor.specs.Drawing.{drawn_with, cursor_moved}
-use Rattle.line_editor.specs.Redraws.{Redraw}
 use Rattle.line_editor.specs.Redraws.Redraw.{Drawn, Moved, Bared}
 use Rattle.line_editor.specs.States.{value_of, setting_of, surface_of, Stays, Does}
 use Rattle.line_editor.specs.Steps.{surface}
-use Rattle.line_editor.specs.Values.{at_line, unchanged, Setting, Value, Effect, Transition, redrawn, with_mark, without_hint}
+use Rattle.line_editor.specs.Values.{at_line, unchanged, Setting, Value, Transition, redrawn, with_mark, without_hint}
 use Rattle.line_editor.specs.declared.renderer as renderers
 use Rattle.line_editor.specs.declared.state.State.{State}
 use Rattle.line_editor.proofs.DoesLemmas.{does_from, setting_stays}
@@ -33,7 +32,7 @@ module _ {Out H Hi K T : Type 0} {renderer : renderers.Renderer.Ghosts Out} {com
       (ap (λ o. surface o m.layout) out ∙ ap (surface s.out) layout)
       stays h
 
-  -- behind a hint that was dropped
+  -- after a hint was dropped
   pub marked_from : {A : Type 0} (edit other : Transition) (kind : CmdKind) (s0 s m t : State Out H Hi K T renderer completer candidate hinter hint highlighter validator history) (result : Result A ReadlineError)
       → value_of s ≡ without_hint (value_of s0) → setting_of s ≡ setting_of s0 → surface_of s ≡ surface_of s0 → Stays s0 s
       → value_of m ≡ with_mark kind (setting_of s) (value_of s) → m.out ≡ s.out → m.layout ≡ s.layout → Stays s m
@@ -44,7 +43,7 @@ module _ {Out H Hi K T : Type 0} {renderer : renderers.Renderer.Ghosts Out} {com
       (ap (λ (a : Setting). marked a (value_of s)) same ∙ ap (marked (setting_of s0)) dropped ∙ is) looks kept
       (marked_does edit marked kind s m t result value out layout stays refl h)
 
-  -- the cursor moved where something is marked, or was
+  -- the cursor moved, and something is marked, or was
   pub moved_marked : {A : Type 0} (kind : CmdKind) (s m t : State Out H Hi K T renderer completer candidate hinter hint highlighter validator history) (result : Result A ReadlineError)
       → value_of m ≡ with_mark kind (setting_of s) (value_of s) → m.out ≡ s.out → m.layout ≡ s.layout → Stays s m
       → (s.highlight_char || m.highlight_char) ≡ true → Does (drawn_with None) m t result → Does (cursor_moved kind) s t result
@@ -54,7 +53,7 @@ module _ {Out H Hi K T : Type 0} {renderer : renderers.Renderer.Ghosts Out} {com
       marked_does (drawn_with None) (cursor_moved kind) kind s m t result value out layout stays
       (ap (λ b. redrawn (if b then Drawn s.prompt.now true w.line.text w.line.place None else Moved w.line.text w.line.place) (setting_of s) w) (sym cond)) h
 
-  -- a line that is to be accepted: drawn, or as it stands
+  -- a line that is to be accepted: drawn, or left as it is
   bare_if : (s m : State Out H Hi K T renderer completer candidate hinter hint highlighter validator history) (b : Bool) → value_of m ≡ with_mark ForcedRefresh (setting_of s) (without_hint (value_of s)) → (is_some (value_of s).hint || (s.highlight_char || m.highlight_char)) ≡ b
       → (let w = bared (value_of s) (setting_of s) in redrawn (if b then Drawn s.prompt.now true w.line.text w.line.place None else Bared s.prompt.now w.line.text w.line.place) (setting_of s) w ≡ bare (setting_of s) (value_of s))
   bare_if s m b value is =

@@ -1,7 +1,6 @@
 -- A whole line.
 use Rattle.std.proofs.Common.{◌≡◌, inl, inr, ℕ, ◌<◌, Bool, List, refl, sym, ap, subst, ◌∙◌, IsTrue, le_refl}
 use Rattle.std.specs.Prelude.{Option, Some, None, option_map, Result, Ok, Err, length, string_bytes, IfErr, OnOk}
-use Rattle.line_buffer.specs.Line.{Line}
 use Rattle.line_config.specs.Scripts.{Goes}
 use Rattle.line_config.specs.declared.config.Config.{Config}
 use Rattle.line_config.specs.declared.errors.ReadlineError.{ReadlineError}
@@ -26,7 +25,7 @@ use Rattle.line_editor.specs.Modal.{Modal, modal_first}
 use Rattle.line_editor.specs.States.{hooks_of, value_of, setting_of, Stays, Starts}
 use Rattle.line_editor.specs.Steps.{surface}
 use Rattle.line_editor.specs.Turning.{cause_of, Cause, Takes, stage_of, world_of}
-use Rattle.line_editor.specs.Values.{Setting, Hooks, IsFailing, empty_at, first_value}
+use Rattle.line_editor.specs.Values.{Value, Setting, Hooks, IsFailing, empty_at, first_value}
 use Rattle.line_editor.specs.declared.running.Ran.{Ran}
 use Rattle.line_editor.specs.declared.renderer as renderers
 use Rattle.line_editor.specs.declared.state.State.{State}
@@ -52,7 +51,7 @@ not_begun canvas helps custom prompt helper entries config out ring query feed =
   told = λ told. told;
   keeps = le_refl feed.bound;
   falls = tt;
-  line_is = tt;
+  line_is = inr (refl, refl);
   helper_stays = λ told. refl;
   ruler_stays = λ told. refl;
   reason = tt;
@@ -77,12 +76,12 @@ same_fall P f (Ok x) (Ok y) is h = h
 same_fall P f (Ok x) (Err e) is h = ok_not_err (f x) e is
 
 -- a line that isn't accepted is the one that stands
-line_left : {A X : Type 0} (f : X → List ℕ) (o : Result X ReadlineError) (read : Result A ReadlineError) (text : List ℕ) (line : Line) → made_of f o ≡ text_or read text → IsOpen o line (open_or read line)
-line_left f (Ok x) (Ok y) text line is = refl
-line_left f (Ok x) (Err e) text line is = ok_not_err (f x) e is
-line_left f (Err e) (Ok y) text line is = ok_not_err text e (sym is)
-line_left f (Err Memory) (Err e) text line is = refl
-line_left f (Err _) (Err e) text line is = refl
+line_left : {A X : Type 0} (f : X → List ℕ) (o : Result X ReadlineError) (read : Result A ReadlineError) (text : List ℕ) (first v : Value) → made_of f o ≡ text_or read text → IsOpen o first v (open_or read v.line)
+line_left f (Ok x) (Ok y) text first v is = refl
+line_left f (Ok x) (Err e) text first v is = ok_not_err (f x) e is
+line_left f (Err e) (Ok y) text first v is = ok_not_err text e (sym is)
+line_left f (Err Memory) (Err e) text first v is = inl refl
+line_left f (Err _) (Err e) text first v is = refl
 
 -- ---- causes
 
@@ -168,7 +167,7 @@ module _ {Out H Hi K T : Type 0} {renderer : renderers.Renderer.Ghosts Out} {com
       told = reads.told;
       keeps = reads.keeps;
       falls = same_fall (feed'.bound < feed.bound) string_bytes ran.outcome (text_or result t.recorded.line.text) outcome_is reads.falls;
-      line_is = subst (IsOpen ran.outcome t.recorded.line) (sym line_is) (line_left string_bytes ran.outcome result t.recorded.line.text t.recorded.line outcome_is);
+      line_is = subst (IsOpen ran.outcome (first_value setting) (value_of t)) (sym line_is) (line_left string_bytes ran.outcome result t.recorded.line.text (first_value setting) (value_of t) outcome_is);
       helper_stays = λ told. helper_same_as (reads.stays told);
       ruler_stays = λ told. ap renderer.canvas.ruler out_is ∙ (reads.stays told).ruler ∙ ap renderer.canvas.ruler starts.out_is;
       reason = same_reason string_bytes ran.outcome (text_or result t.recorded.line.text) (Cause custom t feed')

@@ -10,7 +10,7 @@ use Rattle.line_config.specs.declared.errors.ReadlineError.TheVariants.{Display,
 use Rattle.line_keys.specs.Feeds.{InputItem, Paste, IsReadFault}
 use Rattle.line_keys.specs.Phrases.{steps, Reads}
 use Rattle.line_editor.specs.Calls.{Canvas, Ruler, MadeIn}
-use Rattle.line_editor.specs.LineScripts.{LineAsk, LineAnswer, LineScript, Keys, LineState, kept, effect_at, answer_at, left_at, line_plan, steps_along, played_from, LineStage, DrawnBy, Stopped, line_world}
+use Rattle.line_editor.specs.LineScripts.{LineAsk, LineAnswer, LineScript, Keys, LineState, effect_at, answer_at, left_at, line_plan, steps_along, played_from, LineStage, DrawnBy, Stopped, line_world}
 use Rattle.line_editor.specs.Redraws.{Asked}
 use Rattle.line_editor.specs.States.{reason_of}
 use Rattle.line_editor.specs.Steps.{asked, Surface, Unhelped, StepCut, Stops}

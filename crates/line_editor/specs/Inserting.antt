@@ -3,7 +3,7 @@ use Rattle.std.specs.Prelude.{ℕ, ◌==◌, ◌&&◌, not, Bool, if◌then◌el
 use Rattle.line_buffer.specs.Clusters.{place_forward}
 use Rattle.line_buffer.specs.Insertions.{insert as insertion}
 use Rattle.line_edits.specs.Edits.{typing, putting_behind, replacing_if_any, overwriting, by}
-use Rattle.line_buffer.specs.Printable.{typed_at_plain_end, is_plain}
+use Rattle.line_buffer.specs.Printable.{typed_at_plain_end}
 use Rattle.line_editor.specs.Drawing.{drawn, asked_anew, refreshed, refreshed_if}
 use Rattle.line_editor.specs.Redraws.Redraw.{Typed}
 use Rattle.line_editor.specs.Values.{Value, Transition, unchanged, then_do, redrawn, rewritten, rewriting}

@@ -6,7 +6,7 @@ use Rattle.line_buffer.specs.declared.types.Mode.TheVariants.{Append}
 use Rattle.line_buffer.specs.declared.types.Movement.{Movement}
 use Rattle.line_record.specs.Ring.{Ring, ring_all, killed}
 use Rattle.line_edits.specs.Edits.{killing, by}
-use Rattle.line_buffer.specs.Printable.{is_printable, at_plain_end, is_plain}
+use Rattle.line_buffer.specs.Printable.{is_printable, at_plain_end}
 use Rattle.line_editor.specs.Drawing.{drawn, asked_anew}
 use Rattle.line_editor.specs.Inserting.{is_bare, insert_text}
 use Rattle.line_editor.specs.Redraws.Redraw.{Taken}

@@ -1,5 +1,5 @@
 -- The drawings of commands lead from the sight of the value before to that of the value after.
-use Rattle.std.specs.Prelude.{◌≡◌, ⊤, ℕ, Bool, true, false, List, [], ◌∷◌, Option, Result, Ok, Err, IsUtf8, IsCharBoundary}
+use Rattle.std.specs.Prelude.{◌≡◌, ⊤, ℕ, true, false, List, [], ◌∷◌, Option, Result, Ok, Err, IsUtf8, IsCharBoundary}
 use Rattle.line_config.specs.declared.config.Config.{Config}
 use Rattle.line_config.specs.declared.errors.ReadlineError.{ReadlineError}
 use Rattle.line_keys.specs.Refreshing.{Ask}

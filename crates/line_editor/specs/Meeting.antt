@@ -1,5 +1,5 @@
 -- What becomes of a command before it is done, by what stands, and what is to be seen then.
-use Rattle.std.specs.Prelude.{◌≡◌, ℕ, ◌==◌, ◌&&◌, Bool, true, false, List, length, Option}
+use Rattle.std.specs.Prelude.{◌≡◌, ℕ, ◌==◌, ◌&&◌, true, false, List, length, Option}
 use Rattle.line_help.specs.declared.search.SearchDirection.TheVariants.{Forward, Reverse}
 use Rattle.line_keys.specs.declared.command.Cmd.{Cmd}
 use Rattle.line_editor.specs.Candidates.{tab, cycle}

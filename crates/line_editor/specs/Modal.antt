@@ -1,5 +1,5 @@
 -- What stands between the commands of a line, and what it makes of one before it is done.
-use Rattle.std.specs.Prelude.{ℕ, Bool, true, false, List, [], string_bytes}
+use Rattle.std.specs.Prelude.{ℕ, Bool, true, false, List, [], Result, Ok, Err, string_bytes}
 use Rattle.line_config.specs.declared.config.Config.{Config}
 use Rattle.line_config.specs.declared.settings.CompletionType.{CompletionType}
 use Rattle.line_help.specs.declared.search.SearchDirection.{SearchDirection}
@@ -128,3 +128,8 @@ next_of Same cmd = cmd
 next_of Earlier cmd = HistorySearchBackward
 next_of Later cmd = HistorySearchForward
 next_of Own cmd = EndOfHistory
+
+-- the command to be done, if the call succeeded; its error, if it failed
+abbrev pub answered_by : {A E : Type 0} → Result A E → Cmd → Result Cmd E
+answered_by (Ok x) cmd = Ok cmd
+answered_by (Err e) cmd = Err e

@@ -1,5 +1,5 @@
 -- Up and Down through the entries that begin with the line.
-use Rattle.std.specs.Prelude.{ℕ, ◌+◌, ◌-◌, ◌==◌, ◌&&◌, not, Bool, true, false, if◌then◌else◌, List, [], take, length, Option, Some, None}
+use Rattle.std.specs.Prelude.{◌+◌, ◌-◌, ◌==◌, ◌&&◌, not, Bool, true, false, if◌then◌else◌, take, length, Option, Some, None}
 use Rattle.std.specs.List.{list_any}
 use Rattle.line_buffer.specs.Line.{Line}
 use Rattle.line_help.specs.Search.{Hit, searched}

@@ -1,5 +1,5 @@
 -- A whole line: what is passed in for it, what is returned, and what was read and drawn.
-use Rattle.std.specs.Prelude.{◌≡◌, ⊤, ℕ, ◌<◌, ◌≤◌, Bool, List, Option, Some, None, option_map, Result, Ok, Err, string_bytes, if◌then◌else◌, IsTrue, IfErr, IfSome, OnOk}
+use Rattle.std.specs.Prelude.{◌≡◌, ◌⊎◌, ⊤, ℕ, ◌<◌, ◌≤◌, List, Option, Some, None, option_map, Result, Ok, Err, string_bytes, if◌then◌else◌, IsTrue, IfErr, OnOk}
 use Rattle.line_buffer.specs.Cells.{origin}
 use Rattle.line_buffer.specs.Line.{Line}
 use Rattle.line_buffer.specs.declared.layout.Layout.{Layout}
@@ -80,11 +80,12 @@ abbrev pub open_or : {A : Type 0} → Result A ReadlineError → Line → Option
 open_or (Ok x) line = None
 open_or (Err e) line = Some line
 
--- a line that isn't accepted is returned as it stands, or there was no memory for one
-abbrev pub IsOpen : {A : Type 0} → Result A ReadlineError → Line → Option Line → Type 0
-IsOpen (Ok x) line it = it ≡ None
-IsOpen (Err Memory) line it = IfSome it (λ x. x ≡ line)
-IsOpen (Err e) line it = it ≡ Some line
+-- a line that isn't accepted is returned as it stands. There is none if no memory was available for
+-- it: its value is the first one
+abbrev pub IsOpen : {A : Type 0} → Result A ReadlineError → Value → Value → Option Line → Type 0
+IsOpen (Ok x) first v it = it ≡ None
+IsOpen (Err Memory) first v it = (it ≡ Some v.line) ⊎ ((it ≡ None) × (v ≡ first))
+IsOpen (Err e) first v it = it ≡ Some v.line
 
 abbrev pub outcome_of : {R H K T : Type 0} → Ran R H K T → Result (List ℕ) ReadlineError
 outcome_of ran = made_of string_bytes ran.outcome
@@ -112,7 +113,9 @@ pub record Runs {R H K T : Type 0} (canvas : Canvas R) (helps : Option H → Hel
   pub told : IsTrue feed'.told → IsTrue feed.told
   pub keeps : feed'.bound ≤ feed.bound
   pub falls : OnOk ran.outcome (feed'.bound < feed.bound)
-  pub line_is : IsOpen ran.outcome value.line ran.open_line
+  pub line_is :
+      let setting = setting_by (canvas.ruler out) prompt (helps helper) entries in
+      IsOpen ran.outcome (first_value setting) value ran.open_line
   -- the helper's replies and the measures stay
   pub helper_stays : IsTrue feed'.told → helps ran.helper ≡ helps helper
   pub ruler_stays : IsTrue feed'.told → canvas.ruler ran.out ≡ canvas.ruler out

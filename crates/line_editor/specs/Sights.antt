@@ -1,7 +1,7 @@
 -- What steps show, without a screen.
 use Rattle.std.specs.Prelude.{◌≡◌, ⊤, ℕ, ◌+◌, Bool, true, false, List, [], ◌∷◌, ◌++◌, length, Option, None}
 use Rattle.std.specs.List.{list_all}
-use Rattle.line_buffer.specs.Printable.{is_printable, at_plain_end, typed_at_plain_end, is_plain}
+use Rattle.line_buffer.specs.Printable.{is_printable, at_plain_end, typed_at_plain_end}
 use Rattle.line_editor.specs.Redraws.{Redraw}
 use Rattle.line_editor.specs.Redraws.Redraw.{Drawn, Moved, Typed, Taken, Bared, ToEnd, Beeped, Cleared}
 use Rattle.line_editor.specs.Values.{Value, Setting, EditStep}

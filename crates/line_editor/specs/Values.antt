@@ -67,7 +67,7 @@ pub record Setting : Type 0 where
   -- of the display
   pub column : ℕ
   pub mode : GraphemeClusterMode
-  -- of the helper, if there is one; highlighted characters only if the display has colours
+  -- of the helper, if there is one; what it highlights only if the display has colours
   pub hooks : Option Hooks
   pub marks : Option Marks
   -- the history, oldest first
@@ -97,8 +97,8 @@ pub record Effect : Type 0 where
 abbrev pub Transition : Type 0
 Transition = Setting → Value → Effect
 
--- of a highlighter's styles those that a drawing has: the line's own only where the line is marked,
--- and a message's in the place of a hint's where one is told
+-- what a drawing takes of a highlighter's styles: those of the line only if it is marked, and those of
+-- a message in place of a hint's if a message is drawn
 abbrev pub seen_paints : Bool → Bool → (Part → List ℕ → Mark → List Span) → Part → List ℕ → Mark
     → List Span
 seen_paints marked told paints (OfLine pos) text from =
@@ -116,7 +116,7 @@ seen_marks marked told m = record {
 abbrev pub seen : Bool → Bool → Option Marks → Option Marks
 seen marked told marks = option_map (seen_marks marked told) marks
 
--- those that the drawing of a value has: what stands after a line without a hint is a message
+-- what the drawing of a value takes of them: a text after a line without a hint is a message
 abbrev pub shown_marks : Value → Option Marks → Option Marks
 shown_marks v marks = seen v.marked (not (is_some v.hint)) marks
 

@@ -74,7 +74,7 @@ fn may_take(layout: &Layout, count: usize) -> bool
     !layout.has_info && layout.cursor.row == layout.end.row && count <= usize::from(layout.end.col)
 }
 
-/// Whether a text after the line is a message: no hint is kept.
+/// Whether a text after the line is a message: there is no hint.
 fn tells<T: Hint>(hint: &Option<T>) -> bool
     ensures { result ≡ not (is_some (option_map T.says hint.now)) }
 {

@@ -1,8 +1,8 @@
 //! A command that may be taken before it is done.
-ghost use Rattle.std.specs.Prelude.{◌≡◌, OnOk, IsCharBoundary, IsTrue, length, ◌==◌, Some, Ok};
+ghost use Rattle.std.specs.Prelude.{◌≡◌, ◌⊎◌, OnOk, string_bytes, IsCharBoundary, IsTrue, length, ◌==◌, Some, Ok};
 ghost use Rattle.line_help.specs.Search.{Finds};
 ghost use Rattle.line_editor.specs.declared.modal_state.Standing.TheVariants.{Searches};
-ghost use Rattle.line_editor.specs.Modal.{modal_of, rested};
+ghost use Rattle.line_editor.specs.Modal.{modal_of, rested, answered_by};
 ghost use Rattle.line_editor.specs.Searching.{hit_back, hit_put, search_drawn, look, looked, sought, is_place, placed, placing, given_up, begin_search, begun_if, begun_at, queried, emptied, emptied_effect};
 
 use crate::modal_state::{Act, ModalState, Next, Standing, Wish, act_of, dir_again, wish_of};
@@ -122,6 +122,7 @@ impl<'p, 'h, Out: Renderer, H: Helper + Drop, Hi: History> State<'p, 'h, Out, H,
         ensures modal { OnOk result (modal_of modal.new
             ≡ looked dir (sought (modal_of modal.old).query dir from
             (setting_of self.old).entries) (modal_of modal.old)) }
+        ensures query { modal.new.query ≡ modal.old.query }
     {
         let history = self.ctx.history();
         let found = sought(history, modal.query.as_str(), dir, from);
@@ -159,8 +160,10 @@ impl<'p, 'h, Out: Renderer, H: Helper + Drop, Hi: History> State<'p, 'h, Out, H,
         ensures modal { OnOk result (modal_of modal.new
             ≡ (looks (modal_of modal.old).dir (Some (modal_of modal.old).at)
             (typed_in c (modal_of modal.old)) (setting_of self.old) (value_of self.old)).modal) }
+        ensures query { (modal_of modal.new ≡ modal_of modal.old)
+            ⊎ (string_bytes modal.new.query ≡ (typed_in c (modal_of modal.old)).query) }
     {
-        modal.type_in(c)?;
+        modal.type_in(self.alloc, c)?;
         let (dir, at) = (modal.dir, modal.at);
         self.look(modal, dir, Some(at))
     }
@@ -409,17 +412,22 @@ impl<'p, 'h, Out: Renderer, H: Helper + Drop, Hi: History> State<'p, 'h, Out, H,
 
     /// A command before it is done: what stands between commands makes of it, and which one is done
     /// in its place.
-    pub(crate) fn meet(&mut self, modal: &mut ModalState, cmd: Cmd) -> Result<Cmd, ReadlineError>
-        ensures { Meets cmd self.old (modal_of modal.old) self.new (modal_of modal.new)
-            result }
+    pub(crate) fn meet(
+        &mut self,
+        modal: &mut ModalState,
+        cmd: &mut Cmd,
+    ) -> Result<(), ReadlineError>
+        ensures { Meets cmd.old self.old (modal_of modal.old) self.new (modal_of modal.new)
+            (answered_by result cmd.new) }
     {
-        match self.met(modal, &cmd)? {
-            Next::Nothing => Ok(Cmd::Unknown),
-            Next::Same => Ok(cmd),
-            Next::Earlier => Ok(Cmd::HistorySearchBackward),
-            Next::Later => Ok(Cmd::HistorySearchForward),
-            Next::Own => Ok(Cmd::EndOfHistory),
+        match self.met(modal, cmd)? {
+            Next::Nothing => *cmd = Cmd::Unknown,
+            Next::Same => {}
+            Next::Earlier => *cmd = Cmd::HistorySearchBackward,
+            Next::Later => *cmd = Cmd::HistorySearchForward,
+            Next::Own => *cmd = Cmd::EndOfHistory,
         }
+        Ok(())
     }
 }
 

@@ -1,5 +1,5 @@
 //! What stands between the commands of a line: a search of the history, candidates, or nothing.
-ghost use Rattle.std.specs.Prelude.{◌≡◌, ◌++◌, encode_utf8, IfErr, OnOk, string_bytes};
+ghost use Rattle.std.specs.Prelude.{◌≡◌, ◌++◌, encode_utf8, IfErr, OnErr, OnOk, string_bytes};
 ghost use Rattle.std.specs.Char.{IsScalar};
 ghost use Rattle.line_config.specs.Refusals.{OrMemory};
 ghost use Rattle.line_config.specs.declared.errors.ReadlineError.TheVariants.{Memory};
@@ -254,17 +254,21 @@ impl ModalState {
         Ok(format!(in alloc; "{heading}{query}': ")?)
     }
 
-    /// A character more of the query.
-    pub(crate) fn type_in(&mut self, c: char) -> Result<(), ReadlineError>
+    /// A character more of the query. Without memory all stays, the last query too.
+    pub(crate) fn type_in(&mut self, alloc: Global, c: char) -> Result<(), ReadlineError>
         ensures ok { OnOk result (modal_of self.new
             ≡ queried (query_in (modal_of self.old) ++ encode_utf8 c) (modal_of self.old)) }
         ensures err { IfErr result (λ e. e ≡ Memory) }
+        ensures same { OnErr result (modal_of self.new ≡ modal_of self.old) }
     {
-        if self.fresh {
-            self.query.clear();
+        if !self.fresh {
+            self.query.push(c)?;
+            return Ok(());
         }
+        let mut query = String::new(alloc);
+        query.push(c)?;
+        self.query = query;
         self.fresh = false;
-        self.query.push(c)?;
         Ok(())
     }
 

@@ -35,9 +35,9 @@ impl<'p, 'h, Out: Renderer, H: Helper + Drop, Hi: History> State<'p, 'h, Out, H,
         ensures asks { Begins R.asked (WaitForInput false) IsLater rdr.old rdr.new }
         ensures bindings { input_state.new.custom_bindings ≡ input_state.old.custom_bindings }
     {
-        let cmd = self.next_cmd(input_state, rdr, false, false)?;
-        let next = self.meet(modal, cmd)?;
-        reset_for(kill_ring, &next);
-        execute(next, self, input_state, kill_ring, config)
+        let mut cmd = self.next_cmd(input_state, rdr, false, false)?;
+        self.meet(modal, &mut cmd)?;
+        reset_for(kill_ring, &cmd);
+        execute(cmd, self, input_state, kill_ring, config)
     }
 }

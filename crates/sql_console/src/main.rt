@@ -3,13 +3,16 @@
 
 mod answer;
 mod arguments;
+mod highlighter;
 mod keys;
 mod mistake;
 mod requests;
 mod statements;
 mod table;
+mod tokens;
 
 use crate::arguments::{Asked, USAGE, read_arguments};
+use crate::highlighter::StatementHighlighter;
 use crate::requests::{COMMANDS, Request, request_of};
 use crate::statements::Statements;
 use anyhow::{Context, Result, bail};
@@ -28,18 +31,18 @@ const GREETING: &str = "A database in memory: .help lists commands, .quit leaves
 /// The status if an argument is wrong.
 const WRONG_ARGUMENTS: u8 = 2;
 
-type Help = HelperParts<WholeWordCompleter, Statements, (), Statements>;
+type Help = HelperParts<WholeWordCompleter, Statements, StatementHighlighter, Statements>;
 
 /// An editor whose history's text can be saved.
 type Editor = StandardEditor<Help, VecSink>;
 
-/// Completes the names of tables, a sole one with a space after it, and waits for the end of a
-/// statement.
+/// Completes the names of tables, a sole one with a space after it, draws a statement in colours,
+/// and waits for its end.
 fn helper(tables: Vec<String>) -> Help {
     HelperParts {
         completer: WholeWordCompleter::new(tables, " "),
         hinter: Statements,
-        highlighter: (),
+        highlighter: StatementHighlighter,
         validator: Statements,
     }
 }

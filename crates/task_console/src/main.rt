@@ -8,11 +8,12 @@ mod tasks;
 use crate::help::{Continued, Usages};
 use crate::tasks::answer;
 use keyline::{
-    HelperParts, LineEditor, ReadlineError, StandardEditor, WordCompleter, standard_builder,
+    HelperParts, LineEditor, ReadlineError, StandardEditor, StandardHighlighter, WordCompleter,
+    standard_builder,
 };
 use std::alloc::{AllocError, Global};
 
-type Help = HelperParts<WordCompleter, Usages, (), Continued>;
+type Help = HelperParts<WordCompleter, Usages, StandardHighlighter, Continued>;
 
 /// The commands, which Tab completes.
 fn commands(alloc: Global) -> Result<Vec<String>, AllocError> {
@@ -42,7 +43,7 @@ fn main(rt: HostRuntime) -> Result<(), ReadlineError> {
     let helper = HelperParts {
         completer: WordCompleter::new(commands(rt.alloc())?),
         hinter: Usages,
-        highlighter: (),
+        highlighter: StandardHighlighter::new(),
         validator: Continued,
     };
     let session = standard_builder(&rt)

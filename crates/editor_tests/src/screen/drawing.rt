@@ -42,7 +42,16 @@ fn draw_over<Out: Renderer>(
     old: Option<Layout>,
     new: &Layout,
 ) -> Result<(), ReadlineError> {
-    screen.refresh_line(shown.prompt, shown.line, shown.info, old, new, None::<&()>, false, false)
+    screen.refresh_line(
+        shown.prompt,
+        shown.line,
+        shown.info,
+        old,
+        new,
+        None::<&()>,
+        false,
+        false,
+    )
 }
 
 /// Draws over a drawing with its cursor in its first row.

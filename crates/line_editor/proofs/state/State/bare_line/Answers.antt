@@ -1,4 +1,4 @@
--- The hint dropped, the mark asked, and then drawn or left.
+-- The hint dropped, the highlighter called, and the line drawn or left.
 use Rattle.std.proofs.Common.{rules, refl}
 use Rattle.line_editor.proofs.MarkLemmas.{bare_drawn, bare_kept}
 use Rattle.line_editor.proofs.state.State.bare_line.Goals as goal

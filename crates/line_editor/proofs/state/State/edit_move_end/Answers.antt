@@ -1,14 +1,13 @@
 -- The cursor moved in the line, and then on the display.
-use Rattle.std.proofs.Common.{rules, refl, ap, not, ◌==◌, ◌∙◌, List, ℕ, length}
-use Rattle.std.specs.Prelude.{is_some}
-use Rattle.line_buffer.specs.Line.{Line, moved_to}
+use Rattle.std.proofs.Common.{rules, refl, ap, not, ◌==◌, ℕ}
+use Rattle.line_buffer.specs.Line.{Line}
 use Rattle.line_keys.specs.declared.command.CmdKind.TheVariants.{MoveCursor}
 use Rattle.line_record.specs.Items.{held_on}
 use Rattle.line_buffer.specs.Rows.{row_end}
 use Rattle.line_editor.specs.Moving.{move_end}
 use Rattle.line_editor.specs.States.{value_of}
 use Rattle.line_editor.specs.Values.{Value}
-use Rattle.line_editor.proofs.MarkLemmas.{moved_on, same_text}
+use Rattle.line_editor.proofs.MarkLemmas.{moved_on}
 use Rattle.line_editor.proofs.state.State.edit_move_end.Goals as goal
 
 pub returns-then-move_end : goal.returns-then-move_end

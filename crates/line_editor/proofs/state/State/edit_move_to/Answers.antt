@@ -1,5 +1,5 @@
 -- The cursor moved in the line, and then on the display.
-use Rattle.std.proofs.Common.{rules, refl, ap, not, ◌==◌, ◌∙◌, List, ℕ, length}
+use Rattle.std.proofs.Common.{rules, refl, ap, ◌∙◌, List, ℕ}
 use Rattle.std.specs.Prelude.{is_some}
 use Rattle.line_buffer.specs.Line.{Line, moved_to}
 use Rattle.line_keys.specs.declared.command.CmdKind.TheVariants.{MoveCursor}

@@ -1,5 +1,5 @@
 -- The cursor moved in the line, and then on the display.
-use Rattle.std.proofs.Common.{rules, refl, ap, not, ◌==◌, ◌∙◌, List, ℕ, length}
+use Rattle.std.proofs.Common.{rules, refl, ap, ◌∙◌, List, ℕ}
 use Rattle.std.specs.Prelude.{is_some}
 use Rattle.line_buffer.specs.Line.{Line, moved_to}
 use Rattle.line_keys.specs.declared.command.CmdKind.TheVariants.{MoveCursor}
@@ -21,5 +21,6 @@ returns-then-move_to_next_word g c =
       does = moved_on MoveCursor (is_some found) there (move_to_next_word c.args.at c.args.word c.args.n) s _ _ _ (search rules)
           (ap (λ (x : Line). let v : Value = record (value_of s) { line = x; held = held_on s.recorded.changes x.text } in v) c.move_to_next_word.ensures.line
           ∙ ap (λ (t : List ℕ). let v : Value = record (value_of s) { line = there; held = held_on s.recorded.changes t } in v) (same_text found l))
-          refl (record { ruler = refl; prompt = refl; history_is = refl; hooks_are = refl; marks_are = refl }) refl c.move_cursor.ensures.does; fault = c.move_cursor.ensures.fault;
+          refl (record { ruler = refl; prompt = refl; history_is = refl; hooks_are = refl; marks_are = refl }) refl c.move_cursor.ensures.does;
+      fault = c.move_cursor.ensures.fault;
     }

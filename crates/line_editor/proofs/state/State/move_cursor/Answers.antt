@@ -1,4 +1,4 @@
--- The mark asked, and then drawn.
+-- The highlighter called, and the line drawn.
 use Rattle.std.proofs.Common.{rules}
 use Rattle.line_editor.proofs.MarkLemmas.{moved_marked}
 use Rattle.line_editor.proofs.state.State.move_cursor.Goals as goal

@@ -1,4 +1,4 @@
--- The hint dropped, the mark asked, and then drawn.
+-- The hint dropped, the highlighter called, and the line drawn.
 use Rattle.std.proofs.Common.{refl}
 use Rattle.std.specs.Prelude.{option_copied}
 use Rattle.line_editor.specs.Drawing.{drawn_with, told}

@@ -1,0 +1,166 @@
+-- The phrase of a paste: what is read as one, and the command that its text becomes.
+use Rattle.std.proofs.Common.{◌≡◌, ◌≢◌, ℕ, suc, ◌==◌, Bool, true, false, if◌then◌else◌, List, [], ◌∷◌, ◌++◌, Option, None, Some, option_map, Ok, refl, ap, ◌∙◌, eqb-true}
+use Rattle.line_buffer.specs.declared.types.CharSearch.{CharSearch}
+use Rattle.line_config.specs.declared.device.Last.{Last}
+use Rattle.line_config.specs.declared.settings.EditMode.{EditMode}
+use Rattle.line_config.specs.declared.settings.EditMode.TheVariants.{Emacs, Vi}
+use Rattle.line_keys.specs.declared.command.Cmd.{Cmd}
+use Rattle.line_keys.specs.declared.command.Cmd.TheVariants.{Insert}
+use Rattle.line_keys.specs.declared.command.InputMode.{InputMode}
+use Rattle.line_keys.specs.declared.command.InputMode.TheVariants.{Command, Insert as Inserting, Replace as Overwriting}
+use Rattle.line_keys.specs.declared.events.Event.TheVariants.{Any}
+use Rattle.line_keys.specs.declared.key.KeyEvent.{KeyEvent}
+use Rattle.line_keys.specs.Answers.{Custom, answer_by}
+use Rattle.line_config.specs.Played.{Played, asked_first}
+use Rattle.line_config.specs.Scripts.{Ends, Asks}
+use Rattle.line_config.specs.declared.errors.ReadlineError.{ReadlineError}
+use Rattle.line_keys.specs.Coming.{Coming, Pressed, Pasted}
+use Rattle.line_keys.specs.Common.{common_action, command_or, bound_or, decided, terminal_command}
+use Rattle.line_keys.specs.Custom.{Situation, situation, shown_for, or_any, custom_answer}
+use Rattle.line_keys.specs.Emacs.{emacs_action, emacs_command}
+use Rattle.line_keys.specs.Events.{single}
+use Rattle.line_keys.specs.Feeds.{Key, Paste}
+use Rattle.line_keys.specs.Keys.{none}
+use Rattle.line_keys.specs.Phrase.{phrase_from}
+use Rattle.line_keys.specs.Phrases.{Input, Steps, Part, steps, Needs, Reads, Becomes, after, answered, needing, with_read, from_key, asking, becoming, deciding, and_then}
+use Rattle.line_keys.specs.Refreshing.{Shown}
+use Rattle.line_keys.specs.Replies.{gives_at_once, taking}
+use Rattle.line_keys.specs.Vi.{with_last, changed, typed, command_table, vi_counted, vi_command, insert_table, vi_insert}
+use Rattle.line_keys.specs.ViTables.{insert_action, action_of}
+use Rattle.line_editor.specs.Asks.{shown_in}
+use Rattle.line_editor.specs.Drawing.{refreshed}
+use Rattle.line_editor.specs.LineScripts.{Keys, LineState, LineAsk, beginning, kept, keyed, phrase_script, played_from}
+use Rattle.line_editor.specs.NextCommand.{with_group_begun}
+use Rattle.line_editor.specs.Values.{Setting, Value, unchanged, then_do}
+use Rattle.line_editor.specs.Yanking.{yanked_by, put_yanked}
+use Rattle.line_editor.specs.declared.modal_state.Standing.{Standing}
+use Rattle.line_screen.specs.KeyGrammar.{coming_of, marker, paste_start, with_newlines}
+use Rattle.line_screen.proofs.Pasting.{pasted_text_is_before_its_mark}
+use Rattle.keyline.specs.Pasting.{sent_as_paste, IsPasteable}
+use Rattle.keyline.specs.Sessions.{coming_from}
+
+-- ---- what no binding answers, the tables do
+
+-- no binding is for this key
+abbrev pub IsFree : Custom → KeyEvent → Type 0
+IsFree custom k = (custom.answers (single k) ≡ None) × (custom.answers Any ≡ None)
+
+unbound_answer : (s : Situation) (k : KeyEvent) → IsFree s.custom k → custom_answer s k ≡ gives_at_once None
+unbound_answer s k free =
+    ap (λ bound. answer_by (or_any s.custom bound) (shown_for s (single k))) free.0
+    ∙ ap (λ bound. answer_by (option_map (λ meaning s. taking (meaning s)) bound) (shown_for s (single k))) free.1
+
+pub by_the_table : (new : Option ℕ) (s : Situation) (k : KeyEvent) (table : Part Cmd) (n : ℕ) → IsFree s.custom k → terminal_command s.shown k ≡ None
+    → steps (decided new s k table) n ≡ steps table n
+unfolding deciding
+by_the_table new s k table n free none =
+    ap (λ reply. steps (deciding (bound_or new s (command_or table (terminal_command s.shown k))) reply) n) (unbound_answer s k free)
+    ∙ ap (λ command. steps (command_or table command) n) none
+
+-- what stands between commands
+abbrev pub at_rest : Standing → LineState → LineState
+at_rest at k = record k { modal = record k.modal { standing = at } }
+
+abbrev pub with_rest : LineState → Coming → LineState
+with_rest k c = record k { coming = c }
+
+abbrev pub input_with : EditMode → InputMode → Cmd → Option CharSearch → Bool → Input
+input_with mode input_mode last search modal =
+    record { mode = mode; input_mode = input_mode; last = last; search = search; modal_commands = modal }
+
+-- ---- a paste
+
+-- in Vi mode it is the last change
+abbrev pub kept_after : EditMode → List ℕ → Input → Input
+kept_after Emacs text input = input
+kept_after Vi text input = with_last (Insert 1 text) input
+
+abbrev pub keeping : EditMode → Input → List ℕ → Steps Cmd
+keeping Emacs input text = Ends (Insert 1 text)
+keeping Vi input text = Asks Needs (λ none. Asks (Becomes (with_last (Insert 1 text) input)) (λ also. Ends (Insert 1 text)))
+
+abbrev pub pasting : EditMode → Input → Steps Cmd
+pasting mode input = Asks (Reads Paste) (keeping mode input)
+
+pub pastes : (mode : EditMode) (input_mode : InputMode) (custom : Custom) (last : Cmd) (search : Option CharSearch) (modal : Bool) (shown : Shown) (n : ℕ) → IsFree custom paste_start
+    → steps (phrase_from mode custom (input_with mode input_mode last search modal) shown paste_start) (suc n) ≡ pasting mode (input_with mode input_mode last search modal)
+unfolding answered needing with_read from_key asking becoming deciding and_then emacs_action common_action action_of insert_action command_table vi_counted vi_command insert_table vi_insert
+pastes Emacs input_mode custom last search modal shown n free =
+    let s = situation custom (input_with Emacs input_mode last search modal) shown 1 true in
+    by_the_table (Some 1) s paste_start (emacs_command s paste_start) (suc n) free refl
+pastes Vi Command custom last search modal shown n free =
+    let input = input_with Vi Command last search modal in
+    let s = situation custom input shown 1 true in
+    by_the_table None s paste_start (and_then input shown (command_table None s paste_start) changed) (suc n) free refl
+pastes Vi Inserting custom last search modal shown n free =
+    let input = input_with Vi Inserting last search modal in
+    by_the_table None (situation custom input shown 0 true) paste_start (and_then input shown (insert_table custom input shown paste_start) typed) (suc n) free refl
+pastes Vi Overwriting custom last search modal shown n free =
+    let input = input_with Vi Overwriting last search modal in
+    by_the_table None (situation custom input shown 0 true) paste_start (and_then input shown (insert_table custom input shown paste_start) typed) (suc n) free refl
+
+-- ---- the phrases, played
+
+abbrev pub kept_asks : EditMode → List ℕ → Input → List LineAsk
+kept_asks Emacs text input = []
+kept_asks Vi text input = Keys Needs ∷ Keys (Becomes (with_last (Insert 1 text) input)) ∷ []
+
+abbrev pub paste_kept : EditMode → List ℕ → LineState → Coming → LineState
+paste_kept mode text k rest = kept k.value (kept_after mode text k.input) k.ring k.modal rest
+
+-- behind its first key
+abbrev pub paste_played : EditMode → List ℕ → LineState → Coming → Played LineAsk LineState ReadlineError Cmd
+paste_played mode text k rest =
+    record { answer = Ok (Insert 1 text); asks = Keys (Reads Paste) ∷ kept_asks mode text k.input; rest = paste_kept mode text k rest }
+
+abbrev pub grouped : ℕ → Cmd → Input → Shown → Steps Cmd
+grouped n cmd input shown = steps (with_group_begun cmd input shown) n
+
+module _ (s : Setting) (indent : ℕ) where
+  abbrev pub behind_key : ℕ → LineState → Coming → Steps Cmd → Played LineAsk LineState ReadlineError Cmd
+  behind_key n k rest script = asked_first (Keys (Reads Key)) (played_from s indent (keyed (after (grouped n) k.input (shown_in k.value) script)) (with_rest k rest))
+
+  plays_keeping : (n : ℕ) (mode : EditMode) (text : List ℕ) (k : LineState) (rest : Coming)
+      → (bytes : List ℕ) → behind_key n k (Pasted bytes text rest) (pasting mode k.input) ≡ asked_first (Keys (Reads Key)) (paste_played mode text k rest)
+  unfolding answered
+  plays_keeping n Emacs text k rest bytes = refl
+  plays_keeping n Vi text k rest bytes = refl
+
+  pub plays_paste : (custom : Custom) → IsFree custom paste_start → (n : ℕ) (k : LineState) (before bytes text : List ℕ) (rest : Coming)
+      → (let on = with_rest k (Pressed before paste_start (Pasted bytes text rest)) in played_from s indent (phrase_script (suc (suc n)) custom (beginning k)) on ≡ asked_first (Keys (Reads Key)) (paste_played k.input.mode text k rest))
+  unfolding and_then with_read
+  plays_paste custom free n k before bytes text rest =
+      let input = k.input in
+      ap (behind_key (suc (suc n)) k (Pasted bytes text rest)) (pastes input.mode input.input_mode custom input.last input.search input.modal_commands (shown_in k.value) n free)
+      ∙ plays_keeping (suc (suc n)) input.mode text k rest bytes
+
+-- ---- a drawing leaves the line
+
+pub drawn_if : (b vi : Bool) (text : List ℕ) (n : ℕ) (s : Setting) (v : Value)
+    → (if b then then_do (put_yanked vi text n) refreshed s v else unchanged s (yanked_by vi text n v)).value.line ≡ (yanked_by vi text n v).line
+drawn_if true vi text n s v = refl
+drawn_if false vi text n s v = refl
+
+-- ---- what the bytes read as
+
+plain_byte : (b : ℕ) (bytes : List ℕ) → (b == 0x0D) ≡ false → with_newlines (b ∷ bytes) ≡ b ∷ with_newlines bytes
+plain_byte b bytes is = rw is (rw is refl)
+
+stays : (bytes : List ℕ) → ((before after : List ℕ) → bytes ≢ before ++ 0x0D ∷ after) → with_newlines bytes ≡ bytes
+stays [] plain = refl
+stays (b ∷ bytes) plain =
+    plain_byte b bytes (other (b == 0x0D) refl) ∙ ap (λ t. b ∷ t) (stays bytes (λ before after is. plain (b ∷ before) after (ap (λ t. b ∷ t) is)))
+  where
+    other : (t : Bool) → (b == 0x0D) ≡ t → t ≡ false
+    other true is = absurd (plain [] bytes (ap (λ x. x ∷ bytes) (eqb-true b 0x0D is)))
+    other false is = refl
+
+-- the bytes after the mark that begins the paste
+abbrev pub behind_start : List ℕ → List ℕ → List ℕ
+behind_start text more = text ++ marker ++ more
+
+pub reads_as : (mode : EditMode) (text more : List ℕ) (last : Last) → IsPasteable text
+    → coming_from mode (sent_as_paste text ++ more) last ≡ Pressed (sent_as_paste text ++ more) paste_start (Pasted (behind_start text more) text (coming_from mode more last))
+reads_as mode text more last paste =
+    ap (coming_of (sent_as_paste text ++ more)) (pasted_text_is_before_its_mark mode text more last paste.utf8 paste.no_marker)
+    ∙ ap (λ t. Pressed (sent_as_paste text ++ more) paste_start (Pasted (behind_start text more) t (coming_from mode more last))) (stays text paste.no_return)

@@ -1,0 +1,27 @@
+-- The tokens of a text from a place on are the one that begins there, and those after it.
+use Rattle.std.proofs.Common.{◌≡◌, ℕ, zero, suc, ◌+◌, ◌-◌, ◌<◌, ◌≤◌, true, false, not, cond, List, [], ◌∷◌, length, drop, refl, ap, sym, ◌∙◌, arith}
+use Rattle.sql_console.specs.Tokens.{first_token, tokens_from}
+
+behind : (len c : ℕ) (text : List ℕ) → 1 ≤ len → tokens_from (len - 1) text ≡ tokens_from len (c ∷ text)
+behind zero c text some = absurd (omega arith)
+behind (suc len) c text some = let less : suc len - 1 ≡ len = omega arith in ap (λ n. tokens_from n text) less
+
+further : (place len c : ℕ) (text : List ℕ) → tokens_from (suc place + len) (c ∷ text) ≡ tokens_from (place + len) text
+further place len c text =
+    let more : suc place + len ≡ suc (place + len) = omega arith in ap (λ n. tokens_from n (c ∷ text)) more
+
+pub tokens_at : (place : ℕ) (text : List ℕ) → place < length text → 1 ≤ (first_token (drop place text)).len
+    → tokens_from place text ≡ first_token (drop place text) ∷ tokens_from (place + (first_token (drop place text)).len) text
+tokens_at place [] within some = absurd (omega arith)
+tokens_at zero (c ∷ text) within some =
+    let none : 0 + (first_token (c ∷ text)).len ≡ (first_token (c ∷ text)).len = omega arith in
+    rw none (ap (λ rest. first_token (c ∷ text) ∷ rest) (behind (first_token (c ∷ text)).len c text some))
+tokens_at (suc place) (c ∷ text) within some =
+    rw (further place (first_token (drop place text)).len c text) (tokens_at place text (omega arith) some)
+
+pub tokens_past : (place : ℕ) (text : List ℕ) → length text ≤ place → tokens_from place text ≡ []
+tokens_past place [] past = refl
+tokens_past zero (c ∷ text) past = absurd (omega arith)
+tokens_past (suc place) (c ∷ text) past = tokens_past place text (omega arith)
+
+pub ruleset tokens = (tokens_at, tokens_past)

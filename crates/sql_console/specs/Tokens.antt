@@ -1,0 +1,61 @@
+-- The tokens of a statement, and how each is drawn.
+use Rattle.std.specs.Prelude.{ℕ, zero, suc, ◌+◌, ◌-◌, ◌==◌, ◌||◌, ◌&&◌, nat_le, nat_lt, min, Bool, true, false, not, if◌then◌else◌, List, [], ◌∷◌, length, take, drop, slice_index}
+use Rattle.std.specs.Char.{is_ascii_digit, is_ascii_alphanumeric}
+use Rattle.std.specs.List.{list_any, prefix_len}
+use Rattle.std.specs.Str.{str_eq_ignore_ascii_case}
+use Rattle.line_help.specs.declared.style.Colour.TheVariants.{Basic}
+use Rattle.line_help.specs.declared.style.Hue.{Hue}
+use Rattle.line_help.specs.declared.style.Hue.TheVariants.{Blue, Cyan, Green, Magenta}
+use Rattle.line_help.specs.declared.style.Mark.{Mark}
+use Rattle.line_help.specs.declared.style.Part.{Part}
+use Rattle.line_help.specs.declared.style.Part.TheVariants.{Line}
+use Rattle.line_help.specs.declared.style.Span.{Span}
+use Rattle.line_help.specs.declared.style.Style.{Style}
+use Rattle.line_help.specs.Paints.{plain, standard_paints}
+use Rattle.sql_console.specs.declared.tokens.Class.{Class}
+use Rattle.sql_console.specs.declared.tokens.Class.TheVariants.{Word, Quoted, Row}
+use Rattle.sqlite_syntax.specs.declared.token.TheConstants.{KEYWORDS}
+
+abbrev pub coloured : Hue → Style
+coloured hue = record plain { text = Basic hue }
+
+abbrev pub is_in : Class → ℕ → Bool
+is_in Word c = is_ascii_alphanumeric c || (c == 0x5F || (c == 0x2E || nat_le 0x80 c))
+is_in Quoted c = not (c == 0x27)
+is_in Row c = not (c == 0x0A)
+
+-- the first place from one on whose byte isn't of the class
+abbrev pub past : Class → List ℕ → ℕ → ℕ
+past class text at = at + prefix_len (is_in class) (drop at text)
+
+unfoldable pub is_keyword : List ℕ → Bool
+is_keyword word = list_any (λ k. str_eq_ignore_ascii_case k.0.now word) KEYWORDS
+
+-- a number begins with a digit
+abbrev pub word_style : List ℕ → Style
+word_style word =
+    if is_ascii_digit (slice_index word 0) then coloured Magenta
+    else if is_keyword word then record (coloured Blue) { bold = true } else plain
+
+-- how a text begins: a string up to its quote, a comment up to the row's end, a word, another byte
+unfoldable pub first_token : List ℕ → Span
+first_token text =
+    if slice_index text 0 == 0x27
+    then record { len = min (length text) (past Quoted text 1 + 1); style = coloured Green }
+    else if (slice_index text 0 == 0x2D) && (nat_lt 1 (length text) && (slice_index text 1 == 0x2D))
+    then record { len = past Row text 0; style = coloured Cyan }
+    else if is_in Word (slice_index text 0)
+    then record { len = past Word text 0; style = word_style (take (past Word text 0) text) }
+    else record { len = 1; style = plain }
+
+-- the tokens of a text from a place on
+abbrev pub tokens_from : ℕ → List ℕ → List Span
+tokens_from place [] = []
+tokens_from (suc place) (c ∷ text) = tokens_from place text
+tokens_from zero (c ∷ text) =
+    first_token (c ∷ text) ∷ tokens_from ((first_token (c ∷ text)).len - 1) text
+
+-- a line is drawn by its tokens, and a hint or a message as the standard highlighter does
+abbrev pub statement_paints : Part → List ℕ → Mark → List Span
+statement_paints (Line pos) text from = tokens_from from.at text
+statement_paints part text from = standard_paints part text from
