@@ -6,7 +6,6 @@ use Rattle.std.proofs.lemmas.Fmt.{decimal_by_steps}
 use Rattle.std.proofs.lemmas.List.Folds.{list_all-append}
 use Rattle.line_help.specs.declared.style.Colour.{Colour}
 use Rattle.line_help.specs.declared.style.Colour.TheVariants.{Terminal, Basic, Bright, Palette, Rgb}
-use Rattle.line_help.specs.declared.style.Mark.{Mark}
 use Rattle.line_help.specs.declared.style.Span as span
 use Rattle.line_help.specs.declared.style.Style.{Style}
 use Rattle.line_config.specs.Sending.{Sends}

@@ -1,6 +1,5 @@
 -- Calls without a highlighter begin no style.
-use Rattle.std.proofs.Common.{◌≡◌, ◌≢◌, ℕ, ◌+◌, ◌-◌, ◌%◌, ◌/◌, ◌^◌, ◌<◌, ◌≤◌, ◌==◌, nat_lt, nat_le, Bool, true, false, not, ◌&&◌, List, [], ◌∷◌, ◌++◌, take, decimal, Option, Some, None, inl, inr, refl, sym, ap, ◌∙◌, subst, arith, if◌then◌else◌}
-use Rattle.std.specs.Prelude.{is_some}
+use Rattle.std.proofs.Common.{◌≡◌, ◌≢◌, ℕ, ◌+◌, ◌-◌, ◌%◌, ◌/◌, ◌^◌, ◌<◌, ◌≤◌, ◌==◌, nat_lt, nat_le, Bool, true, false, List, [], ◌∷◌, ◌++◌, take, decimal, Option, Some, None, inl, inr, refl, sym, ap, ◌∙◌, subst, arith, if◌then◌else◌}
 use Rattle.std.specs.List.{list_all, flat_map, FoldsTo}
 use Rattle.std.proofs.lemmas.Bool.{and_parts, false≢true}
 use Rattle.std.proofs.lemmas.Bool.Decides.{nat_tests}
@@ -14,14 +13,14 @@ use Rattle.line_config.specs.declared.settings.BellStyle.{BellStyle}
 use Rattle.line_config.specs.declared.settings.BellStyle.TheVariants as Bells
 use Rattle.line_editor.specs.Calls.{Call, Ruler}
 use Rattle.line_editor.specs.Calls.Call.{Draw, Move, Write, Beep, ClearScreen, ClearRows, ClearToEol, MoveAndClearToEol, ToLeftmost, Help}
-use Rattle.line_editor.specs.Redraws.{Redraw, Asked, asked_by, full, info_text, may_type, may_take, moved, moved_by_call, nothing_asked, typed_short, taken_short}
+use Rattle.line_editor.specs.Redraws.{Redraw, Asked, asked_by, full, info_text, may_type, may_take, moved_by_call, nothing_asked, typed_short, taken_short}
 use Rattle.line_editor.specs.Redraws.Redraw.{Drawn, Moved, Typed, Taken, Bared, ToEnd, Beeped, Cleared}
 use Rattle.line_editor.specs.Values.{shown_marks}
 use Rattle.line_screen.specs.Calls.{Screen, bytes_of, bell_bytes, old_row, drawing_bytes, ruler_of}
-use Rattle.line_screen.specs.Chain.{View, Good, Inside, Replaces, Redraws, Types, ClosesLine, LeadsView, Picture, finish_of, cursor_of}
+use Rattle.line_screen.specs.Chain.{View, Good, Inside, Replaces, Redraws, LeadsView}
 use Rattle.line_screen.specs.ColourLaws.{BeginsNoStyle, has_no_marks, UnmarkedCallsBeginNone, ScreensWithoutColours, Uncoloured}
 use Rattle.line_screen.specs.Display.{Placed, is_text}
-use Rattle.line_screen.specs.Drawing.{DrawnItem, text_items, no_style, row_break, break_if, break_unless, fitted_col, fenced, sent_one, col_after_one, sent, col_after, control_sequence, erase_to_end, erase_to_row_end, go_home, row_move, col_move, move_bytes, clearing_bytes, shown_text, drawing, full_drawing}
+use Rattle.line_screen.specs.Drawing.{DrawnItem, text_items, no_style, break_if, break_unless, fitted_col, fenced, sent_one, col_after_one, sent, col_after, control_sequence, erase_to_end, erase_to_row_end, row_move, col_move, move_bytes, clearing_bytes, shown_text, drawing}
 use Rattle.line_screen.specs.Drawing.DrawnItem.{NewRow, Letter, Cluster}
 use Rattle.line_screen.specs.Laws.{widths}
 use Rattle.line_screen.specs.Measure.{cluster_width}
