@@ -1,13 +1,13 @@
 -- What the loops over spans send.
-use Rattle.std.proofs.Common.{◌≡◌, ℕ, ◌+◌, ◌<◌, ◌≤◌, nat_le, Bool, true, false, List, [], ◌∷◌, ◌++◌, ◌-◌, map, length, take, drop, take_at, drop_at, length-append, append_assoc, if◌then◌else◌, min, get_or, Option, Some, None, suc, inl, inr, refl, sym, ap, ◌∙◌, arith, take_all, add-one, drop-cons}
+use Rattle.std.proofs.Common.{◌≡◌, ℕ, ◌+◌, ◌<◌, ◌≤◌, nat_le, Bool, true, false, List, [], ◌∷◌, ◌++◌, ◌-◌, map, length, take, drop, take_at, drop_at, length-append, if◌then◌else◌, min, get_or, Option, Some, None, suc, inl, inr, refl, sym, ap, ◌∙◌, arith, take_all, add-one, drop-cons}
 use Rattle.std.specs.List.{concat}
 use Rattle.std.proofs.lemmas.Bool.{leb-true}
 use Rattle.line_screen.specs.Styles.{numbers}
 use Rattle.line_screen.proofs.SequenceLemmas.{by_test}
 use Rattle.std.proofs.lemmas.Bool.Decides.{nat_tests}
 use Rattle.std.proofs.lemmas.List.{drop_all}
-use Rattle.line_screen.specs.Drawing.{is_letter, drawn_item, split_rows}
-use Rattle.line_screen.specs.Colours.{Span, span_of, spans_from, spans_in, skip, first_style, PaintedItem, shaded, painted_letters, painted_item, painted_after, painted_clusters, painted_rows, painted_behind, next_painted, spans_behind, bare_letters}
+use Rattle.line_screen.specs.Drawing.{is_letter, split_rows}
+use Rattle.line_screen.specs.Colours.{Span, span_of, spans_from, spans_in, skip, PaintedItem, shaded, painted_letters, painted_after, painted_clusters, painted_rows, painted_behind, next_painted, spans_behind, bare_letters}
 use Rattle.line_screen.specs.declared.drawing.painted.Spans as spans
 use Rattle.line_help.specs.declared.style.Span as span
 use Rattle.line_help.specs.declared.style.Mark.{Mark}
