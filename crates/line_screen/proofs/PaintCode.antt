@@ -50,14 +50,7 @@ next_span paints left next s letters front back count is counted front_is back_i
 pub no_span : (paints : Mark → List span.Span) (left : spans.Spans) (letters : List ℕ) → left.first ≡ None → painted_letters (spans_in paints left) letters ≡ bare_letters letters
 no_span paints left letters is = ap (λ o. painted_letters (spans_from o (map span_of (paints left.mark))) letters) is
 
--- the next cluster is a letter, which comes to those before it
-pub next_letter : (wide : List ℕ → Option ℕ) (spans : List Span) (letters g : List ℕ) (before left : List (List ℕ)) → before ≡ g ∷ left → is_letter g ≡ true
-    → painted_clusters wide spans letters before ≡ painted_clusters wide spans (letters ++ g) left
-next_letter wide spans letters g before left is letter =
-    ap (painted_clusters wide spans letters) is
-    ∙ ap (λ b. if b then painted_clusters wide spans (letters ++ g) left else (painted_after wide spans letters g ++ painted_clusters wide (skip (length g) (skip (length letters) spans)) [] left)) letter
-
--- or another one, which is drawn after them
+-- the next cluster is no letter
 pub next_other : (wide : List ℕ → Option ℕ) (spans later : List Span) (letters g : List ℕ) (before left : List (List ℕ)) → before ≡ g ∷ left → is_letter g ≡ false → later ≡ skip (length g) (skip (length letters) spans)
     → painted_clusters wide spans letters before ≡ painted_after wide spans letters g ++ painted_clusters wide later [] left
 next_other wide spans later letters g before left is other later_is =
@@ -73,24 +66,14 @@ pub record RowSoFar (rest tail : List ℕ) (left : List (List ℕ)) (Holds : Lis
   pub holds : Holds letters
 
 module _ (rest tail : List ℕ) (left : List (List ℕ)) (Holds : List ℕ → Type 0) (h : RowSoFar rest tail left Holds) where
-  pub tail_shorter : length tail ≤ length rest
-  tail_shorter = let e : length rest ≡ length h.letters + length tail = ap length h.rest_is ∙ length-append h.letters tail in omega arith
-
   pub letters_taken : (count : ℕ) (front : List ℕ) → count ≡ length rest - length tail → front ≡ take count rest → front ≡ h.letters
   letters_taken count front count_is front_is =
       let e : length rest ≡ length h.letters + length tail = ap length h.rest_is ∙ length-append h.letters tail in
       let same : count ≡ length h.letters = omega arith in
       front_is ∙ ap (take count) h.rest_is ∙ take_at h.letters tail count (sym same)
 
-  pub cluster_shorter : (g : List ℕ) (later : List (List ℕ)) → left ≡ g ∷ later → length g ≤ length tail
-  cluster_shorter g later is =
-      let e : length tail ≡ length g + length (concat later) = ap length (h.tail_is ∙ ap concat is) ∙ length-append g (concat later) in omega arith
-
   pub tail_dropped : (g back : List ℕ) (later : List (List ℕ)) → left ≡ g ∷ later → back ≡ drop (length g) tail → back ≡ concat later
   tail_dropped g back later is back_is = back_is ∙ ap (drop (length g)) (h.tail_is ∙ ap concat is) ∙ drop_at g (concat later) (length g) refl
-
-  pub tail_split : (g back : List ℕ) (later : List (List ℕ)) → left ≡ g ∷ later → back ≡ drop (length g) tail → tail ≡ g ++ back
-  tail_split g back later is back_is = h.tail_is ∙ ap concat is ∙ ap (λ xs. g ++ xs) (sym (tail_dropped g back later is back_is))
 
 -- ---- rows
 
