@@ -7,7 +7,7 @@ import dataclasses
 import re
 
 from display import Drawing
-from hunting import without_parts
+from hunting import standard_styles, styled, without_parts
 from inputs import (COLUMNS, ENTER, PASTE, PASTED, UNTYPED, candidate_keys, completed_words, history, keys_of, one_key,
                     searches as searches_of, settings, some, texts)
 from searching import Completes
@@ -42,6 +42,33 @@ BARE += ["CompleteHint", "Complete", "Repaint", "AcceptLine", "Newline", "YankPo
 BARE += ["AcceptOrInsertLine", "AcceptAtEndOrInsertLine"] * 3
 RANGES = "WholeLine BeginningOfLine EndOfLine ViFirstPrint WholeBuffer BeginningOfBuffer EndOfBuffer".split()
 ENDS = {"Interrupt", "EndOfFile"}
+
+
+HUES = "black red green yellow blue magenta cyan white".split()
+FLAGS = {"bold": ";1", "faint": ";2", "italic": ";3", "underline": ";4", "reverse": ";7"}
+
+
+def numbers(words):
+    """What stands after the 0 of a style with these words: flags in their order, the text's colour, the ground's colour."""
+    words = words.split("+") if words else []
+    texts = [colour_numbers(word, 30) for word in words if word not in FLAGS and not word.startswith("on-")]
+    grounds = [colour_numbers(word[3:], 40) for word in words if word.startswith("on-")]
+    return "".join(code for flag, code in FLAGS.items() if flag in words) + (texts or [""])[-1] + (grounds or [""])[-1]
+
+
+def colour_numbers(name, front):
+    if name in HUES:
+        return f";{front + HUES.index(name)}"
+    if name.startswith("bright-"):
+        return f";{front + 60 + HUES.index(name[7:])}"
+    return f";{front + 8};5;{name}"
+
+
+def style(rng):
+    """The words of a style."""
+    colours = [rng.choice(HUES), f"bright-{rng.choice(HUES)}", str(rng.randrange(256))]
+    words = rng.choice([[], [rng.choice(list(FLAGS))], [*FLAGS]])
+    return "+".join(words + [rng.choice(colours), f"on-{rng.choice(colours)}"][:rng.randrange(3)])
 
 
 def noted(text):
@@ -109,7 +136,7 @@ class Session:
     def is_searched(self):
         """Whether the model of searches and completion knows its settings: with words to complete there are hints of a history."""
         known = ("columns:", "prompt:", "loaded:", "reads:", "clusters:", "words:", "limit:")
-        alone = ("modal", "adding", "vi", "listed", "at-once")
+        alone = ("modal", "adding", "vi", "listed", "at-once", "colours")
         is_known = "modal" in self.words and all(word in alone or word.startswith(known) for word in self.words)
         return is_known and not (self.value("words:") and ("adding" in self.words or self.history))
 
@@ -124,13 +151,37 @@ class Session:
         return f"reads:{self.value('reads:', '1..')}"
 
     def with_message(self, shown, line, place):
-        """The drawing with the message that a display shows after prompt and line, if it may show one."""
+        """The message that a display shows after prompt and line, if it may show one, and the drawing with it."""
         message = meant(self.value("message:", "")).decode()
         if "helped" in self.words and "advised" not in self.words:
             found = MESSAGE.fullmatch(shown.text(shown.top + place[0], place[1]))
             message = found[0] if found else ""
         if message:
-            yield Drawing(self.columns, self.prompt, line, message, clusters=self.clusters)
+            yield message, Drawing(self.columns, self.prompt, line, message, clusters=self.clusters)
+
+    def styled(self, line, message):
+        """The styles that an accepted line may have. What a helper with fixed answers marks doesn't depend on the drawing's
+        reason, and an accepted line has its cursor at the end."""
+        if not self.has_colours():
+            return [{}]
+        if "advised" not in self.words:
+            return standard_styles(self, line, message)
+        whole, place = 2**32, len(line.encode())
+        marked = place == int(self.value("marked:", "-1")) or place >= int(self.value("marks-from:", str(whole)))
+        start, count, style = self.value("styled:", "0,0,").split(",")
+        prompt, told = ([(whole, numbers(self.value(name, "")))] for name in ("prompt-style:", "message-style:"))
+        own = [(int(start), ""), (int(count), numbers(style))] if marked else []
+        return [styled(self, line, message, [prompt, own, told])]
+
+    @property
+    def styles(self):
+        """Those that any drawing may have."""
+        if not self.has_colours():
+            return set()
+        if "advised" not in self.words:
+            return {";1;34", ";2", ";31"}
+        named = [self.value(name, "") for name in ("prompt-style:", "hint-style:", "message-style:")]
+        return {*map(numbers, [*named, self.value("styled:", ",,").split(",")[2]])}
 
     @property
     def hints_of_history(self):
@@ -139,6 +190,9 @@ class Session:
     def is_modal(self):
         """Whether the commands act that go on over several keys."""
         return "modal" in self.words
+
+    def has_colours(self):
+        return "colours" in self.words
 
     def open_texts(self):
         """What may stand after a line that hasn't ended."""
@@ -240,7 +294,10 @@ def advice(rng):
         offers = [texts(rng, 5, UNTYPED).replace(",", ";") for _ in range(2)]
         offers = rng.choice([offers[:1], offers, [offers[0], offers[0] + offers[1]]])
         words.append(f"offers:{','.join(map(noted, offers))}")
-    for name, often in (("hint-from", 0.5), ("start", 0.5), ("marked", 0.2)):
+    if rng.random() < 0.6:
+        words.append(f"styled:{some(rng, 0, 8)},{some(rng, 0, 20)},{style(rng)}")
+        words += [f"{part}-style:{style(rng)}" for part in ("prompt", "hint", "message") if rng.random() < 0.6]
+    for name, often in (("hint-from", 0.5), ("start", 0.5), ("marked", 0.2), ("marks-from", 0.4)):
         if rng.random() < often:
             words.append(f"{name}:{some(rng, 0, 8)}")
     for name in ("hint-fails", "verdict-fails", "completion-fails", "update-fails"):
@@ -277,6 +334,8 @@ def setting(rng):
         words.append(f"loaded:{noted(given['history'])}")
     if rng.random() < 0.3:
         words.append(f"clusters:{rng.choice(['WcWidth', 'NoZwj'])}")
+    if rng.random() < 0.5:
+        words.append("colours")
     return [*words, *helper(rng), reads(rng)], given["mode"]
 
 
@@ -359,7 +418,7 @@ def candidates(rng):
     """Words that are completed over several keys, in each way."""
     words, mode = completed_words(rng), rng.choice(["emacs", "emacs", "vi"])
     given = ["modal", f"columns:{rng.choice(COLUMNS)}", f"words:{','.join(map(noted, words))}", reads(rng)]
-    given += rng.choice([[], ["listed"]]) + rng.choice([[], [], ["at-once"]]) + rng.choice([[], [f"limit:{some(rng, 0, 5)}"]])
+    given += rng.choice([[], ["colours"]]) + rng.choice([[], ["listed"]]) + rng.choice([[], [], ["at-once"]]) + rng.choice([[], [f"limit:{some(rng, 0, 5)}"]])
     given += ["vi"] if mode == "vi" else []
     return Session(candidate_keys(rng, words, mode), tuple(given))
 

@@ -4,6 +4,7 @@ It is independent of the program, and reads only its bytes. Clusters follow UAX 
 `unicode_width`. Both are known for the characters of the table below and for letters without a rule. A text with any other
 character is `Unjudged`.
 """
+import itertools
 import re
 import unicodedata
 
@@ -43,7 +44,7 @@ PRINTABLE = re.compile(r"[ -~]*\Z")
 # The beginning of a drawing over an old one of one row, and of a line's first drawing.
 REDRAWN = b"\r\x1b[J"
 TOKENS = re.compile(rb"(?P<nothing>(\x1b\[m)+)|(?P<text>[ -~\x80-\xff]+)|(?P<plain>\x1b\[[JKH]|[\r\n\x07])"
-                    rb"|\x1b\[(?P<by>[1-9][0-9]*)(?P<way>[A-D])")
+                    rb"|\x1b\[(?P<by>[1-9][0-9]*)(?P<way>[A-D])|\x1b\[0(?P<style>(;[0-9]+)+)m")
 
 
 class Unjudged(Exception):
@@ -189,13 +190,23 @@ def counted_row(row):
     return row
 
 
+def style_at(spans, byte):
+    """The style of a byte of a text, by spans: each so many bytes, and their style."""
+    for count, style in spans:
+        if byte < count:
+            return style
+        byte -= count
+    return ""
+
+
 class Rows:
-    """Rows of cells: each has its columns that aren't blank, with a cluster, or with INSIDE for the rest of one."""
+    """Rows of cells: each has its columns that aren't blank, with a cluster, or with INSIDE for the rest of one. `styles` has
+    the columns of each row that have a style, such as `;1;34`."""
 
     INSIDE = object()
 
     def __init__(self, columns, clusters="Unicode"):
-        self.columns, self.counted, self.rows = columns, clusters, []
+        self.columns, self.counted, self.rows, self.styles = columns, clusters, [], []
 
     def row(self, number):
         counted_row(number)
@@ -203,11 +214,14 @@ class Rows:
             self.rows.append({})
         return self.rows[number]
 
-    def put(self, row, col, cluster, wide):
+    def put(self, row, col, cluster, wide, style=""):
         cells = self.row(row)
         cells[col] = cluster
         for at in range(col + 1, col + wide):
             cells[at] = self.INSIDE
+        if style:
+            self.styles += ({} for _ in range(len(self.styles), row + 1))
+            self.styles[row][col] = style
 
     def below(self, top):
         """The rows from one on, without the blank ones at the end."""
@@ -216,6 +230,16 @@ class Rows:
             found.pop()
         return found
 
+    def styled(self, top=0):
+        """The columns with a style in each row from one on that has any."""
+        return {number - top: styles for number, styles in enumerate(self.styles) if number >= top and styles}
+
+    def cells(self):
+        """Each cell in which a cluster begins, by row and column, with its style."""
+        styled = self.styled()
+        return {(number, col): (cell, styled.get(number, {}).get(col, "")) for number, row in enumerate(self.rows)
+                for col, cell in row.items() if cell is not self.INSIDE}
+
     def text(self, row, col):
         """The clusters from a place on, without the blanks between them."""
         cells = [(at, cell) for number, row in enumerate(self.rows[row:]) for at, cell in sorted(row.items()) if number or at >= col]
@@ -223,13 +247,13 @@ class Rows:
 
 
 class Drawing(Rows):
-    """Texts drawn one after the other from a display's first cell; `place` is their end."""
+    """Texts drawn one after the other from a display's first cell; `place` is their end. `spans` has the styles of each."""
 
-    def __init__(self, columns, *texts, clusters="Unicode"):
+    def __init__(self, columns, *texts, clusters="Unicode", spans=()):
         super().__init__(columns, clusters)
         self.place = (0, 0)
-        for text in texts:
-            self.draw(text)
+        for text, styles in itertools.zip_longest(texts, spans, fillvalue=()):
+            self.draw(text, styles)
 
     def followed_by(self, *texts):
         """A drawing of more texts after these."""
@@ -239,21 +263,25 @@ class Drawing(Rows):
             drawn.draw(text)
         return drawn
 
-    def draw(self, text):
+    def draw(self, text, spans=()):
+        """Draws a text: a cluster has the style of its first byte."""
+        byte = 0
         for number, piece in enumerate(text.split("\n")):
             if number:
                 self.place = (counted_row(self.place[0] + 1), 0)
-            if PRINTABLE.match(piece):
-                self.lay((char, 1) for char in piece)
-            else:
-                self.lay(shown_cluster(cluster, self.columns, self.counted) for cluster in clusters(piece))
+            is_plain = PRINTABLE.match(piece)
+            found = piece if is_plain else clusters(piece)
+            items = ((char, 1) for char in piece) if is_plain else (shown_cluster(it, self.columns, self.counted) for it in found)
+            starts = itertools.accumulate((len(it.encode()) for it in found), initial=byte)
+            self.lay(items, (style_at(spans, start) for start in starts) if spans else itertools.repeat(""))
+            byte += len(piece.encode()) + 1
 
-    def lay(self, items):
+    def lay(self, items, styles):
         row, col = self.place
-        for cluster, wide in items:
+        for (cluster, wide), style in zip(items, styles):
             if col + wide > self.columns:
                 row, col = row + 1, 0
-            self.put(row, col, cluster, wide)
+            self.put(row, col, cluster, wide, style)
             col += wide
             if col == self.columns:
                 row, col = row + 1, 0
@@ -261,11 +289,12 @@ class Drawing(Rows):
 
 
 class Display(Rows):
-    """A display that reads bytes. `top` is the row where the current line begins: nothing may change above it."""
+    """A display that reads bytes. `top` is the row where the current line begins: nothing may change above it. `pen` is the
+    style of what is written: a row break or an erasure while there is one has no meaning."""
 
     def __init__(self, columns, clusters="Unicode"):
         super().__init__(columns, clusters)
-        self.cursor, self.top, self.homed = (0, 0), 0, False
+        self.cursor, self.top, self.homed, self.pen = (0, 0), 0, False, ""
 
     def tell(self, why):
         raise Meaningless(f"{why}, at row {self.cursor[0]}, column {self.cursor[1]}")
@@ -280,6 +309,10 @@ class Display(Rows):
             word = token.lastgroup
             if word == "text":
                 self.write(token["text"])
+            elif word == "nothing":
+                self.pen = ""
+            elif word == "style":
+                self.pen = token["style"].decode()
             elif word == "way":
                 self.move(int(token["by"]), token["way"])
             elif word == "plain":
@@ -307,7 +340,7 @@ class Display(Rows):
         if row < self.top or not self.row(row).keys().isdisjoint(range(col, col + wide)):
             self.tell(f"{text!r} goes over what stands there")
         for cluster, each in items:
-            self.put(row, col, cluster, each)
+            self.put(row, col, cluster, each, self.pen)
             col += each
         self.cursor = (row, col)
 
@@ -333,6 +366,8 @@ class Display(Rows):
             self.cursor = (row, 0)
             return
         self.stay_inside()
+        if self.pen and word != b"\x07":
+            self.tell(f"{word!r} while the style {self.pen} stands")
         if word == b"\n":
             self.cursor = (counted_row(row + 1), col)
         elif word == b"\x1b[H":
@@ -350,7 +385,9 @@ class Display(Rows):
         cells = self.row(row)
         if cells.get(col) is self.INSIDE:
             self.tell("an erasure inside a cluster")
-        for at in [at for at in cells if at >= col]:
-            del cells[at]
+        for held in [cells, *self.styles[row:row + 1]]:
+            for at in [at for at in held if at >= col]:
+                del held[at]
         if word == b"\x1b[J":
             del self.rows[row + 1:]
+            del self.styles[row + 1:]

@@ -43,6 +43,10 @@ ab Enter = nothing
 ab Enter c Enter = nothing
 : advised offers:e,é start:1
 ae Tab Enter = nothing
+: colours advised marked:2 verdict:InvalidTold message:h␊i later:ValidTold later-from:4 styled:1,2,on-red message-style:blue
+ab Enter cd Left Enter = nothing
+: colours helped bind:C-O⇒AcceptLine
+(a) Enter ] C-o (] C-o = nothing
 : advised hint-fails:2
 ab Enter = nothing
 : bind:any⇒Always·AcceptLine
@@ -82,14 +86,16 @@ TOO_LONG = Left("too long")
 
 
 def rows_for(session):
-    """A session's rows: with its keys in one read, as its own word cuts them, and with one more key that accepts the line."""
+    """A session's rows: with its keys in one read, as its own word cuts them, with one more key that accepts the line, and
+    without colours if it has them."""
     others = " ".join(word for word in session.words if not word.startswith("reads:"))
     ways = [("", b""), (session.cut(), b""), (f"bind:{ACCEPTING}⇒AcceptLine", KEYS[ACCEPTING])]
-    return "".join(f"\n: {others} {word}\n{noted_keys(session.keys + key)} = nothing" for word, key in ways)
+    rows = [f"\n: {others} {word}\n{noted_keys(session.keys + key)} = nothing" for word, key in ways]
+    return "".join(rows + [rows[0].replace(" colours ", " ")] * session.has_colours())
 
 
 class Run:
-    """A run of the program, which plays sessions in their three ways. Its output for each is read as it comes."""
+    """A run of the program, which plays sessions in their ways. Its output for each is read as it comes."""
 
     def __init__(self, sessions):
         self.program = subprocess.Popen([PROGRAM, "each"], **dict.fromkeys(("stdin", "stdout", "stderr"), subprocess.PIPE))
@@ -132,7 +138,7 @@ def played(sessions):
     that is the only one."""
     with Run(sessions) as run:
         for session in sessions:
-            ways = [run.left() for _ in range(3)]
+            ways = [run.left() for _ in range(3 + session.has_colours())]
             if None not in ways:
                 yield found_of(session, *ways)
                 continue
@@ -163,10 +169,13 @@ class Player:
                     yield alone, next(played((alone,)))
 
 
-def found_of(session, whole, pieces, accepted):
-    """What is wrong with a session with these results: read at once, in pieces, and with the last line accepted."""
+def found_of(session, whole, pieces, accepted, plain=None):
+    """What is wrong with a session with these results: read at once, in pieces, with the last line accepted, and without the
+    colours that it has."""
     try:
         judge(session, whole, pieces, accepted)
+        if plain is not None and TOO_LONG != plain and "Memory" not in (whole.ending, plain.ending):
+            same("colours", *((it.ending, it.lines, it.saved) for it in (whole, plain)))
     except (Fault, Unjudged) as fault:
         return fault
     return None

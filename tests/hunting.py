@@ -103,9 +103,42 @@ def shown_ends(session, shown, text, begun, is_last):
 
 def is_shown(session, shown, line, drawn):
     """Whether the display shows the drawing of prompt and line from its top on, and at most a message, with the cursor in the
-    row below."""
-    return any(shown.below(shown.top) == each.below(0) and shown.cursor == (shown.top + each.place[0] + 1, 0)
-               for each in (drawn, *session.with_message(shown, line, drawn.place)))
+    row below, and with the styles of an accepted line."""
+    for message, each in ((None, drawn), *session.with_message(shown, line, drawn.place)):
+        if shown.below(shown.top) == each.below(0) and shown.cursor == (shown.top + each.place[0] + 1, 0):
+            expected = [*session.styled(line, message)]
+            if shown.styled(shown.top) not in expected:
+                tell("styles", f"of {line!r}: expected {expected}, found {shown.styled(shown.top)}")
+            return True
+    return False
+
+
+def styled(session, line, message, spans):
+    """The columns with styles of a drawing, by the spans of prompt, line and message."""
+    return Drawing(session.columns, session.prompt, line, message or "", clusters=session.clusters, spans=spans).styled()
+
+
+def standard_styles(session, line, message):
+    """Those that an accepted line may have by the standard highlighter: none but a message's first row, and, if that is the
+    message of an invalid line, the match of a bracket at its end."""
+    if message is None:
+        yield {}
+        return
+    told = [(len(message.partition("\n")[0].encode()), ";31")]
+    for place in (None, match_of_last(line.encode())):
+        yield styled(session, line, message, [[], [] if place is None else [(place, ""), (1, ";1;34")], told])
+
+
+def match_of_last(line):
+    """The place of the bracket that the last byte of a line closes, if it closes one."""
+    pairs, open_still = {b")": b"(", b"]": b"[", b"}": b"{"}, 0
+    closing = line[-1:]
+    for place in reversed(range(len(line))) if closing in pairs else ():
+        byte = line[place:place + 1]
+        open_still += (byte == closing) - (byte == pairs[closing])
+        if not open_still:
+            return place
+    return None
 
 
 def shows_prompt(session, shown):
@@ -143,6 +176,9 @@ def judge_open_line(session, shown, lines, accepted):
         return
     line = accepted[len(lines):].decode()
     rows = shown.below(shown.top)
+    strange = {style for row in shown.styled(shown.top).values() for style in row.values()} - session.styles
+    if strange:
+        tell("styles", f"the display shows {strange}, which nothing has")
     for prompt in prompts_of(session, shown):
         for text in session.open_texts():
             drawn = prompt.followed_by(line[:-1], text)
@@ -160,7 +196,8 @@ def pictured(shown):
     """A display's rows from its top on, and its cursor."""
     rows = [[row.get(col, " ") for col in range(max(row, default=-1) + 1)] for row in shown.below(shown.top)[:20]]
     words = " / ".join("".join(cell for cell in row if cell is not shown.INSIDE) for row in rows)
-    return f"{words}, the cursor in row {shown.cursor[0] - shown.top}"
+    styles = f", with styles {shown.styled(shown.top)}" * bool(shown.styled(shown.top))
+    return f"{words}, the cursor in row {shown.cursor[0] - shown.top}{styles}"
 
 
 def entries_of(saved):

@@ -3,7 +3,7 @@ import dataclasses
 import re
 
 from display import Drawing
-from hunting import entries_of, is_text, without_parts
+from hunting import entries_of, is_text, standard_styles, without_parts
 from searching import Completes
 
 ESC, ENTER = b"\x1b", b"\r"
@@ -75,10 +75,19 @@ class Session:
     clusters = "Unicode"
 
     def with_message(self, shown, line, place):
-        """The drawing with the message that a display shows after prompt and line, if it may show one."""
+        """The message that a display shows after prompt and line, if it may show one, and the drawing with it."""
         message = shown.text(shown.top + place[0], place[1])
         if self.brackets and MESSAGE.fullmatch(message):
-            yield Drawing(self.columns, self.prompt, line, message)
+            yield message, Drawing(self.columns, self.prompt, line, message)
+
+    def styled(self, line, message):
+        """The styles that an accepted line may have."""
+        return standard_styles(self, line, message) if self.extended else [{}]
+
+    @property
+    def styles(self):
+        """Those that any drawing may have."""
+        return {";1;34", ";31"} if self.extended else set()
 
     @property
     def hints_of_history(self):

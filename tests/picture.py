@@ -200,7 +200,9 @@ def console_in(columns):
 
 
 def drawn_run(column, text, style, y):
-    """A run of one style in a row of a picture."""
+    """A run of one style in a row of a picture, without the blanks at its ends."""
+    column += len(text) - len(text.lstrip())
+    text = text.strip()
     looks = [f' fill="{HUES[style["text"]]}"'] if "text" in style else []
     looks += [' font-weight="bold"'] if style.get("bold") else []
     looks += [' opacity="0.5"'] if style.get("faint") else []
@@ -226,10 +228,10 @@ def console_picture():
         top += ROW * len(rows) + 16 + LEFT
     width = 2 * LEFT + CELL * max(WINDOWS)
     return (
-        f'<svg xmlns="http://www.w3.org/2000/svg" viewBox="0 0 {width:g} {top}" width="{width:g}" height="{top}">\n'
+        f'<svg xmlns="http://www.w3.org/2000/svg" viewBox="0 0 {width:g} {top}" width="{width:g}" height="{top}" fill="#e6edf3">\n'
         "  <title>A statement in the SQL console, with a hint, as tmux shows it at "
         f"{' and '.join(map(str, WINDOWS))} columns</title>\n"
-        '  <style>text { font: 14px "DejaVu Sans Mono", Menlo, Consolas, monospace; white-space: pre; fill: #e6edf3 }</style>\n'
+        '  <style>text { font: 14px "DejaVu Sans Mono", Menlo, Consolas, monospace; white-space: pre }</style>\n'
         f'  <rect width="100%" height="100%" rx="8" fill="#0d1117"/>\n{"".join(windows)}</svg>\n'
     )
 

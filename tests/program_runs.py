@@ -19,7 +19,7 @@ use Rattle.std.specs.Prelude.{List, [], ◌∷◌, ◌++◌, None, Some, true, f
 use Rattle.line_config.specs.declared.errors.ReadlineError.TheVariants.{Eof, Interrupted, NotUtf8, PasteOutOfPlace}
 use Rattle.line_config.specs.declared.settings.EditMode.TheVariants.{Emacs, Vi}
 use Rattle.worked_rows.specs.Playing.{Row, row}
-use Rattle.worked_rows.specs.Settings.{by_options, extended}
+use Rattle.worked_rows.specs.Settings.{by_options}
 
 """
 
@@ -79,8 +79,7 @@ class Run:
         """The run as a row."""
         given = [self.mode.capitalize(), str(self.columns), within(term(self.prompt.encode())), str(self.brackets).lower(),
                  "None" if self.words is None else within(some(self.words)), within(term(self.history or b""))]
-        options = f"by_options {' '.join(given)}"
-        settings = f"extended ({options})" if self.extended else options
+        settings = f"by_options {str(self.extended).lower()} {' '.join(given)}"
         told = f"row {number} ({settings}) {within(term(self.keys))} {within(term(self.lines))}"
         fields = {"ends": self.ending, "saves": some(self.saved), "shows": some(self.display)}
         return wrapped(f"abbrev pub row_{number} : Row\nrow_{number} = {record(told, fields)}\n")

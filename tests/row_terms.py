@@ -28,8 +28,9 @@ NAMES = {
     "Rattle.stand_ins.specs.Handlers": ["hint_or_kill", "one_way"],
     "Rattle.stand_ins.specs.declared.handlers.OneWay.TheVariants": ["Count", "Fails", "Nothing"],
     "Rattle.worked_rows.specs.Playing": ["Row", "row"],
-    "Rattle.worked_rows.specs.Settings": ["Settings", "adding", "aide", "aide_ending", "always", "at_once", "bound", "command", "counting",
-                                          "limited", "listed", "modal", "of_size", "plain", "vi"],
+    "Rattle.worked_rows.specs.Settings": [
+        "Settings", "adding", "aide", "aide_ending", "always", "at_once", "bound", "colours", "command", "counting", "limited", "listed",
+        "modal", "of_size", "plain", "vi"],
 }
 # A text of more such bytes in a row is written with their number.
 RUN = 40
@@ -142,13 +143,14 @@ def binding_term(word):
 
 # ---- settings
 
-KNOWN = {"", "vi", "adding", "modal", "listed", "at-once", "bare", "helped", "keys@end"}
+KNOWN = {"", "vi", "adding", "modal", "colours", "listed", "at-once", "bare", "helped", "keys@end"}
+CONFIGURED = (("vi", "vi"), ("adding", "adding"), ("modal", "modal"), ("colours", "colours"), ("listed", "listed"), ("at-once", "at_once"))
 VALUES = ("bind:", "clusters:", "columns:", "ends:", "limit:", "loaded:", "prompt:", "size:", "words:")
 
 
 def config_term(row):
     config = "plain.config"
-    for word, name in (("vi", "vi"), ("adding", "adding"), ("modal", "modal"), ("listed", "listed"), ("at-once", "at_once")):
+    for word, name in CONFIGURED:
         config = f"{name} {within(config)}" if word in row.settings else config
     for word, name in (("clusters:", "counting"), ("size:", "of_size"), ("limit:", "limited")):
         value = row.value(word, "")

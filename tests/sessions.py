@@ -52,13 +52,9 @@ HEADINGS = {"'": "(reverse-i-search)`", "!'": "(failed reverse-i-search)`", ">'"
 SEARCHED = re.compile("(!?>?')([^']*)'(.*)")
 
 
-def drawn(text):
-    """The bytes of a display: `{` begins a drawing, up to the line, and `}` ends one without anything after the line. A piece
-    `'xy'ab}` is a drawing after the prompt of a search for `xy`."""
-    return b"".join(map(piece_drawn, text.split()))
-
-
 def piece_drawn(piece):
+    """The bytes of a piece of a display: `{` begins a drawing, up to the line, and `}` ends one without anything after the line.
+    A piece `'xy'ab}` is a drawing after the prompt of a search for `xy`."""
     found = SEARCHED.fullmatch(piece)
     if found:
         return b"\r\x1b[J\x1b[m" + b"".join(map(meant, (HEADINGS[found[1]], found[2], "': ␛[m"))) + piece_drawn(found[3])
@@ -82,16 +78,25 @@ class Row:
         self.ends = said.get("ends", "Eof").strip()
         self.saves = said.get("saves")
         shows = said.get("shows")
-        self.display = None if shows is None else drawn(shows)
+        self.pieces = [*map(piece_drawn, (shows or "").split())]
+        self.display = None if shows is None else b"".join(self.pieces)
         self.loaded = meant(self.value("loaded:", ""))
 
     def value(self, name, default):
         found = [word[len(name):] for word in self.settings if word.startswith(name)]
         return found[0] if found else default
 
+    def has_styles(self):
+        """Whether the standard styles may be seen in the row: where a bracket is at the cursor, or a message is told."""
+        texts = re.sub(rb"\x1b\[[0-9;]*[A-Z~]", b"", self.keys) + self.loaded + self.value("words:", "").encode()
+        return re.search(rb"[][(){}]", texts) is not None
+
     def is_played(self):
-        """Whether the program can play the row: it binds no key, gives no hint, keeps a hundred lines, and lists candidates."""
+        """Whether the program can play the row: it binds no key, gives no hint, keeps a hundred lines, lists candidates, and
+        has styles only with the commands that go on over several keys."""
         words = self.value("words:", "")
+        if ("colours" in self.settings) != ("modal" in self.settings) and self.has_styles():
+            return False
         own = any(word.startswith(("bind:", "size:", "limit:", "at-once", "advised", "ends:")) for word in self.settings)
         hinted = ("helped" in self.settings or words) and self.value("loaded:", "")
         in_turn = "modal" in self.settings and words and "listed" not in self.settings
@@ -210,6 +215,16 @@ def candidates_one_byte_a_read():
     played("candidates.txt", True)
 
 
+def styles():
+    """The rows of `colours.txt` that --extended has: too few for `played`."""
+    rows = [row for row in rows_of("colours.txt") if row.is_played()]
+    for row in rows:
+        row.play(False)
+        row.play(True)
+    if len(rows) < 3:
+        raise Failed(f"only {len(rows)} rows")
+
+
 def sizes():
     """Sessions that are too large to be played with each run of `sessions_program`."""
     count = len(list(rows_of("sizes.txt")))
@@ -221,4 +236,4 @@ if __name__ == "__main__":
     run_all([worked_rows, worked_rows_one_byte_a_read, keys_of_emacs, keys_of_emacs_one_byte_a_read, keys_of_vi,
              keys_of_vi_one_byte_a_read, worked_sessions, worked_sessions_one_byte_a_read, commands_over_several_keys,
              commands_over_several_keys_one_byte_a_read, candidates,
-             candidates_one_byte_a_read, sizes])
+             candidates_one_byte_a_read, styles, sizes])

@@ -110,7 +110,7 @@ const HIGHLIGHTS: &str = "
     marks: 2 = nothing
     ab|: AcceptLine = Submit ab| / draw '> ab|' at 0,4 to 0,4 lit marked
     a|b: AcceptLine = Submit a|b /
-    ab|: Repaint; Move BackwardChar 1 = a|b / draw '> a|b' at 0,3 to 0,4 lit marked
+    ab|: Repaint; Move BackwardChar 1 = a|b / draw '> a|b' at 0,3 to 0,4 lit
     ab|: Repaint; Move BackwardChar 1; AcceptLine = Submit a|b /
     ab|: Repaint = ab| / draw '> ab|' at 0,4 to 0,4 lit marked
 
@@ -121,7 +121,7 @@ const HIGHLIGHTS: &str = "
     helper: InvalidTold no = nothing
     ab|: AcceptOrInsertLine = ab| / draw '> ab|{no}' at 0,4 to 0,6 lit told
     marks: 2 = nothing
-    ab|: AcceptOrInsertLine = ab| / draw '> ab|{no}' at 0,4 to 0,6 lit marked told
+    ab|: AcceptOrInsertLine = ab| / draw '> ab|' at 0,4 to 0,4 lit marked; draw '> ab|{no}' at 0,4 to 0,6 lit marked told
 ";
 
 const TABLES: [&str; 4] = [ENDS, VERDICTS, HINTS, HIGHLIGHTS];

@@ -83,7 +83,7 @@ const HINTS_AND_HIGHLIGHTS: &str = "
     colours: yes = nothing
     marks: 3 = nothing
     ab|: SelfInsert 1 c = abc| / draw '> abc|' at 0,5 to 0,5 lit marked
-    ab|: SelfInsert 1 c; SelfInsert 1 d = abcd| / draw '> abcd|' at 0,6 to 0,6 lit marked
+    ab|: SelfInsert 1 c; SelfInsert 1 d = abcd| / draw '> abcd|' at 0,6 to 0,6 lit
     ab|: SelfInsert 1 c; SelfInsert 1 d; SelfInsert 1 e = abcde| / write 'e'
 ";
 

@@ -97,7 +97,7 @@ const HIGHLIGHTS: &str = "
 
     colours: yes = nothing
     ab|c: Move BackwardChar 1 = a|bc / draw '> a|bc' at 0,3 to 0,5 lit marked
-    ab|c: Move BackwardChar 1; Move BackwardChar 1 = |abc / draw '> |abc' at 0,2 to 0,5 lit marked
+    ab|c: Move BackwardChar 1; Move BackwardChar 1 = |abc / draw '> |abc' at 0,2 to 0,5 lit
     ab|c: Move BackwardChar 1; Move BackwardChar 1; Move EndOfLine = abc| / move 0,2 to 0,5
     ab|c: Move BackwardChar 2 = |abc / move 0,4 to 0,2
 ";

@@ -6,6 +6,7 @@ use crate::failing::{Way, cut_text_told, room_told};
 use crate::helpers::prompt_told;
 use crate::history::{loaded_anew, loaded_under};
 use crate::resuming::ends_told;
+use crate::style_split::split_told;
 use crate::words::words_of_text;
 use stand_ins::rows::{Player, raised, trimmed};
 use std::alloc::{AllocError, Global};
@@ -22,6 +23,7 @@ pub(crate) enum Ask {
     Prompts,
     Settings,
     Ends,
+    Split,
     WordsOfTexts,
 }
 
@@ -36,6 +38,7 @@ impl Ask {
             Ask::Prompts => prompt_told(alloc, call),
             Ask::Settings => loaded_under(alloc, call),
             Ask::Ends => ends_told(alloc, call),
+            Ask::Split => split_told(alloc, call),
             Ask::WordsOfTexts => words_of_text(alloc, call),
         }
     }

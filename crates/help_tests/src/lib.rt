@@ -16,6 +16,8 @@ mod history;
 #[cfg(test)]
 mod resuming;
 #[cfg(test)]
+mod style_split;
+#[cfg(test)]
 mod styles;
 #[cfg(test)]
 mod words;

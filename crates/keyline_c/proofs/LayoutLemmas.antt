@@ -35,8 +35,8 @@ module _ (s : Screen) where
   moved_counts l to false h = h
 
   typed_counts : (l : Layout) (m : Option Marks) (c : ℕ) (prompt text : List ℕ) (at : ℕ) (b : Bool) → Counts l → Counts (if b then typed_short l c else full (ruler_of s) m l prompt true text at None).layout
-  typed_counts l (shown_marks v m) c prompt text at true h = h
-  typed_counts l (shown_marks v m) c prompt text at false h = refl
+  typed_counts l m c prompt text at true h = h
+  typed_counts l m c prompt text at false h = refl
 
   taken_counts : (l : Layout) (m : Option Marks) (count : ℕ) (prompt text : List ℕ) (at : ℕ) (b : Bool) → Counts l → Counts (if b then taken_short l count else full (ruler_of s) m l prompt true text at None).layout
   taken_counts l m count prompt text at true h = h

@@ -24,7 +24,7 @@ use Rattle.line_screen.specs.Display.{Display, Placed, cell_at, meaning}
 use Rattle.line_screen.specs.Drawing.{erase_to_end}
 use Rattle.line_screen.specs.KeyGrammar.{paste_start}
 use Rattle.line_screen.specs.Laws.{widths}
-use Rattle.keyline.specs.Events.{line_course}
+use Rattle.keyline.specs.Events.{line_course, played_in}
 use Rattle.keyline.specs.Pasting.{IsPasteable, sent_as_paste}
 use Rattle.keyline.specs.SessionLaws.{steps_in}
 use Rattle.keyline.specs.Sessions.{Given, SessionState, coming_from}

@@ -23,6 +23,7 @@ pub mod RunLemmas
 pub mod SavingLemmas
 pub mod SearchLemmas
 pub mod SortLemmas
+pub mod SplitLemmas
 pub mod ValidationLemmas
 pub mod WordBeforeLemmas
 pub mod WordLemmas

@@ -9,5 +9,6 @@ pub mod Hints
 pub mod Paints
 pub mod Quotes
 pub mod Search
+pub mod SplitStyles
 pub mod Validation
 pub mod WordList

@@ -11,3 +11,5 @@ mod fixtures;
 mod reading;
 #[cfg(test)]
 mod sessions;
+#[cfg(test)]
+mod styles;

@@ -1,10 +1,11 @@
 //! A helper for sessions that answers as its words say, right or wrong.
 //!
 //! The word `advised` asks for it. Its words for hints are `hint:`, `taken:` (what the hint adds to
-//! the line), `hint-from:` and `marked:`. Those for verdicts are `verdict:`, `later:`,
+//! the line) and `hint-from:`. Those for verdicts are `verdict:`, `later:`,
 //! `later-from:` and `message:`. Those for completion are `offers:` (a candidate, or two with a
 //! comma between them), `start:`, `ends:` (what follows a candidate that is the only one) and
-//! `shown:` (what follows one in a list). Those for faults are `hint-fails:`, `verdict-fails:`,
+//! `shown:` (what follows one in a list). Those for styles are `marked:`, `marks-from:` and what
+//! `styles` reads. Those for faults are `hint-fails:`, `verdict-fails:`,
 //! `completion-fails:`, `update-fails:` and `wants-memory`.
 
 ghost use Rattle.std.specs.Prelude.{◌≡◌, ◌==◌, nat_le, option_copied, option_map, length, None, Some, false, if◌then◌else◌, IfErr};
@@ -13,11 +14,12 @@ ghost use Rattle.line_keys.specs.Replies.{gives_at_once, gives_unless};
 ghost use Rattle.line_config.specs.declared.errors.HookFault.TheVariants.{Memory};
 
 use crate::notation::{after, number_after, text_meant};
+use crate::styles::{Styles, styles_of};
 use line_buffer::{ChangeListener, LineBuffer};
 use line_config::{CompletionType, HookFault};
 use line_help::{
-    Completer, Context, Helper, Highlighter, Hint, Hinter, History, ValidationContext,
-    ValidationResult, Validator, WholeWord, update_line,
+    Completer, Context, Helper, Highlighter, Hint, Hinter, History, Mark, Part, Span,
+    ValidationContext, ValidationResult, Validator, WholeWord, update_line,
 };
 use line_keys::{CmdKind, Text};
 use std::alloc::{AllocError, Global};
@@ -62,8 +64,8 @@ impl Hint for Said<'_> {
 
 /// A helper with fixed answers. It has one hint for lines of at least so many bytes, and one
 /// verdict for shorter texts and another one for longer texts. Its candidates are the same for
-/// every word, which begins at one place. A character is highlighted if the cursor is at
-/// `marked_at`. For texts of at least so many bytes hinter, validator and completer fail, or run
+/// every word, which begins at one place. The line is highlighted if the cursor is at `marked_at`, and
+/// if it has at least `marks_from` bytes. For texts of at least so many bytes hinter, validator and completer fail, or run
 /// out of memory; the completer inserts no text of so many bytes.
 #[derive(Clone, Copy, Drop)]
 pub struct Adviser<'a> {
@@ -82,6 +84,8 @@ pub struct Adviser<'a> {
     completion_fails_from: usize,
     update_fails_from: usize,
     marked_at: usize,
+    marks_from: usize,
+    styles: Styles,
     wants_memory: bool,
 }
 
@@ -212,9 +216,12 @@ impl<'a> Hinter for Adviser<'a> {
 }
 
 impl Highlighter for Adviser<'_> {
+    ghost use Rattle.std.specs.Prelude.{◌||◌};
+    ghost use Rattle.session_words.specs.Styles.{styled_by};
+
     ghost marks = { λ self. record {
-        marked = λ line pos kind. pos == self.marked_at;
-        paints = λ part text from. [];
+      marked = λ line pos kind. (pos == self.marked_at) || nat_le self.marks_from (length line);
+      paints = λ part text from. styled_by self.styles part text from;
     } };
 
     ghost kept = { λ before after. after ≡ before };
@@ -254,12 +261,12 @@ impl Highlighter for Adviser<'_> {
         ().highlight_candidate(alloc, candidate, completion)
     }
 
-    fn highlight_char(&mut self, _line: &str, pos: usize, _kind: CmdKind) -> bool {
-        pos == self.marked_at
+    fn highlight_char(&mut self, line: &str, pos: usize, _kind: CmdKind) -> bool {
+        pos == self.marked_at || line.len() >= self.marks_from
     }
 
-    fn next_span(&self, _part: Part, _text: &str, _from: Mark) -> Option<(Span, Mark)> {
-        None
+    fn next_span(&self, part: Part, text: &str, from: Mark) -> Option<(Span, Mark)> {
+        self.styles.next_span(part, text, from)
     }
 }
 
@@ -398,6 +405,8 @@ impl Texts {
             completion_fails_from: number_after(words, "completion-fails:", usize::MAX),
             update_fails_from: number_after(words, "update-fails:", usize::MAX),
             marked_at: number_after(words, "marked:", usize::MAX),
+            marks_from: number_after(words, "marks-from:", usize::MAX),
+            styles: styles_of(words),
             wants_memory: after(words, "wants-memory").is_some(),
         }
     }

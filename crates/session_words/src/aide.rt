@@ -1,15 +1,17 @@
 //! A helper for sessions.
 
 use crate::notation::{Setting, after, text_meant};
-use line_help::{HelperParts, HistoryHinter, MatchingBracketValidator, WholeWordCompleter};
+use line_help::{
+    HelperParts, HistoryHinter, MatchingBracketValidator, StandardHighlighter, WholeWordCompleter,
+};
 use std::alloc::{AllocError, Global};
 
-/// Completion by words, hints from the history, and validation of brackets. A word that is the only
+/// Completion by words, hints from the history, the standard styles, and validation of brackets. A word that is the only
 /// candidate is followed by the text after `ends:`, a space or a quote.
 pub type Aide = HelperParts<
     Option<WholeWordCompleter>,
     HistoryHinter,
-    (),
+    StandardHighlighter,
     Option<MatchingBracketValidator>,
 >;
 
@@ -52,7 +54,7 @@ pub fn aide_of(alloc: Global, setting: &Setting<'_>) -> Result<Option<Aide>, All
     Ok(Some(HelperParts {
         completer,
         hinter: HistoryHinter::new(),
-        highlighter: (),
+        highlighter: StandardHighlighter::new(),
         validator,
     }))
 }

@@ -1,4 +1,4 @@
-//! The words in which tests write sessions: rows, settings, bindings, helpers and faults.
+//! The words in which tests write sessions: rows, settings, bindings, helpers, styles and faults.
 #![tactic(auto)]
 
 pub mod advice;
@@ -6,3 +6,4 @@ pub mod aide;
 pub mod bound;
 pub mod faults;
 pub mod notation;
+pub mod styles;

@@ -30,6 +30,8 @@ pub struct Setting<'a> {
     pub adding: bool,
     /// Whether the commands act that go on over several keys.
     pub modal: bool,
+    /// Whether the helper's styles are drawn.
+    pub colours: bool,
     pub helped: bool,
     /// Whether the helper is an adviser.
     pub advised: bool,
@@ -98,6 +100,7 @@ pub fn setting_of(words: &str) -> Setting<'_> {
         },
         adding: has(words, "adding"),
         modal: has(words, "modal"),
+        colours: has(words, "colours"),
         helped: has(words, "helped"),
         advised: has(words, "advised"),
         words: after(words, "words:").unwrap_or(""),

@@ -72,7 +72,16 @@ fn draw<Out: Renderer>(alloc: Global, screen: &mut Out, case: Case, old: Layout)
         Some(case.info)
     };
     let new = screen.compute_layout(prompt_size, true, &line, info);
-    screen.refresh_line("> ", &line, info, Some(old), &new, None::<&()>, false, false)?;
+    screen.refresh_line(
+        "> ",
+        &line,
+        info,
+        Some(old),
+        &new,
+        None::<&()>,
+        false,
+        false,
+    )?;
     Ok(new)
 }
 

@@ -19,13 +19,14 @@ use session_rows::play::{Played, play};
 use session_rows::refusals::{play_grown, play_refused};
 use std::{env, fs, io};
 
-const FILES: [&str; 8] = [
+const FILES: [&str; 9] = [
     "rows.txt",
     "emacs.txt",
     "vi.txt",
     "worked.txt",
     "modal.txt",
     "candidates.txt",
+    "colours.txt",
     "faults.txt",
     REFUSED,
 ];

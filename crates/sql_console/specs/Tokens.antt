@@ -31,13 +31,14 @@ past class text at = at + prefix_len (is_in class) (drop at text)
 unfoldable pub is_keyword : List ℕ → Bool
 is_keyword word = list_any (λ k. str_eq_ignore_ascii_case k.0.now word) KEYWORDS
 
--- a number begins with a digit
+-- a number, which begins with a digit, is magenta, a keyword bold and blue
 abbrev pub word_style : List ℕ → Style
 word_style word =
     if is_ascii_digit (slice_index word 0) then coloured Magenta
     else if is_keyword word then record (coloured Blue) { bold = true } else plain
 
--- how a text begins: a string up to its quote, a comment up to the row's end, a word, another byte
+-- how a text begins: with a string up to its quote, which is green; with a comment up to the row's
+-- end, which is cyan; with a word; or with another byte, which is plain
 unfoldable pub first_token : List ℕ → Span
 first_token text =
     if slice_index text 0 == 0x27

@@ -124,7 +124,7 @@ fn first_token(text: &[u8]) -> Span
 }
 
 /// The token at a mark, and the mark after it.
-#[tactic(auto, using(crate::proofs::TokenLemmas::tokens))]
+#[tactic(auto, using(crate::proofs::TokenLemmas::tokens_past))]
 pub(crate) fn next_token(text: &[u8], from: Mark) -> Option<(Span, Mark)>
     ensures { IsNextSpan (λ mark. tokens_from mark.at text.now) from result }
 {

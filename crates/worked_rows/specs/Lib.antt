@@ -1,5 +1,6 @@
 pub mod Calls
 pub mod Candidates
+pub mod Colours
 pub mod Comparing
 pub mod Emacs
 pub mod Faults

@@ -13,6 +13,7 @@ use Rattle.line_editor.specs.Running.{Helping, helping_by}
 use Rattle.line_help.specs.Completion.{nothing_offered, whole_word_reply}
 use Rattle.line_help.specs.Hints.{hint_of_history}
 use Rattle.line_help.specs.HistoryText.{entries_of, text_rows}
+use Rattle.line_help.specs.Paints.{standard_marks}
 use Rattle.line_help.specs.Validation.{bracket_reply}
 use Rattle.line_help.specs.declared.validate.ValidationResult.TheVariants.{Valid}
 use Rattle.line_keys.specs.Answers.{Custom, custom_of}
@@ -56,29 +57,26 @@ abbrev pub program_config : EditMode → Config
 program_config mode =
     record standard_config { edit_mode = mode; keyseq_timeout = timeout_of mode }
 
-abbrev pub program_helper : Bool → Option (List (List ℕ)) → Option EditHelper
-program_helper brackets words = if brackets || is_some words
+abbrev pub program_helper : Bool → Bool → Option (List (List ℕ)) → Option EditHelper
+program_helper colours brackets words = if brackets || is_some words || colours
     then Some (record {
       completer = words;
       hinter = tt;
-      highlighter = tt;
+      highlighter = record { brackets = None };
       validator = if brackets then Some (record {}) else None;
     })
     else None
 
--- what the program hands in by its options, the texts of its files being `words` and `loaded`
-abbrev pub by_options : EditMode → ℕ → List ℕ → Bool → Option (List ℕ) → List ℕ → Settings
-by_options mode columns prompt brackets words loaded = record plain {
-  config = program_config mode;
+-- what the program passes in by its options, with or without --extended, and without NO_COLOR; the
+-- texts of its files are `words` and `loaded`
+abbrev pub by_options : Bool → EditMode → ℕ → List ℕ → Bool → Option (List ℕ) → List ℕ → Settings
+by_options extended mode columns prompt brackets words loaded = record plain {
+  config = profile_of extended (program_config mode);
   columns = columns;
   prompt = prompt;
-  helping = edit_helping (program_helper brackets (words_in words));
+  helping = edit_helping (program_helper extended brackets (words_in words));
   loaded = loaded;
 }
-
--- by --extended
-abbrev pub extended : Settings → Settings
-extended settings = record settings { config = profile_of true settings.config }
 
 abbrev pub vi : Config → Config
 vi config = record config { edit_mode = Vi }
@@ -89,6 +87,10 @@ adding config = record config { auto_add_history = true }
 -- with commands that go on over several keys
 abbrev pub modal : Config → Config
 modal config = record config { modal_commands = true }
+
+-- with the helper's styles
+abbrev pub colours : Config → Config
+colours config = record config { draw_colours = true }
 
 -- several candidates are listed: so many of them, and at the first Tab that adds nothing
 abbrev pub listed : Config → Config
@@ -107,7 +109,7 @@ abbrev pub counting : GraphemeClusterMode → Config → Config
 counting mode config = record config { grapheme_cluster_mode = mode }
 
 -- hints of the history, completion by words, one of which ends in a text if there is no other one,
--- and lines whose brackets are balanced
+-- lines whose brackets are balanced, and the standard styles
 abbrev pub aide_ending : List ℕ → Bool → Option (List (List ℕ)) → Helping
 aide_ending end brackets words =
     helping_by {H = ⊤} (λ h line pos entries place. hint_of_history line pos entries place)
@@ -115,7 +117,7 @@ aide_ending end brackets words =
     (λ h line pos entries place. option_map_or
     (λ ws. whole_word_reply (record { words = ws; end = end }) (take pos line)) words
     (gives_at_once nothing_offered)) (λ h line start elected. gives tt)
-    (λ h line pos kind. false) (Some tt)
+    (λ h. standard_marks) (Some tt)
 
 abbrev pub aide : Bool → Option (List (List ℕ)) → Helping
 aide = aide_ending []

@@ -9,6 +9,7 @@
 ghost use Rattle.std.specs.Prelude.{◌≡◌, []};
 ghost use Rattle.worked_rows.specs.Calls.{Edits, Motions, Records, Rings};
 ghost use Rattle.worked_rows.specs.Candidates.{candidates_rows};
+ghost use Rattle.worked_rows.specs.Colours.{colours_rows};
 ghost use Rattle.worked_rows.specs.Emacs.{emacs_rows};
 ghost use Rattle.worked_rows.specs.Faults.{faults_rows};
 ghost use Rattle.worked_rows.specs.Modal.{modal_rows};
@@ -73,6 +74,13 @@ pub fn modal()
 pub fn candidates()
     ensures given { differing candidates_rows ≡ [] }
     ensures shown { AllShown (short candidates_rows) }
+{}
+
+/// The definition gives each row of `colours.txt`: its lines, its ending, the history's text and
+/// the display bytes. At each moment the bytes so far show prompt and line.
+pub fn colours()
+    ensures given { differing colours_rows ≡ [] }
+    ensures shown { AllShown (short colours_rows) }
 {}
 
 /// Where motions go from a place in a line.

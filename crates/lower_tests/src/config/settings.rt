@@ -39,6 +39,7 @@ fn drawing_answer(alloc: Global, config: &Config, name: &str) -> Result<String, 
         "completion_prompt_limit" => shown(alloc, config.completion_prompt_limit()),
         "bell_style" => shown(alloc, config.bell_style()),
         "color_mode" => shown(alloc, config.color_mode()),
+        "draw_colours" => shown(alloc, config.draw_colours()),
         "grapheme_cluster_mode" => shown(alloc, config.grapheme_cluster_mode()),
         _ => terminal_answer(alloc, config, name),
     }
@@ -85,6 +86,7 @@ const DEFAULTS: &str = "
     auto_add_history = false
     bell_style = Audible
     color_mode = Enabled
+    draw_colours = false
     grapheme_cluster_mode = Unicode
     behavior = Stdio
     tab_stop = 8
@@ -146,6 +148,7 @@ fn set_drawing<C: Configurer>(holder: &mut C) {
     holder.set_completion_prompt_limit(7);
     holder.set_bell_style(BellStyle::Visible);
     holder.set_color_mode(ColorMode::Forced);
+    holder.set_draw_colours(true);
     holder.set_grapheme_cluster_mode(GraphemeClusterMode::NoZwj);
 }
 
@@ -168,6 +171,7 @@ const ALL_SET: &str = "
     auto_add_history = true
     bell_style = Visible
     color_mode = Forced
+    draw_colours = true
     grapheme_cluster_mode = NoZwj
     tab_stop = 4
     indent_size = 5
@@ -233,6 +237,7 @@ fn build_drawing(builder: Builder) -> Builder {
         .completion_prompt_limit(7)
         .bell_style(BellStyle::Visible)
         .color_mode(ColorMode::Forced)
+        .draw_colours(true)
         .grapheme_cluster_mode(GraphemeClusterMode::NoZwj)
 }
 

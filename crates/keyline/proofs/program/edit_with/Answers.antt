@@ -8,7 +8,7 @@ returns-clause-edits g c =
     let session = c.in_ok-session.session in
     let opened = c.in_ok-session.ensures in
     edited g.F.Source.feed _ _ _ c.args.config c.args.options.now _ c.args.history c.args.source c.args.display c.args.lines c.args.text session.text c.run.result
-    session.desk session.config _ _ c.helper_of.result
+    session.desk session.config _ _ c.helper_of-helper.result
     opened.desk c.run.ensures
-    opened.given.config_is (opened.given.prompt_is ∙ c.as_str.ensures.value) c.helper_of.ensures opened.given.text_is
+    opened.given.config_is (opened.given.prompt_is ∙ c.as_str.ensures.value) c.helper_of-helper.ensures opened.given.text_is
     (none_bound session.bindings _ (opened.given.bindings_are ∙ MatchResult-at_ok (λ b. b ≡ []) (λ _. ⊥) c.unwrap.result c.unwrap.ensures c.new.ensures))

@@ -31,12 +31,12 @@ returns-clause-desk g c =
     record {
       loaded = loaded_where _ _ _ (λ always. always c.begin.new.source) c.in-Ok-begin.ensures.ok.history;
       ring = c.in-Ok-begin.ensures.ok.ring;
-      query = c.new-4.ensures.bytes;
+      query = c.new-3.ensures.bytes;
       coming = subst Comes devices.0 c.new-2.ensures.coming c.requires.source ∙ mode;
       source_is = c.new-2.ensures.source ∙ devices.0;
       kept = c.new-2.ensures.kept;
       screen = search rules;
-      display_is = c.new-3.ensures.sink ∙ devices.1;
+      display_is = c.set_colours.ensures.sink ∙ c.new-out.ensures.sink ∙ devices.1;
       helper_is = refl;
       lines_are = devices.2;
     }

@@ -1,0 +1,174 @@
+#!/usr/bin/env python3
+"""Styles on a terminal: what tmux shows after each drawing of the rows of `colours.txt`, cell by cell with its style, is what the
+display of tests/display.py shows.
+
+The rows have the bytes, so nothing is built for this: sessions_program and the program play the same rows.
+"""
+import os
+import re
+import shlex
+import tempfile
+import time
+
+from checks import Failed, run_all
+from display import Display, Meaningless, clusters
+from drawings import Terminal
+from sessions import rows_of
+
+# A drawing must be shown within this many seconds.
+PATIENCE = 60
+SGR = re.compile(r"\x1b\[([0-9;]*)m")
+# The flags of SGR, and what ends each.
+FLAGS = (1, 2, 3, 4, 7)
+ENDED = {22: (1, 2), 23: (3,), 24: (4,), 27: (7,), 39: ("text",), 49: ("ground",)}
+
+
+def colour_of(codes):
+    """A colour after 38 or 48, and the codes behind it. tmux knows the first sixteen of the palette by their names too."""
+    if codes[0] == 5:
+        return ("palette", codes[1]), codes[2:]
+    return ("rgb", *codes[1:4]), codes[4:]
+
+
+def attributes(known, numbers):
+    """The attributes after a sequence SGR, by those before it."""
+    known, codes = dict(known), [int(it or "0") for it in numbers.split(";")]
+    while codes:
+        code, codes = codes[0], codes[1:]
+        if code == 0:
+            known = {}
+        elif code in FLAGS:
+            known[code] = True
+        elif code in (38, 48):
+            known["text" if code == 38 else "ground"], codes = colour_of(codes)
+        elif code in ENDED:
+            known = {it: value for it, value in known.items() if it not in ENDED[code]}
+        else:
+            tens, unit = divmod(code, 10)
+            part = {3: ("text", 0), 4: ("ground", 0), 9: ("text", 8), 10: ("ground", 8)}[tens]
+            known[part[0]] = ("palette", unit + part[1])
+    return known
+
+
+def captured(text):
+    """The clusters of what `capture-pane -e -N` gives, row by row, with their attributes."""
+    known, rows = {}, []
+    for line in text.split("\n"):
+        row, at = [], 0
+        for found in [*SGR.finditer(line), None]:
+            row += ((cluster, known) for cluster in clusters(line[at:found.start() if found else len(line)]))
+            if found:
+                known, at = attributes(known, found[1]), found.end()
+        rows.append(row)
+    return trimmed(rows)
+
+
+def trimmed(rows):
+    """Rows without the blanks at their ends that have no attribute, and without blank rows at the end."""
+    for row in rows:
+        while row and row[-1] == (" ", {}):
+            row.pop()
+    while rows and not rows[-1]:
+        rows.pop()
+    return rows
+
+
+def judged(shown):
+    """What a display shows, as `captured` has it."""
+    rows, styled = [], shown.styled()
+    for number, cells in enumerate(shown.rows):
+        styles = styled.get(number, {})
+        columns = [col for col in range(max(cells, default=-1) + 1) if cells.get(col) is not shown.INSIDE]
+        rows.append([(cells.get(col, " "), attributes({}, f"0{styles.get(col, '')}")) for col in columns])
+    return trimmed(rows)
+
+
+class Shown:
+    """A terminal that shows bytes as they are sent."""
+
+    def __init__(self, folder, columns):
+        self.pipe, self.sent, self.columns = os.path.join(folder, f"pipe{columns}"), b"", columns
+        os.mkfifo(self.pipe)
+        place = os.path.join(folder, str(columns))
+        os.mkdir(place)
+        self.terminal = Terminal(place, columns, f"stty -opost; exec cat {shlex.quote(self.pipe)}")
+        self.into = open(self.pipe, "wb", buffering=0)
+
+    def clear(self):
+        self.into.write(b"\x1b[m\x1b[H\x1b[2J")
+        self.sent = b""
+
+    def send(self, data):
+        self.into.write(data)
+        self.sent += data
+
+    def seen(self):
+        row, col = self.terminal.ask("display-message", "-p", "#{cursor_y} #{cursor_x}").split()
+        return captured(self.terminal.ask("capture-pane", "-p", "-e", "-N")), (int(row), int(col))
+
+    def expected(self):
+        shown = Display(self.columns)
+        for _ in shown.read(self.sent):
+            pass
+        if shown.pen:
+            raise Failed(f"the style {shown.pen} stands after {self.sent!r}")
+        return judged(shown), shown.cursor
+
+    def agrees(self, what):
+        expected, end = self.expected(), time.monotonic() + PATIENCE
+        while (seen := self.seen()) != expected:
+            if time.monotonic() > end:
+                raise Failed(f"{what}: after {self.sent!r} the judge shows {expected}, and tmux {seen}")
+            time.sleep(0.02)
+
+    def close(self):
+        self.into.close()
+        self.terminal.close()
+
+
+def rows_with_styles():
+    """After each drawing of each row."""
+    terminals, drawings = {}, 0
+    with tempfile.TemporaryDirectory() as folder:
+        try:
+            for row in rows_of("colours.txt"):
+                columns = int(row.value("columns:", "80"))
+                terminal = terminals.get(columns) or terminals.setdefault(columns, Shown(folder, columns))
+                terminal.clear()
+                for piece in row.pieces:
+                    terminal.send(piece)
+                    terminal.agrees(f"colours.txt:{row.number}")
+                    drawings += 1
+        finally:
+            for terminal in terminals.values():
+                terminal.close()
+    print(f"drawings: {drawings}")
+    if drawings < 200:
+        raise Failed(f"only {drawings} drawings")
+
+
+def judge_tells_a_wrong_style():
+    """Of each kind of slip the judge says something else, or finds no meaning."""
+    right = "\r\x1b[J\x1b[m> \x1b[m\x1b[0;44mabcdef\x1b[m\r\n\x1b[0;44mg\x1b[mh\x1b[m\x1b[m"
+    shown = drawn(right)
+    for slip, kind in ((right.replace("44", "45"), "other"), (right.replace("f\x1b[m", "f"), "none"),
+                       (right.replace("g\x1b[m", "g"), "other"), (right.replace("\x1b[0;44mg", "g"), "other")):
+        found = drawn(slip)
+        told = "none" if found is None else "same" if found == shown else "other"
+        if told != kind:
+            raise Failed(f"of {slip!r} it says: {told}")
+
+
+def drawn(text):
+    shown = Display(8)
+    try:
+        for _ in shown.read(text.encode()):
+            pass
+    except Meaningless:
+        return None
+    return judged(shown), shown.pen
+
+
+if __name__ == "__main__":
+    os.environ["LC_ALL"] = "C.UTF-8"
+    run_all([judge_tells_a_wrong_style, rows_with_styles])
