@@ -1,12 +1,13 @@
 -- What the loops over spans send.
-use Rattle.std.proofs.Common.{◌≡◌, ℕ, ◌+◌, ◌<◌, ◌≤◌, nat_le, Bool, true, false, List, [], ◌∷◌, ◌++◌, map, length, take, drop, min, get_or, Option, Some, None, suc, inl, inr, refl, sym, ap, ◌∙◌, arith, take_all, add-one, drop-cons}
+use Rattle.std.proofs.Common.{◌≡◌, ℕ, ◌+◌, ◌<◌, ◌≤◌, nat_le, Bool, true, false, List, [], ◌∷◌, ◌++◌, ◌-◌, map, length, take, drop, take_at, drop_at, length-append, if◌then◌else◌, min, get_or, Option, Some, None, suc, inl, inr, refl, sym, ap, ◌∙◌, arith, take_all, add-one, drop-cons}
+use Rattle.std.specs.List.{concat}
 use Rattle.std.proofs.lemmas.Bool.{leb-true}
 use Rattle.line_screen.specs.Styles.{numbers}
 use Rattle.line_screen.proofs.SequenceLemmas.{by_test}
 use Rattle.std.proofs.lemmas.Bool.Decides.{nat_tests}
 use Rattle.std.proofs.lemmas.List.{drop_all}
-use Rattle.line_screen.specs.Drawing.{drawn_item, split_rows}
-use Rattle.line_screen.specs.Colours.{Span, span_of, spans_from, spans_in, skip, first_style, PaintedItem, shaded, painted_letters, painted_item, painted_clusters, painted_rows, painted_behind, next_painted, spans_behind, bare_letters}
+use Rattle.line_screen.specs.Drawing.{is_letter, split_rows}
+use Rattle.line_screen.specs.Colours.{Span, span_of, spans_from, spans_in, skip, PaintedItem, shaded, painted_letters, painted_after, painted_clusters, painted_rows, painted_behind, next_painted, spans_behind, bare_letters}
 use Rattle.line_screen.specs.declared.drawing.painted.Spans as spans
 use Rattle.line_help.specs.declared.style.Span as span
 use Rattle.line_help.specs.declared.style.Mark.{Mark}
@@ -49,13 +50,30 @@ next_span paints left next s letters front back count is counted front_is back_i
 pub no_span : (paints : Mark → List span.Span) (left : spans.Spans) (letters : List ℕ) → left.first ≡ None → painted_letters (spans_in paints left) letters ≡ bare_letters letters
 no_span paints left letters is = ap (λ o. painted_letters (spans_from o (map span_of (paints left.mark))) letters) is
 
--- the next cluster, and those after it
-pub next_cluster : (wide : List ℕ → Option ℕ) (spans later : List Span) (before left : List (List ℕ)) (g : List ℕ) (style : List ℕ) → before ≡ g ∷ left → style ≡ first_style spans → later ≡ skip (length g) spans
-    → painted_clusters wide spans before ≡ painted_item style (drawn_item wide g) ++ painted_clusters wide later left
-next_cluster wide spans later before left g style is style_is later_is =
-    ap (painted_clusters wide spans) is
-    ∙ ap (λ s. painted_item s (drawn_item wide g) ++ painted_clusters wide (skip (length g) spans) left) (sym style_is)
-    ∙ ap (λ ss. painted_item style (drawn_item wide g) ++ painted_clusters wide ss left) (sym later_is)
+-- the next cluster is no letter
+pub next_other : (wide : List ℕ → Option ℕ) (spans later : List Span) (letters g : List ℕ) (before left : List (List ℕ)) → before ≡ g ∷ left → is_letter g ≡ false → later ≡ skip (length g) (skip (length letters) spans)
+    → painted_clusters wide spans letters before ≡ painted_after wide spans letters g ++ painted_clusters wide later [] left
+next_other wide spans later letters g before left is other later_is =
+    ap (painted_clusters wide spans letters) is
+    ∙ ap (λ b. if b then painted_clusters wide spans (letters ++ g) left else (painted_after wide spans letters g ++ painted_clusters wide (skip (length g) (skip (length letters) spans)) [] left)) other
+    ∙ ap (λ ss. painted_after wide spans letters g ++ painted_clusters wide ss [] left) (sym later_is)
+
+-- the letters of a row that aren't sent yet, before its other bytes, which are the clusters that are left; and what holds of them
+pub record RowSoFar (rest tail : List ℕ) (left : List (List ℕ)) (Holds : List ℕ → Type 0) : Type 0 where
+  pub letters : List ℕ
+  pub rest_is : rest ≡ letters ++ tail
+  pub tail_is : tail ≡ concat left
+  pub holds : Holds letters
+
+module _ (rest tail : List ℕ) (left : List (List ℕ)) (Holds : List ℕ → Type 0) (h : RowSoFar rest tail left Holds) where
+  pub letters_taken : (count : ℕ) (front : List ℕ) → count ≡ length rest - length tail → front ≡ take count rest → front ≡ h.letters
+  letters_taken count front count_is front_is =
+      let e : length rest ≡ length h.letters + length tail = ap length h.rest_is ∙ length-append h.letters tail in
+      let same : count ≡ length h.letters = omega arith in
+      front_is ∙ ap (take count) h.rest_is ∙ take_at h.letters tail count (sym same)
+
+  pub tail_dropped : (g back : List ℕ) (later : List (List ℕ)) → left ≡ g ∷ later → back ≡ drop (length g) tail → back ≡ concat later
+  tail_dropped g back later is back_is = back_is ∙ ap (drop (length g)) (h.tail_is ∙ ap concat is) ∙ drop_at g (concat later) (length g) refl
 
 -- ---- rows
 

@@ -14,7 +14,7 @@ use Rattle.line_screen.specs.declared.drawing.painted.Brush as brush
 use Rattle.line_screen.specs.declared.drawing.painted.Spans as spans
 use Rattle.line_screen.specs.declared.drawing.coloured.Painting as painting
 use Rattle.line_screen.specs.Styles.{numbers}
-use Rattle.line_screen.specs.Drawing.{SendsTo, DrawnItem, drawn_item, split_rows, row_break, no_style, break_if, break_unless, fitted_col, sent_one, col_after, clearing_bytes, move_bytes}
+use Rattle.line_screen.specs.Drawing.{SendsTo, DrawnItem, is_letter, drawn_item, split_rows, row_break, no_style, break_if, break_unless, fitted_col, sent_one, col_after, clearing_bytes, move_bytes}
 use Rattle.line_screen.specs.Drawing.DrawnItem.{NewRow, Letter, Cluster}
 
 -- ---- styles
@@ -91,16 +91,24 @@ painted_item (p ∷ style) NewRow = Bare NewRow ∷ []
 painted_item (p ∷ style) (Letter c) = shaded (p ∷ style) (c ∷ [])
 painted_item (p ∷ style) (Cluster bytes width) = Fenced (p ∷ style) bytes width ∷ []
 
-abbrev pub painted_clusters : (List ℕ → Option ℕ) → List Span → List (List ℕ) → List PaintedItem
-painted_clusters wide spans [] = []
-painted_clusters wide spans (cluster ∷ clusters) =
-    painted_item (first_style spans) (drawn_item wide cluster)
-    ++ painted_clusters wide (skip (length cluster) spans) clusters
+-- letters, and a cluster after them
+abbrev pub painted_after : (List ℕ → Option ℕ) → List Span → List ℕ → List ℕ → List PaintedItem
+painted_after wide spans letters cluster = painted_letters spans letters
+    ++ painted_item (first_style (skip (length letters) spans)) (drawn_item wide cluster)
+
+-- the clusters of a row, after letters: letters side by side are drawn span by span, too
+abbrev pub painted_clusters : (List ℕ → Option ℕ) → List Span → List ℕ → List (List ℕ)
+    → List PaintedItem
+painted_clusters wide spans letters [] = painted_letters spans letters
+painted_clusters wide spans letters (cluster ∷ clusters) =
+    if is_letter cluster then painted_clusters wide spans (letters ++ cluster) clusters
+    else (painted_after wide spans letters cluster
+    ++ painted_clusters wide (skip (length cluster) (skip (length letters) spans)) [] clusters)
 
 abbrev pub painted_row : (List ℕ → Option ℕ) → List Span → List ℕ → List PaintedItem
 painted_row wide spans row =
     if list_all is_printable row then painted_letters spans row
-    else painted_clusters wide spans (graphemes true row)
+    else painted_clusters wide spans [] (graphemes true row)
 
 abbrev pub painted_behind : (List ℕ → Option ℕ) → List Span → List (List ℕ) → List PaintedItem
 painted_behind wide spans [] = []

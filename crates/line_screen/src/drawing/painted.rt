@@ -5,7 +5,7 @@ ghost use Rattle.unicode_segmentation.specs.Grapheme.{graphemes};
 ghost use Rattle.line_screen.specs.Drawing.{left_col, drawn_item, SendsTo, col_after, break_if, break_unless, fitted_col, col_after_one, no_style};
 ghost use Rattle.line_screen.specs.Drawing.DrawnItem.{Cluster};
 ghost use Rattle.line_screen.specs.Measure.{cluster_width};
-ghost use Rattle.line_screen.specs.Colours.{style_bytes, shaded_break, shaded, painted_letters, painted_clusters, painted_row, painted_text, painted_item, painted_one, SendsPainted, spans_in, span_of, brush_paints, brush_spans, first_style, skip, next_painted, spans_behind};
+ghost use Rattle.line_screen.specs.Colours.{style_bytes, shaded_break, shaded, painted_letters, painted_after, painted_clusters, painted_row, painted_text, painted_item, painted_one, SendsPainted, spans_in, span_of, brush_paints, brush_spans, first_style, skip, next_painted, spans_behind};
 ghost use Rattle.line_screen.specs.Styles.{numbers};
 ghost use Rattle.line_help.specs.Paints.{IsNextSpan};
 ghost use Rattle.line_screen.specs.Colours.PaintedItem.{Shaded, Fenced};
@@ -273,6 +273,28 @@ fn send_painted_cluster<D: Sink>(
     }
 }
 
+/// Letters span by span, and the cluster after them with the style of its first byte.
+fn send_painted_after<D: Sink, H: Highlighter>(
+    sink: &mut D,
+    grid: Grid,
+    start: Unit,
+    brush: &Brush<'_, H>,
+    spans: Spans,
+    letters: &[u8],
+    cluster: &str,
+) -> Result<Unit, DeviceFailed>
+    requires inside { start < grid.columns }
+    ensures { SendsPainted (painted_after (cluster_width grid.mode grid.columns)
+        (spans_in (brush_paints H.marks brush.now) spans) letters.now cluster.now) start
+        grid.columns D.held D.has_failed sink.old sink.new result }
+{
+    let col = send_spans(sink, grid, start, brush, spans, letters)?;
+    let style = spans.skip(brush, letters.len()).style(brush);
+    send_painted_cluster(sink, grid, style, col, cluster)
+}
+
+/// The clusters of a row. `rest` begins with the letters that aren't sent yet, and `tail` is what
+/// follows them.
 fn send_painted_clusters<D: Sink, H: Highlighter>(
     sink: &mut D,
     grid: Grid,
@@ -283,16 +305,23 @@ fn send_painted_clusters<D: Sink, H: Highlighter>(
 ) -> Result<Unit, DeviceFailed>
     requires inside { start < grid.columns }
     ensures { SendsPainted (painted_clusters (cluster_width grid.mode grid.columns)
-        (spans_in (brush_paints H.marks brush.now) spans) (graphemes true row.now)) start
+        (spans_in (brush_paints H.marks brush.now) spans) [] (graphemes true row.now)) start
         grid.columns D.held D.has_failed sink.old sink.new result }
 {
     let mut col = start;
     let mut left = spans;
+    let mut rest = row.as_bytes();
+    let mut tail = row.as_bytes();
     for cluster in row.graphemes(true) {
-        col = send_painted_cluster(sink, grid, left.style(brush), col, cluster)?;
-        left = left.skip(brush, cluster.len());
+        let letters = rest.split_at(rest.len() - tail.len()).0;
+        tail = tail.split_at(cluster.len()).1;
+        if !is_letter(cluster) {
+            col = send_painted_after(sink, grid, col, brush, left, letters, cluster)?;
+            left = left.skip(brush, letters.len()).skip(brush, cluster.len());
+            rest = tail;
+        }
     }
-    Ok(col)
+    send_spans(sink, grid, col, brush, left, rest)
 }
 
 /// A row of the text: by spans if all is printable ASCII, else by clusters.
