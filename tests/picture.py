@@ -184,7 +184,7 @@ def picture_of(captions, screens):
 
 
 def console_in(columns):
-    """Types the statement into the console in a window, and answers what is shown with styles, and the cursor's cell."""
+    """Types the statement into the console in a window, and returns the rows with their styles, and the cursor's cell."""
     with tempfile.TemporaryDirectory() as folder:
         run = f"{shlex.quote(ON_TERMINAL)} {shlex.quote(built('sql_console'))}; exec sleep {HUNG}"
         terminal = Terminal(folder, columns, run)

@@ -64,9 +64,9 @@ impl Hint for Said<'_> {
 
 /// A helper with fixed answers. It has one hint for lines of at least so many bytes, and one
 /// verdict for shorter texts and another one for longer texts. Its candidates are the same for
-/// every word, which begins at one place. The line is highlighted if the cursor is at `marked_at`, and
-/// if it has at least `marks_from` bytes. For texts of at least so many bytes hinter, validator and completer fail, or run
-/// out of memory; the completer inserts no text of so many bytes.
+/// every word, which begins at one place. The line is highlighted if the cursor is at `marked_at`,
+/// or if it has at least `marks_from` bytes. For texts of at least so many bytes hinter, validator
+/// and completer fail, or run out of memory; the completer inserts no text of so many bytes.
 #[derive(Clone, Copy, Drop)]
 pub struct Adviser<'a> {
     hint: Option<Said<'a>>,

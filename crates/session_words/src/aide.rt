@@ -6,8 +6,8 @@ use line_help::{
 };
 use std::alloc::{AllocError, Global};
 
-/// Completion by words, hints from the history, the standard styles, and validation of brackets. A word that is the only
-/// candidate is followed by the text after `ends:`, a space or a quote.
+/// Completion by words, hints from the history, the standard styles, and validation of brackets.
+/// A word that is the only candidate is followed by the text after `ends:`, a space or a quote.
 pub type Aide = HelperParts<
     Option<WholeWordCompleter>,
     HistoryHinter,

@@ -9,14 +9,14 @@ ghost use Rattle.sql_console.specs.Tokens.{coloured, first_token, is_in, is_keyw
 use keyline::{Colour, Hue, Mark, Span, Style};
 use sqlite_syntax::token::{KEYWORDS, Kind};
 
-/// What goes on from byte to byte.
+/// A class of bytes. Some tokens are runs of one.
 #[derive(Clone, Copy, Debug)]
 pub(crate) enum Class {
-    /// Letters, digits, underlines and points, as in `note.title` and 4.5.
+    /// Letters, digits, underlines and points, as in `note.title` and 4.5, and what isn't ASCII.
     Word,
-    /// All up to a quote.
+    /// All except a quote.
     Quoted,
-    /// All up to a newline.
+    /// All except a newline.
     Row,
 }
 
@@ -32,7 +32,7 @@ fn is_in(class: Class, byte: u8) -> bool
     }
 }
 
-/// The first place from one on whose byte isn't of the class.
+/// The first place, from `at` on, whose byte isn't of the class.
 fn past(class: Class, text: &[u8], at: usize) -> usize
     requires { at ≤ length text.now }
     ensures value { result ≡ past class text.now at }
