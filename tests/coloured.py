@@ -1,16 +1,19 @@
 #!/usr/bin/env python3
 """Styles on a terminal: what tmux shows after each drawing of the rows of `colours.txt`, cell by cell with its style, is what the
-display of tests/display.py shows.
+display of tests/display.py shows. So is what libvterm shows, by its program `unterm`; without it that part is skipped with a word.
 
 The rows have the bytes, so nothing is built for this: sessions_program and the program play the same rows.
 """
+import itertools
 import os
 import re
 import shlex
+import shutil
+import subprocess
 import tempfile
 import time
 
-from checks import Failed, run_all
+from checks import Failed, run_all, same
 from display import Display, Meaningless, clusters
 from drawings import Terminal
 from sessions import rows_of
@@ -21,6 +24,18 @@ SGR = re.compile(r"\x1b\[([0-9;]*)m")
 # The flags of SGR, and what ends each.
 FLAGS = (1, 2, 3, 4, 7)
 ENDED = {22: (1, 2), 23: (3,), 24: (4,), 27: (7,), 39: ("text",), 49: ("ground",)}
+
+# The flags that libvterm need not show, and why.
+UNSHOWN = {2: "faint: a cell of libvterm 0.1.4 has no such attribute"}
+# The rows of its screen: more than any row of `colours.txt` takes, with one for a dot.
+SCREEN_ROWS = 8
+FEWEST_DRAWINGS = 200
+
+# A drawing of two rows of 8 columns.
+RIGHT = "\r\x1b[J\x1b[m> \x1b[m\x1b[0;44mabcdef\x1b[m\r\n\x1b[0;44mg\x1b[mh\x1b[m\x1b[m"
+# Slips of it, each with what the display shows: something else, or nothing, as it has no meaning.
+SLIPS = ((RIGHT.replace("44", "45"), "other"), (RIGHT.replace("f\x1b[m", "f"), "none"), (RIGHT.replace("g\x1b[m", "g"), "other"),
+         (RIGHT.replace("\x1b[0;44mg", "g"), "other"))
 
 
 def colour_of(codes):
@@ -83,6 +98,16 @@ def judged(shown):
     return trimmed(rows)
 
 
+def read(data, columns):
+    """A display that has read bytes, after which no style stands."""
+    shown = Display(columns)
+    for _ in shown.read(data):
+        pass
+    if shown.pen:
+        raise Failed(f"the style {shown.pen} stands after {data!r}")
+    return shown
+
+
 class Shown:
     """A terminal that shows bytes as they are sent."""
 
@@ -106,16 +131,9 @@ class Shown:
         row, col = self.terminal.ask("display-message", "-p", "#{cursor_y} #{cursor_x}").split()
         return captured(self.terminal.ask("capture-pane", "-p", "-e", "-N")), (int(row), int(col))
 
-    def expected(self):
-        shown = Display(self.columns)
-        for _ in shown.read(self.sent):
-            pass
-        if shown.pen:
-            raise Failed(f"the style {shown.pen} stands after {self.sent!r}")
-        return judged(shown), shown.cursor
-
     def agrees(self, what):
-        expected, end = self.expected(), time.monotonic() + PATIENCE
+        shown, end = read(self.sent, self.columns), time.monotonic() + PATIENCE
+        expected = judged(shown), shown.cursor
         while (seen := self.seen()) != expected:
             if time.monotonic() > end:
                 raise Failed(f"{what}: after {self.sent!r} the judge shows {expected}, and tmux {seen}")
@@ -126,13 +144,23 @@ class Shown:
         self.terminal.close()
 
 
+def columns_of(row):
+    return int(row.value("columns:", "80"))
+
+
+def expect_drawings(count):
+    print(f"drawings: {count}")
+    if count < FEWEST_DRAWINGS:
+        raise Failed(f"only {count} drawings")
+
+
 def rows_with_styles():
     """After each drawing of each row."""
     terminals, drawings = {}, 0
     with tempfile.TemporaryDirectory() as folder:
         try:
             for row in rows_of("colours.txt"):
-                columns = int(row.value("columns:", "80"))
+                columns = columns_of(row)
                 terminal = terminals.get(columns) or terminals.setdefault(columns, Shown(folder, columns))
                 terminal.clear()
                 for piece in row.pieces:
@@ -142,17 +170,69 @@ def rows_with_styles():
         finally:
             for terminal in terminals.values():
                 terminal.close()
-    print(f"drawings: {drawings}")
-    if drawings < 200:
-        raise Failed(f"only {drawings} drawings")
+    expect_drawings(drawings)
+
+
+def on_libvterm(data, columns):
+    """What libvterm shows of bytes, as `captured` has it. A cell that nothing was written to is left out."""
+    command = ["unterm", "-f", "sgr", "-l", str(SCREEN_ROWS), "-c", str(columns), "/dev/stdin"]
+    return captured(subprocess.run(command, input=data, check=True, capture_output=True, timeout=PATIENCE).stdout.decode())
+
+
+def unshown():
+    """The flags that libvterm doesn't show: each has its reason in the table."""
+    found = [flag for flag in FLAGS if on_libvterm(b"\x1b[0;%dm.\x1b[m" % flag, 1) == [[(".", {})]]]
+    for flag in found:
+        if flag not in UNSHOWN:
+            raise Failed(f"libvterm doesn't show {flag}")
+        print(f"not compared: {UNSHOWN[flag]}")
+    return found
+
+
+def without(flags, rows):
+    """Rows without these flags."""
+    def kept(known):
+        return {it: value for it, value in known.items() if it not in flags}
+
+    return trimmed([[(cluster, kept(known)) for cluster, known in row] for row in rows])
+
+
+def libvterm_agrees(what, data, columns, flags, sent=None):
+    """Fails if libvterm, sent these bytes or others, doesn't show the cells and styles of the display that read these, flags left
+    out, or has another cursor: of dots from there to the row's end and one more, only the last is in the next row."""
+    shown, sent = read(data, columns), sent or data
+    same(f"{what}: on libvterm, after {sent!r}", on_libvterm(sent, columns), without(flags, judged(shown)))
+    dots = b"." * (columns - shown.cursor[1])
+    dotted = read(data + b"\x1b[J" + dots + b"\r\n.", columns)
+    same(f"{what}: on libvterm, after {sent!r} and dots", on_libvterm(sent + b"\x1b[J" + dots + b".", columns),
+         without(flags, judged(dotted)))
+
+
+def libvterm_tells_a_wrong_style():
+    """libvterm shows the right drawing, and something else of each slip with a meaning, also if only the cursor is elsewhere."""
+    libvterm_agrees("the right drawing", RIGHT.encode(), 8, ())
+    for slip in (*(slip for slip, kind in SLIPS if kind == "other"), f"{RIGHT}\x1b[1D", f"{RIGHT}\x1b[1A"):
+        try:
+            libvterm_agrees("a slip", RIGHT.encode(), 8, (), slip.encode())
+        except Failed:
+            continue
+        raise Failed(f"of {slip!r} libvterm shows the same")
+
+
+def rows_on_libvterm():
+    """After each drawing of each row."""
+    flags, drawings = unshown(), 0
+    for row in rows_of("colours.txt"):
+        for sent in itertools.accumulate(row.pieces):
+            libvterm_agrees(f"colours.txt:{row.number}", sent, columns_of(row), flags)
+            drawings += 1
+    expect_drawings(drawings)
 
 
 def judge_tells_a_wrong_style():
     """Of each kind of slip the judge says something else, or finds no meaning."""
-    right = "\r\x1b[J\x1b[m> \x1b[m\x1b[0;44mabcdef\x1b[m\r\n\x1b[0;44mg\x1b[mh\x1b[m\x1b[m"
-    shown = drawn(right)
-    for slip, kind in ((right.replace("44", "45"), "other"), (right.replace("f\x1b[m", "f"), "none"),
-                       (right.replace("g\x1b[m", "g"), "other"), (right.replace("\x1b[0;44mg", "g"), "other")):
+    shown = drawn(RIGHT)
+    for slip, kind in SLIPS:
         found = drawn(slip)
         told = "none" if found is None else "same" if found == shown else "other"
         if told != kind:
@@ -171,4 +251,9 @@ def drawn(text):
 
 if __name__ == "__main__":
     os.environ["LC_ALL"] = "C.UTF-8"
-    run_all([judge_tells_a_wrong_style, rows_with_styles])
+    tests = [judge_tells_a_wrong_style, rows_with_styles]
+    if shutil.which("unterm"):
+        tests += [libvterm_tells_a_wrong_style, rows_on_libvterm]
+    else:
+        print("skipped rows on libvterm: unterm isn't there")
+    run_all(tests)

@@ -1,5 +1,5 @@
 //! Helpers for tests, and prompts: a helper that has everything, and one that fails at every call.
-ghost use Rattle.std.specs.Prelude.{◌≡◌, if◌then◌else◌, None, Some, true, false, IfOk, refl};
+ghost use Rattle.std.specs.Prelude.{◌≡◌, [], if◌then◌else◌, None, Some, true, false, IfOk, refl};
 ghost use Rattle.std.proofs.Common.{ap};
 ghost use Rattle.line_help.specs.Completion.{nothing_offered};
 ghost use Rattle.line_keys.specs.Replies.{Replies, gives, gives_at_once, gives_unless, itself};

@@ -135,6 +135,7 @@ struct PromptStyles {
     spans: Vec<Span>,
 }
 
+#[tactic(auto, using(line_help::proofs::HighlightLemmas::plain))]
 impl Highlighter for PromptStyles {
     ghost marks = { λ self. record {
       marked = λ line pos kind. false;
