@@ -45,12 +45,11 @@ def display(command, keys):
     return len(subprocess.run(command, input=keys, stdout=subprocess.DEVNULL, stderr=subprocess.PIPE, check=True).stderr)
 
 
-def costs(command, cost, line, key, ending):
-    """The cost of the second of two keys, and its bytes."""
-    sessions = [(pasted(line[0]) + line[1] + key * times + ending) for times in (1, 2)]
-    more = cost(command, sessions[1] * LINES) - cost(command, sessions[0] * LINES)
-    sent = display(command, sessions[1]) - display(command, sessions[0])
-    return more / LINES, sent
+def costs(command, cost, text, before, key, ending):
+    """The cost of the second of two keys in a line, and its bytes. The line ends by the last keys, and for its bytes it is left."""
+    once, twice = (pasted(text) + before + key * times for times in (1, 2))
+    more = cost(command, (twice + ending) * LINES) - cost(command, (once + ending) * LINES)
+    return more / LINES, display(command, twice) - display(command, once)
 
 
 def report(command, settings, cases, ending):
@@ -58,10 +57,10 @@ def report(command, settings, cases, ending):
     for setting, words, no_colour in settings:
         os.environ["NO_COLOR"] = no_colour
         print(f"a session without keys, {setting}: {cost(command + words, b''):,.0f} {unit}", flush=True)
-    for name, line, before, key in cases:
+    for name, text, before, key in cases:
         for setting, words, no_colour in settings:
             os.environ["NO_COLOR"] = no_colour
-            more, sent = costs(command + words, cost, (line, before), key, ending)
+            more, sent = costs(command + words, cost, text, before, key, ending)
             print(f"{name}, {setting}: {more:,.0f} {unit}, {sent} bytes", flush=True)
 
 
