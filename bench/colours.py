@@ -32,6 +32,7 @@ CASES = [
     ("Backspace there", b"the quick brown fox jumps over two dogs.,", b"", BACKSPACE),
     ("Left there", b"the quick brown fox jumps over two dogs.", b"", LEFT),
     ("a letter before a bracket at the end of such a line", b"the quick brown (fox jumps over two do)", LEFT, b"s"),
+    ("a bracket that closes at the end of one", b"the quick ((brown fox jumps over two do", b"", b")"),
 ]
 # Three keywords, a string and a number.
 STATEMENTS = [
