@@ -1,7 +1,7 @@
 -- What the loops over spans send.
-use Rattle.std.proofs.Common.{◌≡◌, ℕ, ◌+◌, ◌<◌, ◌≤◌, nat_le, Bool, true, false, List, [], ◌∷◌, ◌++◌, ◌-◌, map, length, take, drop, take_at, drop_at, length-append, if◌then◌else◌, min, get_or, Option, Some, None, suc, inl, inr, refl, sym, ap, ◌∙◌, arith, take_all, add-one, drop-cons}
+use Rattle.std.proofs.Common.{◌≡◌, ℕ, ◌+◌, ◌<◌, ◌≤◌, ◌==◌, nat_le, Bool, true, false, List, [], ◌∷◌, ◌++◌, ◌-◌, map, length, take, drop, take_at, drop_at, length-append, if◌then◌else◌, min, get_or, Option, Some, None, zero, suc, inl, inr, refl, sym, ap, ◌∙◌, arith, take_all, add-one, drop-cons}
 use Rattle.std.specs.List.{concat}
-use Rattle.std.proofs.lemmas.Bool.{leb-true}
+use Rattle.std.proofs.lemmas.Bool.{eqb-true, leb-true}
 use Rattle.line_screen.specs.Styles.{numbers}
 use Rattle.line_screen.proofs.SequenceLemmas.{by_test}
 use Rattle.std.proofs.lemmas.Bool.Decides.{nat_tests}
@@ -49,6 +49,25 @@ next_span paints left next s letters front back count is counted front_is back_i
 
 pub no_span : (paints : Mark → List span.Span) (left : spans.Spans) (letters : List ℕ) → left.first ≡ None → painted_letters (spans_in paints left) letters ≡ bare_letters letters
 no_span paints left letters is = ap (λ o. painted_letters (spans_from o (map span_of (paints left.mark))) letters) is
+
+take_none : (n : ℕ) → let none : List ℕ = [] in take n none ≡ none
+take_none zero = refl
+take_none (suc n) = refl
+
+drop_none : (n : ℕ) → let none : List ℕ = [] in drop n none ≡ none
+drop_none zero = refl
+drop_none (suc n) = refl
+
+no_letter_left : (spans : List Span) → painted_letters spans [] ≡ []
+no_letter_left [] = refl
+no_letter_left (s ∷ spans) =
+    ap (λ xs. shaded s.style xs ++ painted_letters spans (drop s.len [])) (take_none s.len)
+    ∙ ap (painted_letters spans) (drop_none s.len) ∙ no_letter_left spans
+
+-- without letters nothing is left, whatever spans follow
+pub no_letters : (spans : List Span) (letters : List ℕ) → true ≡ (length letters == 0) → painted_letters spans letters ≡ []
+no_letters spans [] none = no_letter_left spans
+no_letters spans (c ∷ letters) none = let zero = eqb-true (length (c ∷ letters)) 0 (sym none) in absurd (omega arith)
 
 -- the next cluster is no letter
 pub next_other : (wide : List ℕ → Option ℕ) (spans later : List Span) (letters g : List ℕ) (before left : List (List ℕ)) → before ≡ g ∷ left → is_letter g ≡ false → later ≡ skip (length g) (skip (length letters) spans)

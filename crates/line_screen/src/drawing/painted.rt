@@ -196,7 +196,7 @@ fn send_shaded<D: Sink>(
     Ok(end)
 }
 
-/// A row of printable ASCII, span by span.
+/// Printable ASCII, span by span. Spans of what follows it aren't asked for.
 fn send_spans<D: Sink, H: Highlighter>(
     sink: &mut D,
     grid: Grid,
@@ -213,6 +213,9 @@ fn send_spans<D: Sink, H: Highlighter>(
     let mut left = spans;
     let mut rest = letters;
     while let Some(span) = left.first {
+        if rest.is_empty() {
+            return Ok(col);
+        }
         let count = span.len.min(rest.len());
         let (front, back) = rest.split_at(count);
         col = send_shaded(sink, grid, span.style, col, front)?;

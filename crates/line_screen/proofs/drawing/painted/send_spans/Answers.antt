@@ -1,9 +1,9 @@
 -- Letters span by span, and those after the last one.
-use Rattle.std.proofs.Common.{map}
+use Rattle.std.proofs.Common.{map, sym, ◌∙◌}
 use Rattle.line_screen.specs.Styles.{numbers}
 use Rattle.line_screen.specs.Colours.{shaded, painted_letters, spans_in, brush_paints, span_of, bare_letters}
-use Rattle.line_screen.proofs.PaintRuns.{paint_steps, paint_cut, sends_bare, paint_then}
-use Rattle.line_screen.proofs.PaintCode.{first_span_next, next_span, no_span}
+use Rattle.line_screen.proofs.PaintRuns.{paint_steps, paint_cut, paint_done, sends_bare, paint_then}
+use Rattle.line_screen.proofs.PaintCode.{first_span_next, next_span, no_letters, no_span}
 use Rattle.line_screen.proofs.drawing.painted.send_spans.Goals as goal
 
 pub returns-in_err-col : goal.returns-in_err-col
@@ -29,6 +29,14 @@ loop-left-preserved g c =
     c.loop-left.invariant
     (next_span (brush_paints g.H.Highlighter.marks c.args.brush.now) c.loop-left.left c.behind-left.result c.in-Some.span c.loop-left.rest.now front back c.min-count.result c.in-Some.is c.min-count.ensures c.split_at.ensures.front c.split_at.ensures.back c.behind-left.ensures)
     c.in_ok-col.ensures.sends.sent c.in_ok-col.ensures.sends.works c.in_ok-col.ensures.next c.in_ok-col.ensures.inside
+
+pub returns-then-is_empty : goal.returns-then-is_empty
+returns-then-is_empty g c =
+    let left = spans_in (brush_paints g.H.Highlighter.marks c.args.brush.now) c.loop-left.left in
+    let rest = c.loop-left.rest.now in
+    paint_done g.D.Sink.held g.D.Sink.has_failed c.args.grid.columns c.args.start
+    (painted_letters (spans_in (brush_paints g.H.Highlighter.marks c.args.brush.now) c.args.spans) c.args.letters.now) (painted_letters left rest)
+    c.args.sink.now c.loop-left.sink c.loop-left.col c.loop-left.invariant (no_letters left rest (sym c.if-is_empty.true ∙ c.is_empty.ensures))
 
 pub returns : goal.returns
 returns g c =
