@@ -200,6 +200,16 @@ def colours():
         same(f"the statement with {variables}", (coloured in drawn, hint in drawn), (wanted, wanted))
 
 
+def a_long_statement_in_colours():
+    """Each of many rows has its styles, in each drawing."""
+    rows = 5000
+    ended = run(keys=b"\x1b[200~" + b"-- a 'b' 1\n" * rows + b"SELECT 1;\x1b[201~\r")
+    same("the answer", (ended.returncode, ended.stdout), (0, b"| 1 |\n|---|\n| 1 |\n"))
+    last = ended.stderr[ended.stderr.rindex(b"\x1b[J"):]
+    same("the rows with a style", last.count(b"\x1b[0;36m-- a 'b' 1\x1b[m\r\n"), rows)
+    same("the last row", b"\x1b[0;1;34mSELECT\x1b[m \x1b[0;35m1\x1b[m;" in last, True)
+
+
 def arguments():
     """`--help` prints the usage; unknown arguments are an error, and nothing is read."""
     helped = run("--help", keys=b"SELECT 1;\r")
@@ -259,6 +269,7 @@ if __name__ == "__main__":
         windows,
         arguments,
         colours,
+        a_long_statement_in_colours,
         a_history_that_lasts,
         histories_that_fail,
     ])

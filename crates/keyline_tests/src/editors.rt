@@ -1,6 +1,9 @@
 //! Editors that return one line per call.
 
-use keyline::{Ending, LineEditor, ReadlineError, SliceSource, Source, VecSink, session_builder};
+use keyline::{
+    Ending, HelperParts, LineEditor, ReadlineError, SliceSource, Source, StandardHighlighter,
+    VecSink, session_builder,
+};
 use session_words::notation::display_meant;
 use stand_ins::rows::{Player, raised, rows_hold, trimmed};
 use std::alloc::{AllocError, Global};
@@ -8,6 +11,15 @@ use std::test::Fail;
 
 /// One over memory.
 type Editor = LineEditor<SliceSource<'static>, (), VecSink, VecSink, VecSink>;
+
+/// One whose helper has a style for the match of a bracket.
+type StyledEditor = LineEditor<
+    SliceSource<'static>,
+    HelperParts<(), (), StandardHighlighter, ()>,
+    VecSink,
+    VecSink,
+    VecSink,
+>;
 
 /// The prompt of a row's word. A row loses the blanks at its ends, so no word is the usual prompt.
 fn prompt_of(word: &str) -> &str {
@@ -125,6 +137,43 @@ fn columns_between_two_lines(rt: HostRuntime) -> Result<(), Fail> {
     let wanted = display_meant(alloc, shown)?;
     let ended = asking.editor.finish();
     assert!(rt; ended.display.bytes() == wanted.as_slice());
+    Ok(())
+}
+
+fn styled_editor_of(alloc: Global, keys: &'static [u8]) -> Result<StyledEditor, Fail> {
+    let session = session_builder(alloc, SliceSource::new(keys), VecSink::new(alloc))
+        .lines(VecSink::new(alloc))
+        .history(SliceSource::new(b""), VecSink::new(alloc))
+        .helper(HelperParts {
+            completer: (),
+            hinter: (),
+            highlighter: StandardHighlighter::new(),
+            validator: (),
+        })
+        .open()?;
+    Ok(LineEditor::new(session))
+}
+
+fn styles_begun(display: &[u8]) -> usize {
+    let mut count = 0;
+    for part in display.windows(4) {
+        if part == b"\x1b[0;".as_slice() {
+            count += 1;
+        }
+    }
+    count
+}
+
+/// Of three lines with brackets, the second has the match's style, in one drawing.
+#[test]
+fn colours_between_two_lines(rt: HostRuntime) -> Result<(), Fail> {
+    let mut editor = styled_editor_of(rt.alloc(), b"()\r()\r()\r")?;
+    for colours in [false, true, false] {
+        editor.set_colours(colours);
+        assert!(rt; editor.read_line("> ")?.as_str() == "()");
+    }
+    let ended = editor.finish();
+    assert!(rt; styles_begun(ended.display.bytes()) == 1);
     Ok(())
 }
 
