@@ -155,10 +155,10 @@ fn styled_editor_of(alloc: Global, keys: &'static [u8]) -> Result<StyledEditor, 
 }
 
 fn styles_begun(display: &[u8]) -> usize {
-    let mut count = 0;
+    let mut count: usize = 0;
     for part in display.windows(4) {
         if part == b"\x1b[0;".as_slice() {
-            count += 1;
+            count = count.saturating_add(1);
         }
     }
     count
