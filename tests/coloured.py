@@ -6,7 +6,6 @@ The rows have the bytes, so nothing is built for this: sessions_program and the 
 """
 import itertools
 import os
-import re
 import shlex
 import shutil
 import subprocess
@@ -14,16 +13,13 @@ import tempfile
 import time
 
 from checks import Failed, run_all, same
-from display import Display, Meaningless, clusters
+from display import Display, Meaningless
 from drawings import Terminal
 from sessions import rows_of
+from styled import FLAGS, attributes, captured, trimmed
 
 # A drawing must be shown within this many seconds.
 PATIENCE = 60
-SGR = re.compile(r"\x1b\[([0-9;]*)m")
-# The flags of SGR, and what ends each.
-FLAGS = (1, 2, 3, 4, 7)
-ENDED = {22: (1, 2), 23: (3,), 24: (4,), 27: (7,), 39: ("text",), 49: ("ground",)}
 
 # The flags that libvterm need not show, and why.
 UNSHOWN = {2: "faint: a cell of libvterm 0.1.4 has no such attribute"}
@@ -36,56 +32,6 @@ RIGHT = "\r\x1b[J\x1b[m> \x1b[m\x1b[0;44mabcdef\x1b[m\r\n\x1b[0;44mg\x1b[mh\x1b[
 # Slips of it, each with what the display shows: something else, or nothing, as it has no meaning.
 SLIPS = ((RIGHT.replace("44", "45"), "other"), (RIGHT.replace("f\x1b[m", "f"), "none"), (RIGHT.replace("g\x1b[m", "g"), "other"),
          (RIGHT.replace("\x1b[0;44mg", "g"), "other"))
-
-
-def colour_of(codes):
-    """A colour after 38 or 48, and the codes behind it. tmux knows the first sixteen of the palette by their names too."""
-    if codes[0] == 5:
-        return ("palette", codes[1]), codes[2:]
-    return ("rgb", *codes[1:4]), codes[4:]
-
-
-def attributes(known, numbers):
-    """The attributes after a sequence SGR, by those before it."""
-    known, codes = dict(known), [int(it or "0") for it in numbers.split(";")]
-    while codes:
-        code, codes = codes[0], codes[1:]
-        if code == 0:
-            known = {}
-        elif code in FLAGS:
-            known[code] = True
-        elif code in (38, 48):
-            known["text" if code == 38 else "ground"], codes = colour_of(codes)
-        elif code in ENDED:
-            known = {it: value for it, value in known.items() if it not in ENDED[code]}
-        else:
-            tens, unit = divmod(code, 10)
-            part = {3: ("text", 0), 4: ("ground", 0), 9: ("text", 8), 10: ("ground", 8)}[tens]
-            known[part[0]] = ("palette", unit + part[1])
-    return known
-
-
-def captured(text):
-    """The clusters of what `capture-pane -e -N` gives, row by row, with their attributes."""
-    known, rows = {}, []
-    for line in text.split("\n"):
-        row, at = [], 0
-        for found in [*SGR.finditer(line), None]:
-            row += ((cluster, known) for cluster in clusters(line[at:found.start() if found else len(line)]))
-            if found:
-                known, at = attributes(known, found[1]), found.end()
-        rows.append(row)
-    return trimmed(rows)
-
-
-def trimmed(rows):
-    """Rows without the blanks at their ends that have no attribute, and without blank rows at the end."""
-    for row in rows:
-        while row and row[-1] == (" ", {}):
-            row.pop()
-    while rows and not rows[-1]:
-        rows.pop()
-    return rows
 
 
 def judged(shown):

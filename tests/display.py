@@ -234,12 +234,6 @@ class Rows:
         """The columns with a style in each row from one on that has any."""
         return {number - top: styles for number, styles in enumerate(self.styles) if number >= top and styles}
 
-    def cells(self):
-        """Each cell in which a cluster begins, by row and column, with its style."""
-        styled = self.styled()
-        return {(number, col): (cell, styled.get(number, {}).get(col, "")) for number, row in enumerate(self.rows)
-                for col, cell in row.items() if cell is not self.INSIDE}
-
     def text(self, row, col):
         """The clusters from a place on, without the blanks between them."""
         cells = [(at, cell) for number, row in enumerate(self.rows[row:]) for at, cell in sorted(row.items()) if number or at >= col]

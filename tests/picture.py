@@ -22,7 +22,7 @@ import xml.sax.saxutils
 from checks import HUNG, ON_TERMINAL, TOP, Failed, built, placed_script, run_all, same
 from drawings import Terminal
 from shown import PATIENCE, expect, key, pictured, until_taken
-from styled import runs, styled_rows
+from styled import captured, runs
 from windows import rows_of, type_bytes
 
 README = os.path.join(TOP, "README.md")
@@ -40,7 +40,8 @@ WINDOWS = (40, 120)
 HINT = "(; ends the statement)"
 
 # The colours of a picture for those of a terminal, by their numbers.
-HUES = {31: "#ff7b72", 32: "#7ee787", 33: "#e3b341", 34: "#79c0ff", 35: "#d2a8ff", 36: "#56d4dd"}
+HUES = {1: "#ff7b72", 2: "#7ee787", 3: "#e3b341", 4: "#79c0ff", 5: "#d2a8ff", 6: "#56d4dd"}
+BOLD, FAINT = 1, 2
 
 # Of the picture, in pixels and seconds.
 CELL, ROW, LEFT, TOP_ROW, FRAME = 8.4, 19, 16, 62, 1.8
@@ -194,7 +195,7 @@ def console_in(columns):
             typed = rows_of(f"sql> {STATEMENT[0]}", columns) + rows_of(STATEMENT[1], columns) + [HINT]
             cursor = (len(typed) - 1, 0)
             expect(terminal, f"the statement in {columns} columns", ([it.rstrip() for it in typed], cursor))
-            return styled_rows(terminal.ask("capture-pane", "-p", "-e")), cursor
+            return captured(terminal.ask("capture-pane", "-p", "-e", "-N")), cursor
         finally:
             terminal.close()
 
@@ -203,9 +204,9 @@ def drawn_run(column, text, style, y):
     """A run of one style in a row of a picture, without the blanks at its ends."""
     column += len(text) - len(text.lstrip())
     text = text.strip()
-    looks = [f' fill="{HUES[style["text"]]}"'] if "text" in style else []
-    looks += [' font-weight="bold"'] if style.get("bold") else []
-    looks += [' opacity="0.5"'] if style.get("faint") else []
+    looks = [f' fill="{HUES[style["text"][1]]}"'] if "text" in style else []
+    looks += [' font-weight="bold"'] if style.get(BOLD) else []
+    looks += [' opacity="0.5"'] if style.get(FAINT) else []
     place = f'x="{LEFT + CELL * column:g}" y="{y}" textLength="{CELL * len(text):g}"'
     return f'  <text {place}{"".join(looks)}>{xml.sax.saxutils.escape(text)}</text>\n'
 

@@ -1,47 +1,59 @@
-"""What tmux shows with styles: the cells of a pane, each a character and the numbers of its style."""
+"""What a terminal shows with styles: the cells of a pane, each a cluster and its attributes."""
 import re
 
-# The parts of a capture: a sequence that sets a style, another one, or a character.
-PART = re.compile(r"\x1b\[([\d;:]*)m|\x1b[^m]*m|[\x0e\x0f]|(.)", re.S)
+from display import clusters
 
-COLOURS = {3: "text", 4: "ground", 9: "text", 10: "ground"}
-FLAGS = {1: "bold", 2: "faint", 3: "italic", 4: "underline", 7: "reverse"}
-ENDS = {22: ("bold", "faint"), 23: ("italic",), 24: ("underline",), 27: ("reverse",), 39: ("text",), 49: ("ground",)}
-
-
-def restyled(style, numbers):
-    """A style after the numbers of a sequence: what is set, by name."""
-    style, numbers = dict(style), [int(it or 0) for it in re.split("[;:]", numbers)]
-    while numbers:
-        number = numbers.pop(0)
-        if number == 0:
-            style = {}
-        elif number in FLAGS:
-            style[FLAGS[number]] = True
-        elif number in ENDS:
-            style = {name: it for name, it in style.items() if name not in ENDS[number]}
-        elif number in (38, 48):
-            count = 2 if numbers[0] == 5 else 4
-            style[COLOURS[number // 10]] = (number, *numbers[:count])
-            numbers = numbers[count:]
-        elif number // 10 in COLOURS:
-            style[COLOURS[number // 10]] = number
-    return style
+SGR = re.compile(r"\x1b\[([0-9;]*)m")
+# The flags of SGR, and what ends each.
+FLAGS = (1, 2, 3, 4, 7)
+ENDED = {22: (1, 2), 23: (3,), 24: (4,), 27: (7,), 39: ("text",), 49: ("ground",)}
 
 
-def styled_rows(capture):
-    """The rows of `capture-pane -p -e`: each a list of characters with their styles, without the blanks at its end."""
-    rows, style = [], {}
-    for line in capture.split("\n"):
-        cells = []
-        for part in PART.finditer(line):
-            if part[1] is not None:
-                style = restyled(style, part[1])
-            elif part[2]:
-                cells.append((part[2], style))
-        while cells and cells[-1] == (" ", {}):
-            cells.pop()
-        rows.append(cells)
+def colour_of(codes):
+    """A colour after 38 or 48, and the codes behind it. tmux knows the first sixteen of the palette by their names too."""
+    if codes[0] == 5:
+        return ("palette", codes[1]), codes[2:]
+    return ("rgb", *codes[1:4]), codes[4:]
+
+
+def attributes(known, numbers):
+    """The attributes after a sequence SGR, by those before it."""
+    known, codes = dict(known), [int(it or "0") for it in numbers.split(";")]
+    while codes:
+        code, codes = codes[0], codes[1:]
+        if code == 0:
+            known = {}
+        elif code in FLAGS:
+            known[code] = True
+        elif code in (38, 48):
+            known["text" if code == 38 else "ground"], codes = colour_of(codes)
+        elif code in ENDED:
+            known = {it: value for it, value in known.items() if it not in ENDED[code]}
+        else:
+            tens, unit = divmod(code, 10)
+            part = {3: ("text", 0), 4: ("ground", 0), 9: ("text", 8), 10: ("ground", 8)}[tens]
+            known[part[0]] = ("palette", unit + part[1])
+    return known
+
+
+def captured(text):
+    """The clusters of what `capture-pane -e -N` gives, row by row, with their attributes."""
+    known, rows = {}, []
+    for line in text.split("\n"):
+        row, at = [], 0
+        for found in [*SGR.finditer(line), None]:
+            row += ((cluster, known) for cluster in clusters(line[at:found.start() if found else len(line)]))
+            if found:
+                known, at = attributes(known, found[1]), found.end()
+        rows.append(row)
+    return trimmed(rows)
+
+
+def trimmed(rows):
+    """Rows without the blanks at their ends that have no attribute, and without blank rows at the end."""
+    for row in rows:
+        while row and row[-1] == (" ", {}):
+            row.pop()
     while rows and not rows[-1]:
         rows.pop()
     return rows
@@ -50,9 +62,9 @@ def styled_rows(capture):
 def runs(cells):
     """The runs of one style in a row: each its column, its text and its style."""
     found = []
-    for column, (char, style) in enumerate(cells):
+    for column, (cluster, style) in enumerate(cells):
         if found and found[-1][2] == style:
-            found[-1][1] += char
+            found[-1][1] += cluster
         else:
-            found.append([column, char, style])
+            found.append([column, cluster, style])
     return [tuple(it) for it in found]
