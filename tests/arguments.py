@@ -17,6 +17,13 @@ BELL = b"\x07"
 # What begins a style, and the values of NO_COLOR with whether there are styles then.
 STYLE = b"\x1b[0;"
 NO_COLOR = [(None, True), (b"", True), (b"0", False), (b"1", False), (b"long" * 1000, False), (b"\xff", False)]
+# A prompt with control sequences, and how it is drawn under --extended: the rows of crates/worked_rows/specs/Prompts.antt.
+GREEN = "\x1b[32m> \x1b[m"
+PROMPTS = [(GREEN, "\x1b[0;32m> \x1b[m"),
+           ("\x1b[1msql\x1b[31m>\x1b[m ", "\x1b[0;1msql\x1b[m\x1b[0;1;31m>\x1b[m "),
+           ("\x1b[5;1m>\x1b[2K\x1b[99m \x1b[m\x1b]0;t\x07", "\x1b[0;1m> \x1b[m\x1b[m?\x1b[m]0;t\x1b[m?\x1b[m"),
+           ("\x1b[35m漢\x1b[m> ", "\x1b[0;35m漢\x1b[m> "),
+           ("\x1b[34ma\nb\x1b[m> ", "\x1b[0;34ma\x1b[m\r\n\x1b[0;34mb\x1b[m> ")]
 # The limits of a number of columns: those that are taken, and those that are wrong.
 TAKEN = ["2", "1000", "+07", "0" * 30 + "5"]
 WRONG = ["1", "1001", "65538", "70000", "x", "", "+", "5_0", " 5", "-5", "9" * 5000, "\u0665"]
@@ -182,6 +189,23 @@ def colours_by_the_environment():
         expect(run, b"()\n")
         same(f"styles of NO_COLOR={text}", STYLE in run.stderr, drawn)
         same("styles without --extended", STYLE in ran(b"()" + ENTER, env=environment).stderr, False)
+
+
+def prompts_with_styles():
+    """--extended draws a prompt by its sequences, and takes them out under NO_COLOR; without it ESC shows as `?`."""
+    coloured = {name: value for name, value in os.environb.items() if name != b"NO_COLOR"}
+    for prompt, drawn in PROMPTS:
+        expect(ran(b"", "--extended", "--prompt", prompt, env=coloured), b"", drawn_after(drawn) + NEW_ROW)
+    plain = {**coloured, b"NO_COLOR": b"1"}
+    expect(ran(b"", "--extended", "--prompt", GREEN, env=plain), b"", drawn_after("> ") + NEW_ROW)
+    shown = drawn_after("\x1b[m?\x1b[m[32m> \x1b[m?\x1b[m[m") + NEW_ROW
+    for environment in (coloured, plain):
+        expect(ran(b"", "--prompt", GREEN, env=environment), b"", shown)
+
+
+def drawn_after(prompt):
+    """The drawing of an empty line after a prompt that is drawn so."""
+    return drawing(b"").replace(b"> ", prompt.encode())
 
 
 def a_missing_history():
@@ -379,6 +403,7 @@ if __name__ == "__main__":
         brackets,
         extended,
         colours_by_the_environment,
+        prompts_with_styles,
         a_missing_history,
         two_programs_one_after_the_other,
         rights_are_kept,

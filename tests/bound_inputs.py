@@ -6,8 +6,7 @@ each way to count clusters.
 import dataclasses
 import re
 
-from display import Drawing
-from hunting import standard_styles, styled, without_parts
+from hunting import drawing, standard_styles, styled, without_parts
 from inputs import (COLUMNS, ENTER, PASTE, PASTED, UNTYPED, candidate_keys, completed_words, history, keys_of, one_key,
                     searches as searches_of, settings, some, texts)
 from searching import Completes
@@ -122,6 +121,11 @@ class Session:
         return self.value("clusters:", "Unicode")
 
     @property
+    def stop(self):
+        """How many columns apart tab stops are, if tabs are drawn as blanks."""
+        return int(self.value("stop:", "8")) if "tabs" in self.words else None
+
+    @property
     def prompt(self):
         return meant(self.value("prompt:", "> ")).decode()
 
@@ -135,8 +139,8 @@ class Session:
 
     def is_searched(self):
         """Whether the model of searches and completion knows its settings: with words to complete there are hints of a history."""
-        known = ("columns:", "prompt:", "loaded:", "reads:", "clusters:", "words:", "limit:")
-        alone = ("modal", "adding", "vi", "listed", "at-once", "colours")
+        known = ("columns:", "prompt:", "loaded:", "reads:", "clusters:", "words:", "limit:", "stop:")
+        alone = ("modal", "adding", "vi", "listed", "at-once", "colours", "tabs")
         is_known = "modal" in self.words and all(word in alone or word.startswith(known) for word in self.words)
         return is_known and not (self.value("words:") and ("adding" in self.words or self.history))
 
@@ -157,7 +161,7 @@ class Session:
             found = MESSAGE.fullmatch(shown.text(shown.top + place[0], place[1]))
             message = found[0] if found else ""
         if message:
-            yield message, Drawing(self.columns, self.prompt, line, message, clusters=self.clusters)
+            yield message, drawing(self, self.prompt, line, message)
 
     def styled(self, line, message):
         """The styles that an accepted line may have. What a helper with fixed answers marks doesn't depend on the drawing's
@@ -323,6 +327,12 @@ def reads(rng):
     return f"reads:{','.join([*turns, rng.choice(['1..', '2..', '3..', '4096..'])])}"
 
 
+def tabs(rng):
+    """The words for tabs: in half of the sessions they are drawn as blanks, often up to stops 8 columns apart."""
+    stop = rng.choice([[], [], [f"stop:{rng.choice([0, 1, 2, 3, 4, 7, 10, 255])}"]])
+    return rng.choice([[], ["tabs"]]) + stop
+
+
 def setting(rng):
     """The words of a setting, without bindings, and its mode."""
     given = settings(rng)
@@ -336,7 +346,7 @@ def setting(rng):
         words.append(f"clusters:{rng.choice(['WcWidth', 'NoZwj'])}")
     if rng.random() < 0.5:
         words.append("colours")
-    return [*words, *helper(rng), reads(rng)], given["mode"]
+    return [*words, *tabs(rng), *helper(rng), reads(rng)], given["mode"]
 
 
 def typed(rng, mode, names, most):
@@ -408,7 +418,7 @@ def searches(rng):
     """Searches of a history, and keys of every form between them."""
     given = searches_of(rng)
     words = ["modal", f"columns:{given.columns}", f"loaded:{noted(given.history)}", reads(rng)]
-    words += (["vi"] if given.mode == "vi" else []) + rng.choice([["adding"], ["adding"], []])
+    words += (["vi"] if given.mode == "vi" else []) + rng.choice([["adding"], ["adding"], []]) + tabs(rng)
     if rng.random() < 0.2:
         words.append(f"clusters:{rng.choice(['WcWidth', 'NoZwj'])}")
     return Session(given.keys, tuple(words))
@@ -419,7 +429,7 @@ def candidates(rng):
     words, mode = completed_words(rng), rng.choice(["emacs", "emacs", "vi"])
     given = ["modal", f"columns:{rng.choice(COLUMNS)}", f"words:{','.join(map(noted, words))}", reads(rng)]
     given += rng.choice([[], ["colours"]]) + rng.choice([[], ["listed"]]) + rng.choice([[], [], ["at-once"]]) + rng.choice([[], [f"limit:{some(rng, 0, 5)}"]])
-    given += ["vi"] if mode == "vi" else []
+    given += (["vi"] if mode == "vi" else []) + tabs(rng)
     return Session(candidate_keys(rng, words, mode), tuple(given))
 
 

@@ -1,6 +1,7 @@
 #!/usr/bin/env python3
-"""Styles on a terminal: what tmux shows after each drawing of the rows of `colours.txt`, cell by cell with its style, is what the
-display of tests/display.py shows. So is what libvterm shows, by its program `unterm`; without it that part is skipped with a word.
+"""Styles and tabs on a terminal: what tmux shows after each drawing of the rows of `colours.txt` and `tabs.txt`, cell by cell with
+its style, is what the display of tests/display.py shows. So is what libvterm shows, by its program `unterm`; without it that part is
+skipped with a word.
 
 The rows have the bytes, so nothing is built for this: sessions_program and the program play the same rows.
 """
@@ -23,9 +24,9 @@ PATIENCE = 60
 
 # The flags that libvterm need not show, and why.
 UNSHOWN = {2: "faint: a cell of libvterm 0.1.4 has no such attribute"}
-# The rows of its screen: more than any row of `colours.txt` takes, with one for a dot.
+# The rows of its screen: more than any row of the tables takes, with one for a dot.
 SCREEN_ROWS = 8
-FEWEST_DRAWINGS = 200
+FEWEST_DRAWINGS = 400
 
 # A drawing of two rows of 8 columns.
 RIGHT = "\r\x1b[J\x1b[m> \x1b[m\x1b[0;44mabcdef\x1b[m\r\n\x1b[0;44mg\x1b[mh\x1b[m\x1b[m"
@@ -90,8 +91,11 @@ class Shown:
         self.terminal.close()
 
 
-def columns_of(row):
-    return int(row.value("columns:", "80"))
+def rows():
+    """The rows of the tables, each with its columns, and what to call it."""
+    for name in ("colours.txt", "tabs.txt"):
+        for row in rows_of(name):
+            yield row, int(row.value("columns:", "80")), f"{name}:{row.number}"
 
 
 def expect_drawings(count):
@@ -105,13 +109,12 @@ def rows_with_styles():
     terminals, drawings = {}, 0
     with tempfile.TemporaryDirectory() as folder:
         try:
-            for row in rows_of("colours.txt"):
-                columns = columns_of(row)
+            for row, columns, name in rows():
                 terminal = terminals.get(columns) or terminals.setdefault(columns, Shown(folder, columns))
                 terminal.clear()
                 for piece in row.pieces:
                     terminal.send(piece)
-                    terminal.agrees(f"colours.txt:{row.number}")
+                    terminal.agrees(name)
                     drawings += 1
         finally:
             for terminal in terminals.values():
@@ -168,9 +171,9 @@ def libvterm_tells_a_wrong_style():
 def rows_on_libvterm():
     """After each drawing of each row."""
     flags, drawings = unshown(), 0
-    for row in rows_of("colours.txt"):
+    for row, columns, name in rows():
         for sent in itertools.accumulate(row.pieces):
-            libvterm_agrees(f"colours.txt:{row.number}", sent, columns_of(row), flags)
+            libvterm_agrees(name, sent, columns, flags)
             drawings += 1
     expect_drawings(drawings)
 

@@ -97,6 +97,19 @@ def a_statement_goes_on_until_its_semicolon():
     )
 
 
+def a_pasted_statement_keeps_its_tabs():
+    """They are drawn as blanks up to the next stop, and go into the history."""
+    rows = ["sql> SELECT     1", "        AS      one;"]
+    answer = ["| one |", "|-----|", "| 1   |"]
+    plays(
+        (b"\x1b[200~SELECT\t1\n\tAS\tone\x1b[201~", [*rows[:1], rows[1][:-1]], (1, 19)),
+        (b";", rows, (1, 20)),
+        (UP, rows, (0, 17)),
+        (ENTER, [*rows, *answer, "sql>"], (5, 5)),
+        (CTRL_L + UP, rows, (1, 20)),
+    )
+
+
 def another_prompt_after_an_empty_row():
     plays(
         (b"SELECT 1" + ENTER, ["sql> SELECT 1", HINT], (1, 0)),
@@ -200,6 +213,12 @@ def colours():
         same(f"the statement with {variables}", (coloured in drawn, hint in drawn), (wanted, wanted))
 
 
+def tabs_with_and_without_colours():
+    for variables in ({}, {"NO_COLOR": "1"}):
+        drawn = run(keys=b"\x1b[200~a\tb\x1b[201~", **variables).stderr
+        same(f"a tab with {variables}", (b"a  b" in drawn, b"?" in drawn), (True, False))
+
+
 def a_long_statement_in_colours():
     """Each of many rows has its styles, in each drawing."""
     rows = 5000
@@ -259,6 +278,7 @@ if __name__ == "__main__":
         a_table_of_rows,
         a_column_as_wide_as_the_terminal_shows_it,
         a_statement_goes_on_until_its_semicolon,
+        a_pasted_statement_keeps_its_tabs,
         another_prompt_after_an_empty_row,
         an_open_statement_says_how_it_ends,
         a_mistake_is_told_and_the_console_goes_on,
@@ -271,6 +291,7 @@ if __name__ == "__main__":
         windows,
         arguments,
         colours,
+        tabs_with_and_without_colours,
         a_long_statement_in_colours,
         a_history_that_lasts,
         histories_that_fail,

@@ -241,17 +241,18 @@ class Rows:
 
 
 class Drawing(Rows):
-    """Texts drawn one after the other from a display's first cell; `place` is their end. `spans` has the styles of each."""
+    """Texts drawn one after the other from a display's first cell; `place` is their end. `spans` has the styles of each. `stop`
+    says how many columns apart the stops are up to which a tab is drawn as blanks; without it a tab is a question mark."""
 
-    def __init__(self, columns, *texts, clusters="Unicode", spans=()):
+    def __init__(self, columns, *texts, clusters="Unicode", spans=(), stop=None):
         super().__init__(columns, clusters)
-        self.place = (0, 0)
+        self.place, self.stop = (0, 0), stop
         for text, styles in itertools.zip_longest(texts, spans, fillvalue=()):
             self.draw(text, styles)
 
     def followed_by(self, *texts):
         """A drawing of more texts after these."""
-        drawn = Drawing(self.columns, clusters=self.counted)
+        drawn = Drawing(self.columns, clusters=self.counted, stop=self.stop)
         drawn.rows, drawn.place = [*map(dict, self.rows)], self.place
         for text in texts:
             drawn.draw(text)
@@ -265,18 +266,35 @@ class Drawing(Rows):
                 self.place = (counted_row(self.place[0] + 1), 0)
             is_plain = PRINTABLE.match(piece)
             found = piece if is_plain else clusters(piece)
-            items = ((char, 1) for char in piece) if is_plain else (shown_cluster(it, self.columns, self.counted) for it in found)
+            items = ((char, 1) for char in piece) if is_plain else map(self.item, found)
             starts = itertools.accumulate((len(it.encode()) for it in found), initial=byte)
             self.lay(items, (style_at(spans, start) for start in starts) if spans else itertools.repeat(""))
             byte += len(piece.encode()) + 1
+
+    def item(self, cluster):
+        """A cluster as it is drawn, and its width. A tab that is drawn as blanks has the width of one, as it takes one at least."""
+        if cluster == "\t" and self.stop is not None:
+            return (cluster, 1)
+        return shown_cluster(cluster, self.columns, self.counted)
+
+    def put_tab(self, row, col, style):
+        """Puts blanks up to the next stop, or to the row's end, and says where they end."""
+        while True:
+            self.put(row, col, " ", 1, style)
+            col += 1
+            if col == self.columns or col % max(self.stop, 1) == 0:
+                return col
 
     def lay(self, items, styles):
         row, col = self.place
         for (cluster, wide), style in zip(items, styles):
             if col + wide > self.columns:
                 row, col = row + 1, 0
-            self.put(row, col, cluster, wide, style)
-            col += wide
+            if cluster == "\t":
+                col = self.put_tab(row, col, style)
+            else:
+                self.put(row, col, cluster, wide, style)
+                col += wide
             if col == self.columns:
                 row, col = row + 1, 0
         self.place = (row, col)

@@ -22,6 +22,8 @@ CASES = [
     ("shorter", 10, ["> ab"], (0, 4)),
     ("wide", 9, ["> \u6f22\u5b57\u6f22", "\u5b57"], (1, 2)),
     ("control", 20, ["> a?b"], (0, 5)),
+    ("tabs", 20, ["> a     b", "                c"], (1, 17)),
+    ("tab-at-the-margin", 10, ["> abcdef", "x"], (1, 1)),
     ("accent", 20, ["> e\u0301x"], (0, 3)),
     ("message", 20, ["> ]unpaired"], (0, 3)),
     ("rows", 20, ["> one", "two", "three"], (0, 5)),

@@ -43,6 +43,10 @@ ROWS = [
     Session(keys=b"\x1b[A\r", history=b"#V2\n\xff\n"),
     Session(keys=b"a\t\r", words=b"\xff", history=b"\xff"),
     Session(keys="漢\t\t\r".encode(), words="漢字\n漢a\n".encode(), columns=3),
+    Session(keys=PASTE + b"abcdef\tx" + PASTED + ENTER, columns=10, extended=True),
+    Session(keys=PASTE + b"abcdef\tx\n\ty" + PASTED + b"\x1b[A\x1b[Dz" + ENTER, columns=10, extended=True),
+    Session(keys="漢".encode() + PASTE + b"\t(\t" + PASTED + b")\x16\t\x7f" + ENTER, columns=9, prompt="\t", extended=True),
+    Session(keys=b"\x12\x16\tb" + ENTER, history=b"#V2\na\tb\n", columns=20, extended=True),
 ]
 
 # The message of each status that isn't a device's fault.

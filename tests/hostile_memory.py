@@ -47,6 +47,12 @@ ae Tab Enter = nothing
 ab Enter cd Left Enter = nothing
 : colours helped bind:C-O⇒AcceptLine
 (a) Enter ] C-o (] C-o = nothing
+: tabs columns:10
+Paste abcdef␉x␊␉y Pasted Up Left z Enter = nothing
+: tabs stop:0 advised hint:␉b␉␊␉c columns:4
+a Paste ␉ Pasted Left b = nothing
+: tabs colours stop:5 advised marks-from:1 styled:1,3,on-red verdict:ValidTold message:h␉i columns:7
+Paste a␉漢␉ Pasted Enter = nothing
 : advised hint-fails:2
 ab Enter = nothing
 : bind:any⇒Always·AcceptLine

@@ -53,6 +53,11 @@ def is_text(data):
     return True
 
 
+def drawing(session, *texts, spans=()):
+    """The drawing of texts by a session."""
+    return Drawing(session.columns, *texts, clusters=session.clusters, spans=spans, stop=session.stop)
+
+
 def shown_lines(session, display, lines, is_drawn=True):
     """In which ways the written bytes are split into lines, as the display shows them, each where it ends, and what it shows at
     the end; everything else on it is as it must be. The first drawing of a line may be missing if a helper failed."""
@@ -89,7 +94,7 @@ def with_one_more(session, shown, text, ways, is_last):
 def shown_ends(session, shown, text, begun, is_last):
     """Where the lines end that begin at a place in a text and that the display shows: at its first newline, or at a later one,
     since some lines contain newlines. If two drawings look alike, there are several."""
-    drawn, drawn_to = Drawing(session.columns, session.prompt, clusters=session.clusters), begun
+    drawn, drawn_to = drawing(session, session.prompt), begun
     for end in [len(text) - 1] if is_last else (found.start() for found in re.compile("\n").finditer(text, begun)):
         if end < begun:
             return
@@ -115,7 +120,7 @@ def is_shown(session, shown, line, drawn):
 
 def styled(session, line, message, spans):
     """The columns with styles of a drawing, by the spans of prompt, line and message."""
-    return Drawing(session.columns, session.prompt, line, message or "", clusters=session.clusters, spans=spans).styled()
+    return drawing(session, session.prompt, line, message or "", spans=spans).styled()
 
 
 def standard_styles(session, line, message):
@@ -150,7 +155,7 @@ def prompts_of(session, shown):
     """The prompts that a display may show, drawn: the session's own, that of a count, and that of a search."""
     count = COUNT.match(shown.text(shown.top, 0))
     for prompt in [session.prompt] + ([count[0]] if count else []):
-        yield Drawing(session.columns, prompt, clusters=session.clusters)
+        yield drawing(session, prompt)
     if session.is_modal():
         yield from prompts_of_searches(session, shown)
 
@@ -163,7 +168,7 @@ def prompts_of_searches(session, shown):
     text = "".join(char for _, _, char in cells)
     for found in SEARCHED.finditer(text) if SEARCH.match(text) else ():
         row, col, _ = cells[found.end() - 1]
-        drawn = Drawing(session.columns, clusters=session.clusters)
+        drawn = drawing(session)
         drawn.rows = [*map(dict, rows[:row]), {at: cell for at, cell in rows[row].items() if at <= col}]
         drawn.place = (row, col + 1) if col + 1 < session.columns else (row + 1, 0)
         yield drawn

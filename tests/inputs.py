@@ -2,8 +2,7 @@
 import dataclasses
 import re
 
-from display import Drawing
-from hunting import entries_of, is_text, standard_styles, without_parts
+from hunting import drawing, entries_of, is_text, standard_styles, without_parts
 from searching import Completes
 
 ESC, ENTER = b"\x1b", b"\r"
@@ -23,7 +22,7 @@ UNTYPED = ["\t", "\x00", "\x07", "\x1b", "\x1b[H", "\x7f", "\x80", "\x9b", "\r",
 ALPHABETS = [PLAIN, MARKS, JOINED, RIGHT_TO_LEFT, WIDTHLESS, WIDE]
 
 # Texts of entries that are searched, and of words that are completed.
-SEARCHED = ["a", "b", "ab", "git", " ", "-m", "é", "漢", "\n", "x"]
+SEARCHED = ["a", "b", "ab", "git", " ", "-m", "é", "漢", "\n", "x", "\t"]
 COMPLETED = ["a", "ab", "l", "pha", "é", "漢", "字", "x", "", "alphabet"]
 
 COLUMNS = [2, 2, 3, 3, 4, 5, 7, 10, 20, 80, 80, 1000, 1000]
@@ -44,6 +43,8 @@ CONTROLS = [bytes([code]) for code in [*range(0x20), 0x7F] if code not in (0x03,
 EMACS = [ESC + bytes([char]) for char in b"bfdcultyBFDCULTY<>\x7f\x08\x07"]
 EMACS += [b"\x18\x15", b"\x18\x7f", b"\x18\x07", b"\x18z", b"\x1da", b"\x1d ", b"\x1b\x1da"]
 EMACS += [b"\x19", b"\x19", b"\x1by", b"\x1f", b"\x17", b"\x0b"]
+# A tab that comes into the line, if Ctrl-V quotes.
+QUOTED_TAB = b"\x16\t"
 VI = [bytes([char]) for char in b"0$^wWbBeEhljk+-xXDpPuiIaACSsRR.;,"]
 VI += [b"fa", b"F ", b"tb", b"T,", b"rx", b"r\x1b", b"dd", b"cc", b"yy", b"dw", b"cw", b"yw", b"d$", b"db", b"c0", b"y^", b"dfa",
        b"dt ", b"d;", b"d,", b"dj", b"dk", b"yj", b">>", b"<<", b">w", b"<k", b">j", b"d2w", b"2dd", b"3p", b"2u", b"c2c", b"5l",
@@ -56,7 +57,7 @@ MESSAGE = re.compile(r"Mismatched brackets: '.' is (unpaired|not properly closed
 @dataclasses.dataclass(frozen=True)
 class Session:
     """A run of the program: its keys, its arguments, and the bytes of its history file and of its file of words. None stands
-    for no file; `extended` is the argument that turns on the commands that go on over several keys."""
+    for no file; `extended` is the argument that turns on the commands that go on over several keys, colours and tabs."""
 
     keys: bytes
     mode: str = "emacs"
@@ -74,11 +75,16 @@ class Session:
     # How clusters are counted.
     clusters = "Unicode"
 
+    @property
+    def stop(self):
+        """How many columns apart tab stops are, if tabs are drawn as blanks."""
+        return 8 if self.extended else None
+
     def with_message(self, shown, line, place):
         """The message that a display shows after prompt and line, if it may show one, and the drawing with it."""
         message = shown.text(shown.top + place[0], place[1])
         if self.brackets and MESSAGE.fullmatch(message):
-            yield message, Drawing(self.columns, self.prompt, line, message)
+            yield message, drawing(self, self.prompt, line, message)
 
     def styled(self, line, message):
         """The styles that an accepted line may have."""
@@ -140,8 +146,14 @@ def texts(rng, most, *more):
     return "".join(rng.choice(pieces) for _ in range(some(rng, 0, most)))
 
 
+def indented(rng):
+    """Rows that begin with tabs, and have some in them."""
+    rows = ["\t" * some(rng, 0, 3) + texts(rng, 8, ["\t"]) for _ in range(some(rng, 1, 4))]
+    return "\n".join(rows)
+
+
 def pasted(rng, most=12):
-    text = texts(rng, most, UNTYPED).encode()
+    text = (indented(rng) if rng.random() < 0.3 else texts(rng, most, UNTYPED)).encode()
     if rng.random() < 0.2:
         text += rng.choice([PASTE, b"\x1b[201", b"\x1b[20\x1b[201", b"\x1b", b"\x1b[", b"\xff", b"\xc3"])
     return PASTE + text + PASTED
@@ -149,9 +161,9 @@ def pasted(rng, most=12):
 
 def settings(rng):
     given = {"mode": rng.choice(["emacs", "vi"]), "columns": rng.choice(COLUMNS), "brackets": rng.random() < 0.2}
-    given["extended"] = rng.random() < 0.3
+    given["extended"] = rng.random() < 0.5
     if rng.random() < 0.1:
-        given["prompt"] = rng.choice(["", "$ ", "漢", "a\nb", "é> "])
+        given["prompt"] = rng.choice(["", "$ ", "漢", "a\nb", "é> ", "in\t> "])
     if rng.random() < 0.2:
         given["history"] = history(rng)
     if rng.random() < 0.1:
@@ -176,6 +188,8 @@ def one_key(rng, mode):
         return rng.choice(ENDING)
     if at < 0.71:
         return count(rng, mode, 30)
+    if at < 0.72:
+        return QUOTED_TAB
     if mode == "vi":
         return (ESC if rng.random() < 0.4 else b"") + rng.choice(VI)
     return rng.choice(EMACS)
@@ -326,7 +340,7 @@ def search_keys(rng, entries, mode):
     for _ in range(some(rng, 1, 40)):
         entry = rng.choice(entries or [""]) if rng.random() < 0.8 else searched_entry(rng)
         at = rng.randrange(len(entry) + 1)
-        piece = entry[at:at + rng.choice([1, 1, 2, 3, 9])].replace("\n", " ").encode()
+        piece = entry[at:at + rng.choice([1, 1, 2, 3, 9])].replace("\n", " ").encode().replace(b"\t", QUOTED_TAB)
         often = [(piece, 30), (b"\x12", 20), (b"\x12" + piece, 20), (b"\x13", 8), (b"\x7f", 10), (b"\x07", 6), (ENTER, 8), (b"\x1f", 5),
                  (PASTE + entry.encode() + PASTED, 1), (b"\x1b[99~", 1), (rng.choice(ENDING), 0.3), (b"\x1b[A", 8), (b"\x1b[B", 4),
                  (b"\x16" + rng.choice([b"\t", b"\x12", b"a", b"\n", b"\x1b[A"]), 2), (ENTER + piece + b"\x1b[A", 5)]

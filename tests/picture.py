@@ -34,8 +34,11 @@ COLUMNS, ROWS = 56, 8
 # Where what is shown begins in a row of the session.
 MARGIN = 18
 
-# The statement that is typed into the console, in windows of these columns: Enter after each row. The last row is empty.
-STATEMENT = ["SELECT title, stars -- the best ones, by name", "FROM note WHERE title <> 'it''s me' AND stars > 4.5", ""]
+# The statement in the console, in windows of these columns: the row that is typed, and those that are pasted, with tabs. After each
+# comes Enter, so the last row is empty.
+TYPED = "SELECT title, stars -- the best ones, by name"
+PASTED = ["FROM note", "WHERE\ttitle <> 'it''s me'", "\tAND stars > 4.5"]
+STATEMENT = b"\x0c%s\r\x1b[200~%s\x1b[201~\r" % (TYPED.encode(), "\n".join(PASTED).encode())
 WINDOWS = (40, 120)
 HINT = "(; ends the statement)"
 
@@ -191,10 +194,10 @@ def console_in(columns):
         terminal = Terminal(folder, columns, run)
         try:
             until_taken(terminal)
-            type_bytes(terminal, b"\x0c" + "\r".join(STATEMENT).encode())
-            typed = rows_of(f"sql> {STATEMENT[0]}", columns) + rows_of(STATEMENT[1], columns) + [HINT]
-            cursor = (len(typed) - 1, 0)
-            expect(terminal, f"the statement in {columns} columns", ([it.rstrip() for it in typed], cursor))
+            type_bytes(terminal, STATEMENT)
+            rows = [*rows_of(f"sql> {TYPED}", columns), *(row.expandtabs(8) for row in PASTED), HINT]
+            cursor = (len(rows) - 1, 0)
+            expect(terminal, f"the statement in {columns} columns", ([it.rstrip() for it in rows], cursor))
             return captured(terminal.ask("capture-pane", "-p", "-e", "-N")), cursor
         finally:
             terminal.close()
@@ -230,7 +233,7 @@ def console_picture():
     width = 2 * LEFT + CELL * max(WINDOWS)
     return (
         f'<svg xmlns="http://www.w3.org/2000/svg" viewBox="0 0 {width:g} {top}" width="{width:g}" height="{top}" fill="#e6edf3">\n'
-        "  <title>A statement in the SQL console, with a hint, as tmux shows it at "
+        "  <title>A statement in the SQL console, pasted with tabs in part, and a hint, as tmux shows it at "
         f"{' and '.join(map(str, WINDOWS))} columns</title>\n"
         '  <style>text { font: 14px "DejaVu Sans Mono", Menlo, Consolas, monospace; white-space: pre }</style>\n'
         f'  <rect width="100%" height="100%" rx="8" fill="#0d1117"/>\n{"".join(windows)}</svg>\n'

@@ -30,7 +30,7 @@ NAMES = {
     "Rattle.worked_rows.specs.Playing": ["Row", "row"],
     "Rattle.worked_rows.specs.Settings": [
         "Settings", "adding", "aide", "aide_ending", "always", "at_once", "bound", "colours", "command", "counting", "limited", "listed",
-        "modal", "of_size", "plain", "vi"],
+        "modal", "of_size", "plain", "stopping", "tabs", "vi"],
 }
 # A text of more such bytes in a row is written with their number.
 RUN = 40
@@ -143,16 +143,17 @@ def binding_term(word):
 
 # ---- settings
 
-KNOWN = {"", "vi", "adding", "modal", "colours", "listed", "at-once", "bare", "helped", "keys@end"}
-CONFIGURED = (("vi", "vi"), ("adding", "adding"), ("modal", "modal"), ("colours", "colours"), ("listed", "listed"), ("at-once", "at_once"))
-VALUES = ("bind:", "clusters:", "columns:", "ends:", "limit:", "loaded:", "prompt:", "size:", "words:")
+KNOWN = {"", "vi", "adding", "modal", "colours", "tabs", "listed", "at-once", "bare", "helped", "keys@end"}
+CONFIGURED = (("vi", "vi"), ("adding", "adding"), ("modal", "modal"), ("colours", "colours"), ("tabs", "tabs"), ("listed", "listed"),
+              ("at-once", "at_once"))
+VALUES = ("bind:", "clusters:", "columns:", "ends:", "limit:", "loaded:", "prompt:", "size:", "stop:", "words:")
 
 
 def config_term(row):
     config = "plain.config"
     for word, name in CONFIGURED:
         config = f"{name} {within(config)}" if word in row.settings else config
-    for word, name in (("clusters:", "counting"), ("size:", "of_size"), ("limit:", "limited")):
+    for word, name in (("clusters:", "counting"), ("size:", "of_size"), ("limit:", "limited"), ("stop:", "stopping")):
         value = row.value(word, "")
         config = f"{name} {value} {within(config)}" if value else config
     return config

@@ -97,7 +97,7 @@ def a_list_that_is_cut_off():
 
 def a_quoted_tab():
     with in_window() as terminal:
-        plays(terminal, ("a C-v Tab b", ["> a?b"], (0, 5)), ("Enter", ["> a?b", "a       b", ">"], (2, 2)))
+        plays(terminal, ("a C-v Tab b", ["> a     b"], (0, 9)), ("Enter", ["> a     b", "a       b", ">"], (2, 2)))
 
 
 def up_by_the_beginning():
@@ -106,11 +106,12 @@ def up_by_the_beginning():
 
 
 def plain():
-    """With --plain these keys do what they do by default: nothing, but Up."""
+    """With --plain these keys do what they do by default, nothing, except for Up, and a tab is a question mark."""
     with in_window("--plain", history=["make one", "end"], words=["word1", "word2"]) as terminal:
         plays(
             terminal,
             ("C-r C-s C-v m", ["> m"], (0, 3)),
+            ("Paste ␉n Pasted", ["> m?n"], (0, 5)),
             ("C-v Up", ["> end"], (0, 5)),
             ("C-u w Tab Tab", ["> word"], (0, 6)),
         )

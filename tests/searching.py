@@ -10,8 +10,8 @@ import random
 import re
 
 from checks import Failed
-from display import Display, Drawing
-from hunting import KEPT, entries_of, is_text, same, tell
+from display import Display
+from hunting import KEPT, drawing, entries_of, is_text, same, tell
 
 ESC = "\x1b"
 NAMED = {
@@ -400,10 +400,10 @@ def judge_shown(session, model, display):
     for _ in shown.read(display.removesuffix(b"\r\n")):
         shown.top = shown.cursor[0]
     line, texts = model.line, (model.prompt, model.line.text, model.listed)
-    drawn = Drawing(session.columns, *texts, clusters=session.clusters)
+    drawn = drawing(session, *texts)
     if shown.below(shown.top) != drawn.below(0):
         tell("cells by the model", f"{texts!r} isn't shown, but {shown.text(shown.top, 0)!r}")
-    row, col = Drawing(session.columns, model.prompt, line.text[:line.cursor], clusters=session.clusters).place
+    row, col = drawing(session, model.prompt, line.text[:line.cursor]).place
     same("cursor by the model", shown.cursor, (shown.top + row, col))
 
 

@@ -81,6 +81,7 @@ class Row:
         self.pieces = [*map(piece_drawn, (shows or "").split())]
         self.display = None if shows is None else b"".join(self.pieces)
         self.loaded = meant(self.value("loaded:", ""))
+        self.prompt = meant(self.value("prompt:", "" if "bare" in self.settings else "> "))
 
     def value(self, name, default):
         found = [word[len(name):] for word in self.settings if word.startswith(name)]
@@ -93,13 +94,20 @@ class Row:
         texts = re.sub(rb"\x1b\[[0-9;]*[A-Z~]", b"", self.keys) + self.loaded + words
         return re.search(rb"[][(){}]", texts) is not None or not words and b"\t" in self.keys
 
+    def has_tab(self):
+        """Whether a row may show a tab: it is in a text that is accepted, loaded or the prompt, or it is pasted or quoted."""
+        return b"\t" in self.lines + self.loaded + self.prompt or re.search(rb"\x1b\[200~.*\t|[\x11\x16]\t", self.keys) is not None
+
     def is_played(self):
         """Whether the program can play the row: it binds no key, gives no hint, keeps a hundred lines, lists candidates, and
-        has styles only with the commands that go on over several keys."""
+        has styles, and tabs as blanks, only with the commands that go on over several keys."""
         words = self.value("words:", "")
         if ("colours" in self.settings) != ("modal" in self.settings) and self.asks_highlighter():
             return False
-        own = any(word.startswith(("bind:", "size:", "limit:", "at-once", "advised", "ends:")) for word in self.settings)
+        if ("tabs" in self.settings) != ("modal" in self.settings) and self.has_tab():
+            return False
+        own = any(word.startswith(("bind:", "size:", "limit:", "at-once", "advised", "ends:", "stop:", "clusters:"))
+                  for word in self.settings)
         hinted = ("helped" in self.settings or words) and self.value("loaded:", "")
         in_turn = "modal" in self.settings and words and "listed" not in self.settings
         return not (own or hinted or in_turn or "" in words.split(",")[1:] or words.startswith(","))
@@ -107,7 +115,7 @@ class Row:
     def arguments(self, folder):
         """The program's arguments; the words to complete are in a file of the folder."""
         given = ["--mode", "vi" if "vi" in self.settings else "emacs", "--columns", self.value("columns:", "80")]
-        given += ["--prompt=" if "bare" in self.settings else "--prompt=> "]
+        given += [b"--prompt=" + self.prompt]
         if self.value("words:", ""):
             path = os.path.join(folder, "words")
             with open(path, "w", encoding="utf-8") as file:
@@ -217,6 +225,14 @@ def candidates_one_byte_a_read():
     played("candidates.txt", True)
 
 
+def tabs():
+    played("tabs.txt", False)
+
+
+def tabs_one_byte_a_read():
+    played("tabs.txt", True)
+
+
 def styles():
     """The rows of `colours.txt` that --extended has: too few for `played`."""
     rows = [row for row in rows_of("colours.txt") if row.is_played()]
@@ -238,4 +254,4 @@ if __name__ == "__main__":
     run_all([worked_rows, worked_rows_one_byte_a_read, keys_of_emacs, keys_of_emacs_one_byte_a_read, keys_of_vi,
              keys_of_vi_one_byte_a_read, worked_sessions, worked_sessions_one_byte_a_read, commands_over_several_keys,
              commands_over_several_keys_one_byte_a_read, candidates,
-             candidates_one_byte_a_read, styles, sizes])
+             candidates_one_byte_a_read, tabs, tabs_one_byte_a_read, styles, sizes])

@@ -26,9 +26,9 @@ from wrong_bodies import read, write
 
 CRATE = os.path.join(TOP, "crates", "worked_rows")
 KIT = os.path.join(os.path.dirname(os.path.dirname(RATTLE)), "rattle")
-TABLES = ("emacs", "vi", "rows", "refusals", "faults", "worked", "modal", "candidates", "colours")
+TABLES = ("emacs", "vi", "rows", "refusals", "faults", "worked", "modal", "candidates", "colours", "tabs")
 # Files of definitions that are written by hand: what they mention is unfolded.
-BY_HAND = ("Calls", "Comparing", "Playing", "Settings", "Showing")
+BY_HAND = ("Calls", "Comparing", "Playing", "Prompts", "Settings", "Showing", "Splitting")
 # What no definition of a session speaks of: devices that fail, and a helper of the tests.
 LEFT_OUT = ("advised", "display@", "lines@", "text@")
 

@@ -29,7 +29,7 @@ fn asked(alloc: Global, mode: EditMode, keys: &[KeyEvent]) -> Result<String, Fai
     run(
         alloc,
         &mut reader,
-        CallList::new(alloc, stage.columns, stage.colours),
+        CallList::new(alloc, stage.columns, stage.colours, stage.tab),
         "> ",
         stage.helper(),
         &stage.history,

@@ -1,13 +1,15 @@
 //! A renderer that logs its calls.
 
 ghost use Rattle.std.specs.Prelude.{◌≡◌, ◌≤◌, IfErr, OnErr, IsTrue};
+ghost use Rattle.line_buffer.specs.declared.layout.GraphemeClusterMode.TheVariants.{Unicode};
 ghost use Rattle.line_config.specs.declared.errors.ReadlineError.TheVariants.{Display};
+ghost use Rattle.line_screen.specs.Measure.{measure_of};
 
-use line_buffer::{GraphemeClusterMode, Layout, LineBuffer, Position, Unit};
-use line_config::ReadlineError;
+use line_buffer::{GraphemeClusterMode, Layout, LineBuffer, Position, TabStops, Unit};
+use line_config::{BellStyle, ReadlineError, VecSink};
 use line_editor::Renderer;
 use line_help::Highlighter;
-use line_screen::measure;
+use line_screen::ScreenRenderer;
 use stand_ins::tables::{marked, pictured};
 use std::alloc::{AllocError, Global};
 
@@ -80,13 +82,15 @@ pub struct CallList {
     pub log: CallLog,
     columns: Unit,
     colours: bool,
+    /// How many columns apart tab stops are, if tabs are drawn as blanks.
+    tab: Option<u8>,
     ghost low: { 2 ≤ columns },
     ghost high: { columns ≤ 1000 },
 }
 
 impl CallList {
     /// A display with so many columns, at least 2 and at most 1,000.
-    pub fn new(alloc: Global, columns: Unit, colours: bool) -> Self {
+    pub fn new(alloc: Global, columns: Unit, colours: bool, tab: Option<u8>) -> Self {
         CallList {
             log: CallLog {
                 alloc,
@@ -96,6 +100,7 @@ impl CallList {
             },
             columns: columns.clamp(2, 1000),
             colours,
+            tab,
         }
     }
 
@@ -162,6 +167,18 @@ fn drawing(
     Ok(call)
 }
 
+// Where the drawing of a text ends that starts at a place, as a terminal's renderer measures it.
+fn measured(alloc: Global, text: &str, from: Position, columns: Unit, tab: Option<u8>) -> Position
+    requires low { 2 ≤ columns }
+    requires high { columns ≤ 1000 }
+    ensures { result ≡ measure_of Unicode tab columns text.now from }
+{
+    let mode = GraphemeClusterMode::Unicode;
+    let mut screen = ScreenRenderer::new(VecSink::new(alloc), columns, mode, BellStyle::None);
+    screen.set_tab_stop(tab);
+    screen.calculate_position(text, from)
+}
+
 impl Renderer for CallList {
     ghost use Rattle.std.specs.Prelude.{⊤};
     ghost use Rattle.editor_tests.specs.Rulers.{ruler_with};
@@ -171,7 +188,7 @@ impl Renderer for CallList {
       made = λ _ _ _. ⊤;
       refused = λ _ _ _. ⊤;
       failed = λ list. list.log.failed;
-      ruler = λ list. ruler_with list.columns list.colours;
+      ruler = λ list. ruler_with list.columns list.colours list.tab;
     } };
 
     fn move_cursor(&mut self, old: Position, new: Position) -> Result<(), ReadlineError> {
@@ -254,7 +271,12 @@ impl Renderer for CallList {
         GraphemeClusterMode::Unicode
     }
 
+    fn tab_stops(&self) -> Option<TabStops> {
+        let columns = self.columns;
+        self.tab.map(|apart| TabStops { columns, apart })
+    }
+
     fn calculate_position(&self, text: &str, orig: Position) -> Position {
-        measure(text, orig, self.columns, GraphemeClusterMode::Unicode)
+        measured(self.log.alloc, text, orig, self.columns, self.tab)
     }
 }

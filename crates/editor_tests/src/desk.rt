@@ -2,8 +2,8 @@
 //! by `; `, and after ` = ` their result.
 //!
 //! A row that begins with one of these words is a setting for the rows after it, and has no result.
-//! For the display: `columns: 10` sets its columns, `colours: yes` whether it has colours,
-//! `answered: 3` how many calls succeed. `history: one,two` sets the entries, `mode: Vi` the
+//! For the display: `columns: 10` sets its columns, `colours: yes` whether it has colours, `tabs: 8`
+//! how many columns apart tab stops are, `answered: 3` how many calls succeed. `history: one,two` sets the entries, `mode: Vi` the
 //! keymap, `modal: yes` that those commands act that go on over several keys. `completion: List`
 //! has several candidates listed, `at-once: yes` by the first Tab that adds nothing, `limit: 3` at
 //! most so many. `first:` sets the commands before those of each row, `tells: ring` what a row's
@@ -37,6 +37,8 @@ use std::test::Fail;
 pub(crate) struct Stage {
     pub columns: Unit,
     pub colours: bool,
+    /// How many columns apart tab stops are; without them a tab is a question mark.
+    pub tab: Option<u8>,
     pub history: MemHistory,
     /// Whether there is a helper.
     helped: bool,
@@ -106,6 +108,7 @@ impl Stage {
         Ok(Stage {
             columns: 80,
             colours: false,
+            tab: None,
             history: MemHistory::new(alloc),
             helped: false,
             helper: Adviser::new(Verdict::Valid, ""),
@@ -142,6 +145,7 @@ impl Stage {
             "answered:" => self.answered = rest.parse().ok(),
             "colours:" => self.colours = rest == "yes",
             "columns:" => self.columns = rest.parse().unwrap_or(80),
+            "tabs:" => self.tab = rest.parse().ok(),
             "modal:" => self.modal = rest == "yes",
             "mode:" if rest == "Vi" => self.mode = EditMode::Vi,
             "tells:" => self.tells_ring = rest == "ring",
@@ -274,7 +278,7 @@ fn empty_desk<'h, H: Helper + Drop>(
     alloc: Global,
     stage: &'h Stage,
 ) -> Result<Desk<'h, H>, ReadlineError> {
-    let out = CallList::new(alloc, stage.columns, stage.colours);
+    let out = CallList::new(alloc, stage.columns, stage.colours, stage.tab);
     State::new(alloc, out, "> ", None, Context::new(&stage.history))
 }
 

@@ -87,7 +87,33 @@ const HINTS_AND_HIGHLIGHTS: &str = "
     ab|: SelfInsert 1 c; SelfInsert 1 d; SelfInsert 1 e = abcde| / write 'e'
 ";
 
-const TABLES: [&str; 2] = [INSERTIONS, HINTS_AND_HIGHLIGHTS];
+// Behind clusters of one byte each a letter's byte is enough, if tabs are drawn.
+const AFTER_TABS: &str = "
+    ab␉|: SelfInsert 1 x = ab␉x| / draw '> ab␉x|' at 0,6 to 0,6
+
+    tabs: 8 = nothing
+    ab␉|: SelfInsert 1 x = ab␉x| / write 'x'
+    ab␉|: SelfInsert 1 x; SelfInsert 1 y = ab␉xy| / write 'y'
+    ␉␊␉|: SelfInsert 1 x = ␉␊␉x| / write 'x'
+    ab|: SelfInsert 1 x = abx| / write 'x'
+    ab|: SelfInsert 1 ␉ = ab␉| / draw '> ab␉|' at 0,8 to 0,8
+    abcdef|: SelfInsert 1 ␉ = abcdef␉| / draw '> abcdef␉|' at 0,16 to 0,16
+    ab␉|: SelfInsert 1 ␉ = ab␉␉| / draw '> ab␉␉|' at 0,16 to 0,16
+    ab␉|: SelfInsert 2 x = ab␉xx| / draw '> ab␉xx|' at 0,10 to 0,10
+    a|␉b: SelfInsert 1 x = ax|␉b / draw '> ax|␉b' at 0,4 to 0,9
+    ab␉|: SelfInsert 1 é = ab␉é| / draw '> ab␉é|' at 0,9 to 0,9
+    é|: SelfInsert 1 x = éx| / draw '> éx|' at 0,4 to 0,4
+    é␉|: SelfInsert 1 x = é␉x| / draw '> é␉x|' at 0,9 to 0,9
+    ab␉␡|: SelfInsert 1 x = ab␉␡x| / draw '> ab␉␡x|' at 0,10 to 0,10
+    ab␉x|: Kill BackwardChar 1 = ab␉| / draw '> ab␉|' at 0,8 to 0,8
+
+    columns: 10 = nothing
+    abcdefgh␉|: SelfInsert 1 x = abcdefgh␉x| / write 'x'
+    abcdefgh␉x|: SelfInsert 1 y = abcdefgh␉xy| / draw '> abcdefgh␉xy|' at 2,0 to 2,0 below 1
+    abcdef␉|: SelfInsert 1 x = abcdef␉x| / write 'x'
+";
+
+const TABLES: [&str; 3] = [INSERTIONS, HINTS_AND_HIGHLIGHTS, AFTER_TABS];
 
 #[test]
 fn insertions(rt: HostRuntime) -> Result<(), Fail> {

@@ -255,7 +255,7 @@ fn run_with<H: Helper + Drop, D: Decides>(
         .completion_prompt_limit(stage.limit)
         .build();
     let mut reader = KeyList::new(&keys.typed, false, keys.after);
-    let mut out = CallList::new(alloc, stage.columns, stage.colours);
+    let mut out = CallList::new(alloc, stage.columns, stage.colours, stage.tab);
     out.log.answer(stage.answered);
     let ran = run(
         alloc,

@@ -110,7 +110,30 @@ const WITH_A_HINT: &str = "
     ab|: Repaint; Move ForwardChar 1 = ab| /
 ";
 
-const TABLES: [&str; 4] = [MOTIONS, IN_TEN_COLUMNS, HIGHLIGHTS, WITH_A_HINT];
+// Up and down count tabs as they are drawn, also in rows that the display wraps.
+const OVER_TABS: &str = "
+    ␉x␊abcdefgh|: Move LineUp 1 = ␉x|␊abcdefgh / move 1,8 to 0,4
+
+    tabs: 8 = nothing
+    a␉b|: Move BackwardChar 1 = a␉|b / move 0,9 to 0,8
+    a␉|b: Move BackwardChar 1 = a|␉b / move 0,8 to 0,3
+    ␉x␊abcdefgh|: Move LineUp 1 = ␉|x␊abcdefgh / move 1,8 to 0,8
+    ␉x␊abcdefg|: Move LineUp 1 = |␉x␊abcdefg / move 1,7 to 0,2
+    ab␊␉|x: Move LineUp 1 = ab|␊␉x / move 1,8 to 0,4
+    ␉|x␊a␉b: Move LineDown 1 = ␉x␊a␉|b / move 0,8 to 1,8
+    abc|␊␉x: Move LineDown 1 = abc␊|␉x / move 0,5 to 1,0
+
+    tabs: 0 = nothing
+    a␉b|␊abcdef: Move LineDown 1 = a␉b␊abcde|f / move 0,5 to 1,5
+
+    tabs: 8 = nothing
+    columns: 10 = nothing
+    abcdefgh␉x␊abcdefghij␉|: Move LineUp 1 = abcdefgh␉|x␊abcdefghij␉ / move 3,8 to 1,8
+    abcdefg␉x␊abcdefghij|: Move LineUp 1 = abcdefg␉|x␊abcdefghij / move 3,0 to 1,0
+    abcdefg␉x␊abcdefghi|: Move LineUp 1 = abcdefg|␉x␊abcdefghi / move 2,9 to 0,9
+";
+
+const TABLES: [&str; 5] = [MOTIONS, IN_TEN_COLUMNS, HIGHLIGHTS, WITH_A_HINT, OVER_TABS];
 
 #[test]
 fn moves(rt: HostRuntime) -> Result<(), Fail> {

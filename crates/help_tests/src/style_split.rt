@@ -1,17 +1,11 @@
 //! Texts with control sequences: each split into a text and its spans, and a prompt that is split
 //! once, whose spans a highlighter returns.
-ghost use Rattle.std.specs.Prelude.{◌≡◌, false, drop};
-ghost use Rattle.line_help.specs.declared.style.Part.TheVariants.{Prompt, Line, Hint, Message};
-ghost use Rattle.line_keys.specs.Replies.{gives_at_once};
-
 use crate::asks::Ask;
-use line_config::{CompletionType, HookFault};
-use line_help::{Colour, Highlighter, Mark, Part, Span, Style, split_styles};
-use line_keys::CmdKind;
-use stand_ins::rows::{Player, raised, rows_hold, same};
+use crate::styles::paints;
+use line_help::{Colour, PromptHighlighter, Span, StandardHighlighter, Style, split_styles};
+use stand_ins::rows::{rows_hold, same};
 use stand_ins::tables::{meant, pictured};
 use std::alloc::{AllocError, Global};
-use std::borrow::CowStr;
 use std::test::Fail;
 
 // A text; the text without its control sequences, and of each span its length in bytes and its
@@ -128,89 +122,28 @@ fn other_sequences(rt: HostRuntime) -> Result<(), Fail> {
     rows_hold(rt.alloc(), &mut Ask::Split, OTHERS)
 }
 
-// Returns the spans of a prompt that was split before the session. The state of a mark is the
-// number of spans that were returned.
-#[derive(Drop)]
-struct PromptStyles {
-    spans: Vec<Span>,
-}
+// The spans are the first three bytes in faint and the fourth in red.
+const PROMPTED: &str = "
+    prompt sql>␠   = 3 faint, 1 red
+    prompt other   = 3 faint, 1 red
+    count sql>␠    = nothing
+    line (a|)      = 0 plain, 1 bold blue
+    hint llo       = 3 faint
+    message a␊b    = 1 red
+";
 
-#[tactic(auto, using(line_help::proofs::HighlightLemmas::plain))]
-impl Highlighter for PromptStyles {
-    ghost marks = { λ self. record {
-      marked = λ line pos kind. false;
-      paints = λ part text from. drop from.state self.spans.items;
-    } };
-
-    ghost kept = { λ before after. before ≡ after };
-
-    ghost shown_as = { λ self part text. gives_at_once text };
-
-    ghost shown_after = { λ self line pos kind part text. gives_at_once text };
-
-    fn highlight<'l>(
-        &self,
-        _alloc: Global,
-        line: &'l str,
-        _pos: usize,
-    ) -> Result<CowStr<'l>, HookFault> {
-        Ok(CowStr::Borrowed(line))
-    }
-
-    fn highlight_prompt<'p>(
-        &self,
-        _alloc: Global,
-        prompt: &'p str,
-        _default: bool,
-    ) -> Result<CowStr<'p>, HookFault> {
-        Ok(CowStr::Borrowed(prompt))
-    }
-
-    fn highlight_hint<'h>(&self, _alloc: Global, hint: &'h str) -> Result<CowStr<'h>, HookFault> {
-        Ok(CowStr::Borrowed(hint))
-    }
-
-    fn highlight_candidate<'c>(
-        &self,
-        _alloc: Global,
-        candidate: &'c str,
-        _completion: CompletionType,
-    ) -> Result<CowStr<'c>, HookFault> {
-        Ok(CowStr::Borrowed(candidate))
-    }
-
-    fn highlight_char(&mut self, _line: &str, _pos: usize, _kind: CmdKind) -> bool {
-        false
-    }
-
-    fn next_span(&self, _part: Part, _text: &str, from: Mark) -> Option<(Span, Mark)> {
-        let span = self.spans.get(from.state)?;
-        Some((
-            *span,
-            Mark {
-                at: from.at,
-                state: from.state + 1,
-            },
-        ))
-    }
-}
+const NOT_PROMPTED: &str = "
+    prompt sql>␠   = nothing
+    hint llo       = 3 faint
+";
 
 #[test]
 fn prompt_split_once(rt: HostRuntime) -> Result<(), Fail> {
     let alloc = rt.alloc();
-    let (prompt, spans) = split_styles(alloc, "\u{1b}[1msql\u{1b}[32m>\u{1b}[m ")?;
-    let highlighter = PromptStyles { spans };
-    let mut told = String::new(alloc);
-    let mut from = Mark::first();
-    for _ in 0..3 {
-        let Some((span, mark)) = highlighter.next_span(Part::Prompt(true), prompt.as_str(), from)
-        else {
-            break;
-        };
-        push_span(&mut told, &span)?;
-        told.push(';')?;
-        from = mark;
-    }
+    let (prompt, spans) = split_styles(alloc, "\u{1b}[2msql\u{1b}[22;31m>\u{1b}[m ")?;
     same(prompt.as_str(), "sql> ")?;
-    same(told.as_str(), "3 bold;1 bold Basic(Green);")
+    let styled = PromptHighlighter::new(spans.as_slice(), StandardHighlighter::new());
+    paints(alloc, styled, &[PROMPTED])?;
+    let plain = PromptHighlighter::new(&[], StandardHighlighter::new());
+    paints(alloc, plain, &[NOT_PROMPTED])
 }

@@ -122,7 +122,7 @@ impl<H: Highlighter> Player for Painting<H> {
     }
 }
 
-fn paints<H: Highlighter + Drop>(
+pub(crate) fn paints<H: Highlighter + Drop>(
     alloc: Global,
     highlighter: H,
     tables: &[&str],

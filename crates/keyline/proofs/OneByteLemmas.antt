@@ -5,7 +5,7 @@ use Rattle.std.proofs.lemmas.Bool.{and_parts, and_from, not-true, ltb-true}
 use Rattle.std.proofs.lemmas.Str.{encode_ascii}
 use Rattle.line_buffer.specs.Cells.{same_cell}
 use Rattle.line_buffer.specs.Insertions.{insert as insertion}
-use Rattle.line_buffer.specs.Printable.{is_printable, typed_at_plain_end}
+use Rattle.line_buffer.specs.Printable.{is_printable, typed_at_end}
 use Rattle.line_buffer.specs.declared.layout.Layout.{Layout}
 use Rattle.line_buffer.specs.declared.layout.Position.{Position}
 use Rattle.line_keys.specs.Answers.{Custom}
@@ -80,8 +80,8 @@ layouts_tell s own (r ∷ rs) l x h fits = layouts_tell s own rs (one (ruler_of 
 
 -- ---- the byte
 
-printed : (v : Value) (c : ℕ) → may_be_typed c 1 v ≡ true → is_printable c ≡ true
-printed v c alone = (and_parts (is_printable c) _ (and_parts (is_bare v) (typed_at_plain_end c v.line.text v.line.place) alone).1).0
+printed : (tabs : Bool) (v : Value) (c : ℕ) → may_be_typed tabs c 1 v ≡ true → is_printable c ≡ true
+printed tabs v c alone = (and_parts (is_printable c) _ (and_parts (is_bare v) (typed_at_end tabs c v.line.text v.line.place) alone).1).0
 
 -- its drawing is the short one, behind a step that sends nothing and what the helper is asked
 shown_short : (a : Setting) (u : Value) (step : EditStep) (c : ℕ) (b alone : Bool) → b ≡ true → alone ≡ true
@@ -109,7 +109,7 @@ sent_short s l a u step c b alone room before after nothing =
 
 typed_bytes : (s : Screen) (l : Layout) (a : Setting) (v : Value) (c : ℕ) → TypedAtEnd a v c
     → (let e = insert_char c 1 a v in bytes_for s l e.steps ≡ bytes_for s l (Draws e.value a.marks (Typed a.prompt c e.value.line.text e.value.line.place) ∷ []))
-typed_bytes s l a v c t = sent_short s l a _ _ c (is_some (insertion c 1 v.line).answer) (may_be_typed c 1 v) t.room t.alone t.after refl
+typed_bytes s l a v c t = sent_short s l a _ _ c (is_some (insertion c 1 v.line).answer) (may_be_typed (is_some a.tabs) c 1 v) t.room t.alone t.after refl
 
 short_bytes : (s : Screen) (l : Layout) (v : Value) (m : Option Marks) (prompt : List ℕ) (c : ℕ) (text : List ℕ) (at : ℕ) → is_printable c ≡ true → may_type (ruler_of s) l ≡ true → bytes_for s l (Draws v m (Typed prompt c text at) ∷ []) ≡ c ∷ []
 short_bytes s l v m prompt c text at printable may =
@@ -151,4 +151,4 @@ one_byte n s l a custom indent k c rests alone t may =
     let e = insert_char c 1 a k.value in
     ap (bytes_for s l) (turned_steps n a custom indent k c rests alone)
     ∙ unasked_bytes s l first e.steps (alone.unasked s l)
-    ∙ typed_bytes s l a k.value c t ∙ short_bytes s l e.value a.marks a.prompt c e.value.line.text e.value.line.place (printed k.value c t.alone) may
+    ∙ typed_bytes s l a k.value c t ∙ short_bytes s l e.value a.marks a.prompt c e.value.line.text e.value.line.place (printed (is_some a.tabs) k.value c t.alone) may

@@ -232,7 +232,7 @@ bytes_of_a_paste : sent_as_paste (codes "a") ≡ 0x1B ∷ codes "[200~a" ++ 0x1B
 bytes_of_a_paste = refl
 
 plain_setting : Setting
-plain_setting = record { prompt = []; column = 0; mode = Unicode; hooks = None; marks = None; entries = [] }
+plain_setting = record { prompt = []; column = 0; mode = Unicode; tabs = None; hooks = None; marks = None; entries = [] }
 
 pasted_in : InputMode → List ℕ → Played LineAsk LineState ReadlineError (List ℕ)
 pasted_in input_mode text =

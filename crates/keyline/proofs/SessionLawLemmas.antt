@@ -1,7 +1,8 @@
 -- What columns matter to, and what a history holds.
-use Rattle.std.proofs.Common.{◌≡◌, ℕ, zero, suc, ◌≤◌, Bool, true, false, List, [], ◌∷◌, ◌++◌, length, map, Result, Ok, Err, refl, sym, ap, ◌∙◌, subst, append_assoc, append-nil, arith, if◌then◌else◌}
+use Rattle.std.proofs.Common.{◌≡◌, ℕ, zero, suc, ◌≤◌, Bool, true, false, List, [], ◌∷◌, ◌++◌, length, map, Option, None, Result, Ok, Err, refl, sym, ap, ◌∙◌, subst, append_assoc, append-nil, arith, if◌then◌else◌}
 use Rattle.std.specs.List.{flat_map}
 use Rattle.line_buffer.specs.declared.layout.Layout.{Layout}
+use Rattle.line_buffer.specs.declared.layout.TabStops.{TabStops}
 use Rattle.line_config.specs.declared.errors.ReadlineError.{ReadlineError}
 use Rattle.line_editor.specs.LineScripts.{LineAsk, LineState, effect_at, left_at, steps_along}
 use Rattle.line_editor.specs.Redraws.{fresh}
@@ -48,8 +49,19 @@ module _ (s t : Screen) where
       ∙ sym (mapped_both unmeasured own other_rest))
       ∙ sym (mapped_both unmeasured (step_events t m rs) (own ++ other_rest))
 
-setting_at : Given → List (List ℕ) → ℕ → Setting
-setting_at g entries column = record (setting_in g entries) { column = column }
+-- where tabs end on its rows
+abbrev tabs_of : Given → Option TabStops
+tabs_of g = (ruler_of g.screen).tabs
+
+abbrev tabbed : Given → Option ℕ → Given
+tabbed g tab = record g { screen = record g.screen { tab = tab } }
+
+setting_at : Given → List (List ℕ) → ℕ → Option TabStops → Setting
+setting_at g entries column tabs = record (setting_in g entries) { column = column; tabs = tabs }
+
+-- where no tab is drawn as blanks, none ends anywhere on rows of other columns
+untabbed : (g : Given) (columns : ℕ) → g.screen.tab ≡ None → tabs_of (at_columns columns g) ≡ tabs_of g
+untabbed g columns none = ap (λ tab. tabs_of (at_columns columns (tabbed g tab))) none ∙ ap (λ tab. tabs_of (tabbed g tab)) (sym none)
 
 -- a line on one screen and on another, by one setting
 abbrev course_on : ℕ → Given → SessionState → Screen → Setting → Course (Result (List ℕ) ReadlineError × SessionState)
@@ -65,9 +77,9 @@ record Alike {X : Type 0} (c d : Course X) : Type 0 where
   events : map unmeasured c.events ≡ map unmeasured d.events
   answer : c.answer ≡ d.answer
 
-lines_alike : (n : ℕ) (g : Given) (x : SessionState) (columns : ℕ) → prompt_column (at_columns columns g) ≡ prompt_column g → Alike (line_course n (at_columns columns g) x) (line_course n g x)
+lines_alike : (n : ℕ) (g : Given) (x : SessionState) (columns : ℕ) → tabs_of (at_columns columns g) ≡ tabs_of g → prompt_column (at_columns columns g) ≡ prompt_column g → Alike (line_course n (at_columns columns g) x) (line_course n g x)
 unfolding setting_at
-lines_alike n g x columns e =
+lines_alike n g x columns t e =
     let other = at_columns columns g in
     let s = other.screen in
     let entries = x.history.kept.entries in
@@ -75,7 +87,9 @@ lines_alike n g x columns e =
     let p = line_played n a g.custom g.config x.ring x.query x.coming in
     let k = kept_first a g.config x.ring x.query x.coming in
     let asks = λ (s : Screen). asks_events s a g.config.indent_size (fresh s.mode) k p.asks in
-    let same : line_course n other x ≡ course_on n g x s a = ap (λ column. course_on n g x s (setting_at g entries column)) e in
+    let same : line_course n other x ≡ course_on n g x s a =
+    ap (λ column. course_on n g x s (setting_at g entries column (tabs_of other))) e
+    ∙ ap (λ tabs. course_on n g x s (setting_at g entries (prompt_column g) tabs)) t in
     let alike : Alike (course_on n g x s a) (line_course n g x) = record {
       events = ap (λ events. Begins (record s { columns = 0 }) ∷ events)
           (mapped_both unmeasured (asks s) (end_events p.answer)
@@ -105,25 +119,29 @@ line_first c d f h alike so =
     by (Ok text) = first (f y) (h y) (so y)
     by (Err e) = first (record { events = []; answer = e }) (record { events = []; answer = e }) (record { events = refl; answer = refl })
 
-sessions_alike : (n : ℕ) (g : Given) (columns : ℕ) → prompt_column (at_columns columns g) ≡ prompt_column g → (x : SessionState)
+sessions_alike : (n : ℕ) (g : Given) (columns : ℕ) → tabs_of (at_columns columns g) ≡ tabs_of g → prompt_column (at_columns columns g) ≡ prompt_column g → (x : SessionState)
     → (let other = at_columns columns g in Alike (session n other (each other) x) (session n g (each g) x))
 unfolding session
-sessions_alike zero g columns e x = record { events = refl; answer = refl }
-sessions_alike (suc n) g columns e x =
+sessions_alike zero g columns t e x = record { events = refl; answer = refl }
+sessions_alike (suc n) g columns t e x =
     let other = at_columns columns g in
-    line_first (line_course (suc n) other x) (line_course (suc n) g x) (session n other (each other)) (session n g (each g)) (lines_alike (suc n) g x columns e) (sessions_alike n g columns e)
+    line_first (line_course (suc n) other x) (line_course (suc n) g x) (session n other (each other)) (session n g (each g)) (lines_alike (suc n) g x columns t e) (sessions_alike n g columns t e)
 
 pub columns_are_free : ColumnsAreFree
-columns_are_free n g x columns e = let h = sessions_alike n g columns e x in (h.events, h.answer)
+columns_are_free n g x columns none e = let h = sessions_alike n g columns (untabbed g columns none) e x in (h.events, h.answer)
 
 pub line_columns_are_free : LineColumnsAreFree
 unfolding setting_at
-line_columns_are_free n g x columns e =
-    let at : ℕ → Setting = setting_at g x.history.kept.entries in
+line_columns_are_free n g x columns none e =
+    let at : ℕ → Option TabStops → Setting = setting_at g x.history.kept.entries in
+    let own = prompt_column g in
+    let tabs = tabs_of (at_columns columns g) in
+    let t = untabbed g columns none in
     let first : Setting → LineState = λ a. kept_first a g.config x.ring x.query x.coming in
-    let played = λ (a : Setting). line_played n a g.custom g.config x.ring x.query x.coming in (
-      ap (λ column. played (at column)) e,
-      ap (λ column. steps_along (at column) g.config.indent_size (first (at column)) (played (at column)).asks) e,
+    let played = λ (a : Setting). line_played n a g.custom g.config x.ring x.query x.coming in
+    let stepped = λ (a : Setting). steps_along a g.config.indent_size (first a) (played a).asks in (
+      ap (λ column. played (at column tabs)) e ∙ ap (λ tabs. played (at own tabs)) t,
+      ap (λ column. stepped (at column tabs)) e ∙ ap (λ tabs. stepped (at own tabs)) t,
     )
 
 -- ---- the history

@@ -15,7 +15,7 @@ own : List ℕ
 own = codes "> "
 
 eighty : Screen
-eighty = record { columns = 80; mode = Modes.Unicode; bell = Bells.Audible; colours = false }
+eighty = record { columns = 80; mode = Modes.Unicode; bell = Bells.Audible; colours = false; tab = None }
 
 a : List ℕ
 a = codes "a"

@@ -5,7 +5,7 @@ use Rattle.std.proofs.lemmas.Bool.{and_parts, not-true, eqb-true, lt-ltb, ltb-tr
 use Rattle.std.proofs.lemmas.Bool.Decides.{nat_tests}
 use Rattle.std.proofs.lemmas.Str.{encode_ascii}
 use Rattle.line_buffer.specs.Cells.{same_cell, origin}
-use Rattle.line_buffer.specs.Printable.{is_printable, is_plain, at_plain_end}
+use Rattle.line_buffer.specs.Printable.{is_printable, is_plain, at_simple_end}
 use Rattle.line_buffer.specs.declared.layout.Layout.{Layout}
 use Rattle.line_buffer.specs.declared.layout.Position.{Position}
 use Rattle.line_editor.specs.Calls.{Call, Marks}
@@ -88,12 +88,12 @@ module _ (s : Screen) (low : 2 ≤ s.columns) (high : s.columns ≤ 1000) where
   -- ---- measures
 
   inside_cursor : (x : Sight) → Low s x → Inside s.columns (cursor_of s.columns (widths s) (picture x))
-  inside_cursor x h = let a = h.cursor in let b = h.finish in (drawable s.mode s.columns some (picture x) (omega arith) (omega arith)).cursor
+  inside_cursor x h = let a = h.cursor in let b = h.finish in (drawable s.mode s.tab s.columns some (picture x) (omega arith) (omega arith)).cursor
 
   inside_finish : (x : Sight) → Low s x → Inside s.columns (finish_of s.columns (widths s) (picture x))
-  inside_finish x h = let a = h.cursor in let b = h.finish in (drawable s.mode s.columns some (picture x) (omega arith) (omega arith)).finish
+  inside_finish x h = let a = h.cursor in let b = h.finish in (drawable s.mode s.tab s.columns some (picture x) (omega arith) (omega arith)).finish
 
-  nothing_measured : measure_of s.mode s.columns [] origin ≡ origin
+  nothing_measured : measure_of s.mode s.tab s.columns [] origin ≡ origin
   nothing_measured = ap (λ b. saturated (place_after s.columns (text_items (widths s) []) (if b then origin else record { col = 0; row = 1 }))) (lt-ltb 0 s.columns some)
 
   -- ---- a full drawing, over anything that is shown, with any layout whose cursor is the display's
@@ -103,7 +103,7 @@ module _ (s : Screen) (low : 2 ≤ s.columns) (high : s.columns ≤ 1000) where
       → (let a = full (ruler_of s) m l prompt given text at info in DisplayHolds s (bytes ++ flat_map (bytes_of s) a.calls) over top a.layout (sight_with given prompt text at info))
   drawn_holds bytes over top m l x prompt given text at info g cursor rows =
       let y = sight_with given prompt text at info in
-      let new = layout_of (ruler_of s) (measure_of s.mode s.columns prompt origin) given text at info in
+      let new = layout_of (ruler_of s) (measure_of s.mode s.tab s.columns prompt origin) given text at info in
       let measured = measures_go_on s some (picture y) in
       let cursor_is : new.cursor ≡ cursor_of s.columns (widths s) (picture y) = measured.0 rows.cursor in
       let finish_is : new.end ≡ finish_of s.columns (widths s) (picture y) = measured.1 rows.finish in
@@ -194,7 +194,7 @@ module _ (s : Screen) (low : 2 ≤ s.columns) (high : s.columns ≤ 1000) where
 
   -- nothing after a line, with the cursor at its end
   end_is_cursor : (v : Picture) → v.info ≡ [] → v.place ≡ length v.line → finish_of s.columns (widths s) v ≡ cursor_of s.columns (widths s) v
-  end_is_cursor v none end = ap (λ is. place_after s.columns is origin) (line_items s.mode s.columns some few v none) ∙ sym (line_cursor s.mode s.columns some few v end)
+  end_is_cursor v none end = ap (λ is. place_after s.columns is origin) (line_items s.mode s.tab s.columns some few v none) ∙ sym (line_cursor s.mode s.tab s.columns some few v end)
 
   tells : (bytes : List ℕ) (over : List Placed) (top : ℕ) (l : Layout) (x : Sight) → DisplayHolds s bytes over top l x → TellsView s l (view_in s top x)
   tells bytes over top l x h = record { cursor = h.cursor; finish = h.finish; info = λ none. no_text x.info (sym h.info_is ∙ none) }
@@ -209,7 +209,7 @@ module _ (s : Screen) (low : 2 ≤ s.columns) (high : s.columns ≤ 1000) where
   typed_if bytes over top m l x prompt c text at false h given unended t rows e = drawn_holds bytes over top m l x prompt true text at None h.good h.cursor rows
   typed_if bytes over top m l x prompt c text at true h given unended t rows e =
       let w = view_in s top x in
-      let letter = and_parts (is_printable c) (at_plain_end x.line x.place) t.typed in
+      let letter = and_parts (is_printable c) (at_simple_end true x.line x.place) t.typed in
       let last : x.place ≡ length x.line = eqb-true x.place (length x.line) (and_parts (x.place == length x.line) _ letter.1).0 in
       let y = sight_as x.prompt (x.line ++ c ∷ []) (x.place + 1) None in
       let there : View = record { shown = picture y; top = top; place = column_on l.cursor } in
@@ -297,10 +297,10 @@ module _ (s : Screen) (low : 2 ≤ s.columns) (high : s.columns ≤ 1000) where
   step own bytes over top l x (Draws v m (Drawn prompt given text at info)) h fits rows = drawn_holds bytes over top (shown_marks v m) l x prompt given text at info h.good h.cursor rows
   step own bytes over top l x (Draws v m (Moved text at)) h fits rows =
       let y = sight_with x.given x.prompt x.line at x.info in
-      let cursor = measure_of s.mode s.columns (take at text) l.prompt_size in
+      let cursor = measure_of s.mode s.tab s.columns (take at text) l.prompt_size in
       let measured = measures_go_on s some (picture y) in
       let is : cursor ≡ cursor_of s.columns (widths s) (picture y) =
-      ap (measure_of s.mode s.columns (take at text)) h.prompt_size ∙ ap (λ t. measure_of s.mode s.columns (take at t) (measure_of s.mode s.columns x.prompt origin)) fits ∙ measured.0 rows.cursor in
+      ap (measure_of s.mode s.tab s.columns (take at text)) h.prompt_size ∙ ap (λ t. measure_of s.mode s.tab s.columns (take at t) (measure_of s.mode s.tab s.columns x.prompt origin)) fits ∙ measured.0 rows.cursor in
       moved_if bytes over top l x at cursor (same_cell l.cursor cursor) h is rows refl
   step own bytes over top l x (Draws v m (Typed prompt c text at)) h fits rows = typed_if bytes over top (shown_marks v m) l x prompt c text at (may_type (ruler_of s) l) h fits.0 fits.2 fits.3 rows refl
   step own bytes over top l x (Draws v m (Taken prompt count text at)) h fits rows = taken_if bytes over top (shown_marks v m) l x prompt count text at (may_take l count) h fits.0 fits.2 rows refl

@@ -1,11 +1,13 @@
 -- A command line that may have `--extended` in it: the place of that word, and what is answered to
 -- the others.
-use Rattle.std.specs.Prelude.{◌≡◌, ℕ, suc, Bool, if◌then◌else◌, ◌||◌, List, [], ◌∷◌, remove, bytes_eq, codes, Option, Some, None, is_some, option_map, ⊤}
+use Rattle.std.specs.Prelude.{◌≡◌, ℕ, suc, Bool, true, false, if◌then◌else◌, ◌||◌, List, [], ◌∷◌, remove, bytes_eq, codes, Option, Some, None, is_some, option_map, string_bytes}
 use Rattle.std.specs.Option.{option_map_or}
 use Rattle.clap.specs.Words.{Text}
-use Rattle.keyline.specs.Options.{HasColumns, ParsesTo}
+use Rattle.line_help.specs.SplitStyles.{Splits}
+use Rattle.keyline.specs.Options.{ParsesTo}
 use Rattle.keyline.specs.declared.invocation.Invoked.{Invoked}
 use Rattle.keyline.specs.declared.invocation.Invoked.TheVariants.{Run, Help, Usage, Memory}
+use Rattle.keyline.specs.declared.options.Options.{Options}
 use Rattle.keyline.specs.declared.options.Parsed.{Parsed}
 use Rattle.keyline.specs.declared.options.Parsed.TheVariants as of_options
 
@@ -39,12 +41,26 @@ for_options (Help text) = of_options.Help text
 for_options (Usage text) = of_options.Usage text
 for_options Memory = of_options.Memory
 
--- the answer says this of `--extended`
-abbrev pub SaysExtended : Bool → Invoked → Type 0
-SaysExtended given (Run invocation) = invocation.extended ≡ given
-SaysExtended given answer = ⊤
+-- with `--extended` the prompt is what is left of its text without control sequences, and has their
+-- styles; without it nothing changes
+abbrev pub IsStyled : Bool → Options → Options → Type 0
+IsStyled false given options = options ≡ given
+IsStyled true given options = (options ≡ record given {
+  prompt = options.prompt;
+  prompt_styles = options.prompt_styles;
+})
+    × Splits (string_bytes given.prompt) (string_bytes options.prompt) options.prompt_styles.items
 
--- the answer to a command line: that of its other words, and whether `--extended` stands there
+-- the answer by what the other words are parsed to. Memory may run out while a prompt is split,
+-- which only `--extended` asks for
+abbrev pub IsAnswer : Bool → Parsed → Invoked → Type 0
+IsAnswer extended (of_options.Run options) (Run invocation) =
+    (invocation.extended ≡ extended) × IsStyled extended options invocation.options
+IsAnswer extended (of_options.Run options) Memory = extended ≡ true
+IsAnswer extended parsed answer = for_options answer ≡ parsed
+
+-- the answer to a command line: that to its other words, by whether `--extended` stands there
 pub record InvokesTo (words : List Text) (answer : Invoked) : Type 0 where
-  pub answers : ParsesTo (without_extended words) (for_options answer)
-  pub extended : SaysExtended (is_extended words) answer
+  pub parsed : Parsed
+  pub answers : ParsesTo (without_extended words) parsed
+  pub invoked : IsAnswer (is_extended words) parsed answer

@@ -29,7 +29,7 @@ LayoutsTell =
 -- a character that its byte alone may show, if the text has space, in a line that is bare after it
 -- too
 pub record TypedAtEnd (a : Setting) (v : Value) (c : ℕ) : Type 0 where
-  pub alone : may_be_typed c 1 v ≡ true
+  pub alone : may_be_typed (is_some a.tabs) c 1 v ≡ true
   pub room : is_some (insertion c 1 v.line).answer ≡ true
   pub after : is_bare (insert_char c 1 a v).value ≡ true
 

@@ -52,6 +52,7 @@ pub record Chooses (rows : List Row) (options : Options) : Type 0 where
   pub mode : IsMode (first_of (codes "mode") rows) options.mode
   pub columns : AreColumns (first_of (codes "columns") rows) options.columns
   pub prompt : first_of (codes "prompt") rows ≡ Some (string_bytes options.prompt)
+  pub plain : options.prompt_styles.items ≡ []
   pub history : first_of (codes "history") rows ≡ option_map string_bytes options.history
   pub words : first_of (codes "words") rows ≡ option_map string_bytes options.words
   pub brackets : IsTrue options.brackets ↔ (first_of (codes "brackets") rows ≡ Some (codes "true"))

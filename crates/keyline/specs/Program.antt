@@ -11,10 +11,11 @@ use Rattle.line_config.specs.declared.settings.CompletionType.{CompletionType}
 use Rattle.line_config.specs.declared.settings.CompletionType.TheVariants.{Circular, List as AsList}
 use Rattle.line_keys.specs.Replies.{gives, gives_at_once}
 use Rattle.line_help.specs.Completion.{nothing_offered, word_reply}
-use Rattle.line_help.specs.Paints.{standard_marks}
+use Rattle.line_help.specs.Paints.{Prompted, prompt_marks, standard_marks}
 use Rattle.line_help.specs.Validation.{bracket_reply}
 use Rattle.line_help.specs.declared.bracket_validator.MatchingBracketValidator.{MatchingBracketValidator}
 use Rattle.line_help.specs.declared.helper_parts.HelperParts.{HelperParts}
+use Rattle.line_help.specs.declared.style.Span.{Span}
 use Rattle.line_help.specs.declared.standard_highlighter.StandardHighlighter.{StandardHighlighter}
 use Rattle.line_help.specs.declared.validate.ValidationResult.TheVariants.{Valid}
 use Rattle.line_keys.specs.Answers.{Custom}
@@ -63,6 +64,7 @@ abbrev pub profile_of : Bool → Config → Config
 profile_of extended config = record config {
   modal_commands = extended;
   draw_colours = extended;
+  draw_tabs = extended;
   completion_type = if extended then AsList else Circular;
 }
 
@@ -82,10 +84,11 @@ has_text (Ok len) = nat_lt 0 len
 has_text (Err TooLong) = true
 has_text (Err NotPresent) = false
 
--- completes words and validates brackets, if requested, and highlights as the standard does
+-- completes words and validates brackets, if requested, and highlights a prompt by its styles and
+-- the rest as the standard does
 abbrev pub EditHelper : Type 0
-EditHelper =
-    HelperParts (Option (List (List ℕ))) ⊤ StandardHighlighter (Option MatchingBracketValidator)
+EditHelper = HelperParts (Option (List (List ℕ))) ⊤ (Prompted StandardHighlighter)
+    (Option MatchingBracketValidator)
 
 abbrev pub word_texts : Option (Vec (String Global)) → Option (List (List ℕ))
 word_texts words = option_map (λ ws. map string_bytes ws.items) words
@@ -93,13 +96,16 @@ word_texts words = option_map (λ ws. map string_bytes ws.items) words
 abbrev pub validator_of : Options → Option MatchingBracketValidator
 validator_of options = if options.brackets then Some (record {}) else None
 
+abbrev pub styled : List Span → Prompted StandardHighlighter
+styled spans = record { spans = spans; others = record { brackets = None } }
+
 -- there is none if nothing was requested and no colours are drawn
 abbrev pub helper_of : Config → Options → Option (List (List ℕ)) → Option EditHelper
 helper_of config options words = if options.brackets || is_some words || config.draw_colours
     then Some (record {
       completer = words;
       hinter = tt;
-      highlighter = record { brackets = None };
+      highlighter = styled options.prompt_styles.items;
       validator = validator_of options;
     })
     else None
@@ -113,7 +119,7 @@ edit_helping = helping_by (λ helper line pos entries place. gives_at_once None)
     helper.completer (gives_at_once nothing_offered))
     (λ helper line start elected. option_map_or (λ words. gives (tt {0})) helper.completer
     (gives (tt {0})))
-    (λ helper. standard_marks)
+    (λ helper. prompt_marks helper.highlighter.spans standard_marks)
 
 abbrev pub nothing_bound : Custom
 nothing_bound = record { answers = λ event. None; begins = λ keys. false }

@@ -1,6 +1,6 @@
 -- Laws of sessions: what depends on their columns, the content of their history, what fewer keys
 -- send, and where an input may be cut.
-use Rattle.std.specs.Prelude.{◌≡◌, ℕ, map, true, if◌then◌else◌, List, [], ◌∷◌, ◌++◌, IsTrue}
+use Rattle.std.specs.Prelude.{◌≡◌, ℕ, map, true, if◌then◌else◌, List, [], ◌∷◌, ◌++◌, None, IsTrue}
 use Rattle.std.specs.List.{flat_map}
 use Rattle.line_buffer.specs.Cells.{origin}
 use Rattle.line_editor.specs.LineScripts.{steps_along}
@@ -24,7 +24,7 @@ at_columns columns g = record g { screen = record g.screen { columns = columns }
 
 -- the column in which the prompt ends
 abbrev pub prompt_column : Given → ℕ
-prompt_column g = (measure_of g.screen.mode g.screen.columns g.prompt origin).col
+prompt_column g = (measure_of g.screen.mode g.screen.tab g.screen.columns g.prompt origin).col
 
 -- events without what depends on columns: the screen, and the bytes of a redraw
 abbrev pub unmeasured : Event → Event
@@ -33,12 +33,14 @@ unmeasured (Draws redraw sent) = Draws redraw []
 unmeasured event = event
 
 -- two sessions that differ only in their columns are the same, event for event, if the prompt ends
--- in the same column. So they accept the same lines, save the same text and have the same drawings
+-- in the same column and tabs aren't drawn as blanks. So they accept the same lines, save the same
+-- text and have the same drawings. A tab drawn as blanks ends at the row's end, so that with such
+-- tabs a motion by rows can depend on the columns
 abbrev pub ColumnsAreFree : Type 0
 ColumnsAreFree =
     (n : ℕ) (g : Given) (x : SessionState) (columns : ℕ) → let other = at_columns columns g in
     let one = session n other (each other) x in let two = session n g (each g) x in
-    prompt_column other ≡ prompt_column g
+    g.screen.tab ≡ None → prompt_column other ≡ prompt_column g
     → (map unmeasured one.events ≡ map unmeasured two.events) × (one.answer ≡ two.answer)
 
 -- the steps of a line without faults, each with the value that is current until then
@@ -51,7 +53,7 @@ steps_in n g x = let a = setting_in g x.history.kept.entries in
 abbrev pub LineColumnsAreFree : Type 0
 LineColumnsAreFree =
     (n : ℕ) (g : Given) (x : SessionState) (columns : ℕ) → let other = at_columns columns g in
-    prompt_column other ≡ prompt_column g
+    g.screen.tab ≡ None → prompt_column other ≡ prompt_column g
     → (played_in n other x ≡ played_in n g x) × (steps_in n other x ≡ steps_in n g x)
 
 -- the lines that become entries, of these, added one after the other

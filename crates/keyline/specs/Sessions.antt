@@ -2,6 +2,7 @@
 -- to line.
 use Rattle.std.specs.Prelude.{ℕ, Bool, if◌then◌else◌, List, [], ◌∷◌, ◌++◌, Result, Ok, Err}
 use Rattle.std.specs.List.{flat_map}
+use Rattle.line_config.specs.Config.{drawn_tab_stop}
 use Rattle.line_config.specs.declared.config.Config.{Config}
 use Rattle.line_config.specs.declared.device.Last.{Last}
 use Rattle.line_config.specs.declared.errors.ReadlineError.{ReadlineError}
@@ -34,6 +35,7 @@ screen_by config columns = record {
   mode = config.grapheme_cluster_mode;
   bell = config.bell_style;
   colours = config.draw_colours;
+  tab = drawn_tab_stop config;
 }
 
 -- what is passed in for one of its lines: a prompt, and the columns of the screen's rows

@@ -46,7 +46,7 @@ pub record DisplayHolds (s : Screen) (bytes : List ℕ) (over : List Placed) (to
   pub good : Good s.columns (widths s) bytes over (view_in s top x)
   pub cursor : l.cursor ≡ place_in s x
   pub finish : l.end ≡ finish_of s.columns (widths s) (picture x)
-  pub prompt_size : l.prompt_size ≡ measure_of s.mode s.columns x.prompt origin
+  pub prompt_size : l.prompt_size ≡ measure_of s.mode s.tab s.columns x.prompt origin
   pub info_is : l.has_info ≡ is_some x.info
   pub given_is : l.default_prompt ≡ x.given
 
@@ -152,14 +152,14 @@ BlankIsAtRest = (s : Screen) → IsScreen s → IsAtRest (blank s)
 -- the bytes so far have a meaning, with these rows above the top
 pub record HasMeaning (f : Face) : Type 0 where
   pub display : Display
-  pub means : meaning f.screen.columns (widths f.screen) f.bytes ≡ Some display
+  pub means : meaning f.screen.columns (widths f.screen).cluster f.bytes ≡ Some display
   pub over_is : filter (above f.top) display.placed ≡ f.over
 
 -- and from the top on they show prompt and line like a single drawing on a blank display, with the
 -- current information, and the cursor at its place
 pub record MomentShown (f : Face) (prompt text : List ℕ) (place : ℕ) : Type 0 where
   pub display : Display
-  pub means : meaning f.screen.columns (widths f.screen) f.bytes ≡ Some display
+  pub means : meaning f.screen.columns (widths f.screen).cluster f.bytes ≡ Some display
   pub shows : Shows f.screen.columns (widths f.screen)
       (picture (sight_as prompt text place f.seen.info)) f.top display
   pub over_is : filter (above f.top) display.placed ≡ f.over

@@ -11,7 +11,7 @@ use Rattle.line_keys.specs.Coming.{unread}
 use Rattle.line_record.specs.Ring.{new_ring}
 use Rattle.keyline.specs.Endings.{ending_of}
 use Rattle.keyline.specs.Plays.{loaded_from}
-use Rattle.keyline.specs.Program.{EditHelper, edit_helping}
+use Rattle.keyline.specs.Program.{EditHelper, edit_helping, styled}
 use Rattle.keyline.specs.Events.{Course, bytes_drawn, left_to_come, lines_kept, lines_written, session}
 use Rattle.keyline.specs.Sessions.{Given, SessionState, each, given_of, lines_text, remembered, screen_by, state_over}
 use Rattle.keyline.specs.Shows.{EachShown, Face, IsAtRest}
@@ -26,7 +26,7 @@ word_helper None = None
 word_helper (Some words) = Some (record {
   completer = Some words;
   hinter = tt;
-  highlighter = record { brackets = None };
+  highlighter = styled [];
   validator = None;
 })
 

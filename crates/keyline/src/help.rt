@@ -25,6 +25,7 @@ With --extended, which ./keyline gives on a terminal unless --plain is given:
   Ctrl-V and a key        insert the character that the key sends
   Up after a line's text  goes through the lines of the history that begin with it
   / and ?                 in Vi's command mode search as Ctrl-R and Ctrl-S do
+  Tabs in a text          are blanks up to the next stop; stops are 8 columns apart
 
 Emacs mode:
   Ctrl-A, Ctrl-E          to the row's start, end

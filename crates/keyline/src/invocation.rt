@@ -1,17 +1,19 @@
 //! The program's invocation: its options, and whether it has more than the default profile.
 
-ghost use Rattle.std.specs.Prelude.{◌≡◌, IfOk, IfSome, ◌<◌, ◌++◌, length, map, position, remove};
-ghost use Rattle.keyline.specs.Invocations.{InvokesTo, SaysExtended, decides, extended_among, extended_at, for_options};
+ghost use Rattle.std.specs.Prelude.{◌≡◌, true, IfErr, IfOk, IfSome, ◌<◌, ◌++◌, length, map, position, remove};
+ghost use Rattle.keyline.specs.Invocations.{InvokesTo, IsAnswer, IsStyled, decides, extended_among, extended_at, for_options};
 ghost use Rattle.keyline.specs.Options.{HasColumns};
 
 use crate::options::{Options, Parsed, parse};
+use line_help::split_styles;
 use std::alloc::{AllocError, Global};
 use std::convert::AsStr;
 
 /// How the program is to run, and by which profile.
 #[derive(Debug, Drop)]
 pub struct Invocation {
-    /// The options.
+    /// The options. With `extended` the prompt is without its control sequences, and has the styles
+    /// that they mean.
     pub options: Options,
     /// Whether that is turned on which the default profile leaves out.
     pub extended: bool,
@@ -38,26 +40,44 @@ impl Invocation {
         ensures columns { HasColumns (for_options result) }
     {
         let Some(place) = extended_at(words) else {
-            return answered(parse(alloc, words), false);
+            return answered(alloc, parse(alloc, words), false);
         };
         match others(alloc, words, place) {
-            Ok(others) => answered(parse(alloc, others.as_slice()), true),
+            Ok(others) => answered(alloc, parse(alloc, others.as_slice()), true),
             Err(_) => Invoked::Memory,
         }
     }
 }
 
 // The answer for the options, together with what is said of `--extended`.
-fn answered(parsed: Parsed, extended: bool) -> Invoked
-    ensures options { for_options result ≡ parsed }
-    ensures extended { SaysExtended extended result }
+fn answered(alloc: Global, parsed: Parsed, extended: bool) -> Invoked
+    ensures answer { IsAnswer extended parsed result }
+    ensures columns { HasColumns parsed → HasColumns (for_options result) }
 {
     match parsed {
-        Parsed::Run(options) => Invoked::Run(Invocation { options, extended }),
+        Parsed::Run(options) => match styled_if(alloc, extended, options) {
+            Ok(options) => Invoked::Run(Invocation { options, extended }),
+            Err(_) => Invoked::Memory,
+        },
         Parsed::Help(text) => Invoked::Help(text),
         Parsed::Usage(text) => Invoked::Usage(text),
         Parsed::Memory => Invoked::Memory,
     }
+}
+
+// The options, with the prompt's styles apart if so wanted.
+fn styled_if(alloc: Global, extended: bool, options: Options) -> Result<Options, AllocError>
+    ensures styled { IfOk result (IsStyled extended options) }
+    ensures fault { IfErr result (λ e. extended ≡ true) }
+{
+    if !extended {
+        return Ok(options);
+    }
+    let mut options = options;
+    let (prompt, styles) = split_styles(alloc, options.prompt.as_str())?;
+    options.prompt = prompt;
+    options.prompt_styles = styles;
+    Ok(options)
 }
 
 // The place of `--extended` in a command line.

@@ -93,7 +93,8 @@ pub fn turns_show()
 
 /// A printable ASCII character, read alone, sends only its one byte. It must be typed at the end of
 /// a line of such characters and newlines that has space in its row, with no information before or
-/// after. The stored layout says exactly whether information is shown.
+/// after. The line may have tabs if these are drawn as blanks. The stored layout says exactly
+/// whether information is shown.
 pub fn one_byte()
     ensures tells { LayoutsTell }
     ensures sends { OneByte }
@@ -109,8 +110,9 @@ pub fn sessions_show()
 {}
 
 /// Two sessions that differ only in their columns accept the same lines and save the same text, if
-/// the prompt ends in the same column on both. Except for the bytes sent they are the same, event
-/// for event, and so is each line, with the values and marks of its steps.
+/// the prompt ends in the same column on both and tabs aren't drawn as blanks. Except for the bytes
+/// sent they are the same, event for event, and so is each line, with the values and marks of its
+/// steps.
 pub fn columns()
     ensures sessions { ColumnsAreFree }
     ensures lines { LineColumnsAreFree }

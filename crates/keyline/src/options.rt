@@ -12,6 +12,7 @@ use crate::help::keys;
 use clap::error::ErrorKind;
 use clap::{Arg, ArgAction, ArgMatches, Command, Error};
 use line_config::EditMode;
+use line_help::Span;
 use std::alloc::{AllocError, Global};
 use std::convert::AsStr;
 
@@ -24,6 +25,8 @@ pub struct Options {
     pub columns: u16,
     /// The prompt of each line.
     pub prompt: String,
+    /// The prompt's styles, which a display with colours has. [`parse`] gives none.
+    pub prompt_styles: Vec<Span>,
     /// The path of the history file, if any.
     pub history: Option<String>,
     /// The path of the file with words to complete, if any.
@@ -183,6 +186,7 @@ fn chosen(alloc: Global, matches: &ArgMatches<'_>) -> Result<Option<Options>, Al
         mode,
         columns,
         prompt: String::from_str(alloc, prompt)?,
+        prompt_styles: Vec::new(alloc),
         history: owned(alloc, given(matches, "history"))?,
         words: owned(alloc, given(matches, "words"))?,
         brackets: is_on(given(matches, "brackets")),

@@ -1,6 +1,6 @@
 //! A whole session over memory.
 
-ghost use Rattle.std.specs.Prelude.{◌≡◌, ◌⊎◌, ◌≤◌, Err, IfErr, IfOk, false};
+ghost use Rattle.std.specs.Prelude.{◌≡◌, ◌⊎◌, ◌≤◌, [], Err, IfErr, IfOk, false};
 ghost use Rattle.line_config.specs.Feed.{fresh_feed};
 ghost use Rattle.line_config.specs.declared.device.Last.TheVariants.{End};
 ghost use Rattle.line_config.specs.declared.errors.ReadlineError.TheVariants.{Memory};
@@ -14,7 +14,7 @@ use crate::edit_helper::EditHelper;
 use crate::ending::Ending;
 use crate::session::{Ended, Session};
 use line_config::{Config, ReadlineError, Sink, SliceSource, Source, VecSink};
-use line_help::{HelperParts, StandardHighlighter, WordCompleter};
+use line_help::{HelperParts, PromptHighlighter, Span, StandardHighlighter, WordCompleter};
 use line_keys::{Decides, EventMap};
 use std::alloc::{AllocError, Global};
 
@@ -32,8 +32,9 @@ pub struct Transcript {
     pub unread: Vec<u8>,
 }
 
-/// These words complete the word before the cursor.
-fn helper_by(words: Option<Vec<String>>) -> Option<EditHelper>
+/// These words complete the word before the cursor. The prompt has no styles.
+fn helper_by<'s>(words: Option<Vec<String>>, none: &'s [Span]) -> Option<EditHelper<'s>>
+    requires { none.now ≡ [] }
     ensures { result ≡ word_helper (word_texts words) }
 {
     if words.is_none() {
@@ -42,7 +43,7 @@ fn helper_by(words: Option<Vec<String>>) -> Option<EditHelper>
     Some(HelperParts {
         completer: words.map(WordCompleter::new),
         hinter: (),
-        highlighter: StandardHighlighter::new(),
+        highlighter: PromptHighlighter::new(none, StandardHighlighter::new()),
         validator: None,
     })
 }
@@ -100,12 +101,13 @@ pub fn transcribe<B: Decides>(
     ensures refused { IfErr result (λ why. (why ≡ Memory)
         ⊎ (loads config (fresh_feed history.now End) ≡ Err why)) }
 {
+    let no_styles = Vec::new(alloc);
     let session = Session::open(
         alloc,
         config,
         bindings,
         SliceSource::new(history),
-        helper_by(words),
+        helper_by(words, no_styles.as_slice()),
         prompt,
         SliceSource::new(keys),
         columns,

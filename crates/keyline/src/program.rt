@@ -13,7 +13,9 @@ use line_config::{
     CompletionType, Config, Configurer, Foretold, ReadSource, Sink, SliceSource, Source, VecSink,
     WriteSink,
 };
-use line_help::{HelperParts, MatchingBracketValidator, StandardHighlighter, WordCompleter};
+use line_help::{
+    HelperParts, MatchingBracketValidator, PromptHighlighter, StandardHighlighter, WordCompleter,
+};
 use line_keys::Bindings;
 use std::alloc::Global;
 use std::env::{Env, FillError};
@@ -37,13 +39,14 @@ pub fn invoked_config(invocation: &Invocation) -> Config
 }
 
 /// The same settings, and what the default profile leaves out if it is on: the commands that go on
-/// over several keys, and colours.
+/// over several keys, colours, and tabs drawn as blanks.
 pub(crate) fn with_profile(config: Config, extended: bool) -> Config
     ensures { result ≡ profile_of extended config }
 {
     let mut config = config;
     config.set_modal_commands(extended);
     config.set_draw_colours(extended);
+    config.set_draw_tabs(extended);
     config.set_completion_type(if extended {
         CompletionType::List
     } else {
@@ -72,13 +75,14 @@ fn coloured_by(config: Config, len: Result<usize, FillError>) -> Config
 }
 
 /// The helper: it completes these words, validates brackets if the options say so, and has the
-/// styles of a display with colours. None if there are no words, no brackets and no colours.
-pub fn helper_of(
+/// styles of a display with colours, also the prompt's. None if there are no words, no brackets and
+/// no colours.
+pub fn helper_of<'s>(
     config: &Config,
-    options: &Options,
+    options: &'s Options,
     words: Option<Vec<String>>,
-) -> Option<EditHelper>
-    ensures { result ≡ helper_of config.now options.now (word_texts words) }
+) -> Option<EditHelper<'s>>
+    ensures { result ≡ helper_of config.now options.entry.now (word_texts words) }
 {
     if !options.brackets && words.is_none() && !config.draw_colours() {
         return None;
@@ -91,7 +95,10 @@ pub fn helper_of(
     Some(HelperParts {
         completer: words.map(WordCompleter::new),
         hinter: (),
-        highlighter: StandardHighlighter::new(),
+        highlighter: PromptHighlighter::new(
+            options.prompt_styles.as_slice(),
+            StandardHighlighter::new(),
+        ),
         validator,
     })
 }
@@ -164,7 +171,7 @@ pub fn edit_with<
     ensures refused { IfErr result (Unopens F.feed config history source display lines text) }
 {
     let helper = helper_of(&config, options, words);
-    let session = Session::open(
+    let session = match Session::open(
         alloc,
         config,
         Bindings::new(alloc).unwrap(),
@@ -176,7 +183,10 @@ pub fn edit_with<
         display,
         lines,
         text,
-    )?;
+    ) {
+        Ok(session) => session,
+        Err(unopened) => return Err(unopened),
+    };
     Ok(session.run())
 }
 

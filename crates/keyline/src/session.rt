@@ -269,6 +269,7 @@ where
         let mode = config.grapheme_cluster_mode();
         let mut out = ScreenRenderer::new(display, columns, mode, config.bell_style());
         out.set_colours(config.draw_colours());
+        out.set_tab_stop(config.drawn_tab_stop());
         let desk = Desk {
             reader: KeyReader::new(source, config.edit_mode()),
             out,

@@ -55,10 +55,10 @@ same_picture x y t u i j text place prompt info =
 
 -- there is one last drawing, and bytes have one meaning
 one_display : (s : Screen) (before bytes again : List ℕ) (c : Option (List ℕ)) (d e : Display) → c ≡ Some bytes → c ≡ Some again
-    → meaning s.columns (widths s) (before ++ bytes) ≡ Some d → meaning s.columns (widths s) (before ++ again) ≡ Some e → d ≡ e
+    → meaning s.columns (widths s).cluster (before ++ bytes) ≡ Some d → meaning s.columns (widths s).cluster (before ++ again) ≡ Some e → d ≡ e
 one_display s before bytes again c d e is too means mean =
     let same : bytes ≡ again = (let both : Some bytes ≡ Some again = sym is ∙ too in cc) in
-    let one : Some d ≡ Some e = sym means ∙ ap (λ xs. meaning s.columns (widths s) (before ++ xs)) same ∙ mean in cc
+    let one : Some d ≡ Some e = sym means ∙ ap (λ xs. meaning s.columns (widths s).cluster (before ++ xs)) same ∙ mean in cc
 
 shown_alike : (s : Screen) (before one two : List ℕ) (over : List Placed) (top : ℕ) (x y : Sight) (t u : List ℕ) (i j : ℕ) (d e : Display)
     → (a : MomentShown (face s (before ++ one) top over x) x.prompt t i) → (b : MomentShown (face s (before ++ two) top over y) y.prompt u j)

@@ -8,9 +8,11 @@ use Rattle.std.proofs.lemmas.Bool.{and_parts, and_from, ltb-true}
 use Rattle.std.proofs.lemmas.Bool.Decides.{nat_tests}
 use Rattle.std.proofs.lemmas.Str.{encode_ascii}
 use Rattle.line_buffer.specs.Cells.{same_cell}
-use Rattle.line_buffer.specs.Printable.{is_printable, at_plain_end}
+use Rattle.line_buffer.specs.Printable.{is_printable, at_simple_end}
+use Rattle.line_buffer.specs.Tabs.{tab_width}
 use Rattle.line_buffer.specs.declared.layout.Layout.{Layout}
 use Rattle.line_buffer.specs.declared.layout.Position.{Position}
+use Rattle.line_buffer.specs.declared.layout.TabStops.{TabStops}
 use Rattle.line_config.specs.declared.settings.BellStyle.{BellStyle}
 use Rattle.line_config.specs.declared.settings.BellStyle.TheVariants as Bell
 use Rattle.line_editor.specs.Calls.{Marks}
@@ -25,10 +27,10 @@ use Rattle.line_help.specs.declared.style.Part.TheVariants.{Prompt as OfPrompt, 
 use Rattle.line_screen.specs.Calls.{Screen, bell_bytes, bytes_of, ruler_of, styles_by}
 use Rattle.line_screen.specs.Chain.{Good, empty_view}
 use Rattle.line_screen.specs.Colours.{PaintedItem, Styles, all_unpainted, are_styles, is_style, painted, painted_drawing, painted_one, painted_shown, painted_text, shaded_break, style_bytes, unpainted}
-use Rattle.line_screen.specs.Colours.PaintedItem.{Bare as Plain, Begins, Shaded, Fenced}
+use Rattle.line_screen.specs.Colours.PaintedItem.{Bare as Plain, Begins, Shaded, Fenced, Padded}
 use Rattle.line_screen.specs.Display.{Placed, is_parameter, is_text}
-use Rattle.line_screen.specs.Drawing.{DrawnItem, text_items, no_style, break_if, break_unless, fenced, fitted_col, sent_one, sent, col_after_one, col_after, control_sequence, erase_to_row_end, row_move, col_move, move_bytes, shown_text, drawing}
-use Rattle.line_screen.specs.Drawing.DrawnItem.{NewRow, Letter, Cluster}
+use Rattle.line_screen.specs.Drawing.{DrawnItem, Widths, blanks, text_items, no_style, break_if, break_unless, fenced, fitted_col, sent_one, sent, col_after_one, col_after, control_sequence, erase_to_row_end, row_move, col_move, move_bytes, shown_text, drawing}
+use Rattle.line_screen.specs.Drawing.DrawnItem.{NewRow, Letter, Cluster, Tab}
 use Rattle.line_screen.specs.Laws.{widths}
 use Rattle.line_screen.proofs.ColourDraws.{AllPainted, FitsPainted}
 use Rattle.line_screen.proofs.ColourTexts.{text_painted}
@@ -92,6 +94,10 @@ calm_unless : (b : Bool) → calm (break_unless b) ≡ true
 calm_unless true = refl
 calm_unless false = refl
 
+calm_blanks : (n : ℕ) → calm (blanks n) ≡ true
+calm_blanks zero = refl
+calm_blanks (suc n) = calm_byte 0x20 (blanks n) refl (calm_blanks n)
+
 calm_fenced : (bytes : List ℕ) → list_all is_text bytes ≡ true → calm (fenced bytes) ≡ true
 calm_fenced bytes h =
     calm_both (no_style ++ bytes) no_style (calm_both no_style bytes refl (calm_plain bytes (list_all_since is_text (λ b. not (b == 0x0D)) text_plain bytes h))) refl
@@ -104,6 +110,9 @@ module _ (columns : ℕ) (wide : List ℕ → Option ℕ) where
       let front = break_unless (nat_le (col + width) columns) in
       let end = break_if (fitted_col columns width col + width == columns) in
       calm_both (front ++ fenced bytes) end (calm_both front (fenced bytes) (calm_unless (nat_le (col + width) columns)) (calm_fenced bytes h.text)) (calm_break (fitted_col columns width col + width == columns))
+  calm_one (Tab apart) col h =
+      let width = tab_width columns apart col in
+      calm_both (blanks width) (break_if (col + width == columns)) (calm_blanks width) (calm_break (col + width == columns))
 
   calm_sent : (items : List DrawnItem) (col : ℕ) → AllFit columns wide items → calm (sent columns items col) ≡ true
   calm_sent [] col h = refl
@@ -136,6 +145,10 @@ module _ (columns : ℕ) (wide : List ℕ → Option ℕ) where
       let styled = calm_both (style_bytes style ++ bytes) no_style (calm_both (style_bytes style) bytes (calm_style style h.0) plain) refl in
       calm_both (front ++ (style_bytes style ++ bytes ++ no_style)) end (calm_both front (style_bytes style ++ bytes ++ no_style) (calm_unless (nat_le (col + width) columns)) styled)
       (calm_break (fitted_col columns width col + width == columns))
+  calm_painted_one (Padded style apart) col h =
+      let width = tab_width columns apart col in
+      let styled = calm_both (style_bytes style ++ blanks width) no_style (calm_both (style_bytes style) (blanks width) (calm_style style h) (calm_blanks width)) refl in
+      calm_both (style_bytes style ++ blanks width ++ no_style) (break_if (col + width == columns)) styled (calm_break (col + width == columns))
 
   calm_painted : (items : List PaintedItem) (col : ℕ) → AllPainted columns wide items → calm (painted columns items col) ≡ true
   calm_painted [] col h = refl
@@ -241,8 +254,11 @@ module _ (s : Screen) (low : 2 ≤ s.columns) (high : s.columns ≤ 1000) (own :
   some : 1 ≤ s.columns
   some = omega arith
 
-  abbrev wide : List ℕ → Option ℕ
+  abbrev wide : Widths
   wide = widths s
+
+  abbrev tabs : Option TabStops
+  tabs = (ruler_of s).tabs
 
   calm_texts : (prompt line info : List ℕ) → calm (shown_text s.columns wide prompt line info) ≡ true
   calm_texts prompt line info =
@@ -251,8 +267,8 @@ module _ (s : Screen) (low : 2 ≤ s.columns) (high : s.columns ≤ 1000) (own :
       let c = text_items wide info in
       let end_a = col_after s.columns a 0 in
       let end_b = col_after s.columns b end_a in
-      let fits = items_fit s.mode s.columns some in
-      calm_three (sent s.columns a 0) (sent s.columns b end_a) (sent s.columns c end_b) (calm_sent s.columns wide a 0 (fits prompt)) (calm_sent s.columns wide b end_a (fits line)) (calm_sent s.columns wide c end_b (fits info))
+      let fits = items_fit s.mode s.tab s.columns some in
+      calm_three (sent s.columns a 0) (sent s.columns b end_a) (sent s.columns c end_b) (calm_sent s.columns wide.cluster a 0 (fits prompt)) (calm_sent s.columns wide.cluster b end_a (fits line)) (calm_sent s.columns wide.cluster c end_b (fits info))
 
   calm_styled : (styles : Styles) (prompt line info : List ℕ) → are_styles styles.prompt ≡ true → are_styles styles.line ≡ true → are_styles styles.info ≡ true
       → calm (painted_shown s.columns wide styles prompt line info) ≡ true
@@ -262,11 +278,11 @@ module _ (s : Screen) (low : 2 ≤ s.columns) (high : s.columns ≤ 1000) (own :
       let c = painted_text wide styles.info info in
       let end_a = col_after s.columns (all_unpainted a) 0 in
       let end_b = col_after s.columns (all_unpainted b) end_a in
-      let fits = items_fit s.mode s.columns some in
+      let fits = items_fit s.mode s.tab s.columns some in
       calm_three (painted s.columns a 0) (painted s.columns b end_a) (painted s.columns c end_b)
-      (calm_painted s.columns wide a 0 (text_painted s.columns wide styles.prompt prompt in_prompt (fits prompt)))
-      (calm_painted s.columns wide b end_a (text_painted s.columns wide styles.line line in_line (fits line)))
-      (calm_painted s.columns wide c end_b (text_painted s.columns wide styles.info info in_info (fits info)))
+      (calm_painted s.columns wide.cluster a 0 (text_painted s.columns wide styles.prompt prompt in_prompt (fits prompt)))
+      (calm_painted s.columns wide.cluster b end_a (text_painted s.columns wide styles.line line in_line (fits line)))
+      (calm_painted s.columns wide.cluster c end_b (text_painted s.columns wide styles.info info in_info (fits info)))
 
   -- from the last whole drawing on they show it, on any blank rows
   pub record Anew (bytes : List ℕ) (l : Layout) (x : Sight) : Type 0 where
@@ -276,15 +292,16 @@ module _ (s : Screen) (low : 2 ≤ s.columns) (high : s.columns ≤ 1000) (own :
     pub calm_is : calm later ≡ true
     pub holds : (before : List ℕ) (over : List Placed) (top : ℕ) → Good s.columns wide before over (empty_view top)
         → DisplayHolds s (before ++ (drawing_start ++ later)) over top l x
+    pub tabs_are : l.tab_stops ≡ tabs
 
   pub anew_last : (bytes : List ℕ) (l : Layout) (x : Sight) (a : Anew bytes l x) → last_drawing bytes ≡ Some (drawing_start ++ a.later)
   anew_last bytes l x a = ap last_drawing a.bytes_are ∙ last_behind a.earlier (drawing_start ++ a.later) (drawing_start ++ a.later) (last_here a.later a.calm_is)
 
   -- a whole drawing of these texts, whatever came before
-  drawn_anew : (bytes : List ℕ) (row : ℕ) (l : Layout) (x : Sight) (texts : List ℕ) → calm texts ≡ true
+  drawn_anew : (bytes : List ℕ) (row : ℕ) (l : Layout) (x : Sight) (texts : List ℕ) → l.tab_stops ≡ tabs → calm texts ≡ true
       → ((before : List ℕ) (over : List Placed) (top : ℕ) → Good s.columns wide before over (empty_view top) → DisplayHolds s (before ++ (drawing_start ++ texts ++ [])) over top l x)
       → Anew (bytes ++ (control_sequence row 0x41 ++ drawing_start ++ texts ++ [])) l x
-  drawn_anew bytes row l x texts quiet on =
+  drawn_anew bytes row l x texts stops quiet on =
       let up = control_sequence row 0x41 in
       record {
         earlier = bytes ++ up;
@@ -292,39 +309,45 @@ module _ (s : Screen) (low : 2 ≤ s.columns) (high : s.columns ≤ 1000) (own :
         bytes_are = ap (λ z. bytes ++ z) (append-nil (up ++ drawing_start ++ texts) ∙ append_assoc up drawing_start texts) ∙ sym (append_assoc bytes up (drawing_start ++ texts));
         calm_is = quiet;
         holds = λ before over top good. subst (λ z. DisplayHolds s (before ++ z) over top l x) (append-nil (drawing_start ++ texts)) (on before over top good);
+        tabs_are = stops;
       }
 
   whole : (bytes : List ℕ) (m : Option Marks) (l : Layout) (prompt : List ℕ) (given : Bool) (text : List ℕ) (at : ℕ) (info : Option (List ℕ)) → Low s (sight_with given prompt text at info)
       → (let a = full (ruler_of s) m l prompt given text at info in Anew (bytes ++ flat_map (bytes_of s) a.calls) a.layout (sight_with given prompt text at info))
   whole bytes None l prompt given text at info rows =
       let new = (full (ruler_of s) None l prompt given text at info).layout in
-      drawn_anew bytes l.cursor.row new (sight_with given prompt text at info) (drawing s.columns wide prompt text (info_text info) new.end new.cursor)
+      drawn_anew bytes l.cursor.row new (sight_with given prompt text at info) (drawing s.columns wide prompt text (info_text info) new.end new.cursor) refl
       (calm_both (shown_text s.columns wide prompt text (info_text info)) (move_bytes new.end new.cursor) (calm_texts prompt text (info_text info)) (calm_move new.end new.cursor))
       (λ before over top good. (let h = fresh_holds s low high before over top (fresh s.mode) good in drawn_holds s low high before over top None (fresh s.mode) no_sight prompt given text at info h.good h.cursor rows))
   whole bytes (Some m) l prompt given text at info rows =
       let new = (full (ruler_of s) (Some m) l prompt given text at info).layout in
       let styles = styles_by m given prompt text at (info_text info) in
-      drawn_anew bytes l.cursor.row new (sight_with given prompt text at info) (painted_drawing s.columns wide styles prompt text (info_text info) new.end new.cursor)
+      drawn_anew bytes l.cursor.row new (sight_with given prompt text at info) (painted_drawing s.columns wide styles prompt text (info_text info) new.end new.cursor) refl
       (calm_both (painted_shown s.columns wide styles prompt text (info_text info)) (move_bytes new.end new.cursor)
       (calm_styled styles prompt text (info_text info) (spans_are (m.paints (OfPrompt given) prompt first_mark)) (spans_are (m.paints (OfLine at) text first_mark)) (spans_are (m.paints OfHint (info_text info) first_mark)))
       (calm_move new.end new.cursor))
       (λ before over top good. (let h = fresh_holds s low high before over top (fresh s.mode) good in drawn_holds s low high before over top (Some m) (fresh s.mode) no_sight prompt given text at info h.good h.cursor rows))
 
   -- what follows it
-  kept_on : (bytes : List ℕ) (l : Layout) (x : Sight) (more : List ℕ) (l' : Layout) (x' : Sight) → Anew bytes l x → calm more ≡ true
+  kept_on : (bytes : List ℕ) (l : Layout) (x : Sight) (more : List ℕ) (l' : Layout) (x' : Sight) → l'.tab_stops ≡ l.tab_stops → Anew bytes l x → calm more ≡ true
       → ((before : List ℕ) (over : List Placed) (top : ℕ) → DisplayHolds s before over top l x → DisplayHolds s (before ++ more) over top l' x') → Anew (bytes ++ more) l' x'
-  kept_on bytes l x more l' x' a quiet on = record {
+  kept_on bytes l x more l' x' stops a quiet on = record {
     earlier = a.earlier;
     later = a.later ++ more;
     bytes_are = ap (λ z. z ++ more) a.bytes_are ∙ append_assoc a.earlier (drawing_start ++ a.later) more;
     calm_is = calm_both a.later more a.calm_is quiet;
     holds = λ before over top good.
         subst (λ z. DisplayHolds s z over top l' x') (append_assoc before (drawing_start ++ a.later) more) (on (before ++ (drawing_start ++ a.later)) over top (a.holds before over top good));
+    tabs_are = stops ∙ a.tabs_are;
   }
 
   calm_moved : (l : Layout) (to : Position) (b : Bool) → calm (flat_map (bytes_of s) (if b then nothing_asked l else moved_by_call l to).calls) ≡ true
   calm_moved l to true = refl
   calm_moved l to false = calm_both (move_bytes l.cursor to) [] (calm_move l.cursor to) refl
+
+  moved_tabs : (l : Layout) (to : Position) (b : Bool) → (if b then nothing_asked l else moved_by_call l to).layout.tab_stops ≡ l.tab_stops
+  moved_tabs l to true = refl
+  moved_tabs l to false = refl
 
   calm_bell : (b : BellStyle) → calm (bell_bytes b ++ []) ≡ true
   calm_bell Bell.Audible = refl
@@ -347,8 +370,9 @@ module _ (s : Screen) (low : 2 ≤ s.columns) (high : s.columns ≤ 1000) (own :
       → (let r = Draws v m (Typed prompt c text at) in Anew bytes l x → Fits own x r → LowStep s x r → After bytes l r x)
   typed_by v bytes m l x prompt c text at true e a fits rows =
       let r = Draws v m (Typed prompt c text at) in
-      let printable = (and_parts (is_printable c) (at_plain_end x.line x.place) (let t : TypedFits x prompt c text at = fits.3 in t.typed)).0 in
-      kept_on bytes l x (flat_map (bytes_of s) (one (ruler_of s) l r).calls) (one (ruler_of s) l r).layout (sight x r) a
+      let printable = (and_parts (is_printable c) (at_simple_end true x.line x.place) (let t : TypedFits x prompt c text at = fits.3 in t.typed)).0 in
+      kept_on bytes l x (flat_map (bytes_of s) (one (ruler_of s) l r).calls) (one (ruler_of s) l r).layout (sight x r)
+      (subst (λ t. (if t then typed_short l c else full (ruler_of s) (shown_marks v m) l prompt true text at None).layout.tab_stops ≡ l.tab_stops) (sym e) refl) a
       (subst (λ t. calm (flat_map (bytes_of s) (if t then typed_short l c else full (ruler_of s) (shown_marks v m) l prompt true text at None).calls) ≡ true) (sym e) (calm_typed l c printable))
       (λ before over top h. step s low high own before over top l x r h fits rows)
   typed_by v bytes m l x prompt c text at false e a fits rows =
@@ -358,7 +382,8 @@ module _ (s : Screen) (low : 2 ≤ s.columns) (high : s.columns ≤ 1000) (own :
       → (let r = Draws v m (Taken prompt count text at) in Anew bytes l x → Fits own x r → LowStep s x r → After bytes l r x)
   taken_by v bytes m l x prompt count text at true e a fits rows =
       let r = Draws v m (Taken prompt count text at) in
-      kept_on bytes l x (flat_map (bytes_of s) (one (ruler_of s) l r).calls) (one (ruler_of s) l r).layout (sight x r) a
+      kept_on bytes l x (flat_map (bytes_of s) (one (ruler_of s) l r).calls) (one (ruler_of s) l r).layout (sight x r)
+      (subst (λ t. (if t then taken_short l count else full (ruler_of s) (shown_marks v m) l prompt true text at None).layout.tab_stops ≡ l.tab_stops) (sym e) refl) a
       (subst (λ t. calm (flat_map (bytes_of s) (if t then taken_short l count else full (ruler_of s) (shown_marks v m) l prompt true text at None).calls) ≡ true) (sym e) (calm_taken l count))
       (λ before over top h. step s low high own before over top l x r h fits rows)
   taken_by v bytes m l x prompt count text at false e a fits rows =
@@ -368,7 +393,8 @@ module _ (s : Screen) (low : 2 ≤ s.columns) (high : s.columns ≤ 1000) (own :
       → (let r = Draws v m (Bared prompt text at) in Anew bytes l x → Fits own x r → LowStep s x r → After bytes l r x)
   bared_by v bytes m l x prompt text at true e a fits rows =
       let r = Draws v m (Bared prompt text at) in
-      kept_on bytes l x (flat_map (bytes_of s) (one (ruler_of s) l r).calls) (one (ruler_of s) l r).layout (sight x r) a
+      kept_on bytes l x (flat_map (bytes_of s) (one (ruler_of s) l r).calls) (one (ruler_of s) l r).layout (sight x r)
+      (subst (λ t. (if t then nothing_asked l else full (ruler_of s) (shown_marks v m) l prompt true text at None).layout.tab_stops ≡ l.tab_stops) (sym e) refl) a
       (subst (λ t. calm (flat_map (bytes_of s) (if t then nothing_asked l else full (ruler_of s) (shown_marks v m) l prompt true text at None).calls) ≡ true) (sym e) refl)
       (λ before over top h. step s low high own before over top l x r h fits rows)
   bared_by v bytes m l x prompt text at false e a fits rows =
@@ -381,20 +407,20 @@ module _ (s : Screen) (low : 2 ≤ s.columns) (high : s.columns ≤ 1000) (own :
   step_anew (Draws v m (Moved text at)) bytes l x a fits rows none =
       let r = Draws v m (Moved text at) in
       let to = (ruler_of s).measure (take at text) l.prompt_size in
-      kept_on bytes l x (flat_map (bytes_of s) (one (ruler_of s) l r).calls) (one (ruler_of s) l r).layout (sight x r) a (calm_moved l to (same_cell l.cursor to)) (λ before over top h. step s low high own before over top l x r h fits rows)
+      kept_on bytes l x (flat_map (bytes_of s) (one (ruler_of s) l r).calls) (one (ruler_of s) l r).layout (sight x r) (moved_tabs l to (same_cell l.cursor to)) a (calm_moved l to (same_cell l.cursor to)) (λ before over top h. step s low high own before over top l x r h fits rows)
   step_anew (Draws v m (Typed prompt c text at)) bytes l x a fits rows none = typed_by v bytes m l x prompt c text at (may_type (ruler_of s) l) refl a fits rows
   step_anew (Draws v m (Taken prompt count text at)) bytes l x a fits rows none = taken_by v bytes m l x prompt count text at (may_take l count) refl a fits rows
   step_anew (Draws v m (Bared prompt text at)) bytes l x a fits rows none = bared_by v bytes m l x prompt text at l.default_prompt refl a fits rows
   step_anew (Draws v m ToEnd) bytes l x a fits rows none =
       let r = Draws v m ToEnd in
-      kept_on bytes l x (flat_map (bytes_of s) (one (ruler_of s) l r).calls) (one (ruler_of s) l r).layout (sight x r) a (calm_moved l l.end (same_cell l.cursor l.end)) (λ before over top h. step s low high own before over top l x r h fits rows)
+      kept_on bytes l x (flat_map (bytes_of s) (one (ruler_of s) l r).calls) (one (ruler_of s) l r).layout (sight x r) (moved_tabs l l.end (same_cell l.cursor l.end)) a (calm_moved l l.end (same_cell l.cursor l.end)) (λ before over top h. step s low high own before over top l x r h fits rows)
   step_anew (Draws v m Beeped) bytes l x a fits rows none =
-      kept_on bytes l x (bell_bytes s.bell ++ []) l x a (calm_bell s.bell) (λ before over top h. step s low high own before over top l x (Draws v m Beeped) h fits rows)
+      kept_on bytes l x (bell_bytes s.bell ++ []) l x refl a (calm_bell s.bell) (λ before over top h. step s low high own before over top l x (Draws v m Beeped) h fits rows)
   step_anew (Draws v m Cleared) bytes l x a fits rows none = absurd none
-  step_anew (Helped v fails takes) bytes l x a fits rows none = kept_on bytes l x [] l x a refl (λ before over top h. step s low high own before over top l x (Helped v fails takes) h fits rows)
-  step_anew (Edits v edit) bytes l x a fits rows none = kept_on bytes l x [] l x a refl (λ before over top h. step s low high own before over top l x (Edits v edit) h fits rows)
-  step_anew (TakesBack v count) bytes l x a fits rows none = kept_on bytes l x [] l x a refl (λ before over top h. step s low high own before over top l x (TakesBack v count) h fits rows)
-  step_anew (Takes v) bytes l x a fits rows none = kept_on bytes l x [] l x a refl (λ before over top h. step s low high own before over top l x (Takes v) h fits rows)
+  step_anew (Helped v fails takes) bytes l x a fits rows none = kept_on bytes l x [] l x refl a refl (λ before over top h. step s low high own before over top l x (Helped v fails takes) h fits rows)
+  step_anew (Edits v edit) bytes l x a fits rows none = kept_on bytes l x [] l x refl a refl (λ before over top h. step s low high own before over top l x (Edits v edit) h fits rows)
+  step_anew (TakesBack v count) bytes l x a fits rows none = kept_on bytes l x [] l x refl a refl (λ before over top h. step s low high own before over top l x (TakesBack v count) h fits rows)
+  step_anew (Takes v) bytes l x a fits rows none = kept_on bytes l x [] l x refl a refl (λ before over top h. step s low high own before over top l x (Takes v) h fits rows)
 
   -- they show it so, or nothing is shown
   abbrev pub Either : List ℕ → Layout → Sight → Type 0

@@ -59,7 +59,7 @@ no_drawing_row = refl
 -- ---- both show the same below other text
 
 eighty : Screen
-eighty = record { columns = 80; mode = Modes.Unicode; bell = Bells.Audible; colours = false }
+eighty = record { columns = 80; mode = Modes.Unicode; bell = Bells.Audible; colours = false; tab = None }
 
 above_it : List ℕ
 above_it = codes "ok" ++ 0x0D ∷ 0x0A ∷ []
@@ -70,11 +70,11 @@ cell row col c = record { row = row; col = col; width = 1; bytes = c ∷ [] }
 both : Option Display
 both = Some (record { placed = cell 0 0 0x6F ∷ cell 0 1 0x6B ∷ cell 1 0 0x3E ∷ cell 1 1 0x20 ∷ cell 1 2 0x61 ∷ []; cursor = record { col = 3; row = 1 } })
 
-typed_shows : meaning 80 (widths eighty) (above_it ++ (drawn [] ++ codes "a")) ≡ both
+typed_shows : meaning 80 (widths eighty).cluster (above_it ++ (drawn [] ++ codes "a")) ≡ both
 unfolding plain drawn eighty above_it cell both
 typed_shows = refl
 
-pasted_shows : meaning 80 (widths eighty) (above_it ++ drawn (codes "a")) ≡ both
+pasted_shows : meaning 80 (widths eighty).cluster (above_it ++ drawn (codes "a")) ≡ both
 unfolding plain drawn eighty above_it cell both
 pasted_shows = refl
 
@@ -92,7 +92,7 @@ unfolding line_at
 nothing_row = refl
 
 setting : Setting
-setting = record { prompt = []; column = 0; mode = Modes.Unicode; hooks = None; marks = None; entries = [] }
+setting = record { prompt = []; column = 0; mode = Modes.Unicode; tabs = None; hooks = None; marks = None; entries = [] }
 
 -- `xy` pasted into ab|cd, with `b` typed after it
 played_row : Played LineAsk LineState ReadlineError Status

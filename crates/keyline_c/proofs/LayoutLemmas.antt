@@ -66,23 +66,25 @@ module _ (s : Screen) where
 
 -- ---- the other fields
 
-layout_by : (l m : Layout) → l.grapheme_cluster_mode ≡ m.grapheme_cluster_mode → l.prompt_size ≡ m.prompt_size → l.default_prompt ≡ m.default_prompt → l.cursor ≡ m.cursor → l.end ≡ m.end → l.has_info ≡ m.has_info → l ≡ m
-layout_by l m mode size given cursor end info =
+layout_by : (l m : Layout) → l.grapheme_cluster_mode ≡ m.grapheme_cluster_mode → l.prompt_size ≡ m.prompt_size → l.default_prompt ≡ m.default_prompt → l.cursor ≡ m.cursor → l.end ≡ m.end → l.has_info ≡ m.has_info → l.tab_stops ≡ m.tab_stops → l ≡ m
+layout_by l m mode size given cursor end info tabs =
     ap (λ p. let q : Layout = record l { grapheme_cluster_mode = p } in q) mode
     ∙ ap (λ p. let q : Layout = record l { grapheme_cluster_mode = m.grapheme_cluster_mode; prompt_size = p } in q) size
     ∙ ap (λ p. let q : Layout = record l { grapheme_cluster_mode = m.grapheme_cluster_mode; prompt_size = m.prompt_size; default_prompt = p } in q) given
     ∙ ap (λ p. let q : Layout = record l { grapheme_cluster_mode = m.grapheme_cluster_mode; prompt_size = m.prompt_size; default_prompt = m.default_prompt; cursor = p } in q) cursor
     ∙ ap (λ p. let q : Layout = record l { grapheme_cluster_mode = m.grapheme_cluster_mode; prompt_size = m.prompt_size; default_prompt = m.default_prompt; cursor = m.cursor; end = p } in q) end
-    ∙ ap (λ p. let q : Layout = record m { has_info = p } in q) info
+    ∙ ap (λ p. let q : Layout = record m { has_info = p; tab_stops = l.tab_stops } in q) info
+    ∙ ap (λ p. let q : Layout = record m { tab_stops = p } in q) tabs
 
-same_layout : (s : Screen) (bytes again : List ℕ) (l m : Layout) (x y : Sight) → DisplayHolds s bytes [] 0 l x → DisplayHolds s again [] 0 m y → x ≡ y → l.grapheme_cluster_mode ≡ s.mode → m.grapheme_cluster_mode ≡ s.mode → l ≡ m
-same_layout s bytes again l m x y h k is one two =
+same_layout : (s : Screen) (bytes again : List ℕ) (l m : Layout) (x y : Sight) → DisplayHolds s bytes [] 0 l x → DisplayHolds s again [] 0 m y → x ≡ y → l.grapheme_cluster_mode ≡ s.mode → m.grapheme_cluster_mode ≡ s.mode → l.tab_stops ≡ m.tab_stops → l ≡ m
+same_layout s bytes again l m x y h k is one two tabs =
     layout_by l m (one ∙ sym two)
-    (h.prompt_size ∙ ap (λ (z : Sight). measure_of s.mode s.columns z.prompt origin) is ∙ sym k.prompt_size)
+    (h.prompt_size ∙ ap (λ (z : Sight). measure_of s.mode s.tab s.columns z.prompt origin) is ∙ sym k.prompt_size)
     (h.given_is ∙ ap (λ (z : Sight). z.given) is ∙ sym k.given_is)
     (h.cursor ∙ ap (place_in s) is ∙ sym k.cursor)
     (h.finish ∙ ap (λ z. finish_of s.columns (widths s) (picture z)) is ∙ sym k.finish)
     (h.info_is ∙ ap (λ (z : Sight). is_some z.info) is ∙ sym k.info_is)
+    tabs
 
 sight_by : (x y : Sight) → x.prompt ≡ y.prompt → x.line ≡ y.line → x.place ≡ y.place → x.info ≡ y.info → x.given ≡ y.given → x.ended ≡ y.ended → x ≡ y
 sight_by x y prompt line place info given ended =
@@ -116,3 +118,4 @@ module _ (held : VecSink → List ℕ) where
       (a.holds [] [] 0 (start_is_empty s low high)) (b.holds [] [] 0 (start_is_empty s low high))
       (sight_by (seen_in n g x) (seen_in n g y) same.prompt text place same.info given (one.seen.rests ∙ sym two.seen.rests))
       (all_count s (steps_in n g x) (fresh s.mode) refl) (all_count s (steps_in n g y) (fresh s.mode) refl)
+      (a.tabs_are ∙ sym b.tabs_are)

@@ -4,6 +4,7 @@ use Rattle.std.specs.List.{flat_map}
 use Rattle.std.specs.Prelude.{⊤, IsErrAnd, String, if◌then◌else◌, string_bytes}
 use Rattle.std.proofs.lemmas.Grind.{flat_map-append}
 use Rattle.std.specs.Global.{Global}
+use Rattle.line_config.specs.Config.{drawn_tab_stop}
 use Rattle.line_config.specs.Feed.{Feed}
 use Rattle.line_config.specs.declared.config.Config.{Config}
 use Rattle.line_config.specs.declared.device.Last.{Last}
@@ -135,14 +136,14 @@ pub line_read : {K T : Type 0} (held waits : VecSink → List ℕ) (failed : Vec
     → Runs (canvas_of held waits failed) edit_helping custom prompt helper history.kept.entries config old ring query feed ran ring' query' feed' → IsTrue feed'.told
     → Ends held (outcome_of ran) (sink_of ran.out) display history history' → held (sink_of old) ≡ []
     → config.auto_add_history ≡ true → custom ≡ bound_to → prompt ≡ string_bytes options.prompt → helper ≡ helper_of config options words
-    → screen_of old ≡ record { columns = options.columns; mode = config.grapheme_cluster_mode; bell = config.bell_style; colours = config.draw_colours }
+    → screen_of old ≡ record { columns = options.columns; mode = config.grapheme_cluster_mode; bell = config.bell_style; colours = config.draw_colours; tab = drawn_tab_stop config }
     → feed.coming ≡ coming_from options.mode keys last → feed.bound ≡ length keys
     → query ≡ [] → left.outcome ≡ ran.outcome → left.open_line ≡ ran.open_line → left.display ≡ display → left.ring ≡ ring' → left.history ≡ history'
     → left.rest ≡ length (left_in F reader) → coming_in F reader ≡ feed'.coming
     → ReadsLine held (given_with config bound_to options words) (state_over ring [] history options.mode keys last) (length keys) left
 line_read held waits failed config options words keys last custom bound_to prompt helper old display ring ring' query query' history history' feed feed' ran F reader left runs told ends fresh adds custom_is prompt_is helper_is screen_is coming_is bound_is none a open_is b d e rest_is left_is =
     let read = reads_line held waits failed edit_helping config custom prompt helper old display ring ring' query query' history history' feed feed' ran F reader left ends fresh adds a open_is b d e rest_is left_is runs told in
-    let columns : Screen = record { columns = options.columns; mode = config.grapheme_cluster_mode; bell = config.bell_style; colours = config.draw_colours } in
+    let columns : Screen = record { columns = options.columns; mode = config.grapheme_cluster_mode; bell = config.bell_style; colours = config.draw_colours; tab = drawn_tab_stop config } in
     let given_is : given_of config custom prompt (screen_of old) (edit_helping helper) ≡ given_with config bound_to options words =
     ap (λ (x : Screen). given_of config custom prompt x (edit_helping helper)) screen_is
     ∙ (ap (λ (x : Custom). given_of config x prompt columns (edit_helping helper)) custom_is

@@ -95,7 +95,7 @@ module _ (held : VecSink → List ℕ) where
   pub record DrawnAnew (s : Screen) (before : List ℕ) (left : Left) (d : Display) : Type 0 where
     pub bytes : List ℕ
     pub last : last_drawing (held left.display) ≡ Some bytes
-    pub means : meaning s.columns (widths s) (before ++ bytes) ≡ Some d
+    pub means : meaning s.columns (widths s).cluster (before ++ bytes) ≡ Some d
 
   -- two key texts whose open lines show the same leave the same display if they are drawn anew,
   -- whatever their bytes are

@@ -33,6 +33,7 @@ pub record AreMeant (options : KeylineOptions) (prompt : List ℕ) (o : Options)
   pub columns_are : o.columns ≡ options.columns
   pub few : (2 ≤ o.columns) × (o.columns ≤ 1000)
   pub prompt_is : string_bytes o.prompt ≡ prompt
+  pub plain : o.prompt_styles.items ≡ []
   pub no_history : o.history ≡ None
   pub no_words : o.words ≡ None
   pub brackets_are : o.brackets ≡ options.brackets

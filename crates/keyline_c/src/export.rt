@@ -170,6 +170,7 @@ fn options_of(
         mode,
         columns: options.columns,
         prompt: String::from_str(alloc, prompt)?,
+        prompt_styles: Vec::new(alloc),
         history: None,
         words: None,
         brackets: options.brackets,

@@ -63,6 +63,7 @@ fn screen(alloc: Global, options: &Options, config: &Config) -> ScreenRenderer<V
         config.bell_style(),
     );
     screen.set_colours(config.draw_colours());
+    screen.set_tab_stop(config.drawn_tab_stop());
     screen
 }
 

@@ -10,7 +10,7 @@ use Rattle.std.proofs.lemmas.Iterator.Consumers.{YieldsList-from_shown}
 use Rattle.std.proofs.lemmas.List.{reverse-append, length-reverse, get_or-reverse, take-map}
 use Rattle.unicode_segmentation.specs.Segments.{GivesLast}
 
-option_map-last_or : {A B : Type 0} (v : A → B) (o : Option A) (xs : List A) → option_map v (last_or o xs) ≡ last_or (option_map v o) (map v xs)
+pub option_map-last_or : {A B : Type 0} (v : A → B) (o : Option A) (xs : List A) → option_map v (last_or o xs) ≡ last_or (option_map v o) (map v xs)
 option_map-last_or v o [] = refl
 option_map-last_or v o (x ∷ xs) = option_map-last_or v (Some x) xs
 

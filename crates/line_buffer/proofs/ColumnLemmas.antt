@@ -83,7 +83,7 @@ module _ (mode : GraphemeClusterMode) (most : ℕ) (above : 65535 ≤ most) (fir
   measures left = map measure_at (map (λ x. x.0 + length x.1) left)
 
   pub record WalksRow (left : List (ℕ × List ℕ)) (width : ℕ) : Type 0 where
-    pub answer : place_at_column mode first column row ≡ reached (measures left)
+    pub answer : place_at_column mode None first column row ≡ reached (measures left)
     pub width_is : width ≡ counted most mode (take (end_of 0 left) row)
     pub tiles : Tiles 0 left
     pub pieces : All (IsPieceOf row) left
@@ -140,7 +140,7 @@ module _ (mode : GraphemeClusterMode) (most : ℕ) (above : 65535 ≤ most) (fir
     shown : min width 65535 ≡ width_of mode (take (x.0 + length x.1) row)
     shown = omega (arith, walks_row_at, above)
 
-    pub walks_row_hit : first + min width 65535 ≤ column → x.0 + length x.1 ≡ place_at_column mode first column row
+    pub walks_row_hit : first + min width 65535 ≤ column → x.0 + length x.1 ≡ place_at_column mode None first column row
     walks_row_hit h =
         let ok : fits (measure_at (x.0 + length x.1)) ≡ true = ap (λ n. nat_le (first + n) column) (sym shown) ∙ yes (first + min width 65535) column h in
         sym (w.answer ∙ ap (λ l. reached (measures l)) came ∙ ap reached (measures-append new x) ∙ reached_hit (measures new) (measure_at (x.0 + length x.1)) ok)
@@ -165,7 +165,7 @@ module _ (mode : GraphemeClusterMode) (most : ℕ) (above : 65535 ≤ most) (fir
         fore : (xs ys : List (ℕ × List ℕ)) (k : ℕ) (d : ℕ × List ℕ) → k < length xs → get_or (xs ++ ys) k d ≡ get_or xs k d
         fore xs ys k d l = get_or-append xs ys d k l
 
-  pub walks_row_end : (left : List (ℕ × List ℕ)) (width : ℕ) → WalksRow left width → left ≡ [] → 0 ≡ place_at_column mode first column row
+  pub walks_row_end : (left : List (ℕ × List ℕ)) (width : ℕ) → WalksRow left width → left ≡ [] → 0 ≡ place_at_column mode None first column row
   walks_row_end left width w e = sym (w.answer ∙ ap (λ l. reached (measures l)) e)
 
 -- ---- a row up to one of its boundaries

@@ -33,6 +33,8 @@ pub mod SeamLemmas
 pub mod SpanLemmas
 pub mod StandingLemmas
 pub mod StopLemmas
+pub mod TabClusters
+pub mod TabColumns
 pub mod TranspositionLemmas
 pub mod WidthLemmas
 pub mod WordLemmas

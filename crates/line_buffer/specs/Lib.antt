@@ -13,6 +13,7 @@ pub mod Printable
 pub mod Range
 pub mod Replay
 pub mod Rows
+pub mod Tabs
 pub mod Transpositions
 pub mod Width
 pub mod Words

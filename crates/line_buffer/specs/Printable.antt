@@ -1,5 +1,5 @@
 -- Printable ASCII, plain lines, and characters typed at their end.
-use Rattle.std.specs.Prelude.{ℕ, ◌==◌, nat_lt, nat_le, ◌&&◌, ◌||◌, Bool, List, length}
+use Rattle.std.specs.Prelude.{ℕ, ◌==◌, nat_lt, nat_le, ◌&&◌, ◌||◌, Bool, List, length, if◌then◌else◌}
 use Rattle.std.specs.List.{list_all}
 
 -- the printable characters of ASCII
@@ -17,6 +17,19 @@ is_plain text = list_all is_plain_byte text
 abbrev pub at_plain_end : List ℕ → ℕ → Bool
 at_plain_end text place = (place == length text) && is_plain text
 
--- a printable character typed at the end of a plain text: its byte alone can show it
-abbrev pub typed_at_plain_end : ℕ → List ℕ → ℕ → Bool
-typed_at_plain_end c text place = is_printable c && at_plain_end text place
+-- or a tab
+abbrev pub is_simple_byte : ℕ → Bool
+is_simple_byte byte = (byte == 9) || is_plain_byte byte
+
+abbrev pub is_simple : List ℕ → Bool
+is_simple text = list_all is_simple_byte text
+
+-- the cursor at the end of a text of clusters of one byte each: a plain one, or one with tabs if
+-- these are drawn
+abbrev pub at_simple_end : Bool → List ℕ → ℕ → Bool
+at_simple_end tabs text place =
+    (place == length text) && (if tabs then is_simple text else is_plain text)
+
+-- a printable character typed there: its byte alone can show it
+abbrev pub typed_at_end : Bool → ℕ → List ℕ → ℕ → Bool
+typed_at_end tabs c text place = is_printable c && at_simple_end tabs text place

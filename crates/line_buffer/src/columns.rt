@@ -3,16 +3,17 @@
 
 ghost use Rattle.std.specs.Char.{IsScalar};
 ghost use Rattle.std.specs.Int.{is_in_range};
-ghost use Rattle.std.specs.Prelude.{◌≡◌, ◌≢◌, ◌==◌, ◌&&◌, ◌||◌, not, true, false, min, ◌∷◌, take, chars, Some, None, is_some, IfSome, IsCharBoundary};
+ghost use Rattle.std.specs.Prelude.{◌≡◌, ◌≢◌, ◌<◌, ◌==◌, ◌&&◌, ◌||◌, not, true, false, min, ◌∷◌, take, chars, Some, None, is_some, IfSome, IsCharBoundary};
 ghost use Rattle.std.specs.List.{last_or, list_all};
 ghost use Rattle.ucd_emoji.specs.Binary.{is_emoji_presentation};
 ghost use Rattle.line_buffer.specs.Width.{columns_of, AddUp, PartsText};
 ghost use Rattle.line_buffer.specs.Line.{moved_to};
 ghost use Rattle.line_buffer.specs.Columns.{place_at_column, first_column, cursor_column, place_in_row, line_up, line_down};
 
-use crate::layout::{GraphemeClusterMode, Layout, Unit, ZERO_WIDTH_JOINER};
+use crate::layout::{GraphemeClusterMode, Layout, TabStops, Unit, ZERO_WIDTH_JOINER};
 use crate::line_buffer::LineBuffer;
 use crate::rows::{first_row_end, last_row_start};
+use crate::tabs::{MOST_COLUMNS, column_after, tab_end};
 use crate::types::RepeatCount;
 use ucd_emoji::{is_emoji_presentation, is_emoji_variation_base};
 use unicode_segmentation::UnicodeSegmentation;
@@ -225,14 +226,15 @@ fn columns_up_to(mode: GraphemeClusterMode, text: &str, end: usize, whole: usize
 
 /// The last cluster boundary of a row whose column is at most the given one; the row's start if
 /// there is none.
-fn boundary_at_column(mode: GraphemeClusterMode, row: &str, first: Unit, column: usize) -> usize
-    ensures value { result ≡ place_at_column mode first column row.now }
+fn boundary_at_column(mode: GraphemeClusterMode, row: &str, first: u128, column: u128) -> usize
+    requires { first < MOST_COLUMNS }
+    ensures value { result ≡ place_at_column mode None first column row.now }
     ensures boundary { IsCharBoundary row.now result }
 {
     let mut width = mode.columns(row);
     for (start, cluster) in row.grapheme_indices(true).rev() {
         let end = start + cluster.len();
-        if usize::from(first) + width.min(usize::from(Unit::MAX)) <= column {
+        if first + width.min(usize::from(Unit::MAX)) as u128 <= column {
             return end;
         }
         width = columns_up_to(mode, &row[..end], start, width);
@@ -240,39 +242,80 @@ fn boundary_at_column(mode: GraphemeClusterMode, row: &str, first: Unit, column:
     0
 }
 
+/// The same in a row with tabs. The boundary is in the last part between tabs that begins in at
+/// most the given column.
+fn boundary_among_tabs(
+    mode: GraphemeClusterMode,
+    stops: TabStops,
+    row: &str,
+    first: Unit,
+    column: u128,
+) -> usize
+    ensures value { result ≡ place_at_column mode (Some stops) first column row.now }
+    ensures boundary { IsCharBoundary row.now result }
+{
+    let (mut start, mut col) = (0, u128::from(first));
+    while let Some(tab) = row[start..].find('\t') {
+        let part = &row[start..start + tab];
+        let next = tab_end(stops, col + u128::from(mode.width(part)));
+        if column < next {
+            return start + boundary_at_column(mode, part, col, column);
+        }
+        start += tab + 1;
+        col = next;
+    }
+    start + boundary_at_column(mode, &row[start..], col, column)
+}
+
+/// The same in a row on a display.
+fn boundary_in_row(layout: &Layout, row: &str, first: Unit, column: u128) -> usize
+    ensures value { result ≡ place_at_column layout.now.grapheme_cluster_mode layout.now.tab_stops
+        first column row.now }
+    ensures boundary { IsCharBoundary row.now result }
+{
+    let mode = layout.grapheme_cluster_mode;
+    match layout.tab_stops {
+        Some(stops) => boundary_among_tabs(mode, stops, row, first, column),
+        None => boundary_at_column(mode, row, u128::from(first), column),
+    }
+}
+
 impl LineBuffer {
     /// The column of the cursor.
     #[tactic(auto, unfolding(crate::specs::Columns::cursor_column))]
-    fn column(&self, layout: &Layout) -> usize
-        ensures { result ≡ cursor_column layout.now.grapheme_cluster_mode layout.now.prompt_size.col
-            self.now }
+    fn column(&self, layout: &Layout) -> u128
+        ensures { result ≡ cursor_column layout.now.grapheme_cluster_mode layout.now.tab_stops
+            layout.now.prompt_size.col self.now }
     {
         let start = last_row_start(&self.buf[..self.pos]);
         let first = row_first_column(layout, start);
-        usize::from(first) + usize::from(layout.width(&self.buf[start..self.pos]))
+        let text = &self.buf[start..self.pos];
+        match layout.tab_stops {
+            Some(stops) => column_after(layout.grapheme_cluster_mode, stops, first, text),
+            None => u128::from(first) + u128::from(layout.width(text)),
+        }
     }
 
     /// The place with the cursor's column in the row that starts at `start`.
     #[tactic(auto, unfolding(crate::specs::Columns::place_in_row))]
     fn place_below_column(&self, layout: &Layout, start: usize) -> usize
         requires { IsCharBoundary self.now.text start }
-        ensures value { result ≡ place_in_row layout.now.grapheme_cluster_mode
+        ensures value { result ≡ place_in_row layout.now.grapheme_cluster_mode layout.now.tab_stops
             layout.now.prompt_size.col (cursor_column layout.now.grapheme_cluster_mode
-            layout.now.prompt_size.col self.now) self.now.text start }
+            layout.now.tab_stops layout.now.prompt_size.col self.now) self.now.text start }
         ensures boundary { IsCharBoundary self.now.text result }
     {
         let column = self.column(layout);
         let rest = &self.buf[start..];
         let row = &rest[..first_row_end(rest)];
-        let first = row_first_column(layout, start);
-        start + boundary_at_column(layout.grapheme_cluster_mode, row, first, column)
+        start + boundary_in_row(layout, row, row_first_column(layout, start), column)
     }
 
     /// The place to which a motion up by n rows moves the cursor; `None` in the first row.
     #[tactic(auto, unfolding(crate::specs::Columns::line_up))]
     fn line_up_pos(&self, n: RepeatCount, layout: &Layout) -> Option<usize>
-        ensures value { result ≡ line_up layout.now.grapheme_cluster_mode layout.now.prompt_size.col
-            n self.now }
+        ensures value { result ≡ line_up layout.now.grapheme_cluster_mode layout.now.tab_stops
+            layout.now.prompt_size.col n self.now }
         ensures boundary { IfSome result (λ pos. IsCharBoundary self.now.text pos) }
     {
         let start = self.start_above(n)?;
@@ -283,7 +326,7 @@ impl LineBuffer {
     #[tactic(auto, unfolding(crate::specs::Columns::line_down))]
     fn line_down_pos(&self, n: RepeatCount, layout: &Layout) -> Option<usize>
         ensures value { result ≡ line_down layout.now.grapheme_cluster_mode
-            layout.now.prompt_size.col n self.now }
+            layout.now.tab_stops layout.now.prompt_size.col n self.now }
         ensures boundary { IfSome result (λ pos. IsCharBoundary self.now.text pos) }
     {
         let start = self.start_below(n)?;
@@ -294,9 +337,9 @@ impl LineBuffer {
     /// is 0.
     pub fn move_to_line_up(&mut self, n: RepeatCount, layout: &Layout) -> bool
         ensures answer { result ≡ is_some (line_up layout.now.grapheme_cluster_mode
-            layout.now.prompt_size.col n self.old) }
+            layout.now.tab_stops layout.now.prompt_size.col n self.old) }
         ensures line { self.new ≡ moved_to (line_up layout.now.grapheme_cluster_mode
-            layout.now.prompt_size.col n self.old) self.old }
+            layout.now.tab_stops layout.now.prompt_size.col n self.old) self.old }
     {
         let Some(pos) = self.line_up_pos(n, layout) else {
             return false;
@@ -309,9 +352,9 @@ impl LineBuffer {
     /// is 0.
     pub fn move_to_line_down(&mut self, n: RepeatCount, layout: &Layout) -> bool
         ensures answer { result ≡ is_some (line_down layout.now.grapheme_cluster_mode
-            layout.now.prompt_size.col n self.old) }
+            layout.now.tab_stops layout.now.prompt_size.col n self.old) }
         ensures line { self.new ≡ moved_to (line_down layout.now.grapheme_cluster_mode
-            layout.now.prompt_size.col n self.old) self.old }
+            layout.now.tab_stops layout.now.prompt_size.col n self.old) self.old }
     {
         let Some(pos) = self.line_down_pos(n, layout) else {
             return false;

@@ -1,6 +1,6 @@
 //! Places on the display, counted in cells.
 
-ghost use Rattle.std.specs.Prelude.{◌≡◌, ◌≤◌, min, false, chars, unwrap_or};
+ghost use Rattle.std.specs.Prelude.{◌≡◌, ◌≤◌, min, false, chars, unwrap_or, None};
 ghost use Rattle.std.specs.Ordering.{as_partial_cmp};
 ghost use Rattle.line_buffer.specs.Cells.{origin, reading_order, reading_order_total, reading_order_agrees, reading_order_ties, reading_order_partial};
 ghost use Rattle.line_buffer.specs.declared.layout.GraphemeClusterMode.TheVariants.{WcWidth, NoZwj};
@@ -106,6 +106,15 @@ impl GraphemeClusterMode {
     }
 }
 
+/// Where the tabs of a row end on a display: at the next stop, or at the row's end. The stops are
+/// `apart` columns from one to the next, counted from the first column. 0 counts as 1.
+#[derive(Clone, Copy, Debug, PartialEq, Eq)]
+pub struct TabStops {
+    /// The columns of a row.
+    pub columns: Unit,
+    pub apart: u8,
+}
+
 /// The positions of the parts of a drawn line.
 #[derive(Clone, Copy, Debug, PartialEq, Eq)]
 pub struct Layout {
@@ -119,6 +128,8 @@ pub struct Layout {
     pub end: Position,
     /// A hint or a message is drawn after the text.
     pub has_info: bool,
+    /// Where tabs end, if they are drawn as blanks. If not, each is one cluster like others.
+    pub tab_stops: Option<TabStops>,
 }
 
 impl Layout {
@@ -132,6 +143,7 @@ impl Layout {
           cursor = origin;
           end = origin;
           has_info = false;
+          tab_stops = None;
         } }
     {
         let origin = Position { col: 0, row: 0 };
@@ -142,6 +154,7 @@ impl Layout {
             cursor: origin,
             end: origin,
             has_info: false,
+            tab_stops: None,
         }
     }
 

@@ -1,5 +1,5 @@
 -- The default settings, and what two of the calls that change settings make of their argument.
-use Rattle.std.specs.Prelude.{◌≡◌, ℕ, Bool, true, false, Option, Some, None}
+use Rattle.std.specs.Prelude.{◌≡◌, ℕ, Bool, true, false, Option, Some, None, if◌then◌else◌}
 use Rattle.line_buffer.specs.declared.layout.GraphemeClusterMode.TheVariants.{Unicode}
 use Rattle.line_config.specs.declared.builder.Builder.{Builder}
 use Rattle.line_config.specs.declared.config.Config.{Config}
@@ -36,7 +36,12 @@ default_config = record {
   enable_signals = false;
   modal_commands = false;
   draw_colours = false;
+  draw_tabs = false;
 }
+
+-- how many columns apart the stops are, if tabs are drawn
+abbrev pub drawn_tab_stop : Config → Option ℕ
+drawn_tab_stop config = if config.draw_tabs then Some config.tab_stop else None
 
 -- a holder of settings is as before, except for the change of its settings
 abbrev pub Sets : {H : Type 0} → (H → Config) → (H → Config → H) → (Config → Config) → H → H

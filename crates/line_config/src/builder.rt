@@ -140,7 +140,7 @@ impl Builder {
         self
     }
 
-    /// Sets how many columns a tab takes. Sessions ignore this setting.
+    /// Sets how many columns apart the stops are up to which tabs are drawn, if they are.
     pub fn tab_stop(mut self, columns: u8) -> Self
         ensures { result ≡ built (record self.config { tab_stop = columns }) }
     {
@@ -194,6 +194,14 @@ impl Builder {
         ensures { result ≡ built (record self.config { draw_colours = yes }) }
     {
         self.set_draw_colours(yes);
+        self
+    }
+
+    /// Sets whether tabs are drawn as blanks.
+    pub fn draw_tabs(mut self, yes: bool) -> Self
+        ensures { result ≡ built (record self.config { draw_tabs = yes }) }
+    {
+        self.set_draw_tabs(yes);
         self
     }
 }

@@ -1,6 +1,6 @@
 //! The settings of an editor.
 ghost use Rattle.std.specs.Prelude.{◌≡◌};
-ghost use Rattle.line_config.specs.Config.{default_config};
+ghost use Rattle.line_config.specs.Config.{default_config, drawn_tab_stop};
 
 use crate::builder::Builder;
 use crate::settings::{
@@ -33,6 +33,7 @@ pub struct Config {
     pub(crate) enable_signals: bool,
     pub(crate) modal_commands: bool,
     pub(crate) draw_colours: bool,
+    pub(crate) draw_tabs: bool,
 }
 
 impl Config {
@@ -135,7 +136,7 @@ impl Config {
         self.behavior
     }
 
-    /// How many columns a tab takes. Sessions ignore this setting.
+    /// How many columns apart the stops are up to which tabs are drawn, if they are.
     pub fn tab_stop(&self) -> u8
         ensures { result ≡ self.now.tab_stop }
     {
@@ -191,6 +192,24 @@ impl Config {
     {
         self.draw_colours
     }
+
+    /// Whether a tab is drawn as blanks up to the next stop, and not as a question mark.
+    pub fn draw_tabs(&self) -> bool
+        ensures { result ≡ self.now.draw_tabs }
+    {
+        self.draw_tabs
+    }
+
+    /// How many columns apart the stops are, if tabs are drawn.
+    pub fn drawn_tab_stop(&self) -> Option<u8>
+        ensures { result ≡ drawn_tab_stop self.now }
+    {
+        if self.draw_tabs {
+            Some(self.tab_stop)
+        } else {
+            None
+        }
+    }
 }
 
 impl Default for Config {
@@ -219,6 +238,7 @@ impl Default for Config {
             enable_signals: false,
             modal_commands: false,
             draw_colours: false,
+            draw_tabs: false,
         }
     }
 }

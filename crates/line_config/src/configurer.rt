@@ -130,7 +130,7 @@ pub trait Configurer {
         self.config_mut().grapheme_cluster_mode = mode;
     }
 
-    /// Sets how many columns a tab takes. Sessions ignore this setting.
+    /// Sets how many columns apart the stops are up to which tabs are drawn, if they are.
     fn set_tab_stop(&mut self, columns: u8)
         ensures { Sets settings with_settings (λ c. record c { tab_stop = columns })
             self.old self.new }
@@ -194,6 +194,14 @@ pub trait Configurer {
             self.old self.new }
     {
         self.config_mut().draw_colours = yes;
+    }
+
+    /// Sets whether tabs are drawn as blanks.
+    fn set_draw_tabs(&mut self, yes: bool)
+        ensures { Sets settings with_settings (λ c. record c { draw_tabs = yes })
+            self.old self.new }
+    {
+        self.config_mut().draw_tabs = yes;
     }
 
     // Settings are read as they were set.

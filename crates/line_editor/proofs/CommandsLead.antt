@@ -243,10 +243,10 @@ complete_leads (Some reply) s v =
 -- ---- rows, or the history
 
 up_leads : (n : ℕ) (s : Setting) (v : Value) → Leads s v (line_up_or_previous n s v)
-up_leads n s v = either s v (is_some (line_up s.mode s.column n v.line)) _ _ (λ e. step_leads _ _ _ s v refl) (λ e. step_back_leads true s v)
+up_leads n s v = either s v (is_some (line_up s.mode s.tabs s.column n v.line)) _ _ (λ e. step_leads _ _ _ s v refl) (λ e. step_back_leads true s v)
 
 down_leads : (n : ℕ) (s : Setting) (v : Value) → Leads s v (line_down_or_next n s v)
-down_leads n s v = either s v (is_some (line_down s.mode s.column n v.line)) _ _ (λ e. step_leads _ _ _ s v refl) (λ e. step_back_leads false s v)
+down_leads n s v = either s v (is_some (line_down s.mode s.tabs s.column n v.line)) _ _ (λ e. step_leads _ _ _ s v refl) (λ e. step_back_leads false s v)
 
 -- ---- a copy
 

@@ -35,6 +35,7 @@ setting_by r prompt hooks marks entries = record {
   prompt = prompt;
   column = (r.measure prompt origin).col;
   mode = r.mode;
+  tabs = r.tabs;
   hooks = hooks;
   marks = if r.colours then marks else None;
   entries = entries;

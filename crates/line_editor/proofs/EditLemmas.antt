@@ -57,10 +57,10 @@ pub text_popped : (size : ℕ) (text : List ℕ) (s : Setting) (v : Value) → c
 text_popped size text s v is = ap (λ b. if b then then_do (rewriting (popping_in_group size text)) refreshed s v else unchanged s v) (sym is)
 
 -- a character is put in
-pub char_put : (c n : ℕ) (s : Setting) (v : Value) → is_some (insertion c n v.line).answer ≡ true → then_do (rewriting (typing c n)) (inserted_shown c (may_be_typed c n v)) s v ≡ insert_char c n s v
-char_put c n s v is = ap (λ b. if b then then_do (rewriting (typing c n)) (inserted_shown c (may_be_typed c n v)) s v else unchanged s (rewritten (by (typing c n)) v)) (sym is)
+pub char_put : (c n : ℕ) (s : Setting) (v : Value) → is_some (insertion c n v.line).answer ≡ true → then_do (rewriting (typing c n)) (inserted_shown c (may_be_typed (is_some s.tabs) c n v)) s v ≡ insert_char c n s v
+char_put c n s v is = ap (λ b. if b then then_do (rewriting (typing c n)) (inserted_shown c (may_be_typed (is_some s.tabs) c n v)) s v else unchanged s (rewritten (by (typing c n)) v)) (sym is)
 
-pub char_put_by : (c n : ℕ) (alone : Bool) (s : Setting) (v : Value) → is_some (insertion c n v.line).answer ≡ true → alone ≡ may_be_typed c n v
+pub char_put_by : (c n : ℕ) (alone : Bool) (s : Setting) (v : Value) → is_some (insertion c n v.line).answer ≡ true → alone ≡ may_be_typed (is_some s.tabs) c n v
     → then_do (rewriting (typing c n)) (inserted_shown c alone) s v ≡ insert_char c n s v
 char_put_by c n alone s v some is = ap (λ b. then_do (rewriting (typing c n)) (inserted_shown c b) s v) is ∙ char_put c n s v some
 
@@ -73,7 +73,7 @@ pub part_killed : (movement : Movement) (s : Setting) (v : Value) → is_some (r
 part_killed movement s v is = ap (λ b. if b then then_do (rewriting (killing movement)) (show_taken v) s v else unchanged s (rewritten (by (killing movement)) v)) (sym is)
 
 nothing_put : (c n : ℕ) (s : Setting) (v : Value) → is_some (insertion c n v.line).answer ≡ false → unchanged s (rewritten (by (typing c n)) v) ≡ insert_char c n s v
-nothing_put c n s v is = ap (λ b. if b then then_do (rewriting (typing c n)) (inserted_shown c (may_be_typed c n v)) s v else unchanged s (rewritten (by (typing c n)) v)) (sym is)
+nothing_put c n s v is = ap (λ b. if b then then_do (rewriting (typing c n)) (inserted_shown c (may_be_typed (is_some s.tabs) c n v)) s v else unchanged s (rewritten (by (typing c n)) v)) (sym is)
 
 -- ---- what an edit makes of a value
 

@@ -39,6 +39,7 @@ use Rattle.line_editor.specs.Sights.{Sight, sight_as, sight, sight_all, Fits, Fi
 use Rattle.line_editor.specs.Values.{Value, Setting, EditStep, Effect, Transition, unchanged, then_do, hint_reply, helped, rewritten, rewriting, at_line, with_mark}
 use Rattle.line_editor.specs.Values.EditStep.{Draws, Edits, TakesBack, Takes}
 use Rattle.line_editor.proofs.KillLemmas.{Low, cut_text, range_low}
+use Rattle.line_editor.proofs.SimpleLemmas.{typed_at_any}
 
 -- ---- one after the other
 
@@ -177,8 +178,8 @@ motion_leads (ViCharSearch n search) s v = found_leads (search_place search n v.
 motion_leads ViFirstPrint s v = first_print_leads s v
 motion_leads (BackwardChar n) s v = found_leads (place_backward n v.line) s v
 motion_leads (ForwardChar n) s v = found_leads (place_forward n v.line) s v
-motion_leads (LineUp n) s v = found_leads (line_up s.mode s.column n v.line) s v
-motion_leads (LineDown n) s v = found_leads (line_down s.mode s.column n v.line) s v
+motion_leads (LineUp n) s v = found_leads (line_up s.mode s.tabs s.column n v.line) s v
+motion_leads (LineDown n) s v = found_leads (line_down s.mode s.tabs s.column n v.line) s v
 motion_leads WholeBuffer s v = rest_leads s v v refl
 motion_leads BeginningOfBuffer s v = step_leads MoveCursor (not (v.line.place == 0)) (record v.line { place = 0 }) s v refl
 motion_leads EndOfBuffer s v = step_leads MoveCursor (not (v.line.place == length v.line.text)) (record v.line { place = length v.line.text }) s v refl
@@ -195,14 +196,14 @@ put_at_end text place added e =
     ∙ ap (λ xs. text ++ (added ++ xs)) (drop_all place text (omega arith))
     ∙ ap (λ xs. text ++ xs) (append-nil added)
 
-abbrev typed_alone : ℕ → ℕ → Value → Value → Bool
-typed_alone c n v w = may_be_typed c n v && is_bare w
+abbrev typed_alone : Bool → ℕ → ℕ → Value → Value → Bool
+typed_alone tabs c n v w = may_be_typed tabs c n v && is_bare w
 
-typed_by : (s : Setting) (c n : ℕ) (v w : Value) (b : Bool) → typed_alone c n v w ≡ b → (typed_alone c n v w ≡ true → w.line ≡ put_at_cursor (encode_utf8 c) v.line)
+typed_by : (s : Setting) (c n : ℕ) (v w : Value) (b : Bool) → typed_alone (is_some s.tabs) c n v w ≡ b → (typed_alone (is_some s.tabs) c n v w ≡ true → w.line ≡ put_at_cursor (encode_utf8 c) v.line)
     → Leads s v (record { value = w; steps = Draws w s.marks (if b then Typed s.prompt c w.line.text w.line.place else drawn s w) ∷ [] })
 typed_by s c n v w false e put info = record { fits = ((λ x. refl), tt); leads = refl }
 typed_by s c n v w true e put info =
-    let a = and_parts (may_be_typed c n v) (is_bare w) e in
+    let a = and_parts (may_be_typed (is_some s.tabs) c n v) (is_bare w) e in
     let b = and_parts (n == 1) _ a.0 in
     let typed = (and_parts (is_bare v) _ b.1).1 in
     let d = and_parts (is_printable c) _ typed in
@@ -217,7 +218,7 @@ typed_by s c n v w true e put info =
           refl,
           refl,
           record {
-            typed = typed;
+            typed = typed_at_any (is_some s.tabs) c v.line.text v.line.place typed;
             prompt_is = refl;
             text_is = text ∙ put_at_end v.line.text v.line.place (encode_utf8 c) end ∙ ap (λ x. v.line.text ++ x) one;
             behind = place ∙ ap (λ x. v.line.place + length x) one;
@@ -251,10 +252,10 @@ one_typed c n l false one h = cc
 pub insertion_leads : (c n : ℕ) (s : Setting) (v : Value) → Leads s v (insert_char c n s v)
 insertion_leads c n s v =
     let w = rewritten (by (typing c n)) v in
-    either s v (is_some (insertion c n v.line).answer) (then_do (rewriting (typing c n)) (inserted_shown c (may_be_typed c n v)) s v) (unchanged s w)
+    either s v (is_some (insertion c n v.line).answer) (then_do (rewriting (typing c n)) (inserted_shown c (may_be_typed (is_some s.tabs) c n v)) s v) (unchanged s w)
     (λ some. let asked = (asked_anew s w).value in
-    edit_leads (answering tt (typing c n v.line)) s v v (inserted_shown c (may_be_typed c n v) s w)
-    (help_leads w (hint_reply s w) s v (put_shown c (may_be_typed c n v) s asked) (typed_by s c n v asked (typed_alone c n v asked) refl (λ h. one_typed c n v.line (n == 1) (and_parts (n == 1) _ (and_parts (may_be_typed c n v) (is_bare asked) h).0).0 some))))
+    edit_leads (answering tt (typing c n v.line)) s v v (inserted_shown c (may_be_typed (is_some s.tabs) c n v) s w)
+    (help_leads w (hint_reply s w) s v (put_shown c (may_be_typed (is_some s.tabs) c n v) s asked) (typed_by s c n v asked (typed_alone (is_some s.tabs) c n v asked) refl (λ h. one_typed c n v.line (n == 1) (and_parts (n == 1) _ (and_parts (may_be_typed (is_some s.tabs) c n v) (is_bare asked) h).0).0 some))))
     (λ none. rest_leads s v w (no_typing c n v.line (n == 1) none))
 
 pub text_leads : (text : List ℕ) (s : Setting) (v : Value) → Leads s v (insert_text text s v)

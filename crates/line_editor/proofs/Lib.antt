@@ -29,6 +29,7 @@ pub mod ReturnLemmas
 pub mod RowLemmas
 mod Rows
 pub mod RunLemmas
+pub mod SimpleLemmas
 pub mod StopsLemmas
 pub mod ToldLemmas
 pub mod TurnLemmas

@@ -121,8 +121,8 @@ motion_keeps (ViCharSearch n search) s v = found_keeps (search_place search n v.
 motion_keeps ViFirstPrint s v = print_keeps s v
 motion_keeps (BackwardChar n) s v = found_keeps (place_backward n v.line) s v
 motion_keeps (ForwardChar n) s v = found_keeps (place_forward n v.line) s v
-motion_keeps (LineUp n) s v = found_keeps (line_up s.mode s.column n v.line) s v
-motion_keeps (LineDown n) s v = found_keeps (line_down s.mode s.column n v.line) s v
+motion_keeps (LineUp n) s v = found_keeps (line_up s.mode s.tabs s.column n v.line) s v
+motion_keeps (LineDown n) s v = found_keeps (line_down s.mode s.tabs s.column n v.line) s v
 motion_keeps WholeBuffer s v = same v
 motion_keeps BeginningOfBuffer s v = step_keeps MoveCursor (not (v.line.place == 0)) (record v.line { place = 0 }) s v refl
 motion_keeps EndOfBuffer s v = step_keeps MoveCursor (not (v.line.place == length v.line.text)) (record v.line { place = length v.line.text }) s v refl
@@ -358,9 +358,9 @@ command_held m EndOfHistory s text at v quiet inside h away = last_held s text a
 command_held m HistorySearchBackward s text at v quiet inside h away = cc
 command_held m HistorySearchForward s text at v quiet inside h away = cc
 command_held m (LineUpOrPreviousHistory n) s text at v quiet inside h away =
-    either_held s text at (is_some (line_up s.mode s.column n v.line)) _ _ (λ e. keeps_held s text at v _ h away (found_keeps (line_up s.mode s.column n v.line) s v)) (λ e. previous_held s text at v h away)
+    either_held s text at (is_some (line_up s.mode s.tabs s.column n v.line)) _ _ (λ e. keeps_held s text at v _ h away (found_keeps (line_up s.mode s.tabs s.column n v.line) s v)) (λ e. previous_held s text at v h away)
 command_held m (LineDownOrNextHistory n) s text at v quiet inside h away =
-    either_held s text at (is_some (line_down s.mode s.column n v.line)) _ _ (λ e. keeps_held s text at v _ h away (found_keeps (line_down s.mode s.column n v.line) s v)) (λ e. next_held s text at v inside h away)
+    either_held s text at (is_some (line_down s.mode s.tabs s.column n v.line)) _ _ (λ e. keeps_held s text at v _ h away (found_keeps (line_down s.mode s.tabs s.column n v.line) s v)) (λ e. next_held s text at v inside h away)
 
 ask_keeps : (ask : Ask) (s : Setting) (v : Value) → Keeps v (ask_effect ask s v).value
 ask_keeps LineAsked s v = kept refl refl refl

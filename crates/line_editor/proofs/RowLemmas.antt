@@ -41,7 +41,7 @@ module _ {Out H Hi K T : Type 0} {renderer : renderers.Renderer.Ghosts Out} {com
   pub up_cut : {A B : Type 0} (n : ℕ) (s t : State Out H Hi K T renderer completer candidate hinter hint highlighter validator history) (e : ReadlineError) (r : Result B ReadlineError)
       → IsErrAnd r (λ x. x ≡ e) → Does {A = A} (move_line_up n) s t (Err e) → Does (line_up_or_previous n) s t r
   up_cut {A} {B} n s t e r is h =
-      let found : Option ℕ = line_up (setting_of s).mode (setting_of s).column n s.recorded.line in
+      let found : Option ℕ = line_up (setting_of s).mode (setting_of s).tabs (setting_of s).column n s.recorded.line in
       subst (λ (x : Result B ReadlineError). Does (line_up_or_previous n) s t x) (sym (is_err e r is))
       (does_as {A = B} (either (is_some found) (to_found found) (history_step true)) (line_up_or_previous n) s t (Err e) refl
       (rows_cut {A = A} {B = B} found (history_step true) s t e (does_as {A = A} (move_line_up n) (to_found found) s t (Err e) refl h)))
@@ -49,7 +49,7 @@ module _ {Out H Hi K T : Type 0} {renderer : renderers.Renderer.Ghosts Out} {com
   pub down_cut : {A B : Type 0} (n : ℕ) (s t : State Out H Hi K T renderer completer candidate hinter hint highlighter validator history) (e : ReadlineError) (r : Result B ReadlineError)
       → IsErrAnd r (λ x. x ≡ e) → Does {A = A} (move_line_down n) s t (Err e) → Does (line_down_or_next n) s t r
   down_cut {A} {B} n s t e r is h =
-      let found : Option ℕ = line_down (setting_of s).mode (setting_of s).column n s.recorded.line in
+      let found : Option ℕ = line_down (setting_of s).mode (setting_of s).tabs (setting_of s).column n s.recorded.line in
       subst (λ (x : Result B ReadlineError). Does (line_down_or_next n) s t x) (sym (is_err e r is))
       (does_as {A = B} (either (is_some found) (to_found found) (history_step false)) (line_down_or_next n) s t (Err e) refl
       (rows_cut {A = A} {B = B} found (history_step false) s t e (does_as {A = A} (move_line_down n) (to_found found) s t (Err e) refl h)))

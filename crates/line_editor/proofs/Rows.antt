@@ -50,13 +50,14 @@ plain = record {
   rows = 24;
   colours = true;
   mode = Unicode;
+  tabs = None;
 }
 
 abbrev own : List ℕ
 own = codes "> "
 
 abbrev with_entries : List (List ℕ) → Setting
-with_entries entries = record { prompt = own; column = 2; mode = Unicode; hooks = None; marks = None; entries = entries }
+with_entries entries = record { prompt = own; column = 2; mode = Unicode; tabs = None; hooks = None; marks = None; entries = entries }
 
 abbrev typed : ℕ → KeyEvent
 typed c = key_with (Char c) none
@@ -84,6 +85,7 @@ laid given prompt cursor finish = record {
   cursor = at cursor;
   end = at finish;
   has_info = false;
+  tab_stops = None;
 }
 
 -- behind the session's own prompt, the cursor at the end

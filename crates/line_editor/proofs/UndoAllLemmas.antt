@@ -169,8 +169,8 @@ motion_reached (ViCharSearch n search) s v first r = found_reached (search_place
 motion_reached ViFirstPrint s v first r = print_reached s v first r
 motion_reached (BackwardChar n) s v first r = found_reached (place_backward n v.line) s v first r
 motion_reached (ForwardChar n) s v first r = found_reached (place_forward n v.line) s v first r
-motion_reached (LineUp n) s v first r = found_reached (line_up s.mode s.column n v.line) s v first r
-motion_reached (LineDown n) s v first r = found_reached (line_down s.mode s.column n v.line) s v first r
+motion_reached (LineUp n) s v first r = found_reached (line_up s.mode s.tabs s.column n v.line) s v first r
+motion_reached (LineDown n) s v first r = found_reached (line_down s.mode s.tabs s.column n v.line) s v first r
 motion_reached WholeBuffer s v first r = r
 motion_reached BeginningOfBuffer s v first r = step_reached MoveCursor (not (v.line.place == 0)) (record v.line { place = 0 }) s v first refl r
 motion_reached EndOfBuffer s v first r = step_reached MoveCursor (not (v.line.place == length v.line.text)) (record v.line { place = length v.line.text }) s v first refl r
@@ -361,8 +361,8 @@ command_reached m BeginningOfHistory s v first ok r = ends_reached true s v firs
 command_reached m EndOfHistory s v first ok r = ends_reached false s v first r
 command_reached m HistorySearchBackward s v first ok r = search_reached Reverse s v first r
 command_reached m HistorySearchForward s v first ok r = search_reached Forward s v first r
-command_reached m (LineUpOrPreviousHistory n) s v first ok r = either first (is_some (line_up s.mode s.column n v.line)) _ _ (found_reached (line_up s.mode s.column n v.line) s v first r) (history_reached true s v first r)
-command_reached m (LineDownOrNextHistory n) s v first ok r = either first (is_some (line_down s.mode s.column n v.line)) _ _ (found_reached (line_down s.mode s.column n v.line) s v first r) (history_reached false s v first r)
+command_reached m (LineUpOrPreviousHistory n) s v first ok r = either first (is_some (line_up s.mode s.tabs s.column n v.line)) _ _ (found_reached (line_up s.mode s.tabs s.column n v.line) s v first r) (history_reached true s v first r)
+command_reached m (LineDownOrNextHistory n) s v first ok r = either first (is_some (line_down s.mode s.tabs s.column n v.line)) _ _ (found_reached (line_down s.mode s.tabs s.column n v.line) s v first r) (history_reached false s v first r)
 command_reached m cmd s v first ok r = r
 
 ask_reached : (ask : Ask) (s : Setting) (v : Value) (first : List ℕ) → Reached first v → Reached first (ask_effect ask s v).value

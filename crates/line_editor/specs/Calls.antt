@@ -4,6 +4,7 @@ use Rattle.std.specs.Prelude.{◌≡◌, ◌⊎◌, ℕ, Bool, List, [], ◌∷�
 use Rattle.line_buffer.specs.declared.layout.GraphemeClusterMode.{GraphemeClusterMode}
 use Rattle.line_buffer.specs.declared.layout.Layout.{Layout}
 use Rattle.line_buffer.specs.declared.layout.Position.{Position}
+use Rattle.line_buffer.specs.declared.layout.TabStops.{TabStops}
 use Rattle.line_config.specs.declared.errors.ReadlineError.{ReadlineError}
 use Rattle.line_config.specs.declared.errors.ReadlineError.TheVariants.{Display}
 use Rattle.line_help.specs.Paints as help
@@ -37,6 +38,8 @@ pub record Ruler : Type 0 where
   pub rows : ℕ
   pub colours : Bool
   pub mode : GraphemeClusterMode
+  -- where tabs end, if they are drawn as blanks
+  pub tabs : Option TabStops
 
 -- what is known of a renderer: the effect of a call that succeeds, and of one that fails; whether
 -- its display has failed; and its measures

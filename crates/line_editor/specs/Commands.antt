@@ -50,11 +50,12 @@ in_vi_command m = is_vi_command m.mode m.input_mode
 -- up or down by rows; in the first row and in the last one, through the history
 abbrev pub line_up_or_previous : ℕ → Transition
 line_up_or_previous n s v =
-    if is_some (line_up s.mode s.column n v.line) then move_line_up n s v else history_step true s v
+    if is_some (line_up s.mode s.tabs s.column n v.line) then move_line_up n s v
+    else history_step true s v
 
 abbrev pub line_down_or_next : ℕ → Transition
 line_down_or_next n s v =
-    if is_some (line_down s.mode s.column n v.line) then move_line_down n s v
+    if is_some (line_down s.mode s.tabs s.column n v.line) then move_line_down n s v
     else history_step false s v
 
 abbrev pub effect : Means → Cmd → Transition

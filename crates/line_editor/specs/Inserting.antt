@@ -3,7 +3,7 @@ use Rattle.std.specs.Prelude.{ℕ, ◌==◌, ◌&&◌, not, Bool, if◌then◌el
 use Rattle.line_buffer.specs.Clusters.{place_forward}
 use Rattle.line_buffer.specs.Insertions.{insert as insertion}
 use Rattle.line_edits.specs.Edits.{typing, putting_behind, replacing_if_any, overwriting, by}
-use Rattle.line_buffer.specs.Printable.{typed_at_plain_end}
+use Rattle.line_buffer.specs.Printable.{typed_at_end}
 use Rattle.line_editor.specs.Drawing.{drawn, asked_anew, refreshed, refreshed_if}
 use Rattle.line_editor.specs.Redraws.Redraw.{Typed}
 use Rattle.line_editor.specs.Values.{Value, Transition, unchanged, then_do, redrawn, rewritten, rewriting}
@@ -13,10 +13,10 @@ abbrev pub is_bare : Value → Bool
 is_bare v = not (is_some v.hint) && not v.marked
 
 -- whether a character's byte alone may show it: a single printable character, typed at the end of a
--- plain line that is bare
-abbrev pub may_be_typed : ℕ → ℕ → Value → Bool
-may_be_typed c n v =
-    (n == 1) && (is_bare v && typed_at_plain_end c v.line.text v.line.place)
+-- line that is bare and plain, or has tabs if these are drawn
+abbrev pub may_be_typed : Bool → ℕ → ℕ → Value → Bool
+may_be_typed tabs c n v =
+    (n == 1) && (is_bare v && typed_at_end tabs c v.line.text v.line.place)
 
 -- the drawing of an inserted character: its byte, if that alone may show it and the line is still
 -- bare
@@ -32,7 +32,8 @@ inserted_shown c alone = then_do asked_anew (put_shown c alone)
 abbrev pub insert_char : ℕ → ℕ → Transition
 insert_char c n s v =
     if is_some (insertion c n v.line).answer
-    then then_do (rewriting (typing c n)) (inserted_shown c (may_be_typed c n v)) s v
+    then then_do (rewriting (typing c n))
+    (inserted_shown c (may_be_typed (is_some s.tabs) c n v)) s v
     else unchanged s (rewritten (by (typing c n)) v)
 
 -- a text inserted at the cursor, which stays before it

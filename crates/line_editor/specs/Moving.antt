@@ -47,10 +47,10 @@ abbrev pub move_to : CharSearch → ℕ → Transition
 move_to search n s v = to_found (search_place search n v.line) s v
 
 abbrev pub move_line_up : ℕ → Transition
-move_line_up n s v = to_found (line_up s.mode s.column n v.line) s v
+move_line_up n s v = to_found (line_up s.mode s.tabs s.column n v.line) s v
 
 abbrev pub move_line_down : ℕ → Transition
-move_line_down n s v = to_found (line_down s.mode s.column n v.line) s v
+move_line_down n s v = to_found (line_down s.mode s.tabs s.column n v.line) s v
 
 abbrev pub move_home : Transition
 move_home s v = to_place MoveCursor (row_start v.line.text v.line.place) s v

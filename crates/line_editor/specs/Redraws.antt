@@ -43,6 +43,7 @@ fresh mode = record {
   cursor = origin;
   end = origin;
   has_info = false;
+  tab_stops = None;
 }
 
 -- the end is measured for the whole line
@@ -54,6 +55,7 @@ layout_of r start given text place info = record {
   cursor = r.measure (take place text) start;
   end = r.measure (info_text info) (r.measure text start);
   has_info = is_some info;
+  tab_stops = r.tabs;
 }
 
 -- highlighted by these marks, if there are any

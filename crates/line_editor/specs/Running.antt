@@ -38,6 +38,7 @@ setting_by r prompt helping entries = record {
   prompt = prompt;
   column = (r.measure prompt origin).col;
   mode = r.mode;
+  tabs = r.tabs;
   hooks = helping.hooks;
   marks = if r.colours then helping.marks else None;
   entries = entries;

@@ -1,7 +1,7 @@
 -- What steps show, without a screen.
 use Rattle.std.specs.Prelude.{◌≡◌, ⊤, ℕ, ◌+◌, Bool, true, false, List, [], ◌∷◌, ◌++◌, length, Option, None}
 use Rattle.std.specs.List.{list_all}
-use Rattle.line_buffer.specs.Printable.{is_printable, at_plain_end, typed_at_plain_end}
+use Rattle.line_buffer.specs.Printable.{is_printable, at_plain_end, typed_at_end}
 use Rattle.line_editor.specs.Redraws.{Redraw}
 use Rattle.line_editor.specs.Redraws.Redraw.{Drawn, Moved, Typed, Taken, Bared, ToEnd, Beeped, Cleared}
 use Rattle.line_editor.specs.Values.{Value, Setting, EditStep}
@@ -57,7 +57,7 @@ sight x step = x
 
 pub record TypedFits (x : Sight) (prompt : List ℕ) (c : ℕ) (text : List ℕ)
     (place : ℕ) : Type 0 where
-  pub typed : typed_at_plain_end c x.line x.place ≡ true
+  pub typed : typed_at_end true c x.line x.place ≡ true
   pub prompt_is : prompt ≡ x.prompt
   pub text_is : text ≡ x.line ++ c ∷ []
   pub behind : place ≡ x.place + 1

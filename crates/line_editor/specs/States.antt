@@ -76,6 +76,7 @@ module _ {Out H Hi K T : Type 0} {renderer : renderers.Ghosts Out}
     prompt = s.prompt.now;
     column = ((renderer.canvas.ruler s.out).measure s.prompt.now origin).col;
     mode = (renderer.canvas.ruler s.out).mode;
+    tabs = (renderer.canvas.ruler s.out).tabs;
     hooks = option_map (hooks_of completer hinter validator) s.helper;
     marks =
         if (renderer.canvas.ruler s.out).colours then option_map highlighter.marks s.helper

@@ -2,6 +2,7 @@
 use Rattle.std.specs.Prelude.{◌⊎◌, ⊤, ℕ, Bool, true, false, List, [], ◌∷◌, ◌++◌, Option, Some, None, is_some, not, length, ◌==◌, if◌then◌else◌, option_map, IsTrue, IsSomeAnd}
 use Rattle.line_buffer.specs.Line.{Line}
 use Rattle.line_buffer.specs.declared.layout.GraphemeClusterMode.{GraphemeClusterMode}
+use Rattle.line_buffer.specs.declared.layout.TabStops.{TabStops}
 use Rattle.line_edits.specs.Edits.{by}
 use Rattle.line_edits.specs.Steps.{WriteSteps, answering}
 use Rattle.line_edits.specs.Written.{Written, group_opened, group_closed}
@@ -63,10 +64,11 @@ hooks_by hint_of verdict_of completion_of update_of helper = record {
 
 pub record Setting : Type 0 where
   pub prompt : List ℕ
-  -- the column at which the prompt ends, and how clusters are counted: what motions up and down use
-  -- of the display
+  -- the column at which the prompt ends, how clusters are counted, and where tabs end: what motions
+  -- up and down use of the display
   pub column : ℕ
   pub mode : GraphemeClusterMode
+  pub tabs : Option TabStops
   -- of the helper, if there is one; what it highlights only if the display has colours
   pub hooks : Option Hooks
   pub marks : Option Marks

@@ -181,6 +181,7 @@ impl<'p, 'h, Out: Renderer, H: Helper + Drop, Hi: History> State<'p, 'h, Out, H,
 
 /// Runs a command. `Eof` and `Interrupted` are a command's ways to end the line. Any other error is
 /// a fault; after it the state's text and record still fit each other.
+#[inline(always)]
 pub fn execute<'p, 'h, Out: Renderer, H: Helper + Drop, Hi: History, D: Decides>(
     cmd: Cmd,
     s: &mut State<'p, 'h, Out, H, Hi>,

@@ -1,11 +1,11 @@
 //! Inserts characters and texts.
-ghost use Rattle.std.specs.Prelude.{◌≡◌};
-ghost use Rattle.line_buffer.specs.Printable.{at_plain_end};
+ghost use Rattle.std.specs.Prelude.{◌≡◌, is_some};
+ghost use Rattle.line_buffer.specs.Printable.{at_plain_end, at_simple_end};
 
 use crate::measured::known_within;
 use crate::renderer::Renderer;
 use crate::state::State;
-use line_buffer::{RepeatCount, is_printable};
+use line_buffer::{RepeatCount, is_printable, is_simple};
 use line_config::ReadlineError;
 use line_help::{Helper, History};
 
@@ -28,12 +28,23 @@ impl<'p, 'h, Out: Renderer, H: Helper + Drop, Hi: History> State<'p, 'h, Out, H,
         self.recorded.line.is_cursor_at_end() && self.recorded.plain
     }
 
-    /// Whether a character's byte alone may show it: a single printable character, typed at the end
-    /// of a plain line that is bare.
-    fn may_be_typed(&self, ch: char, n: RepeatCount) -> bool
-        ensures { result ≡ may_be_typed ch n (value_of self.now) }
+    /// Whether the cursor is at the end of a plain text, or one with tabs if these are drawn.
+    fn is_at_simple_end(&self) -> bool
+        ensures { result ≡ at_simple_end (is_some (setting_of self.now).tabs)
+            self.now.recorded.line.text self.now.recorded.line.place }
     {
-        n == 1 && (self.is_bare() && (is_printable(ch) && self.is_at_plain_end()))
+        self.recorded.line.is_cursor_at_end()
+            && (self.recorded.plain
+                || self.out.tab_stops().is_some() && is_simple(self.recorded.line.as_str()))
+    }
+
+    /// Whether a character's byte alone may show it: a single printable character, typed at the end
+    /// of a line that is bare and plain, or has tabs if these are drawn.
+    fn may_be_typed(&self, ch: char, n: RepeatCount) -> bool
+        ensures { result ≡ may_be_typed (is_some (setting_of self.now).tabs) ch n
+            (value_of self.now) }
+    {
+        n == 1 && (self.is_bare() && (is_printable(ch) && self.is_at_simple_end()))
     }
 
     /// Shows an inserted character, with a new hint. It writes its byte alone if that may show it

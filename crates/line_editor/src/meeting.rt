@@ -399,6 +399,19 @@ impl<'p, 'h, Out: Renderer, H: Helper + Drop, Hi: History> State<'p, 'h, Out, H,
         ensures { MeetsBy cmd.now self.old (modal_of modal.old) self.new (modal_of modal.new)
             result }
     {
+        if let Standing::Off = modal.standing {
+            return Ok(Next::Same);
+        }
+        self.met_on(modal, cmd)
+    }
+
+    /// The same if something may stand there. Not inlined: each key would cost more even if the
+    /// setting is off.
+    #[inline(never)]
+    fn met_on(&mut self, modal: &mut ModalState, cmd: &Cmd) -> Result<Next, ReadlineError>
+        ensures { MeetsBy cmd.now self.old (modal_of modal.old) self.new (modal_of modal.new)
+            result }
+    {
         match modal.standing {
             Standing::Off => Ok(Next::Same),
             Standing::Rests => self.met_resting(modal, wish_of(cmd), cmd),

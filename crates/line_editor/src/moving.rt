@@ -138,21 +138,21 @@ impl<'p, 'h, Out: Renderer, H: Helper + Drop, Hi: History> State<'p, 'h, Out, H,
     /// The layout after the session's own prompt. Motions by rows use the prompt's end.
     fn prompt_layout(&self) -> Layout
         ensures mode { result.grapheme_cluster_mode ≡ (setting_of self.now).mode }
+        ensures tabs { result.tab_stops ≡ (setting_of self.now).tabs }
         ensures column { result.prompt_size.col ≡ (setting_of self.now).column }
     {
         let origin = Position { col: 0, row: 0 };
         let mut layout = Layout::new(self.out.grapheme_cluster_mode());
         layout.prompt_size = self.out.calculate_position(self.prompt, origin);
+        layout.tab_stops = self.out.tab_stops();
         layout
     }
 
     /// Moves up by rows. Returns false in the first row.
     pub fn edit_move_line_up(&mut self, n: RepeatCount) -> Result<bool, ReadlineError>
         ensures does { Does (move_line_up n) self.old self.new result }
-        ensures answer { IfOk result
-            (λ b. b ≡ is_some
-            (line_up (setting_of self.old).mode (setting_of self.old).column n
-            self.old.recorded.line)) }
+        ensures answer { let s = setting_of self.old in IfOk result
+            (λ b. b ≡ is_some (line_up s.mode s.tabs s.column n self.old.recorded.line)) }
     {
         let layout = self.prompt_layout();
         let recorded = &mut self.recorded;
@@ -166,10 +166,8 @@ impl<'p, 'h, Out: Renderer, H: Helper + Drop, Hi: History> State<'p, 'h, Out, H,
     /// Moves down by rows. Returns false in the last row.
     pub fn edit_move_line_down(&mut self, n: RepeatCount) -> Result<bool, ReadlineError>
         ensures does { Does (move_line_down n) self.old self.new result }
-        ensures answer { IfOk result
-            (λ b. b ≡ is_some
-            (line_down (setting_of self.old).mode (setting_of self.old).column n
-            self.old.recorded.line)) }
+        ensures answer { let s = setting_of self.old in IfOk result
+            (λ b. b ≡ is_some (line_down s.mode s.tabs s.column n self.old.recorded.line)) }
     {
         let layout = self.prompt_layout();
         let recorded = &mut self.recorded;

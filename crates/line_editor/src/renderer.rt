@@ -8,7 +8,7 @@ ghost use Rattle.line_editor.specs.Calls.Call.{Draw, Move, Write, Beep, ClearScr
 ghost use Rattle.line_editor.specs.Redraws.{layout_of};
 ghost use Rattle.line_editor.specs.Values.{seen};
 
-use line_buffer::{GraphemeClusterMode, Layout, LineBuffer, Position, Unit};
+use line_buffer::{GraphemeClusterMode, Layout, LineBuffer, Position, TabStops, Unit};
 use line_config::ReadlineError;
 use line_help::Highlighter;
 
@@ -118,6 +118,10 @@ pub trait Renderer: Drop {
     fn grapheme_cluster_mode(&self) -> GraphemeClusterMode
         ensures { result ≡ (canvas.ruler self.now).mode };
 
+    /// Where tabs end, if they are drawn as blanks.
+    fn tab_stops(&self) -> Option<TabStops>
+        ensures { result ≡ (canvas.ruler self.now).tabs };
+
     /// Where the drawing of a text ends that starts at a place.
     fn calculate_position(&self, text: &str, orig: Position) -> Position
         ensures { result ≡ (canvas.ruler self.now).measure text.now orig };
@@ -171,6 +175,7 @@ pub trait Renderer: Drop {
             cursor,
             end,
             has_info,
+            tab_stops: self.tab_stops(),
         }
     }
 }

@@ -18,7 +18,8 @@ impl<'p, 'h, Out: Renderer, H: Helper + Drop, Hi: History> State<'p, 'h, Out, H,
     ghost use Rattle.line_editor.specs.Modal.{modal_of};
     ghost use Rattle.line_editor.specs.Turning.{Takes};
 
-    /// One turn: the next command and its effect.
+    /// One turn: the next command and its effect. It is inlined into the loop over the turns.
+    #[inline(always)]
     pub(crate) fn turn<R: RawReader, D: Decides>(
         &mut self,
         input_state: &mut InputState<'_, D>,

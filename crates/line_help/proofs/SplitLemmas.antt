@@ -7,7 +7,7 @@ use Rattle.std.proofs.lemmas.Str.{IsCharBoundary-after_ascii}
 use Rattle.std.proofs.lemmas.Grind.{common_steps}
 use Rattle.std.proofs.lemmas.List.{append-nil, length-replicate, replicate-append-replicate}
 use Rattle.std.proofs.lemmas.List.Sums.{sum_by-cons}
-use Rattle.std.specs.Prelude.{sum_by}
+use Rattle.std.specs.Prelude.{IfErr, Result, Ok, Err, sum_by}
 use Rattle.std.specs.Int.{is_in_range}
 use Rattle.std.specs.Bool.{Decides}
 use Rattle.line_help.specs.declared.style.Colour.{Colour}
@@ -344,6 +344,31 @@ pub last_styles : (old : List Style) (s : Style) (rest : List ℕ) → NoEscape 
 last_styles old s rest none =
     ap (λ text. old ++ styles_of s (pieces_after 0 text)) (sym (append-nil rest)) ∙ styles_step old s rest [] none
     ∙ append-nil (old ++ replicate (length rest) s)
+
+-- ---- what is left of a text
+
+pub if_err : {A E P : Type 0} (result : Result A E) → P → IfErr result (λ e. P)
+if_err (Ok value) p = tt
+if_err (Err e) p = p
+
+length_first : (old front tail : List ℕ) → 0 < length front → 0 < length ((old ++ front) ++ tail)
+length_first old front tail some =
+    rw (length-append (old ++ front) tail, length-append old front) (omega (arith, some))
+
+pub some_left : (whole old rest front tail : List ℕ) → text_of (pieces_after 0 whole) ≡ old ++ text_of (pieces_after 0 rest) → rest ≡ front ++ tail
+    → NoEscape front → 0 < length front → 0 < length (text_of (pieces_after 0 whole))
+some_left whole old rest front tail left split none some =
+    rw (left, split, text_step old front tail none) (length_first old front (text_of (pieces_after 0 tail)) some)
+
+pub escape_left : (whole old rest front after : List ℕ) → text_of (pieces_after 0 whole) ≡ old ++ text_of (pieces_after 0 rest)
+    → rest ≡ front ++ (0x1B ∷ after) → NoEscape front → sequence_len 0x1B after ≡ 0 → 0 < length (text_of (pieces_after 0 whole))
+escape_left whole old rest front after left split none lone =
+    rw (left ∙ escape_text old rest front after split none lone)
+    (length_first (old ++ front) (0x1B ∷ []) (text_of (pieces_after 0 after)) (omega arith))
+
+pub last_left : (whole old rest : List ℕ) → text_of (pieces_after 0 whole) ≡ old ++ text_of (pieces_after 0 rest) → NoEscape rest → 0 < length rest
+    → 0 < length (text_of (pieces_after 0 whole))
+last_left whole old rest left none some = some_left whole old rest rest [] left (sym (append-nil rest)) none some
 
 -- ---- laws
 

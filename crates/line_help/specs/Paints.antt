@@ -1,12 +1,12 @@
 -- Styles of drawn texts: the spans of a text, one after another.
-use Rattle.std.specs.Prelude.{◌≡◌, ℕ, ◌==◌, ◌&&◌, nat_lt, Bool, true, false, if◌then◌else◌, List, [], ◌∷◌, length, Option, Some, None, is_some, option_map}
+use Rattle.std.specs.Prelude.{◌≡◌, ℕ, ◌==◌, ◌&&◌, nat_lt, Bool, true, false, if◌then◌else◌, List, [], ◌∷◌, drop, length, Option, Some, None, is_some, option_map}
 use Rattle.std.specs.List.{position_or_len}
 use Rattle.line_keys.specs.declared.command.CmdKind.{CmdKind}
 use Rattle.line_help.specs.declared.style.Colour.TheVariants.{Terminal, Basic}
 use Rattle.line_help.specs.declared.style.Hue.TheVariants.{Blue, Red}
 use Rattle.line_help.specs.declared.style.Mark.{Mark}
 use Rattle.line_help.specs.declared.style.Part.{Part}
-use Rattle.line_help.specs.declared.style.Part.TheVariants.{Line, Hint, Message}
+use Rattle.line_help.specs.declared.style.Part.TheVariants.{Prompt, Line, Hint, Message}
 use Rattle.line_help.specs.declared.style.Span.{Span}
 use Rattle.line_help.specs.declared.style.Style.{Style}
 use Rattle.line_help.specs.Brackets.{bracket_to_match}
@@ -124,3 +124,20 @@ standard_marks = record {
   marked = λ line pos kind. is_some (kept_bracket line pos kind);
   paints = standard_paints;
 }
+
+-- ---- a prompt with styles
+
+-- the spans of the line's own prompt, and a highlighter for everything else
+pub record Prompted (H : Type 0) : Type 0 where
+  pub spans : List Span
+  pub others : H
+
+-- the mark's state is the number of the prompt's spans before it
+abbrev pub prompt_paints : List Span → (Part → List ℕ → Mark → List Span) → Part → List ℕ → Mark
+    → List Span
+prompt_paints spans others (Prompt true) text from = drop from.state spans
+prompt_paints spans others part text from = others part text from
+
+abbrev pub prompt_marks : List Span → Marks → Marks
+prompt_marks spans others =
+    record { marked = others.marked; paints = prompt_paints spans others.paints }

@@ -92,12 +92,13 @@ pub enum Part {
 
 /// What a highlighter notes for its next span.
 ///
-/// A text's spans are asked for one at a time, so a highlighter needs no memory for them. The first
-/// call of `next_span` has `Mark::first()`. Each further call has the mark that came with the span
-/// before, until a call returns `None`. Only the highlighter reads `at` and `state`: mostly the
-/// number of bytes before the next span, and what is known of the text there. To implement
-/// `next_span`, define which spans follow each mark (`paints` of `Marks`). The call returns the
-/// first of them and a mark that the others follow. There are finitely many, so the calls end.
+/// A text's spans are asked for one at a time, so a highlighter needs no memory for them. A call of
+/// `next_span` has `Mark::first()` or a mark that came with a span, and may come again: a drawing
+/// goes back to an earlier mark, and may end before a call returns `None`. Only the highlighter
+/// reads `at` and `state`: mostly the number of bytes before the next span, and what is known of
+/// the text there. To implement `next_span`, define which spans follow each mark (`paints` of
+/// `Marks`). The call returns the first of them and a mark that the others follow. There are
+/// finitely many, so a drawing ends.
 ///
 /// In the line `(a)`, with the cursor at 0, `MatchingBracketHighlighter` returns:
 ///

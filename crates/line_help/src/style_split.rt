@@ -1,7 +1,7 @@
 //! Splits a text with control sequences into the text without them and its styles.
-ghost use Rattle.std.specs.Prelude.{◌≡◌, ◌≤◌, ◌≢◌, ℕ, ⊤, List, ◌∷◌, ◌++◌, IfOk, OnOk, length, replicate, string_bytes, IsTrue};
+ghost use Rattle.std.specs.Prelude.{◌≡◌, ◌≤◌, ◌≢◌, ℕ, ⊤, List, ◌∷◌, ◌++◌, ◌<◌, IfErr, IfOk, OnOk, length, replicate, string_bytes, IsTrue};
 ghost use Rattle.std.specs.Bool.{Decides};
-ghost use Rattle.line_help.specs.SplitStyles.{Splits, TextStays, SpansFit, SplitsSequence, Stands, Differ, final_len, hue_at, hue_number, colour_at, bright_at, with_colour, with_colour_number, with_number, palette, rgb, changed_by, open_numbers, style_after, styles_so_far, same_colour};
+ghost use Rattle.line_help.specs.SplitStyles.{Splits, pieces_after, text_of, TextStays, SpansFit, SplitsSequence, Stands, Differ, final_len, hue_at, hue_number, colour_at, bright_at, with_colour, with_colour_number, with_number, palette, rgb, changed_by, open_numbers, style_after, styles_so_far, same_colour};
 
 use crate::style::{Colour, Hue, Span, Style};
 use std::alloc::{AllocError, Global};
@@ -291,6 +291,7 @@ impl Split {
     fn turn(&mut self, style: Style) -> Result<(), AllocError>
         requires { Stands (length (string_bytes self.old.text)) self.old.start
             self.old.spans.items self.old.style }
+        ensures memory { IfErr result (λ e. 0 < length (string_bytes self.old.text)) }
         ensures text { string_bytes self.new.text ≡ string_bytes self.old.text }
         ensures start { OnOk result (self.new.start ≤ length (string_bytes self.new.text)) }
         ensures style { OnOk result (self.new.style ≡ style) }
@@ -319,6 +320,7 @@ impl Split {
     fn put(&mut self, text: &str, style: Style) -> Result<(), AllocError>
         requires { Stands (length (string_bytes self.old.text)) self.old.start
             self.old.spans.items self.old.style }
+        ensures memory { IfErr result (λ e. 0 < length text.now) }
         ensures text { OnOk result
             (string_bytes self.new.text ≡ string_bytes self.old.text ++ text.now) }
         ensures stands { OnOk result (Stands (length (string_bytes self.new.text)) self.new.start
@@ -344,9 +346,11 @@ impl Split {
 ///
 /// Other control sequences, which begin with `ESC [` too, are dropped: they take no column and mean
 /// nothing in a line. Any other ESC stays in the text, also one whose sequence has no end: what
-/// belongs to it isn't known, and a screen draws it as `?`, so that it can be seen.
+/// belongs to it isn't known, and a screen draws it as `?`, so that it can be seen. Memory runs out
+/// only if some of the text is left.
 pub fn split_styles(alloc: Global, shown: &str) -> Result<(String, Vec<Span>), AllocError>
-    ensures { IfOk result (λ split. Splits shown.now (string_bytes split.0) split.1.items) }
+    ensures parts { IfOk result (λ split. Splits shown.now (string_bytes split.0) split.1.items) }
+    ensures memory { IfErr result (λ e. 0 < length (text_of (pieces_after 0 shown.now))) }
 {
     let mut split = Split {
         text: String::new(alloc),

@@ -1,12 +1,12 @@
 -- What the loops over spans send.
-use Rattle.std.proofs.Common.{◌≡◌, ℕ, ◌+◌, ◌<◌, ◌≤◌, ◌==◌, nat_le, Bool, true, false, List, [], ◌∷◌, ◌++◌, ◌-◌, map, length, take, drop, take_at, drop_at, length-append, if◌then◌else◌, min, get_or, Option, Some, None, zero, suc, inl, inr, refl, sym, ap, ◌∙◌, arith, take_all, add-one, drop-cons}
+use Rattle.std.proofs.Common.{◌≡◌, ℕ, ◌+◌, ◌<◌, ◌≤◌, ◌==◌, nat_le, Bool, true, false, List, [], ◌∷◌, ◌++◌, ◌-◌, map, length, take, drop, take_at, drop_at, length-append, if◌then◌else◌, min, get_or, Some, None, zero, suc, inl, inr, refl, sym, ap, ◌∙◌, arith, take_all, add-one, drop-cons}
 use Rattle.std.specs.List.{concat}
 use Rattle.std.proofs.lemmas.Bool.{eqb-true, leb-true}
 use Rattle.line_screen.specs.Styles.{numbers}
 use Rattle.line_screen.proofs.SequenceLemmas.{by_test}
 use Rattle.std.proofs.lemmas.Bool.Decides.{nat_tests}
 use Rattle.std.proofs.lemmas.List.{drop_all}
-use Rattle.line_screen.specs.Drawing.{is_letter, split_rows}
+use Rattle.line_screen.specs.Drawing.{Widths, is_letter, split_rows}
 use Rattle.line_screen.specs.Colours.{Span, span_of, spans_from, spans_in, skip, PaintedItem, shaded, painted_letters, painted_after, painted_clusters, painted_rows, painted_behind, next_painted, spans_behind, bare_letters}
 use Rattle.line_screen.specs.declared.drawing.painted.Spans as spans
 use Rattle.line_help.specs.declared.style.Span as span
@@ -70,7 +70,7 @@ no_letters spans [] none = no_letter_left spans
 no_letters spans (c ∷ letters) none = let zero = eqb-true (length (c ∷ letters)) 0 (sym none) in absurd (omega arith)
 
 -- the next cluster is no letter
-pub next_other : (wide : List ℕ → Option ℕ) (spans later : List Span) (letters g : List ℕ) (before left : List (List ℕ)) → before ≡ g ∷ left → is_letter g ≡ false → later ≡ skip (length g) (skip (length letters) spans)
+pub next_other : (wide : Widths) (spans later : List Span) (letters g : List ℕ) (before left : List (List ℕ)) → before ≡ g ∷ left → is_letter g ≡ false → later ≡ skip (length g) (skip (length letters) spans)
     → painted_clusters wide spans letters before ≡ painted_after wide spans letters g ++ painted_clusters wide later [] left
 next_other wide spans later letters g before left is other later_is =
     ap (painted_clusters wide spans letters) is
@@ -96,23 +96,23 @@ module _ (rest tail : List ℕ) (left : List (List ℕ)) (Holds : List ℕ → T
 
 -- ---- rows
 
-abbrev pub painted_left : (List ℕ → Option ℕ) → Bool → List Span → List (List ℕ) → List PaintedItem
+abbrev pub painted_left : Widths → Bool → List Span → List (List ℕ) → List PaintedItem
 painted_left wide true spans rows = painted_rows wide spans rows
 painted_left wide false spans rows = painted_behind wide spans rows
 
-abbrev pub painted_from : (List ℕ → Option ℕ) → List ℕ → Bool → List Span → ℕ → List PaintedItem
+abbrev pub painted_from : Widths → List ℕ → Bool → List Span → ℕ → List PaintedItem
 painted_from wide text is_first spans n = painted_left wide is_first spans (drop n (split_rows text))
 
-row_step : (wide : List ℕ → Option ℕ) (is_first : Bool) (spans : List Span) (row : List ℕ) (rows : List (List ℕ))
+row_step : (wide : Widths) (is_first : Bool) (spans : List Span) (row : List ℕ) (rows : List (List ℕ))
     → painted_left wide is_first spans (row ∷ rows) ≡ next_painted wide is_first spans row ++ painted_left wide false (spans_behind is_first spans row) rows
 row_step wide true spans row rows = refl
 row_step wide false spans row rows = refl
 
-row_none : (wide : List ℕ → Option ℕ) (is_first : Bool) (spans : List Span) → painted_left wide is_first spans [] ≡ []
+row_none : (wide : Widths) (is_first : Bool) (spans : List Span) → painted_left wide is_first spans [] ≡ []
 row_none wide true spans = refl
 row_none wide false spans = refl
 
-pub rows_take : (wide : List ℕ → Option ℕ) (text : List ℕ) (is_first : Bool) (spans later : List Span) (n m : ℕ) (row : List ℕ) → n < length (split_rows text) → row ≡ get_or (split_rows text) n row → m ≡ n + 1 → later ≡ spans_behind is_first spans row
+pub rows_take : (wide : Widths) (text : List ℕ) (is_first : Bool) (spans later : List Span) (n m : ℕ) (row : List ℕ) → n < length (split_rows text) → row ≡ get_or (split_rows text) n row → m ≡ n + 1 → later ≡ spans_behind is_first spans row
     → painted_from wide text is_first spans n ≡ next_painted wide is_first spans row ++ painted_from wide text false later m
 rows_take wide text is_first spans later n m row low is more later_is =
     let rest : drop (n + 1) (split_rows text) ≡ drop m (split_rows text) = ap (λ k. drop k (split_rows text)) (sym more) in
@@ -120,5 +120,5 @@ rows_take wide text is_first spans later n m row low is more later_is =
     ap (painted_left wide is_first spans) (split ∙ ap (λ rs. row ∷ rs) rest) ∙ row_step wide is_first spans row (drop m (split_rows text))
     ∙ ap (λ ss. next_painted wide is_first spans row ++ painted_left wide false ss (drop m (split_rows text))) (sym later_is)
 
-pub rows_end : (wide : List ℕ → Option ℕ) (text : List ℕ) (is_first : Bool) (spans : List Span) (n : ℕ) → drop n (split_rows text) ≡ [] → painted_from wide text is_first spans n ≡ []
+pub rows_end : (wide : Widths) (text : List ℕ) (is_first : Bool) (spans : List Span) (n : ℕ) → drop n (split_rows text) ≡ [] → painted_from wide text is_first spans n ≡ []
 rows_end wide text is_first spans n h = ap (painted_left wide is_first spans) h ∙ row_none wide is_first spans

@@ -1,11 +1,12 @@
 -- Calls without a highlighter begin no style.
-use Rattle.std.proofs.Common.{◌≡◌, ◌≢◌, ℕ, ◌+◌, ◌-◌, ◌%◌, ◌/◌, ◌^◌, ◌<◌, ◌≤◌, ◌==◌, nat_lt, nat_le, Bool, true, false, List, [], ◌∷◌, ◌++◌, take, decimal, Option, Some, None, inl, inr, refl, sym, ap, ◌∙◌, subst, arith, if◌then◌else◌}
+use Rattle.std.proofs.Common.{◌≡◌, ◌≢◌, ℕ, ◌+◌, ◌-◌, ◌%◌, ◌/◌, ◌^◌, ◌<◌, ◌≤◌, ◌==◌, nat_lt, nat_le, Bool, true, false, List, [], ◌∷◌, ◌++◌, take, decimal, Option, Some, None, inl, inr, zero, suc, refl, sym, ap, ◌∙◌, subst, arith, if◌then◌else◌}
 use Rattle.std.specs.List.{list_all, flat_map, FoldsTo}
 use Rattle.std.proofs.lemmas.Bool.{and_parts, false≢true}
 use Rattle.std.proofs.lemmas.Bool.Decides.{nat_tests}
 use Rattle.std.proofs.lemmas.Fmt.{decimal_by_steps}
 use Rattle.line_buffer.specs.Cells.{same_cell}
-use Rattle.line_buffer.specs.Printable.{is_printable, at_plain_end}
+use Rattle.line_buffer.specs.Printable.{is_printable, at_simple_end}
+use Rattle.line_buffer.specs.Tabs.{tab_width}
 use Rattle.line_buffer.specs.declared.layout.GraphemeClusterMode.{GraphemeClusterMode}
 use Rattle.line_buffer.specs.declared.layout.Layout.{Layout}
 use Rattle.line_buffer.specs.declared.layout.Position.{Position}
@@ -20,10 +21,10 @@ use Rattle.line_screen.specs.Calls.{Screen, bytes_of, bell_bytes, old_row, drawi
 use Rattle.line_screen.specs.Chain.{View, Good, Inside, Replaces, Redraws, LeadsView}
 use Rattle.line_screen.specs.ColourLaws.{BeginsNoStyle, has_no_marks, UnmarkedCallsBeginNone, ScreensWithoutColours, Uncoloured}
 use Rattle.line_screen.specs.Display.{Placed, is_text}
-use Rattle.line_screen.specs.Drawing.{DrawnItem, text_items, no_style, break_if, break_unless, fitted_col, fenced, sent_one, col_after_one, sent, col_after, control_sequence, erase_to_end, erase_to_row_end, row_move, col_move, move_bytes, clearing_bytes, shown_text, drawing}
-use Rattle.line_screen.specs.Drawing.DrawnItem.{NewRow, Letter, Cluster}
+use Rattle.line_screen.specs.Drawing.{DrawnItem, Widths, blanks, text_items, no_style, break_if, break_unless, fitted_col, fenced, sent_one, col_after_one, sent, col_after, control_sequence, erase_to_end, erase_to_row_end, row_move, col_move, move_bytes, clearing_bytes, shown_text, drawing}
+use Rattle.line_screen.specs.Drawing.DrawnItem.{NewRow, Letter, Cluster, Tab}
 use Rattle.line_screen.specs.Laws.{widths}
-use Rattle.line_screen.specs.Measure.{cluster_width}
+use Rattle.line_screen.specs.Measure.{cluster_width, widths_by}
 use Rattle.line_screen.proofs.Standing.{printable_text}
 use Rattle.line_screen.proofs.Draws.{Fits, AllFit}
 use Rattle.line_screen.proofs.Fitting.{items_fit, drawable}
@@ -152,6 +153,10 @@ unless_free : (b : Bool) → IsFree (break_unless b)
 unless_free true = refl
 unless_free false = refl
 
+blanks_free : (n : ℕ) → IsFree (blanks n)
+blanks_free zero = refl
+blanks_free (suc n) = blanks_free n
+
 fenced_free : (bytes : List ℕ) → list_all is_text bytes ≡ true → IsFree (fenced bytes)
 fenced_free bytes h = free_then (no_style ++ bytes) no_style (free_then no_style bytes refl (text_free bytes h)) refl
 
@@ -162,6 +167,9 @@ one_free columns wide (Cluster bytes width) col h =
     let before = break_unless (nat_le (col + width) columns) in
     let full = fitted_col columns width col + width == columns in
     free_then (before ++ fenced bytes) (break_if full) (free_then before (fenced bytes) (unless_free (nat_le (col + width) columns)) (fenced_free bytes h.text)) (break_free full)
+one_free columns wide (Tab apart) col h =
+    let width = tab_width columns apart col in
+    free_then (blanks width) (break_if (col + width == columns)) (blanks_free width) (break_free (col + width == columns))
 
 items_free : (columns : ℕ) (wide : List ℕ → Option ℕ) (items : List DrawnItem) (col : ℕ) → AllFit columns wide items → IsFree (sent columns items col)
 items_free columns wide [] col h = refl
@@ -173,13 +181,15 @@ items_free columns wide (item ∷ items) col h =
 then_plain : (xs : List ℕ) → IsFree xs → IsFree (xs ++ no_style)
 then_plain xs h = free_then xs no_style h refl
 
-module _ (mode : GraphemeClusterMode) (columns : ℕ) (some : 1 ≤ columns) (few : columns < 2 ^ 64) where
-  part_free : (text : List ℕ) (col : ℕ) → IsFree (sent columns (text_items (cluster_width mode columns) text) col)
-  part_free text col = items_free columns (cluster_width mode columns) (text_items (cluster_width mode columns) text) col (items_fit mode columns some text)
+module _ (mode : GraphemeClusterMode) (tab : Option ℕ) (columns : ℕ) (some : 1 ≤ columns) (few : columns < 2 ^ 64) where
+  abbrev wide : Widths
+  wide = widths_by mode tab columns
 
-  shown_free : (prompt line info : List ℕ) → IsFree (shown_text columns (cluster_width mode columns) prompt line info)
+  part_free : (text : List ℕ) (col : ℕ) → IsFree (sent columns (text_items wide text) col)
+  part_free text col = items_free columns (cluster_width mode columns) (text_items wide text) col (items_fit mode tab columns some text)
+
+  shown_free : (prompt line info : List ℕ) → IsFree (shown_text columns wide prompt line info)
   shown_free prompt line info =
-      let wide = cluster_width mode columns in
       let a_end = col_after columns (text_items wide prompt) 0 in
       let b_end = col_after columns (text_items wide line) a_end in
       let a = sent columns (text_items wide prompt) 0 in
@@ -198,23 +208,22 @@ module _ (mode : GraphemeClusterMode) (columns : ℕ) (some : 1 ≤ columns) (fe
       let new_col = to.col in
       free_then (row_move old.row new.row) (col_move old.col new.col) (row_move_free old.row new.row old_row new_row) (col_move_free old.col new.col (omega arith) (omega arith))
 
-  drawing_free : (prompt line info : List ℕ) (finish cursor : Position) → Inside columns finish → Inside columns cursor → IsFree (drawing columns (cluster_width mode columns) prompt line info finish cursor)
+  drawing_free : (prompt line info : List ℕ) (finish cursor : Position) → Inside columns finish → Inside columns cursor → IsFree (drawing columns wide prompt line info finish cursor)
   drawing_free prompt line info finish cursor from to =
-      free_then (shown_text columns (cluster_width mode columns) prompt line info) (move_bytes finish cursor) (shown_free prompt line info) (move_free finish cursor from to)
+      free_then (shown_text columns wide prompt line info) (move_bytes finish cursor) (shown_free prompt line info) (move_free finish cursor from to)
 
   -- in the place of a drawing whose cursor's row is known, or of none
   draw_free : (o : Option ℕ) (a : View) (prompt line info : List ℕ) (finish cursor : Position) → Inside columns a.place → Replaces o a → Inside columns finish → Inside columns cursor
-      → IsFree (drawing_bytes columns (cluster_width mode columns) o prompt line info finish cursor)
+      → IsFree (drawing_bytes columns wide o prompt line info finish cursor)
   draw_free None a prompt line info finish cursor here over from to = drawing_free prompt line info finish cursor from to
   draw_free (Some row) a prompt line info finish cursor here over from to =
       let row_few : row < 2 ^ 64 = subst (λ n. n < 2 ^ 64) (sym over) here.row in
-      free_then (clearing_bytes row) (drawing columns (cluster_width mode columns) prompt line info finish cursor) (clearing_free row row_few) (drawing_free prompt line info finish cursor from to)
+      free_then (clearing_bytes row) (drawing columns wide prompt line info finish cursor) (clearing_free row row_few) (drawing_free prompt line info finish cursor from to)
 
-  redraw_free : (o : Option ℕ) (a b : View) (prompt line info : List ℕ) (finish cursor : Position) → Inside columns a.place → Replaces o a → Redraws columns (cluster_width mode columns) a prompt line info finish cursor b
-      → IsFree (drawing_bytes columns (cluster_width mode columns) o prompt line info finish cursor)
+  redraw_free : (o : Option ℕ) (a b : View) (prompt line info : List ℕ) (finish cursor : Position) → Inside columns a.place → Replaces o a → Redraws columns wide a prompt line info finish cursor b
+      → IsFree (drawing_bytes columns wide o prompt line info finish cursor)
   redraw_free o a b prompt line info finish cursor here over h =
-      let wide = cluster_width mode columns in
-      let able = drawable mode columns some b.shown (subst (λ (p : Position). p.row < 2 ^ 64) h.finish_is h.finish_row) (subst (λ (p : Position). p.row < 2 ^ 64) h.cursor_is h.cursor_row) in
+      let able = drawable mode tab columns some b.shown (subst (λ (p : Position). p.row < 2 ^ 64) h.finish_is h.finish_row) (subst (λ (p : Position). p.row < 2 ^ 64) h.cursor_is h.cursor_row) in
       draw_free o a prompt line info finish cursor here over (subst (Inside columns) (sym h.finish_is) able.finish) (subst (Inside columns) (sym h.cursor_is) able.cursor)
 
 -- ---- calls
@@ -226,17 +235,17 @@ bell_free Bells.Visible = refl
 
 call_free : (s : Screen) → 1 ≤ s.columns → s.columns < 2 ^ 64 → (a b : View) (call : Call) → Inside s.columns a.place → LeadsView s.columns (widths s) a call b → has_no_marks call ≡ true → IsFree (bytes_of s call)
 call_free s some few a b (Draw prompt text place info old new None) here h plain =
-    redraw_free s.mode s.columns some few (old_row old) a b prompt text (info_text info) new.end new.cursor here h.0 h.1
+    redraw_free s.mode s.tab s.columns some few (old_row old) a b prompt text (info_text info) new.end new.cursor here h.0 h.1
 call_free s some few a b (Draw prompt text place info old new (Some m)) here h plain = absurd (false≢true plain)
-call_free s some few a b (Move old new) here h plain = move_free s.mode s.columns some few old new (subst (Inside s.columns) (sym h.old_is) here) h.inside
-call_free s some few a b (Write text) here (inl h) plain = subst IsFree (sym h.text_is) (letter_free h.c (and_parts (is_printable h.c) (at_plain_end a.shown.line a.shown.place) h.typed).0)
+call_free s some few a b (Move old new) here h plain = move_free s.mode s.tab s.columns some few old new (subst (Inside s.columns) (sym h.old_is) here) h.inside
+call_free s some few a b (Write text) here (inl h) plain = subst IsFree (sym h.text_is) (letter_free h.c (and_parts (is_printable h.c) (at_simple_end true a.shown.line a.shown.place) h.typed).0)
 call_free s some few a b (Write text) here (inr h) plain = subst IsFree (sym h.text_is) refl
 call_free s some few a b Beep here h plain = bell_free s.bell
 call_free s some few a b ClearScreen here h plain = refl
 call_free s some few a b (ClearRows layout) here h plain = clearing_free layout.cursor.row (subst (λ n. n < 2 ^ 64) (sym h.0) here.row)
 call_free s some few a b ClearToEol here h plain = refl
 call_free s some few a b (MoveAndClearToEol old new) here h plain =
-    free_then (move_bytes old new) erase_to_row_end (move_free s.mode s.columns some few old new (subst (Inside s.columns) (sym h.1.old_is) here) h.1.inside) refl
+    free_then (move_bytes old new) erase_to_row_end (move_free s.mode s.tab s.columns some few old new (subst (Inside s.columns) (sym h.1.old_is) here) h.1.inside) refl
 call_free s some few a b ToLeftmost here h plain = refl
 call_free s some few a b (Help fails) here h plain = refl
 

@@ -17,6 +17,7 @@ use Rattle.line_screen.specs.Colours.{Styles, is_style, are_styles, painted_full
 use Rattle.line_screen.specs.Painting.{Painted, PaintReading, paint_read, paint_letters, Painting, cells_of_painting, painting_of, lay_painted, clusters_of}
 use Rattle.line_screen.specs.Painting.PaintReading.{Text}
 use Rattle.line_screen.specs.Laws.{widths}
+use Rattle.line_screen.specs.Drawing.{Widths}
 use Rattle.line_screen.specs.Styles.{numbers}
 use Rattle.line_help.specs.declared.style.Style.{Style}
 
@@ -25,7 +26,7 @@ pub record AreStyles (styles : Styles) : Type 0 where
   pub line : are_styles styles.line ≡ true
   pub info : are_styles styles.info ≡ true
 
-abbrev pub painted_items : (List ℕ → Option ℕ) → Styles → Picture → List PaintedItem
+abbrev pub painted_items : Widths → Styles → Picture → List PaintedItem
 painted_items wide styles v = painted_text wide styles.prompt v.prompt
     ++ (painted_text wide styles.line v.line ++ painted_text wide styles.info v.info)
 
@@ -34,7 +35,8 @@ painted_items wide styles v = painted_text wide styles.prompt v.prompt
 abbrev pub PaintedDrawingShows : Type 0
 PaintedDrawingShows =
     (s : Screen) → 2 ≤ s.columns → s.columns ≤ 1000
-    → (bytes : List ℕ) (d : displays.Display) → Stands s.columns (read s.columns (widths s) start bytes) d
+    → (bytes : List ℕ) (d : displays.Display)
+    → Stands s.columns (read s.columns (widths s).cluster start bytes) d
     → (top old : ℕ) → d.cursor.row ≡ top + old → d.cursor.col < s.columns → old < 2 ^ 64
     → (v : Picture) → (finish_of s.columns (widths s) v).row < 2 ^ 64
     → (cursor_of s.columns (widths s) v).row < 2 ^ 64
@@ -42,7 +44,7 @@ PaintedDrawingShows =
     → let new = painted_full s.columns (widths s) styles old v.prompt v.line v.info
     (finish_of s.columns (widths s) v) (cursor_of s.columns (widths s) v) in
     (e : displays.Display)
-    × Stands s.columns (read s.columns (widths s) start (bytes ++ new)) e
+    × Stands s.columns (read s.columns (widths s).cluster start (bytes ++ new)) e
     × Shows s.columns (widths s) v top e
     × (filter (above top) e.placed ≡ filter (above top) d.placed)
 
@@ -53,7 +55,7 @@ ColoursStand =
     (s : Screen) → 2 ≤ s.columns → s.columns ≤ 1000 → (v : Picture) (styles : Styles)
     → AreStyles styles
     → let items = painted_items (widths s) styles v in
-    (painting_of s.columns (widths s)
+    (painting_of s.columns (widths s).cluster
     (painted_shown s.columns (widths s) styles v.prompt v.line v.info)
     ≡ Some (record {
       painted = lay_painted s.columns items origin;
@@ -88,7 +90,7 @@ FullDrawingPaints =
     (finish_of s.columns (widths s) v) (cursor_of s.columns (widths s) v) in
     let cells = lay_painted s.columns (painted_items (widths s) styles v) origin in
     (after : Painting) × (rest : List ℕ)
-    × (paint_read s.columns (widths s) r new ≡ Text after rest)
+    × (paint_read s.columns (widths s).cluster r new ≡ Text after rest)
     × (list_all is_printable rest ≡ true)
     × (paint_letters s.columns rest after ≡ Some (record {
       painted = filter (λ x. above top x.cluster) xs ++ map (down_painted top) cells;

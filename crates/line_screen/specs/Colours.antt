@@ -4,6 +4,7 @@ use Rattle.std.specs.Prelude.{option_map, option_copied, Result, Some, None, ℕ
 use Rattle.std.specs.List.{list_all, flat_map}
 use Rattle.unicode_segmentation.specs.Grapheme.{graphemes}
 use Rattle.line_buffer.specs.declared.layout.Position.{Position}
+use Rattle.line_buffer.specs.Tabs.{tab_width}
 use Rattle.line_screen.specs.Display.{is_printable, is_parameter}
 use Rattle.line_config.specs.declared.device.DeviceFailed.{DeviceFailed}
 use Rattle.line_help.specs.declared.style.Mark.{Mark}
@@ -14,8 +15,8 @@ use Rattle.line_screen.specs.declared.drawing.painted.Brush as brush
 use Rattle.line_screen.specs.declared.drawing.painted.Spans as spans
 use Rattle.line_screen.specs.declared.drawing.coloured.Painting as painting
 use Rattle.line_screen.specs.Styles.{numbers}
-use Rattle.line_screen.specs.Drawing.{SendsTo, DrawnItem, is_letter, drawn_item, split_rows, row_break, no_style, break_if, break_unless, fitted_col, sent_one, col_after, clearing_bytes, move_bytes}
-use Rattle.line_screen.specs.Drawing.DrawnItem.{NewRow, Letter, Cluster}
+use Rattle.line_screen.specs.Drawing.{SendsTo, DrawnItem, Widths, blanks, is_letter, drawn_item, split_rows, row_break, no_style, break_if, break_unless, fitted_col, sent_one, col_after, clearing_bytes, move_bytes}
+use Rattle.line_screen.specs.Drawing.DrawnItem.{NewRow, Letter, Cluster, Tab}
 
 -- ---- styles
 
@@ -50,13 +51,14 @@ style_bytes (c ∷ style) = 0x1B ∷ (0x5B ∷ (0x30 ∷ (c ∷ (style ++ 0x6D �
 
 -- ---- a text as items with styles
 
--- an item without style; a style that begins, or ends; a letter between these; and a cluster with a
--- style of its own
+-- an item without style; a style that begins, or ends; a letter between these; and a cluster, or a
+-- tab, with a style of its own
 pub data PaintedItem : Type 0 where
   Bare : (item : DrawnItem) → PaintedItem
   Begins : (style : List ℕ) → PaintedItem
   Shaded : (style : List ℕ) (c : ℕ) → PaintedItem
   Fenced : (style : List ℕ) (bytes : List ℕ) (width : ℕ) → PaintedItem
+  Padded : (style : List ℕ) (apart : ℕ) → PaintedItem
 
 -- the same without styles
 abbrev pub unpainted : PaintedItem → List DrawnItem
@@ -64,6 +66,7 @@ unpainted (Bare item) = item ∷ []
 unpainted (Begins style) = []
 unpainted (Shaded style c) = Letter c ∷ []
 unpainted (Fenced style bytes width) = Cluster bytes width ∷ []
+unpainted (Padded style apart) = Tab apart ∷ []
 
 abbrev pub all_unpainted : List PaintedItem → List DrawnItem
 all_unpainted xs = flat_map unpainted xs
@@ -90,14 +93,15 @@ painted_item [] item = Bare item ∷ []
 painted_item (p ∷ style) NewRow = Bare NewRow ∷ []
 painted_item (p ∷ style) (Letter c) = shaded (p ∷ style) (c ∷ [])
 painted_item (p ∷ style) (Cluster bytes width) = Fenced (p ∷ style) bytes width ∷ []
+painted_item (p ∷ style) (Tab apart) = Padded (p ∷ style) apart ∷ []
 
 -- letters, and a cluster after them
-abbrev pub painted_after : (List ℕ → Option ℕ) → List Span → List ℕ → List ℕ → List PaintedItem
+abbrev pub painted_after : Widths → List Span → List ℕ → List ℕ → List PaintedItem
 painted_after wide spans letters cluster = painted_letters spans letters
     ++ painted_item (first_style (skip (length letters) spans)) (drawn_item wide cluster)
 
 -- the clusters of a row, after letters: letters side by side are drawn span by span, too
-abbrev pub painted_clusters : (List ℕ → Option ℕ) → List Span → List ℕ → List (List ℕ)
+abbrev pub painted_clusters : Widths → List Span → List ℕ → List (List ℕ)
     → List PaintedItem
 painted_clusters wide spans letters [] = painted_letters spans letters
 painted_clusters wide spans letters (cluster ∷ clusters) =
@@ -105,26 +109,26 @@ painted_clusters wide spans letters (cluster ∷ clusters) =
     else (painted_after wide spans letters cluster
     ++ painted_clusters wide (skip (length cluster) (skip (length letters) spans)) [] clusters)
 
-abbrev pub painted_row : (List ℕ → Option ℕ) → List Span → List ℕ → List PaintedItem
+abbrev pub painted_row : Widths → List Span → List ℕ → List PaintedItem
 painted_row wide spans row =
     if list_all is_printable row then painted_letters spans row
     else painted_clusters wide spans [] (graphemes true row)
 
-abbrev pub painted_behind : (List ℕ → Option ℕ) → List Span → List (List ℕ) → List PaintedItem
+abbrev pub painted_behind : Widths → List Span → List (List ℕ) → List PaintedItem
 painted_behind wide spans [] = []
 painted_behind wide spans (row ∷ rows) = Bare NewRow ∷ (painted_row wide (skip 1 spans) row
     ++ painted_behind wide (skip (length row) (skip 1 spans)) rows)
 
-abbrev pub painted_rows : (List ℕ → Option ℕ) → List Span → List (List ℕ) → List PaintedItem
+abbrev pub painted_rows : Widths → List Span → List (List ℕ) → List PaintedItem
 painted_rows wide spans [] = []
 painted_rows wide spans (row ∷ rows) =
     painted_row wide spans row ++ painted_behind wide (skip (length row) spans) rows
 
-abbrev pub painted_text : (List ℕ → Option ℕ) → List Span → List ℕ → List PaintedItem
+abbrev pub painted_text : Widths → List Span → List ℕ → List PaintedItem
 painted_text wide spans text = painted_rows wide spans (split_rows text)
 
 -- the first row, or a row after another, and what is left of the spans after it
-abbrev pub next_painted : (List ℕ → Option ℕ) → Bool → List Span → List ℕ → List PaintedItem
+abbrev pub next_painted : Widths → Bool → List Span → List ℕ → List PaintedItem
 next_painted wide is_first spans row = if is_first then painted_row wide spans row
     else (Bare NewRow ∷ painted_row wide (skip 1 spans) row)
 
@@ -144,6 +148,9 @@ painted_one columns (Shaded style c) col = c ∷ shaded_break style (col + 1 == 
 painted_one columns (Fenced style bytes width) col =
     break_unless (nat_le (col + width) columns) ++ (style_bytes style ++ bytes ++ no_style)
     ++ break_if (fitted_col columns width col + width == columns)
+painted_one columns (Padded style apart) col =
+    let width = tab_width columns apart col in
+    (style_bytes style ++ blanks width ++ no_style) ++ break_if (col + width == columns)
 
 abbrev pub painted : ℕ → List PaintedItem → ℕ → List ℕ
 painted columns [] col = []
@@ -169,22 +176,22 @@ painted_three columns a b c =
     ++ no_style ++ painted columns c (col_after columns (all_unpainted b) end_a)
     ++ no_style
 
-abbrev pub painted_shown : ℕ → (List ℕ → Option ℕ) → Styles → List ℕ → List ℕ → List ℕ → List ℕ
+abbrev pub painted_shown : ℕ → Widths → Styles → List ℕ → List ℕ → List ℕ → List ℕ
 painted_shown columns wide styles prompt line info = painted_three columns
     (painted_text wide styles.prompt prompt) (painted_text wide styles.line line)
     (painted_text wide styles.info info)
 
-abbrev pub painted_drawing : ℕ → (List ℕ → Option ℕ) → Styles → List ℕ → List ℕ → List ℕ → Position
+abbrev pub painted_drawing : ℕ → Widths → Styles → List ℕ → List ℕ → List ℕ → Position
     → Position → List ℕ
 painted_drawing columns wide styles prompt line info finish cursor =
     painted_shown columns wide styles prompt line info ++ move_bytes finish cursor
 
-abbrev pub painted_full : ℕ → (List ℕ → Option ℕ) → Styles → ℕ → List ℕ → List ℕ → List ℕ
+abbrev pub painted_full : ℕ → Widths → Styles → ℕ → List ℕ → List ℕ → List ℕ
     → Position → Position → List ℕ
 painted_full columns wide styles old_row prompt line info finish cursor =
     clearing_bytes old_row ++ painted_drawing columns wide styles prompt line info finish cursor
 
-abbrev pub painted_bytes : ℕ → (List ℕ → Option ℕ) → Styles → Option ℕ → List ℕ → List ℕ → List ℕ
+abbrev pub painted_bytes : ℕ → Widths → Styles → Option ℕ → List ℕ → List ℕ → List ℕ
     → Position → Position → List ℕ
 painted_bytes columns wide styles None prompt line info finish cursor =
     painted_drawing columns wide styles prompt line info finish cursor

@@ -4,6 +4,7 @@ ghost use Rattle.line_screen.specs.Input.{EncodedCharsAreRead, CharsAreEncoded};
 ghost use Rattle.line_screen.specs.KeyGrammar.{WholeKeysStay, PastedTextIsBeforeItsMark, PastedTextIsCutOff, ControlIsOneKey};
 ghost use Rattle.line_screen.specs.Laws.{TypingLeads, KillingLeads, FullDrawingShows, StartIsEmpty, CallsLead, ChainsLead, PlaceIsFree, LineEndsAnywhere, EndedLineStays, MeasuresGoOn, ShownIsMeant, CellsAreShown};
 ghost use Rattle.line_screen.specs.Calls.{ReadsFindNothingWaiting};
+ghost use Rattle.line_screen.specs.StyledTexts.{ClustersHaveTheirStyle};
 ghost use Rattle.line_screen.specs.ColourLaws.{PaintedDrawingShows, ColoursStand, FullDrawingPaints, PaintingsShowCells, NumbersAreStyles, Uncoloured};
 
 use line_config::Sink;
@@ -38,6 +39,11 @@ pub fn paintings()
 /// The numbers of each style are digits and semicolons.
 pub fn looks()
     ensures { NumbersAreStyles }
+{}
+
+/// Each cluster of a drawing with styles has the style of its first byte.
+pub fn cluster_styles()
+    ensures { ClustersHaveTheirStyle }
 {}
 
 /// Calls without a highlighter send no ESC `[` `0`, with which a style begins. The editor makes no

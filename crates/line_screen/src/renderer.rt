@@ -10,8 +10,8 @@ use crate::drawing::painted::Brush;
 use crate::drawing::sequences::{clear, go, move_and_erase, send_flushed};
 use crate::drawing::whole::{Shown, draw};
 use crate::grid::Grid;
-use crate::measuring::{measure, measure_on};
-use line_buffer::{GraphemeClusterMode, Layout, LineBuffer, Position, Unit};
+use crate::measuring::{measure_in, measure_on};
+use line_buffer::{GraphemeClusterMode, Layout, LineBuffer, Position, TabStops, Unit};
 use line_config::{BellStyle, DeviceFailed, ReadlineError, Sink};
 use line_editor::Renderer;
 use line_help::{Highlighter, Part};
@@ -30,7 +30,8 @@ pub struct ScreenRenderer<D> {
 }
 
 impl<D: Sink> ScreenRenderer<D> {
-    /// A screen with `columns` columns, without colours. Nothing is written.
+    /// A screen with `columns` columns, without colours, with tabs as question marks. Nothing is
+    /// written.
     pub fn new(
         sink: D,
         columns: Unit,
@@ -46,6 +47,7 @@ impl<D: Sink> ScreenRenderer<D> {
               mode = grapheme_cluster_mode;
               bell = bell_style;
               colours = false;
+              tab = None;
             } }
     {
         ScreenRenderer {
@@ -53,6 +55,7 @@ impl<D: Sink> ScreenRenderer<D> {
             grid: Grid {
                 columns,
                 mode: grapheme_cluster_mode,
+                tab: None,
             },
             bell_style,
             colours: false,
@@ -77,6 +80,16 @@ impl<D: Sink> ScreenRenderer<D> {
             ≡ record (screen_of self.old) { colours = colours } }
     {
         self.colours = colours;
+    }
+
+    /// Sets how many columns apart tab stops are for further calls; with `None` a tab is drawn as
+    /// a question mark. Nothing is written.
+    pub fn set_tab_stop(&mut self, stop: Option<u8>)
+        ensures sink { sink_of self.new ≡ sink_of self.old }
+        ensures screen { screen_of self.new
+            ≡ record (screen_of self.old) { tab = stop } }
+    {
+        self.grid.tab = stop;
     }
 
     /// The sink, with what was written to it.
@@ -186,8 +199,13 @@ impl<D: Sink + Drop> Renderer for ScreenRenderer<D> {
         self.grid.mode
     }
 
+    fn tab_stops(&self) -> Option<TabStops> {
+        let columns = self.grid.columns;
+        self.grid.tab.map(|apart| TabStops { columns, apart })
+    }
+
     fn calculate_position(&self, text: &str, orig: Position) -> Position {
-        measure(text, orig, self.grid.columns, self.grid.mode)
+        measure_in(self.grid, text, orig)
     }
 
     fn position_from(
@@ -197,8 +215,7 @@ impl<D: Sink + Drop> Renderer for ScreenRenderer<D> {
         known: (usize, Position),
         place: usize,
     ) -> Position {
-        let (columns, mode) = (self.grid.columns, self.grid.mode);
-        measure_on(text, start, known.0, known.1, place, columns, mode)
+        measure_on(text, start, known.0, known.1, place, self.grid)
     }
 }
 

@@ -45,6 +45,8 @@ fn config_of(setting: &Setting<'_>) -> Result<Config, ReadlineError> {
         .auto_add_history(setting.adding)
         .modal_commands(setting.modal)
         .draw_colours(setting.colours)
+        .draw_tabs(setting.tabs)
+        .tab_stop(setting.stop)
         .completion_type(completion_of(setting.all))
         .completion_show_all_if_ambiguous(after(setting.all, "at-once").is_some())
         .completion_prompt_limit(number_after(setting.all, "limit:", 100))

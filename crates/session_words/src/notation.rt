@@ -32,6 +32,10 @@ pub struct Setting<'a> {
     pub modal: bool,
     /// Whether the helper's styles are drawn.
     pub colours: bool,
+    /// Whether tabs are drawn as blanks.
+    pub tabs: bool,
+    /// How many columns apart the stops of tabs are.
+    pub stop: u8,
     pub helped: bool,
     /// Whether the helper is an adviser.
     pub advised: bool,
@@ -101,6 +105,8 @@ pub fn setting_of(words: &str) -> Setting<'_> {
         adding: has(words, "adding"),
         modal: has(words, "modal"),
         colours: has(words, "colours"),
+        tabs: has(words, "tabs"),
+        stop: after(words, "stop:").unwrap_or("8").parse().unwrap_or(8),
         helped: has(words, "helped"),
         advised: has(words, "advised"),
         words: after(words, "words:").unwrap_or(""),

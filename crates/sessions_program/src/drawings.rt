@@ -8,10 +8,11 @@ use line_screen::ScreenRenderer;
 use std::alloc::Global;
 
 /// A line on rows of so many columns, with the line's text before the cursor, and what follows the
-/// line.
+/// line; and how many columns apart the stops are, if tabs are drawn as blanks.
 #[derive(Clone, Copy)]
 struct Case<'a> {
     columns: u16,
+    stop: Option<u8>,
     line: &'a str,
     before: &'a str,
     info: &'a str,
@@ -20,9 +21,17 @@ struct Case<'a> {
 fn at_end<'a>(columns: u16, line: &'a str) -> Case<'a> {
     Case {
         columns,
+        stop: None,
         line,
         before: line,
         info: "",
+    }
+}
+
+fn with_stops<'a>(columns: u16, line: &'a str) -> Case<'a> {
+    Case {
+        stop: Some(8),
+        ..at_end(columns, line)
     }
 }
 
@@ -32,20 +41,25 @@ fn case_of<'a>(name: &str) -> Option<Case<'a>> {
         "full" => at_end(10, "abcdefgh"),
         "wide" => at_end(9, "\u{6F22}\u{5B57}\u{6F22}\u{5B57}"),
         "control" => at_end(20, "a\tb"),
+        "tabs" => with_stops(20, "a\tb\n\t\tc"),
+        "tab-at-the-margin" => with_stops(10, "abcdef\tx"),
         "accent" => Case {
             columns: 20,
+            stop: None,
             line: "e\u{301}x",
             before: "e\u{301}",
             info: "",
         },
         "message" => Case {
             columns: 20,
+            stop: None,
             line: "]",
             before: "]",
             info: "unpaired",
         },
         "rows" => Case {
             columns: 20,
+            stop: None,
             line: "one\ntwo\nthree",
             before: "one",
             info: "",
@@ -98,6 +112,7 @@ pub fn draw_named(rt: &HostRuntime, name: &str) -> Result<()> {
         mode,
         BellStyle::None,
     );
+    screen.set_tab_stop(case.stop);
     let layout = draw(rt.alloc(), &mut screen, case, Layout::new(mode))?;
     if name == "shorter" {
         draw(rt.alloc(), &mut screen, at_end(case.columns, "ab"), layout)?;

@@ -19,7 +19,7 @@ use session_rows::play::{Played, play};
 use session_rows::refusals::{play_grown, play_refused};
 use std::{env, fs, io};
 
-const FILES: [&str; 9] = [
+const FILES: [&str; 10] = [
     "rows.txt",
     "emacs.txt",
     "vi.txt",
@@ -27,6 +27,7 @@ const FILES: [&str; 9] = [
     "modal.txt",
     "candidates.txt",
     "colours.txt",
+    "tabs.txt",
     "faults.txt",
     REFUSED,
 ];

@@ -6,9 +6,12 @@ pub mod Emacs
 pub mod Faults
 pub mod Modal
 pub mod Playing
+pub mod Prompts
 pub mod Refusals
 pub mod Rows
 pub mod Settings
 pub mod Showing
+pub mod Splitting
+pub mod Tabs
 pub mod Vi
 pub mod Worked

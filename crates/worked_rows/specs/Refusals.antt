@@ -5,7 +5,7 @@ use Rattle.line_keys.specs.declared.events.Event.TheVariants.{KeySeq}
 use Rattle.line_keys.specs.declared.key.KeyCode.TheVariants.{Char, Esc}
 use Rattle.std.specs.Prelude.{List, [], ◌∷◌, None, Some, true, false, codes}
 use Rattle.worked_rows.specs.Playing.{Row, row}
-use Rattle.worked_rows.specs.Settings.{Settings, adding, aide, bound, command, limited, listed, modal, plain, vi}
+use Rattle.worked_rows.specs.Settings.{Settings, adding, aide, bound, command, limited, listed, modal, plain, tabs, vi}
 
 -- abc C-a X Enter = Xabc
 abbrev pub row_5 : Row
@@ -127,10 +127,10 @@ settings_37 = record plain {
 abbrev pub row_37 : Row
 row_37 = row 37 settings_37 (codes "abcdef\u{1b}[D\u{7f}\r") (codes "abcdf\n")
 
--- modal adding loaded:#V2␊git␠status␊make␠test␊
+-- modal tabs adding loaded:#V2␊git␠status␊make␠test␊
 abbrev pub settings_40 : Settings
 settings_40 = record plain {
-  config = modal (adding plain.config);
+  config = tabs (modal (adding plain.config));
   loaded = codes "#V2\ngit status\nmake test\n";
 }
 

@@ -15,6 +15,7 @@ use Rattle.line_help.specs.Hints.{hint_of_history}
 use Rattle.line_help.specs.HistoryText.{entries_of, text_rows}
 use Rattle.line_help.specs.Paints.{standard_marks}
 use Rattle.line_help.specs.Validation.{bracket_reply}
+use Rattle.line_help.specs.declared.style.Span.{Span}
 use Rattle.line_help.specs.declared.validate.ValidationResult.TheVariants.{Valid}
 use Rattle.line_keys.specs.Answers.{Custom, custom_of}
 use Rattle.line_keys.specs.Commands.{holds_text}
@@ -22,7 +23,8 @@ use Rattle.line_keys.specs.Handling.{Meaning}
 use Rattle.line_keys.specs.Replies.{gives, gives_at_once}
 use Rattle.line_keys.specs.declared.command.Cmd.{Cmd}
 use Rattle.line_keys.specs.declared.events.Event.{Event}
-use Rattle.keyline.specs.Program.{EditHelper, edit_helping, nothing_bound, profile_of, standard_config}
+use Rattle.keyline.specs.Program.{EditHelper, edit_helping, nothing_bound, profile_of, standard_config, styled}
+use Rattle.worked_rows.specs.Splitting.{prompt_spans, prompt_text}
 
 -- `loaded` is the text of the history, and `last` what the source of keys does after its bytes
 pub record Settings : Type 0 where
@@ -57,12 +59,12 @@ abbrev pub program_config : EditMode → Config
 program_config mode =
     record standard_config { edit_mode = mode; keyseq_timeout = timeout_of mode }
 
-abbrev pub program_helper : Bool → Bool → Option (List (List ℕ)) → Option EditHelper
-program_helper colours brackets words = if brackets || is_some words || colours
+abbrev pub program_helper : Bool → List Span → Bool → Option (List (List ℕ)) → Option EditHelper
+program_helper colours spans brackets words = if brackets || is_some words || colours
     then Some (record {
       completer = words;
       hinter = tt;
-      highlighter = record { brackets = None };
+      highlighter = styled spans;
       validator = if brackets then Some (record {}) else None;
     })
     else None
@@ -73,8 +75,9 @@ abbrev pub by_options : Bool → EditMode → ℕ → List ℕ → Bool → Opti
 by_options extended mode columns prompt brackets words loaded = record plain {
   config = profile_of extended (program_config mode);
   columns = columns;
-  prompt = prompt;
-  helping = edit_helping (program_helper extended brackets (words_in words));
+  prompt = prompt_text extended prompt;
+  helping = edit_helping
+      (program_helper extended (prompt_spans extended prompt) brackets (words_in words));
   loaded = loaded;
 }
 
@@ -91,6 +94,13 @@ modal config = record config { modal_commands = true }
 -- with the helper's styles
 abbrev pub colours : Config → Config
 colours config = record config { draw_colours = true }
+
+-- with tabs as blanks, and stops so many columns apart
+abbrev pub tabs : Config → Config
+tabs config = record config { draw_tabs = true }
+
+abbrev pub stopping : ℕ → Config → Config
+stopping apart config = record config { tab_stop = apart }
 
 -- several candidates are listed: so many of them, and at the first Tab that adds nothing
 abbrev pub listed : Config → Config

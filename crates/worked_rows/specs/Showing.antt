@@ -26,7 +26,7 @@ same_cells (a ∷ xs) (b ∷ ys) = same_placed a b && same_cells xs ys
 
 -- what the bytes of a face mean
 abbrev pub meaning_of : Face → Option Display
-meaning_of f = meaning f.screen.columns (widths f.screen) f.bytes
+meaning_of f = meaning f.screen.columns (widths f.screen).cluster f.bytes
 
 -- there is a meaning, with the rows above the top
 abbrev pub has_above : Face → Option Display → Bool

@@ -14,9 +14,11 @@ ghost use Rattle.worked_rows.specs.Emacs.{emacs_rows};
 ghost use Rattle.worked_rows.specs.Faults.{faults_rows};
 ghost use Rattle.worked_rows.specs.Modal.{modal_rows};
 ghost use Rattle.worked_rows.specs.Playing.{differing};
+ghost use Rattle.worked_rows.specs.Prompts.{prompts_rows};
 ghost use Rattle.worked_rows.specs.Refusals.{refusals_rows};
 ghost use Rattle.worked_rows.specs.Rows.{rows_rows};
 ghost use Rattle.worked_rows.specs.Showing.{AllShown, short};
+ghost use Rattle.worked_rows.specs.Tabs.{tabs_rows};
 ghost use Rattle.worked_rows.specs.Vi.{vi_rows};
 ghost use Rattle.worked_rows.specs.Worked.{worked_rows};
 
@@ -81,6 +83,21 @@ pub fn candidates()
 pub fn colours()
     ensures given { differing colours_rows ≡ [] }
     ensures shown { AllShown (short colours_rows) }
+{}
+
+/// The definition gives each row of `specs/Prompts.antt`, in which the program has a prompt with
+/// control sequences: its lines, its ending and the display bytes. At each moment the bytes so far
+/// show prompt and line.
+pub fn prompts()
+    ensures given { differing prompts_rows ≡ [] }
+    ensures shown { AllShown (short prompts_rows) }
+{}
+
+/// The definition gives each row of `tabs.txt`: its lines, its ending, the history's text and the
+/// display bytes. At each moment the bytes so far show prompt and line.
+pub fn tabs()
+    ensures given { differing tabs_rows ≡ [] }
+    ensures shown { AllShown (short tabs_rows) }
 {}
 
 /// Where motions go from a place in a line.

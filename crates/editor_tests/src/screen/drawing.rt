@@ -87,10 +87,35 @@ const MARGINS: &str = "
     80 none a\u{85}␡|   = ␍␛[J␛[m␛[ma␛[m?␛[m␛[m?␛[m␛[m␛[m
 ";
 
+// How many columns apart the stops are; then as above. Tabs at the columns 0, 7, 8 and 2, two with
+// the cursor between them, at the end of a row and as its last cell, behind rows that letters and a
+// wide cluster filled, in a second row, a prompt and a hint, and before a mark.
+const TABS: &str = "
+    8 80 none ␉x|           = ␍␛[J␛[m␛[m        x␛[m␛[m
+    8 80 none abcdefg␉x|    = ␍␛[J␛[m␛[mabcdefg x␛[m␛[m
+    8 80 none abcdefgh␉x|   = ␍␛[J␛[m␛[mabcdefgh        x␛[m␛[m
+    8 80 >␠ ␉|␉x            = ␍␛[J␛[m> ␛[m              x␛[m␛[m␛[9D
+    8 10 >␠ abcdef␉|        = ␍␛[J␛[m> ␛[mabcdef  ␍␊␛[m␛[m
+    8 10 >␠ abcdefg␉|x      = ␍␛[J␛[m> ␛[mabcdefg ␍␊x␛[m␛[m␛[1D
+    8 10 >␠ abcdefgh␉|      = ␍␛[J␛[m> ␛[mabcdefgh␍␊        ␛[m␛[m
+    8 9 none 漢漢漢漢漢␉x|  = ␍␛[J␛[m␛[m␛[m漢␛[m␛[m漢␛[m␛[m漢␛[m␛[m漢␛[m␍␊␛[m漢␛[m      x␍␊␛[m␛[m
+    8 80 >␠ a␉b␊␉c|         = ␍␛[J␛[m> ␛[ma     b␍␊        c␛[m␛[m
+    8 80 ␉>␠ ␉|             = ␍␛[J␛[m        > ␛[m      ␛[m␛[m
+    8 80 >␠ h| ␉o           = ␍␛[J␛[m> ␛[mh␛[m     o␛[m␛[6D
+    8 80 >␠ ␉\u{301}|       = ␍␛[J␛[m> ␛[m      ␛[m?␛[m␛[m␛[m
+    8 2 >␠ ␉|               = ␍␛[J␛[m> ␍␊␛[m  ␍␊␛[m␛[m
+    4 80 none ␉a␉|          = ␍␛[J␛[m␛[m    a   ␛[m␛[m
+    1 80 none ␉␉|           = ␍␛[J␛[m␛[m  ␛[m␛[m
+    0 80 none ␉␉|           = ␍␛[J␛[m␛[m  ␛[m␛[m
+    255 20 none ab␉|c       = ␍␛[J␛[m␛[mab                  ␍␊c␛[m␛[m␛[1D
+    none 80 >␠ ␉|           = ␍␛[J␛[m> ␛[m␛[m?␛[m␛[m␛[m
+";
+
 /// The calls of a table's rows.
 #[derive(Drop)]
 enum Ask {
     Drawing,
+    Tabs,
     Call,
     FailedWrite,
     PassedOn,
@@ -99,7 +124,8 @@ enum Ask {
 impl Player for Ask {
     fn play(&mut self, alloc: Global, call: &str) -> Result<String, Fail> {
         let said = match self {
-            Ask::Drawing => drawn(alloc, call),
+            Ask::Drawing => drawn(alloc, None, call),
+            Ask::Tabs => drawn_with_stops(alloc, call),
             Ask::Call => sent(alloc, call),
             Ask::FailedWrite => refusals_told(alloc, call),
             Ask::PassedOn => passed_on(alloc, call),
@@ -108,9 +134,15 @@ impl Player for Ask {
     }
 }
 
-// The bytes of a drawing on rows of so many columns.
-fn bytes_of(alloc: Global, columns: u16, shown: Shown) -> Result<String, ReadlineError> {
+// The bytes of a drawing on rows of so many columns, with tabs as blanks if there are stops.
+fn bytes_of(
+    alloc: Global,
+    stop: Option<u8>,
+    columns: u16,
+    shown: Shown,
+) -> Result<String, ReadlineError> {
     let mut screen = screen(VecSink::new(alloc), columns, BellStyle::Audible);
+    screen.set_tab_stop(stop);
     draw(&mut screen, shown)?;
     raised(pictured_bytes(alloc, screen.into_sink().bytes()))
 }
@@ -126,32 +158,43 @@ fn prompt_of(alloc: Global, word: &str) -> Result<String, AllocError> {
 // The bytes of the drawing of a line and what follows it, after a prompt.
 fn drawn_after(
     alloc: Global,
+    stop: Option<u8>,
     columns: u16,
     prompt: &str,
     shown: &str,
 ) -> Result<String, ReadlineError> {
     let (line, info) = word_and_rest(shown);
     let line = line_of(alloc, line)?;
+    let text = meant(alloc, info)?;
+    let info = text.as_str();
     let shown = Shown {
         prompt,
         line: &line,
         info: if info.is_empty() { None } else { Some(info) },
     };
-    bytes_of(alloc, columns, shown)
+    bytes_of(alloc, stop, columns, shown)
 }
 
 // The bytes of a row's drawing.
-fn drawn(alloc: Global, call: &str) -> Result<String, ReadlineError> {
+fn drawn(alloc: Global, stop: Option<u8>, call: &str) -> Result<String, ReadlineError> {
     let (columns, call) = word_and_rest(call);
     let (prompt, shown) = word_and_rest(call);
     let prompt = prompt_of(alloc, prompt)?;
-    drawn_after(alloc, columns.parse().unwrap_or(0), prompt.as_str(), shown)
+    let columns = columns.parse().unwrap_or(0);
+    drawn_after(alloc, stop, columns, prompt.as_str(), shown)
+}
+
+// The same with stops as the first word says.
+fn drawn_with_stops(alloc: Global, call: &str) -> Result<String, ReadlineError> {
+    let (stop, call) = word_and_rest(call);
+    drawn(alloc, stop.parse().ok(), call)
 }
 
 #[test]
 fn draws_lines(rt: HostRuntime) -> Result<(), Fail> {
     rows_hold(rt.alloc(), &mut Ask::Drawing, LINES)?;
-    rows_hold(rt.alloc(), &mut Ask::Drawing, MARGINS)
+    rows_hold(rt.alloc(), &mut Ask::Drawing, MARGINS)?;
+    rows_hold(rt.alloc(), &mut Ask::Tabs, TABS)
 }
 
 // Draws the longer line over the other one, which has no older drawing, and clears its rows; the

@@ -46,6 +46,22 @@ impl<D: Decides> InputState<'_, D> {
         if self.custom_bindings.is_empty() {
             return Ok(None);
         }
+        self.bound_key(alloc, wrt, key, n, positive)
+    }
+
+    // The same, looked up in the bindings. Not inlined, so that a key costs little if there are none.
+    #[inline(never)]
+    fn bound_key<W: Refresher>(
+        &self,
+        alloc: Global,
+        wrt: &W,
+        key: KeyEvent,
+        n: RepeatCount,
+        positive: bool,
+    ) -> Result<Option<Cmd>, ReadlineError>
+        ensures { DecidesIn (λ s. custom_answer s key)
+            self.now D.decides (W.display.shown wrt.now) n positive result }
+    {
         match self.custom_bindings.entry_of(key) {
             Some((event, handler)) => self.decided(alloc, wrt, handler, event, n, positive),
             None => self.any_binding(alloc, wrt, key, n, positive),

@@ -3,7 +3,7 @@
 ghost use Rattle.std.specs.Prelude.{◌≡◌, ◌<◌, ◌++◌, [], IsTrue, OnOk, OnErr, IfOk, map};
 ghost use Rattle.line_screen.specs.Drawing.{no_style, SendsTo};
 ghost use Rattle.line_screen.specs.Colours.{painted, painted_text, end_of, brush_spans, styles_in, painted_shown, painted_drawing, painted_full, painted_bytes};
-ghost use Rattle.line_screen.specs.Measure.{cluster_width};
+ghost use Rattle.line_screen.specs.Measure.{widths_by};
 ghost use Rattle.line_config.specs.Sending.{Sends};
 
 use crate::drawing::painted::{Brush, send_painted};
@@ -33,9 +33,11 @@ fn send_part<D: Sink, H: Highlighter>(
     requires inside { start < grid.columns }
     ensures { SendsTo
         (no_style ++ painted grid.columns
-        (painted_text (cluster_width grid.mode grid.columns) (brush_spans H.marks brush.now) brush.now.text.now) start)
+        (painted_text (widths_by grid.mode grid.tab grid.columns)
+        (brush_spans H.marks brush.now) brush.now.text.now) start)
         (end_of grid.columns
-        (painted_text (cluster_width grid.mode grid.columns) (brush_spans H.marks brush.now) brush.now.text.now) start)
+        (painted_text (widths_by grid.mode grid.tab grid.columns)
+        (brush_spans H.marks brush.now) brush.now.text.now) start)
         grid.columns D.held D.has_failed sink.old sink.new result }
 {
     send(sink, b"\x1B[m")?;
@@ -49,7 +51,7 @@ fn send_texts<D: Sink, H: Highlighter>(
     painting: &Painting<'_, H>,
 ) -> Result<(), DeviceFailed>
     ensures { Sends D.held D.has_failed
-        (painted_shown grid.columns (cluster_width grid.mode grid.columns)
+        (painted_shown grid.columns (widths_by grid.mode grid.tab grid.columns)
         (styles_in H.marks painting.now)
         painting.now.prompt.text.now painting.now.line.text.now painting.now.info.text.now)
         sink.old sink.new result }
@@ -67,7 +69,7 @@ fn send_drawing<D: Sink, H: Highlighter>(
     painting: &Painting<'_, H>,
 ) -> Result<(), DeviceFailed>
     ensures { Sends D.held D.has_failed
-        (painted_drawing grid.columns (cluster_width grid.mode grid.columns)
+        (painted_drawing grid.columns (widths_by grid.mode grid.tab grid.columns)
         (styles_in H.marks painting.now)
         painting.now.prompt.text.now painting.now.line.text.now painting.now.info.text.now
         painting.now.end painting.now.cursor)
@@ -84,7 +86,7 @@ fn draw_new<D: Sink, H: Highlighter>(
     painting: &Painting<'_, H>,
 ) -> Result<(), DeviceFailed>
     ensures sends { Sends D.held D.has_failed
-        (painted_drawing grid.columns (cluster_width grid.mode grid.columns)
+        (painted_drawing grid.columns (widths_by grid.mode grid.tab grid.columns)
         (styles_in H.marks painting.now)
         painting.now.prompt.text.now painting.now.line.text.now painting.now.info.text.now
         painting.now.end painting.now.cursor)
@@ -103,7 +105,7 @@ fn draw_over<D: Sink, H: Highlighter>(
     painting: &Painting<'_, H>,
 ) -> Result<(), DeviceFailed>
     ensures sends { Sends D.held D.has_failed
-        (painted_full grid.columns (cluster_width grid.mode grid.columns)
+        (painted_full grid.columns (widths_by grid.mode grid.tab grid.columns)
         (styles_in H.marks painting.now) row
         painting.now.prompt.text.now painting.now.line.text.now painting.now.info.text.now
         painting.now.end painting.now.cursor)
@@ -123,7 +125,7 @@ pub(crate) fn paint<D: Sink, H: Highlighter>(
     painting: &Painting<'_, H>,
 ) -> Result<(), DeviceFailed>
     ensures sends { Sends D.held D.has_failed
-        (painted_bytes grid.columns (cluster_width grid.mode grid.columns)
+        (painted_bytes grid.columns (widths_by grid.mode grid.tab grid.columns)
         (styles_in H.marks painting.now) old_row
         painting.now.prompt.text.now painting.now.line.text.now painting.now.info.text.now
         painting.now.end painting.now.cursor)

@@ -3,18 +3,18 @@
 ghost use Rattle.std.specs.Prelude.{◌≡◌, ◌≤◌, ◌<◌, ◌==◌, ◌+◌, ◌++◌, [], true, IsTrue, OnOk, OnErr, IfOk, length, map, nat_le};
 ghost use Rattle.unicode_segmentation.specs.Grapheme.{graphemes};
 ghost use Rattle.line_screen.specs.Drawing.{left_col, drawn_item, SendsTo, col_after, break_if, break_unless, fitted_col, col_after_one, no_style};
-ghost use Rattle.line_screen.specs.Drawing.DrawnItem.{Cluster};
-ghost use Rattle.line_screen.specs.Measure.{cluster_width};
+ghost use Rattle.line_screen.specs.Drawing.DrawnItem.{Cluster, Tab};
+ghost use Rattle.line_screen.specs.Measure.{widths_by};
 ghost use Rattle.line_screen.specs.Colours.{style_bytes, shaded_break, shaded, painted_letters, painted_after, painted_clusters, painted_row, painted_text, painted_item, painted_one, SendsPainted, spans_in, span_of, brush_paints, brush_spans, first_style, skip, next_painted, spans_behind};
 ghost use Rattle.line_screen.specs.Styles.{numbers};
 ghost use Rattle.line_help.specs.Paints.{IsNextSpan};
-ghost use Rattle.line_screen.specs.Colours.PaintedItem.{Shaded, Fenced};
+ghost use Rattle.line_screen.specs.Colours.PaintedItem.{Shaded, Fenced, Padded};
 ghost use Rattle.line_config.specs.Sending.{Sends};
 
 use crate::drawing::sequences::send;
 use crate::drawing::styles::{is_plain, send_style};
-use crate::drawing::text::{leave_full, make_room, send_letters};
-use crate::grid::{Grid, is_letter};
+use crate::drawing::text::{leave_full, make_room, send_letters, send_tab};
+use crate::grid::{Grid, blanks, is_letter, tab_columns};
 use line_buffer::{Unit, is_printable_text};
 use line_config::{DeviceFailed, Sink};
 use line_help::{Highlighter, Mark, Part, Span, Style};
@@ -225,13 +225,13 @@ fn send_spans<D: Sink, H: Highlighter>(
     send_letters(sink, grid, col, rest)
 }
 
-/// The text of a cluster between its style and its end.
-fn send_framed<D: Sink>(sink: &mut D, style: Style, cluster: &str) -> Result<(), DeviceFailed>
-    ensures { Sends D.held D.has_failed (style_bytes (numbers style) ++ cluster.now ++ no_style)
+/// The bytes of a cluster, or the blanks of a tab, between their style and its end.
+fn send_framed<D: Sink>(sink: &mut D, style: Style, bytes: &[u8]) -> Result<(), DeviceFailed>
+    ensures { Sends D.held D.has_failed (style_bytes (numbers style) ++ bytes.now ++ no_style)
         sink.old sink.new result }
 {
     send_style(sink, style)?;
-    send(sink, cluster.as_bytes())?;
+    send(sink, bytes)?;
     send(sink, b"\x1B[m")
 }
 
@@ -250,8 +250,45 @@ fn send_tinted<D: Sink>(
         grid.columns D.held D.has_failed sink.old sink.new result }
 {
     let start = make_room(sink, grid, col, width)?;
-    send_framed(sink, style, cluster)?;
+    send_framed(sink, style, cluster.as_bytes())?;
     leave_full(sink, grid, start + width)
+}
+
+/// A tab between its style and its end, which comes before the row is left.
+fn send_padded<D: Sink>(
+    sink: &mut D,
+    grid: Grid,
+    style: Style,
+    col: Unit,
+    apart: u8,
+) -> Result<Unit, DeviceFailed>
+    requires inside { col < grid.columns }
+    ensures { SendsTo (painted_one grid.columns (Padded (numbers style) apart) col)
+        (col_after_one grid.columns (Tab apart) col)
+        grid.columns D.held D.has_failed sink.old sink.new result }
+{
+    let width = tab_columns(grid.columns, apart, col);
+    send_framed(sink, style, blanks(width))?;
+    leave_full(sink, grid, col + width)
+}
+
+/// A tab with its style. One with a plain style is blanks alone.
+fn send_painted_tab<D: Sink>(
+    sink: &mut D,
+    grid: Grid,
+    style: Style,
+    col: Unit,
+    apart: u8,
+) -> Result<Unit, DeviceFailed>
+    requires inside { col < grid.columns }
+    ensures { SendsPainted (painted_item (numbers style) (Tab apart)) col
+        grid.columns D.held D.has_failed sink.old sink.new result }
+{
+    if is_plain(style) {
+        send_tab(sink, grid, col, apart)
+    } else {
+        send_padded(sink, grid, style, col, apart)
+    }
 }
 
 /// A cluster, or a question mark in the place of one that a display can't hold.
@@ -264,11 +301,14 @@ fn send_painted_cluster<D: Sink>(
 ) -> Result<Unit, DeviceFailed>
     requires inside { col < grid.columns }
     ensures { SendsPainted (painted_item (numbers style)
-        (drawn_item (cluster_width grid.mode grid.columns) cluster.now)) col
+        (drawn_item (widths_by grid.mode grid.tab grid.columns) cluster.now)) col
         grid.columns D.held D.has_failed sink.old sink.new result }
 {
     if is_letter(cluster) {
         return send_shaded(sink, grid, style, col, cluster.as_bytes());
+    }
+    if let Some(apart) = grid.tab_of(cluster) {
+        return send_painted_tab(sink, grid, style, col, apart);
     }
     match grid.cluster_columns(cluster) {
         Some(width) => send_tinted(sink, grid, style, col, cluster, width),
@@ -287,7 +327,7 @@ fn send_painted_after<D: Sink, H: Highlighter>(
     cluster: &str,
 ) -> Result<Unit, DeviceFailed>
     requires inside { start < grid.columns }
-    ensures { SendsPainted (painted_after (cluster_width grid.mode grid.columns)
+    ensures { SendsPainted (painted_after (widths_by grid.mode grid.tab grid.columns)
         (spans_in (brush_paints H.marks brush.now) spans) letters.now cluster.now) start
         grid.columns D.held D.has_failed sink.old sink.new result }
 {
@@ -307,7 +347,7 @@ fn send_painted_clusters<D: Sink, H: Highlighter>(
     row: &str,
 ) -> Result<Unit, DeviceFailed>
     requires inside { start < grid.columns }
-    ensures { SendsPainted (painted_clusters (cluster_width grid.mode grid.columns)
+    ensures { SendsPainted (painted_clusters (widths_by grid.mode grid.tab grid.columns)
         (spans_in (brush_paints H.marks brush.now) spans) [] (graphemes true row.now)) start
         grid.columns D.held D.has_failed sink.old sink.new result }
 {
@@ -337,7 +377,7 @@ fn send_painted_row<D: Sink, H: Highlighter>(
     row: &str,
 ) -> Result<Unit, DeviceFailed>
     requires inside { start < grid.columns }
-    ensures { SendsPainted (painted_row (cluster_width grid.mode grid.columns)
+    ensures { SendsPainted (painted_row (widths_by grid.mode grid.tab grid.columns)
         (spans_in (brush_paints H.marks brush.now) spans) row.now) start
         grid.columns D.held D.has_failed sink.old sink.new result }
 {
@@ -359,7 +399,7 @@ fn send_next_painted<D: Sink, H: Highlighter>(
     row: &str,
 ) -> Result<Unit, DeviceFailed>
     requires inside { start < grid.columns }
-    ensures { SendsPainted (next_painted (cluster_width grid.mode grid.columns) is_first
+    ensures { SendsPainted (next_painted (widths_by grid.mode grid.tab grid.columns) is_first
         (spans_in (brush_paints H.marks brush.now) spans) row.now) start
         grid.columns D.held D.has_failed sink.old sink.new result }
 {
@@ -396,7 +436,7 @@ pub(crate) fn send_painted<D: Sink, H: Highlighter>(
     brush: &Brush<'_, H>,
 ) -> Result<Unit, DeviceFailed>
     requires inside { start < grid.columns }
-    ensures { SendsPainted (painted_text (cluster_width grid.mode grid.columns)
+    ensures { SendsPainted (painted_text (widths_by grid.mode grid.tab grid.columns)
         (brush_spans H.marks brush.now) brush.now.text.now) start
         grid.columns D.held D.has_failed sink.old sink.new result }
 {

@@ -6,13 +6,13 @@ ghost use Rattle.std.specs.List.{list_all};
 ghost use Rattle.unicode_segmentation.specs.Grapheme.{graphemes};
 ghost use Rattle.line_screen.specs.Display.{is_printable};
 ghost use Rattle.line_screen.specs.Drawing.{drawn_item, row_items, next_items, text_items, break_if, break_unless, left_col, fitted_col, fenced, sent_one, col_after_one, sent, col_after, SendsTo, SendsItems};
-ghost use Rattle.line_screen.specs.Drawing.DrawnItem.{Letter, Cluster};
-ghost use Rattle.line_screen.specs.Measure.{cluster_width};
+ghost use Rattle.line_screen.specs.Drawing.DrawnItem.{Letter, Cluster, Tab};
+ghost use Rattle.line_screen.specs.Measure.{widths_by};
 ghost use Rattle.line_config.specs.Sending.{Sends};
 
 use crate::characters::{chars_are_clusters, is_narrow, is_wide};
 use crate::drawing::sequences::send;
-use crate::grid::{Grid, is_letter};
+use crate::grid::{Grid, blanks, is_letter, tab_columns};
 use line_buffer::{Unit, is_printable_text};
 use line_config::{DeviceFailed, Sink};
 use unicode_segmentation::UnicodeSegmentation;
@@ -103,6 +103,23 @@ fn send_run<D: Sink>(
     leave_full(sink, grid, col + letters.len() as Unit)
 }
 
+/// A tab: blanks up to the next stop, or to the row's end.
+pub(crate) fn send_tab<D: Sink>(
+    sink: &mut D,
+    grid: Grid,
+    col: Unit,
+    apart: u8,
+) -> Result<Unit, DeviceFailed>
+    requires inside { col < grid.columns }
+    ensures { SendsTo (sent_one grid.columns (Tab apart) col)
+        (col_after_one grid.columns (Tab apart) col)
+        grid.columns D.held D.has_failed sink.old sink.new result }
+{
+    let width = tab_columns(grid.columns, apart, col);
+    send(sink, blanks(width))?;
+    leave_full(sink, grid, col + width)
+}
+
 /// A cluster, or a question mark in place of one that doesn't fit on the display.
 fn send_cluster<D: Sink>(
     sink: &mut D,
@@ -112,13 +129,16 @@ fn send_cluster<D: Sink>(
 ) -> Result<Unit, DeviceFailed>
     requires inside { col < grid.columns }
     ensures { SendsTo (sent_one grid.columns
-        (drawn_item (cluster_width grid.mode grid.columns) cluster.now) col)
+        (drawn_item (widths_by grid.mode grid.tab grid.columns) cluster.now) col)
         (col_after_one grid.columns
-        (drawn_item (cluster_width grid.mode grid.columns) cluster.now) col)
+        (drawn_item (widths_by grid.mode grid.tab grid.columns) cluster.now) col)
         grid.columns D.held D.has_failed sink.old sink.new result }
 {
     if is_letter(cluster) {
         return send_run(sink, grid, col, cluster.as_bytes());
+    }
+    if let Some(apart) = grid.tab_of(cluster) {
+        return send_tab(sink, grid, col, apart);
     }
     match grid.cluster_columns(cluster) {
         Some(width) => send_wide(sink, grid, col, cluster, width),
@@ -154,7 +174,7 @@ fn send_clusters<D: Sink>(
     row: &str,
 ) -> Result<Unit, DeviceFailed>
     requires inside { start < grid.columns }
-    ensures { SendsItems (map (drawn_item (cluster_width grid.mode grid.columns))
+    ensures { SendsItems (map (drawn_item (widths_by grid.mode grid.tab grid.columns))
         (graphemes true row.now)) start
         grid.columns D.held D.has_failed sink.old sink.new result }
 {
@@ -170,9 +190,9 @@ fn send_clusters<D: Sink>(
 fn send_char<D: Sink>(sink: &mut D, grid: Grid, col: Unit, c: char) -> Result<Unit, DeviceFailed>
     requires inside { col < grid.columns }
     ensures { SendsTo (sent_one grid.columns
-        (drawn_item (cluster_width grid.mode grid.columns) (encode_utf8 c)) col)
+        (drawn_item (widths_by grid.mode grid.tab grid.columns) (encode_utf8 c)) col)
         (col_after_one grid.columns
-        (drawn_item (cluster_width grid.mode grid.columns) (encode_utf8 c)) col)
+        (drawn_item (widths_by grid.mode grid.tab grid.columns) (encode_utf8 c)) col)
         grid.columns D.held D.has_failed sink.old sink.new result }
 {
     let mut bytes = [0; 4];
@@ -194,7 +214,7 @@ fn send_chars<D: Sink>(
 ) -> Result<Unit, DeviceFailed>
     requires inside { start < grid.columns }
     requires clusters { graphemes true row.now ≡ map encode_utf8 (chars row.now) }
-    ensures { SendsItems (map (drawn_item (cluster_width grid.mode grid.columns))
+    ensures { SendsItems (map (drawn_item (widths_by grid.mode grid.tab grid.columns))
         (graphemes true row.now)) start
         grid.columns D.held D.has_failed sink.old sink.new result }
 {
@@ -208,7 +228,7 @@ fn send_chars<D: Sink>(
 /// A row of the text: by characters if all are printable ASCII, otherwise by clusters.
 fn send_row<D: Sink>(sink: &mut D, grid: Grid, start: Unit, row: &str) -> Result<Unit, DeviceFailed>
     requires inside { start < grid.columns }
-    ensures { SendsItems (row_items (cluster_width grid.mode grid.columns) row.now) start
+    ensures { SendsItems (row_items (widths_by grid.mode grid.tab grid.columns) row.now) start
         grid.columns D.held D.has_failed sink.old sink.new result }
 {
     if is_printable_text(row) {
@@ -228,7 +248,8 @@ fn send_next_row<D: Sink>(
     row: &str,
 ) -> Result<Unit, DeviceFailed>
     requires inside { start < grid.columns }
-    ensures { SendsItems (next_items (cluster_width grid.mode grid.columns) is_first row.now) start
+    ensures { SendsItems
+        (next_items (widths_by grid.mode grid.tab grid.columns) is_first row.now) start
         grid.columns D.held D.has_failed sink.old sink.new result }
 {
     if is_first {
@@ -247,7 +268,7 @@ pub(crate) fn send_text<D: Sink>(
     text: &str,
 ) -> Result<Unit, DeviceFailed>
     requires inside { start < grid.columns }
-    ensures { SendsItems (text_items (cluster_width grid.mode grid.columns) text.now) start
+    ensures { SendsItems (text_items (widths_by grid.mode grid.tab grid.columns) text.now) start
         grid.columns D.held D.has_failed sink.old sink.new result }
 {
     if is_printable_text(text) {

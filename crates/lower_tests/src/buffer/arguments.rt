@@ -1,6 +1,8 @@
 //! The arguments of a call in a table, each known by its form.
 
-use line_buffer::{At, CharSearch, GraphemeClusterMode, Movement, RepeatCount, Word, WordAction};
+use line_buffer::{
+    At, CharSearch, GraphemeClusterMode, Movement, RepeatCount, TabStops, Unit, Word, WordAction,
+};
 use stand_ins::rows::raised;
 use std::test::Fail;
 
@@ -9,6 +11,7 @@ use std::test::Fail;
 /// - A number is the count, and a second one the column after the prompt.
 /// - `fx`, `tx`, `Fx` and `Tx` are searches for the character `x`, as Vi has them.
 /// - `>2` indents by two columns, and `<2` takes two away.
+/// - `tabs:8/80` draws tabs as blanks, with stops 8 columns apart on a display of 80.
 /// - `'ab'` is a text.
 /// - Words, their ends, cases and modes go by their names, and so does the movement of an indentation.
 #[derive(Clone, Copy)]
@@ -25,6 +28,7 @@ pub(crate) struct Arguments<'a> {
     pub at: At,
     pub action: WordAction,
     pub mode: GraphemeClusterMode,
+    pub stops: Option<TabStops>,
 }
 
 impl<'a> Arguments<'a> {
@@ -42,6 +46,7 @@ impl<'a> Arguments<'a> {
             at: At::Start,
             action: WordAction::Capitalize,
             mode: GraphemeClusterMode::Unicode,
+            stops: None,
         };
         for word in call.split_whitespace() {
             arguments.take(word);
@@ -57,6 +62,8 @@ impl<'a> Arguments<'a> {
         } else if let Some((dedent, amount)) = indentation_of(word) {
             self.dedent = dedent;
             self.amount = amount;
+        } else if let Some(stops) = stops_of(word) {
+            self.stops = Some(stops);
         } else if word.starts_with('\'') {
             self.text = word.trim_matches('\'');
         } else if !self.take_word(word) && !self.take_mode(word) {
@@ -168,4 +175,13 @@ fn indentation_of(word: &str) -> Option<(bool, u8)> {
         None => (false, word.strip_prefix('>')?),
     };
     Some((dedent, amount.parse::<u8>().ok()?))
+}
+
+/// Where tabs end, if they are drawn as blanks.
+fn stops_of(word: &str) -> Option<TabStops> {
+    let (apart, columns) = word.strip_prefix("tabs:")?.split_once('/')?;
+    Some(TabStops {
+        columns: columns.parse::<Unit>().ok()?,
+        apart: apart.parse::<u8>().ok()?,
+    })
 }

@@ -67,6 +67,92 @@ const JOINED_EMOJI_ABOVE: &str = "
     '👩\u{200D}🔬z␊abcde|f' move_to_line_up 1 0 NoZwj = true '👩\u{200D}🔬z|␊abcdef'
     ";
 
+const UP_WITH_TABS: &str = "
+    '␉x␊abcdefg|hij'  move_to_line_up 1 0 tabs:8/80 = true '|␉x␊abcdefghij'
+    '␉x␊abcdefgh|ij'  move_to_line_up 1 0 tabs:8/80 = true '␉|x␊abcdefghij'
+    '␉x␊abcdefghij|'  move_to_line_up 1 0 tabs:8/80 = true '␉x|␊abcdefghij'
+    '␉x␊a|bcdefghij'  move_to_line_up 1 2 tabs:8/80 = true '|␉x␊abcdefghij'
+    '␉x␊abcdefg|hij'  move_to_line_up 1 2 tabs:8/80 = true '|␉x␊abcdefghij'
+    '␉x␊abcdefgh|ij'  move_to_line_up 1 2 tabs:8/80 = true '␉|x␊abcdefghij'
+    '␉x␊␉abcdefg|h'   move_to_line_up 1 9 tabs:8/80 = true '|␉x␊␉abcdefgh'
+    '␉x␊␉abcdefgh|'   move_to_line_up 1 9 tabs:8/80 = true '␉|x␊␉abcdefgh'
+    '␉␉x␊␉abcdefg|h'  move_to_line_up 1 0 tabs:8/80 = true '␉|␉x␊␉abcdefgh'
+    '␉␉x␊␉abcdefgh|'  move_to_line_up 1 0 tabs:8/80 = true '␉␉|x␊␉abcdefgh'
+    'abc␉x␊ab|cdefgh' move_to_line_up 1 0 tabs:8/80 = true 'ab|c␉x␊abcdefgh'
+    'abc␉x␊abcdefg|h' move_to_line_up 1 0 tabs:8/80 = true 'abc|␉x␊abcdefgh'
+    'abcdefgh␉x␊␉␉|'  move_to_line_up 1 0 tabs:8/80 = true 'abcdefgh␉|x␊␉␉'
+    'abcdefghij␊a␉b|' move_to_line_up 1 0 tabs:8/80 = true 'abcdefghi|j␊a␉b'
+    '␉␊abcdefghij|'   move_to_line_up 1 0 tabs:8/80 = true '␉|␊abcdefghij'
+    '␉␊␉x␊abcdefgh|'  move_to_line_up 2 0 tabs:8/80 = true '␉|␊␉x␊abcdefgh'
+    'ab␉␍␊abcdefgh|i' move_to_line_up 1 0 tabs:8/80 = true 'ab␉|␍␊abcdefghi'
+    ";
+
+const DOWN_WITH_TABS: &str = "
+    '␉|x␊abcdefghij' move_to_line_down 1 0 tabs:8/80 = true '␉x␊abcdefgh|ij'
+    '␉x|␊abcdefghij' move_to_line_down 1 0 tabs:8/80 = true '␉x␊abcdefghi|j'
+    '␉|x␊abcdefghij' move_to_line_down 1 2 tabs:8/80 = true '␉x␊abcdefgh|ij'
+    '␉|x␊␉␉y'        move_to_line_down 1 9 tabs:8/80 = true '␉x␊␉␉|y'
+    '|␉x␊␉y'         move_to_line_down 1 2 tabs:8/80 = true '␉x␊|␉y'
+    '|␉x␊␉y'         move_to_line_down 1 9 tabs:8/80 = true '␉x␊␉y|'
+    'a␉b|␊␉␉c'       move_to_line_down 1 0 tabs:8/80 = true 'a␉b␊␉|␉c'
+    'a␉b|␊␉␉c'       move_to_line_down 1 8 tabs:8/80 = true 'a␉b␊␉␉c|'
+    '␉|␊x␊␉y'        move_to_line_down 2 0 tabs:8/80 = true '␉␊x␊␉|y'
+    '␉|x'            move_to_line_down 1 0 tabs:8/80 = false '␉|x'
+    ";
+
+/// Rows that are longer than those of the display. In each of its rows stops are counted anew.
+const TABS_AT_THE_END_OF_A_ROW: &str = "
+    '1234␉x␊1234|5'     move_to_line_up 1 0 tabs:4/5 = true '1234|␉x␊12345'
+    '1234␉x␊12345|'     move_to_line_up 1 0 tabs:4/5 = true '1234␉|x␊12345'
+    '␉␉␉x␊12345678|9'   move_to_line_up 1 0 tabs:4/5 = true '␉␉|␉x␊123456789'
+    '␉␉␉x␊123456789|'   move_to_line_up 1 0 tabs:4/5 = true '␉␉␉|x␊123456789'
+    '12345␉x␊1234567|8' move_to_line_up 1 0 tabs:3/5 = true '12345|␉x␊12345678'
+    '12345␉x␊12345678|' move_to_line_up 1 0 tabs:3/5 = true '12345␉|x␊12345678'
+    '␉x␊123456|7'       move_to_line_up 1 4 tabs:3/5 = true '␉x|␊1234567'
+    '␉x␊12345|'         move_to_line_up 1 4 tabs:3/5 = true '␉|x␊12345'
+    '1234␉|x␊1234567'   move_to_line_down 1 0 tabs:4/5 = true '1234␉x␊12345|67'
+    '␉␉|␊123456789'     move_to_line_down 1 3 tabs:4/5 = true '␉␉␊12345|6789'
+    ";
+
+/// A stop in each column, stops 255 columns apart, and displays of one column or none.
+const OTHER_STOPS: &str = "
+    '␉␉x␊ab|cd'  move_to_line_up 1 0 tabs:1/80 = true '␉␉|x␊abcd'
+    '␉␉x␊abc|d'  move_to_line_up 1 0 tabs:1/80 = true '␉␉x|␊abcd'
+    '␉␉x␊ab|cd'  move_to_line_up 1 0 tabs:0/80 = true '␉␉|x␊abcd'
+    '␉␉x␊ab|cd'  move_to_line_up 1 1 tabs:0/80 = true '␉|␉x␊abcd'
+    '␉x␊12345|6' move_to_line_up 1 0 tabs:255/6 = true '|␉x␊123456'
+    '␉x␊123456|' move_to_line_up 1 0 tabs:255/6 = true '␉|x␊123456'
+    '␉␉x␊␉123|'  move_to_line_up 1 0 tabs:255/300 = true '␉|␉x␊␉123'
+    '␉␉x␊␉␉|'    move_to_line_up 1 9 tabs:255/300 = true '␉␉|x␊␉␉'
+    '␉␉x␊ab|cd'  move_to_line_up 1 0 tabs:8/1 = true '␉␉|x␊abcd'
+    '␉␉x␊ab|cd'  move_to_line_up 1 0 tabs:8/0 = true '␉␉|x␊abcd'
+    ";
+
+const TABS_BESIDE_WIDE_CLUSTERS: &str = "
+    '漢␉字␊a|bcdefghij'       move_to_line_up 1 0 tabs:8/80 = true '|漢␉字␊abcdefghij'
+    '漢␉字␊abcdefg|hij'       move_to_line_up 1 0 tabs:8/80 = true '漢|␉字␊abcdefghij'
+    '漢␉字␊abcdefghi|j'       move_to_line_up 1 0 tabs:8/80 = true '漢␉|字␊abcdefghij'
+    '漢␉字␊abcdefghij|'       move_to_line_up 1 0 tabs:8/80 = true '漢␉字|␊abcdefghij'
+    'a␉\u{301}b␊abcdefgh|i' move_to_line_up 1 0 tabs:8/80 = true 'a␉\u{301}|b␊abcdefghi'
+    '🇩🇪␉z␊abcdefg|h'        move_to_line_up 1 0 tabs:8/80 = true '🇩🇪|␉z␊abcdefgh'
+    '🇩🇪␉z␊abcdefgh|'        move_to_line_up 1 0 tabs:8/80 = true '🇩🇪␉|z␊abcdefgh'
+    '👩\u{200D}🔬␉z␊abc|d'    move_to_line_up 1 0 tabs:8/80 Unicode = true '👩\u{200D}🔬|␉z␊abcd'
+    '👩\u{200D}🔬␉z␊abc|d'    move_to_line_up 1 0 tabs:8/80 WcWidth = true '|👩\u{200D}🔬␉z␊abcd'
+    '👩\u{200D}🔬␉z␊␉|'       move_to_line_up 1 0 tabs:8/80 NoZwj = true '👩\u{200D}🔬␉|z␊␉'
+    '👩\u{200D}␉🔬␊abcdefg|h' move_to_line_up 1 0 tabs:8/80 = true '👩\u{200D}|␉🔬␊abcdefgh'
+    '漢␉|字␊abcdefghi'        move_to_line_down 1 0 tabs:8/80 = true '漢␉字␊abcdefgh|i'
+    ";
+
+/// Each is a cluster like others: one column, or none in the mode `WcWidth`.
+const TABS_THAT_ARE_NOT_DRAWN: &str = "
+    '␉x␊|abc'       move_to_line_up 1 0 = true '|␉x␊abc'
+    '␉x␊a|bc'       move_to_line_up 1 0 = true '␉|x␊abc'
+    '␉x␊ab|c'       move_to_line_up 1 0 = true '␉x|␊abc'
+    '␉x␊|abc'       move_to_line_up 1 0 WcWidth = true '␉|x␊abc'
+    '␉x␊|abc'       move_to_line_up 1 0 WcWidth tabs:8/80 = true '|␉x␊abc'
+    '␉x|␊abcdefghi' move_to_line_down 1 0 = true '␉x␊ab|cdefghi'
+    ";
+
 /// The columns of each row's text in each mode.
 #[derive(Clone, Copy, Drop)]
 struct Widths;
@@ -111,7 +197,7 @@ fn repeated(alloc: Global, count: usize) -> Result<String, Fail> {
 /// Moves up from the end of a row of 70,000 characters and one of one character, and down again.
 fn long_rows_crossed(rt: &(impl AllocGlobal + Abort), text: &str) -> Result<(), Fail> {
     let mut line = line_of(rt.alloc(), text)?;
-    let layout = layout(GraphemeClusterMode::Unicode, 2);
+    let layout = layout(GraphemeClusterMode::Unicode, 2, None);
     assert!(rt; line.move_to_line_up(1, &layout) && line.pos() == 0);
     assert!(rt; line.move_to_line_down(1, &layout) && line.pos() == 70_002);
     Ok(())
@@ -147,7 +233,21 @@ const TABLES: [&str; 4] = [
     JOINED_EMOJI_ABOVE,
 ];
 
+const TABLES_OF_TABS: [&str; 6] = [
+    UP_WITH_TABS,
+    DOWN_WITH_TABS,
+    TABS_AT_THE_END_OF_A_ROW,
+    OTHER_STOPS,
+    TABS_BESIDE_WIDE_CLUSTERS,
+    TABS_THAT_ARE_NOT_DRAWN,
+];
+
 #[test]
 fn motions_by_rows(rt: HostRuntime) -> Result<(), Fail> {
     plays(rt.alloc(), &TABLES)
+}
+
+#[test]
+fn motions_by_rows_with_tabs(rt: HostRuntime) -> Result<(), Fail> {
+    plays(rt.alloc(), &TABLES_OF_TABS)
 }

@@ -4,7 +4,9 @@
 
 use crate::buffer::arguments::Arguments;
 use crate::buffer::log::Log;
-use line_buffer::{GraphemeClusterMode, Layout, LineBuffer, OutOfMemory, Position, RepeatCount};
+use line_buffer::{
+    GraphemeClusterMode, Layout, LineBuffer, OutOfMemory, Position, RepeatCount, TabStops,
+};
 use stand_ins::lines::{line_of, shown_of};
 use stand_ins::rows::{Player, raised, rows_hold};
 use stand_ins::tables::pictured;
@@ -117,8 +119,8 @@ fn moved(line: &mut LineBuffer, a: &Arguments<'_>) -> Option<bool> {
         "move_to_prev_word" => line.move_to_prev_word(a.word, n),
         "move_to_next_word" => line.move_to_next_word(a.at, a.word, n),
         "move_to" => line.move_to(a.search, n),
-        "move_to_line_up" => line.move_to_line_up(n, &layout(a.mode, a.column)),
-        "move_to_line_down" => line.move_to_line_down(n, &layout(a.mode, a.column)),
+        "move_to_line_up" => line.move_to_line_up(n, &layout(a.mode, a.column, a.stops)),
+        "move_to_line_down" => line.move_to_line_down(n, &layout(a.mode, a.column, a.stops)),
         _ => return moved_to_an_end(line, a.name),
     })
 }
@@ -137,9 +139,14 @@ fn moved_to_an_end(line: &mut LineBuffer, name: &str) -> Option<bool> {
 }
 
 /// The layout after a prompt that ends at a column.
-pub(crate) fn layout(mode: GraphemeClusterMode, col: RepeatCount) -> Layout {
+pub(crate) fn layout(
+    mode: GraphemeClusterMode,
+    col: RepeatCount,
+    stops: Option<TabStops>,
+) -> Layout {
     let mut layout = Layout::new(mode);
     layout.prompt_size = Position { col, row: 0 };
+    layout.tab_stops = stops;
     layout
 }
 

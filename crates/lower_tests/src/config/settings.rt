@@ -40,6 +40,8 @@ fn drawing_answer(alloc: Global, config: &Config, name: &str) -> Result<String, 
         "bell_style" => shown(alloc, config.bell_style()),
         "color_mode" => shown(alloc, config.color_mode()),
         "draw_colours" => shown(alloc, config.draw_colours()),
+        "draw_tabs" => shown(alloc, config.draw_tabs()),
+        "drawn_tab_stop" => shown(alloc, config.drawn_tab_stop()),
         "grapheme_cluster_mode" => shown(alloc, config.grapheme_cluster_mode()),
         _ => terminal_answer(alloc, config, name),
     }
@@ -87,6 +89,8 @@ const DEFAULTS: &str = "
     bell_style = Audible
     color_mode = Enabled
     draw_colours = false
+    draw_tabs = false
+    drawn_tab_stop = None
     grapheme_cluster_mode = Unicode
     behavior = Stdio
     tab_stop = 8
@@ -149,6 +153,7 @@ fn set_drawing<C: Configurer>(holder: &mut C) {
     holder.set_bell_style(BellStyle::Visible);
     holder.set_color_mode(ColorMode::Forced);
     holder.set_draw_colours(true);
+    holder.set_draw_tabs(true);
     holder.set_grapheme_cluster_mode(GraphemeClusterMode::NoZwj);
 }
 
@@ -172,6 +177,8 @@ const ALL_SET: &str = "
     bell_style = Visible
     color_mode = Forced
     draw_colours = true
+    draw_tabs = true
+    drawn_tab_stop = Some(4)
     grapheme_cluster_mode = NoZwj
     tab_stop = 4
     indent_size = 5
@@ -238,6 +245,7 @@ fn build_drawing(builder: Builder) -> Builder {
         .bell_style(BellStyle::Visible)
         .color_mode(ColorMode::Forced)
         .draw_colours(true)
+        .draw_tabs(true)
         .grapheme_cluster_mode(GraphemeClusterMode::NoZwj)
 }
 

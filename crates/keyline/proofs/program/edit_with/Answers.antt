@@ -5,8 +5,8 @@ use Rattle.keyline.proofs.program.edit_with.Goals as goal
 
 pub returns-clause-edits : goal.returns-clause-edits
 returns-clause-edits g c =
-    let session = c.in_ok-session.session in
-    let opened = c.in_ok-session.ensures in
+    let session = c.in-Ok.session in
+    let opened = c.in-Ok.ensures in
     edited g.F.Source.feed _ _ _ c.args.config c.args.options.now _ c.args.history c.args.source c.args.display c.args.lines c.args.text session.text c.run.result
     session.desk session.config _ _ c.helper_of-helper.result
     opened.desk c.run.ensures

@@ -15,12 +15,12 @@ overflow_add-end c =
 pub range-requires-clause-end_boundary : goal.range-requires-clause-end_boundary
 range-requires-clause-end_boundary c = (walks_row_piece _ 18446744073709551615 enough _ _ c.args.row.now _ _ (c.in-Some.start, c.in-Some.cluster.now) c.in-Some.ensures.steps _ c.loop-start.invariant).end
 
-pub returns-then-from-min-clause-value : goal.returns-then-from-min-clause-value
-returns-then-from-min-clause-value c =
+pub returns-then-first-min-clause-value : goal.returns-then-first-min-clause-value
+returns-then-first-min-clause-value c =
     walks_row_hit _ 18446744073709551615 enough c.args.first c.args.column c.args.row.now _ _ (c.in-Some.start, c.in-Some.cluster.now) c.in-Some.ensures.steps _ c.loop-start.invariant (omega arith)
 
-pub returns-then-from-min-clause-boundary : goal.returns-then-from-min-clause-boundary
-returns-then-from-min-clause-boundary c = (walks_row_piece _ 18446744073709551615 enough _ _ c.args.row.now _ _ (c.in-Some.start, c.in-Some.cluster.now) c.in-Some.ensures.steps _ c.loop-start.invariant).end
+pub returns-then-first-min-clause-boundary : goal.returns-then-first-min-clause-boundary
+returns-then-first-min-clause-boundary c = (walks_row_piece _ 18446744073709551615 enough _ _ c.args.row.now _ _ (c.in-Some.start, c.in-Some.cluster.now) c.in-Some.ensures.steps _ c.loop-start.invariant).end
 
 pub columns_up_to-width-requires-clause-boundary : goal.columns_up_to-width-requires-clause-boundary
 columns_up_to-width-requires-clause-boundary c =

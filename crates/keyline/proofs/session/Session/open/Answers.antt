@@ -36,7 +36,7 @@ returns-clause-desk g c =
       source_is = c.new-2.ensures.source ∙ devices.0;
       kept = c.new-2.ensures.kept;
       screen = search rules;
-      display_is = c.set_colours.ensures.sink ∙ c.new-out.ensures.sink ∙ devices.1;
+      display_is = c.set_tab_stop.ensures.sink ∙ c.set_colours.ensures.sink ∙ c.new-out.ensures.sink ∙ devices.1;
       helper_is = refl;
       lines_are = devices.2;
     }

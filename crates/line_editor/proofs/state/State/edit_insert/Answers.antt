@@ -19,7 +19,7 @@ invariant_of-self-2 g c =
 pub returns-in_err-inserted : goal.returns-in_err-inserted
 returns-in_err-inserted g c =
     let s = c.args.self.now in
-    let shown = inserted_shown c.args.ch (may_be_typed c.args.ch c.args.n (value_of s)) in
+    let shown = inserted_shown c.args.ch (may_be_typed (is_some (setting_of s).tabs) c.args.ch c.args.n (value_of s)) in
     record {
       does = edit_refused (insert_char c.args.ch c.args.n) shown (typing c.args.ch c.args.n)
           (value_of s) s _ _ _ _ c.from_residual.ensures.1

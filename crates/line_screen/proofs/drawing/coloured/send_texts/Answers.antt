@@ -3,7 +3,7 @@ use Rattle.std.proofs.Common.{ℕ, List, ◌++◌, ◌∙◌, ap, subst}
 use Rattle.line_config.specs.Sending.{Takes, TakesSome, Sends}
 use Rattle.line_screen.specs.Drawing.{no_style}
 use Rattle.line_screen.specs.Colours.{painted, painted_text, end_of, styles_in}
-use Rattle.line_screen.specs.Measure.{cluster_width}
+use Rattle.line_screen.specs.Measure.{widths_by}
 use Rattle.line_config.proofs.Taking.{sends_then, sends_cut}
 use Rattle.line_screen.proofs.Sendings.{shown_parts}
 use Rattle.line_screen.proofs.drawing.coloured.send_texts.Goals as goal
@@ -13,7 +13,7 @@ returns-in_err-prompt_end g c =
     let held = g.D.Sink.held in
     let failed = g.D.Sink.has_failed in
     let columns = c.args.grid.columns in
-    let wide = cluster_width c.args.grid.mode columns in
+    let wide = widths_by c.args.grid.mode c.args.grid.tab columns in
     let prompt = painted_text wide (styles_in g.H.Highlighter.marks c.args.painting.now).prompt c.args.painting.now.prompt.text.now in
     let line = painted_text wide (styles_in g.H.Highlighter.marks c.args.painting.now).line c.args.painting.now.line.text.now in
     let info = painted_text wide (styles_in g.H.Highlighter.marks c.args.painting.now).info c.args.painting.now.info.text.now in
@@ -31,7 +31,7 @@ returns-in_err-line_end g c =
     let held = g.D.Sink.held in
     let failed = g.D.Sink.has_failed in
     let columns = c.args.grid.columns in
-    let wide = cluster_width c.args.grid.mode columns in
+    let wide = widths_by c.args.grid.mode c.args.grid.tab columns in
     let prompt = painted_text wide (styles_in g.H.Highlighter.marks c.args.painting.now).prompt c.args.painting.now.prompt.text.now in
     let line = painted_text wide (styles_in g.H.Highlighter.marks c.args.painting.now).line c.args.painting.now.line.text.now in
     let info = painted_text wide (styles_in g.H.Highlighter.marks c.args.painting.now).info c.args.painting.now.info.text.now in
@@ -52,7 +52,7 @@ returns-in_err-send_part g c =
     let held = g.D.Sink.held in
     let failed = g.D.Sink.has_failed in
     let columns = c.args.grid.columns in
-    let wide = cluster_width c.args.grid.mode columns in
+    let wide = widths_by c.args.grid.mode c.args.grid.tab columns in
     let prompt = painted_text wide (styles_in g.H.Highlighter.marks c.args.painting.now).prompt c.args.painting.now.prompt.text.now in
     let line = painted_text wide (styles_in g.H.Highlighter.marks c.args.painting.now).line c.args.painting.now.line.text.now in
     let info = painted_text wide (styles_in g.H.Highlighter.marks c.args.painting.now).info c.args.painting.now.info.text.now in
@@ -76,7 +76,7 @@ returns g c =
     let held = g.D.Sink.held in
     let failed = g.D.Sink.has_failed in
     let columns = c.args.grid.columns in
-    let wide = cluster_width c.args.grid.mode columns in
+    let wide = widths_by c.args.grid.mode c.args.grid.tab columns in
     let prompt = painted_text wide (styles_in g.H.Highlighter.marks c.args.painting.now).prompt c.args.painting.now.prompt.text.now in
     let line = painted_text wide (styles_in g.H.Highlighter.marks c.args.painting.now).line c.args.painting.now.line.text.now in
     let info = painted_text wide (styles_in g.H.Highlighter.marks c.args.painting.now).info c.args.painting.now.info.text.now in

@@ -2,7 +2,7 @@
 use Rattle.std.proofs.Common.{Bool, sym, subst}
 use Rattle.line_screen.specs.Colours.{end_of, next_painted, painted_row, spans_in, brush_paints, skip, painted, SendsPainted}
 use Rattle.line_screen.specs.Drawing.{row_break}
-use Rattle.line_screen.specs.Measure.{cluster_width}
+use Rattle.line_screen.specs.Measure.{widths_by}
 use Rattle.line_screen.proofs.Sendings.{sends_to_cut}
 use Rattle.line_screen.proofs.drawing.painted.send_next_painted.Goals as goal
 
@@ -11,7 +11,7 @@ returns-in_err-send g c =
     let held = g.D.Sink.held in
     let failed = g.D.Sink.has_failed in
     let columns = c.args.grid.columns in
-    let wide = cluster_width c.args.grid.mode columns in
+    let wide = widths_by c.args.grid.mode c.args.grid.tab columns in
     let row = painted_row wide (skip 1 (spans_in (brush_paints g.H.Highlighter.marks c.args.brush.now) c.args.spans)) c.args.row.now in
     let Row : Bool → Type 0 = λ first. SendsPainted (next_painted wide first (spans_in (brush_paints g.H.Highlighter.marks c.args.brush.now) c.args.spans) c.args.row.now) c.args.start columns held failed c.args.sink.now c.send.new.sink c.from_residual.result in
     subst Row (sym c.if-is_first.false)

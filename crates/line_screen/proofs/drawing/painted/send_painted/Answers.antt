@@ -5,21 +5,21 @@ use Rattle.std.proofs.lemmas.Iterator.Consumers.{YieldsList-turn, YieldsList-end
 use Rattle.std.proofs.lemmas.Iterator.Splits.{YieldsList-from_str_split}
 use Rattle.line_screen.specs.Colours.{Span, painted_text, next_painted, spans_in, brush_paints, brush_spans, span_of, spans_behind}
 use Rattle.line_screen.specs.Drawing.{split_rows}
-use Rattle.line_screen.specs.Measure.{cluster_width}
+use Rattle.line_screen.specs.Measure.{widths_by}
 use Rattle.line_screen.proofs.PaintRuns.{PaintSoFar, paint_start, paint_steps, paint_done, paint_cut}
 use Rattle.line_screen.proofs.PaintCode.{painted_from, rows_take, rows_end}
 use Rattle.line_screen.proofs.drawing.painted.send_painted.Goals as goal
 
 pub loop-row-init : goal.loop-row-init
 loop-row-init g c =
-    let wide = cluster_width c.args.grid.mode c.args.grid.columns in
+    let wide = widths_by c.args.grid.mode c.args.grid.tab c.args.grid.columns in
     let all = painted_text wide (brush_spans g.H.Highlighter.marks c.args.brush.now) c.args.brush.now.text.now in
     let Start : List Span → Type 0 = λ ss. PaintSoFar g.D.Sink.held g.D.Sink.has_failed c.args.grid.columns c.args.start all (painted_from wide c.args.brush.now.text.now true ss 0) c.args.sink.now c.args.sink.now c.args.start in
     subst Start (sym c.new-left.ensures) (paint_start g.D.Sink.held g.D.Sink.has_failed c.args.grid.columns c.args.start all c.args.sink.now c.requires.inside)
 
 pub loop-row-preserved : goal.loop-row-preserved
 loop-row-preserved g c =
-    let wide = cluster_width c.args.grid.mode c.args.grid.columns in
+    let wide = widths_by c.args.grid.mode c.args.grid.tab c.args.grid.columns in
     let text = c.args.brush.now.text.now in
     let turn = YieldsList-turn (YieldsList-from_str_split 10 text (lit< tt) (cc) (cc) (cc)) c.loop-row.yielded _ c.loop-row.yielded_by _ _ c.in-Some.row c.in-Some.is c.next.ensures.steps in
     paint_steps g.D.Sink.held g.D.Sink.has_failed c.args.grid.columns c.args.start
@@ -33,7 +33,7 @@ loop-row-preserved g c =
 
 pub returns-in_err-col : goal.returns-in_err-col
 returns-in_err-col g c =
-    let wide = cluster_width c.args.grid.mode c.args.grid.columns in
+    let wide = widths_by c.args.grid.mode c.args.grid.tab c.args.grid.columns in
     let text = c.args.brush.now.text.now in
     let spans = spans_in (brush_paints g.H.Highlighter.marks c.args.brush.now) c.loop-row.left in
     let row = c.in-Some.row.now in
@@ -49,7 +49,7 @@ returns-in_err-col g c =
 
 pub returns : goal.returns
 returns g c =
-    let wide = cluster_width c.args.grid.mode c.args.grid.columns in
+    let wide = widths_by c.args.grid.mode c.args.grid.tab c.args.grid.columns in
     let text = c.args.brush.now.text.now in
     let last = YieldsList-end (YieldsList-from_str_split 10 text (lit< tt) (cc) (cc) (cc)) c.loop-row.yielded _ c.loop-row.yielded_by _ _ c.in-None.is c.next.ensures.steps in
     let all : length (split_rows text) ≤ length c.loop-row.yielded = omega (arith, last.1) in

@@ -3,7 +3,7 @@ use Rattle.std.proofs.Common.{length, refl, sym, ap, ◌∙◌}
 use Rattle.line_screen.specs.Styles.{numbers}
 use Rattle.line_screen.specs.Colours.{painted_letters, painted_item, painted_after, first_style, spans_in, brush_paints, skip}
 use Rattle.line_screen.specs.Drawing.{drawn_item}
-use Rattle.line_screen.specs.Measure.{cluster_width}
+use Rattle.line_screen.specs.Measure.{widths_by}
 use Rattle.line_screen.proofs.PaintRuns.{paint_start, paint_steps, paint_cut, paint_then}
 use Rattle.line_screen.proofs.drawing.painted.send_painted_after.Goals as goal
 
@@ -12,7 +12,7 @@ returns-in_err-col g c =
     let held = g.D.Sink.held in
     let failed = g.D.Sink.has_failed in
     let columns = c.args.grid.columns in
-    let wide = cluster_width c.args.grid.mode columns in
+    let wide = widths_by c.args.grid.mode c.args.grid.tab columns in
     let spans = spans_in (brush_paints g.H.Highlighter.marks c.args.brush.now) c.args.spans in
     let letters = c.args.letters.now in
     let all = painted_after wide spans letters c.args.cluster.now in
@@ -25,7 +25,7 @@ returns g c =
     let held = g.D.Sink.held in
     let failed = g.D.Sink.has_failed in
     let columns = c.args.grid.columns in
-    let wide = cluster_width c.args.grid.mode columns in
+    let wide = widths_by c.args.grid.mode c.args.grid.tab columns in
     let spans = spans_in (brush_paints g.H.Highlighter.marks c.args.brush.now) c.args.spans in
     let letters = c.args.letters.now in
     let item = drawn_item wide c.args.cluster.now in

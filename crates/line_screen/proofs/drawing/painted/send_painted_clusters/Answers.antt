@@ -5,14 +5,14 @@ use Rattle.unicode_segmentation.specs.Grapheme.{graphemes, is_grapheme_break}
 use Rattle.unicode_segmentation.specs.Iter.{graphemes_left}
 use Rattle.unicode_segmentation.proofs.SegmentsLemmas.{concat-segments}
 use Rattle.line_screen.specs.Colours.{painted_letters, painted_after, painted_clusters, spans_in, brush_paints, skip}
-use Rattle.line_screen.specs.Measure.{cluster_width}
+use Rattle.line_screen.specs.Measure.{widths_by}
 use Rattle.line_screen.proofs.PaintRuns.{PaintSoFar, paint_start, paint_steps, paint_cut, paint_then}
 use Rattle.line_screen.proofs.PaintCode.{next_other, letters_taken, tail_dropped}
 use Rattle.line_screen.proofs.drawing.painted.send_painted_clusters.Goals as goal
 
 pub loop-cluster-init : goal.loop-cluster-init
 loop-cluster-init g c =
-    let wide = cluster_width c.args.grid.mode c.args.grid.columns in
+    let wide = widths_by c.args.grid.mode c.args.grid.tab c.args.grid.columns in
     let spans = spans_in (brush_paints g.H.Highlighter.marks c.args.brush.now) c.args.spans in
     let row = c.args.row.now in
     let all = painted_clusters wide spans [] (graphemes true row) in
@@ -27,7 +27,7 @@ loop-cluster-init g c =
 
 pub returns-in_err-col : goal.returns-in_err-col
 returns-in_err-col g c =
-    let wide = cluster_width c.args.grid.mode c.args.grid.columns in
+    let wide = widths_by c.args.grid.mode c.args.grid.tab c.args.grid.columns in
     let paints = brush_paints g.H.Highlighter.marks c.args.brush.now in
     let all = painted_clusters wide (spans_in paints c.args.spans) [] (graphemes true c.args.row.now) in
     let spans = spans_in paints c.loop-cluster.left in
@@ -47,7 +47,7 @@ returns-in_err-col g c =
 
 pub loop-cluster-preserved-then-not-is_letter : goal.loop-cluster-preserved-then-not-is_letter
 loop-cluster-preserved-then-not-is_letter g c =
-    let wide = cluster_width c.args.grid.mode c.args.grid.columns in
+    let wide = widths_by c.args.grid.mode c.args.grid.tab c.args.grid.columns in
     let paints = brush_paints g.H.Highlighter.marks c.args.brush.now in
     let all = painted_clusters wide (spans_in paints c.args.spans) [] (graphemes true c.args.row.now) in
     let spans = spans_in paints c.loop-cluster.left in
@@ -74,7 +74,7 @@ loop-cluster-preserved-then-not-is_letter g c =
 
 pub returns : goal.returns
 returns g c =
-    let wide = cluster_width c.args.grid.mode c.args.grid.columns in
+    let wide = widths_by c.args.grid.mode c.args.grid.tab c.args.grid.columns in
     let paints = brush_paints g.H.Highlighter.marks c.args.brush.now in
     let all = painted_clusters wide (spans_in paints c.args.spans) [] (graphemes true c.args.row.now) in
     let spans = spans_in paints c.loop-cluster.left in

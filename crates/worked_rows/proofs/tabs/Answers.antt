@@ -1,0 +1,162 @@
+use Rattle.std.proofs.Common.{◌≡◌, ℕ, [], ◌++◌, List, drop, refl, subst, take}
+use Rattle.worked_rows.specs.Tabs.{tabs_rows}
+use Rattle.worked_rows.specs.Playing.{Row, differing}
+use Rattle.worked_rows.specs.Showing.{AllShown, short, unshown}
+use Rattle.worked_rows.proofs.Computing.{computing}
+use Rattle.worked_rows.proofs.ShownLemmas.{all_shown, both_given, both_shown}
+use Rattle.worked_rows.proofs.tabs.Goals as goal
+
+-- some rows at a time: one computation takes only so many steps
+abbrev part : ℕ → List Row
+part n = take 7 (drop n tabs_rows)
+
+abbrev from_56 : List Row
+from_56 = drop 56 tabs_rows
+
+abbrev from_49 : List Row
+from_49 = part 49 ++ from_56
+
+abbrev from_42 : List Row
+from_42 = part 42 ++ from_49
+
+abbrev from_35 : List Row
+from_35 = part 35 ++ from_42
+
+abbrev from_28 : List Row
+from_28 = part 28 ++ from_35
+
+abbrev from_21 : List Row
+from_21 = part 21 ++ from_28
+
+abbrev from_14 : List Row
+from_14 = part 14 ++ from_21
+
+abbrev from_7 : List Row
+from_7 = part 7 ++ from_14
+
+abbrev from_0 : List Row
+from_0 = part 0 ++ from_7
+
+all-rows : from_0 ≡ tabs_rows
+all-rows = refl
+
+given-0 : differing (part 0) ≡ []
+unfolding computing
+given-0 = refl
+
+unshown-0 : unshown (short (part 0)) ≡ []
+unfolding computing
+unshown-0 = refl
+
+shown-0 : AllShown (short (part 0))
+shown-0 = all_shown (short (part 0)) unshown-0
+
+given-7 : differing (part 7) ≡ []
+unfolding computing
+given-7 = refl
+
+unshown-7 : unshown (short (part 7)) ≡ []
+unfolding computing
+unshown-7 = refl
+
+shown-7 : AllShown (short (part 7))
+shown-7 = all_shown (short (part 7)) unshown-7
+
+given-14 : differing (part 14) ≡ []
+unfolding computing
+given-14 = refl
+
+unshown-14 : unshown (short (part 14)) ≡ []
+unfolding computing
+unshown-14 = refl
+
+shown-14 : AllShown (short (part 14))
+shown-14 = all_shown (short (part 14)) unshown-14
+
+given-21 : differing (part 21) ≡ []
+unfolding computing
+given-21 = refl
+
+unshown-21 : unshown (short (part 21)) ≡ []
+unfolding computing
+unshown-21 = refl
+
+shown-21 : AllShown (short (part 21))
+shown-21 = all_shown (short (part 21)) unshown-21
+
+given-28 : differing (part 28) ≡ []
+unfolding computing
+given-28 = refl
+
+unshown-28 : unshown (short (part 28)) ≡ []
+unfolding computing
+unshown-28 = refl
+
+shown-28 : AllShown (short (part 28))
+shown-28 = all_shown (short (part 28)) unshown-28
+
+given-35 : differing (part 35) ≡ []
+unfolding computing
+given-35 = refl
+
+unshown-35 : unshown (short (part 35)) ≡ []
+unfolding computing
+unshown-35 = refl
+
+shown-35 : AllShown (short (part 35))
+shown-35 = all_shown (short (part 35)) unshown-35
+
+given-42 : differing (part 42) ≡ []
+unfolding computing
+given-42 = refl
+
+unshown-42 : unshown (short (part 42)) ≡ []
+unfolding computing
+unshown-42 = refl
+
+shown-42 : AllShown (short (part 42))
+shown-42 = all_shown (short (part 42)) unshown-42
+
+given-49 : differing (part 49) ≡ []
+unfolding computing
+given-49 = refl
+
+unshown-49 : unshown (short (part 49)) ≡ []
+unfolding computing
+unshown-49 = refl
+
+shown-49 : AllShown (short (part 49))
+shown-49 = all_shown (short (part 49)) unshown-49
+
+given-56 : differing from_56 ≡ []
+unfolding computing
+given-56 = refl
+
+unshown-56 : unshown (short from_56) ≡ []
+unfolding computing
+unshown-56 = refl
+
+shown-56 : AllShown (short from_56)
+shown-56 = all_shown (short from_56) unshown-56
+
+pub returns-clause-given : goal.returns-clause-given
+returns-clause-given c = subst (λ rows. differing rows ≡ []) all-rows
+    (both_given (part 0) from_7 given-0
+    (both_given (part 7) from_14 given-7
+    (both_given (part 14) from_21 given-14
+    (both_given (part 21) from_28 given-21
+    (both_given (part 28) from_35 given-28
+    (both_given (part 35) from_42 given-35
+    (both_given (part 42) from_49 given-42
+    (both_given (part 49) from_56 given-49 given-56))))))))
+
+pub returns-clause-shown : goal.returns-clause-shown
+returns-clause-shown c = subst (λ rows. AllShown (short rows)) all-rows
+    (both_shown (part 0) from_7 shown-0
+    (both_shown (part 7) from_14 shown-7
+    (both_shown (part 14) from_21 shown-14
+    (both_shown (part 21) from_28 shown-21
+    (both_shown (part 28) from_35 shown-28
+    (both_shown (part 35) from_42 shown-35
+    (both_shown (part 42) from_49 shown-42
+    (both_shown (part 49) from_56 shown-49 shown-56))))))))
