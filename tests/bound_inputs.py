@@ -129,6 +129,8 @@ class Session:
     def prompt(self):
         return meant(self.value("prompt:", "> ")).decode()
 
+    drawn_prompt = prompt
+
     @property
     def mode(self):
         return "vi" if "vi" in self.words else "emacs"

@@ -94,7 +94,7 @@ def with_one_more(session, shown, text, ways, is_last):
 def shown_ends(session, shown, text, begun, is_last):
     """Where the lines end that begin at a place in a text and that the display shows: at its first newline, or at a later one,
     since some lines contain newlines. If two drawings look alike, there are several."""
-    drawn, drawn_to = drawing(session, session.prompt), begun
+    drawn, drawn_to = drawing(session, session.drawn_prompt), begun
     for end in [len(text) - 1] if is_last else (found.start() for found in re.compile("\n").finditer(text, begun)):
         if end < begun:
             return
@@ -120,7 +120,7 @@ def is_shown(session, shown, line, drawn):
 
 def styled(session, line, message, spans):
     """The columns with styles of a drawing, by the spans of prompt, line and message."""
-    return drawing(session, session.prompt, line, message or "", spans=spans).styled()
+    return drawing(session, session.drawn_prompt, line, message or "", spans=spans).styled()
 
 
 def standard_styles(session, line, message):
@@ -154,7 +154,7 @@ def shows_prompt(session, shown):
 def prompts_of(session, shown):
     """The prompts that a display may show, drawn: the session's own, that of a count, and that of a search."""
     count = COUNT.match(shown.text(shown.top, 0))
-    for prompt in [session.prompt] + ([count[0]] if count else []):
+    for prompt in [session.drawn_prompt] + ([count[0]] if count else []):
         yield drawing(session, prompt)
     if session.is_modal():
         yield from prompts_of_searches(session, shown)

@@ -51,6 +51,7 @@ VI += [b"fa", b"F ", b"tb", b"T,", b"rx", b"r\x1b", b"dd", b"cc", b"yy", b"dw", 
        b"3.", b"dz", b"cx"]
 
 
+SEQUENCE = re.compile(r"\x1b\[[ -?]*[@-~]")
 MESSAGE = re.compile(r"Mismatched brackets: '.' is (unpaired|not properly closed)")
 
 
@@ -80,11 +81,16 @@ class Session:
         """How many columns apart tab stops are, if tabs are drawn as blanks."""
         return 8 if self.extended else None
 
+    @property
+    def drawn_prompt(self):
+        """The prompt without its control sequences (ECMA-48), if these are its styles."""
+        return SEQUENCE.sub("", self.prompt) if self.extended else self.prompt
+
     def with_message(self, shown, line, place):
         """The message that a display shows after prompt and line, if it may show one, and the drawing with it."""
         message = shown.text(shown.top + place[0], place[1])
         if self.brackets and MESSAGE.fullmatch(message):
-            yield message, drawing(self, self.prompt, line, message)
+            yield message, drawing(self, self.drawn_prompt, line, message)
 
     def styled(self, line, message):
         """The styles that an accepted line may have."""
