@@ -12,7 +12,7 @@ from names import TOP
 from wrong_bodies import below, crates_of, read, write
 
 NAME = "worked_rows"
-SPECS = ("Comparing", "Playing", "Settings", "Showing")
+SPECS = ("Comparing", "Playing", "Settings", "Showing", "Splitting")
 PROOFS = ("Computing", "ShownLemmas")
 # What claims say, and a claim's answer.
 CITED = """use Rattle.std.specs.Prelude.{◌≡◌, ◌/◌, ◌%◌, ◌^◌, true, [], ◌∷◌}
