@@ -56,6 +56,8 @@ pub(crate) struct Stage {
     /// The commands that come before each row's own, with `; ` after each.
     first: String,
     pub bindings: Bindings,
+    /// The settings of a line.
+    config: Config,
     /// Whether the result is the ring, and not the calls.
     pub tells_ring: bool,
 }
@@ -120,6 +122,7 @@ impl Stage {
             limit: 100,
             first: String::new(alloc),
             bindings,
+            config: Config::builder().build(),
             tells_ring: false,
         })
     }
@@ -202,7 +205,7 @@ impl Stage {
 
 /// A line over a renderer that logs its calls. Functions that edit it don't name the helper's type:
 /// with a named one the borrow checker finds no unique type for its hints.
-pub(crate) type Desk<'h, H> = State<'static, 'h, CallList, H, MemHistory>;
+pub(crate) type Desk<'h, H> = State<'h, 'h, CallList, H, MemHistory>;
 
 // A history with these entries, oldest first, separated by commas.
 fn history_of(alloc: Global, entries: &str) -> Result<MemHistory, ReadlineError> {
@@ -279,7 +282,14 @@ fn empty_desk<'h, H: Helper + Drop>(
     stage: &'h Stage,
 ) -> Result<Desk<'h, H>, ReadlineError> {
     let out = CallList::new(alloc, stage.columns, stage.colours, stage.tab);
-    State::new(alloc, out, "> ", None, Context::new(&stage.history))
+    State::new(
+        alloc,
+        out,
+        "> ",
+        None,
+        Context::new(&stage.history),
+        &stage.config,
+    )
 }
 
 /// Runs a command, like a turn of a line does.
@@ -287,13 +297,12 @@ pub(crate) fn make<H: Helper + Drop, D: Decides>(
     desk: &mut Desk<'_, H>,
     input: &InputState<'_, D>,
     ring: &mut KillRing,
-    config: &Config,
     cmd: Cmd,
 ) -> Result<Status, ReadlineError> {
     if cmd.should_reset_kill_ring() {
         ring.reset();
     }
-    execute(cmd, desk, input, ring, config)
+    execute(cmd, desk, input, ring)
 }
 
 pub(crate) fn status_of(
@@ -338,7 +347,6 @@ fn make_named<H: Helper + Drop>(
     desk: &mut Desk<'_, H>,
     input: &InputState<'_>,
     ring: &mut KillRing,
-    config: &Config,
     answered: Option<u32>,
     words: &str,
 ) -> Result<String, Fail> {
@@ -346,7 +354,7 @@ fn make_named<H: Helper + Drop>(
     let out = &mut desk.out;
     out.log.forget();
     out.log.answer(answered);
-    status_of(alloc, make(desk, input, ring, config, cmd))
+    status_of(alloc, make(desk, input, ring, cmd))
 }
 
 // Runs commands one after the other; how the last of them ended.
@@ -355,13 +363,12 @@ fn make_all<H: Helper + Drop>(
     desk: &mut Desk<'_, H>,
     input: &InputState<'_>,
     ring: &mut KillRing,
-    config: &Config,
     answered: Option<u32>,
     commands: &str,
 ) -> Result<String, Fail> {
     let mut status = String::new(alloc);
     for words in commands.split("; ") {
-        status = make_named(alloc, desk, input, ring, config, answered, words.trim())?;
+        status = make_named(alloc, desk, input, ring, answered, words.trim())?;
     }
     Ok(status)
 }
@@ -373,11 +380,10 @@ fn told<H: Helper + Drop>(
     desk: &mut Desk<'_, H>,
     input: &InputState<'_>,
     ring: &mut KillRing,
-    config: &Config,
     status: &str,
 ) -> Result<String, Fail> {
     if stage.tells_ring {
-        return ring_told(alloc, desk, input, ring, config);
+        return ring_told(alloc, desk, input, ring);
     }
     let (recorded, out) = (&desk.recorded, &desk.out);
     raised(calls_told(alloc, &recorded.line, out.calls(), status))
@@ -407,11 +413,10 @@ fn undone<H: Helper + Drop>(
     desk: &mut Desk<'_, H>,
     input: &InputState<'_>,
     ring: &mut KillRing,
-    config: &Config,
 ) -> Result<String, AllocError> {
     let out = &mut desk.out;
     out.log.answer(None);
-    let _ = make(desk, input, ring, config, Cmd::Undo(1));
+    let _ = make(desk, input, ring, Cmd::Undo(1));
     line_shown(alloc, &desk.recorded.line)
 }
 
@@ -421,10 +426,9 @@ fn ring_told<H: Helper + Drop>(
     desk: &mut Desk<'_, H>,
     input: &InputState<'_>,
     ring: &mut KillRing,
-    config: &Config,
 ) -> Result<String, Fail> {
     let kept = kept_told(alloc, &desk.recorded.line, ring)?;
-    let undone = undone(alloc, desk, input, ring, config)?;
+    let undone = undone(alloc, desk, input, ring)?;
     raised(format!(in alloc; "{kept} / {undone}"))
 }
 
@@ -445,7 +449,6 @@ pub(crate) trait Work {
         desk: &mut Desk<'_, H>,
         input: &mut InputState<'_>,
         ring: &mut KillRing,
-        config: &Config,
     ) -> Result<String, Fail>;
 }
 
@@ -472,18 +475,9 @@ impl Work for Commands<'_> {
         desk: &mut Desk<'_, H>,
         input: &mut InputState<'_>,
         ring: &mut KillRing,
-        config: &Config,
     ) -> Result<String, Fail> {
-        let status = make_all(
-            alloc,
-            desk,
-            input,
-            ring,
-            config,
-            stage.answered,
-            self.commands,
-        )?;
-        told(alloc, stage, desk, input, ring, config, status.as_str())
+        let status = make_all(alloc, desk, input, ring, stage.answered, self.commands)?;
+        told(alloc, stage, desk, input, ring, status.as_str())
     }
 }
 
@@ -496,7 +490,7 @@ fn done_with<H: Helper + Drop, W: Work>(
 ) -> Result<String, Fail> {
     let config = Config::builder().edit_mode(stage.mode).build();
     let mut input = InputState::new(alloc, &config, &stage.bindings)?;
-    work.done(alloc, stage, desk, &mut input, ring, &config)
+    work.done(alloc, stage, desk, &mut input, ring)
 }
 
 fn done_on<H: Helper + Drop, W: Work>(

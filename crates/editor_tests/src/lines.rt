@@ -54,10 +54,9 @@ fn turn<H: Helper + Drop, D: Decides>(
     input: &mut InputState<'_, D>,
     keys: &mut KeyList<'_>,
     ring: &mut KillRing,
-    config: &Config,
 ) -> Result<Status, ReadlineError> {
     let cmd = desk.next_cmd(input, keys, false, false)?;
-    make(desk, input, ring, config, cmd)
+    make(desk, input, ring, cmd)
 }
 
 // Turns until one ends the line; no row has a hundred.
@@ -66,10 +65,9 @@ fn turns<H: Helper + Drop, D: Decides>(
     input: &mut InputState<'_, D>,
     keys: &mut KeyList<'_>,
     ring: &mut KillRing,
-    config: &Config,
 ) -> Result<Status, ReadlineError> {
     for _ in 0..100 {
-        match turn(desk, input, keys, ring, config)? {
+        match turn(desk, input, keys, ring)? {
             Status::Proceed => {}
             Status::Submit => return Ok(Status::Submit),
         }
@@ -89,10 +87,9 @@ fn line<H: Helper + Drop, D: Decides>(
     input: &mut InputState<'_, D>,
     keys: &mut KeyList<'_>,
     ring: &mut KillRing,
-    config: &Config,
 ) -> Result<Status, ReadlineError> {
-    make(desk, input, ring, config, Cmd::Repaint)?;
-    let status = turns(desk, input, keys, ring, config)?;
+    make(desk, input, ring, Cmd::Repaint)?;
+    let status = turns(desk, input, keys, ring)?;
     left_at_the_end(desk)?;
     Ok(status)
 }
@@ -174,12 +171,11 @@ impl Work for Keys<'_> {
         desk: &mut Desk<'_, H>,
         input: &mut InputState<'_>,
         ring: &mut KillRing,
-        config: &Config,
     ) -> Result<String, Fail> {
         let out = &mut desk.out;
         out.log.answer(stage.answered);
         let mut reader = KeyList::new(&self.input.typed, false, self.input.after);
-        let answer = line(desk, input, &mut reader, ring, config);
+        let answer = line(desk, input, &mut reader, ring);
         let (recorded, out) = (&desk.recorded, &desk.out);
         let (line, calls) = (&recorded.line, out.calls());
         self.ended(alloc, stage.tells_ring, line, calls, ring, answer)

@@ -87,7 +87,7 @@ module _ {S H D L K T : Type 0} (k : Known S D L) (helps : Option H → Helping)
       old.out old.ring (string_bytes old.last_query) (items_of k.feed old.reader) ran ring (string_bytes last_query) (items_of k.feed reader)
 
   abbrev setting : Setting
-  setting = setting_by (ruler_of (screen_of old.out)) prompt (helps old.helper) old.history.kept.entries
+  setting = setting_by (ruler_of (screen_of old.out)) prompt (helps old.helper) old.history.kept.entries config
 
   abbrev come : Coming
   come = (items_of k.feed old.reader).coming
@@ -96,7 +96,7 @@ module _ {S H D L K T : Type 0} (k : Known S D L) (helps : Option H → Helping)
   left = (items_of k.feed reader).coming
 
   abbrev first : LineStage (ScreenRenderer D)
-  first = stage_first old.out (ruler_of (screen_of old.out)) setting config old.ring (string_bytes old.last_query) come
+  first = stage_first old.out (ruler_of (screen_of old.out)) setting old.ring (string_bytes old.last_query) come
 
   abbrev last : RunsAt → LineStage (ScreenRenderer D)
   last runs = line_stage (surface ran.out runs.layout) (kept runs.value runs.input ring runs.modal left)
@@ -104,13 +104,13 @@ module _ {S H D L K T : Type 0} (k : Known S D L) (helps : Option H → Helping)
   screen_stays : RunsAt → IsTrue (items_of k.feed reader).told → screen_of ran.out ≡ screen_of old.out
   screen_stays runs t =
       let n = suc (desk_feed k old).bound in
-      goes_stay k.shown k.waits k.show_failed (ruler_of (screen_of old.out)) setting config.indent_size (line_script n custom) first (last runs) (outcome_of ran) (runs.goes t n (le_refl _))
+      goes_stay k.shown k.waits k.show_failed (ruler_of (screen_of old.out)) setting (line_script n custom) first (last runs) (outcome_of ran) (runs.goes t n (le_refl _))
 
   -- nothing waits after the line if nothing waited before it
   line_passes : RunsAt → IsTrue (items_of k.feed reader).told → HasPassedOn k (sink_of old.out) → HasPassedOn k (sink_of ran.out)
   line_passes runs t none =
       let n = suc (desk_feed k old).bound in
-      (reads_find_nothing_waiting k.shown k.waits k.show_failed n custom (ruler_of (screen_of old.out)) setting config.indent_size first (last runs) (outcome_of ran) none (runs.goes t n (le_refl _))).1
+      (reads_find_nothing_waiting k.shown k.waits k.show_failed n custom (ruler_of (screen_of old.out)) setting first (last runs) (outcome_of ran) none (runs.goes t n (le_refl _))).1
 
   module _ (out : ScreenRenderer D) (history : Filed) (lines : L) (result : Result (List ℕ) ReadlineError) where
     abbrev Ends : Result (List ℕ) ReadlineError → Type 0
@@ -143,15 +143,15 @@ module _ {S H D L K T : Type 0} (k : Known S D L) (helps : Option H → Helping)
 
     -- what is asked of it
     abbrev asked_of : ℕ → List Event
-    asked_of n = asks_events (screen_of old.out) setting config.indent_size (fresh (screen_of old.out).mode) (kept_first setting config old.ring (string_bytes old.last_query) come) (played_in n given state).asks
+    asked_of n = asks_events (screen_of old.out) setting (fresh (screen_of old.out).mode) (kept_first setting old.ring (string_bytes old.last_query) come) (played_in n given state).asks
 
     abbrev WholeLine : ℕ → RunsAt → Type 0
     WholeLine n runs =
-        Whole k.shown k.written_in config.auto_add_history old.lines old.history k.waits k.show_failed (screen_of old.out) setting config.indent_size (line_script n custom) first (last runs) (outcome_of ran)
+        Whole k.shown k.written_in config.auto_add_history old.lines old.history k.waits k.show_failed (screen_of old.out) setting (line_script n custom) first (last runs) (outcome_of ran)
 
     abbrev CutLine : ℕ → RunsAt → Type 0
     CutLine n runs =
-        Cut k.shown k.written_in config.auto_add_history old.lines old.history k.waits k.show_failed (screen_of old.out) setting config.indent_size (line_script n custom) first (last runs) (outcome_of ran)
+        Cut k.shown k.written_in config.auto_add_history old.lines old.history k.waits k.show_failed (screen_of old.out) setting (line_script n custom) first (last runs) (outcome_of ran)
 
     abbrev Went' : List Event → Work D L → Work D L → Type 0 → (ReadlineError → Type 0) → Type 0
     Went' events x y W F = Goes k.shown k.written_in config.auto_add_history events x y W F
@@ -214,7 +214,7 @@ module _ {S H D L K T : Type 0} (k : Known S D L) (helps : Option H → Helping)
 
     line_goes : RunsAt → Ends (outcome_of ran) → IsTrue (items_of k.feed reader).told → (n : ℕ) → (desk_feed k old).bound < n → LineComes n
     line_goes runs closes t n b = line_comes n runs closes
-        (line_went k.shown k.written_in config.auto_add_history old.lines old.history k.waits k.show_failed (screen_of old.out) setting config.indent_size
+        (line_went k.shown k.written_in config.auto_add_history old.lines old.history k.waits k.show_failed (screen_of old.out) setting
         (line_script n custom) first (last runs) (outcome_of ran) refl (runs.goes t n b))
 
     line_falls : RunsAt → Went' (end_events (outcome_of ran)) at_end (work_of k new) (result ≡ outcome_of ran) Refused → OnOk result ((desk_feed k new).bound < (desk_feed k old).bound)

@@ -87,13 +87,13 @@ module _ (s : Screen) where
   step_quiet l (HelpStep v fails takes ∷ rs) = step_quiet l rs
   step_quiet l (_ ∷ rs) = step_quiet l rs
 
-  module _ (a : Setting) (indent : ℕ) where
+  module _ (a : Setting) where
     own_bytes : (k : LineState) (ask : LineAsk) (more : List Event) → drawn_in (own_events a k ask ++ more) ≡ drawn_in more
     own_bytes k TurnBegins more = refl
     own_bytes k (Keys (Reads item)) more = refl
     own_bytes k _ more = refl
 
-    own_left : (k : LineState) (ask : LineAsk) (more : List Event) → left_to_come k.coming (own_events a k ask ++ more) ≡ left_to_come (left_at a indent k ask).coming more
+    own_left : (k : LineState) (ask : LineAsk) (more : List Event) → left_to_come k.coming (own_events a k ask ++ more) ≡ left_to_come (left_at a k ask).coming more
     own_left k TurnBegins more = refl
     own_left k (Keys (Reads item)) more = refl
     own_left k _ more = refl
@@ -108,27 +108,27 @@ module _ (s : Screen) where
     own_answered k (Keys (Reads item)) = tt
     own_answered k _ = tt
 
-    asks_bytes : (l : Layout) (k : LineState) (asks : List LineAsk) → drawn_in (asks_events s a indent l k asks) ≡ flat_map (bytes_of s) (drawn_by s l (steps_along a indent k asks)).calls
+    asks_bytes : (l : Layout) (k : LineState) (asks : List LineAsk) → drawn_in (asks_events s a l k asks) ≡ flat_map (bytes_of s) (drawn_by s l (steps_along a k asks)).calls
     asks_bytes l k [] = refl
     asks_bytes l k (ask ∷ asks) =
-        let rs = (effect_at a indent k ask).steps in
-        let left = left_at a indent k ask in
+        let rs = (effect_at a k ask).steps in
+        let left = left_at a k ask in
         let x = drawn_by s l rs in
-        let more = asks_events s a indent x.layout left asks in
-        let later = steps_along a indent left asks in
+        let more = asks_events s a x.layout left asks in
+        let later = steps_along a left asks in
         flat_map-append bytes_drawn (step_events s l rs) (own_events a k ask ++ more)
         ∙ ap (λ b. b ++ drawn_in (own_events a k ask ++ more)) (step_bytes l rs)
         ∙ ap (λ b. flat_map (bytes_of s) x.calls ++ b) (own_bytes k ask more ∙ asks_bytes x.layout left asks)
         ∙ sym (flat_map-append (bytes_of s) x.calls (drawn_by s x.layout later).calls)
         ∙ ap (λ (q : Asked). flat_map (bytes_of s) q.calls) (sym (asked_both (ruler_of s) l rs later))
 
-    asks_left : (l : Layout) (k : LineState) (asks : List LineAsk) → left_to_come k.coming (asks_events s a indent l k asks) ≡ (left_along a indent k asks).coming
+    asks_left : (l : Layout) (k : LineState) (asks : List LineAsk) → left_to_come k.coming (asks_events s a l k asks) ≡ (left_along a k asks).coming
     asks_left l k [] = refl
     asks_left l k (ask ∷ asks) =
-        let rs = (effect_at a indent k ask).steps in
-        let left = left_at a indent k ask in
+        let rs = (effect_at a k ask).steps in
+        let left = left_at a k ask in
         let x = drawn_by s l rs in
-        let more = asks_events s a indent x.layout left asks in
+        let more = asks_events s a x.layout left asks in
         left_both k.coming (step_events s l rs) (own_events a k ask ++ more)
         ∙ ap (λ c. left_to_come c (own_events a k ask ++ more)) (step_left k.coming l rs)
         ∙ own_left k ask more
@@ -138,37 +138,37 @@ module _ (s : Screen) where
     nothing_in f xs ys zs p q r =
         flat_map-append f xs (ys ++ zs) ∙ (ap (λ b. b ++ flat_map f (ys ++ zs)) p ∙ (flat_map-append f ys zs ∙ (ap (λ b. b ++ flat_map f zs) q ∙ r)))
 
-    pub asks_quiet : (l : Layout) (k : LineState) (asks : List LineAsk) → (flat_map lines_kept (asks_events s a indent l k asks) ≡ []) × (flat_map lines_written (asks_events s a indent l k asks) ≡ [])
+    pub asks_quiet : (l : Layout) (k : LineState) (asks : List LineAsk) → (flat_map lines_kept (asks_events s a l k asks) ≡ []) × (flat_map lines_written (asks_events s a l k asks) ≡ [])
     asks_quiet l k [] = (refl, refl)
     asks_quiet l k (ask ∷ asks) =
-        let rs = (effect_at a indent k ask).steps in
-        let left = left_at a indent k ask in
+        let rs = (effect_at a k ask).steps in
+        let left = left_at a k ask in
         let x = drawn_by s l rs in
         let first = step_quiet l rs in
         let own = own_quiet k ask in
         let rest = asks_quiet x.layout left asks in
         let events = step_events s l rs in
-        let more = asks_events s a indent x.layout left asks in
+        let more = asks_events s a x.layout left asks in
         (nothing_in lines_kept events (own_events a k ask) more first.0 own.0 rest.0, nothing_in lines_written events (own_events a k ask) more first.1 own.1 rest.1)
 
     -- the events of some asks, and of those after them
     pub asks_both : (l : Layout) (k : LineState) (xs ys : List LineAsk)
-        → asks_events s a indent l k (xs ++ ys) ≡ asks_events s a indent l k xs ++ asks_events s a indent (drawn_by s l (steps_along a indent k xs)).layout (left_along a indent k xs) ys
+        → asks_events s a l k (xs ++ ys) ≡ asks_events s a l k xs ++ asks_events s a (drawn_by s l (steps_along a k xs)).layout (left_along a k xs) ys
     asks_both l k [] ys = refl
     asks_both l k (ask ∷ xs) ys =
-        let rs = (effect_at a indent k ask).steps in
-        let left = left_at a indent k ask in
+        let rs = (effect_at a k ask).steps in
+        let left = left_at a k ask in
         let m = (drawn_by s l rs).layout in
         let events = step_events s l rs in
         let own = own_events a k ask in
-        let mine = asks_events s a indent m left xs in
-        let after = left_along a indent left xs in
-        let others : Layout → List Event = λ l. asks_events s a indent l after ys in
-        let there = (drawn_by s m (steps_along a indent left xs)).layout in
+        let mine = asks_events s a m left xs in
+        let after = left_along a left xs in
+        let others : Layout → List Event = λ l. asks_events s a l after ys in
+        let there = (drawn_by s m (steps_along a left xs)).layout in
         ap (λ b. events ++ (own ++ b)) (asks_both m left xs ys)
         ∙ ap (λ b. events ++ b) (sym (append_assoc own mine (others there)))
         ∙ sym (append_assoc events (own ++ mine) (others there))
-        ∙ ap (λ (q : Asked). (events ++ (own ++ mine)) ++ others q.layout) (sym (asked_both (ruler_of s) l rs (steps_along a indent left xs)))
+        ∙ ap (λ (q : Asked). (events ++ (own ++ mine)) ++ others q.layout) (sym (asked_both (ruler_of s) l rs (steps_along a left xs)))
 
 -- ---- on devices
 
@@ -321,10 +321,10 @@ module _ {D L : Type 0} (shown : D → List ℕ) (written_in : L → List ℕ) (
         → IsStopped shown written_in adds (on a.out c) (step_event s a.layout step) e (on b.out c)
     unfolding BrokenOff
     step_stopped (DrawStep v marks redraw) c e left a b is h =
-        subst (λ why. IsStopped shown written_in adds (on a.out c) (Draws redraw (map (bytes_of s) (asked_by (ruler_of s) (shown_marks v marks) a.layout redraw).calls)) why (on b.out c)) (sym h.0)
+        subst (λ why. IsStopped shown written_in adds (on a.out c) (Draws (shown_marks v marks) redraw (map (bytes_of s) (asked_by (ruler_of s) (shown_marks v marks) a.layout redraw).calls)) why (on b.out c)) (sym h.0)
         (by (asked_by (ruler_of s) (shown_marks v marks) a.layout redraw).calls h.1)
       where
-        by : (calls : List Call) → BrokenOff canvas calls a.out b.out → IsStopped shown written_in adds (on a.out c) (Draws redraw (map (bytes_of s) calls)) Display (on b.out c)
+        by : (calls : List Call) → BrokenOff canvas calls a.out b.out → IsStopped shown written_in adds (on a.out c) (Draws (shown_marks v marks) redraw (map (bytes_of s) calls)) Display (on b.out c)
         by [] broken = absurd broken
         by (call ∷ calls) broken =
             (subst (TakesSome shown (sink_of a.out) (sink_of b.out)) (sym (all_of_map (bytes_of s) (call ∷ calls))) (calls_break (call ∷ calls) a.out b.out is broken), refl)
@@ -366,32 +366,32 @@ module _ {D L : Type 0} (shown : D → List ℕ) (written_in : L → List ℕ) (
 
     -- ---- a line's asks
 
-    module _ (a : Setting) (indent : ℕ) where
+    module _ (a : Setting) where
       abbrev pub at : LineStage (ScreenRenderer D) → Work D L
       at x = on x.drawn.out x.kept.coming
 
-      asks_answered : (l : Layout) (k : LineState) (asks : List LineAsk) (x y : ScreenRenderer D) → Drawn (drawn_by s l (steps_along a indent k asks)).calls x y → AllAnswered (asks_events s a indent l k asks)
+      asks_answered : (l : Layout) (k : LineState) (asks : List LineAsk) (x y : ScreenRenderer D) → Drawn (drawn_by s l (steps_along a k asks)).calls x y → AllAnswered (asks_events s a l k asks)
       asks_answered l k [] x y made = tt
       asks_answered l k (ask ∷ asks) x y made =
-          let rs = (effect_at a indent k ask).steps in
-          let left = left_at a indent k ask in
+          let rs = (effect_at a k ask).steps in
+          let left = left_at a k ask in
           let m = drawn_by s l rs in
-          let later = steps_along a indent left asks in
+          let later = steps_along a left asks in
           let parts = folds_apart (MadeIn canvas) m.calls (drawn_by s m.layout later).calls x y (subst (λ (q : Asked). Drawn q.calls x y) (asked_both (ruler_of s) l rs later) made) in
-          answered_both (step_events s l rs) (own_events a k ask ++ asks_events s a indent m.layout left asks) (steps_answered l rs x parts.0 parts.1)
-          (answered_both (own_events a k ask) (asks_events s a indent m.layout left asks) (own_answered s a indent k ask) (asks_answered m.layout left asks parts.0 y parts.2))
+          answered_both (step_events s l rs) (own_events a k ask ++ asks_events s a m.layout left asks) (steps_answered l rs x parts.0 parts.1)
+          (answered_both (own_events a k ask) (asks_events s a m.layout left asks) (own_answered s a k ask) (asks_answered m.layout left asks parts.0 y parts.2))
 
-      asks_done : (asks : List LineAsk) (x y : LineStage (ScreenRenderer D)) → screen_of x.drawn.out ≡ s → DrawnBy canvas (ruler_of s) (steps_along a indent x.kept asks) x.drawn y.drawn
-          → y.kept.coming ≡ (left_along a indent x.kept asks).coming → Sums (asks_events s a indent x.drawn.layout x.kept asks) (at x) (at y)
+      asks_done : (asks : List LineAsk) (x y : LineStage (ScreenRenderer D)) → screen_of x.drawn.out ≡ s → DrawnBy canvas (ruler_of s) (steps_along a x.kept asks) x.drawn y.drawn
+          → y.kept.coming ≡ (left_along a x.kept asks).coming → Sums (asks_events s a x.drawn.layout x.kept asks) (at x) (at y)
       asks_done asks x y is made left_is =
           let l = x.drawn.layout in
-          let quiet = asks_quiet s a indent l x.kept asks in
+          let quiet = asks_quiet s a l x.kept asks in
           record {
-            drawn = subst (TakesAll shown (sink_of x.drawn.out) (sink_of y.drawn.out)) (sym (asks_bytes s a indent l x.kept asks))
-                (calls_sent (drawn_by s l (steps_along a indent x.kept asks)).calls x.drawn.out y.drawn.out is made.0);
+            drawn = subst (TakesAll shown (sink_of x.drawn.out) (sink_of y.drawn.out)) (sym (asks_bytes s a l x.kept asks))
+                (calls_sent (drawn_by s l (steps_along a x.kept asks)).calls x.drawn.out y.drawn.out is made.0);
             wrote = subst (λ xs. TakesAll written_in lines lines (lines_text xs)) (sym quiet.1) (takes_none written_in lines lines refl);
             history_is = sym (remembered_none adds history) ∙ ap (λ xs. remembered adds xs history) (sym quiet.0);
-            left_is = left_is ∙ sym (asks_left s a indent l x.kept asks);
+            left_is = left_is ∙ sym (asks_left s a l x.kept asks);
             answered = asks_answered l x.kept asks x.drawn.out y.drawn.out made.0;
           }
 
@@ -399,20 +399,20 @@ module _ {D L : Type 0} (shown : D → List ℕ) (written_in : L → List ℕ) (
       leaves_coming (Obeys cmd) k l why h = ap (λ (z : LineState). z.coming) h.0
       leaves_coming _ k l why h = ap (λ (z : LineState). z.coming) h
 
-      ask_stopped : (ask : LineAsk) (asks : List LineAsk) (why : ReadlineError) (x y : LineStage (ScreenRenderer D)) → screen_of x.drawn.out ≡ s → Stopped canvas (ruler_of s) a indent x ask why y
-          → Broken (asks_events s a indent x.drawn.layout x.kept (ask ∷ asks)) (at x) why (at y)
+      ask_stopped : (ask : LineAsk) (asks : List LineAsk) (why : ReadlineError) (x y : LineStage (ScreenRenderer D)) → screen_of x.drawn.out ≡ s → Stopped canvas (ruler_of s) a x ask why y
+          → Broken (asks_events s a x.drawn.layout x.kept (ask ∷ asks)) (at x) why (at y)
       ask_stopped ask asks why x y is (inl (stops, leaves)) =
-          let rs = (effect_at a indent x.kept ask).steps in
-          let more = own_events a x.kept ask ++ asks_events s a indent (drawn_by s x.drawn.layout rs).layout (left_at a indent x.kept ask) asks in
+          let rs = (effect_at a x.kept ask).steps in
+          let more = own_events a x.kept ask ++ asks_events s a (drawn_by s x.drawn.layout rs).layout (left_at a x.kept ask) asks in
           let events = step_events s x.drawn.layout rs ++ more in
           subst (λ c. Broken events (at x) why (on y.drawn.out c)) (sym (leaves_coming ask x.kept y.kept why leaves))
           (went_before ⊥ (λ e. e ≡ why) (step_events s x.drawn.layout rs) more (at x) (on y.drawn.out x.kept.coming) (steps_stopped rs x.kept.coming why y.kept.value x.drawn y.drawn is stops))
       ask_stopped (Keys (Reads item)) asks why x y is (inr (left, unread, same)) = unread_by item why left unread same
         where
           unread_by : (item : InputItem) (why : ReadlineError) (left : List ℕ) → IsReadFault item why → y ≡ line_stage x.drawn (record x.kept { coming = left_by why left })
-              → Broken (Hears item ∷ asks_events s a indent x.drawn.layout (left_at a indent x.kept (Keys (Reads item))) asks) (at x) why (at y)
+              → Broken (Hears item ∷ asks_events s a x.drawn.layout (left_at a x.kept (Keys (Reads item))) asks) (at x) why (at y)
           unread_by Paste Memory left unread same =
-              went_stopped ⊥ (λ e. e ≡ Memory) [] (Hears Paste) (asks_events s a indent x.drawn.layout (left_at a indent x.kept (Keys (Reads Paste))) asks) (at x) (at x) (at y) Memory (none_done (at x))
+              went_stopped ⊥ (λ e. e ≡ Memory) [] (Hears Paste) (asks_events s a x.drawn.layout (left_at a x.kept (Keys (Reads Paste))) asks) (at x) (at x) (at y) Memory (none_done (at x))
               (left, ap (λ (z : LineStage (ScreenRenderer D)). at z) same) refl
           unread_by _ _ left unread same = absurd unread
       ask_stopped _ asks why x y is (inr (left, unread, same)) = absurd unread
@@ -421,40 +421,40 @@ module _ {D L : Type 0} (shown : D → List ℕ) (written_in : L → List ℕ) (
 
       -- all of what is played was done, and the answer is its own
       pub record Whole {X : Type 0} (p : LineScript X) (x y : LineStage (ScreenRenderer D)) (result : Result X ReadlineError) : Type 0 where
-        pub answer_is : (played_from a indent p x.kept).answer ≡ result
-        pub rest_is : (played_from a indent p x.kept).rest ≡ y.kept
-        pub are_done : Sums (asks_events s a indent x.drawn.layout x.kept (played_from a indent p x.kept).asks) (at x) (at y)
+        pub answer_is : (played_from a p x.kept).answer ≡ result
+        pub rest_is : (played_from a p x.kept).rest ≡ y.kept
+        pub are_done : Sums (asks_events s a x.drawn.layout x.kept (played_from a p x.kept).asks) (at x) (at y)
 
       -- or a fault stopped it
       abbrev pub Cut : {X : Type 0} → LineScript X → LineStage (ScreenRenderer D) → LineStage (ScreenRenderer D) → Result X ReadlineError → Type 0
-      Cut p x y result = Goes (asks_events s a indent x.drawn.layout x.kept (played_from a indent p x.kept).asks) (at x) (at y) ⊥ (λ e. (result ≡ Err e) × reason_of true ⊤ e)
+      Cut p x y result = Goes (asks_events s a x.drawn.layout x.kept (played_from a p x.kept).asks) (at x) (at y) ⊥ (λ e. (result ≡ Err e) × reason_of true ⊤ e)
 
-      pub line_went : {X : Type 0} (p : LineScript X) (x y : LineStage (ScreenRenderer D)) (result : Result X ReadlineError) → screen_of x.drawn.out ≡ s → GoesOn (line_world canvas (ruler_of s) a indent) p x result y
+      pub line_went : {X : Type 0} (p : LineScript X) (x y : LineStage (ScreenRenderer D)) (result : Result X ReadlineError) → screen_of x.drawn.out ≡ s → GoesOn (line_world canvas (ruler_of s) a) p x result y
           → Whole p x y result ⊎ Cut p x y result
-      line_went {X} p x y result is goes = by (went canvas (ruler_of s) a indent p x y result goes)
+      line_went {X} p x y result is goes = by (went canvas (ruler_of s) a p x y result goes)
         where
-          by : AllDone canvas (ruler_of s) a indent (played_from a indent p x.kept) x y result ⊎ StoppedIn canvas (ruler_of s) a indent (played_from a indent p x.kept) x y result → Whole p x y result ⊎ Cut p x y result
+          by : AllDone canvas (ruler_of s) a (played_from a p x.kept) x y result ⊎ StoppedIn canvas (ruler_of s) a (played_from a p x.kept) x y result → Whole p x y result ⊎ Cut p x y result
           by (inl h) =
-              let q = played_from a indent p x.kept in
+              let q = played_from a p x.kept in
               inl (record {
                 answer_is = h.answer_is;
                 rest_is = h.rest_is;
-                are_done = asks_done q.asks x y is h.drawn (ap (λ (k : LineState). k.coming) (sym h.rest_is ∙ sym (rest_along a indent p x.kept)));
+                are_done = asks_done q.asks x y is h.drawn (ap (λ (k : LineState). k.coming) (sym h.rest_is ∙ sym (rest_along a p x.kept)));
               })
           by (inr h) =
-              let q = played_from a indent p x.kept in
+              let q = played_from a p x.kept in
               let first = asks_done h.done x h.at is h.drawn (ap (λ (k : LineState). k.coming) h.kept_is) in
-              let now : screen_of h.at.drawn.out ≡ s = screen_kept (drawn_by s x.drawn.layout (steps_along a indent x.kept h.done)).calls x.drawn.out h.at.drawn.out is h.drawn.0 in
+              let now : screen_of h.at.drawn.out ≡ s = screen_kept (drawn_by s x.drawn.layout (steps_along a x.kept h.done)).calls x.drawn.out h.at.drawn.out is h.drawn.0 in
               let next = ask_stopped h.ask h.others h.fault h.at y now h.stopped in
-              let E : Layout → LineState → List Event = λ l k. asks_events s a indent l k (h.ask ∷ h.others) in
-              let there = (drawn_by s x.drawn.layout (steps_along a indent x.kept h.done)).layout in
-              let placed : Broken (E there (left_along a indent x.kept h.done)) (at h.at) h.fault (at y) =
+              let E : Layout → LineState → List Event = λ l k. asks_events s a l k (h.ask ∷ h.others) in
+              let there = (drawn_by s x.drawn.layout (steps_along a x.kept h.done)).layout in
+              let placed : Broken (E there (left_along a x.kept h.done)) (at h.at) h.fault (at y) =
               subst (λ k. Broken (E there k) (at h.at) h.fault (at y)) h.kept_is (subst (λ l. Broken (E l h.at.kept) (at h.at) h.fault (at y)) h.drawn.1 next) in
-              let mine = asks_events s a indent x.drawn.layout x.kept h.done in
-              let both = went_behind ⊥ (λ e. e ≡ h.fault) mine (E there (left_along a indent x.kept h.done)) (at x) (at h.at) (at y) first placed in
-              let cause = stopped_cause canvas (ruler_of s) a indent h.ask h.at y h.fault h.stopped in
-              let split = ap (asks_events s a indent x.drawn.layout x.kept) h.first ∙ asks_both s a indent x.drawn.layout x.kept h.done (h.ask ∷ h.others) in
+              let mine = asks_events s a x.drawn.layout x.kept h.done in
+              let both = went_behind ⊥ (λ e. e ≡ h.fault) mine (E there (left_along a x.kept h.done)) (at x) (at h.at) (at y) first placed in
+              let cause = stopped_cause canvas (ruler_of s) a h.ask h.at y h.fault h.stopped in
+              let split = ap (asks_events s a x.drawn.layout x.kept) h.first ∙ asks_both s a x.drawn.layout x.kept h.done (h.ask ∷ h.others) in
               inr (went_so ⊥ (λ e. e ≡ h.fault) (λ e. (result ≡ Err e) × reason_of true ⊤ e)
               (λ e is. (h.result_is ∙ ap (λ e. Err e) (sym is), subst (reason_of true ⊤) (sym is) cause))
-              (asks_events s a indent x.drawn.layout x.kept q.asks) (at x) (at y)
+              (asks_events s a x.drawn.layout x.kept q.asks) (at x) (at y)
               (subst (λ events. Broken events (at x) h.fault (at y)) (sym split) both))

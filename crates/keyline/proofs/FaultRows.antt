@@ -1,8 +1,9 @@
 -- Worked cases of events and endings at which memory isn't the fault.
-use Rattle.std.proofs.Common.{◌≡◌, ℕ, Bool, false, List, [], ◌∷◌, ◌++◌, Result, Err, subst}
+use Rattle.std.proofs.Common.{◌≡◌, ℕ, Bool, false, List, [], ◌∷◌, ◌++◌, Option, Result, Err, subst}
 use Rattle.std.specs.Prelude.{if◌then◌else◌}
 use Rattle.line_config.specs.declared.errors.ReadlineError.{ReadlineError}
 use Rattle.line_config.specs.declared.errors.ReadlineError.TheVariants.{Memory}
+use Rattle.line_editor.specs.Calls.{Marks}
 use Rattle.line_editor.specs.Courses.{breaks_after}
 use Rattle.line_editor.specs.Redraws.{Redraw}
 use Rattle.line_keys.specs.Feeds.{Key}
@@ -25,15 +26,15 @@ module _ {D L : Type 0} (shown : D → List ℕ) (written_in : L → List ℕ) (
   pub beginnings_take_none : (x y : Work D L) (screen : Screen) → IsStopped shown written_in adds x (Begins screen) Memory y → ⊥
   beginnings_take_none x y screen h = h
 
-  pub drawings_take_none : (x y : Work D L) (redraw : Redraw) (sent : List (List ℕ)) → IsStopped shown written_in adds x (Draws redraw sent) Memory y → ⊥
-  drawings_take_none x y redraw [] h = h
-  drawings_take_none x y redraw (bytes ∷ more) h = h
+  pub drawings_take_none : (x y : Work D L) (marks : Option Marks) (redraw : Redraw) (sent : List (List ℕ)) → IsStopped shown written_in adds x (Draws marks redraw sent) Memory y → ⊥
+  drawings_take_none x y marks redraw [] h = h
+  drawings_take_none x y marks redraw (bytes ∷ more) h = h
 
   pub keys_take_none : (x y : Work D L) → IsStopped shown written_in adds x (Hears Key) Memory y → ⊥
   keys_take_none x y h = h
 
-  pub moments_take_none : (x y : Work D L) (prompt text : List ℕ) (place : ℕ) → IsStopped shown written_in adds x (Rests prompt text place) Memory y → ⊥
-  moments_take_none x y prompt text place h = h
+  pub moments_take_none : (x y : Work D L) (marks : Option Marks) (given : Bool) (prompt text : List ℕ) (place : ℕ) → IsStopped shown written_in adds x (Rests marks given prompt text place) Memory y → ⊥
+  moments_take_none x y marks given prompt text place h = h
 
   pub rows_take_none : (x y : Work D L) → IsStopped shown written_in adds x Breaks Memory y → ⊥
   rows_take_none x y h = h

@@ -97,39 +97,39 @@ unheard : {B X : Type 0} (ask : LineAsk) (next : B → Coming → Play X) (k : L
 unheard ask next k h c on so (Ok x) = goes_first ask (next x h) (next x c) (so x)
 unheard ask next k h c on so (Err e) = inl (record { answer = refl; asks = refl; ring = refl; modal = refl; rest = on })
 
-module _ (s : Setting) (indent : ℕ) where
+module _ (s : Setting) where
   module _ {X : Type 0} (item : InputItem) (t : InputOf item → LineScript X) (k : LineState) (h c : Coming)
-      (later : (x : InputOf item) → Opens (behind item h) (behind item c) → Goes (played_from s indent (t x) (over k (behind item h))) (played_from s indent (t x) (over k (behind item c)))) where
+      (later : (x : InputOf item) → Opens (behind item h) (behind item c) → Goes (played_from s (t x) (over k (behind item h))) (played_from s (t x) (over k (behind item c)))) where
     abbrev led : Coming → Result (InputOf item) ReadlineError → Play X
-    led c r = let rest = over k (behind item c) in played_on (λ x. played_from s indent (t x) rest) (Keys (Reads item)) rest r
+    led c r = let rest = over k (behind item c) in played_on (λ x. played_from s (t x) rest) (Keys (Reads item)) rest r
 
     read_goes : (r q : Result (InputOf item) ReadlineError) → OnOk r ((r ≡ q) × Opens (behind item h) (behind item c)) → IfErr r (λ e. breaks_after e ≡ false) → Goes (led h r) (led c q)
     read_goes (Ok x) q alike unbroken =
         subst (λ y. Goes (led h (Ok x)) (led c y)) alike.0
-        (goes_first (Keys (Reads item)) (played_from s indent (t x) (over k (behind item h))) (played_from s indent (t x) (over k (behind item c))) (later x alike.1))
+        (goes_first (Keys (Reads item)) (played_from s (t x) (over k (behind item h))) (played_from s (t x) (over k (behind item c))) (later x alike.1))
     read_goes (Err e) q alike unbroken =
         let rest = over k (behind item c) in
-        let first = played_each (λ (p : Play X). IsBeginning (Keys (Reads item) ∷ []) p.asks) (λ x. played_from s indent (t x) rest) (Keys (Reads item)) rest (λ x. (_, refl)) (λ e. ([], refl)) q in
+        let first = played_each (λ (p : Play X). IsBeginning (Keys (Reads item) ∷ []) p.asks) (λ x. played_from s (t x) rest) (Keys (Reads item)) rest (λ x. (_, refl)) (λ e. ([], refl)) q in
         inr (record { why = e; answer = refl; unbroken = unbroken; later = first.0; begins = first.1 })
 
-  goes : {X : Type 0} (p : LineScript X) (k : LineState) (h c : Coming) → Opens h c → Goes (played_from s indent p (over k h)) (played_from s indent p (over k c))
+  goes : {X : Type 0} (p : LineScript X) (k : LineState) (h c : Coming) → Opens h c → Goes (played_from s p (over k h)) (played_from s p (over k c))
   goes (Ends x) k h c on = inl (record { answer = refl; asks = refl; ring = refl; modal = refl; rest = on })
   goes (Asks (Keys (Reads item)) t) k h c on =
       read_goes item t k h c (λ x next. goes (t x) k (behind item h) (behind item c) next) (item_at item h) (item_at item c) (read_alike item h c on) (refused_unbroken item h on.1)
   goes (Asks ask t) k h c on =
-      let rest = left_at s indent k ask in
-      unheard ask (λ x c. played_from s indent (t x) (over rest c)) rest h c on (λ x. goes (t x) rest h c on) (answer_at s indent k ask)
+      let rest = left_at s k ask in
+      unheard ask (λ x c. played_from s (t x) (over rest c)) rest h c on (λ x. goes (t x) rest h c on) (answer_at s k ask)
 
 -- ---- events
 
-events_unheard : (s : Screen) (a : Setting) (indent : ℕ) (l : Layout) (k : LineState) (h c : Coming) (asks : List LineAsk)
-    → asks_events s a indent l (over k h) asks ≡ asks_events s a indent l (over k c) asks
-events_unheard s a indent l k h c [] = refl
-events_unheard s a indent l k h c (Keys (Reads item) ∷ asks) =
-    ap (λ events. Hears item ∷ events) (events_unheard s a indent l k (behind item h) (behind item c) asks)
-events_unheard s a indent l k h c (ask ∷ asks) =
-    let steps = (effect_at a indent k ask).steps in
-    ap (λ events. step_events s l steps ++ (own_events a k ask ++ events)) (events_unheard s a indent (asked (ruler_of s) l steps).layout (left_at a indent k ask) h c asks)
+events_unheard : (s : Screen) (a : Setting) (l : Layout) (k : LineState) (h c : Coming) (asks : List LineAsk)
+    → asks_events s a l (over k h) asks ≡ asks_events s a l (over k c) asks
+events_unheard s a l k h c [] = refl
+events_unheard s a l k h c (Keys (Reads item) ∷ asks) =
+    ap (λ events. Hears item ∷ events) (events_unheard s a l k (behind item h) (behind item c) asks)
+events_unheard s a l k h c (ask ∷ asks) =
+    let steps = (effect_at a k ask).steps in
+    ap (λ events. step_events s l steps ++ (own_events a k ask ++ events)) (events_unheard s a (asked (ruler_of s) l steps).layout (left_at a k ask) h c asks)
 
 -- what goes on further
 further : {A : Type 0} (xs ys zs : List A) → IsBeginning xs ys → IsBeginning xs (ys ++ zs)
@@ -170,13 +170,13 @@ module _ (n : ℕ) (g : Given) (ring : Ring) (query : List ℕ) (history : Filed
   setting = setting_in g history.kept.entries
 
   abbrev first : Coming → LineState
-  first c = kept_first setting g.config ring query c
+  first c = kept_first setting ring query c
 
   abbrev asks_in : Coming → List LineAsk → List Event
-  asks_in c asks = asks_events g.screen setting g.config.indent_size (fresh g.screen.mode) (first c) asks
+  asks_in c asks = asks_events g.screen setting (fresh g.screen.mode) (first c) asks
 
   line_goes : SameLine ⊎ StoppedLine
-  line_goes = by (goes setting g.config.indent_size (line_script n g.custom) (first h) h c on)
+  line_goes = by (goes setting (line_script n g.custom) (first h) h c on)
     where
       p : Play (List ℕ)
       p = played_in n g (state_at ring query history h)
@@ -187,7 +187,7 @@ module _ (n : ℕ) (g : Given) (ring : Ring) (query : List ℕ) (history : Filed
       by : Goes p q → SameLine ⊎ StoppedLine
       by (inl same) = inl (record {
         events = ap (λ events. Begins g.screen ∷ (events ++ end_events p.answer))
-            (events_unheard g.screen setting g.config.indent_size (fresh g.screen.mode) (first h) h c p.asks ∙ ap (asks_in c) same.asks)
+            (events_unheard g.screen setting (fresh g.screen.mode) (first h) h c p.asks ∙ ap (asks_in c) same.asks)
             ∙ ap (λ o. Begins g.screen ∷ (asks_in c q.asks ++ end_events o)) same.answer;
         outcome = same.answer;
         ring_is = same.ring;
@@ -197,15 +197,15 @@ module _ (n : ℕ) (g : Given) (ring : Ring) (query : List ℕ) (history : Filed
       by (inr cut) =
           let l = fresh g.screen.mode in
           let mine = asks_in c p.asks in
-          let more = asks_events g.screen setting g.config.indent_size (drawn_by g.screen l (steps_along setting g.config.indent_size (first c) p.asks)).layout
-          (left_along setting g.config.indent_size (first c) p.asks) cut.later in
+          let more = asks_events g.screen setting (drawn_by g.screen l (steps_along setting (first c) p.asks)).layout
+          (left_along setting (first c) p.asks) cut.later in
           let fewer : one.events ≡ Begins g.screen ∷ mine =
-          ap (λ events. Begins g.screen ∷ (events ++ end_events p.answer)) (events_unheard g.screen setting g.config.indent_size l (first h) h c p.asks)
+          ap (λ events. Begins g.screen ∷ (events ++ end_events p.answer)) (events_unheard g.screen setting l (first h) h c p.asks)
           ∙ ap (λ events. Begins g.screen ∷ (mine ++ events)) (ap end_events cut.answer ∙ nothing_after cut.why cut.unbroken)
           ∙ ap (λ events. Begins g.screen ∷ events) (append-nil mine) in
           let all : other.events ≡ (Begins g.screen ∷ mine) ++ (more ++ end_events q.answer) =
           ap (λ asks. Begins g.screen ∷ (asks_in c asks ++ end_events q.answer)) cut.begins
-          ∙ ap (λ events. Begins g.screen ∷ (events ++ end_events q.answer)) (asks_both g.screen setting g.config.indent_size l (first c) p.asks cut.later)
+          ∙ ap (λ events. Begins g.screen ∷ (events ++ end_events q.answer)) (asks_both g.screen setting l (first c) p.asks cut.later)
           ∙ ap (λ events. Begins g.screen ∷ events) (append_assoc mine more (end_events q.answer)) in
           inr (record {
             why = cut.why;

@@ -116,26 +116,26 @@ short_bytes s l v m prompt c text at printable may =
     ap (λ b. flat_map (bytes_of s) ((if b then typed_short l c else full (ruler_of s) (shown_marks v m) l prompt true text at None).calls ++ [])) may
     ∙ append-nil (encode_utf8 c) ∙ encode_ascii c (small c printable)
 
-turned_steps : (n : ℕ) (a : Setting) (custom : Custom) (indent : ℕ) (k : LineState) (c : ℕ) → is_at_rest k.modal.standing ≡ true → (let phrase = phrase_script n custom (beginning k) in ReadAlone a indent k phrase c
-    → (made_from a indent (turn_script n custom) k).steps ≡ (made_from a indent phrase k).steps ++ (insert_char c 1 a k.value).steps)
+turned_steps : (n : ℕ) (a : Setting) (custom : Custom) (k : LineState) (c : ℕ) → is_at_rest k.modal.standing ≡ true → (let phrase = phrase_script n custom (beginning k) in ReadAlone a k phrase c
+    → (made_from a (turn_script n custom) k).steps ≡ (made_from a phrase k).steps ++ (insert_char c 1 a k.value).steps)
 unfolding turn_script
-turned_steps n a custom indent k c rests alone =
+turned_steps n a custom k c rests alone =
     let cmd = SelfInsert 1 c in
     let phrase = phrase_script n custom (beginning k) in
-    let p = played_from a indent phrase k in
-    let first = steps_along a indent k p.asks in
-    let on : Cmd → LineState → PlayedOf a indent Status = follows (line_plan a indent) met_then in
-    let obeyed = (played_from a indent (obeying cmd) p.rest).asks in
+    let p = played_from a phrase k in
+    let first = steps_along a k p.asks in
+    let on : Cmd → LineState → PlayedOf a Status = follows (line_plan a) met_then in
+    let obeyed = (played_from a (obeying cmd) p.rest).asks in
     let more = Meets cmd ∷ obeyed in
-    let all : PlayedOf a indent Status → List EditStep = λ q. steps_along a indent k q.asks in
+    let all : PlayedOf a Status → List EditStep = λ q. steps_along a k q.asks in
     let still : is_at_rest p.rest.modal.standing ≡ true =
-    ap (λ (m : Modal). is_at_rest m.standing) (phrase_keeps a indent (steps (line_phrase custom k.input (shown_in k.value)) n) k) ∙ rests in
-    ap all (played_then (line_plan a indent) met_then phrase k)
+    ap (λ (m : Modal). is_at_rest m.standing) (phrase_keeps a (steps (line_phrase custom k.input (shown_in k.value)) n) k) ∙ rests in
+    ap all (played_then (line_plan a) met_then phrase k)
     ∙ ap (λ answer. all (joined_on on p.asks p.rest answer)) alone.answer
-    ∙ ap (λ (q : PlayedOf a indent Status). steps_along a indent k (p.asks ++ q.asks)) (plays_past a indent cmd p.rest still refl)
-    ∙ steps_both a indent k p.asks more
-    ∙ ap (λ l. first ++ steps_along a indent l more) (rest_along a indent phrase k)
-    ∙ ap (λ steps. first ++ steps) (steps_past a indent cmd p.rest obeyed still refl)
+    ∙ ap (λ (q : PlayedOf a Status). steps_along a k (p.asks ++ q.asks)) (plays_past a cmd p.rest still refl)
+    ∙ steps_both a k p.asks more
+    ∙ ap (λ l. first ++ steps_along a l more) (rest_along a phrase k)
+    ∙ ap (λ steps. first ++ steps) (steps_past a cmd p.rest obeyed still refl)
     ∙ ap (λ (v : Value). first ++ ((insert_char c 1 a v).steps ++ [])) alone.value_is
     ∙ ap (λ steps. first ++ steps) (append-nil (insert_char c 1 a k.value).steps)
 
@@ -146,9 +146,9 @@ unasked_bytes s l xs ys none =
     ∙ ap (λ (x : Asked). flat_map (bytes_of s) (x.calls ++ (drawn_by s x.layout ys).calls)) none
 
 pub one_byte : OneByte
-one_byte n s l a custom indent k c rests alone t may =
-    let first = (made_from a indent (phrase_script n custom (beginning k)) k).steps in
+one_byte n s l a custom k c rests alone t may =
+    let first = (made_from a (phrase_script n custom (beginning k)) k).steps in
     let e = insert_char c 1 a k.value in
-    ap (bytes_for s l) (turned_steps n a custom indent k c rests alone)
+    ap (bytes_for s l) (turned_steps n a custom k c rests alone)
     ∙ unasked_bytes s l first e.steps (alone.unasked s l)
     ∙ typed_bytes s l a k.value c t ∙ short_bytes s l e.value a.marks a.prompt c e.value.line.text e.value.line.place (printed (is_some a.tabs) k.value c t.alone) may

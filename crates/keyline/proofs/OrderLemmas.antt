@@ -62,9 +62,9 @@ in_order (suc n) g at x =
     let a = setting_in first x.history.kept.entries in
     let p = played_in (suc n) first x in
     let l = fresh first.screen.mode in
-    let k = kept_first a first.config x.ring x.query x.coming in
-    let asks = asks_events first.screen a first.config.indent_size l k p.asks in
-    let all = behind_quiet asks (end_events p.answer ++ more) (asks_quiet first.screen a first.config.indent_size l k p.asks)
+    let k = kept_first a x.ring x.query x.coming in
+    let asks = asks_events first.screen a l k p.asks in
+    let all = behind_quiet asks (end_events p.answer ++ more) (asks_quiet first.screen a l k p.asks)
     (end_first p.answer more (on_line later line.answer.0 y (in_order n g (λ line. at (suc line)) y))) in
     let both : InOrder ((asks ++ end_events p.answer) ++ more) = subst InOrder (sym (append_assoc asks (end_events p.answer) more)) all in
     record { ordered = both.ordered; same = both.same }

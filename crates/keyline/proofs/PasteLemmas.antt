@@ -87,12 +87,12 @@ enters Vi Overwriting custom last search modal shown n free =
 abbrev enter_played : LineState → Coming → Played LineAsk LineState ReadlineError Cmd
 enter_played k rest = record { answer = Ok (AcceptOrInsertLine true); asks = []; rest = with_rest k rest }
 
-module _ (s : Setting) (indent : ℕ) (custom : Custom) (free : IsUnbound custom) where
+module _ (s : Setting) (custom : Custom) (free : IsUnbound custom) where
   plays_enter : (n : ℕ) (k : LineState) (bytes : List ℕ) (rest : Coming)
-      → (let on = with_rest k (Pressed bytes enter rest) in played_from s indent (phrase_script (suc n) custom (beginning k)) on ≡ asked_first (Keys (Reads Key)) (enter_played k rest))
+      → (let on = with_rest k (Pressed bytes enter rest) in played_from s (phrase_script (suc n) custom (beginning k)) on ≡ asked_first (Keys (Reads Key)) (enter_played k rest))
   unfolding and_then with_read answered
   plays_enter n k bytes rest =
-      let input = k.input in ap (behind_key s indent (suc n) k rest) (enters input.mode input.input_mode custom input.last input.search input.modal_commands (shown_in k.value) n free)
+      let input = k.input in ap (behind_key s (suc n) k rest) (enters input.mode input.input_mode custom input.last input.search input.modal_commands (shown_in k.value) n free)
 
 -- ---- the paste's text is the line's
 
@@ -146,53 +146,53 @@ moved_text false kind l s v is = refl
 abbrev Takes : Played LineAsk LineState ReadlineError (List ℕ) → List ℕ → Coming → Type 0
 Takes p text rest = (p.answer ≡ Ok text) × (p.rest.coming ≡ rest)
 
-module _ (s : Setting) (indent : ℕ) (custom : Custom) (free : IsUnbound custom) where
+module _ (s : Setting) (custom : Custom) (free : IsUnbound custom) where
   abbrev bare : Setting
   bare = without_hooks s
 
   -- a phrase, its command, and the turns after it
   abbrev turn_on : Played LineAsk LineState ReadlineError Cmd → Played LineAsk LineState ReadlineError Status
-  turn_on p = asked_first Begins (joined (follows (line_plan bare indent) met_then) p)
+  turn_on p = asked_first Begins (joined (follows (line_plan bare) met_then) p)
 
   abbrev line_on : ℕ → Played LineAsk LineState ReadlineError Cmd → Played LineAsk LineState ReadlineError (List ℕ)
-  line_on n p = joined (follows (line_plan bare indent) (turned_on (turns_script n custom))) (turn_on p)
+  line_on n p = joined (follows (line_plan bare) (turned_on (turns_script n custom))) (turn_on p)
 
-  turns_on : (n : ℕ) (k : LineState) → played_from bare indent (turns_script (suc n) custom) k ≡ line_on n (played_from bare indent (phrase_script (suc n) custom (beginning k)) k)
+  turns_on : (n : ℕ) (k : LineState) → played_from bare (turns_script (suc n) custom) k ≡ line_on n (played_from bare (phrase_script (suc n) custom (beginning k)) k)
   unfolding turns_script turn_script
   turns_on n k =
-      let plan = line_plan bare indent in
+      let plan = line_plan bare in
       let next = turned_on (turns_script n custom) in
       played_then plan next (turn_script (suc n) custom) k
       ∙ ap (λ t. joined (follows plan next) (asked_first Begins t)) (played_then plan met_then (phrase_script (suc n) custom (beginning k)) k)
 
   enter_accepts : (at : Standing) → is_at_rest at ≡ true → (n : ℕ) (j : LineState) (bytes : List ℕ) (rest : Coming)
-      → Takes (played_from bare indent (turns_script (suc n) custom) (with_rest (at_rest at j) (Pressed bytes enter rest))) j.value.line.text rest
+      → Takes (played_from bare (turns_script (suc n) custom) (with_rest (at_rest at j) (Pressed bytes enter rest))) j.value.line.text rest
   enter_accepts Off rests n j bytes rest =
       let k = at_rest Off j in
       let w : Value = (accept_or_insert true bare k.value).value in
-      subst (λ p. Takes p k.value.line.text rest) (sym (turns_on n (with_rest k (Pressed bytes enter rest)) ∙ ap (line_on n) (plays_enter bare indent custom free n k bytes rest))) (
+      subst (λ p. Takes p k.value.line.text rest) (sym (turns_on n (with_rest k (Pressed bytes enter rest)) ∙ ap (line_on n) (plays_enter bare custom free n k bytes rest))) (
         ap Ok (moved_text (not (w.line.place == length w.line.text)) ForcedRefresh (record w.line { place = length w.line.text }) bare w refl),
         refl,
       )
   enter_accepts Rests rests n j bytes rest =
       let k = at_rest Rests j in
       let w : Value = (accept_or_insert true bare k.value).value in
-      subst (λ p. Takes p k.value.line.text rest) (sym (turns_on n (with_rest k (Pressed bytes enter rest)) ∙ ap (line_on n) (plays_enter bare indent custom free n k bytes rest))) (
+      subst (λ p. Takes p k.value.line.text rest) (sym (turns_on n (with_rest k (Pressed bytes enter rest)) ∙ ap (line_on n) (plays_enter bare custom free n k bytes rest))) (
         ap Ok (moved_text (not (w.line.place == length w.line.text)) ForcedRefresh (record w.line { place = length w.line.text }) bare w refl),
         refl,
       )
   enter_accepts _ rests n j bytes rest = absurd (cc)
 
   paste_accepts : (at : Standing) → is_at_rest at ≡ true → (n : ℕ) (j : LineState) (before bytes text others : List ℕ) (rest : Coming) → IsEmptyLine j.value
-      → Takes (played_from bare indent (turns_script (suc (suc n)) custom) (with_rest (at_rest at j) (Pressed before paste_start (Pasted bytes text (Pressed others enter rest))))) text rest
+      → Takes (played_from bare (turns_script (suc (suc n)) custom) (with_rest (at_rest at j) (Pressed before paste_start (Pasted bytes text (Pressed others enter rest))))) text rest
   paste_accepts Off rests n j before bytes text others rest empty =
       let k = at_rest Off j in
       let entered = Pressed others enter rest in
       let on = with_rest k (Pressed before paste_start (Pasted bytes text entered)) in
-      let after_paste = left_at bare indent (paste_kept k.input.mode text k entered) (Obeys (Insert 1 text)) in
-      let vi : Bool = in_vi_command (means_of (kept_after k.input.mode text k.input) indent (reset_by (Insert 1 text) k.ring)) in
+      let after_paste = left_at bare (paste_kept k.input.mode text k entered) (Obeys (Insert 1 text)) in
+      let vi : Bool = in_vi_command (means_of (kept_after k.input.mode text k.input) (reset_by (Insert 1 text) k.ring)) in
       let a = enter_accepts Off refl n after_paste others rest in
-      subst (λ p. Takes p text rest) (sym (turns_on (suc n) on ∙ ap (line_on (suc n)) (plays_paste bare indent custom (free_key custom paste_start free) n k before bytes text entered))) (
+      subst (λ p. Takes p text rest) (sym (turns_on (suc n) on ∙ ap (line_on (suc n)) (plays_paste bare custom (free_key custom paste_start free) n k before bytes text entered))) (
         a.0 ∙ ap Ok (pasted_text vi text bare k.value empty.empty empty.grows),
         a.1,
       )
@@ -200,21 +200,21 @@ module _ (s : Setting) (indent : ℕ) (custom : Custom) (free : IsUnbound custom
       let k = at_rest Rests j in
       let entered = Pressed others enter rest in
       let on = with_rest k (Pressed before paste_start (Pasted bytes text entered)) in
-      let after_paste = left_at bare indent (paste_kept k.input.mode text k entered) (Obeys (Insert 1 text)) in
-      let vi : Bool = in_vi_command (means_of (kept_after k.input.mode text k.input) indent (reset_by (Insert 1 text) k.ring)) in
+      let after_paste = left_at bare (paste_kept k.input.mode text k entered) (Obeys (Insert 1 text)) in
+      let vi : Bool = in_vi_command (means_of (kept_after k.input.mode text k.input) (reset_by (Insert 1 text) k.ring)) in
       let a = enter_accepts Rests refl n after_paste others rest in
-      subst (λ p. Takes p text rest) (sym (turns_on (suc n) on ∙ ap (line_on (suc n)) (plays_paste bare indent custom (free_key custom paste_start free) n k before bytes text entered))) (
+      subst (λ p. Takes p text rest) (sym (turns_on (suc n) on ∙ ap (line_on (suc n)) (plays_paste bare custom (free_key custom paste_start free) n k before bytes text entered))) (
         a.0 ∙ ap Ok (pasted_text vi text bare k.value empty.empty empty.grows),
         a.1,
       )
   paste_accepts _ rests n j before bytes text others rest empty = absurd (cc)
 
 pub pastes_are_accepted : PastesAreAccepted
-pastes_are_accepted n s custom indent k text more last none free empty rests paste comes =
+pastes_are_accepted n s custom k text more last none free empty rests paste comes =
     let left = coming_from k.input.mode more last in
     let turns = turns_script (suc (suc n)) custom in
-    let taken = subst (λ hooks. Takes (played_from (record s { hooks = hooks }) indent turns k) text left) (sym none)
-    (subst (λ c. Takes (played_from (without_hooks s) indent turns (with_rest k c)) text left) (sym (comes ∙ reads_as k.input.mode text (0x0D ∷ more) last paste)) (paste_accepts s indent custom free k.modal.standing rests n k (sent_as_paste text ++ 0x0D ∷ more) (behind_start text (0x0D ∷ more)) text (0x0D ∷ more) left empty)) in
+    let taken = subst (λ hooks. Takes (played_from (record s { hooks = hooks }) turns k) text left) (sym none)
+    (subst (λ c. Takes (played_from (without_hooks s) turns (with_rest k c)) text left) (sym (comes ∙ reads_as k.input.mode text (0x0D ∷ more) last paste)) (paste_accepts s custom free k.modal.standing rests n k (sent_as_paste text ++ 0x0D ∷ more) (behind_start text (0x0D ∷ more)) text (0x0D ∷ more) left empty)) in
     record { outcome = taken.0; rest_is = taken.1 }
 
 pub pasted_lines_are_accepted : PastedLinesAreAccepted
@@ -223,7 +223,7 @@ pasted_lines_are_accepted n g x text more last none free paste is =
     let s : Setting = setting_in g x.history.kept.entries in
     let e = line_begun s (first_value s) in
     let k = kept e.value (new_input g.config) x.ring (modal_first g.config x.query) x.coming in
-    let a = pastes_are_accepted n s g.custom g.config.indent_size k text more last none free (record { empty = refl; grows = refl }) (first_rests g.config.modal_commands) paste is in
+    let a = pastes_are_accepted n s g.custom k text more last none free (record { empty = refl; grows = refl }) (first_rests g.config.modal_commands) paste is in
     record { outcome = a.outcome; rest_is = a.rest_is }
 
 -- ---- worked rows
@@ -232,11 +232,11 @@ bytes_of_a_paste : sent_as_paste (codes "a") ≡ 0x1B ∷ codes "[200~a" ++ 0x1B
 bytes_of_a_paste = refl
 
 plain_setting : Setting
-plain_setting = record { prompt = []; column = 0; mode = Unicode; tabs = None; hooks = None; marks = None; entries = [] }
+plain_setting = record { prompt = []; column = 0; mode = Unicode; tabs = None; hooks = None; marks = None; entries = []; config = default_config }
 
 pasted_in : InputMode → List ℕ → Played LineAsk LineState ReadlineError (List ℕ)
 pasted_in input_mode text =
-    played_from plain_setting 2 (turns_script 2 nothing_bound)
+    played_from plain_setting (turns_script 2 nothing_bound)
     (kept (empty_at 0) (input_with Vi input_mode Noop None false) (new_ring 60) (modal_first default_config []) (coming_from Vi (sent_as_paste text ++ 0x0D ∷ codes "b") End))
 
 later : Coming

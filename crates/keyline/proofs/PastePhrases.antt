@@ -116,9 +116,9 @@ paste_played mode text k rest =
 abbrev pub grouped : ℕ → Cmd → Input → Shown → Steps Cmd
 grouped n cmd input shown = steps (with_group_begun cmd input shown) n
 
-module _ (s : Setting) (indent : ℕ) where
+module _ (s : Setting) where
   abbrev pub behind_key : ℕ → LineState → Coming → Steps Cmd → Played LineAsk LineState ReadlineError Cmd
-  behind_key n k rest script = asked_first (Keys (Reads Key)) (played_from s indent (keyed (after (grouped n) k.input (shown_in k.value) script)) (with_rest k rest))
+  behind_key n k rest script = asked_first (Keys (Reads Key)) (played_from s (keyed (after (grouped n) k.input (shown_in k.value) script)) (with_rest k rest))
 
   plays_keeping : (n : ℕ) (mode : EditMode) (text : List ℕ) (k : LineState) (rest : Coming)
       → (bytes : List ℕ) → behind_key n k (Pasted bytes text rest) (pasting mode k.input) ≡ asked_first (Keys (Reads Key)) (paste_played mode text k rest)
@@ -127,7 +127,7 @@ module _ (s : Setting) (indent : ℕ) where
   plays_keeping n Vi text k rest bytes = refl
 
   pub plays_paste : (custom : Custom) → IsFree custom paste_start → (n : ℕ) (k : LineState) (before bytes text : List ℕ) (rest : Coming)
-      → (let on = with_rest k (Pressed before paste_start (Pasted bytes text rest)) in played_from s indent (phrase_script (suc (suc n)) custom (beginning k)) on ≡ asked_first (Keys (Reads Key)) (paste_played k.input.mode text k rest))
+      → (let on = with_rest k (Pressed before paste_start (Pasted bytes text rest)) in played_from s (phrase_script (suc (suc n)) custom (beginning k)) on ≡ asked_first (Keys (Reads Key)) (paste_played k.input.mode text k rest))
   unfolding and_then with_read
   plays_paste custom free n k before bytes text rest =
       let input = k.input in

@@ -84,7 +84,7 @@ module _ {D L : Type 0} (shown : D → List ℕ) (written_in : L → List ℕ) w
   stopped_in_bytes adds x Takes Memory y same = ap in_bytes same
   stopped_in_bytes adds x (Helped fails takes) Helper y (h, same) = (h, ap in_bytes same)
   stopped_in_bytes adds x (Helped fails takes) Memory y (h, same) = (h, ap in_bytes same)
-  stopped_in_bytes adds x (Draws redraw (bytes ∷ more)) Display y (took, same) = (took, ap in_bytes same)
+  stopped_in_bytes adds x (Draws marks redraw (bytes ∷ more)) Display y (took, same) = (took, ap in_bytes same)
   stopped_in_bytes adds x (Hears Paste) Memory y (left, same) = (left, ap in_bytes same)
   stopped_in_bytes adds x Breaks Display y (took, same) = (took, ap in_bytes same)
   stopped_in_bytes adds x (Keeps line) Memory y (h, same) = (h, ap in_bytes same)

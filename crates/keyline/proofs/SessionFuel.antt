@@ -49,8 +49,8 @@ read_stays Paste (CutOff bytes last left) = let none = none_by (refusal_of last)
 read_stays Paste (Ended bytes last left) = omega arith
 read_stays Paste (Refused bytes why) = let none = none_by why bytes in omega arith
 
-module _ (s : Setting) (indent : ℕ) where
-  left_le : (c : LineState) (ask : LineAsk) → keys_and_pastes (left_at s indent c ask).coming ≤ keys_and_pastes c.coming
+module _ (s : Setting) where
+  left_le : (c : LineState) (ask : LineAsk) → keys_and_pastes (left_at s c ask).coming ≤ keys_and_pastes c.coming
   left_le c (Keys (Reads item)) = read_stays item c.coming
   left_le c (Keys Needs) = omega arith
   left_le c (Keys (Shows ask)) = omega arith
@@ -61,8 +61,8 @@ module _ (s : Setting) (indent : ℕ) where
   left_le c (Obeys cmd) = omega arith
   left_le c (Makes edit) = omega arith
 
-  falls : (c : LineState) (ask : LineAsk) (x : LineAnswer ask) → answer_at s indent c ask ≡ Ok x → is_line_read ask ≡ true
-      → suc (keys_and_pastes (left_at s indent c ask).coming) ≤ keys_and_pastes c.coming
+  falls : (c : LineState) (ask : LineAsk) (x : LineAnswer ask) → answer_at s c ask ≡ Ok x → is_line_read ask ≡ true
+      → suc (keys_and_pastes (left_at s c ask).coming) ≤ keys_and_pastes c.coming
   falls c (Keys (Reads item)) x is reads = read_falls item c.coming x is
   falls c (Keys Needs) x is reads = absurd (cc)
   falls c (Keys (Shows ask)) x is reads = absurd (cc)
@@ -81,47 +81,47 @@ module _ (s : Setting) (indent : ℕ) where
   step false k left P Q less stays h p = h k stays p
 
   on_answer : {X : Type 0} (ask : LineAsk) (f g : LineAnswer ask → LineScript X) (after : LineState) (r : Result (LineAnswer ask) ReadlineError)
-      → ((x : LineAnswer ask) → r ≡ Ok x → played_from s indent (f x) after ≡ played_from s indent (g x) after)
-      → played_on (λ x. played_from s indent (f x) after) ask after r ≡ played_on (λ x. played_from s indent (g x) after) ask after r
+      → ((x : LineAnswer ask) → r ≡ Ok x → played_from s (f x) after ≡ played_from s (g x) after)
+      → played_on (λ x. played_from s (f x) after) ask after r ≡ played_on (λ x. played_from s (g x) after) ask after r
   on_answer ask f g after (Ok x) h = ap (asked_first ask) (h x refl)
   on_answer ask f g after (Err e) h = refl
 
-  played_alike : {X : Type 0} (k : ℕ) (p q : LineScript X) → Alike is_line_read k p q → (c : LineState) → keys_and_pastes c.coming ≤ k → played_from s indent p c ≡ played_from s indent q c
-  played_alike {X} k (Ends x) q is c low = ap (λ (u : LineScript X). played_from s indent u c) (sym is)
+  played_alike : {X : Type 0} (k : ℕ) (p q : LineScript X) → Alike is_line_read k p q → (c : LineState) → keys_and_pastes c.coming ≤ k → played_from s p c ≡ played_from s q c
+  played_alike {X} k (Ends x) q is c low = ap (λ (u : LineScript X). played_from s u c) (sym is)
   played_alike {X} k (Asks ask f) q (g, is, h) c low =
-      on_answer ask f g (left_at s indent c ask) (answer_at s indent c ask)
-      (λ x ok. step (is_line_read ask) k (keys_and_pastes (left_at s indent c ask).coming) (λ j. Alike is_line_read j (f x) (g x)) (played_from s indent (f x) (left_at s indent c ask) ≡ played_from s indent (g x) (left_at s indent c ask))
+      on_answer ask f g (left_at s c ask) (answer_at s c ask)
+      (λ x ok. step (is_line_read ask) k (keys_and_pastes (left_at s c ask).coming) (λ j. Alike is_line_read j (f x) (g x)) (played_from s (f x) (left_at s c ask) ≡ played_from s (g x) (left_at s c ask))
       (λ reads. let less = falls c ask x ok reads in omega arith) (let stays = left_le c ask in omega arith)
-      (λ j below a. played_alike j (f x) (g x) a (left_at s indent c ask) below) (h x))
-      ∙ ap (λ (u : LineScript X). played_from s indent u c) (sym is)
+      (λ j below a. played_alike j (f x) (g x) a (left_at s c ask) below) (h x))
+      ∙ ap (λ (u : LineScript X). played_from s u c) (sym is)
 
   -- ---- an accepted line has read a key
 
   rest_on : {X : Type 0} (ask : LineAsk) (f : LineAnswer ask → LineScript X) (after : LineState) (most : ℕ) (r : Result (LineAnswer ask) ReadlineError) → keys_and_pastes after.coming ≤ most
-      → ((x : LineAnswer ask) → keys_and_pastes (played_from s indent (f x) after).rest.coming ≤ keys_and_pastes after.coming)
-      → keys_and_pastes (played_on (λ x. played_from s indent (f x) after) ask after r).rest.coming ≤ most
+      → ((x : LineAnswer ask) → keys_and_pastes (played_from s (f x) after).rest.coming ≤ keys_and_pastes after.coming)
+      → keys_and_pastes (played_on (λ x. played_from s (f x) after) ask after r).rest.coming ≤ most
   rest_on ask f after most (Ok x) low h = let stays = h x in omega arith
   rest_on ask f after most (Err e) low h = low
 
-  rest_stays : {X : Type 0} (p : LineScript X) (c : LineState) → keys_and_pastes (played_from s indent p c).rest.coming ≤ keys_and_pastes c.coming
+  rest_stays : {X : Type 0} (p : LineScript X) (c : LineState) → keys_and_pastes (played_from s p c).rest.coming ≤ keys_and_pastes c.coming
   rest_stays (Ends x) c = omega arith
   rest_stays (Asks ask f) c =
-      rest_on ask f (left_at s indent c ask) (keys_and_pastes c.coming) (answer_at s indent c ask) (left_le c ask) (λ x. rest_stays (f x) (left_at s indent c ask))
+      rest_on ask f (left_at s c ask) (keys_and_pastes c.coming) (answer_at s c ask) (left_le c ask) (λ x. rest_stays (f x) (left_at s c ask))
 
   first_key : (f : KeyEvent → LineScript (List ℕ)) (c : LineState) (r : Result KeyEvent ReadlineError) → item_at Key c.coming ≡ r → (text : List ℕ)
-      → (played_on (λ x. played_from s indent (f x) (left_at s indent c (Keys (Reads Key)))) (Keys (Reads Key)) (left_at s indent c (Keys (Reads Key))) r).answer ≡ Ok text
-      → suc (keys_and_pastes (played_on (λ x. played_from s indent (f x) (left_at s indent c (Keys (Reads Key)))) (Keys (Reads Key)) (left_at s indent c (Keys (Reads Key))) r).rest.coming) ≤ keys_and_pastes c.coming
+      → (played_on (λ x. played_from s (f x) (left_at s c (Keys (Reads Key)))) (Keys (Reads Key)) (left_at s c (Keys (Reads Key))) r).answer ≡ Ok text
+      → suc (keys_and_pastes (played_on (λ x. played_from s (f x) (left_at s c (Keys (Reads Key)))) (Keys (Reads Key)) (left_at s c (Keys (Reads Key))) r).rest.coming) ≤ keys_and_pastes c.coming
   first_key f c (Ok k) is text ok =
       let less = read_falls Key c.coming k is in
-      let stays = rest_stays (f k) (left_at s indent c (Keys (Reads Key))) in omega arith
+      let stays = rest_stays (f k) (left_at s c (Keys (Reads Key))) in omega arith
   first_key f c (Err e) is text ok = absurd (cc)
 
-  line_falls : (n : ℕ) (custom : Custom) (c : LineState) (text : List ℕ) → (played_from s indent (line_script (suc n) custom) c).answer ≡ Ok text
-      → suc (keys_and_pastes (played_from s indent (line_script (suc n) custom) c).rest.coming) ≤ keys_and_pastes c.coming
+  line_falls : (n : ℕ) (custom : Custom) (c : LineState) (text : List ℕ) → (played_from s (line_script (suc n) custom) c).answer ≡ Ok text
+      → suc (keys_and_pastes (played_from s (line_script (suc n) custom) c).rest.coming) ≤ keys_and_pastes c.coming
   unfolding line_script turns_script turn_script and_then with_read
   line_falls n custom c text ok =
-      let drawn = left_at s indent c (Makes line_begun) in
-      let begun = left_at s indent drawn Begins in
+      let drawn = left_at s c (Makes line_begun) in
+      let begun = left_at s drawn Begins in
       first_key (turn_after n custom (beginning drawn)) begun (item_at Key c.coming) refl text ok
 
 -- ---- sessions
@@ -130,16 +130,16 @@ abbrev course_by : Given → SessionState → Played LineAsk LineState ReadlineE
 course_by g x p =
     let a = setting_in g x.history.kept.entries in
     record {
-      events = LineBegins g.screen ∷ (asks_events g.screen a g.config.indent_size (fresh g.screen.mode) (kept_first a g.config x.ring x.query x.coming) p.asks ++ end_events p.answer);
+      events = LineBegins g.screen ∷ (asks_events g.screen a (fresh g.screen.mode) (kept_first a x.ring x.query x.coming) p.asks ++ end_events p.answer);
       answer = (p.answer, state_after g.config.auto_add_history p.answer p.rest.ring p.rest.modal.query p.rest.coming x);
     }
 
 line_is : (n m : ℕ) (g : Given) (x : SessionState) → keys_and_pastes x.coming < n → keys_and_pastes x.coming < m → line_course n g x ≡ line_course m g x
 line_is n m g x low low' =
     let s = setting_in g x.history.kept.entries in
-    let c = kept_first s g.config x.ring x.query x.coming in
+    let c = kept_first s x.ring x.query x.coming in
     ap (course_by g x)
-    (played_alike s g.config.indent_size (keys_and_pastes x.coming) (line_script n g.custom) (line_script m g.custom) (line_alike g.custom n m (keys_and_pastes x.coming) low low') c (omega arith))
+    (played_alike s (keys_and_pastes x.coming) (line_script n g.custom) (line_script m g.custom) (line_alike g.custom n m (keys_and_pastes x.coming) low low') c (omega arith))
 
 going_same : (a b : SessionState → Course ReadlineError) (r : Result (List ℕ) ReadlineError) (y : SessionState) → ((text : List ℕ) → r ≡ Ok text → a y ≡ b y) → going_on a (r, y) ≡ going_on b (r, y)
 going_same a b (Ok text) y h = h text refl
@@ -157,6 +157,6 @@ session_is (suc n) (suc m) g at x low low' =
     let others = λ (line : ℕ). at (suc line) in
     ap (events_first line.events)
     (going_same (session n g others) (session m g others) p.answer (state_after here.config.auto_add_history p.answer p.rest.ring p.rest.modal.query p.rest.coming x)
-    (λ text ok. let less = line_falls s here.config.indent_size n here.custom (kept_first s here.config x.ring x.query x.coming) text ok in
+    (λ text ok. let less = line_falls s n here.custom (kept_first s x.ring x.query x.coming) text ok in
     session_is n m g others (state_after here.config.auto_add_history p.answer p.rest.ring p.rest.modal.query p.rest.coming x) (omega arith) (omega arith)))
     ∙ ap (λ (line : Course (Result (List ℕ) ReadlineError × SessionState)). events_first line.events (going_on (session m g others) line.answer)) (line_is (suc n) (suc m) here x low low')

@@ -8,7 +8,7 @@ use Rattle.line_editor.specs.LineScripts.{LineAsk, LineState, effect_at, left_at
 use Rattle.line_editor.specs.Redraws.{fresh}
 use Rattle.line_editor.specs.Running.{kept_first, line_played}
 use Rattle.line_editor.specs.Steps.{one}
-use Rattle.line_editor.specs.Values.{EditStep, Setting}
+use Rattle.line_editor.specs.Values.{EditStep, Setting, shown_marks}
 use Rattle.line_editor.specs.Values.EditStep.{Draws as DrawStep, Helped as HelpStep, Edits as EditingStep, TakesBack as BackStep, Takes as TakingStep}
 use Rattle.line_help.specs.History.{Filed, nothing_filed, ignored, filed_with_all, newest, unsaved_after}
 use Rattle.line_help.proofs.NewestLemmas.{all_new, length-newest, newest_behind}
@@ -28,24 +28,24 @@ module _ (s t : Screen) where
   -- whatever is kept of the drawing
   step_alike : (l m : Layout) (rs : List EditStep) → map unmeasured (step_events s l rs) ≡ map unmeasured (step_events t m rs)
   step_alike l m [] = refl
-  step_alike l m (DrawStep v marks redraw ∷ rs) = ap (λ events. Draws redraw [] ∷ events) (step_alike (one (ruler_of s) l (DrawStep v marks redraw)).layout (one (ruler_of t) m (DrawStep v marks redraw)).layout rs)
+  step_alike l m (DrawStep v marks redraw ∷ rs) = ap (λ events. Draws (shown_marks v marks) redraw [] ∷ events) (step_alike (one (ruler_of s) l (DrawStep v marks redraw)).layout (one (ruler_of t) m (DrawStep v marks redraw)).layout rs)
   step_alike l m (HelpStep v fails takes ∷ rs) = ap (λ events. Helped fails takes ∷ events) (step_alike l m rs)
   step_alike l m (EditingStep v edit ∷ rs) = ap (λ events. Takes ∷ events) (step_alike l m rs)
   step_alike l m (BackStep v count ∷ rs) = ap (λ events. Takes ∷ events) (step_alike l m rs)
   step_alike l m (TakingStep v ∷ rs) = ap (λ events. Takes ∷ events) (step_alike l m rs)
 
-  asks_alike : (a : Setting) (indent : ℕ) (l m : Layout) (k : LineState) (asks : List LineAsk) → map unmeasured (asks_events s a indent l k asks) ≡ map unmeasured (asks_events t a indent m k asks)
-  asks_alike a indent l m k [] = refl
-  asks_alike a indent l m k (ask ∷ asks) =
-      let rs = (effect_at a indent k ask).steps in
-      let left = left_at a indent k ask in
+  asks_alike : (a : Setting) (l m : Layout) (k : LineState) (asks : List LineAsk) → map unmeasured (asks_events s a l k asks) ≡ map unmeasured (asks_events t a m k asks)
+  asks_alike a l m k [] = refl
+  asks_alike a l m k (ask ∷ asks) =
+      let rs = (effect_at a k ask).steps in
+      let left = left_at a k ask in
       let own = own_events a k ask in
-      let one_rest = asks_events s a indent (drawn_by s l rs).layout left asks in
-      let other_rest = asks_events t a indent (drawn_by t m rs).layout left asks in
+      let one_rest = asks_events s a (drawn_by s l rs).layout left asks in
+      let other_rest = asks_events t a (drawn_by t m rs).layout left asks in
       mapped_both unmeasured (step_events s l rs) (own ++ one_rest)
       ∙ ap (λ events. events ++ map unmeasured (own ++ one_rest)) (step_alike l m rs)
       ∙ ap (λ events. map unmeasured (step_events t m rs) ++ events) (mapped_both unmeasured own one_rest
-      ∙ ap (λ events. map unmeasured own ++ events) (asks_alike a indent (drawn_by s l rs).layout (drawn_by t m rs).layout left asks)
+      ∙ ap (λ events. map unmeasured own ++ events) (asks_alike a (drawn_by s l rs).layout (drawn_by t m rs).layout left asks)
       ∙ sym (mapped_both unmeasured own other_rest))
       ∙ sym (mapped_both unmeasured (step_events t m rs) (own ++ other_rest))
 
@@ -66,10 +66,10 @@ untabbed g columns none = ap (λ tab. tabs_of (at_columns columns (tabbed g tab)
 -- a line on one screen and on another, by one setting
 abbrev course_on : ℕ → Given → SessionState → Screen → Setting → Course (Result (List ℕ) ReadlineError × SessionState)
 course_on n g x s a =
-    let k = kept_first a g.config x.ring x.query x.coming in
-    let p = line_played n a g.custom g.config x.ring x.query x.coming in
+    let k = kept_first a x.ring x.query x.coming in
+    let p = line_played n a g.custom x.ring x.query x.coming in
     record {
-      events = Begins s ∷ (asks_events s a g.config.indent_size (fresh s.mode) k p.asks ++ end_events p.answer);
+      events = Begins s ∷ (asks_events s a (fresh s.mode) k p.asks ++ end_events p.answer);
       answer = (p.answer, state_after g.config.auto_add_history p.answer p.rest.ring p.rest.modal.query p.rest.coming x);
     }
 
@@ -84,16 +84,16 @@ lines_alike n g x columns t e =
     let s = other.screen in
     let entries = x.history.kept.entries in
     let a = setting_in g entries in
-    let p = line_played n a g.custom g.config x.ring x.query x.coming in
-    let k = kept_first a g.config x.ring x.query x.coming in
-    let asks = λ (s : Screen). asks_events s a g.config.indent_size (fresh s.mode) k p.asks in
+    let p = line_played n a g.custom x.ring x.query x.coming in
+    let k = kept_first a x.ring x.query x.coming in
+    let asks = λ (s : Screen). asks_events s a (fresh s.mode) k p.asks in
     let same : line_course n other x ≡ course_on n g x s a =
     ap (λ column. course_on n g x s (setting_at g entries column (tabs_of other))) e
     ∙ ap (λ tabs. course_on n g x s (setting_at g entries (prompt_column g) tabs)) t in
     let alike : Alike (course_on n g x s a) (line_course n g x) = record {
       events = ap (λ events. Begins (record s { columns = 0 }) ∷ events)
           (mapped_both unmeasured (asks s) (end_events p.answer)
-          ∙ ap (λ events. events ++ map unmeasured (end_events p.answer)) (asks_alike s g.screen a g.config.indent_size (fresh s.mode) (fresh g.screen.mode) k p.asks)
+          ∙ ap (λ events. events ++ map unmeasured (end_events p.answer)) (asks_alike s g.screen a (fresh s.mode) (fresh g.screen.mode) k p.asks)
           ∙ sym (mapped_both unmeasured (asks g.screen) (end_events p.answer)));
       answer = refl;
     } in
@@ -137,9 +137,9 @@ line_columns_are_free n g x columns none e =
     let own = prompt_column g in
     let tabs = tabs_of (at_columns columns g) in
     let t = untabbed g columns none in
-    let first : Setting → LineState = λ a. kept_first a g.config x.ring x.query x.coming in
-    let played = λ (a : Setting). line_played n a g.custom g.config x.ring x.query x.coming in
-    let stepped = λ (a : Setting). steps_along a g.config.indent_size (first a) (played a).asks in (
+    let first : Setting → LineState = λ a. kept_first a x.ring x.query x.coming in
+    let played = λ (a : Setting). line_played n a g.custom x.ring x.query x.coming in
+    let stepped = λ (a : Setting). steps_along a (first a) (played a).asks in (
       ap (λ column. played (at column tabs)) e ∙ ap (λ tabs. played (at own tabs)) t,
       ap (λ column. stepped (at column tabs)) e ∙ ap (λ tabs. stepped (at own tabs)) t,
     )

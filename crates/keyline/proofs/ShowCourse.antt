@@ -4,6 +4,7 @@ use Rattle.std.specs.List.{filter, flat_map}
 use Rattle.std.specs.Prelude.{⊤}
 use Rattle.line_buffer.specs.declared.layout.Layout.{Layout}
 use Rattle.line_config.specs.declared.errors.ReadlineError.{ReadlineError}
+use Rattle.line_editor.specs.Calls.{Marks}
 use Rattle.line_editor.specs.Courses.{breaks_after}
 use Rattle.line_editor.specs.Leads.{BeginShows, EndShows, LeadsAlong}
 use Rattle.line_editor.specs.LineScripts.{Begins as TurnBegins, Keys, LineAsk, LineState, effect_at, left_at}
@@ -66,9 +67,9 @@ module _ (s : Screen) (low : 2 ≤ s.columns) (high : s.columns ≤ 1000) (own :
   meant bytes over top x g = let m = shown_is_meant s bytes over (view_in s top x) g in record { display = m.0; means = m.1; over_is = m.3 }
 
   -- the bytes up to a moment show its value at its top
-  moment : (bytes : List ℕ) (over : List Placed) (top : ℕ) (x : Sight) (given : Bool) (prompt text : List ℕ) (place : ℕ) → Holds bytes over top x → x ≡ sight_with given prompt text place x.info
-      → MomentShown (face s bytes top over x) prompt text place
-  moment bytes over top x given prompt text place g is =
+  moment : (bytes : List ℕ) (over : List Placed) (top : ℕ) (x : Sight) (marks : Option Marks) (given : Bool) (prompt text : List ℕ) (place : ℕ) → Holds bytes over top x → x ≡ sight_with marks given prompt text place x.info
+      → MomentShown (face s bytes top over x) marks given prompt text place
+  moment bytes over top x marks given prompt text place g is =
       let m = shown_is_meant s bytes over (view_in s top x) g in
       let P : Sight → Type 0 = λ y. Shows s.columns (widths s) (picture y) top m.0 in
       record { display = m.0; means = m.1; shows = subst P is (m.4 (place_by x false (ap (λ (y : Sight). y.ended) is))); over_is = m.3 }
@@ -105,7 +106,7 @@ module _ (s : Screen) (low : 2 ≤ s.columns) (high : s.columns ≤ 1000) (own :
       let new = bytes ++ all_of (map (bytes_of s) a.calls) in
       let over' = above_drawn redraw over in
       let top' = top_drawn redraw top in
-      let y = sight_drawn x redraw in
+      let y = sight_drawn x (shown_marks v m) redraw in
       let done : DisplayHolds s new over' top' a.layout y =
       subst (λ sent. DisplayHolds s (bytes ++ sent) over' top' a.layout y) (sym (all_of_map (bytes_of s) a.calls)) (step s low high own bytes over top l x (DrawStep v m redraw) h fits.0 rows) in
       (meant new over' top' y done.good, steps_shown later rs new over' top' a.layout y done fits.1 next)
@@ -113,7 +114,7 @@ module _ (s : Screen) (low : 2 ≤ s.columns) (high : s.columns ≤ 1000) (own :
   steps_shown later (_ ∷ rs) bytes over top l x h fits next = steps_shown later rs bytes over top l x h fits.1 next
 
 -- with other information, the same is to be seen
-seen_with : (at : Standing) (m : Modal) (a : Setting) (v : Value) (info : Option (List ℕ)) → (let y = seen_by at m a v None in seen_by at m a v info ≡ sight_with y.given y.prompt y.line y.place info)
+seen_with : (at : Standing) (m : Modal) (a : Setting) (v : Value) (info : Option (List ℕ)) → (let y = seen_by at m a v None in seen_by at m a v info ≡ sight_with (shown_marks v a.marks) y.given y.prompt y.line y.place info)
 seen_with Searches m a v info = refl
 seen_with _ m a v info = refl
 
@@ -122,29 +123,29 @@ abbrev After : Result (List ℕ) ReadlineError → Face → Type 0
 After (Ok text) f = IsAtRest f
 After (Err e) f = ⊤
 
-module _ (s : Screen) (low : 2 ≤ s.columns) (high : s.columns ≤ 1000) (a : Setting) (indent : ℕ) where
-  own_shown : (later : List Event) (ask : LineAsk) (k : LineState) (bytes : List ℕ) (over : List Placed) (top : ℕ) (x : Sight) → Good s.columns (widths s) bytes over (view_in s top x) → BeginShows a indent ask k x
+module _ (s : Screen) (low : 2 ≤ s.columns) (high : s.columns ≤ 1000) (a : Setting) where
+  own_shown : (later : List Event) (ask : LineAsk) (k : LineState) (bytes : List ℕ) (over : List Placed) (top : ℕ) (x : Sight) → Good s.columns (widths s) bytes over (view_in s top x) → BeginShows a ask k x
       → EachShown (face s bytes top over x) later → EachShown (face s bytes top over x) (own_events a k ask ++ later)
   own_shown later TurnBegins k bytes over top x g leads rest =
       let y = modal_seen k.modal a k.value None in
-      (moment s low high a.prompt bytes over top x y.given y.prompt y.line y.place g (leads ∙ seen_with k.modal.standing k.modal a k.value x.info), rest)
+      (moment s low high a.prompt bytes over top x (shown_marks k.value a.marks) y.given y.prompt y.line y.place g (leads ∙ seen_with k.modal.standing k.modal a k.value x.info), rest)
   own_shown later (Keys (Reads item)) k bytes over top x g leads rest = rest
   own_shown later _ k bytes over top x g leads rest = rest
 
   -- what follows on the asks
   abbrev Follows : Result (List ℕ) ReadlineError → List Event → Type 0
-  Follows o later = (bytes : List ℕ) (over : List Placed) (top : ℕ) (l : Layout) (x : Sight) → DisplayHolds s bytes over top l x → EndShows a indent o x → EachShown (face s bytes top over x) later
+  Follows o later = (bytes : List ℕ) (over : List Placed) (top : ℕ) (l : Layout) (x : Sight) → DisplayHolds s bytes over top l x → EndShows a o x → EachShown (face s bytes top over x) later
 
   asks_shown : (o : Result (List ℕ) ReadlineError) (later : List Event) → Follows o later → (asks : List LineAsk) (k : LineState) (bytes : List ℕ) (over : List Placed) (top : ℕ) (l : Layout) (x : Sight)
-      → DisplayHolds s bytes over top l x → LeadsAlong a indent o k x asks → EachShown (face s bytes top over x) (asks_events s a indent l k asks ++ later)
+      → DisplayHolds s bytes over top l x → LeadsAlong a o k x asks → EachShown (face s bytes top over x) (asks_events s a l k asks ++ later)
   asks_shown o later next [] k bytes over top l x h leads = next bytes over top l x h leads
   asks_shown o later next (ask ∷ asks) k bytes over top l x h leads =
-      let rs = (effect_at a indent k ask).steps in
+      let rs = (effect_at a k ask).steps in
       let m = (drawn_by s l rs).layout in
       let y = sight_all x rs in
-      let left = left_at a indent k ask in
+      let left = left_at a k ask in
       let first = step_events s l rs in
-      let more = asks_events s a indent m left asks in
+      let more = asks_events s a m left asks in
       let mine = own_events a k ask in
       let E : List Event → Type 0 = EachShown (face s bytes top over x) in
       subst E (sym (append_assoc first (mine ++ more) later ∙ ap (λ events. first ++ events) (append_assoc mine more later)))
@@ -170,7 +171,7 @@ abbrev tail_of : ℕ → Given → SessionState → List Event
 tail_of n g x =
     let a = setting_in g x.history.kept.entries in
     let p = played_in n g x in
-    asks_events g.screen a g.config.indent_size (fresh g.screen.mode) (kept_first a g.config x.ring x.query x.coming) p.asks ++ end_events p.answer
+    asks_events g.screen a (fresh g.screen.mode) (kept_first a x.ring x.query x.coming) p.asks ++ end_events p.answer
 
 line_shown : (n : ℕ) (g : Given) (x : SessionState) (more : List Event)
     → ((f : Face) → After (played_in n g x).answer f → EachShown f more)
@@ -180,15 +181,14 @@ line_shown n g x more next f rest =
     let low = rest.screen.least in
     let high = rest.screen.most in
     let a = setting_in g x.history.kept.entries in
-    let indent = g.config.indent_size in
-    let k = kept_first a g.config x.ring x.query x.coming in
+    let k = kept_first a x.ring x.query x.coming in
     let p = played_in n g x in
-    let lead = lines_lead n a g.custom indent (new_input g.config) x.ring g.config x.query x.coming in
-    let asks = asks_events s a indent (fresh s.mode) k p.asks in
+    let lead = lines_lead n a g.custom (new_input g.config) x.ring g.config x.query x.coming in
+    let asks = asks_events s a (fresh s.mode) k p.asks in
     let h : DisplayHolds s f.bytes f.over f.top (fresh s.mode) no_sight = fresh_holds s low high f.bytes f.over f.top (fresh s.mode) rest.good in
     subst (λ events. EachShown (record f { screen = s }) events) (sym (append_assoc asks (end_events p.answer) more))
     (subst (λ (y : Sight). EachShown (face s f.bytes f.top f.over y) (asks ++ (end_events p.answer ++ more))) (sym rest.nothing)
-    (asks_shown s low high a indent p.answer (end_events p.answer ++ more) (end_shown s low high a indent more p.answer next) p.asks k f.bytes f.over f.top (fresh s.mode) no_sight h lead))
+    (asks_shown s low high a p.answer (end_events p.answer ++ more) (end_shown s low high a more p.answer next) p.asks k f.bytes f.over f.top (fresh s.mode) no_sight h lead))
 
 -- ---- a session
 
@@ -227,8 +227,8 @@ sessions_show (suc n) g at x f rest =
 pub first_shown : (done others : List Event) (f : Face) → EachShown f (done ++ others) → EachShown f done
 first_shown [] others f h = tt
 first_shown (Begins s ∷ done) others f h = (λ same. first_shown done others f (h.0 same), λ is. first_shown done others (blank s) (h.1 is))
-first_shown (Draws redraw sent ∷ done) others f h = λ rows. let m = h rows in (m.0, first_shown done others (drawn_on f redraw sent) m.1)
-first_shown (Rests prompt text place ∷ done) others f h = (h.0, first_shown done others f h.1)
+first_shown (Draws marks redraw sent ∷ done) others f h = λ rows. let m = h rows in (m.0, first_shown done others (drawn_on f marks redraw sent) m.1)
+first_shown (Rests marks given prompt text place ∷ done) others f h = (h.0, first_shown done others f h.1)
 first_shown (Breaks ∷ done) others f h = let m = h.0 in (m, first_shown done others (below (broken f) m.display) h.1)
 first_shown (_ ∷ done) others f h = first_shown done others f h
 

@@ -44,17 +44,17 @@ a_drawn = 0x0D ∷ (0x1B ∷ (codes "[J" ++ (plain ++ (codes "> " ++ (plain ++ (
 
 -- the last three send nothing
 row_events : step_events eighty (fresh Modes.Unicode) row
-    ≡ Draws (Drawn own true [] 0 None) (empty_drawn ∷ []) ∷ (Draws (Typed own 0x61 a 1) (a ∷ []) ∷ (Draws Cleared (cleared ∷ []) ∷ (Draws (Drawn own true a 1 None) (a_drawn ∷ [])
-    ∷ (Draws (Bared own a 1) [] ∷ (Draws (Moved a 1) [] ∷ (Draws ToEnd [] ∷ []))))))
+    ≡ Draws None (Drawn own true [] 0 None) (empty_drawn ∷ []) ∷ (Draws None (Typed own 0x61 a 1) (a ∷ []) ∷ (Draws None Cleared (cleared ∷ []) ∷ (Draws None (Drawn own true a 1 None) (a_drawn ∷ [])
+    ∷ (Draws None (Bared own a 1) [] ∷ (Draws None (Moved a 1) [] ∷ (Draws None ToEnd [] ∷ []))))))
 unfolding row drawing own eighty a plain empty_drawn cleared a_drawn lib.Utf8.encode
 row_events = refl
 
-row_stands : Turns own no_sight row (ended_sight (sight_as own a 1 None))
+row_stands : Turns own no_sight row (ended_sight (sight_as None own a 1 None))
 unfolding row drawing own a
 row_stands = record {
   fits = (
     (λ e. refl),
-    ((refl, refl, refl, record { typed = refl; prompt_is = refl; text_is = refl; behind = refl }), (tt, ((λ e. refl), (refl, (refl, (tt, tt)))))),
+    ((refl, refl, refl, record { typed = refl; prompt_is = refl; text_is = refl; behind = refl }, record { unstyled = refl; same = λ none. refl }), (tt, ((λ e. refl), (refl, (refl, (tt, tt)))))),
   );
   leads = refl;
 }

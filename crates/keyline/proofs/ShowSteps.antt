@@ -1,5 +1,5 @@
 -- A step leads from what is shown before it to what is to be shown after it.
-use Rattle.std.proofs.Common.{◌≡◌, ◌≢◌, ℕ, ◌+◌, ◌==◌, not, ◌^◌, ◌<◌, ◌≤◌, inl, inr, nat_lt, nat_le, Bool, true, false, List, [], ◌∷◌, ◌++◌, take, length, length-append, Option, Some, None, is_some, encode_utf8, refl, sym, ap, ◌∙◌, subst, append-nil, arith, if◌then◌else◌}
+use Rattle.std.proofs.Common.{◌≡◌, ◌≢◌, ℕ, ◌+◌, ◌==◌, not, ◌<◌, ◌≤◌, inl, inr, nat_lt, nat_le, Bool, true, false, List, [], ◌∷◌, ◌++◌, take, length, length-append, map, Option, Some, None, is_some, encode_utf8, refl, sym, ap, ◌∙◌, subst, append-nil, arith, if◌then◌else◌}
 use Rattle.std.specs.List.{filter, flat_map}
 use Rattle.std.proofs.lemmas.Bool.{and_parts, not-true, eqb-true, lt-ltb, ltb-true}
 use Rattle.std.proofs.lemmas.Bool.Decides.{nat_tests}
@@ -12,19 +12,20 @@ use Rattle.line_editor.specs.Calls.{Call, Marks}
 use Rattle.line_editor.specs.Calls.Call.{Draw, Move, Write, Beep, ClearScreen, MoveAndClearToEol, Help}
 use Rattle.line_editor.specs.Redraws.{info_text, fresh, layout_of, full, nothing_asked, moved_by_call, column_on, column_back, typed_short, taken_short, fits_in_row, may_type, may_take}
 use Rattle.line_editor.specs.Redraws.Redraw.{Drawn, Moved, Typed, Taken, Bared, ToEnd, Beeped, Cleared}
-use Rattle.line_editor.specs.Sights.{Sight, sight_with, sight_as, no_sight, sight, ended_sight, TypedFits, TakenFits, Fits}
+use Rattle.line_editor.specs.Sights.{Sight, PartSpans, SameStyles, sight_with, sight_as, no_sight, sight, ended_sight, TypedFits, TakenFits, Fits}
 use Rattle.line_editor.specs.Steps.{one}
 use Rattle.line_editor.specs.Values.{shown_marks, EditStep}
 use Rattle.line_editor.specs.Values.EditStep.{Draws, Helped, Edits, TakesBack, Takes}
 use Rattle.line_screen.specs.Calls.{Screen, bytes_of, ruler_of}
-use Rattle.line_screen.specs.Chain.{View, Good, Inside, LeadsView, empty_view, Types, Picture, finish_of, cursor_of, above}
+use Rattle.line_screen.specs.Colours.{span_of}
+use Rattle.line_screen.specs.Chain.{View, Good, Inside, LeadsView, empty_view, Types, Picture, shown_items, finish_of, cursor_of, above}
 use Rattle.line_screen.specs.Display.{Placed}
-use Rattle.line_screen.specs.Drawing.{row_break, text_items, place_after}
+use Rattle.line_screen.specs.Drawing.{DrawnItem, row_break, text_items, place_after}
 use Rattle.line_screen.specs.Laws.{widths, TellsView}
 use Rattle.line_screen.specs.Measure.{measure_of, saturated}
-use Rattle.line_screen.proofs.Fitting.{drawable}
+use Rattle.line_screen.proofs.Fitting.{items_fit, fit_append, after_inside}
 use Rattle.line_screen.proofs.LawLemmas.{calls_lead, place_is_free, measures_go_on}
-use Rattle.line_screen.proofs.Leading.{line_items, line_cursor, over_again}
+use Rattle.line_screen.proofs.Leading.{line_cursor, line_finish, over_again}
 use Rattle.line_screen.proofs.ListLemmas.{filter_none, list_all_true}
 use Rattle.line_screen.proofs.ShortLemmas.{typing_leads, killing_leads}
 use Rattle.keyline.specs.Shows.{picture, place_in, view_in, DisplayHolds, Low, LowStep, top_by, above_by}
@@ -37,6 +38,10 @@ same_if a b h =
 no_text : (info : Option (List ℕ)) → is_some info ≡ false → info_text info ≡ []
 no_text None h = refl
 no_text (Some x) h = cc
+
+no_info : (info : Option (List ℕ)) → is_some info ≡ false → info ≡ None
+no_info None h = refl
+no_info (Some x) h = cc
 
 not_break : (c : ℕ) → c ∷ [] ≡ row_break → ⊥
 not_break c h = let n = ap length h in absurd (omega arith)
@@ -53,9 +58,6 @@ none_above_first xs = filter_none (above 0) xs (list_all_true (λ p. not (above 
 module _ (s : Screen) (low : 2 ≤ s.columns) (high : s.columns ≤ 1000) where
   some : 1 ≤ s.columns
   some = omega arith
-
-  few : s.columns < 2 ^ 64
-  few = omega arith
 
   -- ---- a call after the bytes so far
 
@@ -87,11 +89,23 @@ module _ (s : Screen) (low : 2 ≤ s.columns) (high : s.columns ≤ 1000) where
 
   -- ---- measures
 
+  abbrev text_of : List ℕ → List DrawnItem
+  text_of text = text_items (widths s) text
+
   inside_cursor : (x : Sight) → Low s x → Inside s.columns (cursor_of s.columns (widths s) (picture x))
-  inside_cursor x h = let a = h.cursor in let b = h.finish in (drawable s.mode s.tab s.columns some (picture x) (omega arith) (omega arith)).cursor
+  inside_cursor x h =
+      let before = take x.place x.line in
+      let fits = fit_append s.mode s.tab s.columns some (text_of x.prompt) (text_of before) (items_fit s.mode s.tab s.columns some x.prompt) (items_fit s.mode s.tab s.columns some before) in
+      let row = h.cursor in
+      record { row = omega arith; col = after_inside s.columns (widths s).cluster (text_of x.prompt ++ text_of before) origin fits some }
 
   inside_finish : (x : Sight) → Low s x → Inside s.columns (finish_of s.columns (widths s) (picture x))
-  inside_finish x h = let a = h.cursor in let b = h.finish in (drawable s.mode s.tab s.columns some (picture x) (omega arith) (omega arith)).finish
+  inside_finish x h =
+      let info = info_text x.info in
+      let behind = fit_append s.mode s.tab s.columns some (text_of x.line) (text_of info) (items_fit s.mode s.tab s.columns some x.line) (items_fit s.mode s.tab s.columns some info) in
+      let fits = fit_append s.mode s.tab s.columns some (text_of x.prompt) (text_of x.line ++ text_of info) (items_fit s.mode s.tab s.columns some x.prompt) behind in
+      let row = h.finish in
+      record { row = omega arith; col = after_inside s.columns (widths s).cluster (shown_items (widths s) (picture x)) origin fits some }
 
   nothing_measured : measure_of s.mode s.tab s.columns [] origin ≡ origin
   nothing_measured = ap (λ b. saturated (place_after s.columns (text_items (widths s) []) (if b then origin else record { col = 0; row = 1 }))) (lt-ltb 0 s.columns some)
@@ -99,10 +113,10 @@ module _ (s : Screen) (low : 2 ≤ s.columns) (high : s.columns ≤ 1000) where
   -- ---- a full drawing, over anything that is shown, with any layout whose cursor is the display's
 
   pub drawn_holds : (bytes : List ℕ) (over : List Placed) (top : ℕ) (m : Option Marks) (l : Layout) (x : Sight) (prompt : List ℕ) (given : Bool) (text : List ℕ) (at : ℕ) (info : Option (List ℕ))
-      → Good s.columns (widths s) bytes over (view_in s top x) → l.cursor ≡ place_in s x → Low s (sight_with given prompt text at info)
-      → (let a = full (ruler_of s) m l prompt given text at info in DisplayHolds s (bytes ++ flat_map (bytes_of s) a.calls) over top a.layout (sight_with given prompt text at info))
+      → Good s.columns (widths s) bytes over (view_in s top x) → l.cursor ≡ place_in s x → Low s (sight_with m given prompt text at info)
+      → (let a = full (ruler_of s) m l prompt given text at info in DisplayHolds s (bytes ++ flat_map (bytes_of s) a.calls) over top a.layout (sight_with m given prompt text at info))
   drawn_holds bytes over top m l x prompt given text at info g cursor rows =
-      let y = sight_with given prompt text at info in
+      let y = sight_with m given prompt text at info in
       let new = layout_of (ruler_of s) (measure_of s.mode s.tab s.columns prompt origin) given text at info in
       let measured = measures_go_on s some (picture y) in
       let cursor_is : new.cursor ≡ cursor_of s.columns (widths s) (picture y) = measured.0 rows.cursor in
@@ -113,7 +127,7 @@ module _ (s : Screen) (low : 2 ≤ s.columns) (high : s.columns ≤ 1000) where
       let row_b = ap (λ p. p.row) finish_is in
       record {
         good = one_led bytes over (view_in s top x) (view_in s top y) (Draw prompt text at info (Some l) new m) g
-            (ap (λ p. p.row) cursor, record { prompt_is = refl; line_is = refl; info_is = refl; finish_is = finish_is; cursor_is = cursor_is; top_is = refl; place_is = sym cursor_is; finish_row = omega arith; cursor_row = omega arith })
+            (ap (λ p. p.row) cursor, record { prompt_is = refl; line_is = refl; info_is = refl; styles_are = refl; finish_is = finish_is; cursor_is = cursor_is; top_is = refl; place_is = sym cursor_is; finish_row = omega arith; cursor_row = omega arith })
             refl (λ e. cc);
         cursor = cursor_is;
         finish = finish_is;
@@ -124,12 +138,15 @@ module _ (s : Screen) (low : 2 ≤ s.columns) (high : s.columns ≤ 1000) where
 
   -- ---- moves
 
+  abbrev moved_to : Sight → ℕ → Sight
+  moved_to x at = record x { place = at; ended = false }
+
   moved_if : (bytes : List ℕ) (over : List Placed) (top : ℕ) (l : Layout) (x : Sight) (at : ℕ) (cursor : Position) (b : Bool) → DisplayHolds s bytes over top l x
-      → (let y = sight_with x.given x.prompt x.line at x.info in
+      → (let y = moved_to x at in
       cursor ≡ cursor_of s.columns (widths s) (picture y) → Low s y → same_cell l.cursor cursor ≡ b
       → (let a = if b then nothing_asked l else moved_by_call l cursor in DisplayHolds s (bytes ++ flat_map (bytes_of s) a.calls) over top a.layout y))
   moved_if bytes over top l x at cursor true h is rows e =
-      let y = sight_with x.given x.prompt x.line at x.info in
+      let y = moved_to x at in
       let here : place_in s x ≡ cursor_of s.columns (widths s) (picture y) = sym h.cursor ∙ same_if l.cursor cursor e ∙ is in
       record {
         good = subst (λ p. Good s.columns (widths s) (bytes ++ []) over (record { shown = picture y; top = top; place = p })) here (place_is_free s (bytes ++ []) over (view_in s top x) at (none_led bytes over (view_in s top x) h.good));
@@ -140,7 +157,7 @@ module _ (s : Screen) (low : 2 ≤ s.columns) (high : s.columns ≤ 1000) where
         given_is = h.given_is;
       }
   moved_if bytes over top l x at cursor false h is rows e =
-      let y = sight_with x.given x.prompt x.line at x.info in
+      let y = moved_to x at in
       let there : View = record { shown = picture y; top = top; place = cursor } in
       let inside : Inside s.columns cursor = subst (Inside s.columns) (sym is) (inside_cursor y rows) in
       let new = bytes ++ flat_map (bytes_of s) (Move l.cursor cursor ∷ []) in
@@ -194,26 +211,40 @@ module _ (s : Screen) (low : 2 ≤ s.columns) (high : s.columns ≤ 1000) where
 
   -- nothing after a line, with the cursor at its end
   end_is_cursor : (v : Picture) → v.info ≡ [] → v.place ≡ length v.line → finish_of s.columns (widths s) v ≡ cursor_of s.columns (widths s) v
-  end_is_cursor v none end = ap (λ is. place_after s.columns is origin) (line_items s.mode s.tab s.columns some few v none) ∙ sym (line_cursor s.mode s.tab s.columns some few v end)
+  end_is_cursor v none end = line_finish s.columns (widths s) v none ∙ sym (line_cursor s.columns (widths s) v end)
 
   tells : (bytes : List ℕ) (over : List Placed) (top : ℕ) (l : Layout) (x : Sight) → DisplayHolds s bytes over top l x → TellsView s l (view_in s top x)
   tells bytes over top l x h = record { cursor = h.cursor; finish = h.finish; info = λ none. no_text x.info (sym h.info_is ∙ none) }
 
-  typed_is : (x : Sight) (prompt : List ℕ) (c : ℕ) (text : List ℕ) (at : ℕ) → TypedFits x prompt c text at → sight_as prompt text at None ≡ sight_as x.prompt (x.line ++ c ∷ []) (x.place + 1) None
-  typed_is x prompt c text at t =
-      ap (λ p. sight_as p text at None) t.prompt_is ∙ ap (λ p. sight_as x.prompt p at None) t.text_is ∙ ap (λ n. sight_as x.prompt (x.line ++ c ∷ []) n None) t.behind
+  -- without information, after the session's own prompt
+  abbrev bare_sight : PartSpans → List ℕ → List ℕ → ℕ → Sight
+  bare_sight spans prompt text at = record { prompt = prompt; line = text; place = at; info = None; given = true; ended = false; spans = spans }
+
+  -- nothing stands after the line
+  nothing_after : (bytes : List ℕ) (over : List Placed) (top : ℕ) (l : Layout) (x : Sight) → DisplayHolds s bytes over top l x → not l.has_info ≡ true → x.info ≡ None
+  nothing_after bytes over top l x h none = no_info x.info (sym h.info_is ∙ not-true l.has_info none)
+
+  no_styles_in : (x : Sight) → x.spans.line ≡ [] → (picture x).styles.line ≡ []
+  no_styles_in x none = ap (map span_of) none
+
+  typed_is : (m : Option Marks) (x : Sight) (prompt : List ℕ) (c : ℕ) (text : List ℕ) (at : ℕ) → TypedFits x prompt c text at → SameStyles x m prompt text at → x.info ≡ None
+      → sight_as m prompt text at None ≡ bare_sight x.spans x.prompt (x.line ++ c ∷ []) (x.place + 1)
+  typed_is m x prompt c text at t k none =
+      ap (λ spans. bare_sight spans prompt text at) (k.same none)
+      ∙ ap (λ p. bare_sight x.spans p text at) t.prompt_is ∙ ap (λ p. bare_sight x.spans x.prompt p at) t.text_is ∙ ap (λ n. bare_sight x.spans x.prompt (x.line ++ c ∷ []) n) t.behind
 
   typed_if : (bytes : List ℕ) (over : List Placed) (top : ℕ) (m : Option Marks) (l : Layout) (x : Sight) (prompt : List ℕ) (c : ℕ) (text : List ℕ) (at : ℕ) (b : Bool) → DisplayHolds s bytes over top l x
-      → x.given ≡ true → x.ended ≡ false → TypedFits x prompt c text at → Low s (sight_as prompt text at None) → may_type (ruler_of s) l ≡ b
-      → (let a = if b then typed_short l c else full (ruler_of s) m l prompt true text at None in DisplayHolds s (bytes ++ flat_map (bytes_of s) a.calls) over top a.layout (sight_as prompt text at None))
-  typed_if bytes over top m l x prompt c text at false h given unended t rows e = drawn_holds bytes over top m l x prompt true text at None h.good h.cursor rows
-  typed_if bytes over top m l x prompt c text at true h given unended t rows e =
+      → x.given ≡ true → x.ended ≡ false → TypedFits x prompt c text at → SameStyles x m prompt text at → Low s (sight_as m prompt text at None) → may_type (ruler_of s) l ≡ b
+      → (let a = if b then typed_short l c else full (ruler_of s) m l prompt true text at None in DisplayHolds s (bytes ++ flat_map (bytes_of s) a.calls) over top a.layout (sight_as m prompt text at None))
+  typed_if bytes over top m l x prompt c text at false h given unended t k rows e = drawn_holds bytes over top m l x prompt true text at None h.good h.cursor rows
+  typed_if bytes over top m l x prompt c text at true h given unended t k rows e =
       let w = view_in s top x in
       let letter = and_parts (is_printable c) (at_simple_end true x.line x.place) t.typed in
+      let none = nothing_after bytes over top l x h (and_parts (not l.has_info) (fits_in_row s.columns l.cursor) e).0 in
       let last : x.place ≡ length x.line = eqb-true x.place (length x.line) (and_parts (x.place == length x.line) _ letter.1).0 in
-      let y = sight_as x.prompt (x.line ++ c ∷ []) (x.place + 1) None in
+      let y = bare_sight x.spans x.prompt (x.line ++ c ∷ []) (x.place + 1) in
       let there : View = record { shown = picture y; top = top; place = column_on l.cursor } in
-      let leads = typing_leads s low high l w c (tells bytes over top l x h) (place_if x unended) t.typed e in
+      let leads = typing_leads s low high l w c (tells bytes over top l x h) (place_if x unended) (no_styles_in x k.unstyled) t.typed e in
       let plain = one_led bytes over w there (Write (c ∷ [])) h.good leads refl (λ e. cc) in
       let new = bytes ++ flat_map (bytes_of s) (Write (encode_utf8 c) ∷ []) in
       let good : Good s.columns (widths s) new over there =
@@ -228,7 +259,7 @@ module _ (s : Screen) (low : 2 ≤ s.columns) (high : s.columns ≤ 1000) where
         info_is = not-true l.has_info (and_parts (not l.has_info) (fits_in_row s.columns l.cursor) e).0;
         given_is = h.given_is ∙ given;
       } in
-      subst (DisplayHolds s new over top (typed_short l c).layout) (sym (typed_is x prompt c text at t)) done
+      subst (DisplayHolds s new over top (typed_short l c).layout) (sym (typed_is m x prompt c text at t k none)) done
 
   -- ---- a kill at the line's end
 
@@ -237,20 +268,24 @@ module _ (s : Screen) (low : 2 ≤ s.columns) (high : s.columns ≤ 1000) where
       let k = f.2 in
       ap (λ (x : View). x.place) k.view ∙ k.place_is ∙ ap (λ (x : View). cursor_of s.columns (widths s) x.shown) (sym k.view)
 
-  taken_is : (x : Sight) (prompt : List ℕ) (count : ℕ) (text : List ℕ) (at : ℕ) → TakenFits x prompt count text at → sight_as prompt text at None ≡ sight_as x.prompt text (length text) None
-  taken_is x prompt count text at t = ap (λ p. sight_as p text at None) t.prompt_is ∙ ap (λ n. sight_as x.prompt text n None) (eqb-true at (length text) (and_parts (at == length text) _ t.end).0)
+  taken_is : (m : Option Marks) (x : Sight) (prompt : List ℕ) (count : ℕ) (text : List ℕ) (at : ℕ) → TakenFits x prompt count text at → SameStyles x m prompt text at → x.info ≡ None
+      → sight_as m prompt text at None ≡ bare_sight x.spans x.prompt text (length text)
+  taken_is m x prompt count text at t k none =
+      ap (λ spans. bare_sight spans prompt text at) (k.same none)
+      ∙ ap (λ p. bare_sight x.spans p text at) t.prompt_is ∙ ap (λ n. bare_sight x.spans x.prompt text n) (eqb-true at (length text) (and_parts (at == length text) _ t.end).0)
 
   taken_if : (bytes : List ℕ) (over : List Placed) (top : ℕ) (m : Option Marks) (l : Layout) (x : Sight) (prompt : List ℕ) (count : ℕ) (text : List ℕ) (at : ℕ) (b : Bool) → DisplayHolds s bytes over top l x
-      → x.given ≡ true → TakenFits x prompt count text at → Low s (sight_as prompt text at None) → may_take l count ≡ b
-      → (let a = if b then taken_short l count else full (ruler_of s) m l prompt true text at None in DisplayHolds s (bytes ++ flat_map (bytes_of s) a.calls) over top a.layout (sight_as prompt text at None))
-  taken_if bytes over top m l x prompt count text at false h given t rows e = drawn_holds bytes over top m l x prompt true text at None h.good h.cursor rows
-  taken_if bytes over top m l x prompt count text at true h given t rows e =
+      → x.given ≡ true → TakenFits x prompt count text at → SameStyles x m prompt text at → Low s (sight_as m prompt text at None) → may_take l count ≡ b
+      → (let a = if b then taken_short l count else full (ruler_of s) m l prompt true text at None in DisplayHolds s (bytes ++ flat_map (bytes_of s) a.calls) over top a.layout (sight_as m prompt text at None))
+  taken_if bytes over top m l x prompt count text at false h given t k rows e = drawn_holds bytes over top m l x prompt true text at None h.good h.cursor rows
+  taken_if bytes over top m l x prompt count text at true h given t k rows e =
       let w = view_in s top x in
+      let none = nothing_after bytes over top l x h (and_parts (not l.has_info) _ e).0 in
       let to = column_back (length t.killed) l.end in
-      let y = sight_as x.prompt text (length text) None in
+      let y = bare_sight x.spans x.prompt text (length text) in
       let there : View = record { shown = picture y; top = top; place = to } in
       let plain = (and_parts (at == length text) (is_plain text) t.end).1 in
-      let leads = killing_leads s low high l w text t.killed (tells bytes over top l x h) h.good.inside t.whole plain t.printable (subst (λ n. may_take l n ≡ true) t.count_is e) in
+      let leads = killing_leads s low high l w text t.killed (tells bytes over top l x h) h.good.inside (no_styles_in x k.unstyled) t.whole plain t.printable (subst (λ n. may_take l n ≡ true) t.count_is e) in
       let good = one_led bytes over w there (MoveAndClearToEol w.place to) h.good leads refl (λ e. cc) in
       let place_is : to ≡ cursor_of s.columns (widths s) (picture y) = killed_place w there w.place to leads in
       let back : column_back count l.end ≡ to = ap (λ n. column_back n l.end) t.count_is in
@@ -266,7 +301,7 @@ module _ (s : Screen) (low : 2 ≤ s.columns) (high : s.columns ≤ 1000) where
         info_is = not-true l.has_info (and_parts (not l.has_info) _ e).0;
         given_is = h.given_is ∙ given;
       } in
-      subst (DisplayHolds s new over top (taken_short l count).layout) (sym (taken_is x prompt count text at t)) done
+      subst (DisplayHolds s new over top (taken_short l count).layout) (sym (taken_is m x prompt count text at t k none)) done
 
   -- ---- no call, also if the session's own prompt stands
 
@@ -296,14 +331,14 @@ module _ (s : Screen) (low : 2 ≤ s.columns) (high : s.columns ≤ 1000) where
       → DisplayHolds s (bytes ++ flat_map (bytes_of s) (one (ruler_of s) l r).calls) (above_by r over) (top_by r top) (one (ruler_of s) l r).layout (sight x r)
   step own bytes over top l x (Draws v m (Drawn prompt given text at info)) h fits rows = drawn_holds bytes over top (shown_marks v m) l x prompt given text at info h.good h.cursor rows
   step own bytes over top l x (Draws v m (Moved text at)) h fits rows =
-      let y = sight_with x.given x.prompt x.line at x.info in
+      let y = moved_to x at in
       let cursor = measure_of s.mode s.tab s.columns (take at text) l.prompt_size in
       let measured = measures_go_on s some (picture y) in
       let is : cursor ≡ cursor_of s.columns (widths s) (picture y) =
       ap (measure_of s.mode s.tab s.columns (take at text)) h.prompt_size ∙ ap (λ t. measure_of s.mode s.tab s.columns (take at t) (measure_of s.mode s.tab s.columns x.prompt origin)) fits ∙ measured.0 rows.cursor in
       moved_if bytes over top l x at cursor (same_cell l.cursor cursor) h is rows refl
-  step own bytes over top l x (Draws v m (Typed prompt c text at)) h fits rows = typed_if bytes over top (shown_marks v m) l x prompt c text at (may_type (ruler_of s) l) h fits.0 fits.2 fits.3 rows refl
-  step own bytes over top l x (Draws v m (Taken prompt count text at)) h fits rows = taken_if bytes over top (shown_marks v m) l x prompt count text at (may_take l count) h fits.0 fits.2 rows refl
+  step own bytes over top l x (Draws v m (Typed prompt c text at)) h fits rows = typed_if bytes over top (shown_marks v m) l x prompt c text at (may_type (ruler_of s) l) h fits.0 fits.2 fits.3 fits.4 rows refl
+  step own bytes over top l x (Draws v m (Taken prompt count text at)) h fits rows = taken_if bytes over top (shown_marks v m) l x prompt count text at (may_take l count) h fits.0 fits.2 fits.3 rows refl
   step own bytes over top l x (Draws v m (Bared prompt text at)) h fits rows = bared_if bytes over top (shown_marks v m) l x prompt text at l.default_prompt h (h.given_is ∙ fits)
   step own bytes over top l x (Draws v m ToEnd) h fits rows = end_if bytes over top l x (same_cell l.cursor l.end) h (record { finish = rows.finish; cursor = rows.cursor }) refl
   step own bytes over top l x (Draws v m Beeped) h fits rows = same_holds bytes over top l x Beep h refl (λ e. cc)

@@ -30,7 +30,7 @@ commands_show s low high m cmd a v info =
     shown_by s low high a.prompt (sight_of a v info) (sight_behind cmd (sight_of a e.value (info_after e.steps info))) e.steps (command_turns cmd a v info e (commands_lead m cmd a v))
 
 pub turns_show : TurnsShow
-turns_show s low high n a custom indent k info status is =
+turns_show s low high n a custom k info status is =
     let x = modal_seen k.modal a k.value info in
-    let t : TurnLeads a x info _ _ _ = turn_leads n a custom indent k info in
+    let t : TurnLeads a x info _ _ _ = turn_leads n a custom k info in
     shown_by s low high a.prompt x _ _ (t.leads status is)

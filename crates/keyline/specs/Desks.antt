@@ -60,9 +60,9 @@ module _ {S H D L : Type 0} (k : Known S D L) where
     pub modal : Modal
     pub goes : IsTrue (desk_feed new).told → (n : ℕ) → (desk_feed old).bound < n →
         let ruler = ruler_of g.screen in let setting = setting_in g old.history.kept.entries in
-        Goes (line_world (canvas_of k.shown k.waits k.show_failed) ruler setting
-        g.config.indent_size) (line_script n g.custom)
-        (stage_first old.out ruler setting g.config old.ring (string_bytes old.last_query)
+        Goes (line_world (canvas_of k.shown k.waits k.show_failed) ruler setting)
+        (line_script n g.custom)
+        (stage_first old.out ruler setting old.ring (string_bytes old.last_query)
         (desk_feed old).coming) outcome (line_stage (surface drawn layout)
         (kept value input new.ring modal (desk_feed new).coming))
     pub last : string_bytes new.last_query ≡ modal.query

@@ -1,11 +1,12 @@
 -- A session as its events in order, depending on the input, and its result. Lines, history, bytes,
 -- moments, ending and remaining input are computed from it.
-use Rattle.std.specs.Prelude.{◌≡◌, ⊤, ℕ, zero, suc, ◌≤◌, Bool, if◌then◌else◌, IsFalse, List, [], ◌∷◌, ◌++◌, length, map, None, Result, Ok, Err}
+use Rattle.std.specs.Prelude.{◌≡◌, ⊤, ℕ, zero, suc, ◌≤◌, Bool, if◌then◌else◌, IsFalse, List, [], ◌∷◌, ◌++◌, length, map, Option, None, Result, Ok, Err}
 use Rattle.std.specs.List.{flat_map}
 use Rattle.line_buffer.specs.declared.layout.Layout.{Layout}
 use Rattle.line_config.specs.Played.{Played}
 use Rattle.line_config.specs.declared.errors.ReadlineError.{ReadlineError}
 use Rattle.line_config.specs.declared.errors.ReadlineError.TheVariants.{Memory}
+use Rattle.line_editor.specs.Calls.{Marks}
 use Rattle.line_editor.specs.Courses.{breaks_after}
 use Rattle.line_editor.specs.LineScripts.{LineState, LineAsk, Begins as TurnBegins, Keys, effect_at, left_at}
 use Rattle.line_editor.specs.Meeting.{modal_seen}
@@ -29,14 +30,15 @@ pub data Event : Type 0 where
   Takes : Event
   -- the helper is called, and answers or fails; it may take memory
   Helped : (fails takes : Bool) → Event
-  -- this is to be shown; for it the display is sent these bytes, call by call, or none if it is
-  -- shown already
-  Draws : (redraw : Redraw) (sent : List (List ℕ)) → Event
+  -- this is to be shown, highlighted by these marks, if there are any; for it the display is sent
+  -- these bytes, call by call, or none if it is shown already
+  Draws : (marks : Option Marks) (redraw : Redraw) (sent : List (List ℕ)) → Event
   -- a key or a paste is read
   Hears : (item : InputItem) → Event
   -- a moment: the line is open, with this text and this place after this prompt, a search's own
-  -- while one stands; nothing is made
-  Rests : (prompt text : List ℕ) (place : ℕ) → Event
+  -- while one stands, and highlighted by these marks, if there are any; `given`: the prompt is the
+  -- session's own. Nothing is made
+  Rests : (marks : Option Marks) (given : Bool) (prompt text : List ℕ) (place : ℕ) → Event
   -- the display gets a new row, as a line ends
   Breaks : Event
   -- a line is added to the history, if the settings say so
@@ -54,7 +56,8 @@ pub record Course (X : Type 0) : Type 0 where
 -- an edit's step, on a screen with this stored layout
 abbrev pub step_event : Screen → Layout → EditStep → Event
 step_event s l (DrawStep value marks redraw) =
-    Draws redraw (map (bytes_of s) (asked_by (ruler_of s) (shown_marks value marks) l redraw).calls)
+    let shown = shown_marks value marks in
+    Draws shown redraw (map (bytes_of s) (asked_by (ruler_of s) shown l redraw).calls)
 step_event s l (HelpStep value fails takes) = Helped fails takes
 step_event s l step = Takes
 
@@ -63,22 +66,23 @@ step_events s l [] = []
 step_events s l (step ∷ steps) =
     step_event s l step ∷ step_events s (one (ruler_of s) l step).layout steps
 
-abbrev pub moment_of : Sight → Event
-moment_of x = Rests x.prompt x.line x.place
+abbrev pub moment_of : Option Marks → Sight → Event
+moment_of marks x = Rests marks x.given x.prompt x.line x.place
 
 -- a read, and the moment at which a turn begins, are events of their own
 abbrev pub own_events : Setting → LineState → LineAsk → List Event
-own_events a k TurnBegins = moment_of (modal_seen k.modal a k.value None) ∷ []
+own_events a k TurnBegins =
+    moment_of (shown_marks k.value a.marks) (modal_seen k.modal a k.value None) ∷ []
 own_events a k (Keys (Reads item)) = Hears item ∷ []
 own_events a k ask = []
 
 -- a line's requests in order
-abbrev pub asks_events : Screen → Setting → ℕ → Layout → LineState → List LineAsk → List Event
-asks_events s a indent l k [] = []
-asks_events s a indent l k (ask ∷ asks) =
-    let steps = (effect_at a indent k ask).steps in
+abbrev pub asks_events : Screen → Setting → Layout → LineState → List LineAsk → List Event
+asks_events s a l k [] = []
+asks_events s a l k (ask ∷ asks) =
+    let steps = (effect_at a k ask).steps in
     step_events s l steps ++ (own_events a k ask
-    ++ asks_events s a indent (asked (ruler_of s) l steps).layout (left_at a indent k ask) asks)
+    ++ asks_events s a (asked (ruler_of s) l steps).layout (left_at a k ask) asks)
 
 -- its end: an accepted line is added to the history, and then written
 abbrev pub end_events : Result (List ℕ) ReadlineError → List Event
@@ -89,7 +93,7 @@ end_events (Err e) = if breaks_after e then Breaks ∷ [] else []
 abbrev pub played_in : ℕ → Given → SessionState
     → Played LineAsk LineState ReadlineError (List ℕ)
 played_in n g x =
-    line_played n (setting_in g x.history.kept.entries) g.custom g.config x.ring x.query x.coming
+    line_played n (setting_in g x.history.kept.entries) g.custom x.ring x.query x.coming
 
 -- up to its outcome and the state after it
 abbrev pub line_course : ℕ → Given → SessionState
@@ -98,8 +102,8 @@ line_course n g x =
     let a = setting_in g x.history.kept.entries in
     let p = played_in n g x in
     record {
-      events = Begins g.screen ∷ (asks_events g.screen a g.config.indent_size (fresh g.screen.mode)
-          (kept_first a g.config x.ring x.query x.coming) p.asks ++ end_events p.answer);
+      events = Begins g.screen ∷ (asks_events g.screen a (fresh g.screen.mode)
+          (kept_first a x.ring x.query x.coming) p.asks ++ end_events p.answer);
       answer = (
         p.answer,
         state_after g.config.auto_add_history p.answer p.rest.ring
@@ -131,7 +135,7 @@ abbrev pub all_of : List (List ℕ) → List ℕ
 all_of parts = flat_map (λ part. part) parts
 
 abbrev pub bytes_drawn : Event → List ℕ
-bytes_drawn (Draws redraw sent) = all_of sent
+bytes_drawn (Draws marks redraw sent) = all_of sent
 bytes_drawn Breaks = row_break
 bytes_drawn event = []
 

@@ -34,19 +34,19 @@ pub record TypedAtEnd (a : Setting) (v : Value) (c : ℕ) : Type 0 where
   pub after : is_bare (insert_char c 1 a v).value ≡ true
 
 -- the tables read it alone, without a count or a drawing
-pub record ReadAlone (a : Setting) (indent : ℕ) (k : LineState) (phrase : LineScript Cmd) (c : ℕ)
+pub record ReadAlone (a : Setting) (k : LineState) (phrase : LineScript Cmd) (c : ℕ)
     : Type 0 where
-  pub answer : (played_from a indent phrase k).answer ≡ Ok (SelfInsert 1 c)
-  pub value_is : (made_from a indent phrase k).value ≡ k.value
+  pub answer : (played_from a phrase k).answer ≡ Ok (SelfInsert 1 c)
+  pub value_is : (made_from a phrase k).value ≡ k.value
   pub unasked : (s : Screen) (l : Layout)
-      → drawn_by s l (made_from a indent phrase k).steps ≡ nothing_asked l
+      → drawn_by s l (made_from a phrase k).steps ≡ nothing_asked l
 
 -- if no search stands, and the layout allows its byte to be written alone, its turn sends that byte
 abbrev pub OneByte : Type 0
 OneByte =
-    (n : ℕ) (s : Screen) (l : Layout) (a : Setting) (custom : Custom) (indent : ℕ) (k : LineState)
+    (n : ℕ) (s : Screen) (l : Layout) (a : Setting) (custom : Custom) (k : LineState)
     (c : ℕ)
     → is_at_rest k.modal.standing ≡ true
-    → ReadAlone a indent k (phrase_script n custom (beginning k)) c → TypedAtEnd a k.value c
+    → ReadAlone a k (phrase_script n custom (beginning k)) c → TypedAtEnd a k.value c
     → may_type (ruler_of s) l ≡ true
-    → bytes_for s l (made_from a indent (turn_script n custom) k).steps ≡ c ∷ []
+    → bytes_for s l (made_from a (turn_script n custom) k).steps ≡ c ∷ []

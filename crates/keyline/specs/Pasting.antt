@@ -43,12 +43,12 @@ pub record Accepts (p : Played LineAsk LineState ReadlineError (List ℕ)) (text
 -- last change and search, any input mode, the ring, the record and the history.
 abbrev pub PastesAreAccepted : Type 0
 PastesAreAccepted =
-    (n : ℕ) (s : Setting) (custom : Custom) (indent : ℕ) (k : LineState) (text more : List ℕ)
+    (n : ℕ) (s : Setting) (custom : Custom) (k : LineState) (text more : List ℕ)
     (last : Last)
     → s.hooks ≡ None → IsUnbound custom → IsEmptyLine k.value
     → is_at_rest k.modal.standing ≡ true → IsPasteable text
     → k.coming ≡ coming_from k.input.mode (sent_as_paste text ++ 0x0D ∷ more) last
-    → Accepts (played_from s indent (turns_script (suc (suc n)) custom) k) text
+    → Accepts (played_from s (turns_script (suc (suc n)) custom) k) text
     (coming_from k.input.mode more last)
 
 -- and so is one with which a line of a session begins

@@ -52,7 +52,7 @@ module _ {D L : Type 0} (shown : D → List ℕ) (written_in : L → List ℕ) (
   IsStopped x Takes Memory y = y ≡ x
   IsStopped x (Helped fails takes) Helper y = IsTrue fails × (y ≡ x)
   IsStopped x (Helped fails takes) Memory y = IsTrue takes × (y ≡ x)
-  IsStopped x (Draws redraw (bytes ∷ more)) Display y =
+  IsStopped x (Draws marks redraw (bytes ∷ more)) Display y =
       TakesSome shown x.display y.display (all_of (bytes ∷ more)) × (y ≡ record x { display = y.display })
   IsStopped x (Hears Paste) Memory y =
       (left : List ℕ) × (y ≡ record x { coming = left_by Memory left })

@@ -29,7 +29,7 @@ prompt_column g = (measure_of g.screen.mode g.screen.tab g.screen.columns g.prom
 -- events without what depends on columns: the screen, and the bytes of a redraw
 abbrev pub unmeasured : Event → Event
 unmeasured (Begins s) = Begins (record s { columns = 0 })
-unmeasured (Draws redraw sent) = Draws redraw []
+unmeasured (Draws marks redraw sent) = Draws marks redraw []
 unmeasured event = event
 
 -- two sessions that differ only in their columns are the same, event for event, if the prompt ends
@@ -46,7 +46,7 @@ ColumnsAreFree =
 -- the steps of a line without faults, each with the value that is current until then
 abbrev pub steps_in : ℕ → Given → SessionState → List EditStep
 steps_in n g x = let a = setting_in g x.history.kept.entries in
-    steps_along a g.config.indent_size (kept_first a g.config x.ring x.query x.coming)
+    steps_along a (kept_first a x.ring x.query x.coming)
     (played_in n g x).asks
 
 -- and so is each line, request for request and step for step

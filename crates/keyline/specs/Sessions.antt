@@ -74,7 +74,7 @@ state_over ring query history mode bytes last = record {
 
 -- what is passed in for the next line
 abbrev pub setting_in : Given → List (List ℕ) → Setting
-setting_in g entries = setting_by (ruler_of g.screen) g.prompt g.helping entries
+setting_in g entries = setting_by (ruler_of g.screen) g.prompt g.helping entries g.config
 
 -- accepted lines are added to the history if the settings say so
 abbrev pub remembered : Bool → List (List ℕ) → Filed → Filed

@@ -1,17 +1,18 @@
 -- What a display shows during events: the line to be shown at its top, and the rows above.
-use Rattle.std.specs.Prelude.{◌≡◌, ⊤, ℕ, ◌+◌, ◌≤◌, if◌then◌else◌, List, [], ◌∷◌, ◌++◌, Some, is_some, Option, Ok}
+use Rattle.std.specs.Prelude.{◌≡◌, ⊤, ℕ, ◌+◌, ◌≤◌, if◌then◌else◌, Bool, List, [], ◌∷◌, ◌++◌, Some, is_some, Option, Ok}
 use Rattle.std.specs.List.{filter, flat_map}
 use Rattle.line_buffer.specs.Cells.{origin}
 use Rattle.line_buffer.specs.declared.layout.Layout.{Layout}
 use Rattle.line_buffer.specs.declared.layout.Position.{Position}
+use Rattle.line_editor.specs.Calls.{Marks}
 use Rattle.line_editor.specs.Meeting.{modal_seen}
 use Rattle.line_editor.specs.Redraws.{Asked, Redraw, info_text}
 use Rattle.line_editor.specs.Redraws.Redraw.{Cleared}
-use Rattle.line_editor.specs.Sights.{Sight, sight, sight_as, sight_drawn, no_sight, sight_of, ended_sight, info_after}
+use Rattle.line_editor.specs.Sights.{Sight, sight, sight_with, sight_drawn, no_sight, sight_of, ended_sight, info_after}
 use Rattle.line_editor.specs.Steps.{asked}
-use Rattle.line_editor.specs.Values.{EditStep, Value, Setting}
+use Rattle.line_editor.specs.Values.{EditStep, Value, Setting, shown_marks}
 use Rattle.line_editor.specs.Values.EditStep.{Draws as DrawStep}
-use Rattle.line_screen.specs.Calls.{Screen, bytes_of, ruler_of}
+use Rattle.line_screen.specs.Calls.{Screen, bytes_of, ruler_of, styles_of}
 use Rattle.line_screen.specs.Chain.{View, Good, Picture, Shows, empty_view, finish_of, cursor_of, above}
 use Rattle.line_screen.specs.Display.{Display, Placed, meaning}
 use Rattle.line_screen.specs.Drawing.{row_break}
@@ -29,7 +30,13 @@ use Rattle.line_keys.specs.declared.command.Cmd.TheVariants.{Interrupt}
 -- ---- what is to be shown, as one drawing on a blank display
 
 abbrev pub picture : Sight → Picture
-picture x = record { prompt = x.prompt; line = x.line; place = x.place; info = info_text x.info }
+picture x = record {
+  prompt = x.prompt;
+  line = x.line;
+  place = x.place;
+  info = info_text x.info;
+  styles = styles_of x.spans;
+}
 
 -- the cursor's cell, counted from the top: its place in the line, or the drawing's end
 abbrev pub place_in : Screen → Sight → Position
@@ -57,7 +64,7 @@ pub record Low (s : Screen) (x : Sight) : Type 0 where
   pub cursor : (cursor_of s.columns (widths s) (picture x)).row ≤ 65535
 
 abbrev pub LowStep : Screen → Sight → EditStep → Type 0
-LowStep s x (DrawStep value marks redraw) = Low s (sight_drawn x redraw)
+LowStep s x (DrawStep value marks redraw) = Low s (sight_drawn x (shown_marks value marks) redraw)
 LowStep s x step = ⊤
 
 abbrev pub LowAll : Screen → Sight → List EditStep → Type 0
@@ -122,10 +129,10 @@ abbrev pub blank : Screen → Face
 blank s = face s [] 0 [] no_sight
 
 -- a redraw for which these bytes were sent
-abbrev pub drawn_on : Face → Redraw → List (List ℕ) → Face
-drawn_on f redraw sent =
+abbrev pub drawn_on : Face → Option Marks → Redraw → List (List ℕ) → Face
+drawn_on f marks redraw sent =
     face f.screen (f.bytes ++ all_of sent) (top_drawn redraw f.top) (above_drawn redraw f.over)
-    (sight_drawn f.seen redraw)
+    (sight_drawn f.seen marks redraw)
 
 -- a new row, and the next line below everything
 abbrev pub broken : Face → Face
@@ -156,12 +163,14 @@ pub record HasMeaning (f : Face) : Type 0 where
   pub over_is : filter (above f.top) display.placed ≡ f.over
 
 -- and from the top on they show prompt and line like a single drawing on a blank display, with the
--- current information, and the cursor at its place
-pub record MomentShown (f : Face) (prompt text : List ℕ) (place : ℕ) : Type 0 where
+-- current information, each cluster with the style that these marks give it, and the cursor at its
+-- place
+pub record MomentShown (f : Face) (marks : Option Marks) (given : Bool) (prompt text : List ℕ)
+    (place : ℕ) : Type 0 where
   pub display : Display
   pub means : meaning f.screen.columns (widths f.screen).cluster f.bytes ≡ Some display
   pub shows : Shows f.screen.columns (widths f.screen)
-      (picture (sight_as prompt text place f.seen.info)) f.top display
+      (picture (sight_with marks given prompt text place f.seen.info)) f.top display
   pub over_is : filter (above f.top) display.placed ≡ f.over
 
 -- event after event: at each moment the bytes so far show prompt and line, and after each drawing
@@ -172,10 +181,10 @@ abbrev pub EachShown : Face → List Event → Type 0
 EachShown f [] = ⊤
 EachShown f (Begins s ∷ later) =
     (s ≡ f.screen → EachShown f later) × (IsScreen s → EachShown (blank s) later)
-EachShown f (Draws redraw sent ∷ later) =
-    let g = drawn_on f redraw sent in Low g.screen g.seen → HasMeaning g × EachShown g later
-EachShown f (Rests prompt text place ∷ later) =
-    MomentShown f prompt text place × EachShown f later
+EachShown f (Draws marks redraw sent ∷ later) =
+    let g = drawn_on f marks redraw sent in Low g.screen g.seen → HasMeaning g × EachShown g later
+EachShown f (Rests marks given prompt text place ∷ later) =
+    MomentShown f marks given prompt text place × EachShown f later
 EachShown f (Breaks ∷ later) =
     let g = broken f in (m : HasMeaning g) × EachShown (below g m.display) later
 EachShown f (event ∷ later) = EachShown f later
@@ -213,10 +222,10 @@ CommandsShow =
 abbrev pub TurnsShow : Type 0
 TurnsShow =
     (s : Screen) → 2 ≤ s.columns → s.columns ≤ 1000
-    → (n : ℕ) (a : Setting) (custom : Custom) (indent : ℕ) (k : LineState) (info : Option (List ℕ))
+    → (n : ℕ) (a : Setting) (custom : Custom) (k : LineState) (info : Option (List ℕ))
     (status : Status)
-    → let turn = turn_script n custom in let made = made_from a indent turn k in
-    let p = played_from a indent turn k in
+    → let turn = turn_script n custom in let made = made_from a turn k in
+    let p = played_from a turn k in
     p.answer ≡ Ok status
     → Lead s (modal_seen k.modal a k.value info) made.steps
     (modal_seen p.rest.modal a made.value (info_after made.steps info))

@@ -17,17 +17,17 @@ unmet (Asks ask later) = Asks ask (λ x. unmet (later x))
 
 abbrev pub first_in : Given → SessionState → LineState
 first_in g x =
-    kept_first (setting_in g x.history.kept.entries) g.config x.ring x.query x.coming
+    kept_first (setting_in g x.history.kept.entries) x.ring x.query x.coming
 
 abbrev pub events_of : Given → SessionState → List LineAsk → List Event
 events_of g x asks = asks_events g.screen (setting_in g x.history.kept.entries)
-    g.config.indent_size (fresh g.screen.mode) (first_in g x) asks
+    (fresh g.screen.mode) (first_in g x) asks
 
 abbrev pub LinePlayed : Type 0
 LinePlayed = Played LineAsk LineState ReadlineError (List ℕ)
 
 abbrev pub unmet_in : ℕ → Given → SessionState → LinePlayed
-unmet_in n g x = played_from (setting_in g x.history.kept.entries) g.config.indent_size
+unmet_in n g x = played_from (setting_in g x.history.kept.entries)
     (unmet (line_script n g.custom)) (first_in g x)
 
 -- two lines have one outcome, one state and the same events, and the last query is as it was

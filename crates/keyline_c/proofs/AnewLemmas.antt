@@ -18,26 +18,23 @@ use Rattle.line_config.specs.declared.settings.BellStyle.TheVariants as Bell
 use Rattle.line_editor.specs.Calls.{Marks}
 use Rattle.line_editor.specs.Redraws.{info_text, fresh, full, nothing_asked, moved_by_call, typed_short, taken_short, may_type, may_take}
 use Rattle.line_editor.specs.Redraws.Redraw.{Drawn, Moved, Typed, Taken, Bared, ToEnd, Beeped, Cleared}
-use Rattle.line_editor.specs.Sights.{Sight, sight_with, sight_as, no_sight, sight, sight_all, Fits, FitsAll, TypedFits}
+use Rattle.line_editor.specs.Sights.{Sight, sight_with, sight_as, no_sight, sight, sight_all, spans_by, Fits, FitsAll, TypedFits}
 use Rattle.line_editor.specs.Steps.{one}
 use Rattle.line_editor.specs.Values.{EditStep, Value, shown_marks}
 use Rattle.line_editor.specs.Values.EditStep.{Draws, Helped, Edits, TakesBack, Takes}
-use Rattle.line_help.specs.Paints.{first_mark}
-use Rattle.line_help.specs.declared.style.Part.TheVariants.{Prompt as OfPrompt, Line as OfLine, Hint as OfHint}
 use Rattle.line_screen.specs.Calls.{Screen, bell_bytes, bytes_of, ruler_of, styles_by}
 use Rattle.line_screen.specs.Chain.{Good, empty_view}
-use Rattle.line_screen.specs.Colours.{PaintedItem, Styles, all_unpainted, are_styles, is_style, painted, painted_drawing, painted_one, painted_shown, painted_text, shaded_break, style_bytes, unpainted}
+use Rattle.line_screen.specs.Colours.{AreStyles, PaintedItem, Styles, all_unpainted, is_style, painted, painted_drawing, painted_one, painted_shown, painted_text, shaded_break, style_bytes, unpainted}
 use Rattle.line_screen.specs.Colours.PaintedItem.{Bare as Plain, Begins, Shaded, Fenced, Padded}
 use Rattle.line_screen.specs.Display.{Placed, is_parameter, is_text}
 use Rattle.line_screen.specs.Drawing.{DrawnItem, Widths, blanks, text_items, no_style, break_if, break_unless, fenced, fitted_col, sent_one, sent, col_after_one, col_after, control_sequence, erase_to_row_end, row_move, col_move, move_bytes, shown_text, drawing}
 use Rattle.line_screen.specs.Drawing.DrawnItem.{NewRow, Letter, Cluster, Tab}
 use Rattle.line_screen.specs.Laws.{widths}
-use Rattle.line_screen.proofs.ColourDraws.{AllPainted, FitsPainted}
-use Rattle.line_screen.proofs.ColourTexts.{text_painted}
-use Rattle.line_screen.proofs.StyleLemmas.{spans_are}
-use Rattle.line_screen.proofs.Draws.{AllFit, Fits as ItemFits, list_all_since}
+use Rattle.line_screen.proofs.Draws.{AllFit, AllPainted, Fits as ItemFits, FitsPainted, list_all_since}
 use Rattle.line_screen.proofs.Fitting.{items_fit}
 use Rattle.line_screen.proofs.LawLemmas.{start_is_empty}
+use Rattle.line_screen.proofs.StyleLemmas.{styles_are}
+use Rattle.line_screen.proofs.StyledTextLemmas.{text_painted}
 use Rattle.keyline.specs.Shows.{DisplayHolds, Low, LowStep, LowAll, bytes_for, drawn_by}
 use Rattle.keyline.proofs.ShowCourse.{flat_both}
 use Rattle.keyline.proofs.ShowSteps.{drawn_holds, fresh_holds, step}
@@ -270,9 +267,8 @@ module _ (s : Screen) (low : 2 ≤ s.columns) (high : s.columns ≤ 1000) (own :
       let fits = items_fit s.mode s.tab s.columns some in
       calm_three (sent s.columns a 0) (sent s.columns b end_a) (sent s.columns c end_b) (calm_sent s.columns wide.cluster a 0 (fits prompt)) (calm_sent s.columns wide.cluster b end_a (fits line)) (calm_sent s.columns wide.cluster c end_b (fits info))
 
-  calm_styled : (styles : Styles) (prompt line info : List ℕ) → are_styles styles.prompt ≡ true → are_styles styles.line ≡ true → are_styles styles.info ≡ true
-      → calm (painted_shown s.columns wide styles prompt line info) ≡ true
-  calm_styled styles prompt line info in_prompt in_line in_info =
+  calm_styled : (styles : Styles) (prompt line info : List ℕ) → AreStyles styles → calm (painted_shown s.columns wide styles prompt line info) ≡ true
+  calm_styled styles prompt line info are =
       let a = painted_text wide styles.prompt prompt in
       let b = painted_text wide styles.line line in
       let c = painted_text wide styles.info info in
@@ -280,9 +276,9 @@ module _ (s : Screen) (low : 2 ≤ s.columns) (high : s.columns ≤ 1000) (own :
       let end_b = col_after s.columns (all_unpainted b) end_a in
       let fits = items_fit s.mode s.tab s.columns some in
       calm_three (painted s.columns a 0) (painted s.columns b end_a) (painted s.columns c end_b)
-      (calm_painted s.columns wide.cluster a 0 (text_painted s.columns wide styles.prompt prompt in_prompt (fits prompt)))
-      (calm_painted s.columns wide.cluster b end_a (text_painted s.columns wide styles.line line in_line (fits line)))
-      (calm_painted s.columns wide.cluster c end_b (text_painted s.columns wide styles.info info in_info (fits info)))
+      (calm_painted s.columns wide.cluster a 0 (text_painted s.columns wide styles.prompt prompt are.prompt (fits prompt)))
+      (calm_painted s.columns wide.cluster b end_a (text_painted s.columns wide styles.line line are.line (fits line)))
+      (calm_painted s.columns wide.cluster c end_b (text_painted s.columns wide styles.info info are.info (fits info)))
 
   -- from the last whole drawing on they show it, on any blank rows
   pub record Anew (bytes : List ℕ) (l : Layout) (x : Sight) : Type 0 where
@@ -312,19 +308,20 @@ module _ (s : Screen) (low : 2 ≤ s.columns) (high : s.columns ≤ 1000) (own :
         tabs_are = stops;
       }
 
-  whole : (bytes : List ℕ) (m : Option Marks) (l : Layout) (prompt : List ℕ) (given : Bool) (text : List ℕ) (at : ℕ) (info : Option (List ℕ)) → Low s (sight_with given prompt text at info)
-      → (let a = full (ruler_of s) m l prompt given text at info in Anew (bytes ++ flat_map (bytes_of s) a.calls) a.layout (sight_with given prompt text at info))
+  whole : (bytes : List ℕ) (m : Option Marks) (l : Layout) (prompt : List ℕ) (given : Bool) (text : List ℕ) (at : ℕ) (info : Option (List ℕ)) → Low s (sight_with m given prompt text at info)
+      → (let a = full (ruler_of s) m l prompt given text at info in Anew (bytes ++ flat_map (bytes_of s) a.calls) a.layout (sight_with m given prompt text at info))
   whole bytes None l prompt given text at info rows =
       let new = (full (ruler_of s) None l prompt given text at info).layout in
-      drawn_anew bytes l.cursor.row new (sight_with given prompt text at info) (drawing s.columns wide prompt text (info_text info) new.end new.cursor) refl
+      drawn_anew bytes l.cursor.row new (sight_with None given prompt text at info) (drawing s.columns wide prompt text (info_text info) new.end new.cursor) refl
       (calm_both (shown_text s.columns wide prompt text (info_text info)) (move_bytes new.end new.cursor) (calm_texts prompt text (info_text info)) (calm_move new.end new.cursor))
       (λ before over top good. (let h = fresh_holds s low high before over top (fresh s.mode) good in drawn_holds s low high before over top None (fresh s.mode) no_sight prompt given text at info h.good h.cursor rows))
   whole bytes (Some m) l prompt given text at info rows =
       let new = (full (ruler_of s) (Some m) l prompt given text at info).layout in
       let styles = styles_by m given prompt text at (info_text info) in
-      drawn_anew bytes l.cursor.row new (sight_with given prompt text at info) (painted_drawing s.columns wide styles prompt text (info_text info) new.end new.cursor) refl
+      let are = styles_are (spans_by m given prompt text at (info_text info)) in
+      drawn_anew bytes l.cursor.row new (sight_with (Some m) given prompt text at info) (painted_drawing s.columns wide styles prompt text (info_text info) new.end new.cursor) refl
       (calm_both (painted_shown s.columns wide styles prompt text (info_text info)) (move_bytes new.end new.cursor)
-      (calm_styled styles prompt text (info_text info) (spans_are (m.paints (OfPrompt given) prompt first_mark)) (spans_are (m.paints (OfLine at) text first_mark)) (spans_are (m.paints OfHint (info_text info) first_mark)))
+      (calm_styled styles prompt text (info_text info) are)
       (calm_move new.end new.cursor))
       (λ before over top good. (let h = fresh_holds s low high before over top (fresh s.mode) good in drawn_holds s low high before over top (Some m) (fresh s.mode) no_sight prompt given text at info h.good h.cursor rows))
 
@@ -376,7 +373,7 @@ module _ (s : Screen) (low : 2 ≤ s.columns) (high : s.columns ≤ 1000) (own :
       (subst (λ t. calm (flat_map (bytes_of s) (if t then typed_short l c else full (ruler_of s) (shown_marks v m) l prompt true text at None).calls) ≡ true) (sym e) (calm_typed l c printable))
       (λ before over top h. step s low high own before over top l x r h fits rows)
   typed_by v bytes m l x prompt c text at false e a fits rows =
-      subst (λ t. (let q = if t then typed_short l c else full (ruler_of s) (shown_marks v m) l prompt true text at None in Anew (bytes ++ flat_map (bytes_of s) q.calls) q.layout (sight_as prompt text at None))) (sym e) (whole bytes (shown_marks v m) l prompt true text at None rows)
+      subst (λ t. (let q = if t then typed_short l c else full (ruler_of s) (shown_marks v m) l prompt true text at None in Anew (bytes ++ flat_map (bytes_of s) q.calls) q.layout (sight_as (shown_marks v m) prompt text at None))) (sym e) (whole bytes (shown_marks v m) l prompt true text at None rows)
 
   taken_by : (v : Value) (bytes : List ℕ) (m : Option Marks) (l : Layout) (x : Sight) (prompt : List ℕ) (count : ℕ) (text : List ℕ) (at : ℕ) (b : Bool) → may_take l count ≡ b
       → (let r = Draws v m (Taken prompt count text at) in Anew bytes l x → Fits own x r → LowStep s x r → After bytes l r x)
@@ -387,7 +384,7 @@ module _ (s : Screen) (low : 2 ≤ s.columns) (high : s.columns ≤ 1000) (own :
       (subst (λ t. calm (flat_map (bytes_of s) (if t then taken_short l count else full (ruler_of s) (shown_marks v m) l prompt true text at None).calls) ≡ true) (sym e) (calm_taken l count))
       (λ before over top h. step s low high own before over top l x r h fits rows)
   taken_by v bytes m l x prompt count text at false e a fits rows =
-      subst (λ t. (let q = if t then taken_short l count else full (ruler_of s) (shown_marks v m) l prompt true text at None in Anew (bytes ++ flat_map (bytes_of s) q.calls) q.layout (sight_as prompt text at None))) (sym e) (whole bytes (shown_marks v m) l prompt true text at None rows)
+      subst (λ t. (let q = if t then taken_short l count else full (ruler_of s) (shown_marks v m) l prompt true text at None in Anew (bytes ++ flat_map (bytes_of s) q.calls) q.layout (sight_as (shown_marks v m) prompt text at None))) (sym e) (whole bytes (shown_marks v m) l prompt true text at None rows)
 
   bared_by : (v : Value) (bytes : List ℕ) (m : Option Marks) (l : Layout) (x : Sight) (prompt text : List ℕ) (at : ℕ) (b : Bool) → l.default_prompt ≡ b
       → (let r = Draws v m (Bared prompt text at) in Anew bytes l x → Fits own x r → LowStep s x r → After bytes l r x)

@@ -65,10 +65,10 @@ above_it : List ℕ
 above_it = codes "ok" ++ 0x0D ∷ 0x0A ∷ []
 
 cell : ℕ → ℕ → ℕ → Placed
-cell row col c = record { row = row; col = col; width = 1; bytes = c ∷ [] }
+cell row col c = record { row = row; col = col; width = 1; bytes = c ∷ []; style = [] }
 
 both : Option Display
-both = Some (record { placed = cell 0 0 0x6F ∷ cell 0 1 0x6B ∷ cell 1 0 0x3E ∷ cell 1 1 0x20 ∷ cell 1 2 0x61 ∷ []; cursor = record { col = 3; row = 1 } })
+both = Some (record { placed = cell 0 0 0x6F ∷ cell 0 1 0x6B ∷ cell 1 0 0x3E ∷ cell 1 1 0x20 ∷ cell 1 2 0x61 ∷ []; cursor = record { col = 3; row = 1 }; pen = [] })
 
 typed_shows : meaning 80 (widths eighty).cluster (above_it ++ (drawn [] ++ codes "a")) ≡ both
 unfolding plain drawn eighty above_it cell both
@@ -92,12 +92,12 @@ unfolding line_at
 nothing_row = refl
 
 setting : Setting
-setting = record { prompt = []; column = 0; mode = Modes.Unicode; tabs = None; hooks = None; marks = None; entries = [] }
+setting = record { prompt = []; column = 0; mode = Modes.Unicode; tabs = None; hooks = None; marks = None; entries = []; config = default_config }
 
 -- `xy` pasted into ab|cd, with `b` typed after it
 played_row : Played LineAsk LineState ReadlineError Status
 played_row =
-    played_from setting 2 (turn_script 2 nothing_bound)
+    played_from setting (turn_script 2 nothing_bound)
     (kept (at_line (line_at (codes "abcd") 2) (empty_at 0)) (record { mode = Vi; input_mode = Inserting; last = Noop; search = None; modal_commands = true }) (new_ring 60) (modal_first (record default_config { modal_commands = true }) [])
     (coming_from Vi (sent_as_paste (codes "xy") ++ codes "b") End))
 

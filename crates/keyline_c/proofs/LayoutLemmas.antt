@@ -1,14 +1,13 @@
 -- What is kept of a drawing is known from what it shows.
-use Rattle.std.proofs.Common.{◌≡◌, ℕ, Bool, true, false, List, [], ◌∷◌, ◌++◌, take, Option, None, Some, is_some, refl, sym, ap, ◌∙◌, if◌then◌else◌}
+use Rattle.std.proofs.Common.{◌≡◌, ℕ, Bool, true, false, List, [], ◌∷◌, ◌++◌, take, Option, None, is_some, refl, sym, ap, ◌∙◌, if◌then◌else◌}
 use Rattle.line_buffer.specs.Cells.{origin, same_cell}
-use Rattle.line_buffer.specs.Line.{Line}
 use Rattle.line_buffer.specs.declared.layout.Layout.{Layout}
 use Rattle.line_buffer.specs.declared.layout.Position.{Position}
 use Rattle.line_config.specs.declared.memory.VecSink.{VecSink}
 use Rattle.line_editor.specs.Calls.{Marks}
 use Rattle.line_editor.specs.Redraws.{fresh, full, moved_by_call, may_take, may_type, nothing_asked, taken_short, typed_short}
 use Rattle.line_editor.specs.Redraws.Redraw.{Drawn, Moved, Typed, Taken, Bared, ToEnd, Beeped, Cleared}
-use Rattle.line_editor.specs.Sights.{Sight}
+use Rattle.line_editor.specs.Sights.{PartSpans, Sight}
 use Rattle.line_editor.specs.Steps.{one}
 use Rattle.line_editor.specs.Values.{EditStep, shown_marks}
 use Rattle.line_editor.specs.Values.EditStep.{Draws, Helped, Edits, TakesBack, Takes}
@@ -20,9 +19,7 @@ use Rattle.line_screen.proofs.LawLemmas.{start_is_empty}
 use Rattle.keyline.specs.SessionLaws.{steps_in}
 use Rattle.keyline.specs.Shows.{DisplayHolds, drawn_by, picture, place_in}
 use Rattle.keyline_c.specs.Laws.{SameLinesGoOnAlike, drawing_start, layout_in, seen_in}
-use Rattle.keyline_c.specs.Lines.{line_at_end}
-use Rattle.keyline_c.specs.Steps.{open_place, open_text}
-use Rattle.keyline_c.proofs.LastLemmas.{StandsAnew, stands_anew, stands_open, is_cut}
+use Rattle.keyline_c.proofs.LastLemmas.{StandsAnew, is_cut, line_shown, place_shown, stands_anew}
 
 -- ---- how clusters are counted stays
 
@@ -76,7 +73,11 @@ layout_by l m mode size given cursor end info tabs =
     ∙ ap (λ p. let q : Layout = record m { has_info = p; tab_stops = l.tab_stops } in q) info
     ∙ ap (λ p. let q : Layout = record m { tab_stops = p } in q) tabs
 
-same_layout : (s : Screen) (bytes again : List ℕ) (l m : Layout) (x y : Sight) → DisplayHolds s bytes [] 0 l x → DisplayHolds s again [] 0 m y → x ≡ y → l.grapheme_cluster_mode ≡ s.mode → m.grapheme_cluster_mode ≡ s.mode → l.tab_stops ≡ m.tab_stops → l ≡ m
+-- with the styles of another drawing, on which no layout depends
+abbrev with_spans : PartSpans → Sight → Sight
+with_spans spans x = record x { spans = spans }
+
+same_layout : (s : Screen) (bytes again : List ℕ) (l m : Layout) (x y : Sight) → DisplayHolds s bytes [] 0 l x → DisplayHolds s again [] 0 m y → x ≡ with_spans x.spans y → l.grapheme_cluster_mode ≡ s.mode → m.grapheme_cluster_mode ≡ s.mode → l.tab_stops ≡ m.tab_stops → l ≡ m
 same_layout s bytes again l m x y h k is one two tabs =
     layout_by l m (one ∙ sym two)
     (h.prompt_size ∙ ap (λ (z : Sight). measure_of s.mode s.tab s.columns z.prompt origin) is ∙ sym k.prompt_size)
@@ -86,21 +87,14 @@ same_layout s bytes again l m x y h k is one two tabs =
     (h.info_is ∙ ap (λ (z : Sight). is_some z.info) is ∙ sym k.info_is)
     tabs
 
-sight_by : (x y : Sight) → x.prompt ≡ y.prompt → x.line ≡ y.line → x.place ≡ y.place → x.info ≡ y.info → x.given ≡ y.given → x.ended ≡ y.ended → x ≡ y
+sight_by : (x y : Sight) → x.prompt ≡ y.prompt → x.line ≡ y.line → x.place ≡ y.place → x.info ≡ y.info → x.given ≡ y.given → x.ended ≡ y.ended → x ≡ with_spans x.spans y
 sight_by x y prompt line place info given ended =
     ap (λ p. let q : Sight = record x { prompt = p } in q) prompt
     ∙ ap (λ p. let q : Sight = record x { prompt = y.prompt; line = p } in q) line
     ∙ ap (λ p. let q : Sight = record x { prompt = y.prompt; line = y.line; place = p } in q) place
     ∙ ap (λ p. let q : Sight = record x { prompt = y.prompt; line = y.line; place = y.place; info = p } in q) info
     ∙ ap (λ p. let q : Sight = record x { prompt = y.prompt; line = y.line; place = y.place; info = y.info; given = p } in q) given
-    ∙ ap (λ p. let q : Sight = record y { ended = p } in q) ended
-
--- the open line's text and place are those of the value
-text_of : (it : Option Line) (line : Line) → it ≡ Some line → open_text it ≡ line.text
-text_of it line is = ap open_text is
-
-place_of : (it : Option Line) (line : Line) → it ≡ Some line → open_place it ≡ line.place
-place_of it line is = ap open_place is
+    ∙ ap (λ p. let q : Sight = record y { ended = p; spans = x.spans } in q) ended
 
 module _ (held : VecSink → List ℕ) where
   pub same_lines_go_on_alike : SameLinesGoOnAlike held
@@ -112,8 +106,8 @@ module _ (held : VecSink → List ℕ) where
       let two : StandsAnew n g y low high = stands_anew n g y low high (is_cut held n g y other v) v.low in
       let a = one.anew in
       let b = two.anew in
-      let text = one.seen.line ∙ sym (text_of left.open_line (line_at_end n g x) (stands_open held n g x left w)) ∙ same.text ∙ text_of other.open_line (line_at_end n g y) (stands_open held n g y other v) ∙ sym two.seen.line in
-      let place = one.seen.place ∙ sym (place_of left.open_line (line_at_end n g x) (stands_open held n g x left w)) ∙ same.place ∙ place_of other.open_line (line_at_end n g y) (stands_open held n g y other v) ∙ sym two.seen.place in
+      let text = line_shown held n g x left w one.seen ∙ same.text ∙ sym (line_shown held n g y other v two.seen) in
+      let place = place_shown held n g x left w one.seen ∙ same.place ∙ sym (place_shown held n g y other v two.seen) in
       same_layout s ([] ++ (drawing_start ++ a.later)) ([] ++ (drawing_start ++ b.later)) (layout_in n g x) (layout_in n g y) (seen_in n g x) (seen_in n g y)
       (a.holds [] [] 0 (start_is_empty s low high)) (b.holds [] [] 0 (start_is_empty s low high))
       (sight_by (seen_in n g x) (seen_in n g y) same.prompt text place same.info given (one.seen.rests ∙ sym two.seen.rests))

@@ -77,14 +77,14 @@ module _ {H K T : Type 0} (held waits : VecSink → List ℕ) (failed : VecSink 
     setting = setting_in given history.kept.entries
 
     abbrev first : LineStage (ScreenRenderer VecSink)
-    first = stage_first old (ruler_of (screen_of old)) setting config ring query feed.coming
+    first = stage_first old (ruler_of (screen_of old)) setting ring query feed.coming
 
     -- no lines are written here
     abbrev unwritten : Unit {0} → List ℕ
     unwritten none = []
 
     abbrev LineWhole : ℕ → LineStage (ScreenRenderer VecSink) → Type 0
-    LineWhole n y = Whole held unwritten true (tt {0}) history waits failed (screen_of old) setting config.indent_size (line_script n custom) first y (outcome_of ran)
+    LineWhole n y = Whole held unwritten true (tt {0}) history waits failed (screen_of old) setting (line_script n custom) first y (outcome_of ran)
 
     line_left : (n : ℕ) (value : Value) (input : Input) (modal : Modal) → IsOpen ran.outcome (first_value setting) value ran.open_line → (played_in n given state).rest ≡ kept value input ring' modal feed'.coming
         → IsOpen left.outcome (first_value setting) (played_in n given state).rest.value left.open_line
@@ -98,7 +98,7 @@ module _ {H K T : Type 0} (held waits : VecSink → List ℕ) (failed : VecSink 
     left_whole n value input modal layout standing w =
         let c = line_course n given state in
         let o = c.answer.0 in
-        let asks : List Event = asks_events (screen_of old) setting config.indent_size (fresh (screen_of old).mode) (kept_first setting config ring query feed.coming) (played_in n given state).asks in
+        let asks : List Event = asks_events (screen_of old) setting (fresh (screen_of old).mode) (kept_first setting ring query feed.coming) (played_in n given state).asks in
         let rest : LineState → Coming = λ k. k.coming in
         record {
           rest_is = rest_is ∙ ap (λ (x : List ℕ). length x) (sym (unread_in F reader) ∙ ap unread (coming_is ∙ ap rest (sym w.rest_is)));
@@ -117,7 +117,7 @@ module _ {H K T : Type 0} (held waits : VecSink → List ℕ) (failed : VecSink 
     reads_line runs told = record {
       goes = λ n b.
           let y = line_stage (surface ran.out runs.layout) (kept runs.value runs.input ring' runs.modal feed'.coming) in
-          elim (line_went held unwritten true (tt {0}) history waits failed (screen_of old) setting config.indent_size (line_script n custom) first y (outcome_of ran) refl (runs.goes told n b)) [
+          elim (line_went held unwritten true (tt {0}) history waits failed (screen_of old) setting (line_script n custom) first y (outcome_of ran) refl (runs.goes told n b)) [
             | inl w ↦ inl (left_whole n runs.value runs.input runs.modal runs.layout runs.line_is w)
             | inr cut ↦ inr (went_not held unwritten true (λ e. (outcome_of ran ≡ Err e) × reason_of true ⊤ e)
                 (λ e is. wants left.outcome e (ap (made_of string_bytes) outcome_is ∙ is.0) (wanting true ⊤ e is.1)) _ _ _ cut)

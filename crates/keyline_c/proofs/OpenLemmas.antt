@@ -25,10 +25,11 @@ use Rattle.line_editor.specs.LineScripts.{Begins, Keys, Meets, Obeys, Makes, Lin
 use Rattle.line_editor.specs.Meeting.{meeting, modal_seen, seen_by}
 use Rattle.line_editor.specs.Modal.{Modal}
 use Rattle.line_editor.specs.NextCommand.{line_phrase}
+use Rattle.line_editor.specs.Redraws.{info_text}
 use Rattle.line_editor.specs.Searching.{heading}
-use Rattle.line_editor.specs.Sights.{Sight, sight, sight_all, FitsAll}
+use Rattle.line_editor.specs.Sights.{Sight, drawn_spans, sight, sight_all, sight_with, FitsAll}
 use Rattle.line_editor.specs.Steps.{one}
-use Rattle.line_editor.specs.Values.{EditStep, Setting, Value, helped, hint_reply}
+use Rattle.line_editor.specs.Values.{EditStep, Setting, Value, helped, hint_reply, shown_hint, shown_marks}
 use Rattle.line_editor.specs.Values.EditStep.{Draws, Helped, Edits, TakesBack, Takes}
 use Rattle.line_editor.specs.declared.commands.Status.{Status}
 use Rattle.line_editor.specs.declared.commands.Status.TheVariants.{Proceed, Submit}
@@ -69,7 +70,7 @@ IsOfPhrase why = ⊤
 abbrev EndsInPhrase : {X : Type 0} → Bool → Played LineAsk LineState ReadlineError X → Type 0
 EndsInPhrase b p = (e : ReadlineError) → p.answer ≡ Err e → IsOfPhrase e → in_phrase b p.asks ≡ true
 
-module _ (s : Setting) (indent : ℕ) where
+module _ (s : Setting) where
   abbrev error_of : Result Status ReadlineError → Type 0
   error_of q = (e : ReadlineError) → q ≡ Err e → IsOfPhrase e → ⊥
 
@@ -92,44 +93,44 @@ module _ (s : Setting) (indent : ℕ) where
   abbrev spoken : Steps Cmd → LineScript Status
   spoken script = (then) (keyed script) met_then
 
-  obeyed : (cmd : Cmd) (k : LineState) → EndsInPhrase false (played_from s indent (obeying cmd) k)
-  obeyed cmd k = by (outcome (means_at s indent k cmd) cmd s k.value) (command_error (means_at s indent k cmd) cmd k.value)
+  obeyed : (cmd : Cmd) (k : LineState) → EndsInPhrase false (played_from s (obeying cmd) k)
+  obeyed cmd k = by (outcome (means_at s k cmd) cmd s k.value) (command_error (means_at s k cmd) cmd k.value)
     where
       by : (q : Result Status ReadlineError) → error_of q
-          → EndsInPhrase false (played_on (λ status. record { answer = Ok status; asks = []; rest = left_at s indent k (Obeys cmd) }) (Obeys cmd) (left_at s indent k (Obeys cmd)) q)
+          → EndsInPhrase false (played_on (λ status. record { answer = Ok status; asks = []; rest = left_at s k (Obeys cmd) }) (Obeys cmd) (left_at s k (Obeys cmd)) q)
       by (Ok status) none e is h = cc
       by (Err d) none e is h = absurd (none e is h)
 
-  phrase_ends : (script : Steps Cmd) (k : LineState) → EndsInPhrase true (played_from s indent (spoken script) k)
+  phrase_ends : (script : Steps Cmd) (k : LineState) → EndsInPhrase true (played_from s (spoken script) k)
   phrase_ends (Ends cmd) k e is h =
-      let left = left_at s indent k (Meets cmd) in
+      let left = left_at s k (Meets cmd) in
       obeyed (meeting k.modal cmd s k.value).next left e is h
   phrase_ends (Asks ask later) k e is h =
-      let left = left_at s indent k (Keys ask) in
-      let next : Answer ask → PlayedOf s indent Status = λ y. played_from s indent (spoken (later y)) left in
-      played_each (EndsInPhrase true) next (Keys ask) left (λ y. phrase_ends (later y) left) (λ e d is h. refl) (answer_at s indent k (Keys ask)) e is h
+      let left = left_at s k (Keys ask) in
+      let next : Answer ask → PlayedOf s Status = λ y. played_from s (spoken (later y)) left in
+      played_each (EndsInPhrase true) next (Keys ask) left (λ y. phrase_ends (later y) left) (λ e d is h. refl) (answer_at s k (Keys ask)) e is h
 
   error_same : {X Y : Type 0} (d e : ReadlineError) → (let a : Result X ReadlineError = Err d in let b : Result X ReadlineError = Err e in a ≡ b) → (let a : Result Y ReadlineError = Err d in let b : Result Y ReadlineError = Err e in a ≡ b)
   error_same d e is = cc
 
-  turns_end : (n : ℕ) (custom : Custom) (b : Bool) (k : LineState) → EndsInPhrase b (played_from s indent (turns_script n custom) k)
+  turns_end : (n : ℕ) (custom : Custom) (b : Bool) (k : LineState) → EndsInPhrase b (played_from s (turns_script n custom) k)
   unfolding turns_script turn_script
   turns_end zero custom b k e is h = (let same : Memory ≡ e = cc in absurd (subst IsOfPhrase (sym same) h))
   turns_end (suc n) custom b k e is h =
-      let plan = line_plan s indent in
+      let plan = line_plan s in
       let script = steps (line_phrase custom k.input (shown_in k.value)) (suc n) in
-      let said = played_from s indent (spoken script) k in
+      let said = played_from s (spoken script) k in
       subst (λ p. EndsInPhrase b (asked_first Begins p)) (sym (played_then plan (turned_on (turns_script n custom)) (spoken script) k))
       (after n custom said (λ j. turns_end n custom (in_phrase true said.asks) j) (phrase_ends script k) said.answer refl) e is h
     where
-      after : (n : ℕ) (custom : Custom) (said : PlayedOf s indent Status) → ((j : LineState) → EndsInPhrase (in_phrase true said.asks) (played_from s indent (turns_script n custom) j))
+      after : (n : ℕ) (custom : Custom) (said : PlayedOf s Status) → ((j : LineState) → EndsInPhrase (in_phrase true said.asks) (played_from s (turns_script n custom) j))
           → EndsInPhrase true said → (q : Result Status ReadlineError) → said.answer ≡ q
-          → EndsInPhrase true (joined_on (follows (line_plan s indent) (turned_on (turns_script n custom))) said.asks said.rest q)
+          → EndsInPhrase true (joined_on (follows (line_plan s) (turned_on (turns_script n custom))) said.asks said.rest q)
       after n custom said later ends (Ok Proceed) is e answer h = in_both true said.asks _ ∙ later said.rest e answer h
       after n custom said later ends (Ok Submit) is e answer h = cc
       after n custom said later ends (Err d) is e answer h = (let failed : Result Status ReadlineError = Err d in let same : failed ≡ Err e = error_same d e answer in ends e (is ∙ same) h)
 
-  pub line_ends : (n : ℕ) (custom : Custom) (k : LineState) → EndsInPhrase false (played_from s indent (line_script n custom) k)
+  pub line_ends : (n : ℕ) (custom : Custom) (k : LineState) → EndsInPhrase false (played_from s (line_script n custom) k)
   unfolding line_script
   line_ends n custom k e is h = turns_end n custom false _ e is h
 
@@ -145,15 +146,16 @@ not_bare : (at : Standing) (m : Modal) (a : Setting) (v : Value) (info : Option 
 not_bare Searches m a v info b = not_prompt m.dir m.fails _ b.prompt
 not_bare _ m a v info b = true≢false b.given
 
--- the value's line and its cursor are shown
-pub record Seen (v : Value) (x : Sight) : Type 0 where
+-- the value's line and its cursor are shown, with the styles of the value
+pub record Seen (a : Setting) (v : Value) (x : Sight) : Type 0 where
   pub line : x.line ≡ v.line.text
   pub place : x.place ≡ v.line.place
   pub rests : x.ended ≡ false
+  pub spans : x.spans ≡ drawn_spans (shown_marks v a.marks) x.given x.prompt x.line x.place (info_text x.info)
 
-seen_so : (at : Standing) (m : Modal) (a : Setting) (v : Value) (info : Option (List ℕ)) → Seen v (seen_by at m a v info)
-seen_so Searches m a v info = record { line = refl; place = refl; rests = refl }
-seen_so _ m a v info = record { line = refl; place = refl; rests = refl }
+seen_so : (at : Standing) (m : Modal) (a : Setting) (v : Value) (info : Option (List ℕ)) → Seen a v (seen_by at m a v info)
+seen_so Searches m a v info = record { line = refl; place = refl; rests = refl; spans = refl }
+seen_so _ m a v info = record { line = refl; place = refl; rests = refl; spans = refl }
 
 -- ---- what a phrase asks for
 
@@ -169,12 +171,16 @@ ask_quiet s low high own (Prompted prompt) a v = helped_quiet s low high own v (
 ask_quiet s low high own DoingInsert a v = (tt, tt)
 ask_quiet s low high own DoneInserting a v = tt
 
-ask_seen : (ask : Ask) (a : Setting) (v : Value) (x : Sight) → Seen v x → (let e = ask_effect ask a v in Seen e.value (sight_all x e.steps))
-ask_seen Line a v x h = let is = (asks_lead Line a v x).leads in record { line = ap (λ (y : Sight). y.line) is; place = ap (λ (y : Sight). y.place) is; rests = ap (λ (y : Sight). y.ended) is }
-ask_seen (Message text kind) a v x h = record { line = refl; place = refl; rests = refl }
-ask_seen (Prompted prompt) a v x h = let is = (asks_lead (Prompted prompt) a v x).leads in record { line = ap (λ (y : Sight). y.line) is; place = ap (λ (y : Sight). y.place) is; rests = ap (λ (y : Sight). y.ended) is }
-ask_seen DoingInsert a v x h = record { line = h.line; place = h.place; rests = h.rests }
-ask_seen DoneInserting a v x h = record { line = h.line; place = h.place; rests = h.rests }
+-- a drawing of the value, whatever was shown before
+drawn_seen : (given : Bool) (prompt : List ℕ) (a : Setting) (v : Value) (info : Option (List ℕ)) → Seen a v (sight_with (shown_marks v a.marks) given prompt v.line.text v.line.place info)
+drawn_seen given prompt a v info = record { line = refl; place = refl; rests = refl; spans = refl }
+
+ask_seen : (ask : Ask) (a : Setting) (v : Value) (x : Sight) → Seen a v x → (let e = ask_effect ask a v in Seen a e.value (sight_all x e.steps))
+ask_seen Line a v x h = let w = (ask_effect Line a v).value in subst (Seen a w) (sym (asks_lead Line a v x).leads) (drawn_seen true a.prompt a w (shown_hint w))
+ask_seen (Message text kind) a v x h = drawn_seen true a.prompt a (ask_effect (Message text kind) a v).value text
+ask_seen (Prompted prompt) a v x h = let w = (ask_effect (Prompted prompt) a v).value in subst (Seen a w) (sym (asks_lead (Prompted prompt) a v x).leads) (drawn_seen false prompt a w (shown_hint w))
+ask_seen DoingInsert a v x h = record { line = h.line; place = h.place; rests = h.rests; spans = h.spans }
+ask_seen DoneInserting a v x h = record { line = h.line; place = h.place; rests = h.rests; spans = h.spans }
 
 -- ---- request after request
 
@@ -191,72 +197,69 @@ bytes_both s l xs ys =
     ap (λ (q : _). flat_map (bytes_of s) q.calls) (asked_both (ruler_of s) l xs ys)
     ∙ flat_both (bytes_of s) (drawn_by s l xs).calls (drawn_by s (drawn_by s l xs).layout ys).calls
 
-module _ (s : Screen) (low : 2 ≤ s.columns) (high : s.columns ≤ 1000) (a : Setting) (indent : ℕ) where
+module _ (s : Screen) (low : 2 ≤ s.columns) (high : s.columns ≤ 1000) (a : Setting) where
   -- within a phrase they show the value by themselves
   pub record At (b : Bool) (bytes : List ℕ) (l : Layout) (x : Sight) (k : LineState) : Type 0 where
     pub either : Either s low high a.prompt bytes l x
     pub anew : b ≡ true → Anew s low high a.prompt bytes l x
-    pub seen : b ≡ true → Seen k.value x
+    pub seen : b ≡ true → Seen a k.value x
 
   abbrev AtAfter : Bool → List ℕ → Layout → Sight → LineState → LineAsk → Type 0
   AtAfter b bytes l x k ask =
-      let rs = (effect_at a indent k ask).steps in At (in_keys b ask) (bytes ++ bytes_for s l rs) (drawn_by s l rs).layout (sight_all x rs) (left_at a indent k ask)
+      let rs = (effect_at a k ask).steps in At (in_keys b ask) (bytes ++ bytes_for s l rs) (drawn_by s l rs).layout (sight_all x rs) (left_at a k ask)
 
   -- the turn's begin
-  begun : (x : Sight) (k : LineState) (bytes : List ℕ) (l : Layout) → Either s low high a.prompt bytes l x → x ≡ modal_seen k.modal a k.value x.info → Anew s low high a.prompt bytes l x × Seen k.value x
-  begun x k bytes l (inl it) is = (it, subst (Seen k.value) (sym is) (seen_so k.modal.standing k.modal a k.value x.info))
+  begun : (x : Sight) (k : LineState) (bytes : List ℕ) (l : Layout) → Either s low high a.prompt bytes l x → x ≡ modal_seen k.modal a k.value x.info → Anew s low high a.prompt bytes l x × Seen a k.value x
+  begun x k bytes l (inl it) is = (it, subst (Seen a k.value) (sym is) (seen_so k.modal.standing k.modal a k.value x.info))
   begun x k bytes l (inr bare) is = absurd (not_bare k.modal.standing k.modal a k.value x.info (subst Bare is bare))
 
   outside : (b : Bool) (bytes : List ℕ) (l : Layout) (x : Sight) (k : LineState) → Either s low high a.prompt bytes l x → b ≡ false → At b bytes l x k
   outside b bytes l x k h is = record { either = h; anew = λ e. absurd (true≢false (sym e ∙ is)); seen = λ e. absurd (true≢false (sym e ∙ is)) }
 
   inside : (b : Bool) (bytes : List ℕ) (l : Layout) (x : Sight) (k j : LineState) (rs : List EditStep) → At b bytes l x k → FitsAll a.prompt x rs → LowAll s x rs → NoneCleared s low high a.prompt rs
-      → (Seen k.value x → Seen j.value (sight_all x rs)) → At b (bytes ++ bytes_for s l rs) (drawn_by s l rs).layout (sight_all x rs) j
+      → (Seen a k.value x → Seen a j.value (sight_all x rs)) → At b (bytes ++ bytes_for s l rs) (drawn_by s l rs).layout (sight_all x rs) j
   inside b bytes l x k j rs at fits rows none on = record {
     either = all_either s low high a.prompt rs bytes l x at.either fits rows;
     anew = λ e. all_anew s low high a.prompt rs bytes l x (at.anew e) fits rows none;
     seen = λ e. on (at.seen e);
   }
 
-  same_value : (v w : Value) (x : Sight) → v ≡ w → Seen v x → Seen w x
-  same_value v w x is h = subst (λ u. Seen u x) is h
-
-  one_ask : (ask : LineAsk) (k : LineState) (b : Bool) (bytes : List ℕ) (l : Layout) (x : Sight) → (let rs = (effect_at a indent k ask).steps in
-      At b bytes l x k → FitsAll a.prompt x rs → LowAll s x rs → BeginShows a indent ask k (sight_all x rs) → AtAfter b bytes l x k ask)
+  one_ask : (ask : LineAsk) (k : LineState) (b : Bool) (bytes : List ℕ) (l : Layout) (x : Sight) → (let rs = (effect_at a k ask).steps in
+      At b bytes l x k → FitsAll a.prompt x rs → LowAll s x rs → BeginShows a ask k (sight_all x rs) → AtAfter b bytes l x k ask)
   one_ask Begins k b bytes l x at fits rows begins =
       let h = all_either s low high a.prompt [] bytes l x at.either tt tt in
       let both = begun x k (bytes ++ bytes_for s l []) l h begins in
       record { either = h; anew = λ e. both.0; seen = λ e. both.1 }
-  one_ask (Keys Needs) k b bytes l x at fits rows begins = inside b bytes l x k (left_at a indent k (Keys Needs)) (effect_at a indent k (Keys Needs)).steps at fits rows (tt, tt) (λ h. h)
+  one_ask (Keys Needs) k b bytes l x at fits rows begins = inside b bytes l x k (left_at a k (Keys Needs)) (effect_at a k (Keys Needs)).steps at fits rows (tt, tt) (λ h. h)
   one_ask (Keys (Shows ask)) k b bytes l x at fits rows begins =
-      inside b bytes l x k (left_at a indent k (Keys (Shows ask))) (ask_effect ask a k.value).steps at fits rows (ask_quiet s low high a.prompt ask a k.value) (ask_seen ask a k.value x)
-  one_ask (Keys (Reads item)) k b bytes l x at fits rows begins = inside b bytes l x k (left_at a indent k (Keys (Reads item))) [] at fits rows tt (λ h. h)
-  one_ask (Keys (Becomes input)) k b bytes l x at fits rows begins = inside b bytes l x k (left_at a indent k (Keys (Becomes input))) [] at fits rows tt (λ h. h)
-  one_ask (Keys (Refuses why)) k b bytes l x at fits rows begins = inside b bytes l x k (left_at a indent k (Keys (Refuses why))) [] at fits rows tt (λ h. h)
+      inside b bytes l x k (left_at a k (Keys (Shows ask))) (ask_effect ask a k.value).steps at fits rows (ask_quiet s low high a.prompt ask a k.value) (ask_seen ask a k.value x)
+  one_ask (Keys (Reads item)) k b bytes l x at fits rows begins = inside b bytes l x k (left_at a k (Keys (Reads item))) [] at fits rows tt (λ h. h)
+  one_ask (Keys (Becomes input)) k b bytes l x at fits rows begins = inside b bytes l x k (left_at a k (Keys (Becomes input))) [] at fits rows tt (λ h. h)
+  one_ask (Keys (Refuses why)) k b bytes l x at fits rows begins = inside b bytes l x k (left_at a k (Keys (Refuses why))) [] at fits rows tt (λ h. h)
   one_ask (Meets cmd) k b bytes l x at fits rows begins =
-      let rs = (effect_at a indent k (Meets cmd)).steps in outside false (bytes ++ bytes_for s l rs) (drawn_by s l rs).layout (sight_all x rs) (left_at a indent k (Meets cmd)) (all_either s low high a.prompt rs bytes l x at.either fits rows) refl
+      let rs = (effect_at a k (Meets cmd)).steps in outside false (bytes ++ bytes_for s l rs) (drawn_by s l rs).layout (sight_all x rs) (left_at a k (Meets cmd)) (all_either s low high a.prompt rs bytes l x at.either fits rows) refl
   one_ask (Obeys cmd) k b bytes l x at fits rows begins =
-      let rs = (effect_at a indent k (Obeys cmd)).steps in outside false (bytes ++ bytes_for s l rs) (drawn_by s l rs).layout (sight_all x rs) (left_at a indent k (Obeys cmd)) (all_either s low high a.prompt rs bytes l x at.either fits rows) refl
+      let rs = (effect_at a k (Obeys cmd)).steps in outside false (bytes ++ bytes_for s l rs) (drawn_by s l rs).layout (sight_all x rs) (left_at a k (Obeys cmd)) (all_either s low high a.prompt rs bytes l x at.either fits rows) refl
   one_ask (Makes edit) k b bytes l x at fits rows begins =
-      let rs = (effect_at a indent k (Makes edit)).steps in outside false (bytes ++ bytes_for s l rs) (drawn_by s l rs).layout (sight_all x rs) (left_at a indent k (Makes edit)) (all_either s low high a.prompt rs bytes l x at.either fits rows) refl
+      let rs = (effect_at a k (Makes edit)).steps in outside false (bytes ++ bytes_for s l rs) (drawn_by s l rs).layout (sight_all x rs) (left_at a k (Makes edit)) (all_either s low high a.prompt rs bytes l x at.either fits rows) refl
 
   abbrev pub left_by : LineState → List LineAsk → LineState
   left_by k [] = k
-  left_by k (ask ∷ asks) = left_by (left_at a indent k ask) asks
+  left_by k (ask ∷ asks) = left_by (left_at a k ask) asks
 
-  pub rest_by : {X : Type 0} (script : LineScript X) (k : LineState) → (let p = played_from a indent script k in left_by k p.asks ≡ p.rest)
+  pub rest_by : {X : Type 0} (script : LineScript X) (k : LineState) → (let p = played_from a script k in left_by k p.asks ≡ p.rest)
   rest_by (Ends x) k = refl
   rest_by {X} (Asks ask later) k =
-      let left = left_at a indent k ask in
-      played_each (λ (p : PlayedOf a indent X). left_by k p.asks ≡ p.rest) (λ x. played_from a indent (later x) left) ask left (λ x. rest_by (later x) left) (λ e. refl) (answer_at a indent k ask)
+      let left = left_at a k ask in
+      played_each (λ (p : PlayedOf a X). left_by k p.asks ≡ p.rest) (λ x. played_from a (later x) left) ask left (λ x. rest_by (later x) left) (λ e. refl) (answer_at a k ask)
 
-  pub walk : (o : Result (List ℕ) ReadlineError) (asks : List LineAsk) (k : LineState) (b : Bool) (bytes : List ℕ) (l : Layout) (x : Sight) → (let rs = steps_along a indent k asks in
-      At b bytes l x k → LeadsAlong a indent o k x asks → LowAll s x rs → At (in_phrase b asks) (bytes ++ bytes_for s l rs) (drawn_by s l rs).layout (sight_all x rs) (left_by k asks))
+  pub walk : (o : Result (List ℕ) ReadlineError) (asks : List LineAsk) (k : LineState) (b : Bool) (bytes : List ℕ) (l : Layout) (x : Sight) → (let rs = steps_along a k asks in
+      At b bytes l x k → LeadsAlong a o k x asks → LowAll s x rs → At (in_phrase b asks) (bytes ++ bytes_for s l rs) (drawn_by s l rs).layout (sight_all x rs) (left_by k asks))
   walk o [] k b bytes l x at leads rows = subst (λ z. At b z l x k) (sym (append-nil bytes)) at
   walk o (ask ∷ asks) k b bytes l x at leads rows =
-      let first = (effect_at a indent k ask).steps in
-      let left = left_at a indent k ask in
-      let rest = steps_along a indent left asks in
+      let first = (effect_at a k ask).steps in
+      let left = left_at a k ask in
+      let rest = steps_along a left asks in
       let m = (drawn_by s l first).layout in
       let y = sight_all x first in
       let b' = in_keys b ask in
@@ -290,13 +293,13 @@ own_bytes a k Begins = refl
 own_bytes a k (Keys (Reads item)) = refl
 own_bytes a k _ = refl
 
-pub asks_bytes : (s : Screen) (a : Setting) (indent : ℕ) (l : Layout) (k : LineState) (asks : List LineAsk) → flat_map bytes_drawn (asks_events s a indent l k asks) ≡ bytes_for s l (steps_along a indent k asks)
-asks_bytes s a indent l k [] = refl
-asks_bytes s a indent l k (ask ∷ asks) =
-    let first = (effect_at a indent k ask).steps in
-    let left = left_at a indent k ask in
+pub asks_bytes : (s : Screen) (a : Setting) (l : Layout) (k : LineState) (asks : List LineAsk) → flat_map bytes_drawn (asks_events s a l k asks) ≡ bytes_for s l (steps_along a k asks)
+asks_bytes s a l k [] = refl
+asks_bytes s a l k (ask ∷ asks) =
+    let first = (effect_at a k ask).steps in
+    let left = left_at a k ask in
     let m = (drawn_by s l first).layout in
-    flat_both bytes_drawn (step_events s l first) (own_events a k ask ++ asks_events s a indent m left asks)
-    ∙ ap (λ z. z ++ flat_map bytes_drawn (own_events a k ask ++ asks_events s a indent m left asks)) (steps_bytes s l first)
-    ∙ ap (λ z. bytes_for s l first ++ z) (flat_both bytes_drawn (own_events a k ask) (asks_events s a indent m left asks) ∙ ap (λ z. z ++ flat_map bytes_drawn (asks_events s a indent m left asks)) (own_bytes a k ask) ∙ asks_bytes s a indent m left asks)
-    ∙ sym (bytes_both s l first (steps_along a indent left asks))
+    flat_both bytes_drawn (step_events s l first) (own_events a k ask ++ asks_events s a m left asks)
+    ∙ ap (λ z. z ++ flat_map bytes_drawn (own_events a k ask ++ asks_events s a m left asks)) (steps_bytes s l first)
+    ∙ ap (λ z. bytes_for s l first ++ z) (flat_both bytes_drawn (own_events a k ask) (asks_events s a m left asks) ∙ ap (λ z. z ++ flat_map bytes_drawn (asks_events s a m left asks)) (own_bytes a k ask) ∙ asks_bytes s a m left asks)
+    ∙ sym (bytes_both s l first (steps_along a left asks))

@@ -1,5 +1,5 @@
 -- A text that is sent as a paste goes to the line's cursor.
-use Rattle.std.proofs.Common.{◌≡◌, ◌≢◌, ℕ, suc, ◌==◌, ◌||◌, Bool, true, false, if◌then◌else◌, List, [], ◌∷◌, ◌++◌, length, is_some, Ok, refl, sym, ap, ◌∙◌, append-nil, arith, subst, true≢false}
+use Rattle.std.proofs.Common.{◌≡◌, ℕ, suc, ◌==◌, ◌||◌, Bool, true, false, if◌then◌else◌, List, [], ◌∷◌, ◌++◌, length, is_some, Ok, refl, sym, ap, ◌∙◌, append-nil, arith, subst, true≢false}
 use Rattle.std.proofs.lemmas.Bool.Decides.{nat_tests}
 use Rattle.line_buffer.specs.Insertions.{yank as yanked_in, no_insertion, insertion_of, put_at_cursor}
 use Rattle.line_buffer.specs.Line.{Line}
@@ -62,10 +62,10 @@ pasted_line vi text s v grows =
     drawn_if (put || false) vi text 1 s before ∙ stepped_if put vi _ ∙ grown_on text v.line vi grows
 
 -- the last change has no part in it
-same_mode : (mode : EditMode) (text : List ℕ) (input : Input) (indent : ℕ) (k : LineState)
-    → in_vi_command (means_of (kept_after mode text input) indent (reset_by (Insert 1 text) k.ring)) ≡ in_vi_command (means_of input indent k.ring)
-same_mode Emacs text input indent k = refl
-same_mode Vi text input indent k = refl
+same_mode : (mode : EditMode) (text : List ℕ) (input : Input) (k : LineState)
+    → in_vi_command (means_of (kept_after mode text input) (reset_by (Insert 1 text) k.ring)) ≡ in_vi_command (means_of input k.ring)
+same_mode Emacs text input k = refl
+same_mode Vi text input k = refl
 
 -- ---- the turn
 
@@ -73,42 +73,42 @@ same_mode Vi text input indent k = refl
 abbrev GoesIn : Played LineAsk LineState ReadlineError Status → Line → Coming → Type 0
 GoesIn p line rest = (p.answer ≡ Ok Proceed) × (p.rest.coming ≡ rest) × (p.rest.value.line ≡ line)
 
-module _ (s : Setting) (indent : ℕ) (custom : Custom) (free : LetsPastesIn custom) where
+module _ (s : Setting) (custom : Custom) (free : LetsPastesIn custom) where
   abbrev turn_on : Played LineAsk LineState ReadlineError Cmd → Played LineAsk LineState ReadlineError Status
-  turn_on p = asked_first Begins (joined (follows (line_plan s indent) met_then) p)
+  turn_on p = asked_first Begins (joined (follows (line_plan s) met_then) p)
 
-  turns_on : (n : ℕ) (k : LineState) → played_from s indent (turn_script (suc n) custom) k ≡ turn_on (played_from s indent (phrase_script (suc n) custom (beginning k)) k)
+  turns_on : (n : ℕ) (k : LineState) → played_from s (turn_script (suc n) custom) k ≡ turn_on (played_from s (phrase_script (suc n) custom (beginning k)) k)
   unfolding turn_script
-  turns_on n k = ap (asked_first Begins) (played_then (line_plan s indent) met_then (phrase_script (suc n) custom (beginning k)) k)
+  turns_on n k = ap (asked_first Begins) (played_then (line_plan s) met_then (phrase_script (suc n) custom (beginning k)) k)
 
   goes_in : (at : Standing) → is_at_rest at ≡ true → (n : ℕ) (j : LineState) (before bytes text : List ℕ) (rest : Coming) → j.value.line.growth ≡ true
-      → GoesIn (played_from s indent (turn_script (suc (suc n)) custom) (with_rest (at_rest at j) (Pressed before paste_start (Pasted bytes text rest))))
-      (pasted_in (in_vi_command (means_of j.input indent j.ring)) text j.value.line) rest
+      → GoesIn (played_from s (turn_script (suc (suc n)) custom) (with_rest (at_rest at j) (Pressed before paste_start (Pasted bytes text rest))))
+      (pasted_in (in_vi_command (means_of j.input j.ring)) text j.value.line) rest
   goes_in Off rests n j before bytes text rest grows =
       let k = at_rest Off j in
       let on = with_rest k (Pressed before paste_start (Pasted bytes text rest)) in
-      let vi : Bool = in_vi_command (means_of (kept_after k.input.mode text k.input) indent (reset_by (Insert 1 text) k.ring)) in
-      let line = pasted_in (in_vi_command (means_of j.input indent j.ring)) text j.value.line in
-      subst (λ p. GoesIn p line rest) (sym (turns_on (suc n) on ∙ ap turn_on (plays_paste s indent custom (free.announced, free.any) n k before bytes text rest))) (
+      let vi : Bool = in_vi_command (means_of (kept_after k.input.mode text k.input) (reset_by (Insert 1 text) k.ring)) in
+      let line = pasted_in (in_vi_command (means_of j.input j.ring)) text j.value.line in
+      subst (λ p. GoesIn p line rest) (sym (turns_on (suc n) on ∙ ap turn_on (plays_paste s custom (free.announced, free.any) n k before bytes text rest))) (
         refl,
         refl,
-        pasted_line vi text s k.value grows ∙ ap (λ b. pasted_in b text j.value.line) (same_mode j.input.mode text j.input indent j),
+        pasted_line vi text s k.value grows ∙ ap (λ b. pasted_in b text j.value.line) (same_mode j.input.mode text j.input j),
       )
   goes_in Rests rests n j before bytes text rest grows =
       let k = at_rest Rests j in
       let on = with_rest k (Pressed before paste_start (Pasted bytes text rest)) in
-      let vi : Bool = in_vi_command (means_of (kept_after k.input.mode text k.input) indent (reset_by (Insert 1 text) k.ring)) in
-      let line = pasted_in (in_vi_command (means_of j.input indent j.ring)) text j.value.line in
-      subst (λ p. GoesIn p line rest) (sym (turns_on (suc n) on ∙ ap turn_on (plays_paste s indent custom (free.announced, free.any) n k before bytes text rest))) (
+      let vi : Bool = in_vi_command (means_of (kept_after k.input.mode text k.input) (reset_by (Insert 1 text) k.ring)) in
+      let line = pasted_in (in_vi_command (means_of j.input j.ring)) text j.value.line in
+      subst (λ p. GoesIn p line rest) (sym (turns_on (suc n) on ∙ ap turn_on (plays_paste s custom (free.announced, free.any) n k before bytes text rest))) (
         refl,
         refl,
-        pasted_line vi text s k.value grows ∙ ap (λ b. pasted_in b text j.value.line) (same_mode j.input.mode text j.input indent j),
+        pasted_line vi text s k.value grows ∙ ap (λ b. pasted_in b text j.value.line) (same_mode j.input.mode text j.input j),
       )
   goes_in _ rests n j before bytes text rest grows = absurd (cc)
 
 pub pastes_go_in : PastesGoIn
-pastes_go_in n s custom indent k text more last free grows rests paste comes =
+pastes_go_in n s custom k text more last free grows rests paste comes =
     let left = coming_from k.input.mode more last in
-    let line = pasted_in (in_vi_command (means_of k.input indent k.ring)) text k.value.line in
-    subst (λ c. GoesIn (played_from s indent (turn_script (suc (suc n)) custom) (with_rest k c)) line left) (sym (comes ∙ reads_as k.input.mode text more last paste))
-    (goes_in s indent custom free k.modal.standing rests n k (sent_as_paste text ++ more) (behind_start text more) text left grows)
+    let line = pasted_in (in_vi_command (means_of k.input k.ring)) text k.value.line in
+    subst (λ c. GoesIn (played_from s (turn_script (suc (suc n)) custom) (with_rest k c)) line left) (sym (comes ∙ reads_as k.input.mode text more last paste))
+    (goes_in s custom free k.modal.standing rests n k (sent_as_paste text ++ more) (behind_start text more) text left grows)

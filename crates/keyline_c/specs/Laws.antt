@@ -13,21 +13,22 @@ use Rattle.line_editor.specs.LineScripts.{LineState, played_from, turn_script}
 use Rattle.line_editor.specs.Modal.{is_at_rest}
 use Rattle.line_editor.specs.Redraws.{fresh}
 use Rattle.line_editor.specs.Sights.{Sight, no_sight, sight_all}
-use Rattle.line_editor.specs.Values.{Setting}
+use Rattle.line_editor.specs.Calls.{Marks}
+use Rattle.line_editor.specs.Values.{Setting, shown_marks}
 use Rattle.line_editor.specs.Yanking.{behind_yank}
 use Rattle.line_editor.specs.declared.commands.Status.TheVariants.{Proceed}
 use Rattle.line_keys.specs.Answers.{Custom}
 use Rattle.line_keys.specs.Events.{single}
 use Rattle.line_keys.specs.declared.events.Event.TheVariants.{Any}
 use Rattle.line_screen.specs.Calls.{Screen}
-use Rattle.line_screen.specs.Display.{Display, Placed, cell_at, meaning}
+use Rattle.line_screen.specs.Display.{Display, Placed, cell_at, style_at, meaning}
 use Rattle.line_screen.specs.Drawing.{erase_to_end}
 use Rattle.line_screen.specs.KeyGrammar.{paste_start}
 use Rattle.line_screen.specs.Laws.{widths}
 use Rattle.keyline.specs.Events.{line_course, played_in}
 use Rattle.keyline.specs.Pasting.{IsPasteable, sent_as_paste}
 use Rattle.keyline.specs.SessionLaws.{steps_in}
-use Rattle.keyline.specs.Sessions.{Given, SessionState, coming_from}
+use Rattle.keyline.specs.Sessions.{Given, SessionState, coming_from, setting_in}
 use Rattle.keyline.specs.Shows.{IsAtRest, IsScreen, LowAll, MomentShown, drawn_by, face}
 use Rattle.keyline_c.specs.Lines.{LeftBy, value_first}
 use Rattle.keyline_c.specs.Statuses.{ended_as, is_open}
@@ -55,6 +56,10 @@ last_drawing (byte ∷ bytes) = option_or (last_drawing bytes)
 abbrev pub seen_in : ℕ → Given → SessionState → Sight
 seen_in n g x = sight_all no_sight (steps_in n g x)
 
+-- what the highlighter gives for the drawing of the value after them, if there is one
+abbrev pub marks_in : ℕ → Given → SessionState → Option Marks
+marks_in n g x = shown_marks (played_in n g x).rest.value (setting_in g x.history.kept.entries).marks
+
 -- what is kept of the drawing, from which the bytes for the next keys follow
 abbrev pub layout_in : ℕ → Given → SessionState → Layout
 layout_in n g x = (drawn_by g.screen (fresh g.screen.mode) (steps_in n g x)).layout
@@ -67,21 +72,26 @@ module _ (held : VecSink → List ℕ) where
     pub low : LowAll g.screen no_sight (steps_in n g x)
 
   -- the bytes from the last whole drawing on show the open line by themselves, on any blank rows
-  -- below others: its text and its cursor, behind the prompt that is shown for it. The rows above
-  -- stay
+  -- below others: its text with its styles and its cursor, behind the prompt that is shown for it.
+  -- The rows above stay
   abbrev pub LastDrawingsShow : Type 0
   LastDrawingsShow =
       (n : ℕ) (g : Given) (x : SessionState) (left : Left)
       (before : List ℕ) (over : List Placed) (top : ℕ)
       → IsOpenAt n g x left → IsAtRest (face g.screen before top over no_sight)
       → (bytes : List ℕ) × (last_drawing (held left.display) ≡ Some bytes)
-      × MomentShown (face g.screen (before ++ bytes) top over (seen_in n g x))
-      (seen_in n g x).prompt (open_text left.open_line) (open_place left.open_line)
+      × MomentShown (face g.screen (before ++ bytes) top over (seen_in n g x)) (marks_in n g x)
+      (seen_in n g x).given (seen_in n g x).prompt (open_text left.open_line)
+      (open_place left.open_line)
 
 -- the same cells, and the cursor in the same one
 pub record LookAlike (d e : Display) : Type 0 where
   pub cells : (row col : ℕ) → cell_at d.placed row col ≡ cell_at e.placed row col
   pub cursor : d.cursor ≡ e.cursor
+
+-- with the same styles
+abbrev pub StyledAlike : Display → Display → Type 0
+StyledAlike d e = (row col : ℕ) → style_at d.placed row col ≡ style_at e.placed row col
 
 -- the same open line and cursor, after the same prompt, and before the same hint or message
 pub record ShowTheSame (n : ℕ) (g : Given) (x y : SessionState) (left other : Left) : Type 0 where
@@ -98,14 +108,15 @@ module _ (held : VecSink → List ℕ) where
     pub means : meaning s.columns (widths s).cluster (before ++ bytes) ≡ Some d
 
   -- two key texts whose open lines show the same leave the same display if they are drawn anew,
-  -- whatever their bytes are
+  -- whatever their bytes are; and also its styles, if the highlighter gives both the same ones
   abbrev pub SameLinesLookAlike : Type 0
   SameLinesLookAlike =
       (n : ℕ) (g : Given) (x y : SessionState) (left other : Left)
       (before : List ℕ) (over : List Placed) (top : ℕ) (d e : Display)
       → IsOpenAt held n g x left → IsOpenAt held n g y other → ShowTheSame n g x y left other
       → IsAtRest (face g.screen before top over no_sight)
-      → DrawnAnew g.screen before left d → DrawnAnew g.screen before other e → LookAlike d e
+      → DrawnAnew g.screen before left d → DrawnAnew g.screen before other e
+      → LookAlike d e × ((seen_in n g x).spans ≡ (seen_in n g y).spans → StyledAlike d e)
 
   -- and the same is kept of both drawings, if each prompt is the session's own, or neither is. So
   -- what follows on the one display may follow on the other
@@ -132,11 +143,11 @@ pub record LetsPastesIn (custom : Custom) : Type 0 where
 -- and no search stands. Everything that follows it remains
 abbrev pub PastesGoIn : Type 0
 PastesGoIn =
-    (n : ℕ) (s : Setting) (custom : Custom) (indent : ℕ) (k : LineState) (text more : List ℕ)
+    (n : ℕ) (s : Setting) (custom : Custom) (k : LineState) (text more : List ℕ)
     (last : Last)
     → LetsPastesIn custom → k.value.line.growth ≡ true → is_at_rest k.modal.standing ≡ true
     → IsPasteable text → k.coming ≡ coming_from k.input.mode (sent_as_paste text ++ more) last
-    → let p = played_from s indent (turn_script (suc (suc n)) custom) k in
-    let vi = in_vi_command (means_of k.input indent k.ring) in
+    → let p = played_from s (turn_script (suc (suc n)) custom) k in
+    let vi = in_vi_command (means_of k.input k.ring) in
     (p.answer ≡ Ok Proceed) × (p.rest.coming ≡ coming_from k.input.mode more last)
     × (p.rest.value.line ≡ pasted_in vi text k.value.line)

@@ -47,11 +47,11 @@ module _ {D L : Type 0} (shown : D → List ℕ) (written_in : L → List ℕ) (
   no_fault x y (Begins screen) h = h
   no_fault x y Takes h = h
   no_fault x y (Helped fails takes) h = h
-  no_fault x y (Draws redraw []) h = h
-  no_fault x y (Draws redraw (bytes ∷ more)) h = h
+  no_fault x y (Draws marks redraw []) h = h
+  no_fault x y (Draws marks redraw (bytes ∷ more)) h = h
   no_fault x y (Hears Key) h = h
   no_fault x y (Hears Paste) h = h
-  no_fault x y (Rests prompt text place) h = h
+  no_fault x y (Rests marks given prompt text place) h = h
   no_fault x y Breaks h = h
   no_fault x y (Keeps line) h = h
   no_fault x y (Writes line) h = h

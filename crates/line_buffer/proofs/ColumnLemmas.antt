@@ -1,13 +1,16 @@
 -- The boundaries of a row by their columns, from the last one back.
-use Rattle.std.proofs.Common.{◌≡◌, ℕ, ◌+◌, ◌-◌, ◌<◌, ◌≤◌, nat_le, min, Bool, true, false, cond, List, [], ◌∷◌, ◌++◌, length, map, filter, take, drop, get_or, slice_range, Option, None, Some, refl, sym, ap, ◌∙◌, subst, arith, le_refl, append-nil, length-append, length-take, take_all, take-take, take-append-drop}
+use Rattle.std.proofs.Common.{◌≡◌, ℕ, ◌+◌, ◌-◌, ◌==◌, ◌<◌, ◌≤◌, nat_le, min, ⊎_elim, Bool, true, false, cond, ◌&&◌, ◌||◌, List, [], ◌∷◌, ◌++◌, length, map, filter, take, drop, get_or, slice_range, Option, None, Some, refl, sym, ap, ◌∙◌, subst, arith, le_refl, append-nil, append_assoc, length-append, length-take, take_all, take-take, take-append-drop}
 use Rattle.std.proofs.Math.ListN.{get_or-append}
-use Rattle.std.specs.Prelude.{option_map, unwrap_or, chars, IsUtf8, IsCharBoundary, All}
-use Rattle.std.specs.List.{last_or, concat}
+use Rattle.std.specs.Prelude.{option_map, unwrap_or, chars, encode_utf8, IsUtf8, IsCharBoundary, All}
+use Rattle.std.specs.Char.{IsScalar}
+use Rattle.std.specs.List.{last_or, concat, list_all}
 use Rattle.std.proofs.lemmas.List.{map-append}
 use Rattle.std.proofs.lemmas.List.Elements.{filter-append}
-use Rattle.std.proofs.lemmas.Str.{chars-append, IsUtf8-take, IsUtf8-between, IsCharBoundary-from_take}
-use Rattle.std.proofs.lemmas.List.Folds.{drop_split}
-use Rattle.unicode_segmentation.proofs.TextLemmas.{take_split}
+use Rattle.std.proofs.lemmas.Str.{chars-append, chars-nil, chars_past_char, IsUtf8-take, IsUtf8-nil, IsUtf8-append, IsUtf8-encode, IsCharBoundary-from_take, len_utf8_bounds, length-encode}
+use Rattle.std.proofs.Math.Seq.{take-append_seam, drop-append_seam}
+use Rattle.std.proofs.lemmas.Bool.{and_from, and_parts, or_cases}
+use borrow.Author.Tests.{eqb-true}
+use Rattle.unicode_segmentation.proofs.TextLemmas.{IsUtf8-before, chars-encode_utf8}
 use Rattle.std.proofs.lemmas.Bool.Decides.{nat_tests}
 use Rattle.unicode_segmentation.specs.Grapheme.{is_grapheme_break, graphemes}
 use Rattle.unicode_segmentation.specs.Segments.{with_offsets}
@@ -15,27 +18,18 @@ use Rattle.unicode_segmentation.proofs.SegmentsLemmas.{concat-segments, IsPieceO
 use Rattle.line_buffer.specs.declared.layout.GraphemeClusterMode.{GraphemeClusterMode}
 use Rattle.line_buffer.specs.Clusters.{clusters}
 use Rattle.line_buffer.specs.Columns.{place_at_column}
-use Rattle.line_buffer.specs.Width.{columns_of, width_of, AddUp, PartsText}
+use Rattle.ucd_emoji.specs.Binary.{is_emoji_variation_base}
+use Rattle.line_buffer.specs.Parting.{parts, first, is_selected, is_flag_letter}
+use Rattle.line_buffer.specs.Width.{columns_of, width_of}
+use Rattle.line_buffer.proofs.PartingLemmas.{parts_bare, columns_parted, columns_selected, columns_of_flags}
 
 -- no number of columns that is shown is beyond what is counted
 pub enough : 65535 ≤ 18446744073709551615
 enough = omega arith
 
--- ---- a text without its end, where their columns add up
-
 -- counted up to the most that a number can be
 abbrev pub counted : ℕ → GraphemeClusterMode → List ℕ → ℕ
 counted most mode text = min (columns_of mode (chars text)) most
-
-pub without_end : (mode : GraphemeClusterMode) (most : ℕ) (text : List ℕ) (end whole part : ℕ) → IsUtf8 text → IsCharBoundary text end
-    → AddUp mode (chars (take end text)) (chars (drop end text))
-    → whole ≡ counted most mode text → part ≡ counted most mode (drop end text) → whole < most → (part ≤ whole) × (whole - part ≡ counted most mode (take end text))
-without_end mode most text end whole part u at adds is part_is low =
-    let split : chars text ≡ chars (take end text) ++ chars (drop end text) =
-    ap chars (sym (take-append-drop end text)) ∙ chars-append (take end text) (drop end text) (IsUtf8-take text end u at) in
-    let sum : columns_of mode (chars text) ≡ columns_of mode (chars (take end text)) + columns_of mode (chars (drop end text)) =
-    ap (columns_of mode) split ∙ adds in
-    (omega (arith, sum, is, part_is, low), omega (arith, sum, is, part_is, low))
 
 -- ---- clusters tile their text
 
@@ -182,50 +176,124 @@ pub counted_in_front : (most : ℕ) (mode : GraphemeClusterMode) (row part : Lis
     → counted most mode (take start part) ≡ counted most mode (take start row)
 counted_in_front most mode row part start end e l = ap (counted most mode) (ap (take start) e ∙ take-take start end row l)
 
--- ---- the columns up to a place, by the cluster before it
+-- ---- the place at which a text is parted
 
-pub last_piece : (text : List ℕ) (old new : List (ℕ × List ℕ)) (x : ℕ × List ℕ) → IsUtf8 text → old ≡ clusters text → old ≡ new ++ x ∷ [] → IsPieceOf text x
-last_piece text old new x u is came =
-    let all = subst (All (IsPieceOf text)) (sym is ∙ came) (All-IsPieceOf (is_grapheme_break true) text u) in
-    subst (IsPieceOf text) (at_seam new) (all (length new) x (omega (arith, length-append new (x ∷ []))))
-  where
-    at_seam : (xs : List (ℕ × List ℕ)) → get_or (xs ++ x ∷ []) (length xs) x ≡ x
-    at_seam [] = refl
-    at_seam (z ∷ xs) = at_seam xs
+-- read from its end, the text up to `end` is left as `front`; what follows that begins with `next`
+pub record PartsText (text : List ℕ) (end : ℕ) (front : List ℕ) (next : Option ℕ) (flags inside : Bool) : Type 0 where
+  pub mid : List ℕ
+  pub front_ok : IsUtf8 front
+  pub mid_ok : IsUtf8 mid
+  pub tiles : take end text ≡ front ++ mid
+  pub next_is : next ≡ first (chars mid ++ chars (drop end text))
+  pub flags_are : flags ≡ true → list_all is_flag_letter (chars mid ++ chars (drop end text)) ≡ true
+  pub not_last : inside ≡ true → (d : ℕ) × ((ds : List ℕ) × (chars mid ≡ d ∷ ds))
 
-pub at_most : (bs : List ℕ) (i : ℕ) → IsCharBoundary bs i → i ≤ length bs
-at_most bs i at = omega (arith, at.0)
+pub first_nothing : (text : List ℕ) → length text ≡ 0 → None ≡ first (chars text)
+first_nothing [] e = sym (ap first chars-nil)
+first_nothing (b ∷ bs) e = cc
 
--- what begins in a text's front begins in the text
-pub start_in_text : (text part : List ℕ) (start end : ℕ) → IsUtf8 text → IsUtf8 part → part ≡ take end text → end ≤ length text → IsCharBoundary part start → (start ≤ end) × IsCharBoundary text start
-start_in_text text part start end u v e le at =
-    let low : start ≤ end = omega (arith, at_most part start at, ap length e, length-take end text) in
-    (low, IsCharBoundary-from_take text start u (omega (arith, low)) (subst IsUtf8 (ap (take start) e ∙ take-take start end text low) (IsUtf8-take part start v at)))
+pub first_something : (text rest : List ℕ) (c : ℕ) → IsUtf8 text → text ≡ encode_utf8 c ++ rest → Some c ≡ first (chars text)
+first_something text rest c u e = sym (ap first (chars_past_char text rest c u e))
 
-module _ (mode : GraphemeClusterMode) (most : ℕ) (text : List ℕ) (start end : ℕ) (u : IsUtf8 text) (le : start ≤ end) (at_start : IsCharBoundary text start) (at_end : IsCharBoundary text end) where
-  abbrev front : List ℕ
-  front = take start text
+pub parts_text_init : (text front : List ℕ) (end : ℕ) (next : Option ℕ) (flags : Bool) → IsUtf8 front → front ≡ take end text → next ≡ first (chars (drop end text)) → flags ≡ list_all is_flag_letter (chars (drop end text))
+    → PartsText text end front next flags false
+parts_text_init text front end next flags u e n f =
+    record {
+      mid = [];
+      front_ok = u;
+      mid_ok = IsUtf8-nil;
+      tiles = sym e ∙ sym (append-nil front);
+      next_is = n ∙ ap (λ cs. first (cs ++ chars (drop end text))) (sym chars-nil);
+      flags_are = λ h. ap (λ cs. list_all is_flag_letter (cs ++ chars (drop end text))) chars-nil ∙ sym f ∙ h;
+      not_last = λ e. cc;
+    }
 
-  abbrev cluster : List ℕ
-  cluster = slice_range text start end
+module _ (text : List ℕ) (end : ℕ) (old new : List ℕ) (next : Option ℕ) (flags inside : Bool) (c : ℕ) (scalar : IsScalar c) (w : PartsText text end old next flags inside) (came : old ≡ new ++ encode_utf8 c) where
+  abbrev mid_of : List ℕ
+  mid_of = encode_utf8 c ++ w.mid
 
-  is_cluster : IsUtf8 cluster
-  is_cluster = IsUtf8-between text start end u le at_start at_end
+  new_ok : IsUtf8 new
+  new_ok = IsUtf8-before old new (encode_utf8 c) w.front_ok (IsUtf8-encode c scalar) came
 
-  balanced : PartsText (chars cluster)
-      → columns_of mode (chars text) + columns_of mode (chars cluster) ≡ columns_of mode (chars (take end text)) + columns_of mode (chars (drop start text))
-  unfolding PartsText
-  balanced h =
-      let rest : chars (drop start text) ≡ chars cluster ++ chars (drop end text) =
-      ap chars (drop_split text start end le) ∙ chars-append cluster (drop end text) is_cluster in
-      let whole : chars text ≡ chars front ++ (chars cluster ++ chars (drop end text)) =
-      ap chars (sym (take-append-drop start text)) ∙ chars-append front (drop start text) (IsUtf8-take text start u at_start) ∙ ap (λ cs. chars front ++ cs) rest in
-      let upto : chars (take end text) ≡ chars front ++ chars cluster =
-      ap chars (take_split text start end le) ∙ chars-append front cluster (IsUtf8-take text start u at_start) in
-      omega (arith, h mode (chars front) (chars (drop end text)), ap (columns_of mode) rest, ap (columns_of mode) whole, ap (columns_of mode) upto)
+  tiles_of : take end text ≡ new ++ mid_of
+  tiles_of = w.tiles ∙ ap (λ bs. bs ++ w.mid) came ∙ append_assoc new (encode_utf8 c) w.mid
 
-  pub by_letter : (whole measured own : ℕ) → PartsText (chars cluster) → whole ≡ counted most mode text → measured ≡ counted most mode (drop start text) → own ≡ counted most mode cluster
-      → whole < most → measured < most → own ≤ measured → (measured - own ≤ whole) × (whole - (measured - own) ≡ counted most mode (take end text))
-  by_letter whole measured own h is measured_is own_is low measured_low more =
-      let sum = balanced h in
-      (omega (arith, sum, is, measured_is, own_is, low, measured_low, more), omega (arith, sum, is, measured_is, own_is, low, measured_low, more))
+  mid_chars : chars mid_of ≡ c ∷ chars w.mid
+  mid_chars = chars-append (encode_utf8 c) w.mid (IsUtf8-encode c scalar) ∙ ap (λ cs. cs ++ chars w.mid) (chars-encode_utf8 c (IsUtf8-encode c scalar))
+
+  abbrev rest : List ℕ
+  rest = chars (drop end text)
+
+  pub parts_text_turn : (flag : Bool) → flag ≡ is_flag_letter c → PartsText text end new (Some c) (flags && flag) true
+  parts_text_turn flag is =
+      record {
+        mid = mid_of;
+        front_ok = new_ok;
+        mid_ok = IsUtf8-append (encode_utf8 c) w.mid (IsUtf8-encode c scalar) w.mid_ok;
+        tiles = tiles_of;
+        next_is = ap (λ cs. first (cs ++ rest)) (sym mid_chars);
+        flags_are = λ h. let both = and_parts flags flag h in ap (λ cs. list_all is_flag_letter (cs ++ rest)) mid_chars ∙ and_from (is_flag_letter c) _ (sym is ∙ both.1) (w.flags_are both.0);
+        not_last = λ _. (c, (chars w.mid, mid_chars));
+      }
+
+  pub parts_text_before : length new ≤ end
+  parts_text_before = omega (arith, ap length tiles_of, length-append new mid_of, length-take end text)
+
+  pub parts_text_smaller : length new < length old
+  parts_text_smaller = omega (arith, ap length came, length-append new (encode_utf8 c), (len_utf8_bounds c).0, length-encode c)
+
+  pub parts_text_boundary : IsUtf8 text → IsCharBoundary text end → IsCharBoundary text (length new)
+  parts_text_boundary u at =
+      IsCharBoundary-from_take text (length new) u (omega (arith, parts_text_before, at.0))
+      (subst IsUtf8 (sym (sym (take-take (length new) end text parts_text_before) ∙ ap (take (length new)) tiles_of ∙ take-append_seam new mid_of)) new_ok)
+
+  -- where the two texts that begin here act alike
+  pub parts_text_balance : IsCharBoundary text end → IsUtf8 text → ((mode : GraphemeClusterMode) (cs : List ℕ) → columns_of mode (cs ++ c ∷ (chars w.mid ++ rest)) + columns_of mode (c ∷ chars w.mid) ≡ columns_of mode (cs ++ c ∷ chars w.mid) + columns_of mode (c ∷ (chars w.mid ++ rest)))
+      → (mode : GraphemeClusterMode) → columns_of mode (chars text) + columns_of mode (chars (slice_range text (length new) end)) ≡ columns_of mode (chars (take end text)) + columns_of mode (chars (drop (length new) text))
+  parts_text_balance at u alike mode =
+      let split : text ≡ new ++ (mid_of ++ drop end text) = sym (take-append-drop end text) ∙ ap (λ bs. bs ++ drop end text) tiles_of ∙ append_assoc new mid_of (drop end text) in
+      let later : drop (length new) text ≡ mid_of ++ drop end text = ap (drop (length new)) split ∙ drop-append_seam new (mid_of ++ drop end text) in
+      let size : end - length new ≡ length mid_of = omega (arith, ap length tiles_of, length-append new mid_of, length-take end text, at.0) in
+      let part : slice_range text (length new) end ≡ mid_of = ap (λ n. take n (drop (length new) text)) size ∙ ap (take (length mid_of)) later ∙ take-append_seam mid_of (drop end text) in
+      let mid_ok = IsUtf8-append (encode_utf8 c) w.mid (IsUtf8-encode c scalar) w.mid_ok in
+      let later_chars : chars (drop (length new) text) ≡ c ∷ (chars w.mid ++ rest) = ap chars later ∙ chars-append mid_of (drop end text) mid_ok ∙ ap (λ cs. cs ++ rest) mid_chars in
+      let whole : chars text ≡ chars new ++ c ∷ (chars w.mid ++ rest) = ap chars split ∙ chars-append new (mid_of ++ drop end text) new_ok ∙ ap (λ cs. chars new ++ cs) (sym (ap chars later) ∙ later_chars) in
+      let upto : chars (take end text) ≡ chars new ++ c ∷ chars w.mid = ap chars tiles_of ∙ chars-append new mid_of new_ok ∙ ap (λ cs. chars new ++ cs) mid_chars in
+      omega (arith, alike mode (chars new), ap (columns_of mode) whole, ap (columns_of mode) upto, ap (columns_of mode) later_chars, ap (columns_of mode) (ap chars part ∙ mid_chars))
+
+  first_of_both : {n : Option ℕ} → n ≡ first (chars w.mid ++ rest) → parts c n ≡ true → parts c (first (chars w.mid)) ≡ true
+  first_of_both {n} e h = by (chars w.mid) e
+    where
+      by : (ds : List ℕ) → n ≡ first (ds ++ rest) → parts c (first ds) ≡ true
+      by [] k = parts_bare c n h
+      by (d ∷ ds) k = ap (parts c) (sym k) ∙ h
+
+  alike_parted : parts c next ≡ true → (mode : GraphemeClusterMode) (cs : List ℕ) → columns_of mode (cs ++ c ∷ (chars w.mid ++ rest)) + columns_of mode (c ∷ chars w.mid) ≡ columns_of mode (cs ++ c ∷ chars w.mid) + columns_of mode (c ∷ (chars w.mid ++ rest))
+  alike_parted h = columns_parted c (chars w.mid ++ rest) (chars w.mid) (ap (parts c) (sym w.next_is) ∙ h) (first_of_both w.next_is h)
+
+  alike_inside : inside ≡ true → (is_selected c next || (flags && is_flag_letter c)) ≡ true
+      → (mode : GraphemeClusterMode) (cs : List ℕ) → columns_of mode (cs ++ c ∷ (chars w.mid ++ rest)) + columns_of mode (c ∷ chars w.mid) ≡ columns_of mode (cs ++ c ∷ chars w.mid) + columns_of mode (c ∷ (chars w.mid ++ rest))
+  alike_inside i h =
+      let last = w.not_last i in
+      subst (λ xs. (mode : GraphemeClusterMode) (cs : List ℕ) → columns_of mode (cs ++ c ∷ (xs ++ rest)) + columns_of mode (c ∷ xs) ≡ columns_of mode (cs ++ c ∷ xs) + columns_of mode (c ∷ (xs ++ rest))) (sym last.1.1)
+      (⊎_elim
+      (λ chosen.
+      let both = selected_is next (w.next_is ∙ ap (λ xs. first (xs ++ rest)) last.1.1) chosen in
+      columns_selected c (last.0 ∷ (last.1.0 ++ rest)) (last.0 ∷ last.1.0) both.0 both.1 both.1)
+      (λ lettered.
+      let both = and_parts flags (is_flag_letter c) lettered in
+      let all : list_all is_flag_letter (last.0 ∷ (last.1.0 ++ rest)) ≡ true = ap (λ xs. list_all is_flag_letter (xs ++ rest)) (sym last.1.1) ∙ w.flags_are both.0 in
+      columns_of_flags c last.0 (last.1.0 ++ rest) last.1.0 (and_from (is_flag_letter c) _ both.1 all) (and_from (is_flag_letter c) _ both.1 (front_flags (last.0 ∷ last.1.0) rest all)))
+      (or_cases (is_selected c next) (flags && is_flag_letter c) h))
+    where
+      selected_is : {d : ℕ} (n : Option ℕ) → n ≡ Some d → is_selected c n ≡ true → (is_emoji_variation_base c ≡ true) × (Some d ≡ Some 0xFE0F)
+      selected_is None e k = cc
+      selected_is (Some x) e k = let both = and_parts (is_emoji_variation_base c) (x == 0xFE0F) k in (both.0, sym e ∙ ap Some (eqb-true x 0xFE0F both.1))
+
+      front_flags : (xs ys : List ℕ) → list_all is_flag_letter (xs ++ ys) ≡ true → list_all is_flag_letter xs ≡ true
+      front_flags [] ys k = refl
+      front_flags (x ∷ xs) ys k = let both = and_parts (is_flag_letter x) (list_all is_flag_letter (xs ++ ys)) k in and_from (is_flag_letter x) _ both.0 (front_flags xs ys both.1)
+
+  pub alike : (parts c next || (inside && (is_selected c next || (flags && is_flag_letter c)))) ≡ true
+      → (mode : GraphemeClusterMode) (cs : List ℕ) → columns_of mode (cs ++ c ∷ (chars w.mid ++ rest)) + columns_of mode (c ∷ chars w.mid) ≡ columns_of mode (cs ++ c ∷ chars w.mid) + columns_of mode (c ∷ (chars w.mid ++ rest))
+  alike h = ⊎_elim alike_parted (λ k. let both = and_parts inside _ k in alike_inside both.0 both.1) (or_cases (parts c next) _ h)

@@ -5,7 +5,7 @@ mod ColumnRows
 pub mod CutLaws
 pub mod CutLemmas
 pub mod EditLaws
-pub mod EmojiLemmas
+pub mod FrontLemmas
 pub mod GapLemmas
 pub mod HitLemmas
 pub mod IndentLaws
@@ -19,22 +19,24 @@ pub mod LetterLemmas
 pub mod ListedRanges
 mod MotionRows
 pub mod NewlineLemmas
+pub mod NextRunLemmas
 pub mod PartLemmas
 pub mod PartingLemmas
 pub mod PlainLemmas
 pub mod RangeLemmas
 pub mod ReplayLemmas
 pub mod ReplayedLemmas
+pub mod RestLemmas
 pub mod RowLemmas
 pub mod RowStartLemmas
 pub mod RowStepLemmas
 pub mod RowWalkLemmas
 pub mod SeamLemmas
 pub mod SpanLemmas
-pub mod StandingLemmas
 pub mod StopLemmas
 pub mod TabClusters
 pub mod TabColumns
 pub mod TranspositionLemmas
 pub mod WidthLemmas
 pub mod WordLemmas
+pub mod WordRunLemmas

@@ -56,7 +56,7 @@ backward_from_cluster l m same text n o t e =
     ∙ ap (place_backward n) same
 
 -- a part of what stands before a place, and of what stands after it
-boundary_before : (text : List ℕ) (p i : ℕ) → IsCharBoundary text p → IsCharBoundary (take p text) i → IsCharBoundary text i
+pub boundary_before : (text : List ℕ) (p i : ℕ) → IsCharBoundary text p → IsCharBoundary (take p text) i → IsCharBoundary text i
 boundary_before text p i b h = by_order (le_or_eq i p (omega (arith, h.0, length-take-le p text b.0)))
   where
     le_or_eq : (i p : ℕ) → i ≤ p → (i < p) ⊎ (i ≡ p)

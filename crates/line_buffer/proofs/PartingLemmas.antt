@@ -1,5 +1,6 @@
--- A letter that parts a text: what follows on it changes no columns of what stands before it.
-use Rattle.std.proofs.Common.{◌≡◌, ℕ, ◌+◌, ◌-◌, ◌==◌, ◌<◌, ◌≤◌, nat_le, ⊎_elim, Bool, true, false, not, cond, ◌&&◌, ◌||◌, List, [], ◌∷◌, ◌++◌, length, drop, Option, None, Some, refl, sym, ap, ◌∙◌, subst, arith, append_assoc}
+-- Where a text may be parted. Its columns are read from its end, with a state; so two texts that leave the same state act alike
+-- on what stands before them. A character with columns of its own leaves a state that what follows does not change.
+use Rattle.std.proofs.Common.{◌≡◌, ℕ, ◌+◌, ◌-◌, ◌==◌, ◌<◌, ◌≤◌, nat_le, nat_lt, ◌⊎◌, inl, inr, ⊎_elim, Bool, true, false, not, cond, ◌&&◌, ◌||◌, List, [], ◌∷◌, ◌++◌, length, Option, None, Some, refl, sym, ap, ◌∙◌, subst, arith}
 use Rattle.std.proofs.Math.ListN.{replicate}
 use Rattle.std.specs.Prelude.{sum_by, IsUtf8, chars, encode_utf8}
 use Rattle.std.specs.Char.{IsScalar}
@@ -26,336 +27,612 @@ use Rattle.ucd_bidi.proofs.JoiningGroupLemmas.{joining_group_stepped}
 use Rattle.unicode_width.specs.declared.state.After.{After}
 use Rattle.unicode_width.specs.declared.state.After.TheVariants as after
 use Rattle.unicode_width.specs.declared.state.Change.{Change}
-use Rattle.unicode_width.specs.declared.state.Change.TheVariants.{Same}
+use Rattle.unicode_width.specs.declared.state.Change.TheVariants.{Same, Less, One}
 use Rattle.unicode_width.specs.declared.state.State.{State}
 use Rattle.unicode_width.specs.declared.kind.Kind.{Kind}
 use Rattle.unicode_width.specs.declared.kind.Kind.TheVariants as kinds
 use Rattle.unicode_width.specs.Kind.{kind, is_ligature_transparent, is_text_presentation_base}
-use Rattle.unicode_width.specs.Width.{before, plain, of_kind, alone, joins, before_alef, is_lam, skips_marks, is_joined_emoji, if_kept, is_plain, is_line_feed, is_quote, is_emoji, Reading, first_of, added, joined_or, past_selectors, in_context, past_emoji, step, read_before, str_width}
+use Rattle.unicode_width.specs.Width.{before, plain, single, of_kind, alone, char_width, joins, before_alef, is_lam, is_tifinagh, skips_marks, is_joined_emoji, if_kept, is_plain, is_line_feed, is_quote, is_emoji, Reading, first_of, added, joined_or, past_selectors, in_context, past_emoji, step, read_before, str_width}
 use Rattle.unicode_width.proofs.Computing.{unicode_width}
 use Rattle.unicode_width.proofs.KindLemmas.{kind_stepped, is_ligature_transparent_stepped}
 use Rattle.unicode_width.proofs.Rules.{str_width-append_simple}
 use Rattle.line_buffer.specs.declared.layout.GraphemeClusterMode.{GraphemeClusterMode}
 use Rattle.line_buffer.specs.declared.layout.GraphemeClusterMode.TheVariants.{Unicode, WcWidth, NoZwj}
-use Rattle.line_buffer.specs.Width.{char_columns_of, unjoined, columns_of, AddUp, PartsText}
-use Rattle.line_buffer.proofs.ListedRanges.{in_ranges-some, is_beside, beside, apart}
+use Rattle.line_buffer.specs.Parting.{looks_ahead, is_solid, takes_marks, is_tone, is_bare, parts, first, is_flag_letter}
+use Rattle.line_buffer.specs.Width.{char_columns_of, unjoined, columns_of}
+use Rattle.line_buffer.proofs.ListedRanges.{apart}
 use Rattle.line_buffer.proofs.SeamLemmas.{read-append, read_letters, letters_simple}
-
--- Latin, Greek, Cyrillic, Hebrew, Arabic, Devanagari, Thai, Khmer, kana, Chinese and Korean
-abbrev pub is_parting_letter : ℕ → Bool
-is_parting_letter c =
-    is_in_range 0x41 0x5A c
-    || (is_in_range 0x61 0x7A c
-    || (is_in_range 0xC0 0x24F c
-    || (is_in_range 0x391 0x3C9 c
-    || (is_in_range 0x410 0x44F c
-    || (is_in_range 0x5D0 0x5EA c
-    || (is_in_range 0x620 0x64A c
-    || (is_in_range 0x671 0x6D3 c
-    || (is_in_range 0x904 0x939 c
-    || (is_in_range 0xE01 0xE30 c
-    || (is_in_range 0x1780 0x17B3 c
-    || (is_in_range 0x3041 0x3096 c
-    || (is_in_range 0x30A1 0x30FA c
-    || (is_in_range 0x4E00 0x9FFF c
-    || is_in_range 0xAC00 0xD7A3 c)))))))))))))
 
 -- ---- facts of the tables
 
-abbrev letters : List Range
-letters = (0x41, 0x5A) ∷ (0x61, 0x7A) ∷ (0xC0, 0x24F) ∷ (0x391, 0x3C9) ∷ (0x410, 0x44F) ∷ (0x5D0, 0x5EA) ∷ (0x620, 0x64A) ∷ (0x671, 0x6D3) ∷ (0x904, 0x939) ∷ (0xE01, 0xE30) ∷ (0x1780, 0x17B3) ∷ (0x3041, 0x3096) ∷ (0x30A1, 0x30FA) ∷ (0x4E00, 0x9FFF) ∷ (0xAC00, 0xD7A3) ∷ []
+-- tags, marks, selectors and joiners that rules name: they have no columns
+abbrev zeros : List Range
+zeros = (0x17D2, 0x17D2) ∷ (0x1A17, 0x1A17) ∷ (0x200D, 0x200D) ∷ (0x20E3, 0x20E3) ∷ (0xFE00, 0xFE0F) ∷ (0xE0030, 0xE0039) ∷ (0xE0061, 0xE007A) ∷ (0xE007F, 0xE007F) ∷ []
 
-letters_listed : (c : ℕ) → is_parting_letter c ≡ in_ranges letters c
-letters_listed c = in_ranges-some (0x41, 0x5A) (drop 1 letters) c
+-- the first letters of ligatures, and quotation marks
+abbrev closers : List Range
+closers = (0x5D0, 0x5D0) ∷ (0x1A15, 0x1A15) ∷ (0x2018, 0x2019) ∷ (0x201C, 0x201D) ∷ (0xA4F8, 0xA4FB) ∷ (0x10C32, 0x10C32) ∷ (0x16D63, 0x16D63) ∷ (0x16D69, 0x16D69) ∷ []
 
--- Hebrew lamed
-lamed : List Range
-lamed = (0x5DC, 0x5DC) ∷ []
+-- the flag before tags
+abbrev flag : List Range
+flag = (0x1F3F4, 0x1F3F4) ∷ []
 
--- such a letter has columns, and leaves nothing open before it where it is a lam
-abbrev fits : Kind → Bool → Bool
-fits kinds.Narrow lam = true
-fits kinds.Wide lam = true
-fits kinds.Ambiguous lam = true
-fits kinds.Alef lam = not lam
-fits kinds.KhmerLetter lam = not lam
-fits _ lam = false
+abbrev tones : List Range
+tones = (0x1F3FB, 0x1F3FF) ∷ []
 
-no_emoji : ℕ → Bool
-no_emoji c = not (is_ligature_transparent c || (is_emoji_variation_base c || is_emoji_modifier_base c))
+abbrev is_zero : ℕ → Bool
+is_zero c = is_ligature_transparent c || in_ranges zeros c
+
+abbrev closes : ℕ → Bool
+closes c = is_lam c || in_ranges closers c
+
+abbrev turns : ℕ → Bool
+turns c = in_ranges flag c || (is_emoji_modifier_base c && not (is_emoji_variation_base c))
+
+-- what the rules can make of a character, by its kind
+abbrev fits : Kind → Bool → Bool → Bool → Bool → Bool
+fits kinds.Zero zero close turn tone = true
+fits kinds.Single zero close turn tone = true
+fits kinds.Narrow zero close turn tone = not zero && (not turn && not tone)
+fits kinds.Wide zero close turn tone = not zero && (not turn && not tone)
+fits kinds.Ambiguous zero close turn tone = not zero && (not turn && not tone)
+fits kinds.Emoji zero close turn tone = not zero && (not close && not tone)
+fits kinds.EmojiModifier zero close turn tone = not zero && (not close && (not turn && tone))
+fits _ zero close turn tone = not zero && (not close && (not turn && not tone))
 
 holds : ℕ → Bool
-holds c = not (in_ranges letters c) || (in_ranges lamed c || (fits (kind c) (is_lam c) && no_emoji c))
+holds c = fits (kind c) (is_zero c) (closes c) (turns c) (in_ranges tones c)
 
 unfoldable holds_stepped : Stepped holds
-unfolding holds no_emoji lamed rises_from
+unfolding holds rises_from
 holds_stepped =
-    zip_stepped (λ inside well. not inside || well) (in_ranges letters) (λ c. in_ranges lamed c || (fits (kind c) (is_lam c) && no_emoji c)) (of_ranges letters refl)
-    (zip_stepped (λ a b. a || b) (in_ranges lamed) (λ c. fits (kind c) (is_lam c) && no_emoji c) (of_ranges lamed refl)
-    (zip_stepped (λ a b. a && b) (λ c. fits (kind c) (is_lam c)) no_emoji
-    (zip_stepped (λ k g. fits k (joining_group_eq g Lam)) kind joining_group kind_stepped joining_group_stepped)
-    (zip_stepped (λ t x. not (t || x)) is_ligature_transparent (λ c. is_emoji_variation_base c || is_emoji_modifier_base c) is_ligature_transparent_stepped
-    (zip_stepped (λ b m. b || m) is_emoji_variation_base is_emoji_modifier_base is_emoji_variation_base_stepped is_emoji_modifier_base_stepped))))
+    zip_stepped (λ (f : Bool → Bool) b. f b) (λ c. fits (kind c) (is_zero c) (closes c) (turns c)) (in_ranges tones)
+    (zip_stepped (λ (f : Bool → Bool → Bool) b. f b) (λ c. fits (kind c) (is_zero c) (closes c)) turns
+    (zip_stepped (λ (f : Bool → Bool → Bool → Bool) b. f b) (λ c. fits (kind c) (is_zero c)) closes
+    (zip_stepped fits kind is_zero kind_stepped (zip_stepped (λ a b. a || b) is_ligature_transparent (in_ranges zeros) is_ligature_transparent_stepped (of_ranges zeros refl)))
+    (zip_stepped (λ g b. joining_group_eq g Lam || b) joining_group (in_ranges closers) joining_group_stepped (of_ranges closers refl)))
+    (zip_stepped (λ a b. a || b) (in_ranges flag) (λ c. is_emoji_modifier_base c && not (is_emoji_variation_base c)) (of_ranges flag refl)
+    (zip_stepped (λ a b. a && not b) is_emoji_modifier_base is_emoji_variation_base is_emoji_modifier_base_stepped is_emoji_variation_base_stepped)))
+    (of_ranges tones refl)
 
 all_hold : (c : ℕ) → holds c ≡ true
-unfolding unicode_width tables holds_stepped lamed rises_from
+unfolding unicode_width tables holds_stepped rises_from
 all_hold = Stepped-everywhere holds holds_stepped refl
 
--- ---- what the rules see of a letter
+-- ---- what the rules see of such a character
 
-record Facts (c : ℕ) : Type 0 where
-  wide : ((alone false c).0 == 0) ≡ false
-  dull : is_emoji (kind c) ≡ false
-  closes : is_lam c ≡ true → (alone false c).1 ≡ plain
-  opaque : is_ligature_transparent c ≡ false
-  no_base : is_emoji_variation_base c ≡ false
-  no_modified : is_emoji_modifier_base c ≡ false
-  inside : is_parting_letter c ≡ true
+-- a state before which some characters are read in another way
+abbrev is_shaky_after : After → Bool
+is_shaky_after after.EmojiModifier = true
+is_shaky_after after.ZwjTifinagh = true
+is_shaky_after after.JoinerTifinagh = true
+is_shaky_after _ = false
 
-implied : (a b : Bool) → a ≡ true → (not a || b) ≡ true → b ≡ true
-implied true b e h = h
-implied false b e h = cc
+abbrev is_shaky : State → Bool
+is_shaky s = s.emoji || (s.text || is_shaky_after s.after)
 
-or_second : (a b : Bool) → a ≡ false → (a || b) ≡ true → b ≡ true
-or_second true b e h = cc
-or_second false b e h = h
+-- of a character with this width and state, which is an emoji or not
+record Facts (c : ℕ) (own : ℕ × State) (emoji : Bool) : Type 0 where
+  wide : (own.0 == 0) ≡ false
+  zero : is_zero c ≡ false
+  closing : closes c ≡ true → own.1 ≡ plain
+  turning : turns c ≡ true → own.1 ≡ before after.Emoji
+  joined : emoji ≡ true → own.1 ≡ before after.Emoji
+  toned : is_tone c ≡ true → own.1 ≡ before after.EmojiModifier
+  steady : is_tone c ≡ false → is_shaky own.1 ≡ false
 
-kind_wide : (c : ℕ) (lam : Bool) → fits (kind c) lam ≡ true → ((alone false c).0 == 0) ≡ false
-unfolding alone
-kind_wide c lam h = by (kind c) h
+never : {P : Type 0} (b : Bool) → b ≡ false → b ≡ true → P
+never true h e = cc
+never false h e = cc
+
+unless : {P : Type 0} (b : Bool) → b ≡ true → b ≡ false → P
+unless true h e = cc
+unless false h e = cc
+
+same_tone : (c : ℕ) → in_ranges tones c ≡ is_tone c
+unfolding in_ranges
+same_tone c = by (is_tone c)
   where
-    by : (k : Kind) → fits k lam ≡ true → ((of_kind false c k).0 == 0) ≡ false
-    by kinds.Narrow e = refl
-    by kinds.Wide e = refl
-    by kinds.Ambiguous e = refl
-    by kinds.Alef e = refl
-    by kinds.KhmerLetter e = refl
-    by _ e = cc
+    by : (b : Bool) → (b || false) ≡ b
+    by true = refl
+    by false = refl
 
-kind_dull : (k : Kind) (lam : Bool) → fits k lam ≡ true → is_emoji k ≡ false
-kind_dull kinds.Emoji lam e = cc
-kind_dull _ lam e = refl
+record Clear (zero close turn tone : Bool) : Type 0 where
+  zero_is : zero ≡ false
+  close_is : close ≡ false
+  turn_is : turn ≡ false
+  tone_is : tone ≡ false
 
-kind_closes : (c : ℕ) (lam : Bool) → fits (kind c) lam ≡ true → lam ≡ true → (alone false c).1 ≡ plain
-unfolding alone
-kind_closes c lam h is = by (kind c) h
-  where
-    by : (k : Kind) → fits k lam ≡ true → (of_kind false c k).1 ≡ plain
-    by kinds.Narrow e = refl
-    by kinds.Wide e = refl
-    by kinds.Ambiguous e = refl
-    by kinds.Alef e = cc
-    by kinds.KhmerLetter e = cc
-    by _ e = cc
+clear : (zero close turn tone : Bool) → (not zero && (not close && (not turn && not tone))) ≡ true → Clear zero close turn tone
+clear false false false false h = record { zero_is = refl; close_is = refl; turn_is = refl; tone_is = refl }
+clear true _ _ _ h = cc
+clear false true _ _ h = cc
+clear false false true _ h = cc
+clear false false false true h = cc
 
-listed_facts : (c : ℕ) → is_parting_letter c ≡ true → in_ranges lamed c ≡ false → Facts c
-unfolding holds no_emoji
-listed_facts c h other =
-    let fitting = fits (kind c) (is_lam c) && no_emoji c in
-    let both = and_parts (fits (kind c) (is_lam c)) (no_emoji c)
-    (or_second (in_ranges lamed c) fitting other (implied (in_ranges letters c) (in_ranges lamed c || fitting) (sym (letters_listed c) ∙ h) (all_hold c))) in
-    let clear = or_parts (is_ligature_transparent c) (is_emoji_variation_base c || is_emoji_modifier_base c) (not-true _ both.1) in
-    let no_emoji = or_parts (is_emoji_variation_base c) (is_emoji_modifier_base c) clear.1 in
+-- it joins nothing
+clear_facts : (c : ℕ) (own : ℕ × State) (emoji : Bool) → (own.0 == 0) ≡ false → emoji ≡ false → is_shaky own.1 ≡ false → Clear (is_zero c) (closes c) (turns c) (is_tone c) → Facts c own emoji
+clear_facts c own emoji w no_emoji calm k =
     record {
-      wide = kind_wide c (is_lam c) both.0;
-      dull = kind_dull (kind c) (is_lam c) both.0;
-      closes = kind_closes c (is_lam c) both.0;
-      opaque = clear.0;
-      no_base = no_emoji.0;
-      no_modified = no_emoji.1;
-      inside = h;
+      wide = w;
+      zero = k.zero_is;
+      closing = never (closes c) k.close_is;
+      turning = never (turns c) k.turn_is;
+      joined = never emoji no_emoji;
+      toned = never (is_tone c) k.tone_is;
+      steady = λ _. calm;
     }
 
-lamed_facts : Facts 0x5DC
-unfolding unicode_width
-lamed_facts =
+plain_facts : (c n : ℕ) → (n == 0) ≡ false → (not (is_zero c) && (not (turns c) && not (is_tone c))) ≡ true → Facts c (n, plain) false
+plain_facts c n w h =
+    let a = and_parts (not (is_zero c)) _ h in
+    let b = and_parts (not (turns c)) _ a.1 in
+    record {
+      wide = w;
+      zero = not-true _ a.0;
+      closing = λ _. refl;
+      turning = never (turns c) (not-true _ b.0);
+      joined = λ e. cc;
+      toned = never (is_tone c) (not-true _ b.1);
+      steady = λ _. refl;
+    }
+
+emoji_facts : (c : ℕ) → (not (is_zero c) && (not (closes c) && not (is_tone c))) ≡ true → Facts c (2, before after.Emoji) true
+emoji_facts c h =
+    let a = and_parts (not (is_zero c)) _ h in
+    let b = and_parts (not (closes c)) _ a.1 in
     record {
       wide = refl;
-      dull = refl;
-      closes = λ e. cc;
-      opaque = refl;
-      no_base = refl;
-      no_modified = refl;
-      inside = refl;
+      zero = not-true _ a.0;
+      closing = never (closes c) (not-true _ b.0);
+      turning = λ _. refl;
+      joined = λ _. refl;
+      toned = never (is_tone c) (not-true _ b.1);
+      steady = λ _. refl;
     }
 
-facts : (c : ℕ) → is_parting_letter c ≡ true → Facts c
-unfolding in_ranges lamed
-facts c h = by (c == 0x5DC) refl
-  where
-    by : (b : Bool) → (c == 0x5DC) ≡ b → Facts c
-    by true e = subst Facts (sym (eqb-true c 0x5DC e)) lamed_facts
-    by false e = listed_facts c h (grind (arith, nat_tests, e))
+tone_facts : (c : ℕ) → (not (is_zero c) && (not (closes c) && (not (turns c) && is_tone c))) ≡ true → Facts c (2, before after.EmojiModifier) false
+tone_facts c h =
+    let a = and_parts (not (is_zero c)) _ h in
+    let b = and_parts (not (closes c)) _ a.1 in
+    let d = and_parts (not (turns c)) _ b.1 in
+    record {
+      wide = refl;
+      zero = not-true _ a.0;
+      closing = never (closes c) (not-true _ b.0);
+      turning = never (turns c) (not-true _ d.0);
+      joined = λ e. cc;
+      toned = λ _. refl;
+      steady = unless (is_tone c) d.1;
+    }
 
--- what is none of the letters
-not_in : (a b c : ℕ) → Facts c → list_all (is_beside a b) letters ≡ true → is_in_range a b c ≡ false
-not_in a b c f h = beside a b c letters h (sym (letters_listed c) ∙ f.inside)
+abbrev is_single : Kind → Bool
+is_single kinds.Single = true
+is_single _ = false
 
-is_not : (c d : ℕ) → Facts c → is_parting_letter d ≡ false → (c == d) ≡ false
-is_not c d f h = apart is_parting_letter c d f.inside h
+by_kind : (c : ℕ) (k : Kind) → is_single k ≡ false → fits k (is_zero c) (closes c) (turns c) (is_tone c) ≡ true → ((of_kind false c k).0 == 0) ≡ false → Facts c (of_kind false c k) (is_emoji k)
+by_kind c kinds.Zero s h w = cc
+by_kind c kinds.Single s h w = cc
+by_kind c kinds.Narrow s h w = plain_facts c 1 refl h
+by_kind c kinds.Wide s h w = plain_facts c 2 refl h
+by_kind c kinds.Ambiguous s h w = plain_facts c 1 refl h
+by_kind c kinds.Emoji s h w = emoji_facts c h
+by_kind c kinds.EmojiModifier s h w = tone_facts c h
+by_kind c kinds.Alef s h w = clear_facts c _ _ refl refl refl (clear _ _ _ _ h)
+by_kind c kinds.KhmerLetter s h w = clear_facts c _ _ refl refl refl (clear _ _ _ _ h)
+by_kind c kinds.TifinaghConsonant s h w = clear_facts c _ _ refl refl refl (clear _ _ _ _ h)
+by_kind c kinds.LisuTone s h w = clear_facts c _ _ refl refl refl (clear _ _ _ _ h)
+by_kind c kinds.RegionalIndicator s h w = clear_facts c _ _ refl refl refl (clear _ _ _ _ h)
 
--- ---- what is left to see of the text before a letter
+-- characters with rules of their own
+sound : ℕ → Bool
+sound c =
+    (not ((alone false c).0 == 0) && (not (is_emoji (kind c)) && not (is_shaky (alone false c).1)))
+    && (not (is_zero c) && (not (closes c) && (not (turns c) && not (is_tone c))))
 
-alef_closes : (c : ℕ) → (c == 0x5D0) ≡ true → (alone false c).1 ≡ plain
-unfolding unicode_width
-alef_closes c e = ap (λ d. (alone false d).1) (eqb-true c 0x5D0 e)
+sound_lamed : sound 0x05DC ≡ true
+unfolding unicode_width sound
+sound_lamed = refl
+
+sound_composed : sound 0xFB3C ≡ true
+unfolding unicode_width sound
+sound_composed = refl
+
+sound_beyyal : sound 0x17D8 ≡ true
+unfolding unicode_width sound
+sound_beyyal = refl
+
+sound_ya : sound 0x1A10 ≡ true
+unfolding unicode_width sound
+sound_ya = refl
+
+sound_orkhon : sound 0x10C03 ≡ true
+unfolding unicode_width sound
+sound_orkhon = refl
+
+sound_facts : (c : ℕ) → sound c ≡ true → Facts c (alone false c) (is_emoji (kind c))
+unfolding sound
+sound_facts c h =
+    let a = and_parts (not ((alone false c).0 == 0) && (not (is_emoji (kind c)) && not (is_shaky (alone false c).1))) _ h in
+    let b = and_parts (not ((alone false c).0 == 0)) _ a.0 in
+    let d = and_parts (not (is_emoji (kind c))) _ b.1 in
+    clear_facts c (alone false c) (is_emoji (kind c)) (not-true _ b.0) (not-true _ d.0) (not-true _ d.1) (clear _ _ _ _ a.1)
+
+-- above U+00A0, where the character has columns
+module _ (c : ℕ) (wide : ((alone false c).0 == 0) ≡ false) (apart : looks_ahead c ≡ false) where
+  single_sound : kind c ≡ kinds.Single → sound c ≡ true
+  unfolding alone
+  single_sound is = by-lamed (c == 0x05DC) refl
+    where
+      own : ((single false c).0 == 0) ≡ false
+      own = ap (λ k. (of_kind false c k).0 == 0) (sym is) ∙ wide
+
+      by-orkhon : (b : Bool) → (c == 0x10C03) ≡ b → (c == 0x05DC) ≡ false → (c == 0xFB3C) ≡ false → (c == 0x17D8) ≡ false → (c == 0x1A10) ≡ false → sound c ≡ true
+      by-orkhon true e p q r s = ap sound (eqb-true c 0x10C03 e) ∙ sound_orkhon
+      by-orkhon false e p q r s = grind (arith, nat_tests, own, apart, p, q, r, s, e)
+
+      by-ya : (b : Bool) → (c == 0x1A10) ≡ b → (c == 0x05DC) ≡ false → (c == 0xFB3C) ≡ false → (c == 0x17D8) ≡ false → sound c ≡ true
+      by-ya true e p q r = ap sound (eqb-true c 0x1A10 e) ∙ sound_ya
+      by-ya false e p q r = by-orkhon (c == 0x10C03) refl p q r e
+
+      by-beyyal : (b : Bool) → (c == 0x17D8) ≡ b → (c == 0x05DC) ≡ false → (c == 0xFB3C) ≡ false → sound c ≡ true
+      by-beyyal true e p q = ap sound (eqb-true c 0x17D8 e) ∙ sound_beyyal
+      by-beyyal false e p q = by-ya (c == 0x1A10) refl p q e
+
+      by-composed : (b : Bool) → (c == 0xFB3C) ≡ b → (c == 0x05DC) ≡ false → sound c ≡ true
+      by-composed true e p = ap sound (eqb-true c 0xFB3C e) ∙ sound_composed
+      by-composed false e p = by-beyyal (c == 0x17D8) refl p e
+
+      by-lamed : (b : Bool) → (c == 0x05DC) ≡ b → sound c ≡ true
+      by-lamed true e = ap sound (eqb-true c 0x05DC e) ∙ sound_lamed
+      by-lamed false e = by-composed (c == 0xFB3C) refl e
+
+  facts : Facts c (alone false c) (is_emoji (kind c))
+  unfolding holds alone
+  facts = by (is_single (kind c)) refl
+    where
+      single_is : (k : Kind) → is_single k ≡ true → k ≡ kinds.Single
+      single_is kinds.Single e = refl
+      single_is _ e = cc
+
+      by : (b : Bool) → is_single (kind c) ≡ b → Facts c (alone false c) (is_emoji (kind c))
+      by true e = sound_facts c (single_sound (single_is (kind c) e))
+      by false e = by_kind c (kind c) e (ap (fits (kind c) (is_zero c) (closes c) (turns c)) (sym (same_tone c)) ∙ all_hold c) wide
+
+-- ---- what stands before such a character sees the character alone, except some characters before a shaky state
+
+-- the character's own state; or, before a shaky state, one that is not shaky
+abbrev Left : ℕ → State → Bool → State → Type 0
+Left c own shaky s = (s ≡ own) ⊎ ((shaky && takes_marks c) ≡ true) × ((s ≡ plain) ⊎ (s ≡ before after.Emoji))
+
+abbrev Own : ℕ → ℕ → Option (Change × After) → Type 0
+Own n c j = (joined_or n j (alone false c)).1 ≡ (alone false c).1
+
+own_if : (n c : ℕ) (b : Bool) (change : Change) (a : After) (rest : Option (Change × After)) → (b ≡ true → (alone false c).1 ≡ before a) → Own n c rest → Own n c (cond b (Some (change, a)) rest)
+own_if n c true change a rest h k = sym (h refl)
+own_if n c false change a rest h k = k
+
+own_unless : (n c : ℕ) (b : Bool) (j : Change × After) (rest : Option (Change × After)) → b ≡ false → Own n c rest → Own n c (cond b (Some j) rest)
+own_unless n c true j rest h k = cc
+own_unless n c false j rest h k = k
 
 abbrev nothing_joined : Option (Change × After) → Bool
 nothing_joined None = true
 nothing_joined _ = false
 
-own_state : (n c : ℕ) (j : Option (Change × After)) → nothing_joined j ≡ true → (joined_or n j (alone false c)).1 ≡ (alone false c).1
-own_state n c None e = refl
-own_state n c (Some j) e = cc
+own_none : (n c : ℕ) (j : Option (Change × After)) → nothing_joined j ≡ true → Own n c j
+own_none n c None e = refl
+own_none n c (Some j) e = cc
 
-joins_nothing : (c : ℕ) → Facts c → (a : After) (n : ℕ) → (joined_or n (joins false a c) (alone false c)).1 ≡ (alone false c).1
-unfolding joins before_alef
-joins_nothing c f after.Alef n = by (is_lam c) refl
+own_one : (n c : ℕ) (b : Bool) (change : Change) → (b ≡ true → (alone false c).1 ≡ plain) → Own n c (first_of (cond b (Some (change, after.Nothing)) None) (first_of None None))
+own_one n c true change h = sym (h refl)
+own_one n c false change h = refl
+
+abbrev Outside : List Range → ℕ → Type 0
+Outside [] c = Unit {0}
+Outside (r ∷ rs) c = (is_in_range r.0 r.1 c ≡ false) × Outside rs c
+
+outside : (rs : List Range) (c : ℕ) → in_ranges rs c ≡ false → Outside rs c
+unfolding in_ranges
+outside [] c h = tt
+outside (r ∷ rs) c h = let parts = or_parts (is_in_range r.0 r.1 c) (in_ranges rs c) h in (parts.0, outside rs c parts.1)
+
+none_of : (rs : List Range) (c d : ℕ) → in_ranges rs c ≡ false → in_ranges rs d ≡ true → (c == d) ≡ false
+none_of rs c d h k = by (c == d) refl
   where
-    by : (lam : Bool) → is_lam c ≡ lam → (joined_or n (cond lam (Some (Same, after.Nothing)) (cond (((alone false c).0 == 0) && joining_type_eq (joining_type c) Transparent) (Some (Same, after.Alef)) None)) (alone false c)).1 ≡ (alone false c).1
-    by true e = sym (f.closes e)
-    by false e = ap (λ b. (joined_or n (cond (b && joining_type_eq (joining_type c) Transparent) (Some (Same, after.Alef)) None) (alone false c)).1) f.wide
-joins_nothing c f after.ZwjLamed n = by (c == 0x5D0) refl
-  where
-    by : (b : Bool) → (c == 0x5D0) ≡ b → (joined_or n (first_of {A = Change × After} (cond b (Some (Same, after.Nothing)) None) (first_of None None)) (alone false c)).1 ≡ (alone false c).1
-    by true e = sym (alef_closes c e)
+    by : (b : Bool) → (c == d) ≡ b → b ≡ false
+    by true e = sym k ∙ ap (in_ranges rs) (sym (eqb-true c d e)) ∙ h
     by false e = refl
-joins_nothing c f after.Nothing n = own_state n c (joins false after.Nothing c) refl
-joins_nothing c f after.LineFeed n = own_state n c (joins false after.LineFeed c) refl
-joins_nothing c f after.EmojiModifier n = own_state n c (joins false after.EmojiModifier c) (rw (f.no_modified, is_not c 0x200D f refl))
-joins_nothing c f after.RegionalIndicator n = own_state n c (joins false after.RegionalIndicator c) (rw (not_in 0x1F1E6 0x1F1FF c f refl))
-joins_nothing c f after.RegionalIndicators n = own_state n c (joins false after.RegionalIndicators c) (rw (not_in 0x1F1E6 0x1F1FF c f refl, is_not c 0x200D f refl))
-joins_nothing c f after.Emoji n = own_state n c (joins false after.Emoji c) (rw (is_not c 0x200D f refl))
-joins_nothing c f after.ZwjEmoji n = own_state n c (joins false after.ZwjEmoji c) (rw (is_not c 0x20E3 f refl, not_in 0x1F1E6 0x1F1FF c f refl, not_in 0x1F3FB 0x1F3FF c f refl, is_not c 0xE007F f refl, f.dull))
-joins_nothing c f after.KeycapZwjEmoji n = own_state n c (joins false after.KeycapZwjEmoji c) refl
-joins_nothing c f after.IndicatorZwj n = own_state n c (joins false after.IndicatorZwj c) (rw (not_in 0x1F1E6 0x1F1FF c f refl))
-joins_nothing c f after.EvenIndicatorsZwj n = own_state n c (joins false after.EvenIndicatorsZwj c) (rw (is_not c 0x200D f refl, not_in 0x1F1E6 0x1F1FF c f refl))
-joins_nothing c f after.OddIndicatorsZwj n = own_state n c (joins false after.OddIndicatorsZwj c) (rw (is_not c 0x200D f refl, not_in 0x1F1E6 0x1F1FF c f refl))
-joins_nothing c f after.TagEnd n = own_state n c (joins false after.TagEnd c) (rw (not_in 0xE0061 0xE007A c f refl, not_in 0xE0030 0xE0039 c f refl))
-joins_nothing c f after.TagDigit1 n = own_state n c (joins false after.TagDigit1 c) (rw (not_in 0xE0030 0xE0039 c f refl))
-joins_nothing c f after.TagDigit2 n = own_state n c (joins false after.TagDigit2 c) (rw (not_in 0xE0030 0xE0039 c f refl))
-joins_nothing c f after.TagDigit3 n = own_state n c (joins false after.TagDigit3 c) (rw (is_not c 0x1F3F4 f refl))
-joins_nothing c f after.TagLetter1 n = own_state n c (joins false after.TagLetter1 c) (rw (not_in 0xE0061 0xE007A c f refl, not_in 0xE0030 0xE0039 c f refl))
-joins_nothing c f after.TagLetter2 n = own_state n c (joins false after.TagLetter2 c) (rw (not_in 0xE0061 0xE007A c f refl, not_in 0xE0030 0xE0039 c f refl))
-joins_nothing c f after.TagLetter3 n = own_state n c (joins false after.TagLetter3 c) (rw (not_in 0xE0061 0xE007A c f refl, not_in 0xE0030 0xE0039 c f refl, is_not c 0x1F3F4 f refl))
-joins_nothing c f after.TagLetter4 n = own_state n c (joins false after.TagLetter4 c) (rw (not_in 0xE0061 0xE007A c f refl, not_in 0xE0030 0xE0039 c f refl, is_not c 0x1F3F4 f refl))
-joins_nothing c f after.TagLetter5 n = own_state n c (joins false after.TagLetter5 c) (rw (not_in 0xE0061 0xE007A c f refl, is_not c 0x1F3F4 f refl))
-joins_nothing c f after.TagLetter6 n = own_state n c (joins false after.TagLetter6 c) (rw (is_not c 0x1F3F4 f refl))
-joins_nothing c f after.KiratE n = own_state n c (joins false after.KiratE c) (rw (is_not c 0x16D63 f refl, is_not c 0x16D67 f refl, is_not c 0x16D68 f refl, is_not c 0x16D69 f refl))
-joins_nothing c f after.KiratAi n = own_state n c (joins false after.KiratAi c) (rw (is_not c 0x16D63 f refl))
-joins_nothing c f after.Solidus n = own_state n c (joins false after.Solidus c) refl
-joins_nothing c f after.SolidusAlef n = own_state n c (joins false after.SolidusAlef c) refl
-joins_nothing c f after.Lamed n = own_state n c (joins false after.Lamed c) refl
-joins_nothing c f after.ZwjYa n = own_state n c (joins false after.ZwjYa c) (rw (is_not c 0x1A17 f refl))
-joins_nothing c f after.Ya n = own_state n c (joins false after.Ya c) refl
-joins_nothing c f after.VowelZwjYa n = own_state n c (joins false after.VowelZwjYa c) (rw (is_not c 0x1A15 f refl))
-joins_nothing c f after.Tifinagh n = own_state n c (joins false after.Tifinagh c) (rw (is_not c 0x2D7F f refl))
-joins_nothing c f after.ZwjTifinagh n = own_state n c (joins false after.ZwjTifinagh c) (rw (is_not c 0x2D7F f refl, not_in 0x2D31 0x2D65 c f refl, is_not c 0x2D6F f refl))
-joins_nothing c f after.JoinerTifinagh n = own_state n c (joins false after.JoinerTifinagh c) (rw (not_in 0x2D31 0x2D65 c f refl, is_not c 0x2D6F f refl))
-joins_nothing c f after.LisuTone n = own_state n c (joins false after.LisuTone c) (rw (not_in 0xA4F8 0xA4FB c f refl))
-joins_nothing c f after.OrkhonI n = own_state n c (joins false after.OrkhonI c) refl
-joins_nothing c f after.ZwjOrkhonI n = own_state n c (joins false after.ZwjOrkhonI c) (rw (is_not c 0x10C32 f refl))
-joins_nothing c f after.KhmerLetter n = own_state n c (joins false after.KhmerLetter c) (rw (is_not c 0x17D2 f refl))
 
-settled_unless : (b : Bool) (x y : Reading) (s : State) → b ≡ false → y.1 ≡ s → (cond b x y).1 ≡ s
-settled_unless true x y s e q = cc
-settled_unless false x y s e q = q
+or_right : (a b : Bool) → b ≡ true → (a || b) ≡ true
+or_right true b h = refl
+or_right false b h = h
 
-and_false : (a b : Bool) → b ≡ false → (a && b) ≡ false
-and_false true b e = e
-and_false false b e = refl
+or_left : (a b : Bool) → a ≡ true → (a || b) ≡ true
+or_left true b h = refl
+or_left false b h = cc
 
-no_presentation : (c : ℕ) → is_emoji_variation_base c ≡ false → is_text_presentation_base c ≡ false
-unfolding is_text_presentation_base
-no_presentation c e = grind (arith, e)
+-- ---- cases of a reading
 
-past_selectors_own : (c n : ℕ) (a : After) → Facts c → (past_selectors false c n a).1 ≡ (alone false c).1
-unfolding past_selectors
-past_selectors_own c n a f =
-    let joiner = is_not c 0x200D f refl in
-    settled_unless _ _ _ _ (and_false (skips_marks a) (c == 0x200D) joiner)
-    (settled_unless _ _ _ _ (and_false (skips_marks a) (is_ligature_transparent c) f.opaque) (joins_nothing c f a n))
+left_unless : (c : ℕ) (b : Bool) (x y : Reading) (own : State) (shaky : Bool) → b ≡ false → Left c own shaky y.1 → Left c own shaky (cond b x y).1
+left_unless c true x y own shaky e h = cc
+left_unless c false x y own shaky e h = h
 
-in_context_own : (c n : ℕ) (s : State) → Facts c → (in_context false c n s).1 ≡ (alone false c).1
-unfolding in_context
-in_context_own c n s f =
-    let emoji = is_not c 0xFE0F f refl in
-    let quote = is_not c 0xFE01 f refl in
-    let text = is_not c 0xFE0E f refl in
-    let no_quote : is_quote c ≡ false = rw (not_in 0x2018 0x2019 c f refl, not_in 0x201C 0x201D c f refl) in
-    settled_unless _ _ _ _ emoji
-    (settled_unless _ _ _ _ quote
-    (settled_unless _ _ _ _ text
-    (settled_unless _ _ _ _ (and_false s.text (is_text_presentation_base c) (no_presentation c f.no_base))
-    (settled_unless _ _ _ _ (and_false s.quote (is_quote c) no_quote) (past_selectors_own c n s.after f)))))
+left_if : (c : ℕ) (b : Bool) (x y : Reading) (own : State) (shaky : Bool) → (b ≡ true → Left c own shaky x.1) → Left c own shaky y.1 → Left c own shaky (cond b x y).1
+left_if c true x y own shaky h k = h refl
+left_if c false x y own shaky h k = k
+
+-- before a state that is shaky, if the other is
+weaker : (c : ℕ) (own x : State) (some more : Bool) → (some ≡ true → more ≡ true) → Left c own some x → Left c own more x
+weaker c own x some more h (inl e) = inl e
+weaker c own x some more h (inr e) = let parts = and_parts some (takes_marks c) e.0 in inr (and_from more (takes_marks c) (h parts.0) parts.1, e.1)
+
+module _ (c : ℕ) (f : Facts c (alone false c) (is_emoji (kind c))) (apart : looks_ahead c ≡ false) where
+  zeros_apart : in_ranges zeros c ≡ false
+  zeros_apart = (or_parts (is_ligature_transparent c) (in_ranges zeros c) f.zero).1
+
+  opaque : is_ligature_transparent c ≡ false
+  opaque = (or_parts (is_ligature_transparent c) (in_ranges zeros c) f.zero).0
+
+  no_joiner : (c == 0x200D) ≡ false
+  unfolding in_ranges
+  no_joiner = none_of zeros c 0x200D zeros_apart refl
+
+  no_digit : is_in_range 0xE0030 0xE0039 c ≡ false
+  no_digit = (outside zeros c zeros_apart).1.1.1.1.1.0
+
+  no_letter : is_in_range 0xE0061 0xE007A c ≡ false
+  no_letter = (outside zeros c zeros_apart).1.1.1.1.1.1.0
+
+  no_indicator : is_in_range 0x1F1E6 0x1F1FF c ≡ false
+  no_indicator = grind (arith, nat_tests, apart)
+
+  no_tifinagh_joiner : (c == 0x2D7F) ≡ false
+  no_tifinagh_joiner = grind (arith, nat_tests, apart)
+
+  no_kirat_e : (c == 0x16D67) ≡ false
+  no_kirat_e = grind (arith, nat_tests, apart)
+
+  no_kirat_ai : (c == 0x16D68) ≡ false
+  no_kirat_ai = grind (arith, nat_tests, apart)
+
+  closing_at : (d : ℕ) → in_ranges closers d ≡ true → (c == d) ≡ true → (alone false c).1 ≡ plain
+  closing_at d k e = f.closing (or_right (is_lam c) (in_ranges closers c) (ap (in_ranges closers) (eqb-true c d e) ∙ k))
+
+  closing_lisu : is_in_range 0xA4F8 0xA4FB c ≡ true → (alone false c).1 ≡ plain
+  unfolding in_ranges
+  closing_lisu e = f.closing (or_right (is_lam c) _ (or_right (is_in_range 0x5D0 0x5D0 c) _ (or_right (is_in_range 0x1A15 0x1A15 c) _ (or_right (is_in_range 0x2018 0x2019 c) _ (or_right (is_in_range 0x201C 0x201D c) _ (or_left _ _ e))))))
+
+  closing_quote : is_quote c ≡ true → (alone false c).1 ≡ plain
+  unfolding in_ranges
+  closing_quote e = f.closing (or_right (is_lam c) _ (or_right (is_in_range 0x5D0 0x5D0 c) _ (or_right (is_in_range 0x1A15 0x1A15 c) _ (by (is_in_range 0x2018 0x2019 c) (is_in_range 0x201C 0x201D c) _ e))))
+    where
+      by : (a b d : Bool) → (a || b) ≡ true → (a || (b || d)) ≡ true
+      by true b d h = refl
+      by false true d h = refl
+      by false false d h = cc
+
+  turning_flag : (c == 0x1F3F4) ≡ true → (alone false c).1 ≡ before after.Emoji
+  unfolding in_ranges
+  turning_flag e = f.turning (or_left (in_ranges flag c) _ (ap (in_ranges flag) (eqb-true c 0x1F3F4 e)))
+
+  modified : (n : ℕ) (b : Bool) → is_emoji_modifier_base c ≡ b → Left c (alone false c).1 true (joined_or n (cond b (Some (Same, after.Emoji)) (cond (c == 0x200D) (Some (Same, after.ZwjEmoji)) None)) (alone false c)).1
+  modified n false e = inl (own_unless n c _ _ None no_joiner refl)
+  modified n true e = by (is_emoji_variation_base c) refl
+    where
+      by : (b : Bool) → is_emoji_variation_base c ≡ b → Left c (alone false c).1 true (before after.Emoji)
+      by true base = inr (or_left _ _ base, inr refl)
+      by false base = inl (sym (f.turning (or_right (in_ranges flag c) _ (and_from (is_emoji_modifier_base c) _ e (ap not base)))))
+
+  joined : (n : ℕ) (a b : Bool) → a ≡ false → is_tifinagh c ≡ b → Left c (alone false c).1 true (joined_or n (first_of {A = Change × After} (cond a (Some (One, after.JoinerTifinagh)) (cond b (Some (Same, after.Nothing)) None)) (first_of None None)) (alone false c)).1
+  joined n true b e h = cc
+  joined n false true e h = inr (or_right (is_emoji_variation_base c) _ h, inl refl)
+  joined n false false e h = inl refl
+
+  less : (n : ℕ) (b : Bool) → is_tifinagh c ≡ b → Left c (alone false c).1 true (joined_or n (first_of {A = Change × After} (cond b (Some (Less, after.Nothing)) None) (first_of None None)) (alone false c)).1
+  less n true h = inr (or_right (is_emoji_variation_base c) _ h, inl refl)
+  less n false h = inl refl
+
+  kirat : (n : ℕ) (a b : Bool) → (a ≡ true → (alone false c).1 ≡ plain) → (b ≡ true → (alone false c).1 ≡ plain)
+      → Own n c (first_of (cond a (Some (Same, after.Nothing)) (cond (c == 0x16D67) (Some (Same, after.KiratAi)) (cond (c == 0x16D68) (Some (One, after.KiratE)) (cond b (Some (Same, after.Nothing)) None)))) (first_of None None))
+  kirat n true b h k = sym (h refl)
+  kirat n false b h k = rw (no_kirat_e, no_kirat_ai) (own_one n c b Same k)
+
+  joins_left : (n : ℕ) (a : After) → Left c (alone false c).1 (is_shaky_after a) (joined_or n (joins false a c) (alone false c)).1
+  unfolding joins before_alef in_ranges
+  joins_left n after.Nothing = inl refl
+  joins_left n after.LineFeed = inl refl
+  joins_left n after.EmojiModifier = modified n (is_emoji_modifier_base c) refl
+  joins_left n after.RegionalIndicator = inl (own_none n c (joins false after.RegionalIndicator c) (rw (no_indicator)))
+  joins_left n after.RegionalIndicators = inl (own_none n c (joins false after.RegionalIndicators c) (rw (no_indicator, no_joiner)))
+  joins_left n after.Emoji = inl (own_none n c (joins false after.Emoji c) (rw (no_joiner)))
+  joins_left n after.ZwjEmoji =
+      inl
+      (own_unless n c (c == 0x20E3) _ _ (none_of zeros c 0x20E3 zeros_apart refl)
+      (own_unless n c (is_in_range 0x1F1E6 0x1F1FF c) _ _ no_indicator
+      (own_if n c (is_in_range 0x1F3FB 0x1F3FF c) Same after.EmojiModifier _ f.toned
+      (own_unless n c (c == 0xE007F) _ _ (none_of zeros c 0xE007F zeros_apart refl) (own_if n c (is_emoji (kind c)) Same after.Emoji None f.joined refl)))))
+  joins_left n after.KeycapZwjEmoji = inl refl
+  joins_left n after.IndicatorZwj = inl (own_none n c (joins false after.IndicatorZwj c) (rw (no_indicator)))
+  joins_left n after.EvenIndicatorsZwj = inl (own_none n c (joins false after.EvenIndicatorsZwj c) (rw (no_joiner, no_indicator)))
+  joins_left n after.OddIndicatorsZwj = inl (own_none n c (joins false after.OddIndicatorsZwj c) (rw (no_joiner, no_indicator)))
+  joins_left n after.TagEnd = inl (own_none n c (joins false after.TagEnd c) (rw (no_letter, no_digit)))
+  joins_left n after.TagDigit1 = inl (own_none n c (joins false after.TagDigit1 c) (rw (no_digit)))
+  joins_left n after.TagDigit2 = inl (own_none n c (joins false after.TagDigit2 c) (rw (no_digit)))
+  joins_left n after.TagDigit3 = inl (own_if n c _ Same after.Emoji None turning_flag refl)
+  joins_left n after.TagLetter1 = inl (own_none n c (joins false after.TagLetter1 c) (rw (no_letter, no_digit)))
+  joins_left n after.TagLetter2 = inl (own_none n c (joins false after.TagLetter2 c) (rw (no_letter, no_digit)))
+  joins_left n after.TagLetter3 = inl (own_unless n c _ _ _ no_letter (own_unless n c _ _ _ no_digit (own_if n c _ Same after.Emoji None turning_flag refl)))
+  joins_left n after.TagLetter4 = inl (own_unless n c _ _ _ no_letter (own_unless n c _ _ _ no_digit (own_if n c _ Same after.Emoji None turning_flag refl)))
+  joins_left n after.TagLetter5 = inl (own_unless n c _ _ _ no_letter (own_if n c _ Same after.Emoji None turning_flag refl))
+  joins_left n after.TagLetter6 = inl (own_if n c _ Same after.Emoji None turning_flag refl)
+  joins_left n after.KiratE = inl (kirat n (c == 0x16D63) (c == 0x16D69) (closing_at 0x16D63 refl) (closing_at 0x16D69 refl))
+  joins_left n after.KiratAi = inl (own_one n c (c == 0x16D63) Same (closing_at 0x16D63 refl))
+  joins_left n after.Alef =
+      inl
+      (own_if n c (is_lam c) Same after.Nothing _ (λ e. f.closing (or_left (is_lam c) _ e))
+      (own_unless n c (((alone false c).0 == 0) && joining_type_eq (joining_type c) Transparent) _ None (ap (λ b. b && joining_type_eq (joining_type c) Transparent) f.wide) refl))
+  joins_left n after.Solidus = inl refl
+  joins_left n after.SolidusAlef = inl refl
+  joins_left n after.Lamed = inl refl
+  joins_left n after.ZwjLamed = inl (own_one n c (c == 0x05D0) Same (closing_at 0x05D0 refl))
+  joins_left n after.Ya = inl refl
+  joins_left n after.ZwjYa = inl (own_none n c (joins false after.ZwjYa c) (rw (none_of zeros c 0x1A17 zeros_apart refl)))
+  joins_left n after.VowelZwjYa = inl (own_one n c (c == 0x1A15) Same (closing_at 0x1A15 refl))
+  joins_left n after.Tifinagh = inl (own_none n c (joins false after.Tifinagh c) (rw (no_tifinagh_joiner)))
+  joins_left n after.ZwjTifinagh = joined n (c == 0x2D7F) (is_tifinagh c) no_tifinagh_joiner refl
+  joins_left n after.JoinerTifinagh = less n (is_tifinagh c) refl
+  joins_left n after.LisuTone = inl (own_one n c (is_in_range 0xA4F8 0xA4FB c) Same closing_lisu)
+  joins_left n after.OrkhonI = inl refl
+  joins_left n after.ZwjOrkhonI = inl (own_one n c (c == 0x10C32) Same (closing_at 0x10C32 refl))
+  joins_left n after.KhmerLetter = inl (own_none n c (joins false after.KhmerLetter c) (rw (none_of zeros c 0x17D2 zeros_apart refl)))
+
+  past_selectors_left : (n : ℕ) (a : After) → Left c (alone false c).1 (is_shaky_after a) (past_selectors false c n a).1
+  unfolding past_selectors
+  past_selectors_left n a =
+      left_unless c (skips_marks a && (c == 0x200D)) _ _ _ _ (and_false (skips_marks a) _ no_joiner)
+      (left_unless c (skips_marks a && is_ligature_transparent c) _ _ _ _ (and_false (skips_marks a) _ opaque) (joins_left n a))
+    where
+      and_false : (a b : Bool) → b ≡ false → (a && b) ≡ false
+      and_false true b e = e
+      and_false false b e = refl
+
+  presented : (b : Bool) → (b && is_text_presentation_base c) ≡ true → (b ≡ true) × (takes_marks c ≡ true)
+  unfolding is_text_presentation_base
+  presented b h =
+      let parts = and_parts b _ h in
+      (parts.0, or_left (is_emoji_variation_base c) _ (and_parts (is_emoji_variation_base c) _ (and_parts (is_emoji_variation_base c && _) _ parts.1).0).0)
+
+  in_context_left : (n : ℕ) (s : State) → Left c (alone false c).1 (is_shaky s) (in_context false c n s).1
+  unfolding in_context in_ranges
+  in_context_left n s =
+      left_unless c (c == 0xFE0F) _ _ _ _ (none_of zeros c 0xFE0F zeros_apart refl)
+      (left_unless c (c == 0xFE01) _ _ _ _ (none_of zeros c 0xFE01 zeros_apart refl)
+      (left_unless c (c == 0xFE0E) _ _ _ _ (none_of zeros c 0xFE0E zeros_apart refl)
+      (left_if c (s.text && is_text_presentation_base c) _ _ _ _ (λ e. let k = presented s.text e in inr (and_from (is_shaky s) (takes_marks c) (or_right s.emoji _ (or_left s.text _ k.0)) k.1, inl refl))
+      (left_if c (s.quote && is_quote c) _ _ _ _ (λ e. inl (sym (closing_quote (and_parts s.quote (is_quote c) e).1)))
+      (weaker c _ _ (is_shaky_after s.after) (is_shaky s) (λ e. or_right s.emoji _ (or_right s.text _ e)) (past_selectors_left n s.after))))))
 
 -- what stands before it sees
 unfoldable pub own : ℕ → State
 own c = cond (nat_le c 0xA0) plain (alone false c).1
 
-past_emoji_own : (c n : ℕ) (s : State) → Facts c → (past_emoji false c n s).1 ≡ own c
-unfolding past_emoji own
-past_emoji_own c n s f =
-    let newline = is_not c 0x0A f refl in
-    let no_cr = is_not c 0x0D f refl in
-    settled_unless _ _ _ _ newline (settled_unless _ _ _ _ (no_return (is_line_feed s.after) no_cr) (by (nat_le c 0xA0)))
+module _ (c : ℕ) (solid : is_solid c ≡ true) where
+  no_look : looks_ahead c ≡ false
+  no_look = not-true _ (and_parts (not (looks_ahead c)) _ solid).0
+
+  facts_above : nat_le c 0xA0 ≡ false → Facts c (alone false c) (is_emoji (kind c))
+  unfolding char_width
+  facts_above high =
+      let columns : (nat_le c 0xA0 || nat_lt 0 (char_columns_of c)) ≡ true = (and_parts (not (looks_ahead c)) (nat_le c 0xA0 || nat_lt 0 (char_columns_of c)) solid).1 in
+      facts c (grind (arith, nat_tests, high, columns)) no_look
+
+  past_emoji_left : (n : ℕ) (s : State) → Left c (own c) (is_shaky s) (past_emoji false c n s).1
+  unfolding past_emoji own
+  past_emoji_left n s = by (nat_le c 0xA0) refl
+    where
+      newline : (c == 0x0A) ≡ false
+      newline = grind (arith, nat_tests, no_look)
+
+      by : (b : Bool) → nat_le c 0xA0 ≡ b
+          → Left c (cond b plain (alone false c).1) (is_shaky s) (cond (c == 0x0A) (n + 1, before after.LineFeed) (cond ((c == 0x0D) && is_line_feed s.after) (n, plain) (cond b (n + 1, plain) (cond (is_plain s) (added n (alone false c)) (in_context false c n s))))).1
+      by true e = left_unless c (c == 0x0A) _ _ _ _ newline (left_if c ((c == 0x0D) && is_line_feed s.after) _ _ _ _ (λ _. inl refl) (inl refl))
+      by false e =
+          let no_return : (c == 0x0D) ≡ false = grind (arith, nat_tests, e) in
+          left_unless c (c == 0x0A) _ _ _ _ newline
+          (left_unless c ((c == 0x0D) && is_line_feed s.after) _ _ _ _ (ap (λ b. b && is_line_feed s.after) no_return)
+          (left_if c (is_plain s) _ _ _ _ (λ _. inl refl) (in_context_left c (facts_above e) no_look n s)))
+
+  step_left : (r : Reading) → Left c (own c) (is_shaky r.1) (step false c r).1
+  unfolding step
+  step_left (n, s) =
+      by s.emoji refl
+    where
+      kept : State
+      kept = record (if_kept s) { emoji = false }
+
+      by : (b : Bool) → s.emoji ≡ b → Left c (own c) (is_shaky s) (cond (not b) (past_emoji false c n s) (cond (is_emoji_variation_base c) (n + (cond (is_joined_emoji s.after) 0 2), before after.Emoji) (past_emoji false c n kept))).1
+      by false e = past_emoji_left n s
+      by true e =
+          left_if c (is_emoji_variation_base c) _ _ _ _ (λ base. inr (and_from (is_shaky s) (takes_marks c) (or_left s.emoji _ e) (or_left (is_emoji_variation_base c) _ base), inr refl))
+          (weaker c _ _ (is_shaky kept) (is_shaky s) (λ _. or_left s.emoji _ e) (past_emoji_left n kept))
+
+-- ---- a part's state is that of its first character
+
+steady_own : (c : ℕ) → is_solid c ≡ true → is_tone c ≡ false → is_shaky (own c) ≡ false
+unfolding own
+steady_own c solid bare = by (nat_le c 0xA0) refl
   where
-    no_return : (b : Bool) → (c == 0x0D) ≡ false → ((c == 0x0D) && b) ≡ false
-    no_return b e = ap (λ d. d && b) e
+    by : (b : Bool) → nat_le c 0xA0 ≡ b → is_shaky (cond b plain (alone false c).1) ≡ false
+    by true e = refl
+    by false e = (facts_above c solid e).steady bare
 
-    plain_or : (b : Bool) → (cond b (added n (alone false c)) (in_context false c n s)).1 ≡ (alone false c).1
-    plain_or true = refl
-    plain_or false = in_context_own c n s f
+-- texts that leave a state, after however many columns
+abbrev pub Leaves : State → List ℕ → Type 0
+Leaves s cs = (n : ℕ) → (read_before false cs (n, plain)).1 ≡ s
 
-    by : (b : Bool) → (cond b (n + 1, plain) (cond (is_plain s) (added n (alone false c)) (in_context false c n s))).1 ≡ cond b plain (alone false c).1
-    by true = refl
-    by false = plain_or (is_plain s)
-
-pub step_own : (c : ℕ) (r : Reading) → is_parting_letter c ≡ true → (step false c r).1 ≡ own c
-unfolding step
-step_own c (n, s) h =
-    let f = facts c h in
-    let kept : State = record (if_kept s) { emoji = false } in
-    by (not s.emoji) _ _ (past_emoji_own c n s f) (settled_unless (is_emoji_variation_base c) (n + (cond (is_joined_emoji s.after) 0 2), before after.Emoji) (past_emoji false c n kept) (own c) f.no_base (past_emoji_own c n kept f))
+pub parts_leave : (c : ℕ) (ds : List ℕ) → parts c (first ds) ≡ true → Leaves (own c) (c ∷ ds)
+parts_leave c ds h n =
+    let both = and_parts (is_solid c) (not (takes_marks c) || is_bare (first ds)) h in
+    settled (step_left c both.0 (read_before false ds (n, plain))) (takes_marks c) refl both.1
   where
-    by : (b : Bool) (x y : Reading) → x.1 ≡ own c → y.1 ≡ own c → (cond b x y).1 ≡ own c
-    by true x y p q = p
-    by false x y p q = q
+    steady : {x : State} (d : ℕ) → is_tone d ≡ false → is_solid d ≡ true → (s : State) → Left d (own d) (is_shaky s) x → is_shaky x ≡ false
+    steady d bare solid s (inl e) = ap is_shaky e ∙ steady_own d solid bare
+    steady d bare solid s (inr (_, inl e)) = ap is_shaky e
+    steady d bare solid s (inr (_, inr e)) = ap is_shaky e
 
--- ---- two texts that begin with the same letter, after the same text
+    calm : (ds : List ℕ) → is_bare (first ds) ≡ true → is_shaky (read_before false ds (n, plain)).1 ≡ false
+    calm [] e = refl
+    calm (d ∷ ds) e =
+        let both = and_parts (is_solid d) (not (is_tone d)) e in
+        let r = read_before false ds (n, plain) in
+        steady d (not-true _ both.1) both.0 r.1 (step_left d both.0 r)
 
--- with so many columns after it, read as letters
-after_letters : (c n : ℕ) (ds : List ℕ) → is_parting_letter c ≡ true → read_before false (c ∷ ds) (n, plain) ≡ (str_width false (c ∷ ds) + n, own c)
-unfolding str_width
-after_letters c n ds h =
-    let reading = read_before false (c ∷ ds) (n, plain) in
-    let width : reading.0 ≡ str_width false (c ∷ ds) + n =
-    ap (λ r. (read_before false (c ∷ ds) r).0) (sym (read_letters n)) ∙ ap (λ r. r.0) (sym (read-append (c ∷ ds) (replicate n 97) (0, plain)))
-    ∙ str_width-append_simple false (c ∷ ds) (replicate n 97) (letters_simple n) ∙ ap (λ m. str_width false (c ∷ ds) + m) (ap (λ r. r.0) (read_letters n)) in
-    ap (λ m. (m, reading.1)) width ∙ ap (λ s. (str_width false (c ∷ ds) + n, s)) (step_own c (read_before false ds (n, plain)) h)
+    settled : {x : State} → Left c (own c) (is_shaky (read_before false ds (n, plain)).1) x → (b : Bool) → takes_marks c ≡ b → (not b || is_bare (first ds)) ≡ true → x ≡ own c
+    settled (inl e) b is k = e
+    settled (inr e) false is k = absurd (no (sym (and_parts (is_shaky (read_before false ds (n, plain)).1) (takes_marks c) e.0).1 ∙ is))
+      where
+        no : true ≡ false → ⊥
+        no x = cc
+    settled (inr e) true is k = absurd (no (sym (and_parts (is_shaky (read_before false ds (n, plain)).1) (takes_marks c) e.0).0 ∙ calm ds k))
+      where
+        no : true ≡ false → ⊥
+        no x = cc
 
--- the longer one
-longer_by : (c n : ℕ) (cs ds es : List ℕ) → is_parting_letter c ≡ true → str_width false (c ∷ ds) ≡ str_width false (c ∷ es) + n
-    → str_width false (cs ++ c ∷ ds) ≡ str_width false (cs ++ c ∷ es) + n
-unfolding str_width
-longer_by c n cs ds es h e =
-    let first : read_before false (c ∷ ds) (0, plain) ≡ (str_width false (c ∷ ds) + 0, own c) = after_letters c 0 ds h in
-    let other : read_before false (c ∷ es) (n, plain) ≡ (str_width false (c ∷ es) + n, own c) = after_letters c n es h in
-    let sum : str_width false (c ∷ ds) + 0 ≡ str_width false (c ∷ es) + n = omega (arith, e) in
-    let same : read_before false (c ∷ ds) (0, plain) ≡ read_before false (c ∷ es) (n, plain) = first ∙ ap (λ m. (m, own c)) sum ∙ sym other in
-    ap (λ r. r.0) (read-append cs (c ∷ ds) (0, plain) ∙ ap (read_before false cs) same ∙ sym (read-append cs (c ∷ es) (n, plain)) ∙ ap (read_before false (cs ++ c ∷ es)) (sym (read_letters n)) ∙ sym (read-append (cs ++ c ∷ es) (replicate n 97) (0, plain)))
-    ∙ str_width-append_simple false (cs ++ c ∷ es) (replicate n 97) (letters_simple n) ∙ ap (λ m. str_width false (cs ++ c ∷ es) + m) (ap (λ r. r.0) (read_letters n))
+-- ---- the rule: texts that leave the same state act alike on what stands before them
 
--- before the letter both have the same columns more
+module _ (s : State) (ds es : List ℕ) (p : Leaves s ds) (q : Leaves s es) where
+  after_letters : (n : ℕ) (fs : List ℕ) → Leaves s fs → read_before false fs (n, plain) ≡ (str_width false fs + n, s)
+  unfolding str_width
+  after_letters n fs h =
+      let reading = read_before false fs (n, plain) in
+      let width : reading.0 ≡ str_width false fs + n =
+      ap (λ r. (read_before false fs r).0) (sym (read_letters n)) ∙ ap (λ r. r.0) (sym (read-append fs (replicate n 97) (0, plain)))
+      ∙ str_width-append_simple false fs (replicate n 97) (letters_simple n) ∙ ap (λ m. str_width false fs + m) (ap (λ r. r.0) (read_letters n)) in
+      ap (λ m. (m, reading.1)) width ∙ ap (λ x. (str_width false fs + n, x)) (h n)
+
+  -- the longer one
+  longer_by : (n : ℕ) (cs xs ys : List ℕ) → Leaves s xs → Leaves s ys → str_width false xs ≡ str_width false ys + n
+      → str_width false (cs ++ xs) ≡ str_width false (cs ++ ys) + n
+  unfolding str_width
+  longer_by n cs xs ys h k e =
+      let one : read_before false xs (0, plain) ≡ (str_width false xs + 0, s) = after_letters 0 xs h in
+      let other : read_before false ys (n, plain) ≡ (str_width false ys + n, s) = after_letters n ys k in
+      let sum : str_width false xs + 0 ≡ str_width false ys + n = omega (arith, e) in
+      let same : read_before false xs (0, plain) ≡ read_before false ys (n, plain) = one ∙ ap (λ m. (m, s)) sum ∙ sym other in
+      ap (λ r. r.0) (read-append cs xs (0, plain) ∙ ap (read_before false cs) same ∙ sym (read-append cs ys (n, plain)) ∙ ap (read_before false (cs ++ ys)) (sym (read_letters n)) ∙ sym (read-append (cs ++ ys) (replicate n 97) (0, plain)))
+      ∙ str_width-append_simple false (cs ++ ys) (replicate n 97) (letters_simple n) ∙ ap (λ m. str_width false (cs ++ ys) + m) (ap (λ r. r.0) (read_letters n))
+
+  pub widths_alike : (cs : List ℕ) → str_width false (cs ++ ds) + str_width false es ≡ str_width false (cs ++ es) + str_width false ds
+  widths_alike cs =
+      ⊎_elim
+      (λ (lt : str_width false es < str_width false ds). let n = str_width false ds - str_width false es in omega (arith, longer_by n cs ds es p q (omega (arith, lt))))
+      (λ (le : str_width false ds ≤ str_width false es). let n = str_width false es - str_width false ds in omega (arith, longer_by n cs es ds q p (omega (arith, le))))
+      (cases_lt (str_width false es) (str_width false ds))
+
+-- before both, a text has as many columns more
 abbrev pub Balanced : (List ℕ → ℕ) → List ℕ → List ℕ → List ℕ → Type 0
 Balanced width cs ds es = width (cs ++ ds) + width es ≡ width (cs ++ es) + width ds
-
-parted_width : (c : ℕ) (cs ds es : List ℕ) → is_parting_letter c ≡ true → Balanced (str_width false) cs (c ∷ ds) (c ∷ es)
-parted_width c cs ds es h =
-    ⊎_elim
-    (λ (lt : str_width false (c ∷ es) < str_width false (c ∷ ds)). let n = str_width false (c ∷ ds) - str_width false (c ∷ es) in omega (arith, longer_by c n cs ds es h (omega (arith, lt))))
-    (λ (le : str_width false (c ∷ ds) ≤ str_width false (c ∷ es)). let n = str_width false (c ∷ es) - str_width false (c ∷ ds) in omega (arith, longer_by c n cs es ds h (omega (arith, le))))
-    (cases_lt (str_width false (c ∷ es)) (str_width false (c ∷ ds)))
 
 -- ---- the parts between joiners
 
@@ -419,24 +696,122 @@ module _ (c : ℕ) (ds es : List ℕ) (no_joiner : (c == 0x200D) ≡ false) (par
   columns_balanced WcWidth cs whole = omega (arith, sum_by-append char_columns_of cs (c ∷ ds), sum_by-append char_columns_of cs (c ∷ es))
   columns_balanced NoZwj cs whole = both_sum cs (unjoined (cs ++ c ∷ ds)) (unjoined (cs ++ c ∷ es)) (both_parts cs)
 
-pub columns_parted : (mode : GraphemeClusterMode) (c : ℕ) (cs ds es : List ℕ) → is_parting_letter c ≡ true → Balanced (columns_of mode) cs (c ∷ ds) (c ∷ es)
-columns_parted mode c cs ds es h = columns_balanced c ds es (apart is_parting_letter c 0x200D h refl) (λ bs p q ps qs d e. parted_width c bs p q h) mode cs (parted_width c cs ds es h)
+-- ---- a text that is parted before a character
 
--- a text that begins with one
-pub parts_text : (c : ℕ) → true ≡ is_parting_letter c → (rest : List ℕ) → PartsText (c ∷ rest)
-unfolding PartsText
-parts_text c h rest mode before more = columns_parted mode c before (rest ++ more) rest (sym h)
+-- the text leaves the state, and so does its part up to the first joiner
+record Parts (s : State) (c : ℕ) (ds : List ℕ) : Type 0 where
+  whole : Leaves s (c ∷ ds)
+  part : (p : List ℕ) (ps : List (List ℕ)) → unjoined (c ∷ ds) ≡ (c ∷ p) ∷ ps → Leaves s (c ∷ p)
 
--- ---- letters of flags
+columns_alike : (s : State) (c : ℕ) (ds es : List ℕ) → (c == 0x200D) ≡ false → Parts s c ds → Parts s c es → (mode : GraphemeClusterMode) (cs : List ℕ) → Balanced (columns_of mode) cs (c ∷ ds) (c ∷ es)
+columns_alike s c ds es joiner h k mode cs =
+    columns_balanced c ds es joiner (λ bs p q ps qs d e. widths_alike s (c ∷ p) (c ∷ q) (h.part p ps d) (k.part q qs e) bs) mode cs (widths_alike s (c ∷ ds) (c ∷ es) h.whole k.whole cs)
 
-abbrev pub is_flag_letter : ℕ → Bool
-is_flag_letter = is_in_range 0x1F1E6 0x1F1FF
+-- that part begins as the text does, or ends
+abbrev stops : Option ℕ → Bool
+stops None = true
+stops (Some d) = d == 0x200D
 
-abbrev pub ends_in_flag : List ℕ → Bool
-ends_in_flag [] = false
-ends_in_flag (c ∷ []) = false
-ends_in_flag (c ∷ d ∷ []) = is_flag_letter c && is_flag_letter d
-ends_in_flag (c ∷ d ∷ f ∷ cs) = ends_in_flag (d ∷ f ∷ cs)
+data Begins (ds : List ℕ) : List ℕ → Type 0 where
+  none : stops (first ds) ≡ true → Begins ds []
+  same : (d : ℕ) (p : List ℕ) → first ds ≡ Some d → (d == 0x200D) ≡ false → Begins ds (d ∷ p)
+
+begun_part : (c : ℕ) (ds p : List ℕ) (ps : List (List ℕ)) → (c == 0x200D) ≡ false → unjoined (c ∷ ds) ≡ (c ∷ p) ∷ ps → Begins ds p
+begun_part c ds p ps joiner e = by ds (sym (ap (λ b. cond b ([] ∷ unjoined ds) (onto_first c (unjoined ds))) joiner) ∙ e)
+  where
+    tail_is : {x y : List ℕ} {xs ys : List (List ℕ)} → (c ∷ x) ∷ xs ≡ (c ∷ y) ∷ ys → x ≡ y
+    tail_is e = cc
+
+    onto : (d : ℕ) (ds : List ℕ) (us : List (List ℕ)) → (d == 0x200D) ≡ false → onto_first c (onto_first d us) ≡ (c ∷ p) ∷ ps → Begins (d ∷ ds) p
+    onto d ds [] h e = subst (Begins (d ∷ ds)) (tail_is e) (same d [] refl h)
+    onto d ds (u ∷ us) h e = subst (Begins (d ∷ ds)) (tail_is e) (same d u refl h)
+
+    at : (b : Bool) (d : ℕ) (ds : List ℕ) (us : List (List ℕ)) → (d == 0x200D) ≡ b → onto_first c (cond b ([] ∷ us) (onto_first d us)) ≡ (c ∷ p) ∷ ps → Begins (d ∷ ds) p
+    at true d ds us h e = subst (Begins (d ∷ ds)) (tail_is e) (none h)
+    at false d ds us h e = onto d ds us h e
+
+    by : (ds : List ℕ) → onto_first c (unjoined ds) ≡ (c ∷ p) ∷ ps → Begins ds p
+    by [] e = subst (Begins []) (tail_is e) (none refl)
+    by (d ∷ ds) e = at (d == 0x200D) d ds (unjoined ds) refl e
+
+pub parts_bare : (c : ℕ) (next : Option ℕ) → parts c next ≡ true → parts c None ≡ true
+parts_bare c next h =
+    let both = and_parts (is_solid c) _ h in
+    and_from (is_solid c) (not (takes_marks c) || true) both.0 (or_right (not (takes_marks c)) true refl)
+
+parts_joiner : (c : ℕ) (next : Option ℕ) → parts c next ≡ true → (c == 0x200D) ≡ false
+unfolding unicode_width
+parts_joiner c next h = apart is_solid c 0x200D (and_parts (is_solid c) _ h).0 refl
+
+solid_parts : (c : ℕ) (ds : List ℕ) → parts c (first ds) ≡ true → Parts (own c) c ds
+solid_parts c ds h =
+    record {
+      whole = parts_leave c ds h;
+      part = λ p ps e. parts_leave c p (by p (begun_part c ds p ps (parts_joiner c (first ds) h) e));
+    }
+  where
+    by : (p : List ℕ) → Begins ds p → parts c (first p) ≡ true
+    by _ (none k) = parts_bare c (first ds) h
+    by _ (same d p e k) = ap (parts c) (sym e) ∙ h
+
+-- before a character with columns of its own
+pub columns_parted : (c : ℕ) (ds es : List ℕ) → parts c (first ds) ≡ true → parts c (first es) ≡ true → (mode : GraphemeClusterMode) (cs : List ℕ) → Balanced (columns_of mode) cs (c ∷ ds) (c ∷ es)
+columns_parted c ds es h k = columns_alike (own c) c ds es (parts_joiner c (first ds) h) (solid_parts c ds h) (solid_parts c es k)
+
+-- ---- before a character that a selector makes an emoji
+
+selector_past : (n : ℕ) (s : State) → (past_emoji false 0xFE0F n s).1.emoji ≡ true
+unfolding unicode_width
+selector_past n s = by (is_plain s)
+  where
+    by : (b : Bool) → (cond b (added n (alone false 0xFE0F)) (n, record (cond (is_joined_emoji s.after) s (if_kept s)) { emoji = true })).1.emoji ≡ true
+    by true = refl
+    by false = refl
+
+selector_emoji : (r : Reading) → (step false 0xFE0F r).1.emoji ≡ true
+unfolding unicode_width
+selector_emoji (n, s) = by s.emoji
+  where
+    kept : State
+    kept = record (if_kept s) { emoji = false }
+
+    by : (b : Bool) → (cond (not b) (past_emoji false 0xFE0F n s) (past_emoji false 0xFE0F n kept)).1.emoji ≡ true
+    by true = selector_past n kept
+    by false = selector_past n s
+
+selected_leaves : (c : ℕ) (ds : List ℕ) → is_emoji_variation_base c ≡ true → first ds ≡ Some 0xFE0F → Leaves (before after.Emoji) (c ∷ ds)
+unfolding step
+selected_leaves c [] h e n = cc
+selected_leaves c (d ∷ ds) h e n = made (read_before false (d ∷ ds) (n, plain)) (ap (λ x. (step false x (read_before false ds (n, plain))).1.emoji) (some e) ∙ selector_emoji (read_before false ds (n, plain)))
+  where
+    some : Some d ≡ Some 0xFE0F → d ≡ 0xFE0F
+    some e = cc
+
+    made : (r : Reading) → r.1.emoji ≡ true → (step false c r).1 ≡ before after.Emoji
+    made (n, s) k = rw (k, h) refl
+
+base_joiner : (c : ℕ) → is_emoji_variation_base c ≡ true → (c == 0x200D) ≡ false
+unfolding unicode_width
+base_joiner c h = apart is_emoji_variation_base c 0x200D h refl
+
+selected_parts : (c : ℕ) (ds : List ℕ) → is_emoji_variation_base c ≡ true → first ds ≡ Some 0xFE0F → Parts (before after.Emoji) c ds
+selected_parts c ds h e =
+    record {
+      whole = selected_leaves c ds h e;
+      part = λ p ps is. selected_leaves c p h (by p (begun_part c ds p ps (base_joiner c h) is));
+    }
+  where
+    no : true ≡ false → ⊥
+    no x = cc
+
+    by : (p : List ℕ) → Begins ds p → first p ≡ Some 0xFE0F
+    by _ (none k) = absurd (no (sym k ∙ ap stops e))
+    by _ (same d p k j) = sym k ∙ e
+
+pub columns_selected : (c : ℕ) (ds es : List ℕ) → is_emoji_variation_base c ≡ true → first ds ≡ Some 0xFE0F → first es ≡ Some 0xFE0F → (mode : GraphemeClusterMode) (cs : List ℕ) → Balanced (columns_of mode) cs (c ∷ ds) (c ∷ es)
+columns_selected c ds es h d e = columns_alike (before after.Emoji) c ds es (base_joiner c h) (selected_parts c ds h d) (selected_parts c es h e)
+
+-- ---- before two letters of a flag, if only such letters follow
 
 flag_letters : List Range
 flag_letters = (0x1F1E6, 0x1F1FF) ∷ []
@@ -456,9 +831,13 @@ all_flags_hold : (c : ℕ) → flags_hold c ≡ true
 unfolding unicode_width tables flags_stepped flag_letters rises_from
 all_flags_hold = Stepped-everywhere flags_hold flags_stepped refl
 
+implied_by : (a b : Bool) → a ≡ true → (not a || b) ≡ true → b ≡ true
+implied_by true b e h = h
+implied_by false b e h = cc
+
 flag_alone : (c : ℕ) → is_flag_letter c ≡ true → alone false c ≡ (1, before after.RegionalIndicator)
 unfolding alone flags_hold in_ranges flag_letters
-flag_alone c h = by (kind c) (implied (in_ranges flag_letters c) (is_indicator_kind (kind c)) (grind (arith, nat_tests, h)) (all_flags_hold c))
+flag_alone c h = by (kind c) (implied_by (in_ranges flag_letters c) (is_indicator_kind (kind c)) (grind (arith, nat_tests, h)) (all_flags_hold c))
   where
     by : (k : Kind) → is_indicator_kind k ≡ true → of_kind false c k ≡ (1, before after.RegionalIndicator)
     by kinds.RegionalIndicator e = refl
@@ -493,10 +872,6 @@ read_flags n (c ∷ d ∷ f ∷ cs) h =
     let e : n + length (d ∷ f ∷ cs) + 1 ≡ n + length (c ∷ d ∷ f ∷ cs) = omega arith in
     ap (step false c) (read_flags n (d ∷ f ∷ cs) parts.1) ∙ later_flag c (n + length (d ∷ f ∷ cs)) parts.0 ∙ ap (λ m. (m, before after.RegionalIndicators)) e
 
-flags_width : (cs : List ℕ) → list_all is_flag_letter cs ≡ true → str_width false cs ≡ length cs
-unfolding str_width
-flags_width cs h = let e : 0 + length cs ≡ length cs = omega arith in ap (λ r. r.0) (read_flags 0 cs h) ∙ e
-
 flags_unjoined : (cs : List ℕ) → list_all is_flag_letter cs ≡ true → unjoined cs ≡ cs ∷ []
 flags_unjoined [] h = refl
 flags_unjoined (c ∷ cs) h =
@@ -507,89 +882,29 @@ flags_unjoined (c ∷ cs) h =
     no_joiner : (c : ℕ) → is_flag_letter c ≡ true → (c == 0x200D) ≡ false
     no_joiner c h = apart is_flag_letter c 0x200D h refl
 
--- two of them part a text where only such letters follow
-module _ (a b : ℕ) (ds : List ℕ) (h : list_all is_flag_letter (a ∷ b ∷ ds) ≡ true) (k : list_all is_flag_letter (a ∷ b ∷ []) ≡ true) where
-  flags_balanced : (cs : List ℕ) → Balanced (str_width false) cs (a ∷ b ∷ ds) (a ∷ b ∷ [])
-  unfolding str_width
-  flags_balanced cs =
-      let n = length ds in
-      let first : read_before false (a ∷ b ∷ ds) (0, plain) ≡ (0 + length (a ∷ b ∷ ds), before after.RegionalIndicators) = read_flags 0 (a ∷ b ∷ ds) h in
-      let other : read_before false (a ∷ b ∷ []) (n, plain) ≡ (n + 2, before after.RegionalIndicators) = read_flags n (a ∷ b ∷ []) k in
-      let sum : 0 + length (a ∷ b ∷ ds) ≡ n + 2 = omega arith in
-      let same : read_before false (a ∷ b ∷ ds) (0, plain) ≡ read_before false (a ∷ b ∷ []) (n, plain) = first ∙ ap (λ m. (m, before after.RegionalIndicators)) sum ∙ sym other in
-      let longer : str_width false (cs ++ a ∷ b ∷ ds) ≡ str_width false (cs ++ a ∷ b ∷ []) + n =
-      ap (λ r. r.0) (read-append cs (a ∷ b ∷ ds) (0, plain) ∙ ap (read_before false cs) same ∙ sym (read-append cs (a ∷ b ∷ []) (n, plain)) ∙ ap (read_before false (cs ++ a ∷ b ∷ [])) (sym (read_letters n)) ∙ sym (read-append (cs ++ a ∷ b ∷ []) (replicate n 97) (0, plain)))
-      ∙ str_width-append_simple false (cs ++ a ∷ b ∷ []) (replicate n 97) (letters_simple n) ∙ ap (λ m. str_width false (cs ++ a ∷ b ∷ []) + m) (ap (λ r. r.0) (read_letters n)) in
-      omega (arith, longer, flags_width (a ∷ b ∷ ds) h, flags_width (a ∷ b ∷ []) k)
+flags_leave : (a b : ℕ) (ds : List ℕ) → list_all is_flag_letter (a ∷ b ∷ ds) ≡ true → Leaves (before after.RegionalIndicators) (a ∷ b ∷ ds)
+flags_leave a b ds h n = ap (λ r. r.1) (read_flags n (a ∷ b ∷ ds) h ∙ ap (λ s. (n + length (a ∷ b ∷ ds), s)) (by ds))
+  where
+    by : (ds : List ℕ) → after_flags (a ∷ b ∷ ds) ≡ before after.RegionalIndicators
+    by ds = refl
 
-flags_balanced_parts : (a b : ℕ) (ds : List ℕ) → list_all is_flag_letter (a ∷ b ∷ ds) ≡ true → list_all is_flag_letter (a ∷ b ∷ []) ≡ true → PartsBalanced a (b ∷ ds) (b ∷ [])
-flags_balanced_parts a b ds h k cs p q ps qs d e =
-    let one : p ≡ b ∷ ds = part_is (sym d ∙ flags_unjoined (a ∷ b ∷ ds) h) in
-    let other : q ≡ b ∷ [] = part_is (sym e ∙ flags_unjoined (a ∷ b ∷ []) k) in
-    subst (λ x. Balanced (str_width false) cs (a ∷ x) (a ∷ q)) (sym one) (subst (λ y. Balanced (str_width false) cs (a ∷ b ∷ ds) (a ∷ y)) (sym other) (flags_balanced a b ds h k cs))
+flags_parts : (a b : ℕ) (ds : List ℕ) → list_all is_flag_letter (a ∷ b ∷ ds) ≡ true → Parts (before after.RegionalIndicators) a (b ∷ ds)
+flags_parts a b ds h =
+    record {
+      whole = flags_leave a b ds h;
+      part = λ p ps e. subst (λ x. Leaves (before after.RegionalIndicators) (a ∷ x)) (sym (part_is (sym e ∙ flags_unjoined (a ∷ b ∷ ds) h))) (flags_leave a b ds h);
+    }
   where
     part_is : {x y : List ℕ} {zs : List (List ℕ)} → (a ∷ x) ∷ zs ≡ (a ∷ y) ∷ [] → x ≡ y
     part_is e = cc
 
--- a text's end of two letters of a flag
-record FlagEnd (cs : List ℕ) : Type 0 where
-  front : List ℕ
-  one : ℕ
-  other : ℕ
-  is : cs ≡ front ++ one ∷ other ∷ []
-  flags : list_all is_flag_letter (one ∷ other ∷ []) ≡ true
+pub columns_of_flags : (a b : ℕ) (ds es : List ℕ) → list_all is_flag_letter (a ∷ b ∷ ds) ≡ true → list_all is_flag_letter (a ∷ b ∷ es) ≡ true → (mode : GraphemeClusterMode) (cs : List ℕ) → Balanced (columns_of mode) cs (a ∷ b ∷ ds) (a ∷ b ∷ es)
+columns_of_flags a b ds es h k =
+    columns_alike (before after.RegionalIndicators) a (b ∷ ds) (b ∷ es) (apart is_flag_letter a 0x200D (and_parts (is_flag_letter a) _ h).0 refl) (flags_parts a b ds h) (flags_parts a b es k)
 
-flag_end : (cs : List ℕ) → ends_in_flag cs ≡ true → FlagEnd cs
-flag_end [] h = cc
-flag_end (c ∷ []) h = cc
-flag_end (c ∷ d ∷ []) h =
-    let parts = and_parts (is_flag_letter c) (is_flag_letter d) h in
-    record { front = []; one = c; other = d; is = refl; flags = and_from (is_flag_letter c) (is_flag_letter d && true) parts.0 (and_from (is_flag_letter d) true parts.1 refl) }
-flag_end (c ∷ d ∷ f ∷ cs) h =
-    let k = flag_end (d ∷ f ∷ cs) h in
-    record { front = c ∷ k.front; one = k.one; other = k.other; is = ap (λ l. c ∷ l) k.is; flags = k.flags }
-
-unjoined_flags : (cs : List ℕ) → list_all is_flag_letter cs ≡ true → sum_by (str_width false) (unjoined cs) ≡ length cs
-unjoined_flags cs h = ap (sum_by (str_width false)) (flags_unjoined cs h) ∙ omega (arith, sum_by-cons (str_width false) cs [], flags_width cs h)
-
-pub columns_of_flags : (cs : List ℕ) → ends_in_flag cs ≡ true → (mode : GraphemeClusterMode) (ds : List ℕ) → list_all is_flag_letter ds ≡ true → AddUp mode cs ds
-columns_of_flags cs h WcWidth ds k = sum_by-append char_columns_of cs ds
-columns_of_flags cs h Unicode ds k =
-    let e = flag_end cs h in
-    let parts = and_parts (is_flag_letter e.one) (is_flag_letter e.other && true) e.flags in
-    let more = and_from (is_flag_letter e.one) (is_flag_letter e.other && list_all is_flag_letter ds) parts.0 (and_from (is_flag_letter e.other) (list_all is_flag_letter ds) (and_parts (is_flag_letter e.other) true parts.1).0 k) in
-    let sum = flags_balanced e.one e.other ds more e.flags e.front in
-    let whole : str_width false (cs ++ ds) ≡ str_width false (e.front ++ e.one ∷ e.other ∷ ds) = ap (str_width false) (ap (λ l. l ++ ds) e.is ∙ append_assoc e.front (e.one ∷ e.other ∷ []) ds) in
-    omega (arith, sum, whole, ap (str_width false) e.is, flags_width (e.one ∷ e.other ∷ ds) more, flags_width (e.one ∷ e.other ∷ []) e.flags, flags_width ds k)
-columns_of_flags cs h NoZwj ds k =
-    let e = flag_end cs h in
-    let parts = and_parts (is_flag_letter e.one) (is_flag_letter e.other && true) e.flags in
-    let more = and_from (is_flag_letter e.one) (is_flag_letter e.other && list_all is_flag_letter ds) parts.0 (and_from (is_flag_letter e.other) (list_all is_flag_letter ds) (and_parts (is_flag_letter e.other) true parts.1).0 k) in
-    let joiner : (e.one == 0x200D) ≡ false = no_joiner_flag e.one parts.0 in
-    let sum = columns_balanced e.one (e.other ∷ ds) (e.other ∷ []) joiner (flags_balanced_parts e.one e.other ds more e.flags) NoZwj e.front (flags_balanced e.one e.other ds more e.flags e.front) in
-    let whole : columns_of NoZwj (cs ++ ds) ≡ columns_of NoZwj (e.front ++ e.one ∷ e.other ∷ ds) = ap (columns_of NoZwj) (ap (λ l. l ++ ds) e.is ∙ append_assoc e.front (e.one ∷ e.other ∷ []) ds) in
-    omega (arith, sum, whole, ap (columns_of NoZwj) e.is, unjoined_flags (e.one ∷ e.other ∷ ds) more, unjoined_flags (e.one ∷ e.other ∷ []) e.flags, unjoined_flags ds k)
-  where
-    no_joiner_flag : (c : ℕ) → is_flag_letter c ≡ true → (c == 0x200D) ≡ false
-    no_joiner_flag c h = apart is_flag_letter c 0x200D h refl
-
--- ---- by the text's last two characters
-
-ends_after : (xs : List ℕ) (c d : ℕ) → ends_in_flag (xs ++ c ∷ d ∷ []) ≡ (is_flag_letter c && is_flag_letter d)
-ends_after [] c d = refl
-ends_after (x ∷ []) c d = refl
-ends_after (x ∷ y ∷ []) c d = refl
-ends_after (x ∷ y ∷ z ∷ xs) c d = ends_after (y ∷ z ∷ xs) c d
+-- ---- a text's last character
 
 pub chars_last : (text front : List ℕ) (last : ℕ) → IsUtf8 text → IsScalar last → text ≡ front ++ encode_utf8 last → IsUtf8 front × (chars text ≡ chars front ++ last ∷ [])
 chars_last text front last u s came =
     let before = IsUtf8-before text front (encode_utf8 last) u (IsUtf8-encode last s) came in
     (before, ap chars came ∙ chars-append front (encode_utf8 last) before ∙ ap (λ cs. chars front ++ cs) (chars-encode_utf8 last (IsUtf8-encode last s)))
-
-pub two_flag_letters : (text most front : List ℕ) (last previous : ℕ) → IsUtf8 text → IsScalar last → IsScalar previous → text ≡ most ++ encode_utf8 last → most ≡ front ++ encode_utf8 previous
-    → is_flag_letter previous ≡ true → is_flag_letter last ≡ true → ends_in_flag (chars text) ≡ true
-two_flag_letters text most front last previous u s r came earlier p q =
-    let first = chars_last text most last u s came in
-    let second = chars_last most front previous first.0 r earlier in
-    ap ends_in_flag (first.1 ∙ ap (λ cs. cs ++ last ∷ []) second.1 ∙ append_assoc (chars front) (previous ∷ []) (last ∷ [])) ∙ ends_after (chars front) previous last
-    ∙ and_from (is_flag_letter previous) (is_flag_letter last) p q

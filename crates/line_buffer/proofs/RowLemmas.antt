@@ -1,11 +1,9 @@
 -- Where a row starts and ends, and that both lie between characters.
-use Rattle.std.proofs.Common.{◌≡◌, ℕ, suc, ◌+◌, ◌-◌, ◌<◌, ◌≤◌, ◌⊎◌, inl, inr, Bool, true, false, cond, List, [], ◌∷◌, length, get_or, reverse, take, drop, refl, sym, ap, ◌∙◌, subst, arith}
-use Rattle.std.specs.Prelude.{IsUtf8, IsCharBoundary, slice_range}
-use Rattle.std.specs.List.{prefix_len, suffix_len}
+use Rattle.std.proofs.Common.{◌≡◌, ℕ, suc, ◌+◌, ◌-◌, ◌<◌, ◌⊎◌, inl, inr, Bool, true, false, cond, List, [], ◌∷◌, length, get_or, reverse, take, drop, refl, sym, ap, ◌∙◌, subst, arith}
+use Rattle.std.specs.Prelude.{IsUtf8, IsCharBoundary}
+use Rattle.std.specs.List.{prefix_len}
 use Rattle.std.proofs.lemmas.List.{get_or-take, get_or-drop, get_or-reverse, length-reverse, length-drop, length-take-le}
 use Rattle.std.proofs.lemmas.Str.{IsCharBoundary-before_ascii, IsCharBoundary-after_ascii, IsCharBoundary-start, IsCharBoundary-end}
-use Rattle.line_buffer.specs.Line.{Line}
-use Rattle.line_buffer.proofs.PartLemmas.{slice_range-back}
 use Rattle.line_buffer.specs.Rows.{row_start, row_end, is_in_row}
 
 -- the bytes of a row are all there are, or a newline follows
@@ -21,12 +19,6 @@ prefix_len-stops (x ∷ xs) = by_test (is_in_row x) refl (prefix_len-stops xs)
     by_test true e (inl q) = inl (omega (arith, q))
     by_test true e (inr h) = inr (omega (arith, h.0), ap (λ k. get_or (x ∷ xs) k 0) (let k : 1 + n ≡ suc n = omega arith in k) ∙ h.1)
     by_test false e h = inr (omega arith, grind (arith, e))
-
-pub prefix_len-bound : (xs : List ℕ) → prefix_len is_in_row xs ≤ length xs
-prefix_len-bound xs = elim (prefix_len-stops xs) [ inl e ↦ omega (arith, e) | inr h ↦ omega (arith, h.0) ]
-
-pub suffix_len-bound : (text : List ℕ) (at : ℕ) → at ≤ length text → suffix_len is_in_row (take at text) ≤ at
-suffix_len-bound text at l = omega (arith, prefix_len-bound (reverse (take at text)), length-reverse (take at text), length-take-le at text l)
 
 pub row_end-boundary : (text : List ℕ) (at : ℕ) → IsCharBoundary text at → IsCharBoundary text (row_end text at)
 row_end-boundary text at b = elim (prefix_len-stops (drop at text)) [
@@ -57,16 +49,3 @@ row_start-boundary text at u b = elim (prefix_len-stops (reverse front)) [
     newline l e =
         sym (get_or-take at text (at - 1 - n) 0 (omega (arith, l, whole)))
         ∙ ap (λ k. get_or front (k - 1 - n) 0) (sym long) ∙ sym (get_or-reverse front n 0 (omega (arith, l, whole, long))) ∙ e
-
--- the same, where a method of the line counted the bytes of `raw`
-pub row_end_counted : (l m : Line) → l ≡ m → IsCharBoundary l.text l.place → (raw : List ℕ) → raw ≡ l.text → (n : ℕ) → n ≡ prefix_len is_in_row (slice_range raw l.place (length raw))
-    → IsCharBoundary m.text (l.place + n)
-row_end_counted l m same b raw e n counted =
-    subst (λ x. IsCharBoundary x.text (l.place + n)) same
-    (subst (λ k. IsCharBoundary l.text (l.place + k)) (sym (counted ∙ ap (prefix_len is_in_row) (slice_range-back raw l.place ∙ ap (drop l.place) e))) (row_end-boundary l.text l.place b))
-
-pub row_start_counted : (l m : Line) → l ≡ m → IsUtf8 l.text → IsCharBoundary l.text l.place → (raw : List ℕ) → raw ≡ l.text → (n : ℕ) → n ≡ suffix_len is_in_row (take l.place raw)
-    → IsCharBoundary m.text (l.place - n)
-row_start_counted l m same u b raw e n counted =
-    subst (λ x. IsCharBoundary x.text (l.place - n)) same
-    (subst (λ k. IsCharBoundary l.text (l.place - k)) (sym (counted ∙ ap (suffix_len is_in_row) (ap (take l.place) e))) (row_start-boundary l.text l.place u b))

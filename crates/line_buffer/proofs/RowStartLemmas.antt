@@ -1,10 +1,13 @@
 -- Where the rows of a text start and end.
-use Rattle.std.proofs.Common.{◌≡◌, ◌≢◌, ℕ, zero, suc, ◌+◌, ◌-◌, ◌<◌, ◌≤◌, ◌==◌, Bool, true, false, not, cond, List, [], ◌∷◌, ◌++◌, length, map, reverse, filter, take, drop, get_or, refl, sym, ap, ◌∙◌, arith, le_refl, length-take, length-drop, take_all, take-take, take-append-drop, get_or-take, get_or-drop}
-use Rattle.std.specs.List.{prefix_len, suffix_len, enumerate_from}
-use Rattle.std.proofs.lemmas.List.{reverse-append, length-reverse, get_or-reverse, drop_more}
+use Rattle.std.proofs.Common.{◌⊎◌, inl, inr, subst, zero-add, ◌≡◌, ◌≢◌, ℕ, zero, suc, ◌+◌, ◌-◌, ◌<◌, ◌≤◌, ◌==◌, Bool, true, false, not, cond, List, [], ◌∷◌, ◌++◌, length, map, reverse, filter, take, drop, get_or, refl, sym, ap, ◌∙◌, arith, le_refl, length-take, length-drop, take_all, take-take, take-append-drop, get_or-take, get_or-drop}
+use Rattle.std.specs.Prelude.{IsUtf8, IsCharBoundary}
+use Rattle.std.specs.List.{list_all, prefix_len, suffix_len, enumerate_from}
+use Rattle.std.proofs.lemmas.List.Folds.{list_all_at}
+use Rattle.std.proofs.lemmas.Str.{IsCharBoundary-after_ascii, IsCharBoundary-before_ascii, IsCharBoundary-start, IsCharBoundary-end}
+use Rattle.std.proofs.lemmas.List.{reverse-append, length-reverse, get_or-reverse, drop_more, length-take-le}
 use Rattle.std.proofs.lemmas.List.Sums.{prefix_len_is, prefix_len_passes, prefix_len_stops, prefix_len-le-length, suffix_len_is}
 use borrow.Author.Tests.{ne_eqb, eq-eqb}
-use Rattle.line_buffer.specs.Rows.{is_in_row, row_start, behind_newlines, row_starts, row_close}
+use Rattle.line_buffer.specs.Rows.{FindsPlace, is_in_row, row_start, row_end, behind_newlines, row_starts, row_close}
 
 -- ---- the first newline, and the last
 
@@ -31,15 +34,51 @@ not_newline b h e = grind (arith)
 is_newline : (b : ℕ) → is_in_row b ≡ false → b ≡ 10
 is_newline b h = grind (arith)
 
-pub opens_some : (bs : List ℕ) (k : ℕ) → (k < length bs) × (get_or bs k 0 ≡ 10) × ((i : ℕ) → k < i → i < length bs → get_or bs i 0 ≢ 10) → OpensLastRow bs (k + 1)
-opens_some bs k h = record {
-  fits = omega (arith, h.0);
-  newline = λ l. let e : k + 1 - 1 ≡ k = omega arith in ap (λ j. get_or bs j 0) e ∙ h.1;
-  none = λ i l m. h.2 i (omega arith) m;
-}
+-- a row by the bytes that are none of a newline
+in_row_at : (bs : List ℕ) (i : ℕ) → list_all is_in_row bs ≡ true → i < length bs → is_in_row (get_or bs i 0) ≡ true
+in_row_at bs i h l = by (is_in_row (get_or bs i 0)) refl
+  where
+    by : (b : Bool) → is_in_row (get_or bs i 0) ≡ b → b ≡ true
+    by true e = refl
+    by false e = sym (list_all_at is_in_row bs i 0 l e) ∙ h
 
-pub opens_none : (bs : List ℕ) → ((i : ℕ) → i < length bs → get_or bs i 0 ≢ 10) → OpensLastRow bs 0
-opens_none bs h = record { fits = omega arith; newline = λ l. absurd (omega arith); none = λ i l m. h i m }
+pub finds_row_start : (text bytes : List ℕ) (start : ℕ) → bytes ≡ text → IsUtf8 text → start ≤ length bytes → (0 < start → get_or bytes (start - 1) 0 ≡ 10) → list_all is_in_row (drop start bytes) ≡ true
+    → FindsPlace (row_start text (length text)) text start
+finds_row_start text bytes start same u fits newline in_row =
+    subst (λ bs. FindsPlace (row_start bs (length bs)) bs start) same (record {
+      value = sym (row_start_is bytes start (record { fits = fits; newline = newline; none = none }));
+      boundary = by start fits newline;
+    })
+  where
+    none : (i : ℕ) → start ≤ i → i < length bytes → get_or bytes i 0 ≢ 10
+    none i l m =
+        let place : start + (i - start) ≡ i = omega (arith, l) in
+        not_newline (get_or bytes i 0) (ap (λ k. is_in_row (get_or bytes k 0)) (sym place) ∙ ap is_in_row (sym (get_or-drop start bytes (i - start) 0))
+        ∙ in_row_at (drop start bytes) (i - start) in_row (omega (arith, l, m, length-drop start bytes)))
+
+    by : (n : ℕ) → n ≤ length bytes → (0 < n → get_or bytes (n - 1) 0 ≡ 10) → IsCharBoundary bytes n
+    by zero l h = IsCharBoundary-start bytes (subst IsUtf8 (sym same) u)
+    by (suc n) l h =
+        let k : suc n - 1 ≡ n = omega arith in
+        let e : get_or bytes n 0 ≡ 10 = ap (λ j. get_or bytes j 0) (sym k) ∙ h (omega arith) in
+        let m : n + 1 ≡ suc n = omega arith in
+        subst (IsCharBoundary bytes) m (IsCharBoundary-after_ascii bytes n (subst IsUtf8 (sym same) u) (omega (arith, l)) (omega (arith, e)))
+
+pub finds_row_end : (text bytes : List ℕ) (end : ℕ) → bytes ≡ text → end ≤ length bytes → (end < length bytes → get_or bytes end 0 ≡ 10) → list_all is_in_row (take end bytes) ≡ true → FindsPlace (row_end text 0) text end
+finds_row_end text bytes end same fits newline in_row =
+    subst (λ bs. FindsPlace (row_end bs 0) bs end) same (record {
+      value = sym (zero-add _ ∙ prefix_len_is is_in_row bytes end 0 fits inside (λ l. ap not (eq-eqb _ 10 (newline l))));
+      boundary = elim (le_or_eq end (length bytes) fits) [
+        | inl l ↦ IsCharBoundary-before_ascii bytes end l (omega (arith, newline l))
+        | inr e ↦ subst (IsCharBoundary bytes) (sym e) (IsCharBoundary-end bytes)
+      ];
+    })
+  where
+    inside : (k : ℕ) → k < end → is_in_row (get_or bytes k 0) ≡ true
+    inside k l = ap is_in_row (sym (get_or-take end bytes k 0 l)) ∙ in_row_at (take end bytes) k in_row (omega (arith, l, length-take-le end bytes fits))
+
+    le_or_eq : (i j : ℕ) → i ≤ j → (i < j) ⊎ (i ≡ j)
+    le_or_eq i j l = grind (arith, l)
 
 pub row_close_some : (bs : List ℕ) (k : ℕ) → (k < length bs) × (get_or bs k 0 ≡ 10) × ((i : ℕ) → i < k → get_or bs i 0 ≢ 10) → row_close bs 0 ≡ k + 1
 row_close_some bs k h = omega (arith, row_len_some bs k h, h.0)

@@ -2,7 +2,7 @@
 use Rattle.std.proofs.Common.{lit<, ◌≡◌, ℕ, zero, suc, ◌+◌, ◌<◌, ◌≤◌, ◌==◌, min, Bool, true, false, cond, ◌&&◌, List, [], ◌∷◌, ◌++◌, length, take, drop, Option, None, Some, refl, sym, ap, ◌∙◌, subst, arith, append_assoc, take-append-drop}
 use Rattle.std.specs.Prelude.{chars, encode_utf8, encode_utf8_all, sum_by, IsUtf8, MatchOption, All}
 use Rattle.std.specs.Int.{is_in_range}
-use Rattle.std.specs.List.{fold, slice_split, onto_first, list_all}
+use Rattle.std.specs.List.{fold, slice_split, list_all}
 use Rattle.std.specs.Str.{IsAscii, NonePass, NoCharPasses}
 use Rattle.std.specs.Str.Pattern.{FindsChar}
 use Rattle.std.specs.Str.Iter.{split_steps, split_text, split_has_more, split_pattern}
@@ -12,16 +12,15 @@ use Rattle.std.proofs.lemmas.Iterator.{YieldsList}
 use Rattle.std.proofs.lemmas.Iterator.Splits.{YieldsList-from_shown_while}
 use Rattle.std.proofs.lemmas.List.Elements.{All-nil, All-cons}
 use Rattle.std.proofs.lemmas.List.Splits.{slice_split_none, slice_split_at}
-use Rattle.std.proofs.lemmas.List.Sums.{sum_by-cons, sum_by-append}
+use Rattle.std.proofs.lemmas.List.Sums.{sum_by-cons}
 use Rattle.std.proofs.lemmas.Str.{chars-encodes, chars_from_encodes, encodes-chars, scalars-chars, cons_from_encodes, len_utf8_bounds, chars-IsAscii}
 use lib.Utf8.{scalar, scalars}
 use borrow.Author.Tests.{eq-eqb}
 use Rattle.unicode_width.specs.Width.{str_width, char_width}
-use Rattle.unicode_width.proofs.Rules.{str_width-printable, str_width-append_simple}
+use Rattle.unicode_width.proofs.Rules.{str_width-printable}
 use Rattle.line_buffer.specs.declared.layout.GraphemeClusterMode.{GraphemeClusterMode}
 use Rattle.line_buffer.specs.declared.layout.GraphemeClusterMode.TheVariants.{Unicode, WcWidth, NoZwj}
-use Rattle.line_buffer.specs.Width.{char_columns_of, unjoined, columns_of, width_of, AddUp}
-use Rattle.line_buffer.proofs.StandingLemmas.{stands_alone, all_simple}
+use Rattle.line_buffer.specs.Width.{char_columns_of, columns_of, width_of}
 
 -- ---- sums that stop
 
@@ -116,62 +115,11 @@ YieldsList-from_split_char {s} c bs u text more pattern =
     ))
     s (pattern, λ _. subst IsUtf8 (sym text) u))
 
--- ---- characters that stand alone add their own columns at the end
-
-no_joiners : (ds : List ℕ) → list_all stands_alone ds ≡ true → All (λ d. (d == 0x200D) ≡ false) ds
-no_joiners [] h = All-nil (λ d. (d == 0x200D) ≡ false)
-no_joiners (d ∷ ds) h =
-    let parts = and_parts (stands_alone d) (list_all stands_alone ds) h in
-    All-cons (λ d. (d == 0x200D) ≡ false) d ds (other d parts.0) (no_joiners ds parts.1)
-  where
-    other : (d : ℕ) → stands_alone d ≡ true → (d == 0x200D) ≡ false
-    other d h = grind (arith, nat_tests)
-
-text_longer : (cs ds : List ℕ) → list_all stands_alone ds ≡ true → str_width false (cs ++ ds) ≡ str_width false cs + str_width false ds
-text_longer cs ds h = str_width-append_simple false cs ds (all_simple ds h)
-
--- of the parts between joiners the last one is longer by these characters
-data Longer (ds : List ℕ) : List (List ℕ) → List (List ℕ) → Type 0 where
-  only : (part : List ℕ) → Longer ds (part ∷ []) ((part ++ ds) ∷ [])
-  later : (part : List ℕ) (rest more : List (List ℕ)) → sum_by (str_width false) more ≡ sum_by (str_width false) rest + str_width false ds
-      → Longer ds (part ∷ rest) (part ∷ more)
-
-longer_sum : (ds : List ℕ) (xs ys : List (List ℕ)) → list_all stands_alone ds ≡ true → Longer ds xs ys
-    → sum_by (str_width false) ys ≡ sum_by (str_width false) xs + str_width false ds
-longer_sum ds xs ys h (only part) = omega (arith, sum_by-cons (str_width false) part [], sum_by-cons (str_width false) (part ++ ds) [], text_longer part ds h)
-longer_sum ds xs ys h (later part rest more e) = omega (arith, sum_by-cons (str_width false) part rest, sum_by-cons (str_width false) part more, e)
-
-longer_first : (ds : List ℕ) (x : ℕ) (xs ys : List (List ℕ)) → Longer ds xs ys → Longer ds (onto_first x xs) (onto_first x ys)
-longer_first ds x xs ys (only part) = only (x ∷ part)
-longer_first ds x xs ys (later part rest more e) = later (x ∷ part) rest more e
-
-longer_parts : (ds cs : List ℕ) → list_all stands_alone ds ≡ true → Longer ds (unjoined cs) (unjoined (cs ++ ds))
-longer_parts ds [] h = subst (Longer ds ([] ∷ [])) (sym (slice_split_none (λ d. d == 0x200D) ds (no_joiners ds h))) (only [])
-longer_parts ds (x ∷ cs) h = by (x == 0x200D) (unjoined cs) (unjoined (cs ++ ds)) (longer_parts ds cs h)
-  where
-    by : (b : Bool) (xs ys : List (List ℕ)) → Longer ds xs ys → Longer ds (cond b ([] ∷ xs) (onto_first x xs)) (cond b ([] ∷ ys) (onto_first x ys))
-    by true xs ys k = later [] xs ys (longer_sum ds xs ys h k)
-    by false xs ys k = longer_first ds x xs ys k
-
-unjoined_width : (ds : List ℕ) → list_all stands_alone ds ≡ true → sum_by (str_width false) (unjoined ds) ≡ str_width false ds
-unjoined_width ds h =
-    ap (sum_by (str_width false)) (slice_split_none (λ d. d == 0x200D) ds (no_joiners ds h)) ∙ omega (arith, sum_by-cons (str_width false) ds [])
-
--- by `wcwidth` all characters do
-pub columns-added : (cs ds : List ℕ) → AddUp WcWidth cs ds
-columns-added cs ds = sum_by-append char_columns_of cs ds
-
--- in each mode the columns of a text and of such characters after it add up
-pub columns-alone : (ds : List ℕ) → list_all stands_alone ds ≡ true → (mode : GraphemeClusterMode) (cs : List ℕ) → AddUp mode cs ds
-columns-alone ds h Unicode cs = text_longer cs ds h
-columns-alone ds h WcWidth cs = columns-added cs ds
-columns-alone ds h NoZwj cs = longer_sum ds (unjoined cs) (unjoined (cs ++ ds)) h (longer_parts ds cs h) ∙ ap (λ n. columns_of NoZwj cs + n) (sym (unjoined_width ds h))
+-- ---- a text of printable ASCII has as many columns as characters
 
 printable_alone : (c : ℕ) → is_in_range 0x20 0x7E c ≡ true → char_columns_of c ≡ 1
 unfolding char_width
 printable_alone c h = grind (arith, nat_tests)
-
--- ---- a text of printable ASCII has as many columns as characters
 
 abbrev pub is_printable_text : List ℕ → Bool
 is_printable_text text = list_all (is_in_range 0x20 0x7E) text

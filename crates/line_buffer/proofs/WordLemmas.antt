@@ -1,12 +1,11 @@
 -- The edges of words in a list of clusters, taken apart from its front and from its back.
 use Rattle.std.proofs.Common.{◌≡◌, ℕ, suc, ◌-◌, ◌<◌, Bool, true, false, cond, if◌then◌else◌, List, [], ◌∷◌, ◌++◌, map, reverse, Option, None, Some, refl, sym, ap, ◌∙◌, arith}
 use Rattle.std.specs.Prelude.{slice_get, option_to_list}
-use Rattle.std.proofs.lemmas.List.{reverse-append, append-nil, append_assoc, map-append}
+use Rattle.std.proofs.lemmas.List.{append-nil, append_assoc}
 use Rattle.line_buffer.specs.declared.types.At.{At}
 use Rattle.line_buffer.specs.declared.types.At.TheVariants.{Start, BeforeEnd, AfterEnd}
-use Rattle.line_buffer.specs.declared.types.Word.{Word}
 use Rattle.line_buffer.specs.declared.words.ClusterKind.{ClusterKind}
-use Rattle.line_buffer.specs.Words.{kind_of, kinds, starts_between, ends_between, starts_of, ends_of, lasts_of, edges_of, edge_between}
+use Rattle.line_buffer.specs.Words.{starts_between, ends_between, starts_of, ends_of, lasts_of, edges_of, edge_between}
 
 one_more : {A : Type 0} (f : A → ℕ) (b : Bool) (p : A) (rest : List A) → map f (cond b (p ∷ rest) rest) ≡ option_to_list (if b then Some (f p) else None) ++ map f rest
 one_more f true p rest = refl
@@ -67,26 +66,6 @@ module _ (v : Option ℕ) (all rest : List ℕ) (o : Option ℕ) (split : all �
 
   pub turn_passed : (place : ℕ) → o ≡ Some place → 0 < missing - 1 → v ≡ slice_get rest (missing - 1 - 1)
   turn_passed place e z = before_split ∙ get-passed place rest o (missing - 1) (missing - 1 - 1) e (omega (arith, z))
-
--- the next cluster of a walk forward, and of one back
-module _ (at : At) (word : Word) (cur : ℕ × ClusterKind) (old new : List (ℕ × List ℕ)) (x : ℕ × List ℕ) (k : ClusterKind) (is : k ≡ kind_of word x.1) where
-  pub forward_split : old ≡ x ∷ new → edges_of at (cur ∷ kinds word old) ≡ option_to_list (edge_between at cur (x.0, k)) ++ edges_of at ((x.0, k) ∷ kinds word new)
-  forward_split came =
-      ap (λ xs. edges_of at (cur ∷ kinds word xs)) came ∙ edges_of-cons at cur (x.0, kind_of word x.1) (kinds word new)
-      ∙ ap (λ q. option_to_list (edge_between at cur (x.0, q)) ++ edges_of at ((x.0, q) ∷ kinds word new)) (sym is)
-
-  pub backward_split : old ≡ new ++ x ∷ [] → reverse (edges_of at (kinds word old ++ cur ∷ [])) ≡ option_to_list (edge_between at (x.0, k) cur) ++ reverse (edges_of at (kinds word new ++ (x.0, k) ∷ []))
-  backward_split came =
-      ap (λ xs. reverse (edges_of at (kinds word xs ++ cur ∷ []))) came
-      ∙ ap (λ xs. reverse (edges_of at xs)) (ap (λ xs. xs ++ cur ∷ []) (map-append (λ y. (y.0, kind_of word y.1)) new (x ∷ [])) ∙ append_assoc (kinds word new) ((x.0, kind_of word x.1) ∷ []) (cur ∷ []))
-      ∙ ap reverse (edges_of-snoc at (kinds word new) (x.0, kind_of word x.1) cur)
-      ∙ reverse-append (edges_of at (kinds word new ++ (x.0, kind_of word x.1) ∷ [])) (option_to_list (edge_between at (x.0, kind_of word x.1) cur))
-      ∙ ap (λ zs. zs ++ reverse (edges_of at (kinds word new ++ (x.0, kind_of word x.1) ∷ []))) (reverse_option (edge_between at (x.0, kind_of word x.1) cur))
-      ∙ ap (λ q. option_to_list (edge_between at (x.0, q) cur) ++ reverse (edges_of at (kinds word new ++ (x.0, q) ∷ []))) (sym is)
-    where
-      reverse_option : (o : Option ℕ) → reverse (option_to_list o) ≡ option_to_list o
-      reverse_option None = refl
-      reverse_option (Some i) = refl
 
 -- nothing is left
 pub none_in_one : (v : Option ℕ) (at : At) (cur : ℕ × ClusterKind) (k : ℕ) → v ≡ slice_get (edges_of at (cur ∷ [])) k → None ≡ v

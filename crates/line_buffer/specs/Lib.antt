@@ -9,6 +9,7 @@ pub mod Insertions
 pub mod Laws
 pub mod LetterCase
 pub mod Line
+pub mod Parting
 pub mod Printable
 pub mod Range
 pub mod Replay

@@ -1,6 +1,6 @@
 -- The columns that a text takes in a terminal, depending on how the terminal counts those of a
 -- cluster.
-use Rattle.std.specs.Prelude.{◌≡◌, ℕ, ◌+◌, ◌==◌, min, false, List, ◌++◌, chars, sum_by, unwrap_or}
+use Rattle.std.specs.Prelude.{ℕ, ◌==◌, min, false, List, chars, sum_by, unwrap_or}
 use Rattle.std.specs.List.{slice_split}
 use Rattle.unicode_width.specs.Width.{str_width, char_width}
 use Rattle.line_buffer.specs.declared.layout.GraphemeClusterMode.{GraphemeClusterMode}
@@ -23,14 +23,3 @@ columns_of NoZwj cs = sum_by (str_width false) (unjoined cs)
 -- of a text: at most the greatest number of columns
 abbrev pub width_of : GraphemeClusterMode → List ℕ → ℕ
 width_of mode text = min (columns_of mode (chars text)) 65535
-
--- the columns of characters and of others after them add up
-abbrev pub AddUp : GraphemeClusterMode → List ℕ → List ℕ → Type 0
-AddUp mode cs ds = columns_of mode (cs ++ ds) ≡ columns_of mode cs + columns_of mode ds
-
--- characters that separate a text: what follows them changes no columns of what precedes them
-unfoldable pub PartsText : List ℕ → Type 0
-PartsText cs =
-    (mode : GraphemeClusterMode) (before after : List ℕ)
-    → columns_of mode (before ++ (cs ++ after)) + columns_of mode cs
-    ≡ columns_of mode (before ++ cs) + columns_of mode (cs ++ after)

@@ -1,8 +1,9 @@
 -- Where words start and end, and the places to which motions by words lead.
-use Rattle.std.specs.Prelude.{ℕ, ◌+◌, ◌==◌, Bool, true, false, not, ◌||◌, if◌then◌else◌, List, [], ◌∷◌, ◌++◌, length, map, reverse, filter, zip, drop, chars, bytes_eq, Option, None, Some, option_map, option_to_list}
+use Rattle.std.specs.Prelude.{◌≡◌, ℕ, ◌+◌, ◌==◌, ◌<◌, Bool, true, false, not, ◌||◌, if◌then◌else◌, List, [], ◌∷◌, ◌++◌, length, map, reverse, filter, zip, take, drop, chars, IsCharBoundary, bytes_eq, Option, None, Some, option_map, option_to_list}
 use Rattle.std.specs.List.{list_all, last_or}
 use Rattle.std.specs.Char.{is_whitespace}
-use Rattle.unicode_segmentation.specs.Segments.{is_alphanumeric}
+use Rattle.unicode_segmentation.specs.Grapheme.{graphemes}
+use Rattle.unicode_segmentation.specs.Segments.{is_alphanumeric, with_offsets}
 use Rattle.line_buffer.specs.declared.types.At.{At}
 use Rattle.line_buffer.specs.declared.types.At.TheVariants.{Start, BeforeEnd, AfterEnd}
 use Rattle.line_buffer.specs.declared.types.Word.{Word}
@@ -45,6 +46,15 @@ kinds word pieces = map (λ x. (x.0, kind_of word x.1)) pieces
 abbrev pub neighbours : {A : Type 0} → List A → List (A × A)
 neighbours xs = zip xs (drop 1 xs)
 
+-- the clusters of a text from a place on are of one kind, and what stands before the place is cut
+-- into clusters as it is alone
+pub record EndsInRun (word : Word) (text : List ℕ) (at : ℕ) (kind : ClusterKind) : Type 0 where
+  pub start : IsCharBoundary text at
+  pub shorter : at < length text
+  pub later : List ℕ
+  pub splits : kinds word (clusters text) ≡
+      kinds word (clusters (take at text)) ++ map (λ i. (i, kind)) (at ∷ later)
+
 -- the places at which a word starts after something else
 unfoldable pub starts_of : List (ℕ × ClusterKind) → List ℕ
 starts_of xs = map (λ p. p.1.0) (filter (λ p. starts_between p.0.1 p.1.1) (neighbours xs))
@@ -68,6 +78,24 @@ abbrev pub edge_between : At → ℕ × ClusterKind → ℕ × ClusterKind → O
 edge_between Start x y = if starts_between x.1 y.1 then Some y.0 else None
 edge_between BeforeEnd x y = if ends_between x.1 y.1 then Some x.0 else None
 edge_between AfterEnd x y = if ends_between x.1 y.1 then Some y.0 else None
+
+-- the clusters of a text that stands at this place
+abbrev pub clusters_at : ℕ → List ℕ → List (ℕ × List ℕ)
+clusters_at from text = with_offsets from (graphemes true text)
+
+-- the first clusters of a text are of one kind, and the last of them stands from `last` to `end`:
+-- a motion over the text can stop before the first, if something stands there, and where it can over
+-- the last and the clusters of the text behind it
+pub record BeginsInRun (word : Word) (text : List ℕ) (last end : ℕ) (kind : ClusterKind) : Type 0
+  where
+    pub boundary : IsCharBoundary text end
+    pub some : last < end
+    pub first : (at : At) (from : ℕ) → edges_of at (kinds word (clusters_at from text))
+        ≡ edges_of at ((from + last, kind) ∷ kinds word (clusters_at (from + end) (drop end text)))
+    pub splits : (at : At) (from : ℕ) (left : ℕ × ClusterKind)
+        → edges_of at (left ∷ kinds word (clusters_at from text))
+        ≡ option_to_list (edge_between at left (from, kind)) ++
+        edges_of at ((from + last, kind) ∷ kinds word (clusters_at (from + end) (drop end text)))
 
 -- the start of a text and its end, if it isn't empty
 abbrev pub text_start : List ℕ → List ℕ

@@ -2,20 +2,19 @@
 //! allow.
 
 ghost use Rattle.std.specs.Char.{IsScalar};
-ghost use Rattle.std.specs.Int.{is_in_range};
-ghost use Rattle.std.specs.Prelude.{◌≡◌, ◌≢◌, ◌<◌, ◌==◌, ◌&&◌, ◌||◌, not, true, false, min, ◌∷◌, take, chars, Some, None, is_some, IfSome, IsCharBoundary};
-ghost use Rattle.std.specs.List.{last_or, list_all};
-ghost use Rattle.ucd_emoji.specs.Binary.{is_emoji_presentation};
-ghost use Rattle.line_buffer.specs.Width.{columns_of, AddUp, PartsText};
+ghost use Rattle.std.specs.Prelude.{◌≡◌, ◌<◌, ◌≤◌, ◌+◌, ◌&&◌, ◌||◌, min, take, drop, slice_range, chars, Some, None, is_some, IfSome, IsCharBoundary};
+ghost use Rattle.std.specs.List.{list_all};
+ghost use Rattle.line_buffer.specs.Width.{columns_of};
 ghost use Rattle.line_buffer.specs.Line.{moved_to};
+ghost use Rattle.line_buffer.specs.Parting.{looks_ahead, is_solid, takes_marks, first, is_bare, parts, is_selected, is_flag_letter};
 ghost use Rattle.line_buffer.specs.Columns.{place_at_column, first_column, cursor_column, place_in_row, line_up, line_down};
 
-use crate::layout::{GraphemeClusterMode, Layout, TabStops, Unit, ZERO_WIDTH_JOINER};
+use crate::layout::{GraphemeClusterMode, Layout, TabStops, Unit, char_columns};
 use crate::line_buffer::LineBuffer;
 use crate::rows::{first_row_end, last_row_start};
 use crate::tabs::{MOST_COLUMNS, column_after, tab_end};
 use crate::types::RepeatCount;
-use ucd_emoji::{is_emoji_presentation, is_emoji_variation_base};
+use ucd_emoji::is_emoji_variation_base;
 use unicode_segmentation::UnicodeSegmentation;
 
 /// The column at which the row that starts at a place begins.
@@ -29,199 +28,122 @@ fn row_first_column(layout: &Layout, start: usize) -> Unit
     }
 }
 
-/// Whether the columns of this text add up with those of any text before it.
-fn adds_up(mode: GraphemeClusterMode, text: &str) -> bool
-    ensures { result ≡ true → (before : _) → AddUp mode before (chars text.now) }
+/// A newline, the joiner of Tifinagh, a vowel sign of Kirat Rai or a letter of a flag.
+fn looks_ahead(c: char) -> bool
+    ensures { result ≡ looks_ahead c }
 {
-    match mode {
-        GraphemeClusterMode::WcWidth => true,
-        GraphemeClusterMode::Unicode | GraphemeClusterMode::NoZwj => all_stand_alone(text),
+    matches!(c, '\n' | '\u{2D7F}' | '\u{16D67}'..='\u{16D68}' | '\u{1F1E6}'..='\u{1F1FF}')
+}
+
+/// Any other character that has columns by itself, or a control character.
+fn is_solid(c: char) -> bool
+    ensures { result ≡ is_solid c }
+{
+    !looks_ahead(c) && (c <= '\u{A0}' || char_columns(c) > 0)
+}
+
+/// A character that is read in another way before a mark that has no columns.
+fn takes_marks(c: char) -> bool
+    ensures { result ≡ takes_marks c }
+{
+    is_emoji_variation_base(c) || matches!(c, '\u{2D31}'..='\u{2D65}' | '\u{2D6F}')
+}
+
+/// Whether no mark follows.
+fn is_bare(next: Option<char>) -> bool
+    ensures { result ≡ is_bare next }
+{
+    match next {
+        Some(c) => is_solid(c) && !matches!(c, '\u{1F3FB}'..='\u{1F3FF}'),
+        None => true,
     }
 }
 
-/// Whether each character has its own columns, whatever precedes it.
-fn all_stand_alone(text: &str) -> bool
-    ensures { result ≡ true → (mode : _) (before : _) → AddUp mode before (chars text.now) }
+/// A selector follows that makes the character an emoji.
+fn is_selected(c: char, next: Option<char>) -> bool
+    ensures { result ≡ is_selected c next }
 {
-    text.chars().all(|c| {
-        matches!(
-            c,
-            ' '..='~'
-                | '\u{A1}'..='\u{337}'
-                | '\u{339}'..='\u{5DB}'
-                | '\u{900}'..='\u{177F}'
-                | '\u{1E00}'..='\u{200C}'
-                | '\u{2010}'..='\u{2319}'
-                | '\u{2500}'..='\u{25FC}'
-                | '\u{2E80}'..='\u{A4FB}'
-                | '\u{A500}'..='\u{FB1D}'
-                | '\u{FF01}'..='\u{FFE6}'
-                | '\u{20000}'..='\u{3FFFD}'
-        )
-    })
-}
-
-/// A single emoji, but no regional indicator and no skin tone modifier.
-fn is_own_emoji(c: char) -> bool
-    ensures { result ≡ (is_emoji_presentation c
-        && not (is_in_range 0x1F1E6 0x1F1FF c || is_in_range 0x1F3FB 0x1F3FF c)) }
-{
-    is_emoji_presentation(c) && !matches!(c, '\u{1F1E6}'..='\u{1F1FF}' | '\u{1F3FB}'..='\u{1F3FF}')
-}
-
-/// Whether the text begins with such an emoji, or with a character that a variation selector makes
-/// an emoji.
-fn begins_with_emoji(text: &str) -> bool
-    ensures { result ≡ true → (mode : _) (before : _) → last_or None before ≢ Some 0x200D
-        → AddUp mode before (chars text.now) }
-{
-    let mut characters = text.chars();
-    let Some(first) = characters.next() else {
-        return false;
-    };
-    if is_own_emoji(first) {
-        return true;
-    }
-    match characters.next() {
-        Some(second) => second == '\u{FE0F}' && is_emoji_variation_base(first),
-        None => false,
-    }
-}
-
-fn is_joiner(c: char) -> bool
-    ensures value { result ≡ (c == 0x200D) }
-    ensures scalar { IsScalar c }
-{
-    c == ZERO_WIDTH_JOINER
-}
-
-fn ends_in_joiner(text: &str) -> bool
-    ensures { result ≡ false → last_or None (chars text.now) ≢ Some 0x200D }
-{
-    match text.chars().next_back() {
-        Some(last) => is_joiner(last),
+    match next {
+        Some(next) => is_emoji_variation_base(c) && next == '\u{FE0F}',
         None => false,
     }
 }
 
 fn is_flag_letter(c: char) -> bool
-    ensures value { result ≡ is_in_range 0x1F1E6 0x1F1FF c }
-    ensures scalar { IsScalar c }
+    ensures { result ≡ is_flag_letter c }
 {
     matches!(c, '\u{1F1E6}'..='\u{1F1FF}')
 }
 
 fn are_flag_letters(text: &str) -> bool
-    ensures { result ≡ list_all (is_in_range 0x1F1E6 0x1F1FF) (chars text.now) }
+    ensures { result ≡ list_all is_flag_letter (chars text.now) }
 {
     text.chars().all(|c| is_flag_letter(c))
 }
 
-/// Whether the text ends in two regional indicators. If so, regional indicators after it add their
-/// own columns.
-fn ends_in_flag(text: &str) -> bool
-    ensures { result ≡ true → (mode : _) (rest : _)
-        → list_all (is_in_range 0x1F1E6 0x1F1FF) rest ≡ true → AddUp mode (chars text.now) rest }
+/// Whether a text may be parted before a character, by the one that follows it: what follows them
+/// changes no columns of what precedes them. `flags`: only letters of flags follow; `inside`: the
+/// one that follows is always the same.
+fn parts(c: char, next: Option<char>, flags: bool, inside: bool) -> bool
+    ensures value { result ≡ (parts c next
+        || (inside && (is_selected c next || (flags && is_flag_letter c)))) }
+    ensures scalar { IsScalar c }
 {
-    let mut characters = text.chars();
-    let Some(last) = characters.next_back() else {
-        return false;
-    };
-    let Some(previous) = characters.next_back() else {
-        return false;
-    };
-    is_flag_letter(previous) && is_flag_letter(last)
+    is_solid(c) && (!takes_marks(c) || is_bare(next))
+        || inside && (is_selected(c, next) || flags && is_flag_letter(c))
 }
 
-/// Whether the characters at the seam of two texts show that their columns add up.
-fn columns_add(mode: GraphemeClusterMode, before: &str, rest: &str) -> bool
-    ensures { result ≡ true → AddUp mode (chars before.now) (chars rest.now) }
-{
-    if adds_up(mode, rest) {
-        return true;
-    }
-    if begins_with_emoji(rest) {
-        return !ends_in_joiner(before);
-    }
-    are_flag_letters(rest) && ends_in_flag(before)
-}
-
-/// A letter that separates a text: what follows it doesn't change the columns of what precedes it.
-fn is_parting_letter(c: char) -> bool
-    ensures { result ≡ true → (rest : _) → PartsText (c ∷ rest) }
-{
-    matches!(
-        c,
-        'A'..='Z'
-            | 'a'..='z'
-            | '\u{C0}'..='\u{24F}'
-            | '\u{391}'..='\u{3C9}'
-            | '\u{410}'..='\u{44F}'
-            | '\u{5D0}'..='\u{5EA}'
-            | '\u{620}'..='\u{64A}'
-            | '\u{671}'..='\u{6D3}'
-            | '\u{904}'..='\u{939}'
-            | '\u{E01}'..='\u{E30}'
-            | '\u{1780}'..='\u{17B3}'
-            | '\u{3041}'..='\u{3096}'
-            | '\u{30A1}'..='\u{30FA}'
-            | '\u{4E00}'..='\u{9FFF}'
-            | '\u{AC00}'..='\u{D7A3}'
-    )
-}
-
-fn begins_with_parting_letter(text: &str) -> bool
-    ensures { result ≡ true → PartsText (chars text.now) }
+fn first_char(text: &str) -> Option<char>
+    ensures { result ≡ first (chars text.now) }
 {
     match text.chars().next() {
-        Some(first) => is_parting_letter(first),
-        None => false,
+        Some(c) => Some(c),
+        None => None,
     }
 }
 
-/// The columns of a text up to a place, computed from those of the whole text. `None` unless the
-/// cluster before the place begins with a separating letter; what follows such a letter changes
-/// only its own columns.
-fn columns_by_letter(
-    mode: GraphemeClusterMode,
-    text: &str,
-    end: usize,
-    whole: usize,
-) -> Option<usize>
-    requires boundary { IsCharBoundary text.now end }
-    requires whole { whole ≡ min (columns_of mode (chars text.now)) usize.MAX }
-    ensures { IfSome result (λ n. n ≡ min (columns_of mode (chars (take end text.now))) usize.MAX) }
+/// The last place before `end` at which the text may be parted, or its start. Letters of flags may
+/// be parted in twos if nothing else follows.
+fn last_part(text: &str, end: usize) -> usize
+    requires { IsCharBoundary text.now end }
+    ensures before { result ≤ end }
+    ensures boundary { IsCharBoundary text.now result }
+    ensures balance { (mode : _) → columns_of mode (chars text.now)
+        + columns_of mode (chars (slice_range text.now result end))
+        ≡ columns_of mode (chars (take end text.now))
+        + columns_of mode (chars (drop result text.now)) }
 {
-    let (start, _) = text[..end].grapheme_indices(true).next_back()?;
-    let (cluster, rest) = (&text[start..end], &text[start..]);
-    let (own, measured) = (mode.columns(cluster), mode.columns(rest));
-    if own <= measured
-        && measured < usize::MAX
-        && whole < usize::MAX
-        && begins_with_parting_letter(cluster)
-    {
-        Some(whole - (measured - own))
-    } else {
-        None
+    let rest = &text[end..];
+    let (mut next, mut flags, mut inside) = (first_char(rest), are_flag_letters(rest), false);
+    let mut front = text[..end].chars();
+    while let Some(c) = front.next_back() {
+        if parts(c, next, flags, inside) {
+            return front.as_str().len();
+        }
+        next = Some(c);
+        flags &= is_flag_letter(c);
+        inside = true;
     }
+    0
 }
 
-/// The columns of a text up to a place, if those of the whole text are known. If possible only the
-/// rest after the place is measured, or the rest and the cluster before it. Otherwise the text
-/// before the place is measured.
+/// The columns of a text up to a place, if those of the whole text are known. What precedes the
+/// place at which the text is parted has the same columns in both.
 fn columns_up_to(mode: GraphemeClusterMode, text: &str, end: usize, whole: usize) -> usize
     requires boundary { IsCharBoundary text.now end }
     requires whole { whole ≡ min (columns_of mode (chars text.now)) usize.MAX }
     ensures { result ≡ min (columns_of mode (chars (take end text.now))) usize.MAX }
 {
-    let (before, rest) = (&text[..end], &text[end..]);
-    if whole < usize::MAX && columns_add(mode, before, rest) {
-        return whole - mode.columns(rest);
+    let start = last_part(text, end);
+    let (own, measured) = (
+        mode.columns(&text[start..end]),
+        mode.columns(&text[start..]),
+    );
+    if own == usize::MAX || measured == usize::MAX || whole == usize::MAX {
+        return mode.columns(&text[..end]);
     }
-    match columns_by_letter(mode, text, end, whole) {
-        Some(columns) => columns,
-        None => mode.columns(before),
-    }
+    let columns = whole as u128 + own as u128 - measured as u128;
+    columns.min(usize::MAX as u128) as usize
 }
 
 /// The last cluster boundary of a row whose column is at most the given one; the row's start if

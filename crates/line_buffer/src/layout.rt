@@ -59,7 +59,7 @@ pub enum GraphemeClusterMode {
 pub(crate) const ZERO_WIDTH_JOINER: char = '\u{200D}';
 
 /// The columns of a character by itself.
-fn char_columns(c: char) -> Unit
+pub(crate) fn char_columns(c: char) -> Unit
     ensures { result ≡ char_columns_of c }
 {
     match c.width() {

@@ -4,14 +4,15 @@
 //! before and after the cursor are split into clusters separately. Rows end at newlines.
 
 ghost use Rattle.std.specs.Prelude.{◌≡◌, ◌+◌, ◌<◌, ◌≤◌, ◌==◌, length, reverse, take, drop, not, is_some, chars, IfSome, None, Some, true, option_map, IsCharBoundary};
-ghost use Rattle.std.specs.List.{last_or, list_all, prefix_len, suffix_len};
+ghost use Rattle.std.specs.List.{last_or, list_all};
 ghost use Rattle.std.specs.Char.{is_whitespace};
 ghost use Rattle.line_buffer.specs.Clusters.{clusters, place_forward, place_backward, IsPart};
 ghost use Rattle.line_buffer.specs.Line.{moved_to, text_after};
-ghost use Rattle.line_buffer.specs.Rows.{row_start, row_end, is_in_row};
+ghost use Rattle.line_buffer.specs.Rows.{row_start, row_end};
 
 use crate::line_buffer::LineBuffer;
 use crate::printable::is_printable;
+use crate::rows::{first_row_end, last_row_start};
 use crate::types::RepeatCount;
 use unicode_segmentation::UnicodeSegmentation;
 
@@ -75,26 +76,6 @@ pub(crate) fn nth_cluster_back(text: &str, n: RepeatCount) -> Option<(usize, &st
         .rev()
         .take(usize::from(n))
         .last()
-}
-
-/// The number of bytes before the first newline.
-fn row_bytes_after(bytes: &[u8]) -> usize
-    ensures value { result ≡ prefix_len is_in_row bytes.now }
-    ensures bound { result ≤ length bytes.now }
-{
-    bytes.iter().take_while(|byte| **byte != b'\n').count()
-}
-
-/// The number of bytes after the last newline.
-fn row_bytes_before(bytes: &[u8]) -> usize
-    ensures value { result ≡ suffix_len is_in_row bytes.now }
-    ensures bound { result ≤ length bytes.now }
-{
-    bytes
-        .iter()
-        .rev()
-        .take_while(|byte| **byte != b'\n')
-        .count()
 }
 
 impl LineBuffer {
@@ -162,7 +143,7 @@ impl LineBuffer {
         ensures boundary { IsCharBoundary self.now.text result }
         ensures earlier { result ≤ self.now.place }
     {
-        self.pos - row_bytes_before(&self.buf.as_bytes()[..self.pos])
+        last_row_start(&self.buf[..self.pos])
     }
 
     /// The end of the cursor's row, before its newline.
@@ -171,7 +152,7 @@ impl LineBuffer {
         ensures boundary { IsCharBoundary self.now.text result }
         ensures later { self.now.place ≤ result }
     {
-        self.pos + row_bytes_after(&self.buf.as_bytes()[self.pos..])
+        self.pos + first_row_end(&self.buf[self.pos..])
     }
 
     /// Moves the cursor to the start of its row. Returns false if it was there.

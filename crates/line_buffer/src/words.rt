@@ -3,18 +3,19 @@
 //! A word is a run of clusters of one kind. Places are in bytes. A motion stops at the n-th place
 //! at which it can stop, or at the last one if there are fewer.
 
-ghost use Rattle.std.specs.Prelude.{◌≡◌, ◌-◌, ◌<◌, ◌≤◌, reverse, is_some, slice_get, IfSome, None, IsCharBoundary};
-ghost use Rattle.std.specs.List.{last_or};
-ghost use Rattle.unicode_segmentation.specs.Iter.{grapheme_indices_left};
+ghost use Rattle.std.specs.Prelude.{◌≡◌, ◌-◌, ◌<◌, ◌≤◌, length, take, drop, reverse, is_some, slice_get, IfSome, MatchOption, None, true, IsCharBoundary};
+ghost use Rattle.std.specs.Char.{is_ascii_alphanumeric};
+ghost use Rattle.std.specs.List.{last_or, list_all};
 ghost use Rattle.unicode_segmentation.specs.Segments as Segments;
 ghost use Rattle.line_buffer.specs.Clusters.{clusters, nth_or_last};
 ghost use Rattle.line_buffer.specs.Line.{moved_to};
 ghost use Rattle.line_buffer.specs.Words as Words;
 
 use crate::line_buffer::LineBuffer;
+use crate::motion::{nth_cluster, nth_cluster_back};
 use crate::types::{At, RepeatCount, Word};
 use unicode::properties::{GeneralCategory, is_alphabetic};
-use unicode_segmentation::{GraphemeIndices, UnicodeSegmentation};
+use unicode_segmentation::UnicodeSegmentation;
 
 /// How a cluster relates to the words around it.
 #[derive(Clone, Copy, Debug, PartialEq, Eq)]
@@ -86,53 +87,150 @@ fn edge_between(at: At, left: (usize, ClusterKind), right: (usize, ClusterKind))
     }
 }
 
+/// Whether each byte is a letter or a digit of ASCII.
+fn are_letters(bytes: &[u8]) -> bool
+    ensures { result ≡ list_all is_ascii_alphanumeric bytes.now }
+{
+    let mut all = true;
+    for byte in bytes {
+        all &= byte.is_ascii_alphanumeric();
+    }
+    all
+}
+
+/// How many bytes are tested at once for letters.
+const BLOCK: usize = 32;
+
+/// Where whole blocks of letters at the end of the bytes begin.
+fn blocks_from(bytes: &[u8]) -> usize
+    ensures bound { result ≤ length bytes.now }
+    ensures letters { list_all is_ascii_alphanumeric (drop result bytes.now) ≡ true }
+{
+    let mut start = bytes.len();
+    while start >= BLOCK && are_letters(&bytes[start - BLOCK..start]) {
+        start -= BLOCK;
+    }
+    start
+}
+
+/// Where the letters and digits of ASCII at the end of the bytes begin.
+fn letters_from(bytes: &[u8]) -> usize
+    ensures bound { result ≤ length bytes.now }
+    ensures letters { list_all is_ascii_alphanumeric (drop result bytes.now) ≡ true }
+{
+    let mut start = blocks_from(bytes);
+    while start > 0 && bytes[start - 1].is_ascii_alphanumeric() {
+        start -= 1;
+    }
+    start
+}
+
+/// The last clusters of a text, of one kind: where they start, and the kind. Letters of ASCII are
+/// clusters each, except the first, which may be joined to what stands before it.
+fn last_run(text: &str, word: Word) -> Option<(usize, ClusterKind)>
+    ensures { MatchOption result (length text.now ≡ 0)
+        (λ run. Words.EndsInRun word text.now run.0 run.1) }
+{
+    let start = letters_from(text.as_bytes());
+    if start + 1 < text.len() {
+        return Some((start + 1, ClusterKind::InWord));
+    }
+    let (start, cluster) = nth_cluster_back(text, 1)?;
+    Some((start, kind_of(word, cluster)))
+}
+
 /// The n-th start of a word, counted back from the text's end.
 fn nth_start_back(text: &str, word: Word, n: RepeatCount) -> Option<usize>
     requires { 0 < n }
     ensures { result ≡ slice_get (reverse (Words.starts_of (Words.kinds word (clusters text.now))))
         (n - 1) }
 {
-    let mut clusters = text.grapheme_indices(true).rev();
-    let Some((end, last)) = clusters.next() else {
-        return None;
-    };
-    let mut right = (end, kind_of(word, last));
+    let mut end = text.len();
+    let mut right = ClusterKind::Blank;
     let mut missing = n;
-    for (i, cluster) in clusters {
-        let left = (i, kind_of(word, cluster));
-        if let Some(place) = edge_between(At::Start, left, right) {
+    while let Some((start, kind)) = last_run(&text[..end], word) {
+        if let Some(place) = edge_between(At::Start, (start, kind), (end, right)) {
             missing -= 1;
             if missing == 0 {
                 return Some(place);
             }
         }
-        right = left;
+        end = start;
+        right = kind;
     }
     None
 }
 
-/// The n-th place at which such a motion stops inside the clusters.
-fn nth_edge(mut clusters: GraphemeIndices<'_>, at: At, word: Word, n: RepeatCount) -> Option<usize>
-    requires { 0 < n }
-    ensures { result ≡ slice_get (Words.edges_of at
-        (Words.kinds word (grapheme_indices_left clusters.entry))) (n - 1) }
+/// How far whole blocks of letters at the front of the bytes reach.
+fn blocks_upto(bytes: &[u8]) -> usize
+    ensures bound { result ≤ length bytes.now }
+    ensures letters { list_all is_ascii_alphanumeric (take result bytes.now) ≡ true }
 {
-    let Some((start, first)) = clusters.next() else {
-        return None;
-    };
-    let mut left = (start, kind_of(word, first));
+    let mut end = 0;
+    while bytes.len() - end >= BLOCK && are_letters(&bytes[end..end + BLOCK]) {
+        end += BLOCK;
+    }
+    end
+}
+
+/// How far the letters and digits of ASCII at the front of the bytes reach.
+fn letters_upto(bytes: &[u8]) -> usize
+    ensures bound { result ≤ length bytes.now }
+    ensures letters { list_all is_ascii_alphanumeric (take result bytes.now) ≡ true }
+{
+    let mut end = blocks_upto(bytes);
+    while end < bytes.len() && bytes[end].is_ascii_alphanumeric() {
+        end += 1;
+    }
+    end
+}
+
+/// The first clusters of a text, of one kind: where the last of them starts and ends, and the kind.
+/// Letters of ASCII are clusters each, except the last, to which what follows may be joined.
+fn first_run(text: &str, word: Word) -> Option<(usize, usize, ClusterKind)>
+    ensures { MatchOption result (length text.now ≡ 0)
+        (λ run. Words.BeginsInRun word text.now run.0 run.1 run.2) }
+{
+    let count = letters_upto(text.as_bytes());
+    if count > 1 {
+        return Some((count - 2, count - 1, ClusterKind::InWord));
+    }
+    let (_, cluster) = nth_cluster(text, 1)?;
+    Some((0, cluster.len(), kind_of(word, cluster)))
+}
+
+/// The n-th place at which such a motion stops inside the text behind a place.
+fn nth_edge(text: &str, from: usize, at: At, word: Word, n: RepeatCount) -> Option<usize>
+    requires boundary { IsCharBoundary text.now from }
+    requires some { 0 < n }
+    ensures { result ≡ slice_get (Words.edges_of at
+        (Words.kinds word (Words.clusters_at from (drop from text.now)))) (n - 1) }
+{
+    let (last, end, kind) = first_run(&text[from..], word)?;
+    let mut left = (from + last, kind);
+    let mut place = from + end;
     let mut missing = n;
-    for (i, cluster) in clusters {
-        let right = (i, kind_of(word, cluster));
-        if let Some(place) = edge_between(at, left, right) {
+    while let Some((last, end, kind)) = first_run(&text[place..], word) {
+        if let Some(found) = edge_between(at, left, (place, kind)) {
             missing -= 1;
             if missing == 0 {
-                return Some(place);
+                return Some(found);
             }
         }
-        left = right;
+        left = (place + last, kind);
+        place += end;
     }
     None
+}
+
+/// The n-th last cluster of a word behind the text's first cluster.
+fn nth_last(text: &str, word: Word, n: RepeatCount) -> Option<usize>
+    requires { 0 < n }
+    ensures { result ≡ slice_get (Words.lasts_of
+        (Words.kinds word (drop 1 (clusters text.now)))) (n - 1) }
+{
+    let (_, first) = nth_cluster(text, 1)?;
+    nth_edge(text, first.len(), At::BeforeEnd, word, n)
 }
 
 /// The n-th place inside the text at which a motion over it stops.
@@ -140,14 +238,11 @@ fn nth_inner_stop(text: &str, at: At, word: Word, n: RepeatCount) -> Option<usiz
     requires { 0 < n }
     ensures { result ≡ slice_get (Words.inner_stops at word text.now) (n - 1) }
 {
-    let mut clusters = text.grapheme_indices(true);
     match (at, word) {
-        (At::BeforeEnd, Word::Emacs) => nth_edge(clusters, At::AfterEnd, word, n),
-        (At::BeforeEnd, _) => {
-            clusters.next();
-            nth_edge(clusters, at, word, n)
-        }
-        _ => nth_edge(clusters, at, word, n),
+        (At::BeforeEnd, Word::Emacs) => nth_edge(text, 0, At::AfterEnd, word, n),
+        (At::BeforeEnd, Word::Big) => nth_last(text, word, n),
+        (At::BeforeEnd, Word::Vi) => nth_last(text, word, n),
+        _ => nth_edge(text, 0, at, word, n),
     }
 }
 

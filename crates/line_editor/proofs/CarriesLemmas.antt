@@ -83,31 +83,31 @@ module _ {Out H Hi K T : Type 0} {renderer : renderers.Renderer.Ghosts Out} {com
   taken s = record { value = refl; calls = refl; layout = refl; stays = stays_same s; reason = tt; stops = tt }
 
   -- an edit alone, whatever follows it
-  module _ (indent : ℕ) (s m t : State Out H Hi K T renderer completer candidate hinter hint highlighter validator history) (stays : Stays s m) (edit : Transition) (i : Input) (r : Ring) (q : Modal) (c : Coming) {X : Type 0} (later : Value → LineScript X) where
+  module _ (s m t : State Out H Hi K T renderer completer candidate hinter hint highlighter validator history) (stays : Stays s m) (edit : Transition) (i : Input) (r : Ring) (q : Modal) (c : Coming) {X : Type 0} (later : Value → LineScript X) where
     pub makes : {A : Type 0} (x : A) (result : Result X ReadlineError) (z : LineStage Out) → Does edit m t (Ok x)
-        → Goes (world_of indent s) (later (value_of t)) (stage_of t i r q c) result z → Goes (world_of indent s) (Asks (Makes edit) later) (stage_of m i r q c) result z
+        → Goes (world_of s) (later (value_of t)) (stage_of t i r q c) result z → Goes (world_of s) (Asks (Makes edit) later) (stage_of m i r q c) result z
     makes x result z h goes =
         let value = edit_value s m t stays edit x h in
         inl (value_of t, stage_of t i r q c, (ap Ok (sym value), ap (λ v. kept v i r q c) value, edit_drawn s m t stays edit x h), goes)
 
-    pub unmade : {A : Type 0} (e : ReadlineError) → Does {A = A} edit m t (Err e) → Goes (world_of indent s) (Asks (Makes edit) later) (stage_of m i r q c) (Err e) (stage_of t i r q c)
+    pub unmade : {A : Type 0} (e : ReadlineError) → Does {A = A} edit m t (Err e) → Goes (world_of s) (Asks (Makes edit) later) (stage_of m i r q c) (Err e) (stage_of t i r q c)
     unmade e h = inr (e, inr (inl (edit_stops s m t stays edit e h, refl)), refl)
 
   -- the line's close, with its text
-  closes : {A : Type 0} (indent : ℕ) (s m t : State Out H Hi K T renderer completer candidate hinter hint highlighter validator history) (i : Input) (r : Ring) (q : Modal) (c : Coming) (result : Result A ReadlineError) → Stays s m → Does submitted m t result
-      → Goes (world_of indent s) (Asks (Makes submitted) (λ v. Ends v.line.text)) (stage_of m i r q c) (text_or result t.recorded.line.text) (stage_of t i r q c)
-  closes indent s m t i r q c (Ok x) stays h = makes indent s m t stays submitted i r q c (λ v. Ends v.line.text) x (Ok t.recorded.line.text) (stage_of t i r q c) h (refl, refl)
-  closes {A} indent s m t i r q c (Err e) stays h = unmade indent s m t stays submitted i r q c (λ v. Ends v.line.text) {A = A} e h
+  closes : {A : Type 0} (s m t : State Out H Hi K T renderer completer candidate hinter hint highlighter validator history) (i : Input) (r : Ring) (q : Modal) (c : Coming) (result : Result A ReadlineError) → Stays s m → Does submitted m t result
+      → Goes (world_of s) (Asks (Makes submitted) (λ v. Ends v.line.text)) (stage_of m i r q c) (text_or result t.recorded.line.text) (stage_of t i r q c)
+  closes s m t i r q c (Ok x) stays h = makes s m t stays submitted i r q c (λ v. Ends v.line.text) x (Ok t.recorded.line.text) (stage_of t i r q c) h (refl, refl)
+  closes {A} s m t i r q c (Err e) stays h = unmade s m t stays submitted i r q c (λ v. Ends v.line.text) {A = A} e h
 
   -- ---- the loop
 
-  module _ (custom : Custom) (indent : ℕ) (s : State Out H Hi K T renderer completer candidate hinter hint highlighter validator history) (i : Input) (r : Ring) (q : Modal) (feed : KeyFeed) where
+  module _ (custom : Custom) (s : State Out H Hi K T renderer completer candidate hinter hint highlighter validator history) (i : Input) (r : Ring) (q : Modal) (feed : KeyFeed) where
     -- whatever is left goes on from here
     pub record Carried (n : ℕ) (m : State Out H Hi K T renderer completer candidate hinter hint highlighter validator history) (i' : Input) (r' : Ring) (q' : Modal) (feed' : KeyFeed) : Type 0 where
       pub fuel : ℕ
       pub enough : feed'.bound < fuel
-      pub onward : (result : Result (List ℕ) ReadlineError) (y : LineStage Out) → Goes (world_of indent s) (turns_script fuel custom) (stage_of m i' r' q' feed'.coming) result y
-          → Goes (world_of indent s) (turns_script n custom) (stage_of s i r q feed.coming) result y
+      pub onward : (result : Result (List ℕ) ReadlineError) (y : LineStage Out) → Goes (world_of s) (turns_script fuel custom) (stage_of m i' r' q' feed'.coming) result y
+          → Goes (world_of s) (turns_script n custom) (stage_of s i r q feed.coming) result y
 
     -- at the head of the loop
     pub record Carries (m : State Out H Hi K T renderer completer candidate hinter hint highlighter validator history) (i' : Input) (r' : Ring) (q' : Modal) (feed' : KeyFeed) : Type 0 where
@@ -128,49 +128,49 @@ module _ {Out H Hi K T : Type 0} {renderer : renderers.Renderer.Ghosts Out} {com
 
     module _ (m : State Out H Hi K T renderer completer candidate hinter hint highlighter validator history) (i1 : Input) (r1 : Ring) (q1 : Modal) (feed1 : KeyFeed) (so_far : Carries m i1 r1 q1 feed1) (kept : Custom) (same : kept ≡ custom) where
       abbrev TakesTurn : State Out H Hi K T renderer completer candidate hinter hint highlighter validator history → Input → Ring → Modal → KeyFeed → Result Status ReadlineError → Type 0
-      TakesTurn t i2 r2 q2 feed2 result = Takes turn_script kept indent m i1 r1 q1 feed1 t i2 r2 q2 feed2 result
+      TakesTurn t i2 r2 q2 feed2 result = Takes turn_script kept m i1 r1 q1 feed1 t i2 r2 q2 feed2 result
 
       module _ (t : State Out H Hi K T renderer completer candidate hinter hint highlighter validator history) (i2 : Input) (r2 : Ring) (q2 : Modal) (feed2 : KeyFeed) (told : IsTrue feed1.told) where
         -- the turn, in the line's world
-        turn_here : (n : ℕ) (result : Result Status ReadlineError) → Goes (world_of indent m) (turn_script n kept) (stage_of m i1 r1 q1 feed1.coming) result (stage_of t i2 r2 q2 feed2.coming)
-            → Goes (world_of indent s) (turn_script n custom) (stage_of m i1 r1 q1 feed1.coming) result (stage_of t i2 r2 q2 feed2.coming)
+        turn_here : (n : ℕ) (result : Result Status ReadlineError) → Goes (world_of m) (turn_script n kept) (stage_of m i1 r1 q1 feed1.coming) result (stage_of t i2 r2 q2 feed2.coming)
+            → Goes (world_of s) (turn_script n custom) (stage_of m i1 r1 q1 feed1.coming) result (stage_of t i2 r2 q2 feed2.coming)
         turn_here n result goes =
-            subst (λ w. Goes w (turn_script n custom) (stage_of m i1 r1 q1 feed1.coming) result (stage_of t i2 r2 q2 feed2.coming)) (world_stays indent s m (so_far.stays told))
-            (subst (λ x. Goes (world_of indent m) (turn_script n x) (stage_of m i1 r1 q1 feed1.coming) result (stage_of t i2 r2 q2 feed2.coming)) same goes)
+            subst (λ w. Goes w (turn_script n custom) (stage_of m i1 r1 q1 feed1.coming) result (stage_of t i2 r2 q2 feed2.coming)) (world_stays s m (so_far.stays told))
+            (subst (λ x. Goes (world_of m) (turn_script n x) (stage_of m i1 r1 q1 feed1.coming) result (stage_of t i2 r2 q2 feed2.coming)) same goes)
 
         -- after an answer, and what follows it
         turned : (n : ℕ) → Carried n m i1 r1 q1 feed1 → (status : Status) (result : Result (List ℕ) ReadlineError) (y : LineStage Out)
-            → ((k : ℕ) → feed1.bound < k → Goes (world_of indent m) (turn_script k kept) (stage_of m i1 r1 q1 feed1.coming) (Ok status) (stage_of t i2 r2 q2 feed2.coming))
-            → ((k : ℕ) → feed1.bound < suc k → Goes (world_of indent s) (turned_on (turns_script k custom) status) (stage_of t i2 r2 q2 feed2.coming) result y)
-            → Goes (world_of indent s) (turns_script n custom) (stage_of s i r q feed.coming) result y
+            → ((k : ℕ) → feed1.bound < k → Goes (world_of m) (turn_script k kept) (stage_of m i1 r1 q1 feed1.coming) (Ok status) (stage_of t i2 r2 q2 feed2.coming))
+            → ((k : ℕ) → feed1.bound < suc k → Goes (world_of s) (turned_on (turns_script k custom) status) (stage_of t i2 r2 q2 feed2.coming) result y)
+            → Goes (world_of s) (turns_script n custom) (stage_of s i r q feed.coming) result y
         turned n at status result y took rest =
             let f = some_fuel at.fuel feed1.bound at.enough in
             let enough : feed1.bound < suc f.less = subst (λ k. feed1.bound < k) f.is at.enough in
-            at.onward result y (subst (λ k. Goes (world_of indent s) (turns_script k custom) (stage_of m i1 r1 q1 feed1.coming) result y) (sym f.is)
-            (turns_on (world_of indent s) f.less custom status result (stage_of m i1 r1 q1 feed1.coming) (stage_of t i2 r2 q2 feed2.coming) y (turn_here (suc f.less) (Ok status) (took (suc f.less) enough)) (rest f.less enough)))
+            at.onward result y (subst (λ k. Goes (world_of s) (turns_script k custom) (stage_of m i1 r1 q1 feed1.coming) result y) (sym f.is)
+            (turns_on (world_of s) f.less custom status result (stage_of m i1 r1 q1 feed1.coming) (stage_of t i2 r2 q2 feed2.coming) y (turn_here (suc f.less) (Ok status) (took (suc f.less) enough)) (rest f.less enough)))
 
         -- after an error
         refused : (n : ℕ) → Carried n m i1 r1 q1 feed1 → (e : ReadlineError)
-            → ((k : ℕ) → feed1.bound < k → Goes (world_of indent m) (turn_script k kept) (stage_of m i1 r1 q1 feed1.coming) (Err e) (stage_of t i2 r2 q2 feed2.coming))
-            → Goes (world_of indent s) (turns_script n custom) (stage_of s i r q feed.coming) (Err e) (stage_of t i2 r2 q2 feed2.coming)
+            → ((k : ℕ) → feed1.bound < k → Goes (world_of m) (turn_script k kept) (stage_of m i1 r1 q1 feed1.coming) (Err e) (stage_of t i2 r2 q2 feed2.coming))
+            → Goes (world_of s) (turns_script n custom) (stage_of s i r q feed.coming) (Err e) (stage_of t i2 r2 q2 feed2.coming)
         refused n at e took =
             let f = some_fuel at.fuel feed1.bound at.enough in
             let enough : feed1.bound < suc f.less = subst (λ k. feed1.bound < k) f.is at.enough in
             at.onward (Err e) (stage_of t i2 r2 q2 feed2.coming)
-            (subst (λ k. Goes (world_of indent s) (turns_script k custom) (stage_of m i1 r1 q1 feed1.coming) (Err e) (stage_of t i2 r2 q2 feed2.coming)) (sym f.is)
-            (turns_ended (world_of indent s) f.less custom e (stage_of m i1 r1 q1 feed1.coming) (stage_of t i2 r2 q2 feed2.coming) (turn_here (suc f.less) (Err e) (took (suc f.less) enough))))
+            (subst (λ k. Goes (world_of s) (turns_script k custom) (stage_of m i1 r1 q1 feed1.coming) (Err e) (stage_of t i2 r2 q2 feed2.coming)) (sym f.is)
+            (turns_ended (world_of s) f.less custom e (stage_of m i1 r1 q1 feed1.coming) (stage_of t i2 r2 q2 feed2.coming) (turn_here (suc f.less) (Err e) (took (suc f.less) enough))))
 
         -- a turn more
         carried_next : (n : ℕ) → Carried n m i1 r1 q1 feed1 → feed2.bound < feed1.bound
-            → ((k : ℕ) → feed1.bound < k → Goes (world_of indent m) (turn_script k kept) (stage_of m i1 r1 q1 feed1.coming) (Ok Proceed) (stage_of t i2 r2 q2 feed2.coming)) → Carried n t i2 r2 q2 feed2
+            → ((k : ℕ) → feed1.bound < k → Goes (world_of m) (turn_script k kept) (stage_of m i1 r1 q1 feed1.coming) (Ok Proceed) (stage_of t i2 r2 q2 feed2.coming)) → Carried n t i2 r2 q2 feed2
         carried_next n at falls took =
             let f = fuel_for at.fuel feed1.bound feed2.bound at.enough falls in
             let enough : feed1.bound < suc f.less = subst (λ k. feed1.bound < k) f.is at.enough in
             record {
               fuel = f.less;
               enough = f.enough;
-              onward = λ result y goes. at.onward result y (subst (λ k. Goes (world_of indent s) (turns_script k custom) (stage_of m i1 r1 q1 feed1.coming) result y) (sym f.is)
-                  (turns_on (world_of indent s) f.less custom Proceed result (stage_of m i1 r1 q1 feed1.coming) (stage_of t i2 r2 q2 feed2.coming) y (turn_here (suc f.less) (Ok Proceed) (took (suc f.less) enough)) goes));
+              onward = λ result y goes. at.onward result y (subst (λ k. Goes (world_of s) (turns_script k custom) (stage_of m i1 r1 q1 feed1.coming) result y) (sym f.is)
+                  (turns_on (world_of s) f.less custom Proceed result (stage_of m i1 r1 q1 feed1.coming) (stage_of t i2 r2 q2 feed2.coming) y (turn_here (suc f.less) (Ok Proceed) (took (suc f.less) enough)) goes));
             }
 
       pub carries_next : (t : State Out H Hi K T renderer completer candidate hinter hint highlighter validator history) (i2 : Input) (r2 : Ring) (q2 : Modal) (feed2 : KeyFeed) → TakesTurn t i2 r2 q2 feed2 (Ok Proceed) → Carries t i2 r2 q2 feed2
@@ -184,9 +184,9 @@ module _ {Out H Hi K T : Type 0} {renderer : renderers.Renderer.Ghosts Out} {com
 
       -- a turn that ends the line
       pub carries_ended : {A : Type 0} (t : State Out H Hi K T renderer completer candidate hinter hint highlighter validator history) (i2 : Input) (r2 : Ring) (q2 : Modal) (feed2 : KeyFeed) (e : ReadlineError) (result : Result A ReadlineError)
-          → IsErrAnd result (λ x. x ≡ e) → TakesTurn t i2 r2 q2 feed2 (Err e) → Takes turns_script custom indent s i r q feed t i2 r2 q2 feed2 (text_or result t.recorded.line.text)
+          → IsErrAnd result (λ x. x ≡ e) → TakesTurn t i2 r2 q2 feed2 (Err e) → Takes turns_script custom s i r q feed t i2 r2 q2 feed2 (text_or result t.recorded.line.text)
       carries_ended t i2 r2 q2 feed2 e result is turn =
-          subst (λ x. Takes turns_script custom indent s i r q feed t i2 r2 q2 feed2 (text_or x t.recorded.line.text)) (sym (is_err e result is)) (record {
+          subst (λ x. Takes turns_script custom s i r q feed t i2 r2 q2 feed2 (text_or x t.recorded.line.text)) (sym (is_err e result is)) (record {
             goes = λ told n h. refused t i2 r2 q2 feed2 (turn.told told) n (so_far.goes (turn.told told) n h) e (turn.goes told);
             stays = λ told. stays_both s m t (so_far.stays (turn.told told)) (turn.stays told);
             told = λ h. so_far.told (turn.told h);
@@ -198,10 +198,10 @@ module _ {Out H Hi K T : Type 0} {renderer : renderers.Renderer.Ghosts Out} {com
 
       -- a turn that accepts the line, and the line's close
       pub carries_closed : {A : Type 0} (m2 t : State Out H Hi K T renderer completer candidate hinter hint highlighter validator history) (i2 : Input) (r2 : Ring) (q2 : Modal) (feed2 : KeyFeed) (result : Result A ReadlineError)
-          → TakesTurn m2 i2 r2 q2 feed2 (Ok Submit) → Does submitted m2 t result → Takes turns_script custom indent s i r q feed t i2 r2 q2 feed2 (text_or result t.recorded.line.text)
+          → TakesTurn m2 i2 r2 q2 feed2 (Ok Submit) → Does submitted m2 t result → Takes turns_script custom s i r q feed t i2 r2 q2 feed2 (text_or result t.recorded.line.text)
       carries_closed m2 t i2 r2 q2 feed2 result turn close = record {
         goes = λ told n h. turned m2 i2 r2 q2 feed2 (turn.told told) n (so_far.goes (turn.told told) n h) Submit (text_or result t.recorded.line.text) (stage_of t i2 r2 q2 feed2.coming) (turn.goes told)
-            (λ k enough. closes indent s m2 t i2 r2 q2 feed2.coming result (stays_both s m m2 (so_far.stays (turn.told told)) (turn.stays told)) close);
+            (λ k enough. closes s m2 t i2 r2 q2 feed2.coming result (stays_both s m m2 (so_far.stays (turn.told told)) (turn.stays told)) close);
         stays = λ told. stays_both s m t (so_far.stays (turn.told told)) (stays_both m m2 t (turn.stays told) close.stays);
         told = λ h. so_far.told (turn.told h);
         keeps = let a : feed2.bound ≤ feed1.bound = turn.keeps in let b : feed1.bound ≤ feed.bound = so_far.keeps in omega arith;
@@ -216,21 +216,21 @@ module _ {Out H Hi K T : Type 0} {renderer : renderers.Renderer.Ghosts Out} {com
   begun : {A : Type 0} (s t : State Out H Hi K T renderer completer candidate hinter hint highlighter validator history) (result : Result A ReadlineError) → Does refreshed s t result → Does line_begun s t result
   begun s t result h = does_both taking_memory refreshed s s t (tt {0}) result (taken s) h
 
-  module _ (custom : Custom) (indent : ℕ) (i : Input) (r : Ring) (q : Modal) (s : State Out H Hi K T renderer completer candidate hinter hint highlighter validator history) (feed : KeyFeed) where
+  module _ (custom : Custom) (i : Input) (r : Ring) (q : Modal) (s : State Out H Hi K T renderer completer candidate hinter hint highlighter validator history) (feed : KeyFeed) where
     drawn_on : {B : Type 0} (n : ℕ) (x : B) (m : State Out H Hi K T renderer completer candidate hinter hint highlighter validator history) (result : Result (List ℕ) ReadlineError) (y : LineStage Out) → Does line_begun s m (Ok x)
-        → Goes (world_of indent m) (turns_script n custom) (stage_of m i r q feed.coming) result y → Goes (world_of indent s) (line_script n custom) (stage_of s i r q feed.coming) result y
+        → Goes (world_of m) (turns_script n custom) (stage_of m i r q feed.coming) result y → Goes (world_of s) (line_script n custom) (stage_of s i r q feed.coming) result y
     unfolding line_script
-    drawn_on n x m result y drawn goes = makes indent s s m (stays_same s) line_begun i r q feed.coming (λ v. turns_script n custom) x result y drawn
-        (subst (λ w. Goes w (turns_script n custom) (stage_of m i r q feed.coming) result y) (world_stays indent s m drawn.stays) goes)
+    drawn_on n x m result y drawn goes = makes s s m (stays_same s) line_begun i r q feed.coming (λ v. turns_script n custom) x result y drawn
+        (subst (λ w. Goes w (turns_script n custom) (stage_of m i r q feed.coming) result y) (world_stays s m drawn.stays) goes)
 
     not_drawn : {B : Type 0} (n : ℕ) (t : State Out H Hi K T renderer completer candidate hinter hint highlighter validator history) (e : ReadlineError) → Does {A = B} line_begun s t (Err e)
-        → Goes (world_of indent s) (line_script n custom) (stage_of s i r q feed.coming) (Err e) (stage_of t i r q feed.coming)
+        → Goes (world_of s) (line_script n custom) (stage_of s i r q feed.coming) (Err e) (stage_of t i r q feed.coming)
     unfolding line_script
-    not_drawn {B} n t e refused = unmade indent s s t (stays_same s) line_begun i r q feed.coming (λ v. turns_script n custom) {A = B} e refused
+    not_drawn {B} n t e refused = unmade s s t (stays_same s) line_begun i r q feed.coming (λ v. turns_script n custom) {A = B} e refused
 
     pub draws : {A B : Type 0} (x : B) (m t : State Out H Hi K T renderer completer candidate hinter hint highlighter validator history) (i2 : Input) (r2 : Ring) (q2 : Modal) (feed2 : KeyFeed) (result : Result A ReadlineError)
-        → Does refreshed s m (Ok x) → Takes turns_script custom indent m i r q feed t i2 r2 q2 feed2 (text_or result t.recorded.line.text)
-        → Takes line_script custom indent s i r q feed t i2 r2 q2 feed2 (text_or result t.recorded.line.text)
+        → Does refreshed s m (Ok x) → Takes turns_script custom m i r q feed t i2 r2 q2 feed2 (text_or result t.recorded.line.text)
+        → Takes line_script custom s i r q feed t i2 r2 q2 feed2 (text_or result t.recorded.line.text)
     draws x m t i2 r2 q2 feed2 result drawn read = record {
       goes = λ told n h. drawn_on n x m (text_or result t.recorded.line.text) (stage_of t i2 r2 q2 feed2.coming) (begun s m (Ok x) drawn) (read.goes told n h);
       stays = λ told. stays_both s m t drawn.stays (read.stays told);
@@ -242,8 +242,8 @@ module _ {Out H Hi K T : Type 0} {renderer : renderers.Renderer.Ghosts Out} {com
     }
 
     pub undrawn : {A B : Type 0} (t : State Out H Hi K T renderer completer candidate hinter hint highlighter validator history) (e : ReadlineError) (result : Result A ReadlineError)
-        → IsErrAnd result (λ x. x ≡ e) → Does {A = B} refreshed s t (Err e) → Takes line_script custom indent s i r q feed t i r q feed (text_or result t.recorded.line.text)
-    undrawn {A} {B} t e result is refused = subst (λ x. Takes line_script custom indent s i r q feed t i r q feed (text_or x t.recorded.line.text)) (sym (is_err e result is)) (record {
+        → IsErrAnd result (λ x. x ≡ e) → Does {A = B} refreshed s t (Err e) → Takes line_script custom s i r q feed t i r q feed (text_or result t.recorded.line.text)
+    undrawn {A} {B} t e result is refused = subst (λ x. Takes line_script custom s i r q feed t i r q feed (text_or x t.recorded.line.text)) (sym (is_err e result is)) (record {
       goes = λ told n h. not_drawn {B = B} n t e (begun {A = B} s t (Err e) refused);
       stays = λ told. refused.stays;
       told = λ h. h;

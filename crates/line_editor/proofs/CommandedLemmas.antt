@@ -78,30 +78,30 @@ module _ {Out H Hi K T : Type 0} {renderer : renderers.Renderer.Ghosts Out} {com
 
   -- ---- a turn, by how often it may read
 
-  module _ (n : ℕ) (custom : Custom) (indent : ℕ) (i : Input) (r : Ring) (modal : Modal) (c : Coming) (s : State Out H Hi K T renderer completer candidate hinter hint highlighter validator history) where
+  module _ (n : ℕ) (custom : Custom) (i : Input) (r : Ring) (modal : Modal) (c : Coming) (s : State Out H Hi K T renderer completer candidate hinter hint highlighter validator history) where
     abbrev Turns : Result Status ReadlineError → LineStage Out → Type 0
-    Turns result y = Goes (world_of indent s) (turn_script n custom) (stage_of s i r modal c) result y
+    Turns result y = Goes (world_of s) (turn_script n custom) (stage_of s i r modal c) result y
 
     turn_begun : (result : Result Status ReadlineError) (y : LineStage Out)
-        → Goes (world_of indent s) ((then) (keyed (steps (line_phrase custom i (shown_in (value_of s))) n)) met_then) (stage_of s i r modal c) result y → Turns result y
+        → Goes (world_of s) ((then) (keyed (steps (line_phrase custom i (shown_in (value_of s))) n)) met_then) (stage_of s i r modal c) result y → Turns result y
     unfolding turn_script
     turn_begun result y goes = inl (record { input = i; shown = shown_in (value_of s) }, stage_of s i r modal c, (refl, refl, (refl, refl)), goes)
 
     module _ (b : ℕ) (enough : b < n) (m : State Out H Hi K T renderer completer candidate hinter hint highlighter validator history) (i1 : Input) (c1 : Coming) where
       -- the phrase
       phrased : (q : Result Cmd ReadlineError) → Happens display_of b (line_phrase custom i (shown_in (value_of s))) (key_stage s i c) q (key_stage m i1 c1)
-          → Goes (world_of indent s) (keyed (steps (line_phrase custom i (shown_in (value_of s))) n)) (stage_of s i r modal c) q (stage_of m i1 r modal c1) × Stays s m
+          → Goes (world_of s) (keyed (steps (line_phrase custom i (shown_in (value_of s))) n)) (stage_of s i r modal c) q (stage_of m i1 r modal c1) × Stays s m
       unfolding Happens
-      phrased q h = phrase_goes_on indent s r modal (steps (line_phrase custom i (shown_in (value_of s))) n) (key_stage s i c) (key_stage m i1 c1) q (stays_same s) (h n enough)
+      phrased q h = phrase_goes_on s r modal (steps (line_phrase custom i (shown_in (value_of s))) n) (key_stage s i c) (key_stage m i1 c1) q (stays_same s) (h n enough)
 
       phrase_stopped : (e : ReadlineError) → Happens display_of b (line_phrase custom i (shown_in (value_of s))) (key_stage s i c) (Err e) (key_stage m i1 c1) → Turns (Err e) (stage_of m i1 r modal c1)
       phrase_stopped e h = turn_begun (Err e) (stage_of m i1 r modal c1)
-          (then_cut (world_of indent s) (keyed (steps (line_phrase custom i (shown_in (value_of s))) n)) met_then e (stage_of s i r modal c) (stage_of m i1 r modal c1) (phrased (Err e) h).0)
+          (then_cut (world_of s) (keyed (steps (line_phrase custom i (shown_in (value_of s))) n)) met_then e (stage_of s i r modal c) (stage_of m i1 r modal c1) (phrased (Err e) h).0)
 
       -- what a search makes of the command
       module _ (cmd : Cmd) (w : State Out H Hi K T renderer completer candidate hinter hint highlighter validator history) (modal' : Modal) (stays : Stays s m) where
         met : (next : Cmd) (result : Result Status ReadlineError) (y : LineStage Out) → Meets cmd m modal w modal' (Ok next)
-            → Goes (world_of indent s) (obeying next) (stage_of w i1 r modal' c1) result y → Goes (world_of indent s) (met_then cmd) (stage_of m i1 r modal c1) result y
+            → Goes (world_of s) (obeying next) (stage_of w i1 r modal' c1) result y → Goes (world_of s) (met_then cmd) (stage_of m i1 r modal c1) result y
         met next result y meets goes =
             let value = edit_value s m w stays (meeting_effect modal cmd) next meets.does in
             let same = setting_stays s m stays in
@@ -117,15 +117,15 @@ module _ {Out H Hi K T : Type 0} {renderer : renderers.Renderer.Ghosts Out} {com
               goes,
             )
 
-        unmet : (e : ReadlineError) → Meets cmd m modal w modal' (Err e) → Goes (world_of indent s) (met_then cmd) (stage_of m i1 r modal c1) (Err e) (stage_of w i1 r modal' c1)
+        unmet : (e : ReadlineError) → Meets cmd m modal w modal' (Err e) → Goes (world_of s) (met_then cmd) (stage_of m i1 r modal c1) (Err e) (stage_of w i1 r modal' c1)
         unmet e meets = inr (e, inr (inl (edit_stops s m w stays (meeting_effect modal cmd) e meets.does, refl)), refl)
 
       module _ (cmd : Cmd) (w t : State Out H Hi K T renderer completer candidate hinter hint highlighter validator history) (modal' : Modal) (ring' : Ring) (stays : Stays s w) where
         abbrev means_here : Means
-        means_here = means_of i1 indent (reset_by cmd r)
+        means_here = means_of i1 (reset_by cmd r)
 
-        commanded : (result : Result Status ReadlineError) → Executes cmd i1 indent w (reset_by cmd r) t ring' result
-            → Goes (world_of indent s) (obeying cmd) (stage_of w i1 r modal' c1) result (stage_of t i1 ring' modal' c1)
+        commanded : (result : Result Status ReadlineError) → Executes cmd i1 w (reset_by cmd r) t ring' result
+            → Goes (world_of s) (obeying cmd) (stage_of w i1 r modal' c1) result (stage_of t i1 ring' modal' c1)
         commanded result (inl (does, outcome_is, ring_is)) = ended result (
           sym (outcome_is ∙ ap (λ a. outcome means_here cmd a (value_of w)) (setting_stays s w stays)),
           ap (λ v. kept v i1 ring' modal' c1) (edit_value s w t stays (effect means_here cmd) (tt {0}) does)
@@ -133,21 +133,21 @@ module _ {Out H Hi K T : Type 0} {renderer : renderers.Renderer.Ghosts Out} {com
           edit_drawn s w t stays (effect means_here cmd) (tt {0}) does,
         )
           where
-            ended : (result : Result Status ReadlineError) → Answered renderer.canvas (renderer.canvas.ruler s.out) (setting_of s) indent (stage_of w i1 r modal' c1) (Obeys cmd) result (stage_of t i1 ring' modal' c1)
-                → Goes (world_of indent s) (obeying cmd) (stage_of w i1 r modal' c1) result (stage_of t i1 ring' modal' c1)
+            ended : (result : Result Status ReadlineError) → Answered renderer.canvas (renderer.canvas.ruler s.out) (setting_of s) (stage_of w i1 r modal' c1) (Obeys cmd) result (stage_of t i1 ring' modal' c1)
+                → Goes (world_of s) (obeying cmd) (stage_of w i1 r modal' c1) result (stage_of t i1 ring' modal' c1)
             ended (Ok status) made = inl (status, stage_of t i1 ring' modal' c1, made, (refl, refl))
             ended (Err e) made = inr (e, inl made, refl)
         commanded result (inr (e, is, refused, ring)) = inr (e, inr (inl (edit_stops s w t stays (effect means_here cmd) e refused, (refl, ring))), is)
 
       -- the phrase, and what follows it
       spoken : (cmd : Cmd) (result : Result Status ReadlineError) (y : LineStage Out) → Happens display_of b (line_phrase custom i (shown_in (value_of s))) (key_stage s i c) (Ok cmd) (key_stage m i1 c1)
-          → Goes (world_of indent s) (met_then cmd) (stage_of m i1 r modal c1) result y → Turns result y
+          → Goes (world_of s) (met_then cmd) (stage_of m i1 r modal c1) result y → Turns result y
       spoken cmd result y h goes = turn_begun result y
-          (then_goes (world_of indent s) (keyed (steps (line_phrase custom i (shown_in (value_of s))) n)) met_then cmd result (stage_of s i r modal c) (stage_of m i1 r modal c1) y (phrased (Ok cmd) h).0 goes)
+          (then_goes (world_of s) (keyed (steps (line_phrase custom i (shown_in (value_of s))) n)) met_then cmd result (stage_of s i r modal c) (stage_of m i1 r modal c1) y (phrased (Ok cmd) h).0 goes)
 
       turn_goes : (cmd next : Cmd) (w t : State Out H Hi K T renderer completer candidate hinter hint highlighter validator history) (modal' : Modal) (ring' : Ring) (result : Result Status ReadlineError)
           → Happens display_of b (line_phrase custom i (shown_in (value_of s))) (key_stage s i c) (Ok cmd) (key_stage m i1 c1)
-          → Meets cmd m modal w modal' (Ok next) → Executes next i1 indent w (reset_by next r) t ring' result → Turns result (stage_of t i1 ring' modal' c1)
+          → Meets cmd m modal w modal' (Ok next) → Executes next i1 w (reset_by next r) t ring' result → Turns result (stage_of t i1 ring' modal' c1)
       turn_goes cmd next w t modal' ring' result h meets k =
           let stays = (phrased (Ok cmd) h).1 in
           spoken cmd result (stage_of t i1 ring' modal' c1) h
@@ -161,19 +161,19 @@ module _ {Out H Hi K T : Type 0} {renderer : renderers.Renderer.Ghosts Out} {com
       turn_stays : (q : Result Cmd ReadlineError) → Happens display_of b (line_phrase custom i (shown_in (value_of s))) (key_stage s i c) q (key_stage m i1 c1) → Stays s m
       turn_stays q h = (phrased q h).1
 
-  executes_stay : (cmd : Cmd) (i : Input) (indent : ℕ) (m t : State Out H Hi K T renderer completer candidate hinter hint highlighter validator history) (ring ring' : Ring) (result : Result Status ReadlineError) → Executes cmd i indent m ring t ring' result → Stays m t
-  executes_stay cmd i indent m t ring ring' result (inl (does, outcome_is, ring_is)) = does.stays
-  executes_stay cmd i indent m t ring ring' result (inr (e, is, refused, left)) = refused.stays
+  executes_stay : (cmd : Cmd) (i : Input) (m t : State Out H Hi K T renderer completer candidate hinter hint highlighter validator history) (ring ring' : Ring) (result : Result Status ReadlineError) → Executes cmd i m ring t ring' result → Stays m t
+  executes_stay cmd i m t ring ring' result (inl (does, outcome_is, ring_is)) = does.stays
+  executes_stay cmd i m t ring ring' result (inr (e, is, refused, left)) = refused.stays
 
   -- ---- turns
 
   -- no command came
-  pub turn_refused : (custom : Custom) (indent : ℕ) (s t : State Out H Hi K T renderer completer candidate hinter hint highlighter validator history) (i i' : Input) (r : Ring) (modal : Modal) (f f' : KeyFeed) (e : ReadlineError) (q : Result Status ReadlineError)
-      → IsErrAnd q (λ x. x ≡ e) → Follows display_of custom (line_phrase custom i (shown_in (value_of s))) s i t i' f f' (Err e) → Takes turn_script custom indent s i r modal f t i' r modal f' q
-  turn_refused custom indent s t i i' r modal f f' e q is h =
-      subst (λ x. Takes turn_script custom indent s i r modal f t i' r modal f' x) (sym (is_err e q is)) (record {
-        goes = λ told n enough. phrase_stopped n custom indent i r modal f.coming s f.bound enough t i' f'.coming e (h.goes told);
-        stays = λ told. turn_stays (suc f.bound) custom indent i r modal f.coming s f.bound (le_refl (suc f.bound)) t i' f'.coming (Err e) (h.goes told);
+  pub turn_refused : (custom : Custom) (s t : State Out H Hi K T renderer completer candidate hinter hint highlighter validator history) (i i' : Input) (r : Ring) (modal : Modal) (f f' : KeyFeed) (e : ReadlineError) (q : Result Status ReadlineError)
+      → IsErrAnd q (λ x. x ≡ e) → Follows display_of custom (line_phrase custom i (shown_in (value_of s))) s i t i' f f' (Err e) → Takes turn_script custom s i r modal f t i' r modal f' q
+  turn_refused custom s t i i' r modal f f' e q is h =
+      subst (λ x. Takes turn_script custom s i r modal f t i' r modal f' x) (sym (is_err e q is)) (record {
+        goes = λ told n enough. phrase_stopped n custom i r modal f.coming s f.bound enough t i' f'.coming e (h.goes told);
+        stays = λ told. turn_stays (suc f.bound) custom i r modal f.coming s f.bound (le_refl (suc f.bound)) t i' f'.coming (Err e) (h.goes told);
         told = h.told;
         keeps = h.keeps;
         falls = tt;
@@ -181,21 +181,21 @@ module _ {Out H Hi K T : Type 0} {renderer : renderers.Renderer.Ghosts Out} {com
         reason = phrase_cause custom t f' e h.reason;
       })
 
-  executes_cause : (custom : Custom) (m t : State Out H Hi K T renderer completer candidate hinter hint highlighter validator history) (f : KeyFeed) (cmd : Cmd) (i : Input) (indent : ℕ) (ring ring' : Ring) (result : Result Status ReadlineError)
-      → Executes cmd i indent m ring t ring' result → IfErr result (λ e. Cause custom t f e)
-  executes_cause custom m t f cmd i indent ring ring' result (inl (does, outcome_is, ring_is)) =
-      subst (λ x. IfErr x (λ e. Cause custom t f e)) (sym outcome_is) (end_cause custom t f (means_of i indent ring) (setting_of m) (value_of m) cmd)
-  executes_cause custom m t f cmd i indent ring ring' result (inr (e, is, k, left)) =
+  executes_cause : (custom : Custom) (m t : State Out H Hi K T renderer completer candidate hinter hint highlighter validator history) (f : KeyFeed) (cmd : Cmd) (i : Input) (ring ring' : Ring) (result : Result Status ReadlineError)
+      → Executes cmd i m ring t ring' result → IfErr result (λ e. Cause custom t f e)
+  executes_cause custom m t f cmd i ring ring' result (inl (does, outcome_is, ring_is)) =
+      subst (λ x. IfErr x (λ e. Cause custom t f e)) (sym outcome_is) (end_cause custom t f (means_of i ring) (setting_of m) (value_of m) cmd)
+  executes_cause custom m t f cmd i ring ring' result (inr (e, is, k, left)) =
       subst (λ x. IfErr x (λ e. Cause custom t f e)) (sym is) (edit_cause custom t f e k.reason)
 
   -- a command came, and what a search made of it failed
-  pub turn_unmade : (custom : Custom) (indent : ℕ) (s m w : State Out H Hi K T renderer completer candidate hinter hint highlighter validator history) (i i1 : Input) (r : Ring) (modal modal' : Modal) (f f1 : KeyFeed) (cmd : Cmd) (e : ReadlineError) (q : Result Status ReadlineError)
+  pub turn_unmade : (custom : Custom) (s m w : State Out H Hi K T renderer completer candidate hinter hint highlighter validator history) (i i1 : Input) (r : Ring) (modal modal' : Modal) (f f1 : KeyFeed) (cmd : Cmd) (e : ReadlineError) (q : Result Status ReadlineError)
       → IsErrAnd q (λ x. x ≡ e) → Follows display_of custom (line_phrase custom i (shown_in (value_of s))) s i m i1 f f1 (Ok cmd) → Meets cmd m modal w modal' (Err e)
-      → Takes turn_script custom indent s i r modal f w i1 r modal' f1 q
-  turn_unmade custom indent s m w i i1 r modal modal' f f1 cmd e q is h meets =
-      subst (λ x. Takes turn_script custom indent s i r modal f w i1 r modal' f1 x) (sym (is_err e q is)) (record {
-        goes = λ told n enough. turn_unmet n custom indent i r modal f.coming s f.bound enough m i1 f1.coming cmd w modal' e (h.goes told) meets;
-        stays = λ told. stays_both s m w (turn_stays (suc f.bound) custom indent i r modal f.coming s f.bound (le_refl (suc f.bound)) m i1 f1.coming (Ok cmd) (h.goes told)) meets.does.stays;
+      → Takes turn_script custom s i r modal f w i1 r modal' f1 q
+  turn_unmade custom s m w i i1 r modal modal' f f1 cmd e q is h meets =
+      subst (λ x. Takes turn_script custom s i r modal f w i1 r modal' f1 x) (sym (is_err e q is)) (record {
+        goes = λ told n enough. turn_unmet n custom i r modal f.coming s f.bound enough m i1 f1.coming cmd w modal' e (h.goes told) meets;
+        stays = λ told. stays_both s m w (turn_stays (suc f.bound) custom i r modal f.coming s f.bound (le_refl (suc f.bound)) m i1 f1.coming (Ok cmd) (h.goes told)) meets.does.stays;
         told = h.told;
         keeps = h.keeps;
         falls = tt;
@@ -204,18 +204,18 @@ module _ {Out H Hi K T : Type 0} {renderer : renderers.Renderer.Ghosts Out} {com
       })
 
   -- a command came
-  pub turn_commanded : (custom : Custom) (indent : ℕ) (s m w t : State Out H Hi K T renderer completer candidate hinter hint highlighter validator history) (i i1 : Input) (r q ring' : Ring) (modal modal' : Modal) (f f1 : KeyFeed) (cmd next : Cmd) (result : Result Status ReadlineError)
+  pub turn_commanded : (custom : Custom) (s m w t : State Out H Hi K T renderer completer candidate hinter hint highlighter validator history) (i i1 : Input) (r q ring' : Ring) (modal modal' : Modal) (f f1 : KeyFeed) (cmd next : Cmd) (result : Result Status ReadlineError)
       → Follows display_of custom (line_phrase custom i (shown_in (value_of s))) s i m i1 f f1 (Ok cmd) → f1.bound < f.bound → Meets cmd m modal w modal' (Ok next) → q ≡ reset_by next r
-      → Executes next i1 indent w q t ring' result → Takes turn_script custom indent s i r modal f t i1 ring' modal' f1 result
-  turn_commanded custom indent s m w t i i1 r q ring' modal modal' f f1 cmd next result h falls meets reset k =
-      let done = subst (λ x. Executes next i1 indent w x t ring' result) reset k in
+      → Executes next i1 w q t ring' result → Takes turn_script custom s i r modal f t i1 ring' modal' f1 result
+  turn_commanded custom s m w t i i1 r q ring' modal modal' f f1 cmd next result h falls meets reset k =
+      let done = subst (λ x. Executes next i1 w x t ring' result) reset k in
       record {
-        goes = λ told n enough. turn_goes n custom indent i r modal f.coming s f.bound enough m i1 f1.coming cmd next w t modal' ring' result (h.goes told) meets done;
-        stays = λ told. stays_both s w t (stays_both s m w (turn_stays (suc f.bound) custom indent i r modal f.coming s f.bound (le_refl (suc f.bound)) m i1 f1.coming (Ok cmd) (h.goes told)) meets.does.stays)
-            (executes_stay next i1 indent w t q ring' result k);
+        goes = λ told n enough. turn_goes n custom i r modal f.coming s f.bound enough m i1 f1.coming cmd next w t modal' ring' result (h.goes told) meets done;
+        stays = λ told. stays_both s w t (stays_both s m w (turn_stays (suc f.bound) custom i r modal f.coming s f.bound (le_refl (suc f.bound)) m i1 f1.coming (Ok cmd) (h.goes told)) meets.does.stays)
+            (executes_stay next i1 w t q ring' result k);
         told = h.told;
         keeps = h.keeps;
         falls = fell result f1.bound f.bound falls;
         mode = h.mode;
-        reason = executes_cause custom w t f1 next i1 indent q ring' result k;
+        reason = executes_cause custom w t f1 next i1 q ring' result k;
       }

@@ -44,15 +44,11 @@ use Rattle.line_editor.specs.Moving.{move_buffer_end}
 use Rattle.line_editor.specs.Redraws.Redraw.{Drawn, Bared, Beeped}
 use Rattle.line_editor.specs.Remembering.{saved_now, at_place, saved_on_leaving, saving_on_leaving, recall, recalled_earlier, history_step, history_end, hit_shown, history_search}
 use Rattle.line_editor.specs.Rewording.{transpose_chars_effect, transpose_words_effect, edit_word_effect, unmarked, undo}
-use Rattle.line_editor.specs.Sights.{sight_as, sight_with, sight_of, ended_sight, Turns, info_after}
-use Rattle.line_editor.specs.Values.{Value, Setting, Effect, hint_reply, verdict_reply, completion_reply, update_reply, shown_hint, unchanged, rewritten, written_of, at_line}
+use Rattle.line_editor.specs.Sights.{sight_with, sight_of, ended_sight, Turns, info_after}
+use Rattle.line_editor.specs.Values.{Value, Setting, Effect, hint_reply, verdict_reply, completion_reply, update_reply, shown_hint, shown_marks, unchanged, rewritten, written_of, at_line}
 use Rattle.line_editor.specs.Values.EditStep.{Draws, Takes}
 use Rattle.line_editor.specs.Yanking.{anchored, steps_over, behind_yank, yanked_by, yank_text, yank_lent, pop_lent}
-use Rattle.line_editor.proofs.LeadLemmas.{turns_both, info_both, both_lead, either, help_turns, asking_leads, edit_leads, back_leads, take_leads, redraw_leads, redrawn_leads, refresh_leads, told_leads, rest_leads, beep_leads, clear_leads, refresh_if_leads, step_leads, motion_leads, none_if, insertion_leads, kill_leads, replace_leads}
-
-or_none : (a b : Bool) → (a || b) ≡ false → (a ≡ false) × (b ≡ false)
-or_none true b h = cc
-or_none false b h = (refl, h)
+use Rattle.line_editor.proofs.LeadLemmas.{turns_both, info_both, both_lead, either, help_turns, Alike, alike_sight, or_none, asking_leads, edit_leads, back_leads, take_leads, redraw_leads, redrawn_leads, refresh_leads, told_leads, rest_leads, beep_leads, clear_leads, refresh_if_leads, step_leads, motion_leads, none_if, insertion_leads, kill_leads, replace_leads}
 
 not_none : (b : Bool) → not b ≡ false → b ≡ true
 not_none true h = refl
@@ -77,25 +73,27 @@ not_anchored : (anchor : Anchor) (l : Line) → steps_over anchor l ≡ false �
 not_anchored After l h = found_none (place_forward 1 l) l h
 not_anchored Before l h = refl
 
-yank_rests : (vi : Bool) (text : List ℕ) (n : ℕ) (v : Value) → is_some (yanked_in text n v.line).answer ≡ false → (yanked_by vi text n v).line ≡ v.line
+yank_rests : (vi : Bool) (text : List ℕ) (n : ℕ) (v : Value) → is_some (yanked_in text n v.line).answer ≡ false → Alike v (yanked_by vi text n v)
 yank_rests vi text n v h =
     let w = rewritten (by (yanking text n)) v in
-    ap (λ (x : Value). x.line) (if_none (is_some (yanked_in text n v.line).answer) (at_line (behind_yank vi w.line) w) w h) ∙ no_yank text n v.line (length text == 0) h
+    let is : yanked_by vi text n v ≡ w = if_none (is_some (yanked_in text n v.line).answer) (at_line (behind_yank vi w.line) w) w h in
+    subst (Alike v) (sym is) (no_yank text n v.line (length text == 0) h, refl, refl)
 
 yank_leads : (vi : Bool) (text : List ℕ) (anchor : Anchor) (n : ℕ) (s : Setting) (v : Value) → Leads s v (yank_text vi text anchor n s v)
 yank_leads vi text anchor n s v =
     let before = at_line (anchored anchor v.line) v in
     either s v (is_some (yanked_in text n before.line).answer || steps_over anchor v.line) _ _ (λ e. edit_leads (answering tt (yanking text n before.line)) s v before (refreshed s (yanked_by vi text n before)) (refresh_leads s v (yanked_by vi text n before))) (λ e.
     let parts = or_none _ _ e in
-    rest_leads s v (yanked_by vi text n before) (yank_rests vi text n before parts.0 ∙ not_anchored anchor v.line parts.1))
+    let rests = yank_rests vi text n before parts.0 in
+    rest_leads s v (yanked_by vi text n before) (rests.0 ∙ not_anchored anchor v.line parts.1, rests.1, rests.2))
 
 lent_leads : (vi : Bool) (anchor : Anchor) (n : ℕ) (o : Option (List ℕ)) (s : Setting) (v : Value) → Leads s v (yank_lent vi anchor n o s v)
-lent_leads vi anchor n None s v = rest_leads s v v refl
+lent_leads vi anchor n None s v = rest_leads s v v (refl, refl, refl)
 lent_leads vi anchor n (Some text) s v = yank_leads vi text anchor n s v
 
 pop_leads : (o : Option (ℕ × List ℕ)) (s : Setting) (v : Value) → Leads s v (pop_lent o s v)
-pop_leads None s v = rest_leads s v v refl
-pop_leads (Some lent) s v = either s v (can_take_before lent.0 v.line) _ _ (λ e. redraw_leads (popping_in_group lent.0 lent.1) s v v) (λ e. rest_leads s v v refl)
+pop_leads None s v = rest_leads s v v (refl, refl, refl)
+pop_leads (Some lent) s v = either s v (can_take_before lent.0 v.line) _ _ (λ e. redraw_leads (popping_in_group lent.0 lent.1) s v v) (λ e. rest_leads s v v (refl, refl, refl))
 
 -- ---- words
 
@@ -129,11 +127,11 @@ over_rests c (Some end) w h = cc
 -- ---- undo
 
 undo_leads : (n : ℕ) (s : Setting) (v : Value) → Leads s v (undo n s v)
-undo_leads n s v = either s v (has_step (max n 1) v.held) _ _ (λ e. back_leads s v v (max n 1) (refreshed s (rewritten (undone n) v)) (refresh_leads s v (rewritten (undone n) v))) (λ e. back_leads s v v (max n 1) (unchanged s (unmarked n v)) (rest_leads s v (unmarked n v) refl))
+undo_leads n s v = either s v (has_step (max n 1) v.held) _ _ (λ e. back_leads s v v (max n 1) (refreshed s (rewritten (undone n) v)) (refresh_leads s v (rewritten (undone n) v))) (λ e. back_leads s v v (max n 1) (unchanged s (unmarked n v)) (rest_leads s v (unmarked n v) (refl, refl, refl)))
 
 -- ---- history
 
-recall_leads : (place : ℕ) (o : Option Hit) (s : Setting) (v w : Value) → w.line ≡ v.line → Leads s v (recall place o s w)
+recall_leads : (place : ℕ) (o : Option Hit) (s : Setting) (v w : Value) → Alike v w → Leads s v (recall place o s w)
 recall_leads place None s v w h = rest_leads s v w h
 recall_leads place (Some hit) s v w h = redraw_leads (updating_in_group hit.entry (length hit.entry)) s v (at_place place w)
 
@@ -147,53 +145,56 @@ leaving_leads s v = by_test (v.history == length s.entries)
 recall_left : (place : ℕ) (s : Setting) (v : Value) → Leads s v (recalled_earlier place s v)
 recall_left place s v =
     let w = saved_on_leaving s v in
-    both_lead s v saving_on_leaving (recall place (entry_at place s.entries)) (leaving_leads s v) (recall_leads place (entry_at place s.entries) s w w refl)
+    both_lead s v saving_on_leaving (recall place (entry_at place s.entries)) (leaving_leads s v) (recall_leads place (entry_at place s.entries) s w w (refl, refl, refl))
 
 step_back_leads : (back : Bool) (s : Setting) (v : Value) → Leads s v (history_step back s v)
-step_back_leads true s v = either s v (v.history == 0) _ _ (λ e. rest_leads s v v refl) (λ e. recall_left (v.history - 1) s v)
+step_back_leads true s v = either s v (v.history == 0) _ _ (λ e. rest_leads s v v (refl, refl, refl)) (λ e. recall_left (v.history - 1) s v)
 step_back_leads false s v =
-    either s v (v.history == length s.entries) _ _ (λ e. rest_leads s v v refl) (λ e.
-    either s v (v.history + 1 == length s.entries) _ _ (λ e. redraw_leads (updating v.saved.text v.saved.place) s v (at_place (length s.entries) v)) (λ e. recall_leads (v.history + 1) _ s v v refl))
+    either s v (v.history == length s.entries) _ _ (λ e. rest_leads s v v (refl, refl, refl)) (λ e.
+    either s v (v.history + 1 == length s.entries) _ _ (λ e. redraw_leads (updating v.saved.text v.saved.place) s v (at_place (length s.entries) v)) (λ e. recall_leads (v.history + 1) _ s v v (refl, refl, refl)))
 
 end_leads : (first : Bool) (s : Setting) (v : Value) → Leads s v (history_end first s v)
-end_leads true s v = either s v (v.history == 0) _ _ (λ e. rest_leads s v v refl) (λ e. recall_left 0 s v)
+end_leads true s v = either s v (v.history == 0) _ _ (λ e. rest_leads s v v (refl, refl, refl)) (λ e. recall_left 0 s v)
 end_leads false s v =
-    either s v (v.history == length s.entries) _ _ (λ e. rest_leads s v v refl) (λ e. redraw_leads (updating v.saved.text v.saved.place) s v (at_place (length s.entries) v))
+    either s v (v.history == length s.entries) _ _ (λ e. rest_leads s v v (refl, refl, refl)) (λ e. redraw_leads (updating v.saved.text v.saved.place) s v (at_place (length s.entries) v))
 
-found_leads : (o : Option Hit) (s : Setting) (v w : Value) → w.line ≡ v.line → Leads s v (hit_shown o s w)
+found_leads : (o : Option Hit) (s : Setting) (v w : Value) → Alike v w → Leads s v (hit_shown o s w)
 found_leads None s v w h = beep_leads s v w h
 found_leads (Some hit) s v w h = redraw_leads (updating_in_group hit.entry hit.pos) s v (at_place hit.idx w)
 
 search_leads : (dir : SearchDirection) (s : Setting) (v : Value) → Leads s v (history_search dir s v)
-search_leads Reverse s v = either s v (v.history == 0) _ _ (λ e. beep_leads s v v refl) (λ e. found_leads _ s v (at_place (v.history - 1) v) refl)
-search_leads Forward s v = either s v (v.history == length s.entries) _ _ (λ e. beep_leads s v v refl) (λ e. found_leads _ s v (at_place (v.history + 1) v) refl)
+search_leads Reverse s v = either s v (v.history == 0) _ _ (λ e. beep_leads s v v (refl, refl, refl)) (λ e. found_leads _ s v (at_place (v.history - 1) v) (refl, refl, refl))
+search_leads Forward s v = either s v (v.history == length s.entries) _ _ (λ e. beep_leads s v v (refl, refl, refl)) (λ e. found_leads _ s v (at_place (v.history + 1) v) (refl, refl, refl))
 
 -- ---- lines that are to be accepted
 
-bared_by : (s : Setting) (v w : Value) (b : Bool) → w.line ≡ v.line
+bared_by : (s : Setting) (v w : Value) (b : Bool) → (is_some v.hint || (v.marked || w.marked)) ≡ b → w.line ≡ v.line → is_some w.hint ≡ false
     → Leads s v (record { value = w; steps = Draws w s.marks (if b then Drawn s.prompt true w.line.text w.line.place None else Bared s.prompt w.line.text w.line.place) ∷ [] })
-bared_by s v w true h info = record { fits = ((λ e. refl), tt); leads = refl }
-bared_by s v w false h info = record { fits = (refl, tt); leads = ap (λ (l : Line). sight_as s.prompt l.text l.place info) (sym h) }
+bared_by s v w true e h none info = record { fits = ((λ e. refl), tt); leads = refl }
+bared_by s v w false e h none info =
+    let hint = or_none (is_some v.hint) _ e in
+    let marks = or_none v.marked w.marked hint.1 in
+    record { fits = (refl, tt); leads = alike_sight s v w info (h, marks.1 ∙ sym marks.0, none ∙ sym hint.0) }
 
 bare_leads : (s : Setting) (v : Value) → Leads s v (bare s v)
-bare_leads s v = bared_by s v (bared v s) (is_some v.hint || (v.marked || (bared v s).marked)) refl
+bare_leads s v = bared_by s v (bared v s) (is_some v.hint || (v.marked || (bared v s).marked)) refl refl refl
 
-told_if_leads : (draws : Bool) (text : Option (List ℕ)) (kind : CmdKind) (s : Setting) (v w : Value) → w.line ≡ v.line → Leads s v (told_if draws text kind s w)
+told_if_leads : (draws : Bool) (text : Option (List ℕ)) (kind : CmdKind) (s : Setting) (v w : Value) → Alike v w → Leads s v (told_if draws text kind s w)
 told_if_leads draws text kind s v w h = either s v (draws || is_some text) _ _ (λ e. told_leads text kind s v w) (λ e. rest_leads s v w h)
 
-verdict_leads : (found : ValidationResult) (draws : Bool) (s : Setting) (v w : Value) → w.line ≡ v.line → Leads s v (verdict_told found draws s w)
+verdict_leads : (found : ValidationResult) (draws : Bool) (s : Setting) (v w : Value) → Alike v w → Leads s v (verdict_told found draws s w)
 verdict_leads Incomplete draws s v w h = rest_leads s v w h
 verdict_leads (Invalid text) draws s v w h = told_if_leads draws text Other s v w h
 verdict_leads (Valid text) draws s v w h = told_if_leads draws text ForcedRefresh s v w h
 
 validate_leads : (reply : Option (Reply ValidationResult)) (s : Setting) (v : Value) → Leads s v (validate_by reply s v)
-validate_leads None s v = rest_leads s v v refl
+validate_leads None s v = rest_leads s v v (refl, refl, refl)
 validate_leads (Some reply) s v =
     let found = verdict_given reply.answer in
     let w = rewritten group_opened v in
     let draws = closes w.held || is_some w.hint in
-    both_lead s v opened_and_asked (closed_and_told found) (take_leads s v v (verdict_asked s w) (asking_leads w (verdict_reply s w) s v w refl))
-    (verdict_leads found draws s w (rewritten group_closed w) refl)
+    both_lead s v opened_and_asked (closed_and_told found) (take_leads s v v (verdict_asked s w) (asking_leads w (verdict_reply s w) s v w (refl, refl, refl)))
+    (verdict_leads found draws s w (rewritten group_closed w) (refl, refl, refl))
 
 accept_leads : (s : Setting) (v : Value) → Leads s v (accept s v)
 accept_leads s v = both_lead s v bare validate (bare_leads s v) (validate_leads (verdict_reply s (bare s v).value) s (bare s v).value)
@@ -203,8 +204,8 @@ newline_leads s v = both_lead s v bare (insert_char 10 1) (bare_leads s v) (inse
 
 newline_if_leads : (accepted : Bool) (found : ValidationResult) (s : Setting) (v : Value) → Leads s v (newline_if accepted found s v)
 newline_if_leads accepted found s v =
-    either s v accepted _ _ (λ e. rest_leads s v v refl) (λ e.
-    either s v (is_valid found || not (has_message found)) _ _ (λ e. insertion_leads 10 1 s v) (λ e. rest_leads s v v refl))
+    either s v accepted _ _ (λ e. rest_leads s v v (refl, refl, refl)) (λ e.
+    either s v (is_valid found || not (has_message found)) _ _ (λ e. insertion_leads 10 1 s v) (λ e. rest_leads s v v (refl, refl, refl)))
 
 accept_or_insert_leads : (middle : Bool) (s : Setting) (v : Value) → Leads s v (accept_or_insert middle s v)
 accept_or_insert_leads middle s v =
@@ -219,7 +220,7 @@ completion_leads (Some text) s v w =
     either s v (is_some (yanked_in text 1 w.line).answer) _ _ (λ e. redraw_leads (yanking text 1) s v w) (λ e. redrawn_leads Beeped u (hint_reply s u) s v (asked_anew s u).value (λ y. tt))
 
 hint_leads : (o : Option Hinted) (s : Setting) (v : Value) → Leads s v (complete_by o s v)
-hint_leads None s v = rest_leads s v v refl
+hint_leads None s v = rest_leads s v v (refl, refl, refl)
 hint_leads (Some hint) s v = completion_leads hint.completion s v (at_row_end v)
 
 -- ---- completion
@@ -229,16 +230,16 @@ updating_leads None s v e h = h
 updating_leads (Some reply) s v e h = λ info. record { fits = (tt, (tt, (h info).fits)); leads = (h info).leads }
 
 elected_leads : (start : ℕ) (o : Option (List ℕ)) (s : Setting) (v : Value) → Leads s v (completed_with start o s v)
-elected_leads start None s v = beep_leads s v v refl
+elected_leads start None s v = beep_leads s v v (refl, refl, refl)
 elected_leads start (Some text) s v =
     let w = rewritten (word_replaced start text) v in
     updating_leads (update_reply start text s v) s v (refreshed s w) (refresh_leads s v w)
 
 complete_leads : (reply : Option (Reply Completion)) (s : Setting) (v : Value) → Leads s v (complete_if reply s v)
-complete_leads None s v = rest_leads s v v refl
+complete_leads None s v = rest_leads s v v (refl, refl, refl)
 complete_leads (Some reply) s v =
     let found = candidates_given (Some reply) in
-    both_lead s v candidates_asked (completed found) (asking_leads v (completion_reply s v) s v v refl) (elected_leads found.start (elected found v.line) s v)
+    both_lead s v candidates_asked (completed found) (asking_leads v (completion_reply s v) s v v (refl, refl, refl)) (elected_leads found.start (elected found v.line) s v)
 
 -- ---- rows, or the history
 
@@ -251,48 +252,48 @@ down_leads n s v = either s v (is_some (line_down s.mode s.tabs s.column n v.lin
 -- ---- a copy
 
 copy_leads : (movement : Movement) (s : Setting) (v : Value) → Leads s v (copy_effect movement s v)
-copy_leads movement s v = either s v (is_some (copied_range movement v.line)) _ _ (λ e. take_leads s v v (unchanged s v) (rest_leads s v v refl)) (λ e. rest_leads s v v refl)
+copy_leads movement s v = either s v (is_some (copied_range movement v.line)) _ _ (λ e. take_leads s v v (unchanged s v) (rest_leads s v v (refl, refl, refl))) (λ e. rest_leads s v v (refl, refl, refl))
 
 -- ---- the laws
 
 pub commands_lead : CommandsLead
-commands_lead m Abort s v = rest_leads s v v refl
+commands_lead m Abort s v = rest_leads s v v (refl, refl, refl)
 commands_lead m AcceptLine s v = accept_leads s v
 commands_lead m BeginningOfHistory s v = end_leads true s v
 commands_lead m CapitalizeWord s v = word_leads Capitalize s v
 commands_lead m ClearScreen s v = clear_leads s v
 commands_lead m Complete s v = complete_leads (completion_reply s v) s v
-commands_lead m CompleteBackward s v = rest_leads s v v refl
+commands_lead m CompleteBackward s v = rest_leads s v v (refl, refl, refl)
 commands_lead m CompleteHint s v = hint_leads v.hint s v
-commands_lead m (Dedent movement) s v = redraw_leads (indenting movement m.indent_size true) s v v
+commands_lead m (Dedent movement) s v = redraw_leads (indenting movement s.config.indent_size true) s v v
 commands_lead m DowncaseWord s v = word_leads Lowercase s v
 commands_lead m EndOfFile s v = bare_leads s v
 commands_lead m EndOfHistory s v = end_leads false s v
-commands_lead m ForwardSearchHistory s v = rest_leads s v v refl
+commands_lead m ForwardSearchHistory s v = rest_leads s v v (refl, refl, refl)
 commands_lead m HistorySearchBackward s v = search_leads Reverse s v
 commands_lead m HistorySearchForward s v = search_leads Forward s v
-commands_lead m (Indent movement) s v = redraw_leads (indenting movement m.indent_size false) s v v
+commands_lead m (Indent movement) s v = redraw_leads (indenting movement s.config.indent_size false) s v v
 commands_lead m (Insert n text) s v = yank_leads (in_vi_command m) text Before n s v
 commands_lead m Interrupt s v = λ info. record { fits = (tt, tt); leads = refl }
 commands_lead m (Kill movement) s v = kill_leads movement s v
 commands_lead m (Move movement) s v = motion_leads movement s v
 commands_lead m NextHistory s v = step_back_leads false s v
-commands_lead m Noop s v = rest_leads s v v refl
+commands_lead m Noop s v = rest_leads s v v (refl, refl, refl)
 commands_lead m Repaint s v = refresh_leads s v v
 commands_lead m (Overwrite c) s v = refresh_if_leads (overwriting c) s v (is_some (place_forward 1 v.line)) (over_rests c (place_forward 1 v.line) (written_of v))
 commands_lead m PreviousHistory s v = step_back_leads true s v
-commands_lead m QuotedInsert s v = rest_leads s v v refl
+commands_lead m QuotedInsert s v = rest_leads s v v (refl, refl, refl)
 commands_lead m (ReplaceChar n c) s v = refresh_if_leads (replacing_if_any c n) s v (is_some (place_forward n v.line))
     (λ e. ap (λ (steps : WriteSteps Bool). (made steps (written_of v)).line) (if_none (is_some (place_forward n v.line)) (answering true (replacing c n v.line)) (doing_nothing false) e))
 commands_lead m (Replace movement text) s v = replace_leads movement text s v
-commands_lead m ReverseSearchHistory s v = rest_leads s v v refl
-commands_lead m (SearchAgain way) s v = rest_leads s v v refl
+commands_lead m ReverseSearchHistory s v = rest_leads s v v (refl, refl, refl)
+commands_lead m (SearchAgain way) s v = rest_leads s v v (refl, refl, refl)
 commands_lead m (SelfInsert n c) s v = insertion_leads c n s v
-commands_lead m Suspend s v = rest_leads s v v refl
+commands_lead m Suspend s v = rest_leads s v v (refl, refl, refl)
 commands_lead m TransposeChars s v = chars_lead s v
 commands_lead m (TransposeWords n) s v = words_lead n s v
 commands_lead m (Undo n) s v = undo_leads n s v
-commands_lead m Unknown s v = rest_leads s v v refl
+commands_lead m Unknown s v = rest_leads s v v (refl, refl, refl)
 commands_lead m UpcaseWord s v = word_leads Uppercase s v
 commands_lead m (ViYankTo movement) s v = copy_leads movement s v
 commands_lead m (Yank n anchor) s v = lent_leads (in_vi_command m) anchor n (slice_get m.ring.slots m.ring.place) s v
@@ -319,7 +320,7 @@ asks_lead LineAsked s v x =
 asks_lead (Message text kind) s v x = record { fits = ((λ e. refl), tt); leads = refl }
 asks_lead (Prompted prompt) s v x =
     let w = (asked_anew s v).value in
-    help_turns v (hint_reply s v) s.prompt x (sight_with false prompt w.line.text w.line.place (shown_hint w)) (drawn_behind prompt false s w).steps
+    help_turns v (hint_reply s v) s.prompt x (sight_with (shown_marks w s.marks) false prompt w.line.text w.line.place (shown_hint w)) (drawn_behind prompt false s w).steps
     (record { fits = ((λ e. cc), tt); leads = refl })
 asks_lead DoingInsert s v x = refl
 asks_lead DoneInserting s v x = refl

@@ -1,8 +1,10 @@
 -- One edit, then another.
-use Rattle.std.proofs.Common.{◌≡◌, List, [], ◌∷◌, ◌++◌, refl, sym, ap, subst, ◌∙◌, if◌then◌else◌, Option, None, option_map}
+use Rattle.std.proofs.Common.{◌≡◌, Bool, List, [], ◌∷◌, ◌++◌, refl, sym, ap, subst, ◌∙◌, if◌then◌else◌, Option, None, option_map}
 use Rattle.std.specs.Prelude.{⊤, ℕ, Result, Ok, Err, OnOk, IfErr, IsErrAnd}
 use Rattle.std.proofs.lemmas.Result.{on_ok_weaker}
+use Rattle.line_config.specs.declared.config.Config.{Config}
 use Rattle.line_buffer.specs.Cells.{origin}
+use Rattle.line_buffer.specs.declared.types.Movement.{Movement}
 use Rattle.std.specs.List.{FoldsTo}
 use Rattle.line_config.specs.declared.errors.ReadlineError.{ReadlineError}
 use Rattle.line_config.specs.declared.errors.ReadlineError.TheVariants.{Display}
@@ -15,6 +17,7 @@ use Rattle.line_edits.specs.Steps.{WriteSteps}
 use Rattle.line_editor.specs.Calls.{Marks, Ruler, MadeIn}
 use Rattle.line_editor.specs.Redraws.{Asked, then_asked}
 use Rattle.line_editor.specs.Steps.{asked, Surface, surface, Stops}
+use Rattle.line_editor.specs.Rewording.{indent_effect, indent_by_setting}
 use Rattle.line_editor.specs.States.{hooks_of, value_of, setting_of, reason_of, surface_of, Stays, Does, Renders}
 use Rattle.line_editor.specs.Values.{Value, Setting, Hooks, Effect, Transition, IsFailing, then_do}
 use Rattle.line_editor.specs.Values.EditStep.{Edits}
@@ -30,8 +33,8 @@ pub if_refused : {A : Type 0} {Q R : ReadlineError → Type 0} (result : Result 
 if_refused (Ok x) go k = tt
 if_refused (Err e) go k = go e k
 
-abbrev setting_by : Ruler → List ℕ → Option Hooks → Option Marks → List (List ℕ) → Setting
-setting_by r prompt hooks marks entries = record {
+abbrev setting_by : Ruler → List ℕ → Option Hooks → Option Marks → List (List ℕ) → Config → Setting
+setting_by r prompt hooks marks entries config = record {
   prompt = prompt;
   column = (r.measure prompt origin).col;
   mode = r.mode;
@@ -39,17 +42,19 @@ setting_by r prompt hooks marks entries = record {
   hooks = hooks;
   marks = if r.colours then marks else None;
   entries = entries;
+  config = config;
 }
 
 module _ {Out H Hi K T : Type 0} {renderer : renderers.Renderer.Ghosts Out} {completer : completions.Completer.Ghosts H K} {candidate : completions.Candidate.Ghosts K}
     {hinter : hints.Hinter.Ghosts H T} {hint : hints.Hint.Ghosts T} {highlighter : highlights.Highlighter.Ghosts H} {validator : verdicts.Validator.Ghosts H} {history : histories.History.Ghosts Hi} where
   pub setting_stays : (s t : State Out H Hi K T renderer completer candidate hinter hint highlighter validator history) → Stays s t → setting_of t ≡ setting_of s
   setting_stays s t h =
-      ap (λ r. setting_by r t.prompt.now (option_map (hooks_of completer hinter validator) t.helper) (option_map highlighter.marks t.helper) (history.entries t.ctx.history.now)) h.ruler
-      ∙ ap (λ p. setting_by (renderer.canvas.ruler s.out) p (option_map (hooks_of completer hinter validator) t.helper) (option_map highlighter.marks t.helper) (history.entries t.ctx.history.now)) h.prompt
-      ∙ ap (λ a. setting_by (renderer.canvas.ruler s.out) s.prompt.now a (option_map highlighter.marks t.helper) (history.entries t.ctx.history.now)) h.hooks_are
-      ∙ ap (λ a. setting_by (renderer.canvas.ruler s.out) s.prompt.now (option_map (hooks_of completer hinter validator) s.helper) a (history.entries t.ctx.history.now)) h.marks_are
-      ∙ ap (λ x. setting_by (renderer.canvas.ruler s.out) s.prompt.now (option_map (hooks_of completer hinter validator) s.helper) (option_map highlighter.marks s.helper) (history.entries x)) h.history_is
+      ap (λ r. setting_by r t.prompt.now (option_map (hooks_of completer hinter validator) t.helper) (option_map highlighter.marks t.helper) (history.entries t.ctx.history.now) t.config.now) h.ruler
+      ∙ ap (λ p. setting_by (renderer.canvas.ruler s.out) p (option_map (hooks_of completer hinter validator) t.helper) (option_map highlighter.marks t.helper) (history.entries t.ctx.history.now) t.config.now) h.prompt
+      ∙ ap (λ a. setting_by (renderer.canvas.ruler s.out) s.prompt.now a (option_map highlighter.marks t.helper) (history.entries t.ctx.history.now) t.config.now) h.hooks_are
+      ∙ ap (λ a. setting_by (renderer.canvas.ruler s.out) s.prompt.now (option_map (hooks_of completer hinter validator) s.helper) a (history.entries t.ctx.history.now) t.config.now) h.marks_are
+      ∙ ap (λ x. setting_by (renderer.canvas.ruler s.out) s.prompt.now (option_map (hooks_of completer hinter validator) s.helper) (option_map highlighter.marks s.helper) (history.entries x) t.config.now) h.history_is
+      ∙ ap (λ x. setting_by (renderer.canvas.ruler s.out) s.prompt.now (option_map (hooks_of completer hinter validator) s.helper) (option_map highlighter.marks s.helper) (history.entries s.ctx.history.now) x) h.config_is
 
   pub stays_same : (s : State Out H Hi K T renderer completer candidate hinter hint highlighter validator history) → Stays s s
   stays_same s = record {
@@ -58,6 +63,7 @@ module _ {Out H Hi K T : Type 0} {renderer : renderers.Renderer.Ghosts Out} {com
     history_is = refl;
     hooks_are = refl;
     marks_are = refl;
+    config_is = refl;
   }
 
   pub stays_both : (s m t : State Out H Hi K T renderer completer candidate hinter hint highlighter validator history) → Stays s m → Stays m t → Stays s t
@@ -67,6 +73,7 @@ module _ {Out H Hi K T : Type 0} {renderer : renderers.Renderer.Ghosts Out} {com
     history_is = k.history_is ∙ h.history_is;
     hooks_are = k.hooks_are ∙ h.hooks_are;
     marks_are = k.marks_are ∙ h.marks_are;
+    config_is = k.config_is ∙ h.config_is;
   }
 
   -- the second edit is that of the value which the first one leaves
@@ -199,3 +206,9 @@ module _ {Out H Hi K T : Type 0} {renderer : renderers.Renderer.Ghosts Out} {com
         stops = subst (λ (x : Effect). IfErr result (λ fault. Stops renderer.canvas (renderer.canvas.ruler s.out) x.steps (surface_of s) fault (value_of t) (surface_of t))) is
             (subst (λ (x : Surface Out). IfErr result (λ fault. Stops renderer.canvas (renderer.canvas.ruler x.out) e.steps x fault (value_of t) (surface_of t))) same h.stops);
       }
+
+  -- indented by as many spaces as the setting says
+  pub indent_does : {A : Type 0} (movement : Movement) (dedent : Bool) (n : ℕ) (s t : State Out H Hi K T renderer completer candidate hinter hint highlighter validator history) (result : Result A ReadlineError)
+      → n ≡ s.config.now.indent_size → Does (indent_effect movement n dedent) s t result → Does (indent_by_setting movement dedent) s t result
+  indent_does movement dedent n s t result is h =
+      does_from (indent_effect movement n dedent) (indent_by_setting movement dedent) s s t result (ap (λ n. indent_effect movement n dedent (setting_of s) (value_of s)) is) refl (stays_same s) h

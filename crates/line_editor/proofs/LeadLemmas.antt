@@ -33,10 +33,11 @@ use Rattle.line_editor.specs.Inserting.{is_bare, may_be_typed, put_shown, insert
 use Rattle.line_editor.specs.Killing.{may_be_taken, taken_shown, show_taken, kill_effect, insert_text_if, replace}
 use Rattle.line_editor.specs.Leads.{Leads}
 use Rattle.line_editor.specs.Moving.{cursor_moved_if, to_found, to_place, move_home, move_to_next_word, move_to_first_print, move_by}
-use Rattle.line_editor.specs.Redraws.{Redraw}
+use Rattle.line_editor.specs.Calls.{Marks}
+use Rattle.line_editor.specs.Redraws.{Redraw, info_text}
 use Rattle.line_editor.specs.Redraws.Redraw.{Drawn, Moved, Typed, Taken, Cleared}
-use Rattle.line_editor.specs.Sights.{Sight, sight_as, sight, sight_all, Fits, FitsAll, Turns, info_one, info_after, sight_of}
-use Rattle.line_editor.specs.Values.{Value, Setting, EditStep, Effect, Transition, unchanged, then_do, hint_reply, helped, rewritten, rewriting, at_line, with_mark}
+use Rattle.line_editor.specs.Sights.{PartSpans, drawn_spans, Sight, SameStyles, sight_as, sight, sight_all, Fits, FitsAll, Turns, info_one, info_after, sight_of}
+use Rattle.line_editor.specs.Values.{Value, Setting, EditStep, Effect, Transition, unchanged, then_do, hint_reply, helped, rewritten, rewriting, at_line, with_mark, seen, shown_marks}
 use Rattle.line_editor.specs.Values.EditStep.{Draws, Edits, TakesBack, Takes}
 use Rattle.line_editor.proofs.KillLemmas.{Low, cut_text, range_low}
 use Rattle.line_editor.proofs.SimpleLemmas.{typed_at_any}
@@ -68,6 +69,63 @@ both_lead s v first second h k info =
     let between = info_after e.steps info in
     subst (λ i. Turns s.prompt (sight_of s v info) (e.steps ++ f.steps) (sight_of s f.value i)) (sym (info_both e.steps f.steps info))
     (turns_both s.prompt (sight_of s v info) (sight_of s e.value between) (sight_of s f.value (info_after f.steps between)) e.steps f.steps (h info) (k between))
+
+-- ---- values that are seen alike
+
+-- line, mark, and whether there is a hint
+abbrev pub Alike : Value → Value → Type 0
+Alike v w = (w.line ≡ v.line) × (w.marked ≡ v.marked) × (is_some w.hint ≡ is_some v.hint)
+
+abbrev sight_by : Setting → Option (List ℕ) → Line → Bool → Bool → Sight
+sight_by s info l marked hinted = sight_as (seen marked (not hinted) s.marks) s.prompt l.text l.place info
+
+pub alike_sight : (s : Setting) (v w : Value) (info : Option (List ℕ)) → Alike v w → sight_of s v info ≡ sight_of s w info
+alike_sight s v w info h =
+    ap (λ l. sight_by s info l v.marked (is_some v.hint)) (sym h.0)
+    ∙ ap (λ b. sight_by s info w.line b (is_some v.hint)) (sym h.1)
+    ∙ ap (λ b. sight_by s info w.line w.marked b) (sym h.2)
+
+-- an unmarked line has no spans, whatever its text and its place
+unmarked_spans : (marks : Option Marks) (told : Bool) (prompt text other : List ℕ) (place at : ℕ) (info : List ℕ) → drawn_spans (seen false told marks) true prompt text place info ≡ drawn_spans (seen false told marks) true prompt other at info
+unmarked_spans None told prompt text other place at info = refl
+unmarked_spans (Some m) told prompt text other place at info = refl
+
+unmarked_line : (marks : Option Marks) (told : Bool) (prompt text : List ℕ) (place : ℕ) (info : List ℕ) → (drawn_spans (seen false told marks) true prompt text place info).line ≡ []
+unmarked_line None told prompt text place info = refl
+unmarked_line (Some m) told prompt text place info = refl
+
+-- the spans of a value of which both are unmarked, and have a hint or none
+still_spans : (s : Setting) (v w : Value) (info : List ℕ) → v.marked ≡ false → w.marked ≡ false → is_some w.hint ≡ is_some v.hint
+    → drawn_spans (shown_marks v s.marks) true s.prompt v.line.text v.line.place info ≡ drawn_spans (shown_marks w s.marks) true s.prompt w.line.text w.line.place info
+still_spans s v w info a b c =
+    let of : Line → Bool → Bool → PartSpans = λ l marked hinted. drawn_spans (seen marked (not hinted) s.marks) true s.prompt l.text l.place info in
+    ap (λ x. of v.line x (is_some v.hint)) a
+    ∙ unmarked_spans s.marks (not (is_some v.hint)) s.prompt v.line.text w.line.text v.line.place w.line.place info
+    ∙ ap (λ x. of w.line false x) (sym c)
+    ∙ ap (λ x. of w.line x (is_some w.hint)) (sym b)
+
+-- a bare value's spans are those of another
+pub bare_styles : (s : Setting) (v w : Value) (info : Option (List ℕ)) → is_bare v ≡ true → is_bare w ≡ true → SameStyles (sight_of s v info) (shown_marks w s.marks) s.prompt w.line.text w.line.place
+bare_styles s v w info a b =
+    let first = and_parts (not (is_some v.hint)) (not v.marked) a in
+    let later = and_parts (not (is_some w.hint)) (not w.marked) b in
+    let before = not_true v.marked first.1 in
+    let after = not_true w.marked later.1 in
+    record {
+      unstyled = ap (λ x. (drawn_spans (seen x (not (is_some v.hint)) s.marks) true s.prompt v.line.text v.line.place (info_text info)).line) before
+          ∙ unmarked_line s.marks (not (is_some v.hint)) s.prompt v.line.text v.line.place (info_text info);
+      same = λ none.
+          sym (still_spans s v w [] before after (not_true (is_some w.hint) later.0 ∙ sym (not_true (is_some v.hint) first.0)))
+          ∙ ap (λ o. drawn_spans (shown_marks v s.marks) true s.prompt v.line.text v.line.place (info_text o)) (sym none);
+    }
+  where
+    not_true : (b : Bool) → not b ≡ true → b ≡ false
+    not_true true h = cc
+    not_true false h = refl
+
+pub or_none : (a b : Bool) → (a || b) ≡ false → (a ≡ false) × (b ≡ false)
+or_none true b h = cc
+or_none false b h = (refl, h)
 
 -- one of two
 pub either : (s : Setting) (v : Value) (b : Bool) (e f : Effect) → (b ≡ true → Leads s v e) → (b ≡ false → Leads s v f) → Leads s v (if b then e else f)
@@ -103,9 +161,9 @@ pub help_leads : {A : Type 0} (w : Value) (reply : Option (Reply A)) (s : Settin
 help_leads w None s v e h = h
 help_leads w (Some reply) s v e h = λ info. record { fits = (tt, (h info).fits); leads = (h info).leads }
 
-pub asking_leads : {A : Type 0} (u : Value) (reply : Option (Reply A)) (s : Setting) (v w : Value) → w.line ≡ v.line → Leads s v (record { value = w; steps = helped u reply })
-asking_leads u None s v w h info = record { fits = tt; leads = ap (λ (l : Line). sight_as s.prompt l.text l.place info) (sym h) }
-asking_leads u (Some reply) s v w h info = record { fits = (tt, tt); leads = ap (λ (l : Line). sight_as s.prompt l.text l.place info) (sym h) }
+pub asking_leads : {A : Type 0} (u : Value) (reply : Option (Reply A)) (s : Setting) (v w : Value) → Alike v w → Leads s v (record { value = w; steps = helped u reply })
+asking_leads u None s v w h info = record { fits = tt; leads = alike_sight s v w info h }
+asking_leads u (Some reply) s v w h info = record { fits = (tt, tt); leads = alike_sight s v w info h }
 
 -- what is drawn in full hides what was asked before
 pub redrawn_leads : {A : Type 0} (x : Redraw) (u : Value) (reply : Option (Reply A)) (s : Setting) (v w : Value) → ((y : Sight) → Fits s.prompt y (Draws u s.marks x))
@@ -125,11 +183,11 @@ redraw_leads edit s v w = edit_leads (answering tt (edit w.line)) s v w (refresh
 pub told_leads : (text : Option (List ℕ)) (kind : CmdKind) (s : Setting) (v w : Value) → Leads s v (told text kind s w)
 told_leads text kind s v w info = record { fits = ((λ e. refl), tt); leads = refl }
 
-pub rest_leads : (s : Setting) (v w : Value) → w.line ≡ v.line → Leads s v (unchanged s w)
-rest_leads s v w h info = record { fits = tt; leads = ap (λ (l : Line). sight_as s.prompt l.text l.place info) (sym h) }
+pub rest_leads : (s : Setting) (v w : Value) → Alike v w → Leads s v (unchanged s w)
+rest_leads s v w h info = record { fits = tt; leads = alike_sight s v w info h }
 
-pub beep_leads : (s : Setting) (v w : Value) → w.line ≡ v.line → Leads s v (beeped s w)
-beep_leads s v w h info = record { fits = (tt, tt); leads = ap (λ (l : Line). sight_as s.prompt l.text l.place info) (sym h) }
+pub beep_leads : (s : Setting) (v w : Value) → Alike v w → Leads s v (beeped s w)
+beep_leads s v w h info = record { fits = (tt, tt); leads = alike_sight s v w info h }
 
 pub clear_leads : (s : Setting) (v : Value) → Leads s v (cleared_and_drawn s v)
 clear_leads s v = redrawn_leads Cleared v (hint_reply s v) s v (asked_anew s v).value (λ y. tt)
@@ -137,20 +195,27 @@ clear_leads s v = redrawn_leads Cleared v (hint_reply s v) s v (asked_anew s v).
 pub refresh_if_leads : {A : Type 0} (edit : Line → WriteSteps A) (s : Setting) (v : Value) (b : Bool) → (b ≡ false → (rewritten (by edit) v).line ≡ v.line) → Leads s v (then_do (rewriting edit) (refreshed_if b) s v)
 refresh_if_leads edit s v b h =
     let w = rewritten (by edit) v in
-    edit_leads (answering tt (edit v.line)) s v v (refreshed_if b s w) (either s v b (refreshed s w) (unchanged s w) (λ e. refresh_leads s v w) (λ e. rest_leads s v w (h e)))
+    edit_leads (answering tt (edit v.line)) s v v (refreshed_if b s w) (either s v b (refreshed s w) (unchanged s w) (λ e. refresh_leads s v w) (λ e. rest_leads s v w (h e, refl, refl)))
 
 -- ---- the cursor
 
-shown_or_drawn : (s : Setting) (v w : Value) (b : Bool) → w.line.text ≡ v.line.text
+shown_or_drawn : (s : Setting) (v w : Value) (b : Bool) → (v.marked || w.marked) ≡ b → is_some w.hint ≡ is_some v.hint → w.line.text ≡ v.line.text
     → Leads s v (record { value = w; steps = Draws w s.marks (if b then Drawn s.prompt true w.line.text w.line.place None else Moved w.line.text w.line.place) ∷ [] })
-shown_or_drawn s v w true h info = record { fits = ((λ e. refl), tt); leads = refl }
-shown_or_drawn s v w false h info = record { fits = (h, tt); leads = ap (λ t. sight_as s.prompt t w.line.place info) (sym h) }
+shown_or_drawn s v w true e k h info = record { fits = ((λ e. refl), tt); leads = refl }
+shown_or_drawn s v w false e k h info =
+    let none = or_none v.marked w.marked e in
+    let y = sight_of s v info in
+    record {
+      fits = (h, tt);
+      leads = ap (λ t. record y { line = t; place = w.line.place }) (sym h)
+          ∙ ap (λ x. record y { line = w.line.text; place = w.line.place; spans = x }) (still_spans s v w (info_text info) none.0 none.1 k);
+    }
 
-pub move_leads : (kind : CmdKind) (s : Setting) (v w : Value) → w.line.text ≡ v.line.text → Leads s v (cursor_moved kind s w)
-move_leads kind s v w h = shown_or_drawn s v (with_mark kind s w) (w.marked || (with_mark kind s w).marked) h
+pub move_leads : (kind : CmdKind) (l : Line) (s : Setting) (v : Value) → l.text ≡ v.line.text → Leads s v (cursor_moved kind s (at_line l v))
+move_leads kind l s v h = shown_or_drawn s v (with_mark kind s (at_line l v)) (v.marked || (with_mark kind s (at_line l v)).marked) refl refl h
 
 pub step_leads : (kind : CmdKind) (moves : Bool) (l : Line) (s : Setting) (v : Value) → l.text ≡ v.line.text → Leads s v (cursor_moved_if kind moves l s v)
-step_leads kind moves l s v h = either s v moves (cursor_moved kind s (at_line l v)) (unchanged s v) (λ e. move_leads kind s v (at_line l v) h) (λ e. rest_leads s v v refl)
+step_leads kind moves l s v h = either s v moves (cursor_moved kind s (at_line l v)) (unchanged s v) (λ e. move_leads kind l s v h) (λ e. rest_leads s v v (refl, refl, refl))
 
 found_leads : (o : Option ℕ) (s : Setting) (v : Value) → Leads s v (to_found o s v)
 found_leads o s v = step_leads MoveCursor (is_some o) (moved_to o v.line) s v refl
@@ -169,7 +234,7 @@ first_print_leads s v = either s v (begins_with_space v.line.text) (then_do move
     next v = found_leads (next_word Start Big 1 v.line) s v
 
 pub motion_leads : (m : Movement) (s : Setting) (v : Value) → Leads s v (move_by m s v)
-motion_leads WholeLine s v = rest_leads s v v refl
+motion_leads WholeLine s v = rest_leads s v v (refl, refl, refl)
 motion_leads BeginningOfLine s v = place_leads MoveCursor (row_start v.line.text v.line.place) s v
 motion_leads EndOfLine s v = place_leads MoveCursor (row_end v.line.text v.line.place) s v
 motion_leads (BackwardWord n word) s v = found_leads (prev_word word n v.line) s v
@@ -180,7 +245,7 @@ motion_leads (BackwardChar n) s v = found_leads (place_backward n v.line) s v
 motion_leads (ForwardChar n) s v = found_leads (place_forward n v.line) s v
 motion_leads (LineUp n) s v = found_leads (line_up s.mode s.tabs s.column n v.line) s v
 motion_leads (LineDown n) s v = found_leads (line_down s.mode s.tabs s.column n v.line) s v
-motion_leads WholeBuffer s v = rest_leads s v v refl
+motion_leads WholeBuffer s v = rest_leads s v v (refl, refl, refl)
 motion_leads BeginningOfBuffer s v = step_leads MoveCursor (not (v.line.place == 0)) (record v.line { place = 0 }) s v refl
 motion_leads EndOfBuffer s v = step_leads MoveCursor (not (v.line.place == length v.line.text)) (record v.line { place = length v.line.text }) s v refl
 
@@ -223,6 +288,7 @@ typed_by s c n v w true e put info =
             text_is = text ∙ put_at_end v.line.text v.line.place (encode_utf8 c) end ∙ ap (λ x. v.line.text ++ x) one;
             behind = place ∙ ap (λ x. v.line.place + length x) one;
           },
+          bare_styles s v w info (and_parts (is_bare v) _ b.1).0 a.1,
         ),
         tt,
       );
@@ -256,10 +322,10 @@ insertion_leads c n s v =
     (λ some. let asked = (asked_anew s w).value in
     edit_leads (answering tt (typing c n v.line)) s v v (inserted_shown c (may_be_typed (is_some s.tabs) c n v) s w)
     (help_leads w (hint_reply s w) s v (put_shown c (may_be_typed (is_some s.tabs) c n v) s asked) (typed_by s c n v asked (typed_alone (is_some s.tabs) c n v asked) refl (λ h. one_typed c n v.line (n == 1) (and_parts (n == 1) _ (and_parts (may_be_typed (is_some s.tabs) c n v) (is_bare asked) h).0).0 some))))
-    (λ none. rest_leads s v w (no_typing c n v.line (n == 1) none))
+    (λ none. rest_leads s v w (no_typing c n v.line (n == 1) none, refl, refl))
 
 pub text_leads : (text : List ℕ) (s : Setting) (v : Value) → Leads s v (insert_text text s v)
-text_leads text s v = either s v (length text == 0) _ _ (λ e. rest_leads s v v refl) (λ e. redraw_leads (putting_behind text) s v v)
+text_leads text s v = either s v (length text == 0) _ _ (λ e. rest_leads s v v (refl, refl, refl)) (λ e. redraw_leads (putting_behind text) s v v)
 
 -- ---- a kill
 
@@ -295,6 +361,7 @@ taken_by s v w from upto true e low text place info =
             printable = b.1;
             prompt_is = refl;
           },
+          bare_styles s v w info b.0 (and_parts (is_bare w) _ a.1).0,
         ),
         tt,
       );
@@ -304,7 +371,7 @@ taken_by s v w from upto true e low text place info =
 killed_by : (edit : WriteSteps ⊤) (s : Setting) (v : Value) (held : List Held) (o : Option Span) → (is_plain v.line.text ≡ true → IfSome o (λ span. Low v.line.text span.from span.upto))
     → (let w : Value = record v { line = deletion_line o v.line; held = held } in
     Leads s v (if is_some o then record { value = (show_taken v s w).value; steps = Edits v edit ∷ (show_taken v s w).steps } else unchanged s w))
-killed_by edit s v held None h = rest_leads s v (record v { held = held }) refl
+killed_by edit s v held None h = rest_leads s v (record v { held = held }) (refl, refl, refl)
 killed_by edit s v held (Some span) h =
     let w : Value = record v { line = cut_out span.from span.upto v.line; held = held } in
     let asked = (asked_anew s w).value in
@@ -316,7 +383,7 @@ pub kill_leads : (m : Movement) (s : Setting) (v : Value) → Leads s v (kill_ef
 kill_leads m s v = killed_by (answering tt (killing m v.line)) s v (rewritten (by (killing m)) v).held (range_of m v.line) (λ plain. range_low v.line plain m)
 
 text_if_leads : (text : Option (List ℕ)) (s : Setting) (v : Value) → Leads s v (insert_text_if text s v)
-text_if_leads None s v = rest_leads s v v refl
+text_if_leads None s v = rest_leads s v v (refl, refl, refl)
 text_if_leads (Some text) s v = text_leads text s v
 
 pub replace_leads : (m : Movement) (text : Option (List ℕ)) (s : Setting) (v : Value) → Leads s v (replace m text s v)

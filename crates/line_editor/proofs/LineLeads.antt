@@ -22,7 +22,7 @@ use Rattle.line_editor.specs.LineScripts.{line_begun, LineAsk, LineScript, Keys,
 use Rattle.line_editor.specs.Meeting.{meeting, modal_seen}
 use Rattle.line_editor.specs.Modal.{Modal, Meeting, modal_first, shows_own}
 use Rattle.line_editor.specs.Sights.{Sight, no_sight, sight_with, sight_of, sight, sight_all, FitsAll, info_after}
-use Rattle.line_editor.specs.Values.{Value, Setting, EditStep, Effect, first_value, taking_memory}
+use Rattle.line_editor.specs.Values.{Value, Setting, EditStep, Effect, first_value, shown_marks, taking_memory}
 use Rattle.line_editor.specs.declared.commands.Status.{Status}
 use Rattle.line_editor.specs.declared.commands.Status.TheVariants.{Proceed, Submit}
 use Rattle.line_editor.proofs.CommandsLead.{asks_lead, commands_lead, submitting_leads}
@@ -35,7 +35,7 @@ use Rattle.line_editor.proofs.MeetLeads.{hint_stands, seen_resting, seen_info, f
 -- the value is seen after some prompt, the session's own where `own` says so
 record Behind (s : Setting) (v : Value) (info : Option (List ℕ)) (own : Bool) (x : Sight) : Type 0 where
   prompt : List ℕ
-  is : x ≡ sight_with own prompt v.line.text v.line.place info
+  is : x ≡ sight_with (shown_marks v s.marks) own prompt v.line.text v.line.place info
   ours : own ≡ true → prompt ≡ s.prompt
 
 ask_fits : (ask : Ask) (s : Setting) (v : Value) (x : Sight) → FitsAll s.prompt x (ask_effect ask s v).steps
@@ -49,20 +49,20 @@ ask_leads : (ask : Ask) (s : Setting) (v : Value) (info : Option (List ℕ)) (ow
     → (let e = ask_effect ask s v in Behind s e.value (info_after e.steps info) (own_by own ask) (sight_all x e.steps))
 ask_leads Line s v info own x h = record {
   prompt = s.prompt;
-  is = (asks_lead Line s v x).leads ∙ ap (sight_with true s.prompt v.line.text v.line.place) (sym (hint_stands s v true s.prompt info));
+  is = (asks_lead Line s v x).leads ∙ ap (sight_of s (ask_effect Line s v).value) (sym (hint_stands s v true s.prompt info));
   ours = λ e. refl;
 }
 ask_leads (Message text kind) s v info own x h = record { prompt = s.prompt; is = refl; ours = λ e. refl }
 ask_leads (Prompted prompt) s v info own x h = record {
   prompt = prompt;
-  is = (asks_lead (Prompted prompt) s v x).leads ∙ ap (sight_with false prompt v.line.text v.line.place) (sym (hint_stands s v false prompt info));
+  is = (asks_lead (Prompted prompt) s v x).leads ∙ ap (let w = (ask_effect (Prompted prompt) s v).value in sight_with (shown_marks w s.marks) false prompt w.line.text w.line.place) (sym (hint_stands s v false prompt info));
   ours = λ e. cc;
 }
 ask_leads DoingInsert s v info own x h = record { prompt = h.prompt; is = h.is; ours = h.ours }
 ask_leads DoneInserting s v info own x h = record { prompt = h.prompt; is = h.is; ours = h.ours }
 
 settled_sight : (s : Setting) (v : Value) (info : Option (List ℕ)) (x : Sight) → Behind s v info true x → x ≡ sight_of s v info
-settled_sight s v info x h = h.is ∙ ap (λ p. sight_with true p v.line.text v.line.place info) (h.ours refl)
+settled_sight s v info x h = h.is ∙ ap (λ p. sight_with (shown_marks v s.marks) true p v.line.text v.line.place info) (h.ours refl)
 
 -- a change-to begins a group, which draws nothing
 begun_settles : (cmd : Cmd) (b : Bool) (n : ℕ) → Settles true (steps (if b then asking DoingInsert (λ seen. answered cmd) else answered cmd) n)
@@ -95,19 +95,19 @@ lead_behind s info x first answer q e fits h = record {
   closes = h.closes;
 }
 
-module _ (s : Setting) (indent : ℕ) where
-  abbrev made_of_play : LineState → PlayedOf s indent Status → Effect
-  made_of_play k p = record { value = p.rest.value; steps = steps_along s indent k p.asks }
+module _ (s : Setting) where
+  abbrev made_of_play : LineState → PlayedOf s Status → Effect
+  made_of_play k p = record { value = p.rest.value; steps = steps_along s k p.asks }
 
-  abbrev PlayLeads : Option (List ℕ) → Sight → LineState → PlayedOf s indent Status → Type 0
+  abbrev PlayLeads : Option (List ℕ) → Sight → LineState → PlayedOf s Status → Type 0
   PlayLeads info x k p = LeadOn s info x p.answer p.rest.modal (made_of_play k p)
 
-  abbrev on_command : LineState → Cmd → Status → PlayedOf s indent Status
-  on_command k cmd status = record { answer = Ok status; asks = []; rest = left_at s indent k (Obeys cmd) }
+  abbrev on_command : LineState → Cmd → Status → PlayedOf s Status
+  on_command k cmd status = record { answer = Ok status; asks = []; rest = left_at s k (Obeys cmd) }
 
-  command_leads : (cmd : Cmd) (k : LineState) (info : Option (List ℕ)) → shows_own k.modal.standing ≡ true → PlayLeads info (sight_of s k.value info) k (played_from s indent (obeying cmd) k)
+  command_leads : (cmd : Cmd) (k : LineState) (info : Option (List ℕ)) → shows_own k.modal.standing ≡ true → PlayLeads info (sight_of s k.value info) k (played_from s (obeying cmd) k)
   command_leads cmd k info rests =
-      let m = means_at s indent k cmd in
+      let m = means_at s k cmd in
       let v = k.value in
       let e = effect m cmd s v in
       let made = commands_lead m cmd s v in
@@ -117,27 +117,27 @@ module _ (s : Setting) (indent : ℕ) where
         closes = λ is. rests;
       }))
     where
-      by : (q : Result Status ReadlineError) → (let e = effect (means_at s indent k cmd) cmd s k.value in LeadOn s info (sight_of s k.value info) q k.modal (record { value = e.value; steps = e.steps ++ [] }))
-          → PlayLeads info (sight_of s k.value info) k (played_on (on_command k cmd) (Obeys cmd) (left_at s indent k (Obeys cmd)) q)
+      by : (q : Result Status ReadlineError) → (let e = effect (means_at s k cmd) cmd s k.value in LeadOn s info (sight_of s k.value info) q k.modal (record { value = e.value; steps = e.steps ++ [] }))
+          → PlayLeads info (sight_of s k.value info) k (played_on (on_command k cmd) (Obeys cmd) (left_at s k (Obeys cmd)) q)
       by (Ok status) h = record { fits = h.fits; leads = h.leads; closes = h.closes }
       by (Err e) h = record { fits = h.fits; leads = h.leads; closes = h.closes }
 
   -- nothing is left to do
-  nothing_leads : (k : LineState) (info : Option (List ℕ)) → PlayLeads info (modal_seen k.modal s k.value info) k (played_from s indent (obeying Unknown) k)
+  nothing_leads : (k : LineState) (info : Option (List ℕ)) → PlayLeads info (modal_seen k.modal s k.value info) k (played_from s (obeying Unknown) k)
   nothing_leads k info = record { fits = tt; leads = λ status is. refl; closes = λ is. cc }
 
   -- what is left to do of a command that was met
-  left_leads : (next : Cmd) (k : LineState) (info : Option (List ℕ)) → (next ≡ Unknown) ⊎ (shows_own k.modal.standing ≡ true) → PlayLeads info (modal_seen k.modal s k.value info) k (played_from s indent (obeying next) k)
-  left_leads next k info (inl is) = subst (λ c. PlayLeads info (modal_seen k.modal s k.value info) k (played_from s indent (obeying c) k)) (sym is) (nothing_leads k info)
+  left_leads : (next : Cmd) (k : LineState) (info : Option (List ℕ)) → (next ≡ Unknown) ⊎ (shows_own k.modal.standing ≡ true) → PlayLeads info (modal_seen k.modal s k.value info) k (played_from s (obeying next) k)
+  left_leads next k info (inl is) = subst (λ c. PlayLeads info (modal_seen k.modal s k.value info) k (played_from s (obeying c) k)) (sym is) (nothing_leads k info)
   left_leads next k info (inr rests) =
-      subst (λ x. PlayLeads info x k (played_from s indent (obeying next) k)) (sym (seen_resting k.modal.standing k.modal s k.value info rests)) (command_leads next k info rests)
+      subst (λ x. PlayLeads info x k (played_from s (obeying next) k)) (sym (seen_resting k.modal.standing k.modal s k.value info rests)) (command_leads next k info rests)
 
-  met_leads : (cmd : Cmd) (k : LineState) (info : Option (List ℕ)) (x : Sight) → (shows_own k.modal.standing ≡ true → x ≡ sight_of s k.value info) → PlayLeads info x k (played_from s indent (met_then cmd) k)
+  met_leads : (cmd : Cmd) (k : LineState) (info : Option (List ℕ)) (x : Sight) → (shows_own k.modal.standing ≡ true → x ≡ sight_of s k.value info) → PlayLeads info x k (played_from s (met_then cmd) k)
   met_leads cmd k info x from =
       let q : Meeting = meeting k.modal cmd s k.value in
       let met = meeting_leads k.modal.standing k.modal refl cmd s k.value info x from in
-      let left = left_at s indent k (Meets cmd) in
-      let p = played_from s indent (obeying q.next) left in
+      let left = left_at s k (Meets cmd) in
+      let p = played_from s (obeying q.next) left in
       lead_behind s info x q.effect.steps p.answer p.rest.modal (made_of_play left p) met.fits
       (subst (λ y. PlayLeads (info_after q.effect.steps info) y left p) (sym met.leads) (left_leads q.next left (info_after q.effect.steps info) met.next))
 
@@ -146,22 +146,22 @@ module _ (s : Setting) (indent : ℕ) where
   spoken script = (then) (keyed script) met_then
 
   phrase_leads : (own : Bool) (script : Steps Cmd) (k : LineState) (info : Option (List ℕ)) (x : Sight) → (shows_own k.modal.standing ≡ true → Settles own script)
-      → (shows_own k.modal.standing ≡ true → Behind s k.value info own x) → PlayLeads info x k (played_from s indent (spoken script) k)
+      → (shows_own k.modal.standing ≡ true → Behind s k.value info own x) → PlayLeads info x k (played_from s (spoken script) k)
   phrase_leads true (Ends cmd) k info x settles h = met_leads cmd k info x (λ rests. settled_sight s k.value info x (h rests))
   phrase_leads false (Ends cmd) k info x settles h = met_leads cmd k info x (λ rests. absurd (true≢false (sym (settles rests))))
   phrase_leads own (Asks Needs later) k info x settles h =
-      let p = played_from s indent (spoken (later tt)) k in
+      let p = played_from s (spoken (later tt)) k in
       lead_behind s info x (taking_memory s k.value).steps p.answer p.rest.modal (made_of_play k p) (tt, tt) (phrase_leads own (later tt) k info x (λ rests. settles rests tt) h)
   phrase_leads own (Asks (Shows ask) later) k info x settles h =
       let e = ask_effect ask s k.value in
       let shown = shown_in e.value in
       let left = record k { value = e.value } in
-      let p = played_from s indent (spoken (later shown)) left in
+      let p = played_from s (spoken (later shown)) left in
       lead_behind s info x e.steps p.answer p.rest.modal (made_of_play left p) (ask_fits ask s k.value x)
       (phrase_leads (own_by own ask) (later shown) left (info_after e.steps info) (sight_all x e.steps) (λ rests. settles rests shown) (λ rests. ask_leads ask s k.value info own x (h rests)))
   phrase_leads own (Asks (Reads item) later) k info x settles h =
-      let left = left_at s indent k (Keys (Reads item)) in
-      played_each (PlayLeads info x k) (λ y. played_from s indent (spoken (later y)) left) (Keys (Reads item)) left
+      let left = left_at s k (Keys (Reads item)) in
+      played_each (PlayLeads info x k) (λ y. played_from s (spoken (later y)) left) (Keys (Reads item)) left
       (λ y. let g = phrase_leads own (later y) left info x (λ rests. settles rests y) h in record { fits = g.fits; leads = g.leads; closes = g.closes })
       (λ e. record { fits = tt; leads = λ status is. cc; closes = λ is. cc }) (item_at item k.coming)
   phrase_leads own (Asks (Becomes input) later) k info x settles h =
@@ -171,7 +171,7 @@ module _ (s : Setting) (indent : ℕ) where
   abbrev turn_phrase : ℕ → Custom → LineState → Steps Cmd
   turn_phrase n custom k = steps (line_phrase custom k.input (shown_in k.value)) n
 
-  said_leads : (n : ℕ) (custom : Custom) (k : LineState) (info : Option (List ℕ)) → PlayLeads info (modal_seen k.modal s k.value info) k (played_from s indent (spoken (turn_phrase n custom k)) k)
+  said_leads : (n : ℕ) (custom : Custom) (k : LineState) (info : Option (List ℕ)) → PlayLeads info (modal_seen k.modal s k.value info) k (played_from s (spoken (turn_phrase n custom k)) k)
   unfolding and_then
   said_leads n custom k info =
       let shown = shown_in k.value in
@@ -181,8 +181,8 @@ module _ (s : Setting) (indent : ℕ) where
 
 pub turn_leads : EachTurnLeads
 unfolding turn_script
-turn_leads n s custom indent k info =
-    let h = said_leads s indent n custom k info in
+turn_leads n s custom k info =
+    let h = said_leads s n custom k info in
     record { fits = h.fits; leads = λ status is. record { fits = h.fits; leads = h.leads status is } }
 
 -- ---- a line
@@ -195,51 +195,51 @@ fits_later : (own : List ℕ) (x : Sight) (xs ys : List EditStep) → FitsAll ow
 fits_later own x [] ys h = h
 fits_later own x (r ∷ xs) ys h = fits_later own (sight x r) xs ys h.1
 
-module _ (s : Setting) (indent : ℕ) where
+module _ (s : Setting) where
   -- what is asked for a turn leads as its steps do, and what is asked after it
-  abbrev Along : LineState → Sight → Result (List ℕ) ReadlineError → List LineAsk → PlayedOf s indent Status → Type 0
+  abbrev Along : LineState → Sight → Result (List ℕ) ReadlineError → List LineAsk → PlayedOf s Status → Type 0
   Along k x o more p =
-      let steps = steps_along s indent k p.asks in
-      FitsAll s.prompt x steps → LeadsAlong s indent o p.rest (sight_all x steps) more → LeadsAlong s indent o k x (p.asks ++ more)
+      let steps = steps_along s k p.asks in
+      FitsAll s.prompt x steps → LeadsAlong s o p.rest (sight_all x steps) more → LeadsAlong s o k x (p.asks ++ more)
 
   -- steps that nothing follows
-  alone : (k : LineState) (x : Sight) (o : Result (List ℕ) ReadlineError) (more : List LineAsk) (rs : List EditStep) → FitsAll s.prompt x (rs ++ []) → LeadsAlong s indent o k (sight_all x (rs ++ [])) more
-      → FitsAll s.prompt x rs × LeadsAlong s indent o k (sight_all x rs) more
-  alone k x o more rs fits leads = (subst (FitsAll s.prompt x) (append-nil rs) fits, subst (λ zs. LeadsAlong s indent o k (sight_all x zs) more) (append-nil rs) leads)
+  alone : (k : LineState) (x : Sight) (o : Result (List ℕ) ReadlineError) (more : List LineAsk) (rs : List EditStep) → FitsAll s.prompt x (rs ++ []) → LeadsAlong s o k (sight_all x (rs ++ [])) more
+      → FitsAll s.prompt x rs × LeadsAlong s o k (sight_all x rs) more
+  alone k x o more rs fits leads = (subst (FitsAll s.prompt x) (append-nil rs) fits, subst (λ zs. LeadsAlong s o k (sight_all x zs) more) (append-nil rs) leads)
 
-  command_along : (cmd : Cmd) (k : LineState) (x : Sight) (o : Result (List ℕ) ReadlineError) (more : List LineAsk) → Along k x o more (played_from s indent (obeying cmd) k)
+  command_along : (cmd : Cmd) (k : LineState) (x : Sight) (o : Result (List ℕ) ReadlineError) (more : List LineAsk) → Along k x o more (played_from s (obeying cmd) k)
   command_along cmd k x o more =
-      let left = left_at s indent k (Obeys cmd) in
-      let steps = (effect_at s indent k (Obeys cmd)).steps in
-      played_each (Along k x o more) (on_command s indent k cmd) (Obeys cmd) left
-      (λ status fits leads. let h = alone left x o more steps fits leads in (h.0, tt, h.1)) (λ e fits leads. let h = alone left x o more steps fits leads in (h.0, tt, h.1)) (answer_at s indent k (Obeys cmd))
+      let left = left_at s k (Obeys cmd) in
+      let steps = (effect_at s k (Obeys cmd)).steps in
+      played_each (Along k x o more) (on_command s k cmd) (Obeys cmd) left
+      (λ status fits leads. let h = alone left x o more steps fits leads in (h.0, tt, h.1)) (λ e fits leads. let h = alone left x o more steps fits leads in (h.0, tt, h.1)) (answer_at s k (Obeys cmd))
 
-  phrase_along : (script : Steps Cmd) (k : LineState) (x : Sight) (o : Result (List ℕ) ReadlineError) (more : List LineAsk) → Along k x o more (played_from s indent (spoken s indent script) k)
+  phrase_along : (script : Steps Cmd) (k : LineState) (x : Sight) (o : Result (List ℕ) ReadlineError) (more : List LineAsk) → Along k x o more (played_from s (spoken s script) k)
   phrase_along (Ends cmd) k x o more = λ fits leads.
-      let left = left_at s indent k (Meets cmd) in
-      let made = (effect_at s indent k (Meets cmd)).steps in
+      let left = left_at s k (Meets cmd) in
+      let made = (effect_at s k (Meets cmd)).steps in
       let next = (meeting k.modal cmd s k.value).next in
-      let p = played_from s indent (obeying next) left in
-      let rest = steps_along s indent left p.asks in (
+      let p = played_from s (obeying next) left in
+      let rest = steps_along s left p.asks in (
         fits_first s.prompt x made rest fits,
         tt,
-        command_along next left (sight_all x made) o more (fits_later s.prompt x made rest fits) (subst (λ z. LeadsAlong s indent o p.rest z more) (sight_both x made rest) leads),
+        command_along next left (sight_all x made) o more (fits_later s.prompt x made rest fits) (subst (λ z. LeadsAlong s o p.rest z more) (sight_both x made rest) leads),
       )
   phrase_along (Asks ask later) k x o more =
-      let left = left_at s indent k (Keys ask) in
-      let made = (effect_at s indent k (Keys ask)).steps in
-      let next : Answer ask → PlayedOf s indent Status = λ y. played_from s indent (spoken s indent (later y)) left in
+      let left = left_at s k (Keys ask) in
+      let made = (effect_at s k (Keys ask)).steps in
+      let next : Answer ask → PlayedOf s Status = λ y. played_from s (spoken s (later y)) left in
       played_each (Along k x o more) next (Keys ask) left
       (λ y fits leads.
-      let rest = steps_along s indent left (next y).asks in (
+      let rest = steps_along s left (next y).asks in (
         fits_first s.prompt x made rest fits,
         tt,
-        phrase_along (later y) left (sight_all x made) o more (fits_later s.prompt x made rest fits) (subst (λ z. LeadsAlong s indent o (next y).rest z more) (sight_both x made rest) leads),
+        phrase_along (later y) left (sight_all x made) o more (fits_later s.prompt x made rest fits) (subst (λ z. LeadsAlong s o (next y).rest z more) (sight_both x made rest) leads),
       ))
-      (λ e fits leads. let h = alone left x o more made fits leads in (h.0, tt, h.1)) (answer_at s indent k (Keys ask))
+      (λ e fits leads. let h = alone left x o more made fits leads in (h.0, tt, h.1)) (answer_at s k (Keys ask))
 
-  abbrev LedFrom : LineState → Sight → PlayedOf s indent (List ℕ) → Type 0
-  LedFrom k x p = LeadsAlong s indent p.answer k x p.asks
+  abbrev LedFrom : LineState → Sight → PlayedOf s (List ℕ) → Type 0
+  LedFrom k x p = LeadsAlong s p.answer k x p.asks
 
   -- the value is seen, with what information stands
   abbrev SeenAs : LineState → Sight → Type 0
@@ -248,21 +248,21 @@ module _ (s : Setting) (indent : ℕ) where
   seen_as : (k : LineState) (x : Sight) (info : Option (List ℕ)) → x ≡ modal_seen k.modal s k.value info → SeenAs k x
   seen_as k x info is = is ∙ ap (modal_seen k.modal s k.value) (sym (ap (λ (y : Sight). y.info) is ∙ seen_info k.modal.standing k.modal s k.value info))
 
-  module _ (n : ℕ) (custom : Custom) (so : (k : LineState) (x : Sight) → SeenAs k x → LedFrom k x (played_from s indent (turns_script n custom) k)) (k : LineState) (info : Option (List ℕ)) (script : Steps Cmd) where
-    abbrev said : PlayedOf s indent Status
-    said = played_from s indent (spoken s indent script) k
+  module _ (n : ℕ) (custom : Custom) (so : (k : LineState) (x : Sight) → SeenAs k x → LedFrom k x (played_from s (turns_script n custom) k)) (k : LineState) (info : Option (List ℕ)) (script : Steps Cmd) where
+    abbrev said : PlayedOf s Status
+    said = played_from s (spoken s script) k
 
     abbrev said_steps : List EditStep
-    said_steps = steps_along s indent k said.asks
+    said_steps = steps_along s k said.asks
 
     abbrev seen : Sight
     seen = modal_seen k.modal s k.value info
 
     -- what follows on a turn, by its outcome
-    after_leads : PlayLeads s indent info seen k said → (q : Result Status ReadlineError) → said.answer ≡ q
-        → LedFrom k seen (joined_on (follows (line_plan s indent) (turned_on (turns_script n custom))) said.asks said.rest q)
+    after_leads : PlayLeads s info seen k said → (q : Result Status ReadlineError) → said.answer ≡ q
+        → LedFrom k seen (joined_on (follows (line_plan s) (turned_on (turns_script n custom))) said.asks said.rest q)
     after_leads h (Ok Proceed) is =
-        let later = played_from s indent (turns_script n custom) said.rest in
+        let later = played_from s (turns_script n custom) said.rest in
         let y = sight_all seen said_steps in
         phrase_along script k seen later.answer later.asks h.fits (so said.rest y (seen_as said.rest y (info_after said_steps info) (h.leads Proceed is)))
     after_leads h (Ok Submit) is =
@@ -271,27 +271,27 @@ module _ (s : Setting) (indent : ℕ) where
         let stands = info_after said_steps info in
         let t = submitting_leads s w stands in
         let there = h.leads Submit is ∙ seen_resting said.rest.modal.standing said.rest.modal s w stands (h.closes is) in
-        let P : Sight → Type 0 = λ y. LeadsAlong s indent (Ok close.value.line.text) said.rest y (Makes submitted ∷ []) in
+        let P : Sight → Type 0 = λ y. LeadsAlong s (Ok close.value.line.text) said.rest y (Makes submitted ∷ []) in
         phrase_along script k seen (Ok close.value.line.text) (Makes submitted ∷ []) h.fits (subst P (sym there) (t.fits, tt, ap (λ (y : Sight). y.ended) t.leads))
     after_leads h (Err e) is =
         let answer : Result (List ℕ) ReadlineError = Err e in
-        subst (λ asks. LeadsAlong s indent answer k seen asks) (append-nil said.asks) (phrase_along script k seen answer [] h.fits tt)
+        subst (λ asks. LeadsAlong s answer k seen asks) (append-nil said.asks) (phrase_along script k seen answer [] h.fits tt)
 
-  line_leads : (n : ℕ) (custom : Custom) (k : LineState) (x : Sight) → SeenAs k x → LedFrom k x (played_from s indent (turns_script n custom) k)
+  line_leads : (n : ℕ) (custom : Custom) (k : LineState) (x : Sight) → SeenAs k x → LedFrom k x (played_from s (turns_script n custom) k)
   unfolding turns_script turn_script
   line_leads zero custom k x h = (tt, tt, tt)
   line_leads (suc n) custom k x h =
-      let script = turn_phrase s indent (suc n) custom k in
-      let led = after_leads n custom (line_leads n custom) k x.info script (said_leads s indent (suc n) custom k x.info) _ refl in
-      let rest = subst (LedFrom k (modal_seen k.modal s k.value x.info)) (sym (played_then (line_plan s indent) (turned_on (turns_script n custom)) (spoken s indent script) k)) led in
-      let p = played_from s indent ((then) (spoken s indent script) (turned_on (turns_script n custom))) k in
+      let script = turn_phrase s (suc n) custom k in
+      let led = after_leads n custom (line_leads n custom) k x.info script (said_leads s (suc n) custom k x.info) _ refl in
+      let rest = subst (LedFrom k (modal_seen k.modal s k.value x.info)) (sym (played_then (line_plan s) (turned_on (turns_script n custom)) (spoken s script) k)) led in
+      let p = played_from s ((then) (spoken s script) (turned_on (turns_script n custom))) k in
       (tt, h, subst (λ y. LedFrom k y p) (sym h) rest)
 
 pub lines_lead : LinesLead
 unfolding line_script
-lines_lead n s custom indent input r config query c =
+lines_lead n s custom input r config query c =
     let e = line_begun s (first_value s) in
     let first = asks_lead Line s (first_value s) no_sight in
     let seen = first.leads ∙ ap (sight_of s e.value) (sym (hint_stands s (first_value s) true s.prompt None)) ∙ sym (first_seen config query s e.value (info_after e.steps None)) in
     let k = kept e.value input r (modal_first config query) c in
-    ((tt, first.fits), tt, line_leads s indent n custom k (sight_all no_sight e.steps) (seen_as s indent k _ _ seen))
+    ((tt, first.fits), tt, line_leads s n custom k (sight_all no_sight e.steps) (seen_as s k _ _ seen))

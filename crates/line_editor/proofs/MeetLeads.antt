@@ -23,7 +23,7 @@ use Rattle.line_editor.specs.Prefixes.{is_prefix, is_own, earlier, later, risen,
 use Rattle.line_editor.specs.Remembering.{saved_now}
 use Rattle.line_editor.specs.Searching.{search_prompt, queried, erased, sought, looked, onward, hit_back, found_put, search_drawn, typed_in, looks, looks_typed, looks_again, emptied, emptied_effect, placing, begun_at, begin_search, begun_if, hit_again, found_again, act_of}
 use Rattle.line_editor.specs.Sights.{Sight, sight_with, sight_of, sight_all, FitsAll, info_after}
-use Rattle.line_editor.specs.Values.{Value, Setting, EditStep, then_do, hint_reply, helped, shown_hint, completion_reply, update_reply, rewriting, close_groups}
+use Rattle.line_editor.specs.Values.{Value, Setting, EditStep, then_do, hint_reply, helped, shown_hint, shown_marks, completion_reply, update_reply, rewriting, close_groups}
 use Rattle.line_editor.specs.Values.EditStep.{Draws, Helped, Edits, TakesBack, Takes}
 use Rattle.line_editor.specs.declared.modal_state.Act.{Act}
 use Rattle.line_editor.specs.declared.modal_state.Act.TheVariants.{Types, Erases, Goes, Leaves, Ends}
@@ -85,7 +85,7 @@ after_step (TakesBack v count) own info x steps y shown none h = record { fits =
 after_step (Takes v) own info x steps y shown none h = record { fits = (tt, h.fits); leads = h.leads; info_is = h.info_is }
 
 behind_drawn : (prompt : List ℕ) (s : Setting) (v : Value) (info : Option (List ℕ)) (x : Sight) → (let e = refreshed_behind prompt s v in
-    Drawn s.prompt info x e.steps (sight_with false prompt e.value.line.text e.value.line.place (shown_hint e.value)) (shown_hint e.value))
+    Drawn s.prompt info x e.steps (sight_with (shown_marks e.value s.marks) false prompt e.value.line.text e.value.line.place (shown_hint e.value)) (shown_hint e.value))
 behind_drawn prompt s v info x = record {
   fits = (asks_lead (Prompted prompt) s v x).fits;
   leads = (asks_lead (Prompted prompt) s v x).leads;
@@ -119,12 +119,12 @@ met_drawn s info x y met shown drawn same next = record {
 
 -- after the search's prompt
 search_met : (s : Setting) (v : Value) (info : Option (List ℕ)) (x : Sight) (q : Modal) → (let e = search_drawn q s v in
-    Drawn s.prompt info x e.steps (sight_with false (search_prompt q) e.value.line.text e.value.line.place (shown_hint e.value)) (shown_hint e.value))
+    Drawn s.prompt info x e.steps (sight_with (shown_marks e.value s.marks) false (search_prompt q) e.value.line.text e.value.line.place (shown_hint e.value)) (shown_hint e.value))
 search_met s v info x q = after_step (Takes v) s.prompt info x _ _ _ refl (behind_drawn (search_prompt q) s v info x)
 
 -- an entry in place of the line, and that prompt
 found_met : (put : Bool) (hit : Option Hit) (q : Modal) (s : Setting) (v : Value) (info : Option (List ℕ)) (x : Sight) → (let e = then_do (found_put put hit) (search_drawn q) s v in
-    Drawn s.prompt info x e.steps (sight_with false (search_prompt q) e.value.line.text e.value.line.place (shown_hint e.value)) (shown_hint e.value))
+    Drawn s.prompt info x e.steps (sight_with (shown_marks e.value s.marks) false (search_prompt q) e.value.line.text e.value.line.place (shown_hint e.value)) (shown_hint e.value))
 found_met put None q s v info x = search_met s v info x q
 found_met true (Some hit) q s v info x =
     let w = (found_put true (Some hit) s v).value in
@@ -133,8 +133,8 @@ found_met false (Some hit) q s v info x =
     let w = (found_put false (Some hit) s v).value in
     after_step (Edits _ _) s.prompt info x _ _ _ refl (search_met s w info x q)
 
-seen_standing : (at : Standing) (q : Modal) (s : Setting) (v : Value) (info : Option (List ℕ)) → at ≡ Searches → sight_with false (search_prompt q) v.line.text v.line.place info ≡ seen_by at q s v info
-seen_standing at q s v info is = subst (λ a. sight_with false (search_prompt q) v.line.text v.line.place info ≡ seen_by a q s v info) (sym is) refl
+seen_standing : (at : Standing) (q : Modal) (s : Setting) (v : Value) (info : Option (List ℕ)) → at ≡ Searches → sight_with (shown_marks v s.marks) false (search_prompt q) v.line.text v.line.place info ≡ seen_by at q s v info
+seen_standing at q s v info is = subst (λ a. sight_with (shown_marks v s.marks) false (search_prompt q) v.line.text v.line.place info ≡ seen_by a q s v info) (sym is) refl
 
 looked_stands : (dir : SearchDirection) (hit : Option Hit) (q : Modal) → q.standing ≡ Searches → (looked dir hit q).standing ≡ Searches
 looked_stands dir None q is = is
@@ -162,7 +162,7 @@ left_drawn false place s v info x = own_drawn s (placing place s v).value info x
 
 -- an entry that is undone, and the line as it was behind the search's prompt
 emptied_drawn : (put : Bool) (q : Modal) (s : Setting) (v : Value) (info : Option (List ℕ)) (x : Sight) → (let e = then_do (hit_back put) (then_do (placing q.place) (search_drawn (emptied q))) s v in
-    Drawn s.prompt info x e.steps (sight_with false (search_prompt (emptied q)) e.value.line.text e.value.line.place (shown_hint e.value)) (shown_hint e.value))
+    Drawn s.prompt info x e.steps (sight_with (shown_marks e.value s.marks) false (search_prompt (emptied q)) e.value.line.text e.value.line.place (shown_hint e.value)) (shown_hint e.value))
 emptied_drawn true q s v info x =
     let w = (then_do (hit_back true) (placing q.place) s v).value in
     after_step (TakesBack v 1) s.prompt info x _ _ _ refl (search_met s w info x (emptied q))

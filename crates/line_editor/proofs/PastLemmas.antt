@@ -51,16 +51,16 @@ goes_past Cycles q cmd s v rests none = cc
 pub off_passes : OffPasses
 off_passes q cmd s v is = ap (λ at. met_by at q cmd s v) is
 
-pub plays_past : (s : Setting) (indent : ℕ) (cmd : Cmd) (k : LineState) → is_at_rest k.modal.standing ≡ true → begins_modal cmd ≡ false
-    → played_from s indent (met_then cmd) k ≡ asked_first (Meets cmd) (played_from s indent (obeying cmd) k)
-plays_past s indent cmd k rests none =
-    ap (λ (m : Meeting). asked_first (Meets cmd) (played_from s indent (obeying m.next) (record k { value = m.effect.value; modal = m.modal })))
+pub plays_past : (s : Setting) (cmd : Cmd) (k : LineState) → is_at_rest k.modal.standing ≡ true → begins_modal cmd ≡ false
+    → played_from s (met_then cmd) k ≡ asked_first (Meets cmd) (played_from s (obeying cmd) k)
+plays_past s cmd k rests none =
+    ap (λ (m : Meeting). asked_first (Meets cmd) (played_from s (obeying m.next) (record k { value = m.effect.value; modal = m.modal })))
     (goes_past k.modal.standing k.modal cmd s k.value rests none)
 
-pub steps_past : (s : Setting) (indent : ℕ) (cmd : Cmd) (k : LineState) (asks : List LineAsk) → is_at_rest k.modal.standing ≡ true → begins_modal cmd ≡ false
-    → steps_along s indent k (Meets cmd ∷ asks) ≡ steps_along s indent k asks
-steps_past s indent cmd k asks rests none =
-    ap (λ (m : Meeting). m.effect.steps ++ steps_along s indent (record k { value = m.effect.value; modal = m.modal }) asks)
+pub steps_past : (s : Setting) (cmd : Cmd) (k : LineState) (asks : List LineAsk) → is_at_rest k.modal.standing ≡ true → begins_modal cmd ≡ false
+    → steps_along s k (Meets cmd ∷ asks) ≡ steps_along s k asks
+steps_past s cmd k asks rests none =
+    ap (λ (m : Meeting). m.effect.steps ++ steps_along s (record k { value = m.effect.value; modal = m.modal }) asks)
     (goes_past k.modal.standing k.modal cmd s k.value rests none)
 
 pub first_rests : (on : Bool) → is_at_rest (standing_first on) ≡ true
@@ -68,13 +68,13 @@ first_rests true = refl
 first_rests false = refl
 
 -- a phrase leaves what stands as it is
-pub phrase_keeps : {X : Type 0} (s : Setting) (indent : ℕ) (script : Steps X) (k : LineState) → (played_from s indent (keyed script) k).rest.modal ≡ k.modal
-phrase_keeps s indent (Ends x) k = refl
-phrase_keeps s indent (Asks Needs later) k = phrase_keeps s indent (later tt) k
-phrase_keeps s indent (Asks (Shows ask) later) k = phrase_keeps s indent (later _) (left_at s indent k (Keys (Shows ask)))
-phrase_keeps {X} s indent (Asks (Reads item) later) k =
-    let left = left_at s indent k (Keys (Reads item)) in
-    played_each (λ (p : PlayedOf s indent X). p.rest.modal ≡ k.modal) (λ y. played_from s indent (keyed (later y)) left) (Keys (Reads item)) left
-    (λ y. phrase_keeps s indent (later y) left) (λ e. refl) (item_at item k.coming)
-phrase_keeps s indent (Asks (Becomes input) later) k = phrase_keeps s indent (later tt) (record k { input = input })
-phrase_keeps s indent (Asks (Refuses why) later) k = refl
+pub phrase_keeps : {X : Type 0} (s : Setting) (script : Steps X) (k : LineState) → (played_from s (keyed script) k).rest.modal ≡ k.modal
+phrase_keeps s (Ends x) k = refl
+phrase_keeps s (Asks Needs later) k = phrase_keeps s (later tt) k
+phrase_keeps s (Asks (Shows ask) later) k = phrase_keeps s (later _) (left_at s k (Keys (Shows ask)))
+phrase_keeps {X} s (Asks (Reads item) later) k =
+    let left = left_at s k (Keys (Reads item)) in
+    played_each (λ (p : PlayedOf s X). p.rest.modal ≡ k.modal) (λ y. played_from s (keyed (later y)) left) (Keys (Reads item)) left
+    (λ y. phrase_keeps s (later y) left) (λ e. refl) (item_at item k.coming)
+phrase_keeps s (Asks (Becomes input) later) k = phrase_keeps s (later tt) (record k { input = input })
+phrase_keeps s (Asks (Refuses why) later) k = refl

@@ -28,29 +28,29 @@ use Rattle.line_editor.proofs.StopsLemmas.{stops_taking}
 
 -- ---- one ask alone, and before others
 
-module _ {R : Type 0} (canvas : Canvas R) (r : Ruler) (s : Setting) (indent : ℕ) where
+module _ {R : Type 0} (canvas : Canvas R) (r : Ruler) (s : Setting) where
   abbrev w : World LineAsk LineAnswer (LineStage R) ReadlineError
-  w = line_world canvas r s indent
+  w = line_world canvas r s
 
   -- answered or failed as its own answer says, before what its answer leads to
   pub answered_goes : {X : Type 0} (ask : LineAsk) (later : LineAnswer ask → LineScript X) (x : LineStage R) (y : LineStage R) (z : LineStage R) (a : LineAnswer ask) (result : Result X ReadlineError)
-      → Answered canvas r s indent x ask (Ok a) y → Goes w (later a) y result z → Goes w (Asks ask later) x result z
+      → Answered canvas r s x ask (Ok a) y → Goes w (later a) y result z → Goes w (Asks ask later) x result z
   answered_goes ask later x y z a result made goes = inl (a, y, made, goes)
 
   pub refused_goes : {X : Type 0} (ask : LineAsk) (later : LineAnswer ask → LineScript X) (x y : LineStage R) (e : ReadlineError) (result : Result X ReadlineError)
-      → result ≡ Err e → Answered canvas r s indent x ask (Err e) y → Goes w (Asks ask later) x result y
+      → result ≡ Err e → Answered canvas r s x ask (Err e) y → Goes w (Asks ask later) x result y
   refused_goes ask later x y e result is made = inr (e, inl made, is)
 
   pub stopped_goes : {X : Type 0} (ask : LineAsk) (later : LineAnswer ask → LineScript X) (x y : LineStage R) (e : ReadlineError) (result : Result X ReadlineError)
-      → result ≡ Err e → Stopped canvas r s indent x ask e y → Goes w (Asks ask later) x result y
+      → result ≡ Err e → Stopped canvas r s x ask e y → Goes w (Asks ask later) x result y
   stopped_goes ask later x y e result is stop = inr (e, inr stop, is)
 
 module _ {Out H Hi K T : Type 0} {renderer : renderers.Renderer.Ghosts Out} {completer : completions.Completer.Ghosts H K} {candidate : completions.Candidate.Ghosts K}
     {hinter : hints.Hinter.Ghosts H T} {hint : hints.Hint.Ghosts T} {highlighter : highlights.Highlighter.Ghosts H} {validator : verdicts.Validator.Ghosts H} {history : histories.History.Ghosts Hi} where
   -- a world stays where what was handed in stays
-  pub world_stays : (indent : ℕ) (s m : State Out H Hi K T renderer completer candidate hinter hint highlighter validator history) → Stays s m → world_of indent m ≡ world_of indent s
-  world_stays indent s m stays =
-      ap (λ u. line_world renderer.canvas u (setting_of m) indent) stays.ruler ∙ ap (λ a. line_world renderer.canvas (renderer.canvas.ruler s.out) a indent) (setting_stays s m stays)
+  pub world_stays : (s m : State Out H Hi K T renderer completer candidate hinter hint highlighter validator history) → Stays s m → world_of m ≡ world_of s
+  world_stays s m stays =
+      ap (λ u. line_world renderer.canvas u (setting_of m)) stays.ruler ∙ ap (λ a. line_world renderer.canvas (renderer.canvas.ruler s.out) a) (setting_stays s m stays)
 
   -- ---- edits, from where the line began
 
@@ -73,13 +73,13 @@ module _ {Out H Hi K T : Type 0} {renderer : renderers.Renderer.Ghosts Out} {com
 
   -- ---- a phrase
 
-  module _ (indent : ℕ) (s : State Out H Hi K T renderer completer candidate hinter hint highlighter validator history) (k : Ring) (modal : Modal) where
+  module _ (s : State Out H Hi K T renderer completer candidate hinter hint highlighter validator history) (k : Ring) (modal : Modal) where
     abbrev at : KeyStage (State Out H Hi K T renderer completer candidate hinter hint highlighter validator history) → LineStage Out
     at x = stage_of x.wrt x.input k modal x.coming
 
     -- it goes, and what was handed in stays
     abbrev GoesOn : {X : Type 0} → LineScript X → LineStage Out → Result X ReadlineError → KeyStage (State Out H Hi K T renderer completer candidate hinter hint highlighter validator history) → Type 0
-    GoesOn script x r y = Goes (world_of indent s) script x r (at y) × Stays s y.wrt
+    GoesOn script x r y = Goes (world_of s) script x r (at y) × Stays s y.wrt
 
     pub phrase_goes_on : {X : Type 0} (script : Steps X) (x y : KeyStage (State Out H Hi K T renderer completer candidate hinter hint highlighter validator history)) (r : Result X ReadlineError) → Stays s x.wrt
         → Goes (key_world display_of) script x r y → GoesOn (keyed script) (at x) r y

@@ -57,7 +57,7 @@ abbrev own : List ℕ
 own = codes "> "
 
 abbrev with_entries : List (List ℕ) → Setting
-with_entries entries = record { prompt = own; column = 2; mode = Unicode; tabs = None; hooks = None; marks = None; entries = entries }
+with_entries entries = record { prompt = own; column = 2; mode = Unicode; tabs = None; hooks = None; marks = None; entries = entries; config = default_config }
 
 abbrev typed : ℕ → KeyEvent
 typed c = key_with (Char c) none
@@ -108,8 +108,8 @@ module _ (r : Ring) where
   line_with modal entries custom ks =
       let s = with_entries entries in
       let k = kept (first_value s) emacs r modal (pressed ks) in
-      let p = played_from s 2 (line_script 12 custom) k in
-      record { calls = (asked plain (fresh Unicode) (steps_along s 2 k p.asks)).calls; outcome = p.answer }
+      let p = played_from s (line_script 12 custom) k in
+      record { calls = (asked plain (fresh Unicode) (steps_along s k p.asks)).calls; outcome = p.answer }
 
   abbrev line : List (List ℕ) → Custom → List KeyEvent → LineRow
   line entries custom ks = line_with (modal_first default_config []) entries custom ks

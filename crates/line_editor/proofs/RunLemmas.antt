@@ -32,21 +32,21 @@ use Rattle.line_editor.specs.declared.state.State.{State}
 use Rattle.line_editor.proofs.StopsLemmas.{stops_taking}
 
 -- no memory before the first drawing
-undrawn : {R : Type 0} (canvas : Canvas R) (r : Ruler) (s : Setting) (n : ℕ) (custom : Custom) (config : Config) (out : R) (ring : Ring) (query : List ℕ) (c : Coming)
-    → let first = stage_first out r s config ring query c in Goes (line_world canvas r s config.indent_size) (line_script n custom) first (Err Memory) first
+undrawn : {R : Type 0} (canvas : Canvas R) (r : Ruler) (s : Setting) (n : ℕ) (custom : Custom) (out : R) (ring : Ring) (query : List ℕ) (c : Coming)
+    → let first = stage_first out r s ring query c in Goes (line_world canvas r s) (line_script n custom) first (Err Memory) first
 unfolding line_script
-undrawn canvas r s n custom config out ring query c =
+undrawn canvas r s n custom out ring query c =
     inr (Memory, inr (inl (stops_taking canvas r (first_value s) _ (surface out (fresh r.mode)) (surface out (fresh r.mode)) Memory (first_value s) refl refl refl, refl)), refl)
 
 -- no memory for a line, and nothing was read or drawn
 pub not_begun : {R H K T : Type 0} (canvas : Canvas R) (helps : Option H → Helping) (custom : Custom) (prompt : List ℕ) (helper : Option H) (entries : List (List ℕ)) (config : Config) (out : R)
     (ring : Ring) (query : List ℕ) (feed : KeyFeed) → Runs {K = K} {T = T} canvas helps custom prompt helper entries config out ring query feed (record { out = out; helper = helper; outcome = Err Memory; open_line = None }) ring query feed
 not_begun canvas helps custom prompt helper entries config out ring query feed = record {
-  value = first_value (setting_by (canvas.ruler out) prompt (helps helper) entries);
+  value = first_value (setting_by (canvas.ruler out) prompt (helps helper) entries config);
   input = new_input config;
   modal = modal_first config query;
   layout = fresh (canvas.ruler out).mode;
-  goes = λ told n h. undrawn canvas (canvas.ruler out) (setting_by (canvas.ruler out) prompt (helps helper) entries) n custom config out ring query feed.coming;
+  goes = λ told n h. undrawn canvas (canvas.ruler out) (setting_by (canvas.ruler out) prompt (helps helper) entries config) n custom out ring query feed.coming;
   last = refl;
   told = λ told. told;
   keeps = le_refl feed.bound;
@@ -109,25 +109,26 @@ module _ {Out H Hi K T : Type 0} {renderer : renderers.Renderer.Ghosts Out} {com
       ∙ ap (helping (option_map (hooks_of completer hinter validator) s.helper)) h.marks_are
 
   -- bindings that stayed
-  pub same_reads : (kept custom : Custom) (indent : ℕ) (i i' : Input) (ring ring' : Ring) (modal modal' : Modal) (s t : State Out H Hi K T renderer completer candidate hinter hint highlighter validator history) (feed feed' : KeyFeed)
-      (result : Result (List ℕ) ReadlineError) → kept ≡ custom → Takes line_script kept indent s i ring modal feed t i' ring' modal' feed' result → Takes line_script custom indent s i ring modal feed t i' ring' modal' feed' result
-  same_reads kept custom indent i i' ring ring' modal modal' s t feed feed' result same reads = subst (λ x. Takes line_script x indent s i ring modal feed t i' ring' modal' feed' result) same reads
+  pub same_reads : (kept custom : Custom) (i i' : Input) (ring ring' : Ring) (modal modal' : Modal) (s t : State Out H Hi K T renderer completer candidate hinter hint highlighter validator history) (feed feed' : KeyFeed)
+      (result : Result (List ℕ) ReadlineError) → kept ≡ custom → Takes line_script kept s i ring modal feed t i' ring' modal' feed' result → Takes line_script custom s i ring modal feed t i' ring' modal' feed' result
+  same_reads kept custom i i' ring ring' modal modal' s t feed feed' result same reads = subst (λ x. Takes line_script x s i ring modal feed t i' ring' modal' feed' result) same reads
 
   module _ {A : Type 0} (prompt : List ℕ) (helper : Option H) (hist : Hi) (config : Config) (out : Out) (s t : State Out H Hi K T renderer completer candidate hinter hint highlighter validator history)
-      (shown : Hi) (place : ℕ) (starts : Starts out prompt helper shown place s) (shown_is : shown ≡ hist) (place_is : place ≡ length (history.entries hist))
+      (shown : Hi) (place : ℕ) (starts : Starts out prompt helper shown place config s) (shown_is : shown ≡ hist) (place_is : place ≡ length (history.entries hist))
       (custom : Custom) (i i' : Input) (input_is : i ≡ new_input config) (ring ring' : Ring) (modal modal' : Modal) (query query' : List ℕ) (modal_is : modal ≡ modal_first config query) (query_is : query' ≡ modal'.query) (feed feed' : KeyFeed) (result : Result A ReadlineError)
-      (reads : Takes line_script custom config.indent_size s i ring modal feed t i' ring' modal' feed' (text_or result t.recorded.line.text))
+      (reads : Takes line_script custom s i ring modal feed t i' ring' modal' feed' (text_or result t.recorded.line.text))
       (ran : Ran Out H K T) (out_is : ran.out ≡ t.out) (helper_is : ran.helper ≡ t.helper) (outcome_is : outcome_of ran ≡ text_or result t.recorded.line.text)
       (line_is : ran.open_line ≡ open_or result t.recorded.line) where
     abbrev setting : Setting
-    setting = setting_by (renderer.canvas.ruler out) prompt (helps s helper) (history.entries hist)
+    setting = setting_by (renderer.canvas.ruler out) prompt (helps s helper) (history.entries hist) config
 
     setting_same : setting_of s ≡ setting
     setting_same =
-        ap (λ o. setting_by (renderer.canvas.ruler o) s.prompt.now (helps s s.helper) (history.entries s.ctx.history.now)) starts.out_is
-        ∙ ap (λ p. setting_by (renderer.canvas.ruler out) p (helps s s.helper) (history.entries s.ctx.history.now)) starts.prompt_is
-        ∙ ap (λ h. setting_by (renderer.canvas.ruler out) prompt (helps s h) (history.entries s.ctx.history.now)) starts.helper_is
-        ∙ ap (λ x. setting_by (renderer.canvas.ruler out) prompt (helps s helper) (history.entries x)) (starts.history_is ∙ shown_is)
+        ap (λ o. setting_by (renderer.canvas.ruler o) s.prompt.now (helps s s.helper) (history.entries s.ctx.history.now) s.config.now) starts.out_is
+        ∙ ap (λ p. setting_by (renderer.canvas.ruler out) p (helps s s.helper) (history.entries s.ctx.history.now) s.config.now) starts.prompt_is
+        ∙ ap (λ h. setting_by (renderer.canvas.ruler out) prompt (helps s h) (history.entries s.ctx.history.now) s.config.now) starts.helper_is
+        ∙ ap (λ x. setting_by (renderer.canvas.ruler out) prompt (helps s helper) (history.entries x) s.config.now) (starts.history_is ∙ shown_is)
+        ∙ ap (λ x. setting_by (renderer.canvas.ruler out) prompt (helps s helper) (history.entries hist) x) starts.config_is
 
     helper_same_as : Stays s t → helps s ran.helper ≡ helps s helper
     helper_same_as stays = ap (helps s) helper_is ∙ helper_same s t stays ∙ ap (helps s) starts.helper_is
@@ -135,7 +136,7 @@ module _ {Out H Hi K T : Type 0} {renderer : renderers.Renderer.Ghosts Out} {com
     abbrev last : Out → LineStage Out
     last o = line_stage (surface o t.layout) (kept (value_of t) i' ring' modal' feed'.coming)
 
-    first_same : stage_of s i ring modal feed.coming ≡ stage_first out (renderer.canvas.ruler out) setting config ring query feed.coming
+    first_same : stage_of s i ring modal feed.coming ≡ stage_first out (renderer.canvas.ruler out) setting ring query feed.coming
     first_same =
         ap (λ o. line_stage (surface o s.layout) (kept (value_of s) i ring modal feed.coming)) starts.out_is
         ∙ ap (λ l. line_stage (surface out l) (kept (value_of s) i ring modal feed.coming)) starts.layout
@@ -143,13 +144,13 @@ module _ {Out H Hi K T : Type 0} {renderer : renderers.Renderer.Ghosts Out} {com
         ∙ ap (λ j. line_stage (surface out (fresh (renderer.canvas.ruler out).mode)) (kept (first_value setting) j ring modal feed.coming)) input_is
         ∙ ap (λ x. line_stage (surface out (fresh (renderer.canvas.ruler out).mode)) (kept (first_value setting) (new_input config) ring x feed.coming)) modal_is
 
-    goes_by : (n : ℕ) → Goes (world_of config.indent_size s) (line_script n custom) (stage_of s i ring modal feed.coming) (text_or result t.recorded.line.text) (stage_of t i' ring' modal' feed'.coming)
-        → Goes (line_world renderer.canvas (renderer.canvas.ruler out) setting config.indent_size) (line_script n custom)
-        (stage_first out (renderer.canvas.ruler out) setting config ring query feed.coming) (outcome_of ran) (last ran.out)
+    goes_by : (n : ℕ) → Goes (world_of s) (line_script n custom) (stage_of s i ring modal feed.coming) (text_or result t.recorded.line.text) (stage_of t i' ring' modal' feed'.coming)
+        → Goes (line_world renderer.canvas (renderer.canvas.ruler out) setting) (line_script n custom)
+        (stage_first out (renderer.canvas.ruler out) setting ring query feed.coming) (outcome_of ran) (last ran.out)
     goes_by n goes =
         let P : Ruler → Setting → LineStage Out → Result (List ℕ) ReadlineError → Out → Type 0 =
-        λ r a x q o. Goes (line_world renderer.canvas r a config.indent_size) (line_script n custom) x q (last o) in
-        let first = stage_first out (renderer.canvas.ruler out) setting config ring query feed.coming in
+        λ r a x q o. Goes (line_world renderer.canvas r a) (line_script n custom) x q (last o) in
+        let first = stage_first out (renderer.canvas.ruler out) setting ring query feed.coming in
         subst (P (renderer.canvas.ruler out) setting first (outcome_of ran)) (sym out_is)
         (subst (λ q. P (renderer.canvas.ruler out) setting first q t.out) (sym outcome_is)
         (subst (λ x. P (renderer.canvas.ruler out) setting x (text_or result t.recorded.line.text) t.out) first_same

@@ -54,27 +54,27 @@ module _ {A : Type 0} {R : A → Type 0} {C E X Y : Type 0} (plan : Plan A R C E
 
 -- ---- what asks come to
 
-module _ (a : Setting) (indent : ℕ) where
+module _ (a : Setting) where
   abbrev pub left_along : LineState → List LineAsk → LineState
   left_along k [] = k
-  left_along k (ask ∷ asks) = left_along (left_at a indent k ask) asks
+  left_along k (ask ∷ asks) = left_along (left_at a k ask) asks
 
-  pub steps_both : (k : LineState) (xs ys : List LineAsk) → steps_along a indent k (xs ++ ys) ≡ steps_along a indent k xs ++ steps_along a indent (left_along k xs) ys
+  pub steps_both : (k : LineState) (xs ys : List LineAsk) → steps_along a k (xs ++ ys) ≡ steps_along a k xs ++ steps_along a (left_along k xs) ys
   steps_both k [] ys = refl
-  steps_both k (x ∷ xs) ys = ap (λ zs. (effect_at a indent k x).steps ++ zs) (steps_both (left_at a indent k x) xs ys) ∙ sym (append_assoc (effect_at a indent k x).steps (steps_along a indent (left_at a indent k x) xs) _)
+  steps_both k (x ∷ xs) ys = ap (λ zs. (effect_at a k x).steps ++ zs) (steps_both (left_at a k x) xs ys) ∙ sym (append_assoc (effect_at a k x).steps (steps_along a (left_at a k x) xs) _)
 
   left_both : (k : LineState) (xs ys : List LineAsk) → left_along k (xs ++ ys) ≡ left_along (left_along k xs) ys
   left_both k [] ys = refl
-  left_both k (x ∷ xs) ys = left_both (left_at a indent k x) xs ys
+  left_both k (x ∷ xs) ys = left_both (left_at a k x) xs ys
 
   abbrev pub PlayedOf : Type 0 → Type 0
   PlayedOf X = Played LineAsk LineState ReadlineError X
 
-  pub rest_along : {X : Type 0} (script : LineScript X) (k : LineState) → (let p = played_from a indent script k in left_along k p.asks ≡ p.rest)
+  pub rest_along : {X : Type 0} (script : LineScript X) (k : LineState) → (let p = played_from a script k in left_along k p.asks ≡ p.rest)
   rest_along (Ends x) k = refl
   rest_along {X} (Asks ask later) k =
-      let left = left_at a indent k ask in
-      played_each (λ (p : PlayedOf X). left_along k p.asks ≡ p.rest) (λ x. played_from a indent (later x) left) ask left (λ x. rest_along (later x) left) (λ e. refl) (answer_at a indent k ask)
+      let left = left_at a k ask in
+      played_each (λ (p : PlayedOf X). left_along k p.asks ≡ p.rest) (λ x. played_from a (later x) left) ask left (λ x. rest_along (later x) left) (λ e. refl) (answer_at a k ask)
 
 -- ---- what goes is all of it, or a fault stopped a beginning of it
 
@@ -88,40 +88,40 @@ module _ {R : Type 0} (canvas : Canvas R) (u : Ruler) where
       let on = subst at h.1 k in
       (folds_both (MadeIn canvas) first.calls (asked u first.layout ys).calls a.out b.out c.out h.0 on.0, on.1))
 
-module _ {R : Type 0} (canvas : Canvas R) (u : Ruler) (a : Setting) (indent : ℕ) where
+module _ {R : Type 0} (canvas : Canvas R) (u : Ruler) (a : Setting) where
   -- all that is played was done, and the answer is its own
-  pub record AllDone {X : Type 0} (p : PlayedOf a indent X) (x y : LineStage R) (result : Result X ReadlineError) : Type 0 where
+  pub record AllDone {X : Type 0} (p : PlayedOf a X) (x y : LineStage R) (result : Result X ReadlineError) : Type 0 where
     pub answer_is : p.answer ≡ result
     pub rest_is : p.rest ≡ y.kept
-    pub drawn : DrawnBy canvas u (steps_along a indent x.kept p.asks) x.drawn y.drawn
+    pub drawn : DrawnBy canvas u (steps_along a x.kept p.asks) x.drawn y.drawn
 
   -- the first asks of it were answered, and a fault stopped the next one
-  pub record StoppedIn {X : Type 0} (p : PlayedOf a indent X) (x y : LineStage R) (result : Result X ReadlineError) : Type 0 where
+  pub record StoppedIn {X : Type 0} (p : PlayedOf a X) (x y : LineStage R) (result : Result X ReadlineError) : Type 0 where
     pub done : List LineAsk
     pub ask : LineAsk
     pub others : List LineAsk
     pub first : p.asks ≡ done ++ (ask ∷ others)
     pub at : LineStage R
-    pub kept_is : at.kept ≡ left_along a indent x.kept done
-    pub drawn : DrawnBy canvas u (steps_along a indent x.kept done) x.drawn at.drawn
+    pub kept_is : at.kept ≡ left_along a x.kept done
+    pub drawn : DrawnBy canvas u (steps_along a x.kept done) x.drawn at.drawn
     pub fault : ReadlineError
     pub result_is : result ≡ Err fault
-    pub stopped : Stopped canvas u a indent at ask fault y
+    pub stopped : Stopped canvas u a at ask fault y
 
-  abbrev pub Went : {X : Type 0} → PlayedOf a indent X → LineStage R → LineStage R → Result X ReadlineError → Type 0
+  abbrev pub Went : {X : Type 0} → PlayedOf a X → LineStage R → LineStage R → Result X ReadlineError → Type 0
   Went p x y result = AllDone p x y result ⊎ StoppedIn p x y result
 
-  some_follow : {B X : Type 0} (next : B → PlayedOf a indent X) (ask : LineAsk) (c : LineState) (r : Result B ReadlineError) → (others : List LineAsk) × ((played_on next ask c r).asks ≡ ask ∷ others)
+  some_follow : {B X : Type 0} (next : B → PlayedOf a X) (ask : LineAsk) (c : LineState) (r : Result B ReadlineError) → (others : List LineAsk) × ((played_on next ask c r).asks ≡ ask ∷ others)
   some_follow next ask c (Ok x) = ((next x).asks, refl)
   some_follow next ask c (Err e) = ([], refl)
 
-  module _ {X : Type 0} (ask : LineAsk) (x v y : LineStage R) (result : Result X ReadlineError) (p : PlayedOf a indent X) where
+  module _ {X : Type 0} (ask : LineAsk) (x v y : LineStage R) (result : Result X ReadlineError) (p : PlayedOf a X) where
     -- after an ask that was answered
-    went_on : (kept_is : v.kept ≡ left_at a indent x.kept ask) → DrawnBy canvas u (effect_at a indent x.kept ask).steps x.drawn v.drawn → Went p v y result → Went (asked_first ask p) x y result
+    went_on : (kept_is : v.kept ≡ left_at a x.kept ask) → DrawnBy canvas u (effect_at a x.kept ask).steps x.drawn v.drawn → Went p v y result → Went (asked_first ask p) x y result
     went_on kept_is drawn (inl h) = inl (record {
       answer_is = h.answer_is;
       rest_is = h.rest_is;
-      drawn = drawn_both canvas u (effect_at a indent x.kept ask).steps _ x.drawn v.drawn y.drawn drawn (subst (λ k. DrawnBy canvas u (steps_along a indent k p.asks) v.drawn y.drawn) kept_is h.drawn);
+      drawn = drawn_both canvas u (effect_at a x.kept ask).steps _ x.drawn v.drawn y.drawn drawn (subst (λ k. DrawnBy canvas u (steps_along a k p.asks) v.drawn y.drawn) kept_is h.drawn);
     })
     went_on kept_is drawn (inr h) = inr (record {
       done = ask ∷ h.done;
@@ -129,33 +129,33 @@ module _ {R : Type 0} (canvas : Canvas R) (u : Ruler) (a : Setting) (indent : �
       others = h.others;
       first = ap (λ (asks : List LineAsk). ask ∷ asks) h.first;
       at = h.at;
-      kept_is = h.kept_is ∙ ap (λ k. left_along a indent k h.done) kept_is;
-      drawn = drawn_both canvas u (effect_at a indent x.kept ask).steps _ x.drawn v.drawn h.at.drawn drawn (subst (λ k. DrawnBy canvas u (steps_along a indent k h.done) v.drawn h.at.drawn) kept_is h.drawn);
+      kept_is = h.kept_is ∙ ap (λ k. left_along a k h.done) kept_is;
+      drawn = drawn_both canvas u (effect_at a x.kept ask).steps _ x.drawn v.drawn h.at.drawn drawn (subst (λ k. DrawnBy canvas u (steps_along a k h.done) v.drawn h.at.drawn) kept_is h.drawn);
       fault = h.fault;
       result_is = h.result_is;
       stopped = h.stopped;
     })
 
-  pub went : {X : Type 0} (p : LineScript X) (x y : LineStage R) (result : Result X ReadlineError) → Goes (line_world canvas u a indent) p x result y → Went (played (line_plan a indent) p x.kept) x y result
+  pub went : {X : Type 0} (p : LineScript X) (x y : LineStage R) (result : Result X ReadlineError) → Goes (line_world canvas u a) p x result y → Went (played (line_plan a) p x.kept) x y result
   went (Ends z) x y result (is, same) =
       inl (record { answer_is = sym is; rest_is = ap (λ s. s.kept) (sym same); drawn = (ap (λ s. s.drawn.out) (sym same), ap (λ s. s.drawn.layout) same) })
   went {X} (Asks ask later) x y result (inl (z, v, (is, kept_is, drawn), goes)) =
-      let left = left_at a indent x.kept ask in
-      let next : LineAnswer ask → PlayedOf a indent X = λ z. played (line_plan a indent) (later z) left in
-      subst (λ p. Went p x y result) (ap (λ k. asked_first ask (played (line_plan a indent) (later z) k)) kept_is ∙ ap (λ q. played_on next ask left q) (sym is))
-      (went_on ask x v y result (played (line_plan a indent) (later z) v.kept) kept_is drawn (went (later z) v y result goes))
+      let left = left_at a x.kept ask in
+      let next : LineAnswer ask → PlayedOf a X = λ z. played (line_plan a) (later z) left in
+      subst (λ p. Went p x y result) (ap (λ k. asked_first ask (played (line_plan a) (later z) k)) kept_is ∙ ap (λ q. played_on next ask left q) (sym is))
+      (went_on ask x v y result (played (line_plan a) (later z) v.kept) kept_is drawn (went (later z) v y result goes))
   went {X} (Asks ask later) x y result (inr (e, inl (is, kept_is, drawn), result_is)) =
-      let left = left_at a indent x.kept ask in
-      let next : LineAnswer ask → PlayedOf a indent X = λ z. played (line_plan a indent) (later z) left in
+      let left = left_at a x.kept ask in
+      let next : LineAnswer ask → PlayedOf a X = λ z. played (line_plan a) (later z) left in
       subst (λ p. Went p x y result) (ap (λ q. played_on next ask left q) (sym is))
       (inl (record {
         answer_is = sym result_is;
         rest_is = sym kept_is;
-        drawn = subst (λ steps. DrawnBy canvas u steps x.drawn y.drawn) (sym (append-nil (effect_at a indent x.kept ask).steps)) drawn;
+        drawn = subst (λ steps. DrawnBy canvas u steps x.drawn y.drawn) (sym (append-nil (effect_at a x.kept ask).steps)) drawn;
       }))
   went {X} (Asks ask later) x y result (inr (e, inr stopped, is)) =
-      let left = left_at a indent x.kept ask in
-      let follow = some_follow (λ z. played (line_plan a indent) (later z) left) ask left (answer_at a indent x.kept ask) in
+      let left = left_at a x.kept ask in
+      let follow = some_follow (λ z. played (line_plan a) (later z) left) ask left (answer_at a x.kept ask) in
       inr (record {
         done = [];
         ask = ask;
@@ -197,7 +197,7 @@ module _ {R : Type 0} (canvas : Canvas R) (r : Ruler) where
   unread_cause Paste Memory h = tt
   unread_cause _ _ h = absurd h
 
-  pub stopped_cause : (a : Setting) (indent : ℕ) (ask : LineAsk) (x y : LineStage R) (e : ReadlineError) → Stopped canvas r a indent x ask e y → reason_of true ⊤ e
-  stopped_cause a indent ask x y e (inl (stops, leaves)) = steps_cause (effect_at a indent x.kept ask).steps e y.kept.value x.drawn y.drawn stops
-  stopped_cause a indent (Keys (Reads item)) x y e (inr (left, unread, same)) = unread_cause item e unread
-  stopped_cause a indent _ x y e (inr (left, unread, same)) = absurd unread
+  pub stopped_cause : (a : Setting) (ask : LineAsk) (x y : LineStage R) (e : ReadlineError) → Stopped canvas r a x ask e y → reason_of true ⊤ e
+  stopped_cause a ask x y e (inl (stops, leaves)) = steps_cause (effect_at a x.kept ask).steps e y.kept.value x.drawn y.drawn stops
+  stopped_cause a (Keys (Reads item)) x y e (inr (left, unread, same)) = unread_cause item e unread
+  stopped_cause a _ x y e (inr (left, unread, same)) = absurd unread

@@ -22,7 +22,7 @@ use Rattle.line_editor.specs.Inserting.{insert_char, replace_char, overwrite_cha
 use Rattle.line_editor.specs.Killing.{kill_effect, replace, killed_into, copy_effect, copied_into}
 use Rattle.line_editor.specs.Moving.{move_by, move_line_up, move_line_down}
 use Rattle.line_editor.specs.Remembering.{history_step, history_end, history_search}
-use Rattle.line_editor.specs.Rewording.{transpose_chars_effect, transpose_words_effect, edit_word_effect, indent_effect, undo}
+use Rattle.line_editor.specs.Rewording.{transpose_chars_effect, transpose_words_effect, edit_word_effect, indent_by_setting, undo}
 use Rattle.line_editor.specs.Values.{Value, Setting, Transition, unchanged}
 use Rattle.line_editor.specs.Yanking.{yank_text, yank_lent, pop_lent}
 use Rattle.line_editor.specs.declared.commands.Status.{Status}
@@ -32,15 +32,12 @@ use Rattle.line_editor.specs.declared.commands.Status.TheVariants.{Proceed, Subm
 pub record Means : Type 0 where
   pub mode : EditMode
   pub input_mode : InputMode
-  -- by how many spaces a row is indented or dedented
-  pub indent_size : ℕ
   pub ring : Ring
 
-abbrev pub means_of : Input → ℕ → Ring → Means
-means_of input indent r = record {
+abbrev pub means_of : Input → Ring → Means
+means_of input r = record {
   mode = input.mode;
   input_mode = input.input_mode;
-  indent_size = indent;
   ring = r;
 }
 
@@ -87,8 +84,8 @@ effect m CapitalizeWord = edit_word_effect Capitalize
 effect m DowncaseWord = edit_word_effect Lowercase
 effect m UpcaseWord = edit_word_effect Uppercase
 effect m (Undo n) = undo n
-effect m (Indent movement) = indent_effect movement m.indent_size false
-effect m (Dedent movement) = indent_effect movement m.indent_size true
+effect m (Indent movement) = indent_by_setting movement false
+effect m (Dedent movement) = indent_by_setting movement true
 effect m Complete = complete
 effect m CompleteHint = complete_hint
 effect m AcceptLine = accept

@@ -20,7 +20,7 @@ use Rattle.line_editor.specs.Meeting.{modal_seen}
 use Rattle.line_editor.specs.Modal.{Modal, modal_first}
 use Rattle.line_editor.specs.Sights.{Sight, no_sight, sight_with, sight_of, ended_sight, info_after, sight_all, FitsAll, Turns}
 use Rattle.line_editor.specs.Redraws.{Redraw}
-use Rattle.line_editor.specs.Values.{Value, Setting, EditStep, Effect, first_value, shown_hint}
+use Rattle.line_editor.specs.Values.{Value, Setting, EditStep, Effect, first_value, shown_hint, shown_marks}
 use Rattle.line_editor.specs.Values.EditStep.{Draws}
 use Rattle.line_editor.specs.declared.commands.Status.{Status}
 
@@ -67,7 +67,9 @@ LeadsFrom x s e info = Turns s.prompt x e.steps (sight_of s e.value info)
 
 abbrev pub LeadsBehind : List ℕ → Sight → Setting → Effect → Option (List ℕ) → Type 0
 LeadsBehind prompt x s e info =
-    Turns s.prompt x e.steps (sight_with false prompt e.value.line.text e.value.line.place info)
+    let marks = shown_marks e.value s.marks in
+    Turns s.prompt x e.steps
+    (sight_with marks false prompt e.value.line.text e.value.line.place info)
 
 -- the drawings among steps
 abbrev pub redraws_of : List EditStep → List Redraw
@@ -98,12 +100,12 @@ pub record TurnLeads (s : Setting) (x : Sight) (info : Option (List ℕ))
 
 abbrev pub EachTurnLeads : Type 0
 EachTurnLeads =
-    (n : ℕ) (s : Setting) (custom : Custom) (indent : ℕ) (k : LineState) (info : Option (List ℕ))
-    → let turn = turn_script n custom in let p = played_from s indent turn k in
+    (n : ℕ) (s : Setting) (custom : Custom) (k : LineState) (info : Option (List ℕ))
+    → let turn = turn_script n custom in let p = played_from s turn k in
     TurnLeads s (modal_seen k.modal s k.value info) info p.answer p.rest.modal
-    (made_from s indent turn k)
+    (made_from s turn k)
 
-module _ (s : Setting) (indent : ℕ) where
+module _ (s : Setting) where
   -- at the begin of a turn its value is shown, with the current information
   abbrev pub BeginShows : LineAsk → LineState → Sight → Type 0
   BeginShows Begins k x = x ≡ modal_seen k.modal s k.value x.info
@@ -118,15 +120,15 @@ module _ (s : Setting) (indent : ℕ) where
   abbrev pub LeadsAlong : Result (List ℕ) ReadlineError → LineState → Sight → List LineAsk → Type 0
   LeadsAlong o k x [] = EndShows o x
   LeadsAlong o k x (ask ∷ asks) =
-      let steps = (effect_at s indent k ask).steps in let y = sight_all x steps in
-      FitsAll s.prompt x steps × BeginShows ask k y × LeadsAlong o (left_at s indent k ask) y asks
+      let steps = (effect_at s k ask).steps in let y = sight_all x steps in
+      FitsAll s.prompt x steps × BeginShows ask k y × LeadsAlong o (left_at s k ask) y asks
 
 -- whatever the input is, the requests of a line lead, one after the other, from a display without
 -- the line
 abbrev pub LinesLead : Type 0
 LinesLead =
-    (n : ℕ) (s : Setting) (custom : Custom) (indent : ℕ) (input : Input) (r : Ring)
+    (n : ℕ) (s : Setting) (custom : Custom) (input : Input) (r : Ring)
     (config : Config) (query : List ℕ) (coming : Coming)
     → let k = kept (first_value s) input r (modal_first config query) coming in
-    let line = played_from s indent (line_script n custom) k in
-    LeadsAlong s indent line.answer k no_sight line.asks
+    let line = played_from s (line_script n custom) k in
+    LeadsAlong s line.answer k no_sight line.asks

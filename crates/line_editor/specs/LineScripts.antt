@@ -106,10 +106,10 @@ kept value input ring modal coming =
 abbrev pub beginning : LineState → Beginning
 beginning k = record { input = k.input; shown = shown_in k.value }
 
-module _ (s : Setting) (indent : ℕ) where
+module _ (s : Setting) where
   -- most commands end a run of kills
   abbrev pub means_at : LineState → Cmd → Means
-  means_at k cmd = means_of k.input indent (reset_by cmd k.ring)
+  means_at k cmd = means_of k.input (reset_by cmd k.ring)
 
   -- the edit that it makes
   abbrev pub effect_at : LineState → LineAsk → Effect
@@ -197,18 +197,18 @@ DrawnBy canvas r steps old new =
     FoldsTo (MadeIn canvas) old.out (asked r old.layout steps).calls new.out
     × (new.layout ≡ (asked r old.layout steps).layout)
 
-module _ {R : Type 0} (canvas : Canvas R) (r : Ruler) (s : Setting) (indent : ℕ) where
+module _ {R : Type 0} (canvas : Canvas R) (r : Ruler) (s : Setting) where
   -- the edit was made whole, and the answer is its own
   abbrev pub Answered : LineStage R → (ask : LineAsk) → Result (LineAnswer ask) ReadlineError
       → LineStage R → Type 0
   Answered x ask result y =
-      (answer_at s indent x.kept ask ≡ result) × (y.kept ≡ left_at s indent x.kept ask)
-      × DrawnBy canvas r (effect_at s indent x.kept ask).steps x.drawn y.drawn
+      (answer_at s x.kept ask ≡ result) × (y.kept ≡ left_at s x.kept ask)
+      × DrawnBy canvas r (effect_at s x.kept ask).steps x.drawn y.drawn
 
   -- a fault stopped the edit, or a read, after which every read fails
   abbrev pub Stopped : LineStage R → LineAsk → ReadlineError → LineStage R → Type 0
   Stopped x ask e y =
-      (Stops canvas r (effect_at s indent x.kept ask).steps x.drawn e y.kept.value y.drawn
+      (Stops canvas r (effect_at s x.kept ask).steps x.drawn e y.kept.value y.drawn
       × FaultLeaves ask x.kept e y.kept)
       ⊎ ((left : List ℕ) × IsUnreadText ask e
       × (y ≡ line_stage x.drawn (record x.kept { coming = left_by e left })))

@@ -8,7 +8,7 @@ use Rattle.line_editor.specs.Modal.{Modal, rested, Meeting, passed, takes, wish_
 use Rattle.line_editor.specs.Prefixes.{is_prefix, is_own, rises, rises_if, falls}
 use Rattle.line_editor.specs.Searching.{search_prompt, given_up, begun_if, looks_typed, looks_erased, looks_on, search_again, act_of}
 use Rattle.line_editor.specs.Sights.{Sight, sight_of, sight_with}
-use Rattle.line_editor.specs.Values.{Value, Setting, Transition, then_do}
+use Rattle.line_editor.specs.Values.{Value, Setting, Transition, then_do, shown_marks}
 use Rattle.line_editor.specs.declared.modal_state.Act.{Act}
 use Rattle.line_editor.specs.declared.modal_state.Act.TheVariants.{Types, Erases, Goes, Leaves, Ends}
 use Rattle.line_editor.specs.declared.modal_state.Standing.{Standing}
@@ -85,7 +85,7 @@ meeting_effect x cmd s v = (meeting x cmd s v).effect
 -- a search shows its prompt in place of the line's
 abbrev pub seen_by : Standing → Modal → Setting → Value → Option (List ℕ) → Sight
 seen_by Searches x s v info =
-    sight_with false (search_prompt x) v.line.text v.line.place info
+    sight_with (shown_marks v s.marks) false (search_prompt x) v.line.text v.line.place info
 seen_by standing x s v info = sight_of s v info
 
 abbrev pub modal_seen : Modal → Setting → Value → Option (List ℕ) → Sight

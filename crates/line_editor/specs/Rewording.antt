@@ -30,6 +30,9 @@ abbrev pub indent_effect : Movement → ℕ → Bool → Transition
 indent_effect movement amount dedent =
     then_do (rewriting (indenting movement amount dedent)) refreshed
 
+abbrev pub indent_by_setting : Movement → Bool → Transition
+indent_by_setting movement dedent s v = indent_effect movement s.config.indent_size dedent s v
+
 -- undone marks, which leave the line
 abbrev pub unmarked : ℕ → Value → Value
 unmarked n v = record v { held = drop (max n 1) v.held }

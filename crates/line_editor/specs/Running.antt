@@ -33,8 +33,8 @@ pub record Helping : Type 0 where
   pub marks : Option Marks
 
 -- what is passed in for a line
-abbrev pub setting_by : Ruler → List ℕ → Helping → List (List ℕ) → Setting
-setting_by r prompt helping entries = record {
+abbrev pub setting_by : Ruler → List ℕ → Helping → List (List ℕ) → Config → Setting
+setting_by r prompt helping entries config = record {
   prompt = prompt;
   column = (r.measure prompt origin).col;
   mode = r.mode;
@@ -42,25 +42,24 @@ setting_by r prompt helping entries = record {
   hooks = helping.hooks;
   marks = if r.colours then helping.marks else None;
   entries = entries;
+  config = config;
 }
 
 -- the state as a line begins, after the ring and the last query of the lines before it: nothing is
 -- drawn, and nothing typed
-abbrev pub kept_first : Setting → Config → Ring → List ℕ → Coming → LineState
-kept_first s config ring query coming =
-    let modal = modal_first config query in
-    kept (first_value s) (new_input config) ring modal coming
+abbrev pub kept_first : Setting → Ring → List ℕ → Coming → LineState
+kept_first s ring query coming =
+    kept (first_value s) (new_input s.config) ring (modal_first s.config query) coming
 
-abbrev pub stage_first : {R : Type 0} → R → Ruler → Setting → Config → Ring → List ℕ → Coming
-    → LineStage R
-stage_first out r s config ring query coming =
-    line_stage (surface out (fresh r.mode)) (kept_first s config ring query coming)
+abbrev pub stage_first : {R : Type 0} → R → Ruler → Setting → Ring → List ℕ → Coming → LineStage R
+stage_first out r s ring query coming =
+    line_stage (surface out (fresh r.mode)) (kept_first s ring query coming)
 
 -- its script, without faults
-abbrev pub line_played : ℕ → Setting → Custom → Config → Ring → List ℕ → Coming
+abbrev pub line_played : ℕ → Setting → Custom → Ring → List ℕ → Coming
     → Played LineAsk LineState ReadlineError (List ℕ)
-line_played n s custom config ring query c =
-    played_from s config.indent_size (line_script n custom) (kept_first s config ring query c)
+line_played n s custom ring query c =
+    played_from s (line_script n custom) (kept_first s ring query c)
 
 -- a helper, if there is one, by its replies
 abbrev pub helping_by : {H : Type 0} → (H → Answers (Reply (Option Hinted)))
@@ -105,9 +104,9 @@ pub record Runs {R H K T : Type 0} (canvas : Canvas R) (helps : Option H → Hel
   pub layout : Layout
   pub goes : IsTrue feed'.told → (n : ℕ) → feed.bound < n →
       let ruler = canvas.ruler out in
-      let setting = setting_by ruler prompt (helps helper) entries in
-      Goes (line_world canvas ruler setting config.indent_size) (line_script n custom)
-      (stage_first out ruler setting config ring query feed.coming) (outcome_of ran)
+      let setting = setting_by ruler prompt (helps helper) entries config in
+      Goes (line_world canvas ruler setting) (line_script n custom)
+      (stage_first out ruler setting ring query feed.coming) (outcome_of ran)
       (line_stage (surface ran.out layout) (kept value input ring' modal feed'.coming))
   -- the last query goes on
   pub last : query' ≡ modal.query
@@ -115,7 +114,7 @@ pub record Runs {R H K T : Type 0} (canvas : Canvas R) (helps : Option H → Hel
   pub keeps : feed'.bound ≤ feed.bound
   pub falls : OnOk ran.outcome (feed'.bound < feed.bound)
   pub line_is :
-      let setting = setting_by (canvas.ruler out) prompt (helps helper) entries in
+      let setting = setting_by (canvas.ruler out) prompt (helps helper) entries config in
       IsOpen ran.outcome (first_value setting) value ran.open_line
   -- the helper's replies and the measures stay
   pub helper_stays : IsTrue feed'.told → helps ran.helper ≡ helps helper

@@ -1,14 +1,45 @@
 -- What steps show, without a screen.
-use Rattle.std.specs.Prelude.{◌≡◌, ⊤, ℕ, ◌+◌, Bool, true, false, List, [], ◌∷◌, ◌++◌, length, Option, None}
+use Rattle.std.specs.Prelude.{◌≡◌, ⊤, ℕ, ◌+◌, Bool, true, false, List, [], ◌∷◌, ◌++◌, length, Option, Some, None}
 use Rattle.std.specs.List.{list_all}
 use Rattle.line_buffer.specs.Printable.{is_printable, at_plain_end, typed_at_end}
-use Rattle.line_editor.specs.Redraws.{Redraw}
+use Rattle.line_editor.specs.Calls.{Marks}
+use Rattle.line_editor.specs.Redraws.{Redraw, info_text}
 use Rattle.line_editor.specs.Redraws.Redraw.{Drawn, Moved, Typed, Taken, Bared, ToEnd, Beeped, Cleared}
-use Rattle.line_editor.specs.Values.{Value, Setting, EditStep}
+use Rattle.line_editor.specs.Values.{Value, Setting, EditStep, shown_marks}
 use Rattle.line_editor.specs.Values.EditStep.{Draws}
+use Rattle.line_help.specs.Paints.{first_mark}
+use Rattle.line_help.specs.declared.style.Part.TheVariants.{Prompt as OfPrompt, Line as OfLine, Hint as OfHint}
+use Rattle.line_help.specs.declared.style.Span.{Span}
 
--- the prompt, line, place and information of the last drawing; `given`: the prompt is the session's
--- own; `ended`: the cursor was moved to the drawing's end. An empty text counts as information
+-- ---- the styles of a drawing
+
+-- the spans of prompt, line, and the hint or message after it
+pub record PartSpans : Type 0 where
+  pub prompt : List Span
+  pub line : List Span
+  pub info : List Span
+
+abbrev pub no_spans : PartSpans
+no_spans = record { prompt = []; line = []; info = [] }
+
+-- `given`: the prompt is the session's own
+abbrev pub spans_by : Marks → Bool → List ℕ → List ℕ → ℕ → List ℕ → PartSpans
+spans_by m given prompt text place info = record {
+  prompt = m.paints (OfPrompt given) prompt first_mark;
+  line = m.paints (OfLine place) text first_mark;
+  info = m.paints OfHint info first_mark;
+}
+
+-- what a highlighter gives for these texts, if there is one
+abbrev pub drawn_spans : Option Marks → Bool → List ℕ → List ℕ → ℕ → List ℕ → PartSpans
+drawn_spans None given prompt text place info = no_spans
+drawn_spans (Some m) given prompt text place info = spans_by m given prompt text place info
+
+-- ---- what is to be seen
+
+-- the prompt, line, place and information of the last drawing, and their styles; `given`: the
+-- prompt is the session's own; `ended`: the cursor was moved to the drawing's end. An empty text
+-- counts as information
 pub record Sight : Type 0 where
   pub prompt : List ℕ
   pub line : List ℕ
@@ -16,44 +47,47 @@ pub record Sight : Type 0 where
   pub info : Option (List ℕ)
   pub given : Bool
   pub ended : Bool
+  pub spans : PartSpans
 
-abbrev pub sight_with : Bool → List ℕ → List ℕ → ℕ → Option (List ℕ) → Sight
-sight_with given prompt text place info = record {
+abbrev pub sight_with : Option Marks → Bool → List ℕ → List ℕ → ℕ → Option (List ℕ) → Sight
+sight_with marks given prompt text place info = record {
   prompt = prompt;
   line = text;
   place = place;
   info = info;
   given = given;
   ended = false;
+  spans = drawn_spans marks given prompt text place (info_text info);
 }
 
-abbrev pub sight_as : List ℕ → List ℕ → ℕ → Option (List ℕ) → Sight
-sight_as = sight_with true
+abbrev pub sight_as : Option Marks → List ℕ → List ℕ → ℕ → Option (List ℕ) → Sight
+sight_as marks prompt text place info = sight_with marks true prompt text place info
 
 abbrev pub no_sight : Sight
-no_sight = sight_with false [] [] 0 None
+no_sight = sight_with None false [] [] 0 None
 
-abbrev pub sight_drawn : Sight → Redraw → Sight
-sight_drawn x (Drawn prompt given text place info) = sight_with given prompt text place info
-sight_drawn x (Moved text place) = sight_with x.given x.prompt x.line place x.info
-sight_drawn x (Typed prompt c text place) = sight_as prompt text place None
-sight_drawn x (Taken prompt count text place) = sight_as prompt text place None
-sight_drawn x (Bared prompt text place) = x
-sight_drawn x ToEnd = record {
-  prompt = x.prompt;
-  line = x.line;
-  place = x.place;
-  info = x.info;
-  given = x.given;
-  ended = true;
-}
-sight_drawn x Beeped = x
-sight_drawn x Cleared = no_sight
+-- drawn by a highlighter with these marks, if there is one
+abbrev pub sight_drawn : Sight → Option Marks → Redraw → Sight
+sight_drawn x marks (Drawn prompt given text place info) =
+    sight_with marks given prompt text place info
+sight_drawn x marks (Moved text place) = record x { place = place; ended = false }
+sight_drawn x marks (Typed prompt c text place) = sight_as marks prompt text place None
+sight_drawn x marks (Taken prompt count text place) = sight_as marks prompt text place None
+sight_drawn x marks (Bared prompt text place) = x
+sight_drawn x marks ToEnd = record x { ended = true }
+sight_drawn x marks Beeped = x
+sight_drawn x marks Cleared = no_sight
 
 -- the other steps draw nothing
 abbrev pub sight : Sight → EditStep → Sight
-sight x (Draws v marks redraw) = sight_drawn x redraw
+sight x (Draws v marks redraw) = sight_drawn x (shown_marks v marks) redraw
 sight x step = x
+
+-- what is shown has a line without styles, and a drawing of this text has the same styles as it
+pub record SameStyles (x : Sight) (marks : Option Marks) (prompt text : List ℕ)
+    (place : ℕ) : Type 0 where
+  pub unstyled : x.spans.line ≡ []
+  pub same : x.info ≡ None → drawn_spans marks true prompt text place [] ≡ x.spans
 
 pub record TypedFits (x : Sight) (prompt : List ℕ) (c : ℕ) (text : List ℕ)
     (place : ℕ) : Type 0 where
@@ -72,18 +106,20 @@ pub record TakenFits (x : Sight) (prompt : List ℕ) (count : ℕ) (text : List 
   pub prompt_is : prompt ≡ x.prompt
 
 -- when each redraw is allowed; `own` is the session's prompt
-abbrev pub FitsDrawn : List ℕ → Sight → Redraw → Type 0
-FitsDrawn own x (Drawn prompt given text place info) = given ≡ true → prompt ≡ own
-FitsDrawn own x (Moved text place) = text ≡ x.line
-FitsDrawn own x (Typed prompt c text place) =
+abbrev pub FitsDrawn : List ℕ → Sight → Option Marks → Redraw → Type 0
+FitsDrawn own x marks (Drawn prompt given text place info) = given ≡ true → prompt ≡ own
+FitsDrawn own x marks (Moved text place) = text ≡ x.line
+FitsDrawn own x marks (Typed prompt c text place) =
     (x.given ≡ true) × (prompt ≡ own) × (x.ended ≡ false) × TypedFits x prompt c text place
-FitsDrawn own x (Taken prompt count text place) =
+    × SameStyles x marks prompt text place
+FitsDrawn own x marks (Taken prompt count text place) =
     (x.given ≡ true) × (prompt ≡ own) × TakenFits x prompt count text place
-FitsDrawn own x (Bared prompt text place) = x.given ≡ true
-FitsDrawn own x redraw = ⊤
+    × SameStyles x marks prompt text place
+FitsDrawn own x marks (Bared prompt text place) = x.given ≡ true
+FitsDrawn own x marks redraw = ⊤
 
 abbrev pub Fits : List ℕ → Sight → EditStep → Type 0
-Fits own x (Draws v marks redraw) = FitsDrawn own x redraw
+Fits own x (Draws v marks redraw) = FitsDrawn own x (shown_marks v marks) redraw
 Fits own x step = ⊤
 
 abbrev pub sight_all : Sight → List EditStep → Sight
@@ -118,7 +154,8 @@ info_after (r ∷ rs) info = info_after rs (info_one info r)
 
 -- what is to be shown of a value with some information
 abbrev pub sight_of : Setting → Value → Option (List ℕ) → Sight
-sight_of s v info = sight_as s.prompt v.line.text v.line.place info
+sight_of s v info =
+    sight_as (shown_marks v s.marks) s.prompt v.line.text v.line.place info
 
 -- the same with the cursor at the drawing's end
 abbrev pub ended_sight : Sight → Sight

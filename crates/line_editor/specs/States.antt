@@ -3,6 +3,7 @@
 use Rattle.std.specs.Prelude.{◌≡◌, ⊤, ℕ, Bool, false, if◌then◌else◌, List, Option, None, Some, option_map, Result, Ok, Err, string_bytes, IsTrue, IsFalse, IfErr, OnOk}
 use Rattle.std.specs.List.{FoldsTo}
 use Rattle.line_buffer.specs.Cells.{origin}
+use Rattle.line_config.specs.declared.config.Config.{Config}
 use Rattle.line_config.specs.declared.errors.ReadlineError.{ReadlineError}
 use Rattle.line_config.specs.declared.errors.ReadlineError.TheVariants.{Display, Helper, Memory}
 use Rattle.line_keys.specs.Refreshing.{KnownDisplay}
@@ -82,6 +83,7 @@ module _ {Out H Hi K T : Type 0} {renderer : renderers.Ghosts Out}
         if (renderer.canvas.ruler s.out).colours then option_map highlighter.marks s.helper
         else None;
     entries = history.entries s.ctx.history.now;
+    config = s.config.now;
   }
 
   -- what was passed in stays
@@ -91,6 +93,7 @@ module _ {Out H Hi K T : Type 0} {renderer : renderers.Ghosts Out}
     pub ruler : renderer.canvas.ruler t.out ≡ renderer.canvas.ruler s.out
     pub prompt : t.prompt.now ≡ s.prompt.now
     pub history_is : t.ctx.history.now ≡ s.ctx.history.now
+    pub config_is : t.config.now ≡ s.config.now
     pub hooks_are : option_map (hooks_of completer hinter validator) t.helper
         ≡ option_map (hooks_of completer hinter validator) s.helper
     pub marks_are : option_map highlighter.marks t.helper ≡ option_map highlighter.marks s.helper
@@ -144,7 +147,7 @@ module _ {Out H Hi K T : Type 0} {renderer : renderers.Ghosts Out}
 
   -- nothing is drawn, and nothing typed
   pub record Starts (out : Out) (prompt : List ℕ) (helper : Option H) (entries : Hi) (place : ℕ)
-      (s : State Out H Hi K T renderer completer candidate hinter hint highlighter validator
+      (config : Config) (s : State Out H Hi K T renderer completer candidate hinter hint highlighter validator
       history) : Type 0 where
     pub value : value_of s ≡ empty_at place
     pub layout : s.layout ≡ fresh (renderer.canvas.ruler out).mode
@@ -152,3 +155,4 @@ module _ {Out H Hi K T : Type 0} {renderer : renderers.Ghosts Out}
     pub prompt_is : s.prompt.now ≡ prompt
     pub helper_is : s.helper ≡ helper
     pub history_is : s.ctx.history.now ≡ entries
+    pub config_is : s.config.now ≡ config

@@ -60,13 +60,13 @@ module _ {Out H Hi K T : Type 0} {renderer : renderers.Ghosts Out}
     {highlighter : highlighters.Ghosts H} {validator : validators.Ghosts H}
     {history : histories.Ghosts Hi} where
   -- the command was run to its end and ends as it says, or a fault stopped it
-  abbrev pub Executes : Cmd → Input → ℕ
+  abbrev pub Executes : Cmd → Input
       → State Out H Hi K T renderer completer candidate hinter hint highlighter validator history
       → Ring
       → State Out H Hi K T renderer completer candidate hinter hint highlighter validator history
       → Ring → Result Status ReadlineError → Type 0
-  Executes cmd input indent s ring t ring' result =
-      let m = means_of input indent ring in
+  Executes cmd input s ring t ring' result =
+      let m = means_of input ring in
       (Does {A = Unit {0}} (effect m cmd) s t (Ok (tt {0}))
       × (result ≡ outcome m cmd (setting_of s) (value_of s))
       × (ring' ≡ ring_after_command cmd (value_of s) ring))
@@ -113,23 +113,21 @@ module _ {Out H Hi K T : Type 0} {renderer : renderers.Ghosts Out}
   stage_of s input ring modal coming =
       line_stage (surface_of s) (kept (value_of s) input ring modal coming)
 
-  abbrev pub world_of : ℕ
-      → State Out H Hi K T renderer completer candidate hinter hint highlighter validator history
+  abbrev pub world_of :
+      State Out H Hi K T renderer completer candidate hinter hint highlighter validator history
       → World LineAsk LineAnswer (LineStage Out) ReadlineError
-  world_of indent s =
-      line_world renderer.canvas (renderer.canvas.ruler s.out) (setting_of s) indent
+  world_of s = line_world renderer.canvas (renderer.canvas.ruler s.out) (setting_of s)
 
   -- the relation of a line, or of a part of it, from a state on: it goes as its script says. More
   -- fuel than the reader has keys and pastes is enough
   pub record Takes {X : Type 0} (script : ℕ → Custom → LineScript X) (custom : Custom)
-      (indent : ℕ)
       (s : State Out H Hi K T renderer completer candidate hinter hint highlighter validator
       history) (input : Input) (ring : Ring) (modal : Modal) (feed : KeyFeed)
       (t : State Out H Hi K T renderer completer candidate hinter hint highlighter validator
       history) (input' : Input) (ring' : Ring) (modal' : Modal) (feed' : KeyFeed)
       (result : Result X ReadlineError) : Type 0 where
     pub goes : IsTrue feed'.told → (n : ℕ) → feed.bound < n
-        → Goes (world_of indent s) (script n custom) (stage_of s input ring modal feed.coming)
+        → Goes (world_of s) (script n custom) (stage_of s input ring modal feed.coming)
         result (stage_of t input' ring' modal' feed'.coming)
     pub stays : IsTrue feed'.told → Stays s t
     pub told : IsTrue feed'.told → IsTrue feed.told

@@ -3,6 +3,7 @@ use Rattle.std.specs.Prelude.{◌⊎◌, ⊤, ℕ, Bool, true, false, List, [], 
 use Rattle.line_buffer.specs.Line.{Line}
 use Rattle.line_buffer.specs.declared.layout.GraphemeClusterMode.{GraphemeClusterMode}
 use Rattle.line_buffer.specs.declared.layout.TabStops.{TabStops}
+use Rattle.line_config.specs.declared.config.Config.{Config}
 use Rattle.line_edits.specs.Edits.{by}
 use Rattle.line_edits.specs.Steps.{WriteSteps, answering}
 use Rattle.line_edits.specs.Written.{Written, group_opened, group_closed}
@@ -74,6 +75,7 @@ pub record Setting : Type 0 where
   pub marks : Option Marks
   -- the history, oldest first
   pub entries : List (List ℕ)
+  pub config : Config
 
 -- a line begins at the history's end
 abbrev pub first_value : Setting → Value

@@ -8,7 +8,7 @@ ghost use Rattle.line_editor.specs.declared.commands.Status.TheVariants.{Proceed
 use crate::renderer::Renderer;
 use crate::state::State;
 use line_buffer::{Anchor, RepeatCount, WordAction};
-use line_config::{Config, ReadlineError};
+use line_config::ReadlineError;
 use line_help::{Helper, History, SearchDirection};
 use line_keys::{Cmd, Decides, InputState};
 use line_record::KillRing;
@@ -70,10 +70,9 @@ impl<'p, 'h, Out: Renderer, H: Helper + Drop, Hi: History> State<'p, 'h, Out, H,
         cmd: &Cmd,
         input_state: &InputState<'_, D>,
         ring: &mut KillRing,
-        indent: u8,
     ) -> Result<(), ReadlineError>
         requires { is_obeyed cmd.now ≡ true }
-        ensures does { Does (effect (means_of (input_of input_state.now) indent ring.old) cmd.now)
+        ensures does { Does (effect (means_of (input_of input_state.now) ring.old) cmd.now)
             self.old self.new result }
         ensures ring { ring.new ≡ ring_after_command cmd.now (value_of self.old) ring.old }
     {
@@ -102,8 +101,8 @@ impl<'p, 'h, Out: Renderer, H: Helper + Drop, Hi: History> State<'p, 'h, Out, H,
             Cmd::DowncaseWord => self.edit_word(WordAction::Lowercase),
             Cmd::UpcaseWord => self.edit_word(WordAction::Uppercase),
             Cmd::Undo(n) => self.edit_undo(*n),
-            Cmd::Indent(movement) => self.edit_indent(movement, indent, false),
-            Cmd::Dedent(movement) => self.edit_indent(movement, indent, true),
+            Cmd::Indent(movement) => self.edit_indent(movement, self.config.indent_size(), false),
+            Cmd::Dedent(movement) => self.edit_indent(movement, self.config.indent_size(), true),
             Cmd::Complete => self.complete(),
             Cmd::CompleteHint => self.complete_hint(),
             Cmd::AcceptLine
@@ -132,10 +131,9 @@ impl<'p, 'h, Out: Renderer, H: Helper + Drop, Hi: History> State<'p, 'h, Out, H,
         cmd: &Cmd,
         input_state: &InputState<'_, D>,
         ring: &mut KillRing,
-        indent: u8,
     ) -> Result<Status, ReadlineError>
-        ensures { Executes cmd.now (input_of input_state.now) indent self.old ring.old
-            self.new ring.new result }
+        ensures { Executes cmd.now (input_of input_state.now) self.old ring.old self.new ring.new
+            result }
     {
         match cmd {
             Cmd::EndOfFile => {
@@ -172,7 +170,7 @@ impl<'p, 'h, Out: Renderer, H: Helper + Drop, Hi: History> State<'p, 'h, Out, H,
                 Ok(Status::Proceed)
             }
             _ => {
-                self.obey(cmd, input_state, ring, indent)?;
+                self.obey(cmd, input_state, ring)?;
                 Ok(Status::Proceed)
             }
         }
@@ -187,10 +185,9 @@ pub fn execute<'p, 'h, Out: Renderer, H: Helper + Drop, Hi: History, D: Decides>
     s: &mut State<'p, 'h, Out, H, Hi>,
     input_state: &InputState<'_, D>,
     kill_ring: &mut KillRing,
-    config: &Config,
 ) -> Result<Status, ReadlineError>
-    ensures { Executes cmd (input_of input_state.now) config.now.indent_size s.old kill_ring.old
-        s.new kill_ring.new result }
+    ensures { Executes cmd (input_of input_state.now) s.old kill_ring.old s.new kill_ring.new
+        result }
 {
-    s.perform(&cmd, input_state, kill_ring, config.indent_size())
+    s.perform(&cmd, input_state, kill_ring)
 }

@@ -10,7 +10,7 @@ use crate::commands::Status;
 use crate::modal_state::ModalState;
 use crate::renderer::Renderer;
 use crate::state::State;
-use line_config::{Config, ReadlineError};
+use line_config::ReadlineError;
 use line_help::{Helper, History};
 use line_keys::{Decides, InputState, RawReader};
 use line_record::KillRing;
@@ -23,17 +23,16 @@ impl<'p, 'h, Out: Renderer, H: Helper + Drop, Hi: History> State<'p, 'h, Out, H,
         rdr: &mut R,
         kill_ring: &mut KillRing,
         modal: &mut ModalState,
-        config: &Config,
     ) -> Result<(), ReadlineError>
         ensures { let custom = custom_in input_state.old D.decides in
-            Takes turns_script custom config.now.indent_size
+            Takes turns_script custom
             self.old (input_of input_state.old) kill_ring.old (modal_of modal.old)
             (R.feed rdr.old) self.new (input_of input_state.new) kill_ring.new
             (modal_of modal.new) (R.feed rdr.new)
             (text_or result self.new.recorded.line.text) }
     {
         'turns: loop {
-            match self.turn(input_state, rdr, kill_ring, modal, config)? {
+            match self.turn(input_state, rdr, kill_ring, modal)? {
                 Status::Proceed => {}
                 Status::Submit => return self.submit(),
             }
@@ -47,16 +46,15 @@ impl<'p, 'h, Out: Renderer, H: Helper + Drop, Hi: History> State<'p, 'h, Out, H,
         rdr: &mut R,
         kill_ring: &mut KillRing,
         modal: &mut ModalState,
-        config: &Config,
     ) -> Result<(), ReadlineError>
         ensures { let custom = custom_in input_state.old D.decides in
-            Takes line_script custom config.now.indent_size
+            Takes line_script custom
             self.old (input_of input_state.old) kill_ring.old (modal_of modal.old)
             (R.feed rdr.old) self.new (input_of input_state.new) kill_ring.new
             (modal_of modal.new) (R.feed rdr.new)
             (text_or result self.new.recorded.line.text) }
     {
         self.refresh()?;
-        self.turns(input_state, rdr, kill_ring, modal, config)
+        self.turns(input_state, rdr, kill_ring, modal)
     }
 }

@@ -108,10 +108,10 @@ pub fn run<R: RawReader, Out: Renderer, H: Helper + Drop, Hi: History, D: Decide
         return Ran::unread(out, helper);
     };
     let ctx = Context::new(history);
-    let mut state = State::of_parts(alloc, recorded, out, prompt, helper, ctx);
+    let mut state = State::of_parts(alloc, recorded, out, prompt, helper, ctx, config);
     let query = mem::replace(last_query, String::new(alloc));
     let mut modal = ModalState::new(config, query);
-    let read = state.read_line(&mut input_state, reader, kill_ring, &mut modal, config);
+    let read = state.read_line(&mut input_state, reader, kill_ring, &mut modal);
     *last_query = modal.query;
     state.ran(read)
 }

@@ -8,7 +8,7 @@ use crate::renderer::Renderer;
 use crate::saved::SavedLine;
 use crate::state::State;
 use line_buffer::{Layout, LineBuffer, MAX_LINE};
-use line_config::ReadlineError;
+use line_config::{Config, ReadlineError};
 use line_edits::RecordedLine;
 use line_help::{Context, Helper, History};
 use line_record::Changeset;
@@ -36,13 +36,14 @@ impl<'p, 'h, Out: Renderer, H: Helper + Drop, Hi: History> State<'p, 'h, Out, H,
         prompt: &'p str,
         helper: Option<H>,
         ctx: Context<'h, Hi>,
+        config: &'p Config,
     ) -> Result<Self, ReadlineError>
-        ensures starts { IfOk result
-            (λ s. Starts out prompt.now helper ctx.entry.history.now ctx.entry.place s) }
+        ensures starts { IfOk result (λ s.
+            Starts out prompt.now helper ctx.entry.history.now ctx.entry.place config.now s) }
         ensures reason { IfErr result (λ e. e ≡ Memory) }
     {
         let recorded = empty_line(alloc)?;
-        Ok(State::of_parts(alloc, recorded, out, prompt, helper, ctx))
+        Ok(State::of_parts(alloc, recorded, out, prompt, helper, ctx, config))
     }
 
     /// The same with a given empty line, so that it takes no memory.
@@ -53,11 +54,13 @@ impl<'p, 'h, Out: Renderer, H: Helper + Drop, Hi: History> State<'p, 'h, Out, H,
         prompt: &'p str,
         helper: Option<H>,
         ctx: Context<'h, Hi>,
+        config: &'p Config,
     ) -> Self
         requires line { recorded.line
             ≡ record { text = []; place = 0; growth = true; limit = 4096 } }
         requires changes { recorded.changes ≡ no_items }
-        ensures { Starts out prompt.now helper ctx.entry.history.now ctx.entry.place result }
+        ensures { Starts out prompt.now helper ctx.entry.history.now ctx.entry.place config.now
+            result }
     {
         let layout = Layout::new(out.grapheme_cluster_mode());
         State {
@@ -69,6 +72,7 @@ impl<'p, 'h, Out: Renderer, H: Helper + Drop, Hi: History> State<'p, 'h, Out, H,
             hint: None,
             highlight_char: false,
             prompt,
+            config,
             saved: SavedLine::empty(alloc),
             known: None,
             alloc,

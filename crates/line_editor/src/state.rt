@@ -4,6 +4,7 @@ ghost use Rattle.line_editor.specs.Known.{IsKnown-prop, IsKnownOn};
 use crate::renderer::Renderer;
 use crate::saved::SavedLine;
 use line_buffer::{Layout, Position};
+use line_config::Config;
 use line_edits::RecordedLine;
 use line_help::{Context, Helper, History};
 use std::alloc::Global;
@@ -25,6 +26,7 @@ pub struct State<'p, 'h, Out: Renderer, H: Helper + Drop, Hi: History> {
     /// Whether a character was highlighted when the helper was last called for it.
     pub highlight_char: bool,
     pub(crate) prompt: &'p str,
+    pub(crate) config: &'p Config,
     pub(crate) saved: SavedLine,
     /// A place in the line, and where the drawing of the line up to it ends, if that is known for
     /// one.

@@ -8,7 +8,7 @@ use crate::modal_state::ModalState;
 use crate::next_command::reset_for;
 use crate::renderer::Renderer;
 use crate::state::State;
-use line_config::{Config, ReadlineError};
+use line_config::ReadlineError;
 use line_help::{Helper, History};
 use line_keys::{Decides, InputState, RawReader};
 use line_record::KillRing;
@@ -26,10 +26,9 @@ impl<'p, 'h, Out: Renderer, H: Helper + Drop, Hi: History> State<'p, 'h, Out, H,
         rdr: &mut R,
         kill_ring: &mut KillRing,
         modal: &mut ModalState,
-        config: &Config,
     ) -> Result<Status, ReadlineError>
         ensures turn { let custom = custom_in input_state.old D.decides in
-            Takes turn_script custom config.now.indent_size
+            Takes turn_script custom
             self.old (input_of input_state.old) kill_ring.old (modal_of modal.old)
             (R.feed rdr.old) self.new (input_of input_state.new) kill_ring.new
             (modal_of modal.new) (R.feed rdr.new) result }
@@ -39,6 +38,6 @@ impl<'p, 'h, Out: Renderer, H: Helper + Drop, Hi: History> State<'p, 'h, Out, H,
         let mut cmd = self.next_cmd(input_state, rdr, false, false)?;
         self.meet(modal, &mut cmd)?;
         reset_for(kill_ring, &cmd);
-        execute(cmd, self, input_state, kill_ring, config)
+        execute(cmd, self, input_state, kill_ring)
     }
 }

@@ -1,5 +1,5 @@
 -- Validation: whether a text is a complete line.
-use Rattle.std.specs.Prelude.{ℕ, ◌==◌, Bool, true, false, if◌then◌else◌, List, [], ◌∷◌, ◌++◌, Some, None, codes, encode_utf8, ◌≡◌, ◌≢◌, ◌↔◌, ◌⊎◌}
+use Rattle.std.specs.Prelude.{ℕ, drop, ◌==◌, Bool, true, false, if◌then◌else◌, List, [], ◌∷◌, ◌++◌, Some, None, codes, encode_utf8, ◌≡◌, ◌≢◌, ◌↔◌, ◌⊎◌}
 use Rattle.std.specs.List.{list_any}
 use Rattle.line_keys.specs.Replies.{Reply}
 use Rattle.line_help.specs.Brackets.{is_bracket, is_opening, is_closing, partner, all_kinds, Balanced}
@@ -50,6 +50,12 @@ verdict_from unclosed (byte ∷ text) = if is_opening byte then verdict_from (by
     else if is_closing byte then (if closes_innermost byte unclosed
     then verdict_from (without_innermost unclosed) text else mismatch byte unclosed)
     else verdict_from unclosed text
+
+-- no bracket stands between these places of a text: whatever is open, the verdict on the text from
+-- the one place is that on the text from the other
+abbrev pub HasNoBracket : List ℕ → ℕ → ℕ → Type 0
+HasNoBracket text from upto = (unclosed : List ℕ)
+    → verdict_from unclosed (drop from text) ≡ verdict_from unclosed (drop upto text)
 
 abbrev pub bracket_verdict : List ℕ → ValidationResult
 bracket_verdict text = verdict_from [] text

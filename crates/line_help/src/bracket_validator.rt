@@ -1,9 +1,9 @@
 //! Validates lines by their brackets.
-ghost use Rattle.std.specs.Prelude.{◌≡◌, ◌++◌, false, IsTrue, IfOk, IfErr, codes, encode_utf8};
+ghost use Rattle.std.specs.Prelude.{◌≡◌, ◌++◌, ◌≤◌, length, false, IsTrue, IfOk, IfErr, codes, encode_utf8};
 ghost use Rattle.std.specs.List.{list_any};
 ghost use Rattle.line_config.specs.declared.errors.HookFault.TheVariants.{Memory};
-ghost use Rattle.line_help.specs.Brackets.{is_bracket};
-ghost use Rattle.line_help.specs.Validation.{bracket_reply, bracket_verdict};
+ghost use Rattle.line_help.specs.Brackets.{is_bracket, is_near_bracket};
+ghost use Rattle.line_help.specs.Validation.{HasNoBracket, bracket_reply, bracket_verdict};
 
 use crate::brackets::{is_closing, is_opening, partner};
 use crate::validate::{ValidationContext, ValidationResult, Validator};
@@ -43,6 +43,58 @@ impl Validator for MatchingBracketValidator {
     }
 }
 
+/// Whether a byte is a bracket, a backslash or a bar, which stand between brackets: three ranges
+/// are tested faster than six bytes.
+fn is_near_bracket(byte: u8) -> bool
+    ensures { result ≡ is_near_bracket byte }
+{
+    (b'(' <= byte && byte <= b')')
+        || (b'[' <= byte && byte <= b']')
+        || (b'{' <= byte && byte <= b'}')
+}
+
+/// Whether one of the bytes is such.
+fn has_near_bracket(bytes: &[u8]) -> bool
+    ensures { result ≡ list_any is_near_bracket bytes.now }
+{
+    let mut any = false;
+    for byte in bytes {
+        any |= is_near_bracket(*byte);
+    }
+    any
+}
+
+/// How many bytes are tested at once for brackets.
+const BLOCK: usize = 64;
+
+/// The place after whole blocks without a bracket.
+fn past_blocks(bytes: &[u8], from: usize) -> usize
+    requires { from ≤ length bytes.now }
+    ensures bound { result ≤ length bytes.now }
+    ensures later { from ≤ result }
+    ensures skips { HasNoBracket bytes.now from result }
+{
+    let mut place = from;
+    while bytes.len() - place >= BLOCK && !has_near_bracket(&bytes[place..place + BLOCK]) {
+        place += BLOCK;
+    }
+    place
+}
+
+/// The place itself, or that after blocks without a bracket if a block begins there.
+fn next_place(bytes: &[u8], from: usize) -> usize
+    requires { from ≤ length bytes.now }
+    ensures bound { result ≤ length bytes.now }
+    ensures later { from ≤ result }
+    ensures skips { HasNoBracket bytes.now from result }
+{
+    if from % BLOCK == 0 {
+        past_blocks(bytes, from)
+    } else {
+        from
+    }
+}
+
 /// Whether the brackets of a text are balanced. The first closing bracket that doesn't fit makes it
 /// invalid, with a message that names the innermost open bracket, or the closing one if none is
 /// open. Only a text with brackets takes memory.
@@ -53,23 +105,26 @@ pub fn validate_brackets(alloc: Global, input: &str) -> Result<ValidationResult,
 {
     let bytes = input.as_bytes();
     let mut unclosed: Vec<u8> = Vec::new(alloc);
-    for byte in bytes {
-        if is_opening(*byte) {
-            unclosed.push(*byte)?;
-        } else if is_closing(*byte) {
+    let mut place = next_place(bytes, 0);
+    while place < bytes.len() {
+        let byte = bytes[place];
+        if is_opening(byte) {
+            unclosed.push(byte)?;
+        } else if is_closing(byte) {
             match unclosed.pop() {
                 Some(bracket) => {
-                    if partner(bracket) != *byte {
+                    if partner(bracket) != byte {
                         let message = mismatch(alloc, bracket, "' is not properly closed")?;
                         return Ok(ValidationResult::Invalid(Some(message)));
                     }
                 }
                 None => {
-                    let message = mismatch(alloc, *byte, "' is unpaired")?;
+                    let message = mismatch(alloc, byte, "' is unpaired")?;
                     return Ok(ValidationResult::Invalid(Some(message)));
                 }
             }
         }
+        place = next_place(bytes, place + 1);
     }
     if unclosed.is_empty() {
         Ok(ValidationResult::Valid(None))

@@ -97,6 +97,7 @@ pub fn find_matching_bracket(line: &str, pos: usize, bracket: u8) -> Option<(u8,
 }
 
 /// The place after `pos` of the `matching` bracket.
+#[inline(never)]
 #[tactic(auto, using(crate::proofs::MatchLemmas::behind_steps))]
 fn match_behind(bytes: &[u8], pos: usize, bracket: u8, matching: u8) -> Option<usize>
     ensures place { result ≡ option_map (λ n. pos + 1 + n)
@@ -121,6 +122,7 @@ fn match_behind(bytes: &[u8], pos: usize, bracket: u8, matching: u8) -> Option<u
 }
 
 /// The place before `pos` of the `matching` bracket.
+#[inline(never)]
 #[tactic(auto, using(crate::proofs::MatchLemmas::before_steps))]
 fn match_before(bytes: &[u8], pos: usize, bracket: u8, matching: u8) -> Option<usize>
     ensures place { result ≡ option_map (λ n. length (take pos bytes.now) - 1 - n)

@@ -1,16 +1,23 @@
 -- What the loops over spans send.
-use Rattle.std.proofs.Common.{◌≡◌, ℕ, ◌+◌, ◌<◌, ◌≤◌, ◌==◌, nat_le, Bool, true, false, List, [], ◌∷◌, ◌++◌, ◌-◌, map, length, take, drop, take_at, drop_at, length-append, if◌then◌else◌, min, get_or, Some, None, zero, suc, inl, inr, refl, sym, ap, ◌∙◌, arith, take_all, add-one, drop-cons}
-use Rattle.std.specs.List.{concat}
-use Rattle.std.proofs.lemmas.Bool.{eqb-true, leb-true}
-use Rattle.line_screen.specs.Styles.{numbers}
+use Rattle.std.proofs.Common.{◌≡◌, ℕ, ◌+◌, ◌<◌, ◌≤◌, ◌==◌, nat_le, Bool, true, false, List, [], ◌∷◌, ◌++◌, ◌-◌, map, length, take, drop, take_at, drop_at, length-append, append-nil, if◌then◌else◌, min, get_or, Option, Some, None, zero, suc, inl, inr, refl, sym, ap, ap₂, ◌∙◌, arith, take_all, add-one, drop-cons}
+use Rattle.std.specs.List.{concat, list_all, onto_first}
+use Rattle.std.proofs.lemmas.Bool.{eqb-true, leb-true, and_parts}
+use Rattle.std.proofs.lemmas.List.{map-append}
+use Rattle.std.proofs.lemmas.List.Splits.{slice_split-cons_no}
+use Rattle.unicode_segmentation.specs.Grapheme.{graphemes}
 use Rattle.line_screen.proofs.SequenceLemmas.{by_test}
 use Rattle.std.proofs.lemmas.Bool.Decides.{nat_tests}
 use Rattle.std.proofs.lemmas.List.{drop_all}
-use Rattle.line_screen.specs.Drawing.{Widths, is_letter, split_rows}
-use Rattle.line_screen.specs.Colours.{Span, span_of, spans_from, spans_in, skip, PaintedItem, shaded, painted_letters, painted_after, painted_clusters, painted_rows, painted_behind, next_painted, spans_behind, bare_letters}
+use Rattle.line_screen.specs.Display.{is_printable}
+use Rattle.line_screen.specs.Drawing.{Widths, is_letter, drawn_item, split_rows, text_items}
+use Rattle.line_screen.specs.Drawing.DrawnItem.{NewRow, Letter}
+use Rattle.line_screen.specs.Colours.{Span, span_of, spans_from, spans_in, all_spans, IsFirstSpan, skip, PaintedItem, all_unpainted, shaded, painted_letters, painted_after, painted_clusters, painted_row, painted_rows, painted_behind, painted_text, next_painted, spans_behind, bare_letters}
+use Rattle.line_screen.specs.Colours.PaintedItem.{Bare}
+use Rattle.line_screen.proofs.StyledTextLemmas.{bare_of, text_unpainted}
 use Rattle.line_screen.specs.declared.drawing.painted.Spans as spans
 use Rattle.line_help.specs.declared.style.Span as span
 use Rattle.line_help.specs.declared.style.Mark.{Mark}
+use Rattle.line_help.specs.Paints.{IsNextSpan, first_mark}
 
 more_than : (n m : ℕ) → nat_le n m ≡ false → m ≤ n
 more_than n m h = grind (arith, nat_tests)
@@ -30,25 +37,26 @@ drop_fewer n xs = elim (by_test (nat_le n (length xs))) [
 ]
 
 -- the letters of the first span are next
-pub first_span_next : (paints : Mark → List span.Span) (left : spans.Spans) (s : span.Span) (letters front back : List ℕ) (count : ℕ) → left.first ≡ Some s → count ≡ min s.len (length letters)
+pub span_next : (spans behind : List Span) (s : Span) (letters front back : List ℕ) (count : ℕ) → spans ≡ s ∷ behind → count ≡ min s.len (length letters)
     → front ≡ take count letters → back ≡ drop count letters
-    → painted_letters (spans_in paints left) letters ≡ shaded (numbers s.style) front ++ painted_letters (map span_of (paints left.mark)) back
-first_span_next paints left s letters front back count is counted front_is back_is =
+    → painted_letters spans letters ≡ shaded s.style front ++ painted_letters behind back
+span_next spans behind s letters front back count is counted front_is back_is =
     let f : front ≡ take s.len letters = front_is ∙ ap (λ k. take k letters) counted ∙ take_fewer s.len letters in
     let b : back ≡ drop s.len letters = back_is ∙ ap (λ k. drop k letters) counted ∙ drop_fewer s.len letters in
-    ap (λ o. painted_letters (spans_from o (map span_of (paints left.mark))) letters) is
-    ∙ ap (λ xs. shaded (numbers s.style) xs ++ painted_letters (map span_of (paints left.mark)) (drop s.len letters)) (sym f)
-    ∙ ap (λ xs. shaded (numbers s.style) front ++ painted_letters (map span_of (paints left.mark)) xs) (sym b)
+    ap (λ ss. painted_letters ss letters) is
+    ∙ ap (λ xs. shaded s.style xs ++ painted_letters behind (drop s.len letters)) (sym f)
+    ∙ ap (λ xs. shaded s.style front ++ painted_letters behind xs) (sym b)
 
-pub next_span : (paints : Mark → List span.Span) (left next : spans.Spans) (s : span.Span) (letters front back : List ℕ) (count : ℕ) → left.first ≡ Some s → count ≡ min s.len (length letters)
-    → front ≡ take count letters → back ≡ drop count letters → spans_in paints next ≡ map span_of (paints left.mark)
-    → painted_letters (spans_in paints left) letters ≡ shaded (numbers s.style) front ++ painted_letters (spans_in paints next) back
-next_span paints left next s letters front back count is counted front_is back_is next_is =
-    first_span_next paints left s letters front back count is counted front_is back_is
-    ∙ ap (λ ss. shaded (numbers s.style) front ++ painted_letters ss back) (sym next_is)
+-- nothing is left of a span that was returned
+pub asked : (paints : Mark → List span.Span) (left : spans.Spans) (next : Option (span.Span × Mark)) → left.first ≡ None → IsNextSpan paints left.mark next → IsFirstSpan paints left next
+asked paints left None is h = ap (λ o. spans_from o (map span_of (paints left.mark))) is ∙ ap (map span_of) h
+asked paints left (Some next) is h = ap (λ o. spans_from o (map span_of (paints left.mark))) is ∙ ap (map span_of) h
 
-pub no_span : (paints : Mark → List span.Span) (left : spans.Spans) (letters : List ℕ) → left.first ≡ None → painted_letters (spans_in paints left) letters ≡ bare_letters letters
-no_span paints left letters is = ap (λ o. painted_letters (spans_from o (map span_of (paints left.mark))) letters) is
+pub all_left : (paints : Mark → List span.Span) (left : spans.Spans) → left.first ≡ None → left.mark ≡ first_mark → spans_in paints left ≡ all_spans paints
+all_left paints left none first = ap (λ o. spans_from o (map span_of (paints left.mark))) none ∙ ap (λ m. map span_of (paints m)) first
+
+pub no_spans : (paints : Mark → List span.Span) (m : Mark) → m ≡ first_mark → paints m ≡ [] → [] ≡ all_spans paints
+no_spans paints m is none = sym (ap (λ k. map span_of (paints k)) (sym is) ∙ ap (map span_of) none)
 
 take_none : (n : ℕ) → let none : List ℕ = [] in take n none ≡ none
 take_none zero = refl
@@ -65,9 +73,9 @@ no_letter_left (s ∷ spans) =
     ∙ ap (painted_letters spans) (drop_none s.len) ∙ no_letter_left spans
 
 -- without letters nothing is left, whatever spans follow
-pub no_letters : (spans : List Span) (letters : List ℕ) → true ≡ (length letters == 0) → painted_letters spans letters ≡ []
+pub no_letters : (spans : List Span) (letters : List ℕ) → (length letters == 0) ≡ true → painted_letters spans letters ≡ []
 no_letters spans [] none = no_letter_left spans
-no_letters spans (c ∷ letters) none = let zero = eqb-true (length (c ∷ letters)) 0 (sym none) in absurd (omega arith)
+no_letters spans (c ∷ letters) none = let zero = eqb-true (length (c ∷ letters)) 0 none in absurd (omega arith)
 
 -- the next cluster is no letter
 pub next_other : (wide : Widths) (spans later : List Span) (letters g : List ℕ) (before left : List (List ℕ)) → before ≡ g ∷ left → is_letter g ≡ false → later ≡ skip (length g) (skip (length letters) spans)
@@ -122,3 +130,66 @@ rows_take wide text is_first spans later n m row low is more later_is =
 
 pub rows_end : (wide : Widths) (text : List ℕ) (is_first : Bool) (spans : List Span) (n : ℕ) → drop n (split_rows text) ≡ [] → painted_from wide text is_first spans n ≡ []
 rows_end wide text is_first spans n h = ap (painted_left wide is_first spans) h ∙ row_none wide is_first spans
+
+-- ---- printable ASCII is one row
+
+no_newline : (c : ℕ) → is_printable c ≡ true → (c == 0x0A) ≡ false
+no_newline c h = grind (arith, nat_tests)
+
+one_row : (text : List ℕ) → list_all is_printable text ≡ true → split_rows text ≡ text ∷ []
+one_row [] h = refl
+one_row (c ∷ cs) h =
+    let parts = and_parts (is_printable c) (list_all is_printable cs) h in
+    slice_split-cons_no (λ x. x == 0x0A) c cs (no_newline c parts.0) ∙ ap (onto_first c) (one_row cs parts.1)
+
+text_letters : (wide : Widths) (spans : List Span) (text : List ℕ) → list_all is_printable text ≡ true → painted_text wide spans text ≡ painted_letters spans text
+text_letters wide spans text h = ap (painted_rows wide spans) (one_row text h) ∙ append-nil (painted_row wide spans text)
+    ∙ ap (λ b. if b then painted_letters spans text else painted_clusters wide spans [] (graphemes true text)) h
+
+pub no_text : (wide : Widths) (spans : List Span) (text : List ℕ) → true ≡ (length text == 0) → painted_text wide spans text ≡ []
+no_text wide spans [] none = text_letters wide spans [] refl ∙ no_letter_left spans
+no_text wide spans (c ∷ text) none = let zero = eqb-true (length (c ∷ text)) 0 (sym none) in absurd (omega arith)
+
+pub letters_sent : (wide : Widths) (paints : Mark → List span.Span) (left : spans.Spans) (bytes text : List ℕ) → left.first ≡ None → left.mark ≡ first_mark → bytes ≡ text → true ≡ list_all is_printable text
+    → painted_letters (spans_in paints left) bytes ≡ painted_text wide (all_spans paints) text
+letters_sent wide paints left bytes text none first same h =
+    ap (painted_letters (spans_in paints left)) same ∙ ap (λ ss. painted_letters ss text) (all_left paints left none first) ∙ sym (text_letters wide (all_spans paints) text (sym h))
+
+-- ---- without spans each item is the text's
+
+abbrev Plain : List PaintedItem → Type 0
+Plain xs = xs ≡ map Bare (all_unpainted xs)
+
+plain_append : (xs ys : List PaintedItem) → Plain xs → Plain ys → Plain (xs ++ ys)
+plain_append xs ys h k = ap₂ ◌++◌ h k ∙ sym (map-append Bare (all_unpainted xs) (all_unpainted ys)) ∙ ap (map Bare) (sym (bare_of xs ys))
+
+plain_if : (b : Bool) (xs ys : List PaintedItem) → Plain xs → Plain ys → Plain (if b then xs else ys)
+plain_if true xs ys h k = h
+plain_if false xs ys h k = k
+
+letters_plain : (letters : List ℕ) → Plain (bare_letters letters)
+letters_plain [] = refl
+letters_plain (c ∷ letters) = ap (λ xs. Bare (Letter c) ∷ xs) (letters_plain letters)
+
+module _ (wide : Widths) where
+  clusters_plain : (letters : List ℕ) (clusters : List (List ℕ)) → Plain (painted_clusters wide [] letters clusters)
+  clusters_plain letters [] = letters_plain letters
+  clusters_plain letters (g ∷ gs) =
+      let item = Bare (drawn_item wide g) ∷ [] in
+      plain_if (is_letter g) (painted_clusters wide [] (letters ++ g) gs) ((bare_letters letters ++ item) ++ painted_clusters wide [] [] gs) (clusters_plain (letters ++ g) gs)
+      (plain_append (bare_letters letters ++ item) (painted_clusters wide [] [] gs) (plain_append (bare_letters letters) item (letters_plain letters) refl) (clusters_plain [] gs))
+
+  row_plain : (row : List ℕ) → Plain (painted_row wide [] row)
+  row_plain row = plain_if (list_all is_printable row) (bare_letters row) (painted_clusters wide [] [] (graphemes true row)) (letters_plain row) (clusters_plain [] (graphemes true row))
+
+  behind_plain : (rows : List (List ℕ)) → Plain (painted_behind wide [] rows)
+  behind_plain [] = refl
+  behind_plain (row ∷ rows) = ap (λ xs. Bare NewRow ∷ xs) (plain_append (painted_row wide [] row) (painted_behind wide [] rows) (row_plain row) (behind_plain rows))
+
+  rows_plain : (rows : List (List ℕ)) → Plain (painted_rows wide [] rows)
+  rows_plain [] = refl
+  rows_plain (row ∷ rows) = plain_append (painted_row wide [] row) (painted_behind wide [] rows) (row_plain row) (behind_plain rows)
+
+  pub bare_text : (spans : List Span) (text : List ℕ) → [] ≡ spans → map Bare (text_items wide text) ≡ painted_text wide spans text
+  bare_text spans text none =
+      sym (rows_plain (split_rows text) ∙ ap (map Bare) (text_unpainted wide [] text refl)) ∙ ap (λ ss. painted_text wide ss text) none

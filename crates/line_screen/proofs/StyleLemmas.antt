@@ -1,19 +1,23 @@
 -- The numbers of a style are digits and semicolons, and there are none where it is plain.
-use Rattle.std.proofs.Common.{◌≡◌, ℕ, ◌+◌, ◌%◌, ◌^◌, ◌<◌, ◌==◌, ◌&&◌, not, Bool, true, false, List, [], ◌∷◌, ◌++◌, length, map, decimal, Result, refl, sym, ap, ◌∙◌, subst, arith}
-use Rattle.std.proofs.lemmas.Bool.{and_from, eqb-true}
+use Rattle.std.proofs.Common.{◌≡◌, ℕ, ◌+◌, ◌/◌, ◌%◌, ◌^◌, ◌<◌, ◌≤◌, ◌==◌, ◌&&◌, not, Bool, true, false, List, [], ◌∷◌, ◌++◌, length, map, decimal, Result, refl, sym, ap, ◌∙◌, subst, arith, if◌then◌else◌}
+use Rattle.std.proofs.lemmas.Bool.{and_from, eqb-true, ne_eqb}
 use Rattle.std.proofs.lemmas.Bool.Decides.{nat_tests}
-use Rattle.std.proofs.lemmas.Fmt.{decimal_by_steps}
+use Rattle.std.proofs.lemmas.Fmt.{decimal_by_steps, decimal_digit, decimal_step}
 use Rattle.std.proofs.lemmas.List.Folds.{list_all-append}
 use Rattle.line_help.specs.declared.style.Colour.{Colour}
 use Rattle.line_help.specs.declared.style.Colour.TheVariants.{Terminal, Basic, Bright, Palette, Rgb}
+use Rattle.line_help.specs.declared.style.Hue.{Hue}
+use Rattle.line_help.specs.declared.style.Hue.TheVariants as hues
 use Rattle.line_help.specs.declared.style.Span as span
 use Rattle.line_help.specs.declared.style.Style.{Style}
 use Rattle.line_config.specs.Sending.{Sends}
+use Rattle.line_editor.specs.Sights.{PartSpans}
+use Rattle.line_screen.specs.Calls.{styles_of}
 use Rattle.line_screen.specs.Display.{is_parameter}
 use Rattle.line_screen.specs.Drawing.{no_style}
-use Rattle.line_screen.specs.Colours.{is_style, are_styles, span_of, style_bytes}
+use Rattle.line_screen.specs.Colours.{AreStyles, is_style, are_styles, span_of, style_bytes}
 use Rattle.line_screen.specs.ColourLaws.{NumbersAreStyles}
-use Rattle.line_screen.specs.Styles.{hue_number, number, numbers_of, flag, flags, flag_codes, colour_codes, colour_numbers, numbers, is_terminal, is_plain_style}
+use Rattle.line_screen.specs.Styles.{hue_number, number, numbers_of, flag, flags, flag_codes, colour_codes, colour_numbers, numbers, is_terminal, is_plain_style, flag_number}
 
 digit : (n : ℕ) → n < 10 → is_parameter (48 + n) ≡ true
 digit n h = grind (arith, nat_tests)
@@ -40,9 +44,13 @@ numbers_are s =
     (both (flag s.bold 1) _ (flag_is s.bold 1) (both (flag s.faint 2) _ (flag_is s.faint 2) (both (flag s.italic 3) _ (flag_is s.italic 3) (both (flag s.underline 4) _ (flag_is s.underline 4) (flag_is s.reverse 7)))))
     (both (colour_numbers 30 s.text) (colour_numbers 40 s.background) (codes_are (colour_codes 30 s.text)) (codes_are (colour_codes 40 s.background)))
 
-pub spans_are : (spans : List span.Span) → are_styles (map span_of spans) ≡ true
+spans_are : (spans : List span.Span) → are_styles (map span_of spans) ≡ true
 spans_are [] = refl
 spans_are (s ∷ spans) = and_from _ _ (numbers_are s.style) (spans_are spans)
+
+-- a highlighter's styles are styles
+pub styles_are : (x : PartSpans) → AreStyles (styles_of x)
+styles_are x = record { prompt = spans_are x.prompt; line = spans_are x.line; info = spans_are x.info }
 
 -- ---- plain
 
@@ -72,6 +80,40 @@ pub plain_none : (s : Style) → is_plain_style s ≡ (length (numbers s) == 0)
 plain_none s = sym (then_none (flags s) _ _ _
     (then_none (flag s.bold 1) _ _ _ (flag_none s.bold 1) (then_none (flag s.faint 2) _ _ _ (flag_none s.faint 2) (then_none (flag s.italic 3) _ _ _ (flag_none s.italic 3) (then_none (flag s.underline 4) _ _ _ (flag_none s.underline 4) (flag_none s.reverse 7)))))
     (then_none (colour_numbers 30 s.text) _ _ _ (colour_none 30 s.text) (colour_none 40 s.background)))
+
+-- ---- a number's digits
+
+no_carry : (n : ℕ) → n < 256 → n % 256 ≡ n
+no_carry n h = omega arith
+
+pub one_digit : (n : ℕ) → n < 10 → number n ≡ 0x3B ∷ ((48 + n) ∷ [])
+one_digit n h = ap (λ m. 0x3B ∷ decimal m) (no_carry n (omega arith)) ∙ ap (λ ds. 0x3B ∷ ds) (decimal_digit n h)
+
+tens : (n : ℕ) → 10 ≤ n → n < 100 → decimal n ≡ (48 + n / 10) ∷ ((48 + n % 10) ∷ [])
+tens n ten low = decimal_step n ten (omega arith) ∙ ap (λ ds. ds ++ ((48 + n % 10) ∷ [])) (decimal_digit (n / 10) (omega arith))
+
+pub two_digits : (n : ℕ) → 10 ≤ n → n < 100 → number n ≡ 0x3B ∷ ((48 + n / 10) ∷ ((48 + n % 10) ∷ []))
+two_digits n ten low = ap (λ m. 0x3B ∷ decimal m) (no_carry n (omega arith)) ∙ ap (λ ds. 0x3B ∷ ds) (tens n ten low)
+
+pub three_digits : (n : ℕ) → 100 ≤ n → n < 256 → number n ≡ 0x3B ∷ ((48 + n / 10 / 10) ∷ ((48 + n / 10 % 10) ∷ ((48 + n % 10) ∷ [])))
+three_digits n hundred low = ap (λ m. 0x3B ∷ decimal m) (no_carry n low)
+    ∙ ap (λ ds. 0x3B ∷ ds) (decimal_step n (omega arith) (omega arith) ∙ ap (λ ds. ds ++ ((48 + n % 10) ∷ [])) (tens (n / 10) (omega arith) (omega arith)))
+
+pub hue_digits : (hue : Hue) → number (30 + hue_number hue) ≡ 0x3B ∷ (0x33 ∷ ((48 + hue_number hue) ∷ []))
+hue_digits hues.Black = two_digits 30 (omega arith) (omega arith)
+hue_digits hues.Red = two_digits 31 (omega arith) (omega arith)
+hue_digits hues.Green = two_digits 32 (omega arith) (omega arith)
+hue_digits hues.Yellow = two_digits 33 (omega arith) (omega arith)
+hue_digits hues.Blue = two_digits 34 (omega arith) (omega arith)
+hue_digits hues.Magenta = two_digits 35 (omega arith) (omega arith)
+hue_digits hues.Cyan = two_digits 36 (omega arith) (omega arith)
+hue_digits hues.White = two_digits 37 (omega arith) (omega arith)
+
+pub no_flag : (n : ℕ) → n ≡ 0 → flag_number n ≡ []
+no_flag n h = ap flag_number h
+
+pub flag_digit : (n : ℕ) → (n ≡ 0 → ⊥) → n < 10 → flag_number n ≡ 0x3B ∷ ((48 + n) ∷ [])
+flag_digit n some low = ap (λ b. if b then [] else number n) (ne_eqb n 0 some) ∙ one_digit n low
 
 -- ---- what is sent
 

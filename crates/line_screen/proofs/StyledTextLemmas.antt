@@ -1,28 +1,22 @@
--- Each cluster of a drawing with styles has the style of its first byte.
-use Rattle.std.proofs.Common.{◌≡◌, ℕ, zero, suc, ◌+◌, ◌-◌, ◌<◌, ◌≤◌, ◌==◌, nat_lt, nat_le, Bool, true, false, List, [], ◌∷◌, ◌++◌, map, take, drop, length, replicate, slice_index, Option, Some, None, refl, sym, ap, ap₂, ◌∙◌, append_assoc, append-nil, arith, if◌then◌else◌}
-use Rattle.std.specs.Prelude.{encode_utf8}
+-- A text with styles: each of its clusters has the style of its first byte, and no style stands after it.
+use Rattle.std.proofs.Common.{◌≡◌, ℕ, zero, suc, ◌+◌, ◌-◌, ◌<◌, ◌≤◌, ◌==◌, nat_lt, Bool, true, false, List, [], ◌∷◌, ◌++◌, map, take, drop, length, replicate, slice_index, Option, Some, None, refl, sym, ap, ap₂, ◌∙◌, subst, append_assoc, append-nil, arith, if◌then◌else◌}
 use Rattle.std.specs.List.{list_all, flat_map}
-use Rattle.std.proofs.lemmas.Bool.{and_parts, false≢true, eqb-true, ltb-true, ltb-false, ne_eqb}
-use Rattle.std.proofs.lemmas.List.{drop-drop, length-append}
+use Rattle.std.proofs.lemmas.Bool.{and_parts, and_from, false≢true, eqb-true, ltb-true, ltb-false, ne_eqb}
+use Rattle.std.proofs.lemmas.List.{drop-drop, length-append, map-append}
 use Rattle.std.proofs.lemmas.List.Concat.{flat_map-append}
-use Rattle.std.proofs.lemmas.Bool.Decides.{nat_tests}
-use Rattle.std.proofs.lemmas.Str.{chars-IsAscii, encode_ascii}
 use Rattle.unicode_segmentation.specs.Grapheme.{graphemes}
 use Rattle.line_buffer.specs.declared.layout.Position.{Position}
-use Rattle.line_screen.specs.Colours.{Span, PaintedItem, skip, first_style, bare_letters, shaded, painted_letters, painted_item, painted_after, painted_clusters, painted_row, painted_behind, painted_rows, painted_text}
+use Rattle.line_screen.specs.Colours.{Span, is_style, are_styles, skip, first_style, PaintedItem, unpainted, all_unpainted, bare_letters, shaded, painted_letters, painted_item, painted_after, painted_clusters, painted_row, painted_behind, painted_rows, painted_text, painted}
 use Rattle.line_screen.specs.Colours.PaintedItem.{Bare, Begins, Shaded, Fenced, Padded}
-use Rattle.line_screen.specs.Display.{is_printable}
-use Rattle.line_screen.specs.Drawing.{Widths, DrawnItem, is_letter, is_tab, drawn_cluster, drawn_other, drawn_item, split_rows, lay_one, after_one}
+use Rattle.line_screen.specs.Display.{Placed, DisplayReading, read, is_printable}
+use Rattle.line_screen.specs.Drawing.{Widths, DrawnItem, is_letter, is_tab, drawn_cluster, drawn_other, drawn_item, row_items, join_rows, split_rows, text_items, lay_one, after_one, place_after}
 use Rattle.line_screen.specs.Drawing.DrawnItem.{NewRow, Letter, Cluster, Tab}
-use Rattle.line_screen.specs.Painting.{styled_cell, lay_painted}
-use Rattle.line_screen.specs.Measure.{is_apart}
-use Rattle.line_screen.proofs.ApartLemmas.{clusters_apart}
-use Rattle.line_screen.proofs.Draws.{list_all_since}
-use Rattle.line_screen.specs.StyledTexts.{byte_styles, first_of, StyledItem, styled_clusters, styled_behind, styled_rows, lay_styled, ClustersHaveTheirStyle}
+use Rattle.line_screen.specs.StyledTexts.{byte_styles, first_of, StyledItem, row_clusters, styled_clusters, styled_behind, styled_rows, styled_text, lay}
+use Rattle.line_screen.proofs.Draws.{D, Open, Ready, AllFit, AllPainted, AllPens, pen_after_one, pen_after, lay_painted, draws}
 
--- ---- items with styles, and their cells
+-- ---- the items with styles of what is drawn
 
-abbrev with_style : List ℕ → DrawnItem → StyledItem
+abbrev pub with_style : List ℕ → DrawnItem → StyledItem
 with_style style item = record { item = item; style = style }
 
 abbrev one_styled : PaintedItem → List StyledItem
@@ -32,16 +26,80 @@ one_styled (Shaded style c) = with_style style (Letter c) ∷ []
 one_styled (Fenced style bytes width) = with_style style (Cluster bytes width) ∷ []
 one_styled (Padded style apart) = with_style style (Tab apart) ∷ []
 
-abbrev all_styled : List PaintedItem → List StyledItem
+abbrev pub all_styled : List PaintedItem → List StyledItem
 all_styled xs = flat_map one_styled xs
 
-lay_all : (columns : ℕ) (xs : List PaintedItem) (at : Position) → lay_painted columns xs at ≡ lay_styled columns (all_styled xs) at
+pub lay_all : (columns : ℕ) (xs : List PaintedItem) (at : Position) → lay_painted columns xs at ≡ lay columns (all_styled xs) at
 lay_all columns [] at = refl
-lay_all columns (Bare item ∷ xs) at = ap (λ ys. map (styled_cell []) (lay_one columns item at) ++ ys) (lay_all columns xs (after_one columns item at))
+lay_all columns (Bare item ∷ xs) at = ap (λ ys. lay_one columns [] item at ++ ys) (lay_all columns xs (after_one columns item at))
 lay_all columns (Begins style ∷ xs) at = lay_all columns xs at
-lay_all columns (Shaded style c ∷ xs) at = ap (λ ys. map (styled_cell style) (lay_one columns (Letter c) at) ++ ys) (lay_all columns xs (after_one columns (Letter c) at))
-lay_all columns (Fenced style bytes width ∷ xs) at = ap (λ ys. map (styled_cell style) (lay_one columns (Cluster bytes width) at) ++ ys) (lay_all columns xs (after_one columns (Cluster bytes width) at))
-lay_all columns (Padded style apart ∷ xs) at = ap (λ ys. map (styled_cell style) (lay_one columns (Tab apart) at) ++ ys) (lay_all columns xs (after_one columns (Tab apart) at))
+lay_all columns (Shaded style c ∷ xs) at = ap (λ ys. lay_one columns style (Letter c) at ++ ys) (lay_all columns xs (after_one columns (Letter c) at))
+lay_all columns (Fenced style bytes width ∷ xs) at = ap (λ ys. lay_one columns style (Cluster bytes width) at ++ ys) (lay_all columns xs (after_one columns (Cluster bytes width) at))
+lay_all columns (Padded style apart ∷ xs) at = ap (λ ys. lay_one columns style (Tab apart) at ++ ys) (lay_all columns xs (after_one columns (Tab apart) at))
+
+-- the same without styles
+abbrev pub bare_items : List StyledItem → List DrawnItem
+bare_items xs = map (λ x. x.item) xs
+
+bare_are : (xs : List PaintedItem) → all_unpainted xs ≡ bare_items (all_styled xs)
+bare_are [] = refl
+bare_are (Bare item ∷ xs) = ap (λ ys. item ∷ ys) (bare_are xs)
+bare_are (Begins style ∷ xs) = bare_are xs
+bare_are (Shaded style c ∷ xs) = ap (λ ys. Letter c ∷ ys) (bare_are xs)
+bare_are (Fenced style bytes width ∷ xs) = ap (λ ys. Cluster bytes width ∷ ys) (bare_are xs)
+bare_are (Padded style apart ∷ xs) = ap (λ ys. Tab apart ∷ ys) (bare_are xs)
+
+pub bare_of : (xs ys : List PaintedItem) → all_unpainted (xs ++ ys) ≡ all_unpainted xs ++ all_unpainted ys
+bare_of [] ys = refl
+bare_of (x ∷ xs) ys = ap (λ zs. unpainted x ++ zs) (bare_of xs ys) ∙ sym (append_assoc (unpainted x) (all_unpainted xs) (all_unpainted ys))
+
+-- ---- parts of a text, with their items; styles are styles, and none stands after a part
+
+abbrev IsStyled : PaintedItem → Type 0
+IsStyled (Bare item) = Unit {0}
+IsStyled (Begins style) = is_style style ≡ true
+IsStyled (Shaded style c) = is_style style ≡ true
+IsStyled (Fenced style bytes width) = is_style style ≡ true
+IsStyled (Padded style apart) = is_style style ≡ true
+
+abbrev AllStyled : List PaintedItem → Type 0
+AllStyled [] = Unit {0}
+AllStyled (x ∷ xs) = IsStyled x × AllStyled xs
+
+pub record Draw (xs : List PaintedItem) (ys : List StyledItem) : Type 0 where
+  items : all_styled xs ≡ ys
+  styled : AllStyled xs
+  pub pens : AllPens [] xs
+  pub ends : pen_after [] xs ≡ []
+
+styled_append : (xs ys : List PaintedItem) → AllStyled xs → AllStyled ys → AllStyled (xs ++ ys)
+styled_append [] ys h k = k
+styled_append (x ∷ xs) ys h k = (h.0, styled_append xs ys h.1 k)
+
+pens_append : (pen : List ℕ) (xs ys : List PaintedItem) → AllPens pen xs → AllPens (pen_after pen xs) ys → AllPens pen (xs ++ ys)
+pens_append pen [] ys h k = k
+pens_append pen (x ∷ xs) ys h k = (h.0, pens_append (pen_after_one pen x) xs ys h.1 k)
+
+pen_append : (pen : List ℕ) (xs ys : List PaintedItem) → pen_after pen (xs ++ ys) ≡ pen_after (pen_after pen xs) ys
+pen_append pen [] ys = refl
+pen_append pen (x ∷ xs) ys = pen_append (pen_after_one pen x) xs ys
+
+draw_append : {xs ys : List PaintedItem} {us vs : List StyledItem} → Draw xs us → Draw ys vs → Draw (xs ++ ys) (us ++ vs)
+draw_append {xs} {ys} {us} {vs} h k = record {
+  items = flat_map-append one_styled xs ys ∙ ap₂ ◌++◌ h.items k.items;
+  styled = styled_append xs ys h.styled k.styled;
+  pens = pens_append [] xs ys h.pens (subst (λ pen. AllPens pen ys) (sym h.ends) k.pens);
+  ends = pen_append [] xs ys ∙ ap (λ pen. pen_after pen ys) h.ends ∙ k.ends;
+}
+
+draw_as : {xs : List PaintedItem} {us vs : List StyledItem} → Draw xs us → us ≡ vs → Draw xs vs
+draw_as {xs} h e = subst (Draw xs) e h
+
+draw_none : Draw [] []
+draw_none = record { items = refl; styled = tt; pens = tt; ends = refl }
+
+draw_bare : (item : DrawnItem) → Draw (Bare item ∷ []) (with_style [] item ∷ [])
+draw_bare item = record { items = refl; styled = (tt, tt); pens = (refl, tt); ends = refl }
 
 -- ---- letters
 
@@ -52,36 +110,45 @@ styled_letters styles (c ∷ letters) = with_style (first_of styles) (Letter c) 
 abbrev of_style : List ℕ → List ℕ → List StyledItem
 of_style style letters = map (λ c. with_style style (Letter c)) letters
 
-bare_are : (letters : List ℕ) → all_styled (bare_letters letters) ≡ of_style [] letters
-bare_are [] = refl
-bare_are (c ∷ letters) = ap (λ ys. with_style [] (Letter c) ∷ ys) (bare_are letters)
+draw_letters : (letters : List ℕ) → Draw (bare_letters letters) (of_style [] letters)
+draw_letters [] = draw_none
+draw_letters (c ∷ letters) = draw_append (draw_bare (Letter c)) (draw_letters letters)
 
-unstyled : (letters : List ℕ) → of_style [] letters ≡ styled_letters [] letters
-unstyled [] = refl
-unstyled (c ∷ letters) = ap (λ ys. with_style [] (Letter c) ∷ ys) (unstyled letters)
+plain_letters : (letters : List ℕ) → of_style [] letters ≡ styled_letters [] letters
+plain_letters [] = refl
+plain_letters (c ∷ letters) = ap (λ ys. with_style [] (Letter c) ∷ ys) (plain_letters letters)
 
-shades_are : (style letters : List ℕ) (rest : List PaintedItem) → all_styled (map (Shaded style) letters ++ rest) ≡ of_style style letters ++ all_styled rest
-shades_are style [] rest = refl
-shades_are style (c ∷ letters) rest = ap (λ ys. with_style style (Letter c) ∷ ys) (shades_are style letters rest)
+-- letters behind the beginning of their style, before its end
+record Shades (style letters : List ℕ) (xs : List PaintedItem) : Type 0 where
+  items : all_styled xs ≡ of_style style letters
+  styled : AllStyled xs
+  pens : AllPens style xs
+  ends : pen_after style xs ≡ []
 
-shaded_are : (style letters : List ℕ) → all_styled (shaded style letters) ≡ of_style style letters
-shaded_are style [] = refl
-shaded_are [] (c ∷ letters) = bare_are (c ∷ letters)
-shaded_are (p ∷ style) (c ∷ letters) = shades_are (p ∷ style) (c ∷ letters) (Begins [] ∷ []) ∙ append-nil (of_style (p ∷ style) (c ∷ letters))
+shades : (style letters : List ℕ) → is_style style ≡ true → Shades style letters (map (Shaded style) letters ++ Begins [] ∷ [])
+shades style [] is = record { items = refl; styled = (refl, tt); pens = (tt, tt); ends = refl }
+shades style (c ∷ letters) is =
+    let more = shades style letters is in
+    record { items = ap (λ ys. with_style style (Letter c) ∷ ys) more.items; styled = (is, more.styled); pens = (refl, more.pens); ends = more.ends }
+
+draw_shaded : (style letters : List ℕ) → is_style style ≡ true → Draw (shaded style letters) (of_style style letters)
+draw_shaded style [] is = draw_none
+draw_shaded [] (c ∷ letters) is = draw_letters (c ∷ letters)
+draw_shaded (p ∷ style) (c ∷ letters) is =
+    let more = shades (p ∷ style) (c ∷ letters) is in
+    record { items = more.items; styled = (is, more.styled); pens = (tt, more.pens); ends = more.ends }
 
 span_letters : (n : ℕ) (style : List ℕ) (styles : List (List ℕ)) (letters : List ℕ)
-    → styled_letters (replicate n style ++ styles) letters ≡ of_style style (take n letters) ++ styled_letters styles (drop n letters)
+    → of_style style (take n letters) ++ styled_letters styles (drop n letters) ≡ styled_letters (replicate n style ++ styles) letters
 span_letters zero style styles letters = refl
 span_letters (suc n) style styles [] = refl
 span_letters (suc n) style styles (c ∷ letters) = ap (λ ys. with_style style (Letter c) ∷ ys) (span_letters n style styles letters)
 
-letters_are : (spans : List Span) (letters : List ℕ) → all_styled (painted_letters spans letters) ≡ styled_letters (byte_styles spans) letters
-letters_are [] letters = bare_are letters ∙ unstyled letters
-letters_are (s ∷ spans) letters =
-    flat_map-append one_styled (shaded s.style (take s.len letters)) (painted_letters spans (drop s.len letters))
-    ∙ ap (λ ys. ys ++ all_styled (painted_letters spans (drop s.len letters))) (shaded_are s.style (take s.len letters))
-    ∙ ap (λ ys. of_style s.style (take s.len letters) ++ ys) (letters_are spans (drop s.len letters))
-    ∙ sym (span_letters s.len s.style (byte_styles spans) letters)
+draw_spans : (spans : List Span) (letters : List ℕ) → are_styles spans ≡ true → Draw (painted_letters spans letters) (styled_letters (byte_styles spans) letters)
+draw_spans [] letters h = draw_as (draw_letters letters) (plain_letters letters)
+draw_spans (s ∷ spans) letters h =
+    let parts = and_parts (is_style s.style) (are_styles spans) h in
+    draw_as (draw_append (draw_shaded s.style (take s.len letters) parts.0) (draw_spans spans (drop s.len letters) parts.1)) (span_letters s.len s.style (byte_styles spans) letters)
 
 -- ---- spans after so many bytes
 
@@ -120,18 +187,39 @@ first_is : (spans : List Span) → first_style spans ≡ first_of (byte_styles s
 first_is [] = refl
 first_is (s ∷ spans) = first_if s.len s.style (byte_styles spans) (first_style spans) (first_is spans)
 
+left_if : (n : ℕ) (s : Span) (spans : List Span) → is_style s.style ≡ true → are_styles spans ≡ true → are_styles (skip (n - s.len) spans) ≡ true → (b : Bool)
+    → are_styles (if b then (record { len = s.len - n; style = s.style } ∷ spans) else skip (n - s.len) spans) ≡ true
+left_if n s spans is h k true = and_from _ _ is h
+left_if n s spans is h k false = k
+
+skip_styles : (n : ℕ) (spans : List Span) → are_styles spans ≡ true → are_styles (skip n spans) ≡ true
+skip_styles n [] h = refl
+skip_styles n (s ∷ spans) h =
+    let parts = and_parts (is_style s.style) (are_styles spans) h in
+    left_if n s spans parts.0 parts.1 (skip_styles (n - s.len) spans parts.1) (nat_lt n s.len)
+
+style_if : (s : Span) (spans : List Span) → is_style s.style ≡ true → is_style (first_style spans) ≡ true → (b : Bool) → is_style (if b then first_style spans else s.style) ≡ true
+style_if s spans is h true = h
+style_if s spans is h false = is
+
+first_is_style : (spans : List Span) → are_styles spans ≡ true → is_style (first_style spans) ≡ true
+first_is_style [] h = refl
+first_is_style (s ∷ spans) h =
+    let parts = and_parts (is_style s.style) (are_styles spans) h in
+    style_if s spans parts.0 (first_is_style spans parts.1) (s.len == 0)
+
 -- ---- clusters
 
 abbrev is_new_row : DrawnItem → Bool
 is_new_row NewRow = true
 is_new_row item = false
 
-item_is : (style : List ℕ) (item : DrawnItem) → is_new_row item ≡ false → all_styled (painted_item style item) ≡ with_style style item ∷ []
-item_is [] item h = refl
-item_is (p ∷ style) NewRow h = absurd (false≢true (sym h))
-item_is (p ∷ style) (Letter c) h = refl
-item_is (p ∷ style) (Cluster bytes width) h = refl
-item_is (p ∷ style) (Tab apart) h = refl
+draw_item : (style : List ℕ) (item : DrawnItem) → is_style style ≡ true → is_new_row item ≡ false → Draw (painted_item style item) (with_style style item ∷ [])
+draw_item [] item is h = draw_bare item
+draw_item (p ∷ style) NewRow is h = absurd (false≢true (sym h))
+draw_item (p ∷ style) (Letter c) is h = draw_shaded (p ∷ style) (c ∷ []) is
+draw_item (p ∷ style) (Cluster bytes width) is h = record { items = refl; styled = (is, tt); pens = (refl, tt); ends = refl }
+draw_item (p ∷ style) (Tab apart) is h = record { items = refl; styled = (is, tt); pens = (refl, tt); ends = refl }
 
 cluster_stays : (bytes : List ℕ) (width : Option ℕ) → is_new_row (drawn_cluster bytes width) ≡ false
 cluster_stays bytes None = refl
@@ -159,76 +247,52 @@ one_letter styles [] h = absurd (omega (arith, h))
 one_letter styles (c ∷ []) h = refl
 one_letter styles (c ∷ (d ∷ cs)) h = absurd (omega (arith, h))
 
--- ---- printable ASCII: each character is a cluster of its own
-
-printable_apart : (c : ℕ) → is_printable c ≡ true → is_apart c ≡ true
-printable_apart c h = grind (arith, nat_tests)
-
-printable_low : (c : ℕ) → is_printable c ≡ true → c < 128
-printable_low c h = let low = ltb-true c 0x7F (and_parts (nat_le 0x20 c) (nat_lt c 0x7F) h).1 in omega arith
-
-row_low : (row : List ℕ) → list_all is_printable row ≡ true → (i : ℕ) → slice_index row i < 128
-row_low [] h i = omega arith
-row_low (c ∷ row) h zero = printable_low c (and_parts (is_printable c) (list_all is_printable row) h).0
-row_low (c ∷ row) h (suc i) = row_low row (and_parts (is_printable c) (list_all is_printable row) h).1 i
-
-encoded_are : (row : List ℕ) → list_all is_printable row ≡ true → map encode_utf8 row ≡ map (λ c. c ∷ []) row
-encoded_are [] h = refl
-encoded_are (c ∷ row) h =
-    let parts = and_parts (is_printable c) (list_all is_printable row) h in
-    ap₂ ◌∷◌ (encode_ascii c (printable_low c parts.0)) (encoded_are row parts.1)
-
-letters_are_clusters : (row : List ℕ) → list_all is_printable row ≡ true → graphemes true row ≡ map (λ c. c ∷ []) row
-letters_are_clusters row h =
-    let same = chars-IsAscii row (row_low row h) in
-    clusters_apart row (ap (list_all is_apart) same ∙ list_all_since is_printable is_apart printable_apart row h)
-    ∙ ap (map encode_utf8) same ∙ encoded_are row h
-
 module _ (wide : Widths) where
   letter_item : (cluster : List ℕ) → is_letter cluster ≡ true → Letter (slice_index cluster 0) ≡ drawn_item wide cluster
   letter_item cluster h = ap (λ b. if b then Letter (slice_index cluster 0) else drawn_other wide.cluster wide.tab cluster) (sym h)
 
-  after_are : (spans : List Span) (letters cluster : List ℕ)
-      → all_styled (painted_after wide spans letters cluster) ≡ styled_letters (byte_styles spans) letters ++ with_style (first_of (drop (length letters) (byte_styles spans))) (drawn_item wide cluster) ∷ []
-  after_are spans letters cluster =
-      let style = first_style (skip (length letters) spans) in
-      flat_map-append one_styled (painted_letters spans letters) (painted_item style (drawn_item wide cluster))
-      ∙ ap (λ ys. ys ++ all_styled (painted_item style (drawn_item wide cluster))) (letters_are spans letters)
-      ∙ ap (λ ys. styled_letters (byte_styles spans) letters ++ ys) (item_is style (drawn_item wide cluster) (letter_stays wide cluster (is_letter cluster)))
-      ∙ ap (λ s. styled_letters (byte_styles spans) letters ++ with_style s (drawn_item wide cluster) ∷ []) (first_is (skip (length letters) spans) ∙ ap first_of (skip_is (length letters) spans))
+  draw_after : (spans : List Span) (letters cluster : List ℕ) → are_styles spans ≡ true
+      → Draw (painted_after wide spans letters cluster) (styled_letters (byte_styles spans) letters ++ with_style (first_of (drop (length letters) (byte_styles spans))) (drawn_item wide cluster) ∷ [])
+  draw_after spans letters cluster are =
+      let left = skip (length letters) spans in
+      let style : first_style left ≡ first_of (drop (length letters) (byte_styles spans)) = first_is left ∙ ap first_of (skip_is (length letters) spans) in
+      draw_append (draw_spans spans letters are)
+      (draw_as (draw_item (first_style left) (drawn_item wide cluster) (first_is_style left (skip_styles (length letters) spans are)) (letter_stays wide cluster (is_letter cluster)))
+      (ap (λ s. with_style s (drawn_item wide cluster) ∷ []) style))
 
   abbrev Clusters : List (List ℕ) → Type 0
-  Clusters clusters = (spans : List Span) (letters : List ℕ)
-      → all_styled (painted_clusters wide spans letters clusters) ≡ styled_letters (byte_styles spans) letters ++ styled_clusters wide (drop (length letters) (byte_styles spans)) clusters
+  Clusters clusters = (spans : List Span) (letters : List ℕ) → are_styles spans ≡ true
+      → Draw (painted_clusters wide spans letters clusters) (styled_letters (byte_styles spans) letters ++ styled_clusters wide (drop (length letters) (byte_styles spans)) clusters)
 
-  clusters_if : (cluster : List ℕ) (clusters : List (List ℕ)) → Clusters clusters → (spans : List Span) (letters : List ℕ) (b : Bool) → is_letter cluster ≡ b
-      → all_styled (if b then painted_clusters wide spans (letters ++ cluster) clusters
+  clusters_if : (cluster : List ℕ) (clusters : List (List ℕ)) → Clusters clusters → (spans : List Span) (letters : List ℕ) → are_styles spans ≡ true → (b : Bool) → is_letter cluster ≡ b
+      → Draw (if b then painted_clusters wide spans (letters ++ cluster) clusters
       else (painted_after wide spans letters cluster ++ painted_clusters wide (skip (length cluster) (skip (length letters) spans)) [] clusters))
-      ≡ styled_letters (byte_styles spans) letters ++ styled_clusters wide (drop (length letters) (byte_styles spans)) (cluster ∷ clusters)
-  clusters_if cluster clusters more spans letters true e =
+      (styled_letters (byte_styles spans) letters ++ styled_clusters wide (drop (length letters) (byte_styles spans)) (cluster ∷ clusters))
+  clusters_if cluster clusters more spans letters are true e =
       let styles = byte_styles spans in
       let later = drop (length letters) styles in
       let one : length cluster ≡ 1 = eqb-true (length cluster) 1 (and_parts (length cluster == 1) (is_printable (slice_index cluster 0)) e).0 in
-      more spans (letters ++ cluster)
-      ∙ ap (λ ys. ys ++ styled_clusters wide (drop (length (letters ++ cluster)) styles) clusters) (letters_append styles letters cluster)
+      draw_as (more spans (letters ++ cluster) are)
+      (ap (λ ys. ys ++ styled_clusters wide (drop (length (letters ++ cluster)) styles) clusters) (letters_append styles letters cluster)
       ∙ append_assoc (styled_letters styles letters) (styled_letters later cluster) (styled_clusters wide (drop (length (letters ++ cluster)) styles) clusters)
       ∙ ap (λ ys. styled_letters styles letters ++ (ys ++ styled_clusters wide (drop (length (letters ++ cluster)) styles) clusters)) (one_letter later cluster one)
       ∙ ap (λ i. styled_letters styles letters ++ (with_style (first_of later) i ∷ styled_clusters wide (drop (length (letters ++ cluster)) styles) clusters)) (letter_item cluster e)
       ∙ ap (λ s. styled_letters styles letters ++ (with_style (first_of later) (drawn_item wide cluster) ∷ styled_clusters wide s clusters))
-      (ap (λ n. drop n styles) (length-append letters cluster) ∙ sym (drop-drop (length cluster) (length letters) styles))
-  clusters_if cluster clusters more spans letters false e =
+      (ap (λ n. drop n styles) (length-append letters cluster) ∙ sym (drop-drop (length cluster) (length letters) styles)))
+  clusters_if cluster clusters more spans letters are false e =
       let styles = byte_styles spans in
-      let left = skip (length cluster) (skip (length letters) spans) in
-      let rest = all_styled (painted_clusters wide left [] clusters) in
-      flat_map-append one_styled (painted_after wide spans letters cluster) (painted_clusters wide left [] clusters)
-      ∙ ap (λ ys. ys ++ rest) (after_are spans letters cluster)
-      ∙ append_assoc (styled_letters styles letters) (with_style (first_of (drop (length letters) styles)) (drawn_item wide cluster) ∷ []) rest
-      ∙ ap (λ ys. styled_letters styles letters ++ (with_style (first_of (drop (length letters) styles)) (drawn_item wide cluster) ∷ ys))
-      (more left [] ∙ ap (λ s. styled_clusters wide s clusters) (skip_is (length cluster) (skip (length letters) spans) ∙ ap (drop (length cluster)) (skip_is (length letters) spans)))
+      let next = skip (length letters) spans in
+      let left = skip (length cluster) next in
+      let left_is : byte_styles left ≡ drop (length cluster) (drop (length letters) styles) = skip_is (length cluster) next ∙ ap (drop (length cluster)) (skip_is (length letters) spans) in
+      draw_as (draw_append (draw_after spans letters cluster are) (more left [] (skip_styles (length cluster) next (skip_styles (length letters) spans are))))
+      (append_assoc (styled_letters styles letters) (with_style (first_of (drop (length letters) styles)) (drawn_item wide cluster) ∷ []) (styled_clusters wide (byte_styles left) clusters)
+      ∙ ap (λ s. styled_letters styles letters ++ (with_style (first_of (drop (length letters) styles)) (drawn_item wide cluster) ∷ styled_clusters wide s clusters)) left_is)
 
-  clusters_are : (clusters : List (List ℕ)) → Clusters clusters
-  clusters_are [] spans letters = letters_are spans letters ∙ sym (append-nil (styled_letters (byte_styles spans) letters))
-  clusters_are (cluster ∷ clusters) spans letters = clusters_if cluster clusters (clusters_are clusters) spans letters (is_letter cluster) refl
+  draw_clusters : (clusters : List (List ℕ)) → Clusters clusters
+  draw_clusters [] spans letters are = draw_as (draw_spans spans letters are) (sym (append-nil (styled_letters (byte_styles spans) letters)))
+  draw_clusters (cluster ∷ clusters) spans letters are = clusters_if cluster clusters (draw_clusters clusters) spans letters are (is_letter cluster) refl
+
+  -- ---- rows
 
   singles : (styles : List (List ℕ)) (row : List ℕ) → list_all is_printable row ≡ true → styled_letters styles row ≡ styled_clusters wide styles (map (λ c. c ∷ []) row)
   singles styles [] h = refl
@@ -236,29 +300,133 @@ module _ (wide : Widths) where
       let parts = and_parts (is_printable c) (list_all is_printable row) h in
       ap₂ (λ i ys. with_style (first_of styles) i ∷ ys) (letter_item (c ∷ []) parts.0) (singles (drop 1 styles) row parts.1)
 
-  row_if : (spans : List Span) (row : List ℕ) (b : Bool) → list_all is_printable row ≡ b
-      → all_styled (if b then painted_letters spans row else painted_clusters wide spans [] (graphemes true row)) ≡ styled_clusters wide (byte_styles spans) (graphemes true row)
-  row_if spans row true e = letters_are spans row ∙ singles (byte_styles spans) row e ∙ ap (styled_clusters wide (byte_styles spans)) (sym (letters_are_clusters row e))
-  row_if spans row false e = clusters_are (graphemes true row) spans []
+  row_if : (spans : List Span) (row : List ℕ) → are_styles spans ≡ true → (b : Bool) → list_all is_printable row ≡ b
+      → Draw (if b then painted_letters spans row else painted_clusters wide spans [] (graphemes true row)) (styled_clusters wide (byte_styles spans) (if b then map (λ c. c ∷ []) row else graphemes true row))
+  row_if spans row are true e = draw_as (draw_spans spans row are) (singles (byte_styles spans) row e)
+  row_if spans row are false e = draw_clusters (graphemes true row) spans [] are
 
-  row_is : (spans : List Span) (row : List ℕ) → all_styled (painted_row wide spans row) ≡ styled_clusters wide (byte_styles spans) (graphemes true row)
-  row_is spans row = row_if spans row (list_all is_printable row) refl
+  draw_row : (spans : List Span) (styles : List (List ℕ)) (row : List ℕ) → are_styles spans ≡ true → byte_styles spans ≡ styles → Draw (painted_row wide spans row) (styled_clusters wide styles (row_clusters row))
+  draw_row spans styles row are same = draw_as (row_if spans row are (list_all is_printable row) refl) (ap (λ s. styled_clusters wide s (row_clusters row)) same)
 
-  behind_are : (spans : List Span) (rows : List (List ℕ)) → all_styled (painted_behind wide spans rows) ≡ styled_behind wide (byte_styles spans) rows
-  behind_are spans [] = refl
-  behind_are spans (row ∷ rows) =
+  draw_behind : (spans : List Span) (styles : List (List ℕ)) (rows : List (List ℕ)) → are_styles spans ≡ true → byte_styles spans ≡ styles → Draw (painted_behind wide spans rows) (styled_behind wide styles rows)
+  draw_behind spans styles [] are same = draw_none
+  draw_behind spans styles (row ∷ rows) are same =
       let here = skip 1 spans in
+      let here_are = skip_styles 1 spans are in
+      let here_is : byte_styles here ≡ drop 1 styles = skip_is 1 spans ∙ ap (drop 1) same in
+      draw_append (draw_bare NewRow)
+      (draw_append (draw_row here (drop 1 styles) row here_are here_is)
+      (draw_behind (skip (length row) here) (drop (length row) (drop 1 styles)) rows (skip_styles (length row) here here_are) (skip_is (length row) here ∙ ap (drop (length row)) here_is)))
+
+  draw_rows : (spans : List Span) (rows : List (List ℕ)) → are_styles spans ≡ true → Draw (painted_rows wide spans rows) (styled_rows wide (byte_styles spans) rows)
+  draw_rows spans [] are = draw_none
+  draw_rows spans (row ∷ rows) are =
+      draw_append (draw_row spans (byte_styles spans) row are refl)
+      (draw_behind (skip (length row) spans) (drop (length row) (byte_styles spans)) rows (skip_styles (length row) spans are) (skip_is (length row) spans))
+
+  pub draw_text : (spans : List Span) (text : List ℕ) → are_styles spans ≡ true → Draw (painted_text wide spans text) (styled_text wide spans text)
+  draw_text spans text are = draw_rows spans (split_rows text) are
+
+  -- ---- items with and without styles
+
+  clusters_bare : (styles : List (List ℕ)) (clusters : List (List ℕ)) → bare_items (styled_clusters wide styles clusters) ≡ map (drawn_item wide) clusters
+  clusters_bare styles [] = refl
+  clusters_bare styles (c ∷ cs) = ap (λ ys. drawn_item wide c ∷ ys) (clusters_bare (drop (length c) styles) cs)
+
+  letters_bare : (row : List ℕ) → list_all is_printable row ≡ true → map (drawn_item wide) (map (λ c. c ∷ []) row) ≡ map Letter row
+  letters_bare [] h = refl
+  letters_bare (c ∷ row) h =
+      let parts = and_parts (is_printable c) (list_all is_printable row) h in
+      ap₂ ◌∷◌ (sym (letter_item (c ∷ []) parts.0)) (letters_bare row parts.1)
+
+  items_if : (row : List ℕ) (b : Bool) → list_all is_printable row ≡ b
+      → map (drawn_item wide) (if b then map (λ c. c ∷ []) row else graphemes true row) ≡ (if b then map Letter row else map (drawn_item wide) (graphemes true row))
+  items_if row true e = letters_bare row e
+  items_if row false e = refl
+
+  row_bare : (styles : List (List ℕ)) (row : List ℕ) → bare_items (styled_clusters wide styles (row_clusters row)) ≡ row_items wide row
+  row_bare styles row = clusters_bare styles (row_clusters row) ∙ items_if row (list_all is_printable row) refl
+
+  behind_bare : (styles : List (List ℕ)) (rows : List (List ℕ)) → bare_items (styled_behind wide styles rows) ≡ flat_map (λ r. NewRow ∷ row_items wide r) rows
+  behind_bare styles [] = refl
+  behind_bare styles (row ∷ rows) =
+      let later = drop (length row) (drop 1 styles) in
+      ap (λ ys. NewRow ∷ ys) (map-append (λ (x : StyledItem). x.item) (styled_clusters wide (drop 1 styles) (row_clusters row)) (styled_behind wide later rows)
+      ∙ ap₂ ◌++◌ (row_bare (drop 1 styles) row) (behind_bare later rows))
+
+  rows_bare : (styles : List (List ℕ)) (rows : List (List ℕ)) → bare_items (styled_rows wide styles rows) ≡ join_rows wide rows
+  rows_bare styles [] = refl
+  rows_bare styles (row ∷ rows) =
+      let later = drop (length row) styles in
+      map-append (λ (x : StyledItem). x.item) (styled_clusters wide styles (row_clusters row)) (styled_behind wide later rows)
+      ∙ ap₂ ◌++◌ (row_bare styles row) (behind_bare later rows)
+
+  pub items_of : (spans : List Span) (text : List ℕ) → map (λ x. x.item) (styled_text wide spans text) ≡ text_items wide text
+  items_of spans text = rows_bare (byte_styles spans) (split_rows text)
+
+  pub text_unpainted : (spans : List Span) (text : List ℕ) → are_styles spans ≡ true → all_unpainted (painted_text wide spans text) ≡ text_items wide text
+  text_unpainted spans text are = bare_are (painted_text wide spans text) ∙ ap bare_items (draw_text spans text are).items ∙ items_of spans text
+
+  -- without spans no item has a style
+
+  abbrev plain : List StyledItem → List StyledItem
+  plain ys = map (with_style []) (bare_items ys)
+
+  plain_append : (xs ys : List StyledItem) → xs ≡ plain xs → ys ≡ plain ys → xs ++ ys ≡ plain (xs ++ ys)
+  plain_append xs ys h k =
+      ap₂ ◌++◌ h k ∙ sym (map-append (with_style []) (bare_items xs) (bare_items ys)) ∙ ap (map (with_style [])) (sym (map-append (λ (x : StyledItem). x.item) xs ys))
+
+  none_left : (n : ℕ) (styles : List (List ℕ)) → styles ≡ [] → drop n styles ≡ []
+  none_left n styles h = ap (drop n) h ∙ drop_none n
+
+  clusters_plain : (styles : List (List ℕ)) (clusters : List (List ℕ)) → styles ≡ [] → styled_clusters wide styles clusters ≡ plain (styled_clusters wide styles clusters)
+  clusters_plain styles [] h = refl
+  clusters_plain styles (c ∷ cs) h = ap₂ (λ s ys. with_style s (drawn_item wide c) ∷ ys) (ap first_of h) (clusters_plain (drop (length c) styles) cs (none_left (length c) styles h))
+
+  behind_plain : (styles : List (List ℕ)) (rows : List (List ℕ)) → styles ≡ [] → styled_behind wide styles rows ≡ plain (styled_behind wide styles rows)
+  behind_plain styles [] h = refl
+  behind_plain styles (row ∷ rows) h =
+      let next = drop 1 styles in
+      let later = drop (length row) next in
+      let none = none_left 1 styles h in
       ap (λ ys. with_style [] NewRow ∷ ys)
-      (flat_map-append one_styled (painted_row wide here row) (painted_behind wide (skip (length row) here) rows)
-      ∙ ap₂ ◌++◌ (row_is here row ∙ ap (λ s. styled_clusters wide s (graphemes true row)) (skip_is 1 spans))
-      (behind_are (skip (length row) here) rows ∙ ap (λ s. styled_behind wide s rows) (skip_is (length row) here ∙ ap (drop (length row)) (skip_is 1 spans))))
+      (plain_append (styled_clusters wide next (row_clusters row)) (styled_behind wide later rows) (clusters_plain next (row_clusters row) none) (behind_plain later rows (none_left (length row) next none)))
 
-  rows_are : (spans : List Span) (rows : List (List ℕ)) → all_styled (painted_rows wide spans rows) ≡ styled_rows wide (byte_styles spans) rows
-  rows_are spans [] = refl
-  rows_are spans (row ∷ rows) =
-      flat_map-append one_styled (painted_row wide spans row) (painted_behind wide (skip (length row) spans) rows)
-      ∙ ap₂ ◌++◌ (row_is spans row) (behind_are (skip (length row) spans) rows ∙ ap (λ s. styled_behind wide s rows) (skip_is (length row) spans))
+  rows_plain : (rows : List (List ℕ)) → styled_rows wide [] rows ≡ plain (styled_rows wide [] rows)
+  rows_plain [] = refl
+  rows_plain (row ∷ rows) =
+      let later = drop (length row) [] in
+      plain_append (styled_clusters wide [] (row_clusters row)) (styled_behind wide later rows) (clusters_plain [] (row_clusters row) refl) (behind_plain later rows (drop_none (length row)))
 
-pub clusters_have_their_style : ClustersHaveTheirStyle
-clusters_have_their_style wide spans text columns at =
-    lay_all columns (painted_text wide spans text) at ∙ ap (λ xs. lay_styled columns xs at) (rows_are wide spans (split_rows text))
+  pub plain_styled : (text : List ℕ) → styled_text wide [] text ≡ map (λ item. record { item = item; style = [] }) (text_items wide text)
+  plain_styled text = rows_plain (split_rows text) ∙ ap (map (with_style [])) (items_of [] text)
+
+-- ---- what can be drawn without styles can be drawn with them
+
+module _ (columns : ℕ) (wide : Widths) where
+  painted_from : (xs : List PaintedItem) → AllFit columns wide.cluster (all_unpainted xs) → AllStyled xs → AllPainted columns wide.cluster xs
+  painted_from [] h k = tt
+  painted_from (Bare item ∷ xs) h k = (h.0, painted_from xs h.1 k.1)
+  painted_from (Begins style ∷ xs) h k = (k.0, painted_from xs h k.1)
+  painted_from (Shaded style c ∷ xs) h k = ((k.0, h.0), painted_from xs h.1 k.1)
+  painted_from (Fenced style bytes width ∷ xs) h k = ((k.0, h.0), painted_from xs h.1 k.1)
+  painted_from (Padded style apart ∷ xs) h k = (k.0, painted_from xs h.1 k.1)
+
+  pub text_painted : (spans : List Span) (text : List ℕ) → are_styles spans ≡ true → AllFit columns wide.cluster (text_items wide text) → AllPainted columns wide.cluster (painted_text wide spans text)
+  text_painted spans text are fits =
+      painted_from (painted_text wide spans text) (subst (AllFit columns wide.cluster) (sym (text_unpainted wide spans text are)) fits) (draw_text wide spans text are).styled
+
+  -- no style stands before it, nor after it
+  pub text_draws : (spans : List Span) (text : List ℕ) → are_styles spans ≡ true → AllFit columns wide.cluster (text_items wide text)
+      → (r : DisplayReading) (xs : List Placed) (at : Position) → Ready columns r (D xs at [])
+      → Ready columns (read columns wide.cluster r (painted columns (painted_text wide spans text) at.col)) (D (xs ++ lay columns (styled_text wide spans text) at) (place_after columns (text_items wide text) at) [])
+  text_draws spans text are fits r xs at h =
+      let items = painted_text wide spans text in
+      let draw = draw_text wide spans text are in
+      let done = draws columns wide.cluster items r (D xs at []) (record { stands = h.stands; clear = h.clear; inside = h.inside }) (text_painted spans text are fits) draw.pens in
+      let after = read columns wide.cluster r (painted columns items at.col) in
+      let last : Open columns after (D (xs ++ lay columns (styled_text wide spans text) at) (place_after columns (text_items wide text) at) []) =
+      subst (λ pen. Open columns after (D (xs ++ lay columns (styled_text wide spans text) at) (place_after columns (text_items wide text) at) pen)) draw.ends
+      (subst (λ is. Open columns after (D (xs ++ lay columns (styled_text wide spans text) at) (place_after columns is at) (pen_after [] items))) (text_unpainted wide spans text are)
+      (subst (λ ys. Open columns after (D (xs ++ ys) (place_after columns (all_unpainted items) at) (pen_after [] items))) (lay_all columns items at ∙ ap (λ is. lay columns is at) draw.items) done)) in
+      record { stands = last.stands; clear = last.clear; inside = last.inside; plain = refl }

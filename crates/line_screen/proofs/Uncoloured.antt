@@ -1,5 +1,5 @@
 -- Calls without a highlighter begin no style.
-use Rattle.std.proofs.Common.{◌≡◌, ◌≢◌, ℕ, ◌+◌, ◌-◌, ◌%◌, ◌/◌, ◌^◌, ◌<◌, ◌≤◌, ◌==◌, nat_lt, nat_le, Bool, true, false, List, [], ◌∷◌, ◌++◌, take, decimal, Option, Some, None, inl, inr, zero, suc, refl, sym, ap, ◌∙◌, subst, arith, if◌then◌else◌}
+use Rattle.std.proofs.Common.{◌≡◌, ℕ, ◌+◌, ◌-◌, ◌%◌, ◌/◌, ◌^◌, ◌<◌, ◌≤◌, ◌==◌, nat_lt, nat_le, Bool, true, false, List, [], ◌∷◌, ◌++◌, take, decimal, Option, Some, None, inl, inr, zero, suc, refl, sym, ap, ◌∙◌, subst, arith, if◌then◌else◌}
 use Rattle.std.specs.List.{list_all, flat_map, FoldsTo}
 use Rattle.std.proofs.lemmas.Bool.{and_parts, false≢true}
 use Rattle.std.proofs.lemmas.Bool.Decides.{nat_tests}
@@ -18,8 +18,9 @@ use Rattle.line_editor.specs.Redraws.{Redraw, Asked, asked_by, full, info_text, 
 use Rattle.line_editor.specs.Redraws.Redraw.{Drawn, Moved, Typed, Taken, Bared, ToEnd, Beeped, Cleared}
 use Rattle.line_editor.specs.Values.{shown_marks}
 use Rattle.line_screen.specs.Calls.{Screen, bytes_of, bell_bytes, old_row, drawing_bytes, ruler_of}
-use Rattle.line_screen.specs.Chain.{View, Good, Inside, Replaces, Redraws, LeadsView}
+use Rattle.line_screen.specs.Chain.{View, Good, Inside, Replaces, LeadsView}
 use Rattle.line_screen.specs.ColourLaws.{BeginsNoStyle, has_no_marks, UnmarkedCallsBeginNone, ScreensWithoutColours, Uncoloured}
+use Rattle.line_screen.specs.Colours.{no_styles}
 use Rattle.line_screen.specs.Display.{Placed, is_text}
 use Rattle.line_screen.specs.Drawing.{DrawnItem, Widths, blanks, text_items, no_style, break_if, break_unless, fitted_col, fenced, sent_one, col_after_one, sent, col_after, control_sequence, erase_to_end, erase_to_row_end, row_move, col_move, move_bytes, clearing_bytes, shown_text, drawing}
 use Rattle.line_screen.specs.Drawing.DrawnItem.{NewRow, Letter, Cluster, Tab}
@@ -27,8 +28,9 @@ use Rattle.line_screen.specs.Laws.{widths}
 use Rattle.line_screen.specs.Measure.{cluster_width, widths_by}
 use Rattle.line_screen.proofs.Standing.{printable_text}
 use Rattle.line_screen.proofs.Draws.{Fits, AllFit}
-use Rattle.line_screen.proofs.Fitting.{items_fit, drawable}
+use Rattle.line_screen.proofs.Fitting.{items_fit}
 use Rattle.line_screen.proofs.LawLemmas.{calls_lead}
+use Rattle.line_screen.proofs.Leading.{no_styles_are, redraw_drawable}
 
 -- ---- sequences that begin otherwise
 
@@ -220,12 +222,6 @@ module _ (mode : GraphemeClusterMode) (tab : Option ℕ) (columns : ℕ) (some :
       let row_few : row < 2 ^ 64 = subst (λ n. n < 2 ^ 64) (sym over) here.row in
       free_then (clearing_bytes row) (drawing columns wide prompt line info finish cursor) (clearing_free row row_few) (drawing_free prompt line info finish cursor from to)
 
-  redraw_free : (o : Option ℕ) (a b : View) (prompt line info : List ℕ) (finish cursor : Position) → Inside columns a.place → Replaces o a → Redraws columns wide a prompt line info finish cursor b
-      → IsFree (drawing_bytes columns wide o prompt line info finish cursor)
-  redraw_free o a b prompt line info finish cursor here over h =
-      let able = drawable mode tab columns some b.shown (subst (λ (p : Position). p.row < 2 ^ 64) h.finish_is h.finish_row) (subst (λ (p : Position). p.row < 2 ^ 64) h.cursor_is h.cursor_row) in
-      draw_free o a prompt line info finish cursor here over (subst (Inside columns) (sym h.finish_is) able.finish) (subst (Inside columns) (sym h.cursor_is) able.cursor)
-
 -- ---- calls
 
 bell_free : (bell : BellStyle) → IsFree (bell_bytes bell)
@@ -235,7 +231,8 @@ bell_free Bells.Visible = refl
 
 call_free : (s : Screen) → 1 ≤ s.columns → s.columns < 2 ^ 64 → (a b : View) (call : Call) → Inside s.columns a.place → LeadsView s.columns (widths s) a call b → has_no_marks call ≡ true → IsFree (bytes_of s call)
 call_free s some few a b (Draw prompt text place info old new None) here h plain =
-    redraw_free s.mode s.tab s.columns some few (old_row old) a b prompt text (info_text info) new.end new.cursor here h.0 h.1
+    let able = redraw_drawable s some a b prompt text (info_text info) no_styles new.end new.cursor no_styles_are h.1 in
+    draw_free s.mode s.tab s.columns some few (old_row old) a prompt text (info_text info) new.end new.cursor here h.0 (subst (Inside s.columns) (sym h.1.finish_is) able.finish) (subst (Inside s.columns) (sym h.1.cursor_is) able.cursor)
 call_free s some few a b (Draw prompt text place info old new (Some m)) here h plain = absurd (false≢true plain)
 call_free s some few a b (Move old new) here h plain = move_free s.mode s.tab s.columns some few old new (subst (Inside s.columns) (sym h.old_is) here) h.inside
 call_free s some few a b (Write text) here (inl h) plain = subst IsFree (sym h.text_is) (letter_free h.c (and_parts (is_printable h.c) (at_simple_end true a.shown.line a.shown.place) h.typed).0)
@@ -280,7 +277,7 @@ asked_plain r l Beeped = refl
 asked_plain r l Cleared = refl
 
 screens_without_colours : ScreensWithoutColours
-screens_without_colours s e prompt helping entries v l x =
+screens_without_colours s e prompt helping entries config v l x =
     let none = ap (λ b. if b then helping.marks else None) e in
     subst (λ m. all_plain (asked_by (ruler_of s) (shown_marks v m) l x) ≡ true) (sym none) (asked_plain (ruler_of s) l x)
 

@@ -1,6 +1,6 @@
 -- Drawings with styles: texts with a style for each cluster, and the bytes that draw them. Each
 -- cluster has the cells that it has without styles.
-use Rattle.std.specs.Prelude.{option_map, option_copied, Result, Some, None, ℕ, ◌+◌, ◌-◌, ◌==◌, nat_lt, nat_le, Bool, true, List, [], ◌∷◌, ◌++◌, length, take, drop, Option, if◌then◌else◌, map}
+use Rattle.std.specs.Prelude.{◌≡◌, option_map, option_copied, Result, Some, None, ℕ, ◌+◌, ◌-◌, ◌==◌, nat_lt, nat_le, Bool, true, List, [], ◌∷◌, ◌++◌, length, take, drop, Option, if◌then◌else◌, map}
 use Rattle.std.specs.List.{list_all, flat_map}
 use Rattle.unicode_segmentation.specs.Grapheme.{graphemes}
 use Rattle.line_buffer.specs.declared.layout.Position.{Position}
@@ -168,6 +168,11 @@ pub record Styles : Type 0 where
 abbrev pub no_styles : Styles
 no_styles = record { prompt = []; line = []; info = [] }
 
+pub record AreStyles (styles : Styles) : Type 0 where
+  pub prompt : are_styles styles.prompt ≡ true
+  pub line : are_styles styles.line ≡ true
+  pub info : are_styles styles.info ≡ true
+
 abbrev pub painted_three : ℕ → List PaintedItem → List PaintedItem → List PaintedItem → List ℕ
 painted_three columns a b c =
     let end_a = col_after columns (all_unpainted a) 0 in
@@ -215,10 +220,10 @@ abbrev pub all_spans : (Mark → List span.Span) → List Span
 all_spans paints = map span_of (paints first_mark)
 
 abbrev pub spans_from : Option span.Span → List Span → List Span
-spans_from None rest = []
+spans_from None rest = rest
 spans_from (Some s) rest = span_of s ∷ rest
 
--- the remaining spans
+-- the remaining spans: what is left of one, and those from a mark on
 abbrev pub spans_in : (Mark → List span.Span) → spans.Spans → List Span
 spans_in paints s = spans_from s.first (map span_of (paints s.mark))
 
@@ -242,3 +247,9 @@ abbrev pub SendsPainted : {D : Type 0} → List PaintedItem → ℕ → ℕ → 
 SendsPainted xs start columns held failed old new result =
     SendsTo (painted columns xs start)
     (col_after columns (all_unpainted xs) start) columns held failed old new result
+
+-- the first of the remaining spans, and the mark from which the others follow; none if nothing
+-- remains
+abbrev pub IsFirstSpan : (Mark → List span.Span) → spans.Spans → Option (span.Span × Mark) → Type 0
+IsFirstSpan paints s None = spans_in paints s ≡ []
+IsFirstSpan paints s (Some next) = spans_in paints s ≡ span_of next.0 ∷ map span_of (paints next.1)

@@ -1,7 +1,7 @@
 -- The meaning of bytes on a display: the part of ECMA-48 that a line editor sends. The display has
 -- unlimited rows of `columns` columns. `wide` says of a text whether it is one cluster that fits on
 -- a row, and how many columns it takes.
-use Rattle.std.specs.Prelude.{ℕ, ◌+◌, ◌-◌, ◌*◌, ◌==◌, nat_lt, nat_le, Bool, true, not, ◌&&◌, ◌||◌, List, [], ◌∷◌, ◌++◌, Option, Some, None, if◌then◌else◌}
+use Rattle.std.specs.Prelude.{ℕ, ◌+◌, ◌-◌, ◌*◌, ◌==◌, nat_lt, nat_le, Bool, true, not, ◌&&◌, ◌||◌, List, [], ◌∷◌, ◌++◌, length, Option, Some, None, if◌then◌else◌}
 use Rattle.std.specs.List.{list_all, filter}
 use Rattle.line_buffer.specs.Cells.{origin}
 use Rattle.line_buffer.specs.declared.layout.Position.{Position}
@@ -9,21 +9,25 @@ pub use Rattle.line_buffer.specs.Printable.{is_printable}
 
 -- ---- cells
 
--- a cluster, the cell where it begins, and the number of its cells; every cell without a cluster is
--- blank
+-- a cluster, the cell where it begins, the number of its cells, and its style: the numbers of the
+-- control sequence SGR after its 0, each behind a semicolon; nothing if it has none. Every cell
+-- without a cluster is blank
 pub record Placed : Type 0 where
   pub row : ℕ
   pub col : ℕ
   pub width : ℕ
   pub bytes : List ℕ
+  pub style : List ℕ
 
--- the cursor is after the last cell of its row if its column is the number of columns
+-- the cursor is after the last cell of its row if its column is the number of columns. `pen`: the
+-- style of the text that follows
 pub record Display : Type 0 where
   pub placed : List Placed
   pub cursor : Position
+  pub pen : List ℕ
 
 abbrev pub blank : Display
-blank = record { placed = []; cursor = origin }
+blank = record { placed = []; cursor = origin; pen = [] }
 
 -- a cluster is in a place's row and ends at the place or before, or is in a row above
 abbrev pub ends_before : Position → Placed → Bool
@@ -46,12 +50,16 @@ touches at width p =
 abbrev pub right : ℕ → Position → Position
 right width at = record { col = at.col + width; row = at.row }
 
-abbrev pub placed_at : List ℕ → ℕ → Position → Placed
-placed_at bytes width at = record { row = at.row; col = at.col; width = width; bytes = bytes }
+abbrev pub placed_at : List ℕ → List ℕ → ℕ → Position → Placed
+placed_at style bytes width at =
+    record { row = at.row; col = at.col; width = width; bytes = bytes; style = style }
 
 abbrev pub put_down : ℕ → List ℕ → Display → Display
-put_down width run d =
-    record { placed = d.placed ++ placed_at run width d.cursor ∷ []; cursor = right width d.cursor }
+put_down width run d = record {
+  placed = d.placed ++ placed_at d.pen run width d.cursor ∷ [];
+  cursor = right width d.cursor;
+  pen = d.pen;
+}
 
 -- on blank cells of the cursor's row
 abbrev pub put_cells : ℕ → ℕ → List ℕ → Display → Option Display
@@ -88,7 +96,7 @@ pub data DisplayReading : Type 0 where
   Escape : (display : Display) → DisplayReading
   Bracket : (display : Display) → DisplayReading
   Number : (display : Display) (count : ℕ) → DisplayReading
-  Style : (display : Display) → DisplayReading
+  Style : (display : Display) (parameters : List ℕ) → DisplayReading
   Lost : DisplayReading
 
 -- no ASCII control character
@@ -103,10 +111,18 @@ abbrev pub begins_number : ℕ → Bool
 begins_number byte = nat_le 0x31 byte && nat_le byte 0x39
 
 abbrev pub at_cursor : Position → Display → Display
-at_cursor at d = record { placed = d.placed; cursor = at }
+at_cursor at d = record { placed = d.placed; cursor = at; pen = d.pen }
+
+abbrev pub with_pen : List ℕ → Display → Display
+with_pen style d = record { placed = d.placed; cursor = d.cursor; pen = style }
 
 abbrev pub is_inside : ℕ → Display → Bool
 is_inside columns d = nat_lt d.cursor.col columns
+
+-- a terminal may fill what it erases, and a new row, with the style that stands, so none may stand
+-- there
+abbrev pub is_plain_pen : Display → Bool
+is_plain_pen d = length d.pen == 0
 
 -- CR goes to the row's start, LF a row down, BEL changes nothing; after the last cell only CR or
 -- ESC may come
@@ -114,7 +130,7 @@ abbrev pub after_control : ℕ → Display → ℕ → DisplayReading
 after_control columns d byte =
     if byte == 0x0D then Text (at_cursor (record { col = 0; row = d.cursor.row }) d) []
     else if byte == 0x1B then Escape d
-    else if (byte == 0x0A) && is_inside columns d
+    else if (byte == 0x0A) && (is_inside columns d && is_plain_pen d)
     then Text (at_cursor (record { col = d.cursor.col; row = d.cursor.row + 1 }) d) []
     else if (byte == 0x07) && is_inside columns d then Text d []
     else Lost
@@ -122,20 +138,24 @@ after_control columns d byte =
 abbrev pub stays_in_row : Position → Placed → Bool
 stays_in_row at p = not (p.row == at.row) || nat_le (p.col + p.width) at.col
 
--- the display after an erasure, if the cursor is inside no cluster
+-- the display after an erasure, if the cursor is inside no cluster and no style stands
 abbrev pub erased : (Position → Placed → Bool) → Display → DisplayReading
 erased stays d =
-    if list_all (λ p. not (is_cut d.cursor p)) d.placed
-    then Text (record { placed = filter (stays d.cursor) d.placed; cursor = d.cursor }) []
+    if list_all (λ p. not (is_cut d.cursor p)) d.placed && is_plain_pen d
+    then Text (record {
+      placed = filter (stays d.cursor) d.placed;
+      cursor = d.cursor;
+      pen = d.pen;
+    }) []
     else Lost
 
--- ESC [ m and ESC [ 0 ; .. m (SGR) change no cell. ESC [ J (ED) keeps everything that begins before
--- the cursor. ESC [ K (EL) keeps everything except what ends after the cursor in its row. ESC [ H
--- (CUP) goes to the first cell
+-- ESC [ m (SGR) ends the style that stands, ESC [ 0 ; .. m sets one. ESC [ J (ED) keeps everything
+-- that begins before the cursor. ESC [ K (EL) keeps everything except what ends after the cursor in
+-- its row. ESC [ H (CUP) goes to the first cell
 abbrev pub plain_sequence : ℕ → Display → ℕ → DisplayReading
 plain_sequence columns d byte =
-    if byte == 0x6D then Text d []
-    else if byte == 0x30 then Style d
+    if byte == 0x6D then Text (with_pen [] d) []
+    else if byte == 0x30 then Style d []
     else if not (is_inside columns d) then Lost
     else if byte == 0x4A then erased starts_before d
     else if byte == 0x4B then erased stays_in_row d
@@ -168,9 +188,11 @@ numbered_sequence columns d count final =
 abbrev pub is_parameter : ℕ → Bool
 is_parameter byte = is_digit byte || (byte == 0x3B)
 
-abbrev pub style_sequence : Display → ℕ → DisplayReading
-style_sequence d byte =
-    if is_parameter byte then Style d else if byte == 0x6D then Text d [] else Lost
+abbrev pub style_sequence : Display → List ℕ → ℕ → DisplayReading
+style_sequence d parameters byte =
+    if is_parameter byte then Style d (parameters ++ byte ∷ [])
+    else if byte == 0x6D then Text (with_pen parameters d) []
+    else Lost
 
 abbrev pub on_run : ℕ → ℕ → Option Display → DisplayReading
 on_run columns byte None = Lost
@@ -186,7 +208,7 @@ step columns wide (Bracket d) byte =
 step columns wide (Number d count) byte =
     if is_digit byte then Number d (count * 10 + (byte - 0x30))
     else numbered_sequence columns d count byte
-step columns wide (Style d) byte = style_sequence d byte
+step columns wide (Style d parameters) byte = style_sequence d parameters byte
 step columns wide Lost byte = Lost
 
 abbrev pub read : ℕ → (List ℕ → Option ℕ) → DisplayReading → List ℕ → DisplayReading
@@ -216,3 +238,10 @@ cell_at (p ∷ ps) row col =
     if (p.row == row) && (p.col == col) then Head p.bytes
     else if (p.row == row) && (nat_lt p.col col && nat_lt col (p.col + p.width)) then Tail
     else cell_at ps row col
+
+-- of the cluster that a cell belongs to; a blank cell has none
+abbrev pub style_at : List Placed → ℕ → ℕ → List ℕ
+style_at [] row col = []
+style_at (p ∷ ps) row col =
+    if (p.row == row) && (nat_le p.col col && nat_lt col (p.col + p.width)) then p.style
+    else style_at ps row col

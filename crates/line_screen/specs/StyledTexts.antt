@@ -1,12 +1,12 @@
--- The style of each cluster of a text: that of its first byte.
-use Rattle.std.specs.Prelude.{◌≡◌, true, ℕ, replicate, List, [], ◌∷◌, ◌++◌, map, drop, length}
-use Rattle.std.specs.List.{flat_map}
+-- A text with styles as items, and their cells: each cluster has the style of its first byte.
+use Rattle.std.specs.Prelude.{true, ℕ, replicate, List, [], ◌∷◌, ◌++◌, map, drop, length, if◌then◌else◌}
+use Rattle.std.specs.List.{flat_map, list_all}
 use Rattle.unicode_segmentation.specs.Grapheme.{graphemes}
 use Rattle.line_buffer.specs.declared.layout.Position.{Position}
-use Rattle.line_screen.specs.Colours.{Span, painted_text}
+use Rattle.line_screen.specs.Colours.{Span}
+use Rattle.line_screen.specs.Display.{Placed, is_printable}
 use Rattle.line_screen.specs.Drawing.{Widths, DrawnItem, drawn_item, split_rows, lay_one, after_one}
 use Rattle.line_screen.specs.Drawing.DrawnItem.{NewRow}
-use Rattle.line_screen.specs.Painting.{Painted, styled_cell, lay_painted}
 
 -- of each byte of a text; those after the last span have none
 abbrev pub byte_styles : List Span → List (List ℕ)
@@ -20,6 +20,11 @@ pub record StyledItem : Type 0 where
   pub item : DrawnItem
   pub style : List ℕ
 
+-- of a row: its characters if all are printable ASCII
+abbrev pub row_clusters : List ℕ → List (List ℕ)
+row_clusters row =
+    if list_all is_printable row then map (λ c. c ∷ []) row else graphemes true row
+
 -- `styles`: those of the bytes from the first cluster on
 abbrev pub styled_clusters : Widths → List (List ℕ) → List (List ℕ) → List StyledItem
 styled_clusters wide styles [] = []
@@ -32,28 +37,20 @@ abbrev pub styled_behind : Widths → List (List ℕ) → List (List ℕ) → Li
 styled_behind wide styles [] = []
 styled_behind wide styles (row ∷ rows) =
     record { item = NewRow; style = [] }
-    ∷ (styled_clusters wide (drop 1 styles) (graphemes true row)
+    ∷ (styled_clusters wide (drop 1 styles) (row_clusters row)
     ++ styled_behind wide (drop (length row) (drop 1 styles)) rows)
 
 abbrev pub styled_rows : Widths → List (List ℕ) → List (List ℕ) → List StyledItem
 styled_rows wide styles [] = []
 styled_rows wide styles (row ∷ rows) =
-    styled_clusters wide styles (graphemes true row)
+    styled_clusters wide styles (row_clusters row)
     ++ styled_behind wide (drop (length row) styles) rows
 
-abbrev pub styled_text : Widths → List (List ℕ) → List ℕ → List StyledItem
-styled_text wide styles text = styled_rows wide styles (split_rows text)
+abbrev pub styled_text : Widths → List Span → List ℕ → List StyledItem
+styled_text wide spans text = styled_rows wide (byte_styles spans) (split_rows text)
 
--- the cells that they take, each with its item's style
-abbrev pub lay_styled : ℕ → List StyledItem → Position → List Painted
-lay_styled columns [] at = []
-lay_styled columns (x ∷ xs) at =
-    map (styled_cell x.style) (lay_one columns x.item at)
-    ++ lay_styled columns xs (after_one columns x.item at)
-
--- a drawing with styles puts down the cells of each cluster with the style of its first byte
-abbrev pub ClustersHaveTheirStyle : Type 0
-ClustersHaveTheirStyle =
-    (wide : Widths) (spans : List Span) (text : List ℕ) (columns : ℕ) (at : Position)
-    → lay_painted columns (painted_text wide spans text) at
-    ≡ lay_styled columns (styled_text wide (byte_styles spans) text) at
+-- the cells that they take
+abbrev pub lay : ℕ → List StyledItem → Position → List Placed
+lay columns [] at = []
+lay columns (x ∷ xs) at =
+    lay_one columns x.style x.item at ++ lay columns xs (after_one columns x.item at)

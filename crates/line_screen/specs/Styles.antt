@@ -1,5 +1,5 @@
 -- The numbers of a style in the control sequence SGR (ECMA-48, 8.3.117).
-use Rattle.std.specs.Prelude.{ℕ, ◌+◌, ◌%◌, ◌&&◌, not, Bool, true, false, List, [], ◌∷◌, ◌++◌, decimal, if◌then◌else◌}
+use Rattle.std.specs.Prelude.{ℕ, ◌+◌, ◌%◌, ◌==◌, ◌&&◌, not, Bool, true, false, List, [], ◌∷◌, ◌++◌, decimal, if◌then◌else◌}
 use Rattle.line_help.specs.declared.style.Hue.{Hue}
 use Rattle.line_help.specs.declared.style.Hue.TheVariants as hues
 use Rattle.line_help.specs.declared.style.Colour.{Colour}
@@ -57,3 +57,7 @@ is_terminal c = false
 abbrev pub is_plain_style : Style → Bool
 is_plain_style s = (not s.bold && (not s.faint && (not s.italic && (not s.underline && not s.reverse))))
     && (is_terminal s.text && is_terminal s.background)
+
+-- the number of a flag; nothing for 0
+abbrev pub flag_number : ℕ → List ℕ
+flag_number n = if n == 0 then [] else number n

@@ -2,22 +2,21 @@
 
 ghost use Rattle.line_screen.specs.Input.{EncodedCharsAreRead, CharsAreEncoded};
 ghost use Rattle.line_screen.specs.KeyGrammar.{WholeKeysStay, PastedTextIsBeforeItsMark, PastedTextIsCutOff, ControlIsOneKey};
-ghost use Rattle.line_screen.specs.Laws.{TypingLeads, KillingLeads, FullDrawingShows, StartIsEmpty, CallsLead, ChainsLead, PlaceIsFree, LineEndsAnywhere, EndedLineStays, MeasuresGoOn, ShownIsMeant, CellsAreShown};
+ghost use Rattle.line_screen.specs.Laws.{TypingLeads, KillingLeads, FullDrawingShows, PlainDrawingsAreDrawings, StartIsEmpty, CallsLead, ChainsLead, PlaceIsFree, LineEndsAnywhere, EndedLineStays, MeasuresGoOn, ShownIsMeant, CellsAreShown};
 ghost use Rattle.line_screen.specs.Calls.{ReadsFindNothingWaiting};
-ghost use Rattle.line_screen.specs.StyledTexts.{ClustersHaveTheirStyle};
-ghost use Rattle.line_screen.specs.ColourLaws.{PaintedDrawingShows, ColoursStand, FullDrawingPaints, PaintingsShowCells, NumbersAreStyles, Uncoloured};
+ghost use Rattle.line_screen.specs.ColourLaws.{ColoursStand, NumbersAreStyles, Uncoloured};
 
 use line_config::Sink;
 
-/// A full drawing shows the given value, whatever was shown from its top on, and keeps the rows
-/// above.
+/// A full drawing shows the given value, each cluster with its style, whatever was shown from its
+/// top on, and keeps the rows above. No style may stand before it, and none stands after it.
 pub fn full_drawing()
     ensures { FullDrawingShows }
 {}
 
-/// A drawing with styles shows what the drawing without them shows.
-pub fn painted_drawing()
-    ensures { PaintedDrawingShows }
+/// A drawing without styles sends no bytes for them.
+pub fn plain_drawing()
+    ensures { PlainDrawingsAreDrawings }
 {}
 
 /// Each cluster of a drawing with styles has its own, and none stands at its end.
@@ -25,25 +24,9 @@ pub fn styles_stand()
     ensures { ColoursStand }
 {}
 
-/// A full drawing leaves each of its clusters with its style, and no style standing, whatever stood
-/// from its top on.
-pub fn painted_rows()
-    ensures { FullDrawingPaints }
-{}
-
-/// A display that keeps styles shows the cells and the cursor of one that doesn't.
-pub fn paintings()
-    ensures { PaintingsShowCells }
-{}
-
 /// The numbers of each style are digits and semicolons.
 pub fn looks()
     ensures { NumbersAreStyles }
-{}
-
-/// Each cluster of a drawing with styles has the style of its first byte.
-pub fn cluster_styles()
-    ensures { ClustersHaveTheirStyle }
 {}
 
 /// Calls without a highlighter send no ESC `[` `0`, with which a style begins. The editor makes no

@@ -1,10 +1,11 @@
 -- If the test holds, each moment of a session, and of each row, shows what is to be shown.
-use Rattle.std.proofs.Common.{◌≡◌, ℕ, Bool, true, false, nat_eq, nat_le, ◌+◌, length, bytes_eq, ◌&&◌, cond, List, [], ◌∷◌, ◌++◌, Option, None, Some, refl, subst}
+use Rattle.std.proofs.Common.{◌≡◌, ℕ, suc, Bool, true, false, nat_eq, nat_le, ◌+◌, length, bytes_eq, ◌&&◌, cond, List, [], ◌∷◌, ◌++◌, Option, None, Some, refl, subst}
 use Rattle.std.proofs.lemmas.Bool.{and_parts, eqb-true, false≢true}
 use Rattle.std.proofs.lemmas.Slice.Eq.{bytes_eq-Decides}
 use Rattle.line_buffer.specs.declared.layout.Position.{Position}
+use Rattle.line_editor.specs.Calls.{Marks}
 use Rattle.line_editor.specs.Redraws.{Redraw}
-use Rattle.line_editor.specs.Sights.{sight_as}
+use Rattle.line_editor.specs.Sights.{sight_with}
 use Rattle.line_screen.specs.Calls.{Screen}
 use Rattle.line_screen.specs.Display.{Display, Placed}
 use Rattle.keyline.specs.Events.{Event, Begins, Breaks, Draws, Hears, Helped, Keeps, Rests, Takes, Writes}
@@ -21,14 +22,16 @@ position-is a b h =
 
 placed-is : (a b : Placed) → same_placed a b ≡ true → a ≡ b
 placed-is a b h =
-    let p = and_parts (nat_eq a.row b.row) (nat_eq a.col b.col && (nat_eq a.width b.width && bytes_eq a.bytes b.bytes)) h in
-    let q = and_parts (nat_eq a.col b.col) (nat_eq a.width b.width && bytes_eq a.bytes b.bytes) p.1 in
-    let r = and_parts (nat_eq a.width b.width) (bytes_eq a.bytes b.bytes) q.1 in
+    let p = and_parts (nat_eq a.row b.row) (nat_eq a.col b.col && (nat_eq a.width b.width && (bytes_eq a.bytes b.bytes && bytes_eq a.style b.style))) h in
+    let q = and_parts (nat_eq a.col b.col) (nat_eq a.width b.width && (bytes_eq a.bytes b.bytes && bytes_eq a.style b.style)) p.1 in
+    let r = and_parts (nat_eq a.width b.width) (bytes_eq a.bytes b.bytes && bytes_eq a.style b.style) q.1 in
+    let s = and_parts (bytes_eq a.bytes b.bytes) (bytes_eq a.style b.style) r.1 in
     let row = eqb-true a.row b.row p.0 in
     let col = eqb-true a.col b.col q.0 in
     let width = eqb-true a.width b.width r.0 in
-    let bytes = (bytes_eq-Decides a.bytes b.bytes).0 r.1 in
-    λ i. record { row = row i; col = col i; width = width i; bytes = bytes i }
+    let bytes = (bytes_eq-Decides a.bytes b.bytes).0 s.0 in
+    let style = (bytes_eq-Decides a.style b.style).0 s.1 in
+    λ i. record { row = row i; col = col i; width = width i; bytes = bytes i; style = style i }
 
 cells-are : (xs ys : List Placed) → same_cells xs ys ≡ true → xs ≡ ys
 cells-are [] [] h = refl
@@ -42,17 +45,23 @@ cells-are (a ∷ xs) (b ∷ ys) h =
 
 -- ---- of one display
 
-moment-is : (f : Face) (prompt text : List ℕ) (place : ℕ) (o : Option Display)
-    → meaning_of f ≡ o → is_shown f (sight_as prompt text place f.seen.info) o ≡ true → MomentShown f prompt text place
-moment-is f prompt text place None is h = absurd (false≢true h)
-moment-is f prompt text place (Some d) is h =
+no-style : (style : List ℕ) → nat_eq (length style) 0 ≡ true → style ≡ []
+no-style [] h = refl
+no-style (c ∷ style) h = (let e : suc (length style) ≡ 0 = eqb-true (suc (length style)) 0 h in absurd (cc))
+
+moment-is : (f : Face) (marks : Option Marks) (given : Bool) (prompt text : List ℕ) (place : ℕ) (o : Option Display)
+    → meaning_of f ≡ o → is_shown f (sight_with marks given prompt text place f.seen.info) o ≡ true
+    → MomentShown f marks given prompt text place
+moment-is f marks given prompt text place None is h = absurd (false≢true h)
+moment-is f marks given prompt text place (Some d) is h =
     let p = and_parts _ _ h in
     let q = and_parts _ _ p.1 in
+    let r = and_parts _ _ q.1 in
     record {
       display = d;
       means = is;
-      shows = record { cells = cells-are _ _ p.0; cursor = position-is _ _ q.0 };
-      over_is = cells-are _ _ q.1;
+      shows = record { cells = cells-are _ _ p.0; cursor = position-is _ _ q.0; pen = no-style d.pen r.1 };
+      over_is = cells-are _ _ r.0;
     }
 
 meaning-is : (f : Face) (o : Option Display) → meaning_of f ≡ o → has_above f o ≡ true → HasMeaning f
@@ -72,21 +81,23 @@ all-so : (fs : List Face) (a b : List Event) → ((f : Face) → EachShown f a �
 all-so [] a b so h = tt
 all-so (f ∷ fs) a b so h = (so f h.0, all-so fs a b so h.1)
 
-draws-are : (redraw : Redraw) (sent : List (List ℕ)) (later : List Event) (fs : List Face)
-    → all_mean (all_drawn redraw sent fs) ≡ true → EachFaceShown (all_drawn redraw sent fs) later
-    → EachFaceShown fs (Draws redraw sent ∷ later)
-draws-are redraw sent later [] h x = tt
-draws-are redraw sent later (f ∷ fs) h x =
+draws-are : (marks : Option Marks) (redraw : Redraw) (sent : List (List ℕ)) (later : List Event) (fs : List Face)
+    → all_mean (all_drawn marks redraw sent fs) ≡ true → EachFaceShown (all_drawn marks redraw sent fs) later
+    → EachFaceShown fs (Draws marks redraw sent ∷ later)
+draws-are marks redraw sent later [] h x = tt
+draws-are marks redraw sent later (f ∷ fs) h x =
     let p = and_parts _ _ h in
-    ((λ low. (meaning-is (drawn_on f redraw sent) _ refl p.0, x.0)), draws-are redraw sent later fs p.1 x.1)
+    ((λ low. (meaning-is (drawn_on f marks redraw sent) _ refl p.0, x.0)), draws-are marks redraw sent later fs p.1 x.1)
 
-rests-are : (prompt text : List ℕ) (place : ℕ) (later : List Event) (fs : List Face)
-    → all_rest fs prompt text place ≡ true → EachFaceShown fs later
-    → EachFaceShown fs (Rests prompt text place ∷ later)
-rests-are prompt text place later [] h x = tt
-rests-are prompt text place later (f ∷ fs) h x =
-    let p = and_parts _ _ h in
-    ((moment-is f prompt text place _ refl p.0, x.0), rests-are prompt text place later fs p.1 x.1)
+rests-are : (marks : Option Marks) (given : Bool) (prompt text : List ℕ) (place : ℕ) (later : List Event) (fs : List Face)
+    → all_rest fs marks given prompt text place ≡ true → EachFaceShown fs later
+    → EachFaceShown fs (Rests marks given prompt text place ∷ later)
+rests-are marks given prompt text place later [] h x = tt
+rests-are marks given prompt text place later (f ∷ fs) h x =
+    let p = and_parts _ _ h in (
+      (moment-is f marks given prompt text place _ refl p.0, x.0),
+      rests-are marks given prompt text place later fs p.1 x.1,
+    )
 
 breaks-are : (later : List Event) (fs : List Face)
     → all_mean (all_broken fs) ≡ true → EachFaceShown (all_rested (all_broken fs)) later
@@ -102,10 +113,10 @@ faces-are [] (f ∷ fs) h = (tt, faces-are [] fs refl)
 faces-are (Begins s ∷ later) fs h =
     let x = faces-are later (blank s ∷ fs) h in
     all-so fs later (Begins s ∷ later) (λ f y. ((λ same. y), (λ is. x.0))) x.1
-faces-are (Draws redraw sent ∷ later) fs h =
-    let p = and_parts _ _ h in draws-are redraw sent later fs p.0 (faces-are later _ p.1)
-faces-are (Rests prompt text place ∷ later) fs h =
-    let p = and_parts _ _ h in rests-are prompt text place later fs p.0 (faces-are later fs p.1)
+faces-are (Draws marks redraw sent ∷ later) fs h =
+    let p = and_parts _ _ h in draws-are marks redraw sent later fs p.0 (faces-are later _ p.1)
+faces-are (Rests marks given prompt text place ∷ later) fs h =
+    let p = and_parts _ _ h in rests-are marks given prompt text place later fs p.0 (faces-are later fs p.1)
 faces-are (Breaks ∷ later) fs h =
     let p = and_parts _ _ h in breaks-are later fs p.0 (faces-are later _ p.1)
 faces-are (Takes ∷ later) fs h = all-so fs later (Takes ∷ later) (λ f y. y) (faces-are later fs h)
@@ -120,8 +131,8 @@ session-is s [] h = absurd (false≢true h)
 session-is s (Begins t ∷ later) h =
     let x = (faces-are later (blank t ∷ []) h).0 in
     ((λ same. subst (λ u. EachShown (blank u) later) same x), (λ is. x))
-session-is s (Draws redraw sent ∷ later) h = absurd (false≢true h)
-session-is s (Rests prompt text place ∷ later) h = absurd (false≢true h)
+session-is s (Draws marks redraw sent ∷ later) h = absurd (false≢true h)
+session-is s (Rests marks given prompt text place ∷ later) h = absurd (false≢true h)
 session-is s (Breaks ∷ later) h = absurd (false≢true h)
 session-is s (Takes ∷ later) h = absurd (false≢true h)
 session-is s (Helped fails takes ∷ later) h = absurd (false≢true h)

@@ -3,7 +3,8 @@ use Rattle.std.specs.Prelude.{⊤, ℕ, ◌+◌, ◌==◌, ◌&&◌, Bool, true,
 use Rattle.std.specs.List.{filter}
 use Rattle.line_buffer.specs.declared.layout.Position.{Position}
 use Rattle.line_editor.specs.Redraws.{Redraw}
-use Rattle.line_editor.specs.Sights.{Sight, sight_as}
+use Rattle.line_editor.specs.Calls.{Marks}
+use Rattle.line_editor.specs.Sights.{Sight, sight_with}
 use Rattle.line_screen.specs.Chain.{above, cells_of, cursor_of, down, down_placed, from_top}
 use Rattle.line_screen.specs.Display.{Display, Placed, meaning}
 use Rattle.line_screen.specs.Laws.{widths}
@@ -16,7 +17,8 @@ same_position a b = (a.col == b.col) && (a.row == b.row)
 
 abbrev pub same_placed : Placed → Placed → Bool
 same_placed a b = (a.row == b.row)
-    && ((a.col == b.col) && ((a.width == b.width) && bytes_eq a.bytes b.bytes))
+    && ((a.col == b.col) && ((a.width == b.width)
+    && (bytes_eq a.bytes b.bytes && bytes_eq a.style b.style)))
 
 abbrev pub same_cells : List Placed → List Placed → Bool
 same_cells [] [] = true
@@ -33,14 +35,14 @@ abbrev pub has_above : Face → Option Display → Bool
 has_above f None = false
 has_above f (Some d) = same_cells (filter (above f.top) d.placed) f.over
 
--- what is to be shown stands from the top on, and the rows above
+-- what is to be shown stands from the top on, and the rows above; no style stands
 abbrev pub is_shown : Face → Sight → Option Display → Bool
 is_shown f y None = false
 is_shown f y (Some d) = same_cells (filter (from_top f.top) d.placed) (map (down_placed f.top)
     (cells_of f.screen.columns (widths f.screen) (picture y)))
     && (same_position d.cursor
     (down f.top (cursor_of f.screen.columns (widths f.screen) (picture y)))
-    && same_cells (filter (above f.top) d.placed) f.over)
+    && (same_cells (filter (above f.top) d.placed) f.over && (length d.pen == 0)))
 
 -- the next line below what is shown
 abbrev pub rested : Face → Option Display → Face
@@ -54,15 +56,16 @@ abbrev pub all_mean : List Face → Bool
 all_mean [] = true
 all_mean (f ∷ fs) = has_above f (meaning_of f) && all_mean fs
 
-abbrev pub all_rest : List Face → List ℕ → List ℕ → ℕ → Bool
-all_rest [] prompt text place = true
-all_rest (f ∷ fs) prompt text place =
-    is_shown f (sight_as prompt text place f.seen.info) (meaning_of f)
-    && all_rest fs prompt text place
+abbrev pub all_rest : List Face → Option Marks → Bool → List ℕ → List ℕ → ℕ → Bool
+all_rest [] marks given prompt text place = true
+all_rest (f ∷ fs) marks given prompt text place =
+    is_shown f (sight_with marks given prompt text place f.seen.info) (meaning_of f)
+    && all_rest fs marks given prompt text place
 
-abbrev pub all_drawn : Redraw → List (List ℕ) → List Face → List Face
-all_drawn redraw sent [] = []
-all_drawn redraw sent (f ∷ fs) = drawn_on f redraw sent ∷ all_drawn redraw sent fs
+abbrev pub all_drawn : Option Marks → Redraw → List (List ℕ) → List Face → List Face
+all_drawn marks redraw sent [] = []
+all_drawn marks redraw sent (f ∷ fs) =
+    drawn_on f marks redraw sent ∷ all_drawn marks redraw sent fs
 
 abbrev pub all_broken : List Face → List Face
 all_broken [] = []
@@ -76,10 +79,11 @@ all_rested (f ∷ fs) = rested f (meaning_of f) ∷ all_rested fs
 abbrev pub each_shown : List Face → List Event → Bool
 each_shown fs [] = true
 each_shown fs (Begins s ∷ later) = each_shown (blank s ∷ fs) later
-each_shown fs (Draws redraw sent ∷ later) =
-    all_mean (all_drawn redraw sent fs) && each_shown (all_drawn redraw sent fs) later
-each_shown fs (Rests prompt text place ∷ later) =
-    all_rest fs prompt text place && each_shown fs later
+each_shown fs (Draws marks redraw sent ∷ later) =
+    all_mean (all_drawn marks redraw sent fs)
+    && each_shown (all_drawn marks redraw sent fs) later
+each_shown fs (Rests marks given prompt text place ∷ later) =
+    all_rest fs marks given prompt text place && each_shown fs later
 each_shown fs (Breaks ∷ later) =
     all_mean (all_broken fs) && each_shown (all_rested (all_broken fs)) later
 each_shown fs (event ∷ later) = each_shown fs later

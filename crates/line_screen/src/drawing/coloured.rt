@@ -44,6 +44,27 @@ fn send_part<D: Sink, H: Highlighter>(
     send_painted(sink, grid, start, brush)
 }
 
+/// What stands after the line, and the end of all styles: one write if nothing stands there.
+fn send_end<D: Sink, H: Highlighter>(
+    sink: &mut D,
+    grid: Grid,
+    start: Unit,
+    info: &Brush<'_, H>,
+) -> Result<(), DeviceFailed>
+    requires inside { start < grid.columns }
+    ensures { Sends D.held D.has_failed
+        ((no_style ++ painted grid.columns
+        (painted_text (widths_by grid.mode grid.tab grid.columns)
+        (brush_spans H.marks info.now) info.now.text.now) start) ++ no_style)
+        sink.old sink.new result }
+{
+    if info.text.is_empty() {
+        return send(sink, b"\x1B[m\x1B[m");
+    }
+    send_part(sink, grid, start, info)?;
+    send(sink, b"\x1B[m")
+}
+
 /// The three texts, each from the end of the one before.
 fn send_texts<D: Sink, H: Highlighter>(
     sink: &mut D,
@@ -58,8 +79,7 @@ fn send_texts<D: Sink, H: Highlighter>(
 {
     let prompt_end = send_part(sink, grid, 0, &painting.prompt)?;
     let line_end = send_part(sink, grid, prompt_end, &painting.line)?;
-    send_part(sink, grid, line_end, &painting.info)?;
-    send(sink, b"\x1B[m")
+    send_end(sink, grid, line_end, &painting.info)
 }
 
 /// The three texts, then the move from their end to the cursor.

@@ -1,19 +1,19 @@
 //! A text with styles, in the cells that it has without them.
 
-ghost use Rattle.std.specs.Prelude.{◌≡◌, ◌≤◌, ◌<◌, ◌==◌, ◌+◌, ◌++◌, [], true, IsTrue, OnOk, OnErr, IfOk, length, map, nat_le};
+ghost use Rattle.std.specs.Prelude.{◌∷◌, ◌≡◌, ◌≤◌, ◌<◌, ◌==◌, ◌+◌, ◌++◌, [], true, IsTrue, OnOk, OnErr, IfOk, None, length, map, nat_le};
 ghost use Rattle.unicode_segmentation.specs.Grapheme.{graphemes};
 ghost use Rattle.line_screen.specs.Drawing.{left_col, drawn_item, SendsTo, col_after, break_if, break_unless, fitted_col, col_after_one, no_style};
 ghost use Rattle.line_screen.specs.Drawing.DrawnItem.{Cluster, Tab};
 ghost use Rattle.line_screen.specs.Measure.{widths_by};
-ghost use Rattle.line_screen.specs.Colours.{style_bytes, shaded_break, shaded, painted_letters, painted_after, painted_clusters, painted_row, painted_text, painted_item, painted_one, SendsPainted, spans_in, span_of, brush_paints, brush_spans, first_style, skip, next_painted, spans_behind};
+ghost use Rattle.line_screen.specs.Colours.{end_of, painted, style_bytes, shaded_break, shaded, painted_letters, painted_after, painted_clusters, painted_row, painted_text, painted_item, painted_one, SendsPainted, spans_in, span_of, brush_paints, brush_spans, first_style, skip, next_painted, spans_behind, IsFirstSpan};
 ghost use Rattle.line_screen.specs.Styles.{numbers};
-ghost use Rattle.line_help.specs.Paints.{IsNextSpan};
+ghost use Rattle.line_help.specs.Paints.{IsNextSpan, first_mark};
 ghost use Rattle.line_screen.specs.Colours.PaintedItem.{Shaded, Fenced, Padded};
 ghost use Rattle.line_config.specs.Sending.{Sends};
 
 use crate::drawing::sequences::send;
 use crate::drawing::styles::{is_plain, send_style};
-use crate::drawing::text::{leave_full, make_room, send_letters, send_tab};
+use crate::drawing::text::{leave_full, make_room, send_letters, send_tab, send_text};
 use crate::grid::{Grid, blanks, is_letter, tab_columns};
 use line_buffer::{Unit, is_printable_text};
 use line_config::{DeviceFailed, Sink};
@@ -40,7 +40,8 @@ impl<H: Highlighter> Brush<'_, H> {
     }
 }
 
-/// The remaining spans: the rest of the first one, and those from a mark on.
+/// The remaining spans: what is left of one that was returned, and those from a mark on. None of
+/// these is asked for before it is needed.
 #[derive(Clone, Copy)]
 pub(crate) struct Spans {
     first: Option<Span>,
@@ -48,30 +49,24 @@ pub(crate) struct Spans {
 }
 
 impl Spans {
-    pub(crate) fn new<H: Highlighter>(brush: &Brush<'_, H>) -> Self
-        ensures { spans_in (brush_paints H.marks brush.now) result ≡ brush_spans H.marks brush.now }
+    /// All spans of a text.
+    fn all() -> Self
+        ensures first { result.first ≡ None }
+        ensures mark { result.mark ≡ first_mark }
     {
         Spans {
             first: None,
             mark: Mark::first(),
         }
-        .behind(brush)
     }
 
-    /// Those after the first.
-    fn behind<H: Highlighter>(self, brush: &Brush<'_, H>) -> Self
-        ensures { spans_in (brush_paints H.marks brush.now) result
-            ≡ map span_of (brush_paints H.marks brush.now self.mark) }
+    /// The first of them, and the mark from which the others follow.
+    fn next<H: Highlighter>(self, brush: &Brush<'_, H>) -> Option<(Span, Mark)>
+        ensures { IsFirstSpan (brush_paints H.marks brush.now) self result }
     {
-        match brush.next(self.mark) {
-            Some((span, mark)) => Spans {
-                first: Some(span),
-                mark,
-            },
-            None => Spans {
-                first: None,
-                mark: self.mark,
-            },
+        match self.first {
+            Some(span) => Some((span, self.mark)),
+            None => brush.next(self.mark),
         }
     }
 
@@ -82,16 +77,19 @@ impl Spans {
     {
         let mut left = self;
         let mut count = count;
-        while let Some(span) = left.first {
+        while let Some((span, mark)) = left.next(brush) {
             if count < span.len {
-                left.first = Some(Span {
+                let rest = Span {
                     len: span.len - count,
                     style: span.style,
-                });
-                return left;
+                };
+                return Spans {
+                    first: Some(rest),
+                    mark,
+                };
             }
             count -= span.len;
-            left = left.behind(brush);
+            left = Spans { first: None, mark };
         }
         left
     }
@@ -101,11 +99,11 @@ impl Spans {
         ensures { numbers result ≡ first_style (spans_in (brush_paints H.marks brush.now) self) }
     {
         let mut left = self;
-        while let Some(span) = left.first {
+        while let Some((span, mark)) = left.next(brush) {
             if span.len > 0 {
                 return span.style;
             }
-            left = left.behind(brush);
+            left = Spans { first: None, mark };
         }
         Style::plain()
     }
@@ -172,6 +170,44 @@ fn send_shades<D: Sink>(
     Ok(col)
 }
 
+/// A letter of a style that stands, and its end, inside the row.
+fn send_shade_end<D: Sink>(
+    sink: &mut D,
+    grid: Grid,
+    col: Unit,
+    letter: u8,
+) -> Result<Unit, DeviceFailed>
+    requires inside { col + 1 < grid.columns }
+    ensures { SendsTo (letter ∷ no_style) (col + 1)
+        grid.columns D.held D.has_failed sink.old sink.new result }
+{
+    send(sink, &[letter, 0x1B, b'[', b'm'])?;
+    Ok(col + 1)
+}
+
+/// Letters of a style that stands, and its end. A single letter that doesn't fill the row, as a
+/// marked bracket mostly is, is one write with the end.
+fn send_shades_end<D: Sink>(
+    sink: &mut D,
+    grid: Grid,
+    style: Style,
+    col: Unit,
+    letters: &[u8],
+) -> Result<Unit, DeviceFailed>
+    requires inside { col < grid.columns }
+    ensures { SendsTo
+        (painted grid.columns (map (Shaded (numbers style)) letters.now) col ++ no_style)
+        (end_of grid.columns (map (Shaded (numbers style)) letters.now) col)
+        grid.columns D.held D.has_failed sink.old sink.new result }
+{
+    if letters.len() == 1 && col + 1 < grid.columns {
+        return send_shade_end(sink, grid, col, letters[0]);
+    }
+    let end = send_shades(sink, grid, style, col, letters)?;
+    send(sink, b"\x1B[m")?;
+    Ok(end)
+}
+
 /// Letters of one style, between its beginning and its end.
 fn send_shaded<D: Sink>(
     sink: &mut D,
@@ -191,9 +227,7 @@ fn send_shaded<D: Sink>(
         return Ok(col);
     }
     send_style(sink, style)?;
-    let end = send_shades(sink, grid, style, col, letters)?;
-    send(sink, b"\x1B[m")?;
-    Ok(end)
+    send_shades_end(sink, grid, style, col, letters)
 }
 
 /// Printable ASCII, span by span. Spans of what follows it aren't asked for.
@@ -212,17 +246,19 @@ fn send_spans<D: Sink, H: Highlighter>(
     let mut col = start;
     let mut left = spans;
     let mut rest = letters;
-    while let Some(span) = left.first {
-        if rest.is_empty() {
-            return Ok(col);
+    while !rest.is_empty() {
+        match left.next(brush) {
+            None => return send_letters(sink, grid, col, rest),
+            Some((span, mark)) => {
+                let count = span.len.min(rest.len());
+                let (front, back) = rest.split_at(count);
+                col = send_shaded(sink, grid, span.style, col, front)?;
+                rest = back;
+                left = Spans { first: None, mark };
+            }
         }
-        let count = span.len.min(rest.len());
-        let (front, back) = rest.split_at(count);
-        col = send_shaded(sink, grid, span.style, col, front)?;
-        rest = back;
-        left = left.behind(brush);
     }
-    send_letters(sink, grid, col, rest)
+    Ok(col)
 }
 
 /// The bytes of a cluster, or the blanks of a tab, between their style and its end.
@@ -428,8 +464,8 @@ fn behind_row<H: Highlighter>(
     here.skip(brush, row.len())
 }
 
-/// A text with its styles, from a column on.
-pub(crate) fn send_painted<D: Sink, H: Highlighter>(
+/// A text with its styles, row by row.
+fn send_painted_rows<D: Sink, H: Highlighter>(
     sink: &mut D,
     grid: Grid,
     start: Unit,
@@ -442,7 +478,7 @@ pub(crate) fn send_painted<D: Sink, H: Highlighter>(
 {
     let text = brush.text;
     let mut col = start;
-    let mut left = Spans::new(brush);
+    let mut left = Spans::all();
     let mut is_first = true;
     for row in text.split('\n') {
         col = send_next_painted(sink, grid, col, is_first, brush, left, row)?;
@@ -450,4 +486,33 @@ pub(crate) fn send_painted<D: Sink, H: Highlighter>(
         is_first = false;
     }
     Ok(col)
+}
+
+/// A text with its styles, from a column on. A text of printable ASCII is one row, and isn't
+/// examined further. A text without spans is drawn as one without a highlighter.
+pub(crate) fn send_painted<D: Sink, H: Highlighter>(
+    sink: &mut D,
+    grid: Grid,
+    start: Unit,
+    brush: &Brush<'_, H>,
+) -> Result<Unit, DeviceFailed>
+    requires inside { start < grid.columns }
+    ensures { SendsPainted (painted_text (widths_by grid.mode grid.tab grid.columns)
+        (brush_spans H.marks brush.now) brush.now.text.now) start
+        grid.columns D.held D.has_failed sink.old sink.new result }
+{
+    if is_printable_text(brush.text) {
+        return send_spans(
+            sink,
+            grid,
+            start,
+            brush,
+            Spans::all(),
+            brush.text.as_bytes(),
+        );
+    }
+    match brush.next(Mark::first()) {
+        None => send_text(sink, grid, start, brush.text),
+        Some(_) => send_painted_rows(sink, grid, start, brush),
+    }
 }

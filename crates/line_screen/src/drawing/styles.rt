@@ -1,12 +1,11 @@
 //! The control sequence that begins a style.
 
-ghost use Rattle.std.specs.Prelude.{◌≡◌, ◌≤◌, ◌<◌, ◌+◌, ◌%◌, ◌++◌, ◌∷◌, [], IsTrue, OnOk, OnErr, decimal};
+ghost use Rattle.std.specs.Prelude.{IfSome, ◌≡◌, ◌≤◌, ◌<◌, ◌+◌, ◌%◌, ◌++◌, ◌∷◌, [], IsTrue, OnOk, OnErr, decimal};
 ghost use Rattle.line_config.specs.Sending.{Sends};
 ghost use Rattle.line_screen.specs.Colours.{style_bytes};
-ghost use Rattle.line_screen.specs.Styles.{hue_number, number, numbers_of, colour_numbers, flag, flags, numbers, is_terminal, is_plain_style};
+ghost use Rattle.line_screen.specs.Styles.{hue_number, number, numbers_of, colour_numbers, flag, flags, numbers, is_terminal, is_plain_style, flag_number};
 
 use crate::drawing::sequences::send;
-use itoa::Buffer;
 use line_config::{DeviceFailed, Sink};
 use line_help::{Colour, Hue, Style};
 
@@ -44,13 +43,20 @@ fn number_of(hue: Hue) -> u8
 }
 
 /// A number after its semicolon.
+#[tactic(auto, using(crate::proofs::StyleLemmas::one_digit, crate::proofs::StyleLemmas::two_digits, crate::proofs::StyleLemmas::three_digits))]
 fn send_number<D: Sink>(sink: &mut D, n: u8) -> Result<(), DeviceFailed>
     ensures { Sends D.held D.has_failed (number n) sink.old sink.new result }
 {
-    let mut buffer = Buffer::new();
-    let digits = buffer.format(n).as_bytes();
-    send(sink, b";")?;
-    send(sink, digits)
+    if n < 10 {
+        return send(sink, &[b';', b'0' + n]);
+    }
+    if n < 100 {
+        return send(sink, &[b';', b'0' + n / 10, b'0' + n % 10]);
+    }
+    send(
+        sink,
+        &[b';', b'0' + n / 10 / 10, b'0' + n / 10 % 10, b'0' + n % 10],
+    )
 }
 
 fn send_flag<D: Sink>(sink: &mut D, on: bool, n: u8) -> Result<(), DeviceFailed>
@@ -117,8 +123,30 @@ fn send_numbers<D: Sink>(sink: &mut D, style: Style) -> Result<(), DeviceFailed>
     send_colour(sink, 40, style.background)
 }
 
-/// From now on the terminal draws in this style.
-pub(crate) fn send_style<D: Sink>(sink: &mut D, style: Style) -> Result<(), DeviceFailed>
+/// The number of the only flag of a style, or 0 if it has no flag.
+fn single_flag(style: Style) -> Option<u8>
+    ensures flag { IfSome result (λ n. flags style ≡ flag_number n) }
+    ensures digit { IfSome result (λ n. n < 10) }
+{
+    match (
+        style.bold,
+        style.faint,
+        style.italic,
+        style.underline,
+        style.reverse,
+    ) {
+        (false, false, false, false, false) => Some(0),
+        (true, false, false, false, false) => Some(1),
+        (false, true, false, false, false) => Some(2),
+        (false, false, true, false, false) => Some(3),
+        (false, false, false, true, false) => Some(4),
+        (false, false, false, false, true) => Some(7),
+        _ => None,
+    }
+}
+
+/// A style piece by piece.
+fn send_sequence<D: Sink>(sink: &mut D, style: Style) -> Result<(), DeviceFailed>
     ensures { Sends D.held D.has_failed (style_bytes (numbers style)) sink.old sink.new result }
 {
     if is_plain(style) {
@@ -127,4 +155,62 @@ pub(crate) fn send_style<D: Sink>(sink: &mut D, style: Style) -> Result<(), Devi
     send(sink, b"\x1B[0")?;
     send_numbers(sink, style)?;
     send(sink, b"m")
+}
+
+/// A flag, or none if it is 0, and one of the eight colours.
+#[tactic(auto, using(crate::proofs::StyleLemmas::no_flag, crate::proofs::StyleLemmas::flag_digit, crate::proofs::StyleLemmas::hue_digits))]
+fn send_hue<D: Sink>(sink: &mut D, flag: u8, hue: Hue) -> Result<(), DeviceFailed>
+    requires digit { flag < 10 }
+    ensures { Sends D.held D.has_failed
+        (style_bytes (flag_number flag ++ number (30 + hue_number hue)))
+        sink.old sink.new result }
+{
+    let digit = b'0' + number_of(hue);
+    if flag == 0 {
+        return send(sink, &[0x1B, b'[', b'0', b';', b'3', digit, b'm']);
+    }
+    send(
+        sink,
+        &[0x1B, b'[', b'0', b';', b'0' + flag, b';', b'3', digit, b'm'],
+    )
+}
+
+/// A flag, or none if it is 0.
+#[tactic(auto, using(crate::proofs::StyleLemmas::no_flag, crate::proofs::StyleLemmas::flag_digit))]
+fn send_single<D: Sink>(sink: &mut D, flag: u8) -> Result<(), DeviceFailed>
+    requires digit { flag < 10 }
+    ensures { Sends D.held D.has_failed (style_bytes (flag_number flag))
+        sink.old sink.new result }
+{
+    if flag == 0 {
+        return send(sink, b"\x1B[m");
+    }
+    send(sink, &[0x1B, b'[', b'0', b';', b'0' + flag, b'm'])
+}
+
+/// A style with this flag alone, or without flags if it is 0.
+fn send_short<D: Sink>(sink: &mut D, flag: u8, style: Style) -> Result<(), DeviceFailed>
+    requires flag { flags style ≡ flag_number flag }
+    requires digit { flag < 10 }
+    ensures { Sends D.held D.has_failed (style_bytes (numbers style)) sink.old sink.new result }
+{
+    if !is_terminal(style.background) {
+        return send_sequence(sink, style);
+    }
+    match style.text {
+        Colour::Basic(hue) => send_hue(sink, flag, hue),
+        Colour::Terminal => send_single(sink, flag),
+        Colour::Bright(_) | Colour::Palette(_) | Colour::Rgb(..) => send_sequence(sink, style),
+    }
+}
+
+/// From now on the terminal draws in this style. A style of one flag, of one of the eight colours,
+/// or of both, as most are, is one write.
+pub(crate) fn send_style<D: Sink>(sink: &mut D, style: Style) -> Result<(), DeviceFailed>
+    ensures { Sends D.held D.has_failed (style_bytes (numbers style)) sink.old sink.new result }
+{
+    if let Some(flag) = single_flag(style) {
+        return send_short(sink, flag, style);
+    }
+    send_sequence(sink, style)
 }

@@ -22,7 +22,7 @@ const COLUMNS: u16 = 20;
 /// Completion by words, hints from the history, and validation of brackets.
 type Aide = HelperParts<WordCompleter, HistoryHinter, (), MatchingBracketValidator>;
 
-type Edited<'h> = State<'static, 'h, ScreenRenderer<WriteSink<Stderr>>, Aide, MemHistory>;
+type Edited<'h> = State<'h, 'h, ScreenRenderer<WriteSink<Stderr>>, Aide, MemHistory>;
 
 fn history_of(alloc: Global, entries: &str) -> Result<MemHistory, ReadlineError> {
     let mut history = MemHistory::new(alloc);
@@ -62,13 +62,12 @@ fn make(
     state: &mut Edited<'_>,
     input: &InputState<'_>,
     ring: &mut KillRing,
-    config: &Config,
     cmd: Cmd,
 ) -> Result<Status, ReadlineError> {
     if cmd.should_reset_kill_ring() {
         ring.reset();
     }
-    execute(cmd, state, input, ring, config)
+    execute(cmd, state, input, ring)
 }
 
 fn word_of(answer: Result<Status, ReadlineError>) -> &'static str {
@@ -99,14 +98,13 @@ fn step_on(
     state: &mut Edited<'_>,
     input: &InputState<'_>,
     ring: &mut KillRing,
-    config: &Config,
     step: &str,
 ) -> &'static str {
     if let Some(done) = prepare(alloc, state, step) {
         return word_of(done.map(|()| Status::Proceed));
     }
     match command_named(alloc, step) {
-        Some(cmd) => word_of(make(state, input, ring, config, cmd)),
+        Some(cmd) => word_of(make(state, input, ring, cmd)),
         None => "unread",
     }
 }
@@ -136,11 +134,10 @@ fn play_on(
     state: &mut Edited<'_>,
     input: &InputState<'_>,
     ring: &mut KillRing,
-    config: &Config,
     steps: &[String],
 ) -> io::Result<()> {
     for step in steps {
-        let word = step_on(rt.alloc(), state, input, ring, config, step.as_str());
+        let word = step_on(rt.alloc(), state, input, ring, step.as_str());
         tell(rt, state, ring, word)?;
     }
     Ok(())
@@ -149,19 +146,20 @@ fn play_on(
 fn play_with(
     rt: &HostRuntime,
     state: &mut Edited<'_>,
+    config: &Config,
     steps: &[String],
 ) -> Result<io::Result<()>, ReadlineError> {
-    let config = Config::builder().build();
     let bindings = Bindings::new(rt.alloc())?;
-    let input = InputState::new(rt.alloc(), &config, &bindings)?;
+    let input = InputState::new(rt.alloc(), config, &bindings)?;
     let mut ring = KillRing::new(rt.alloc(), 2)?;
-    Ok(play_on(rt, state, &input, &mut ring, &config, steps))
+    Ok(play_on(rt, state, &input, &mut ring, steps))
 }
 
 fn edited<'h>(
     rt: &HostRuntime,
     history: &'h MemHistory,
     helper: Option<Aide>,
+    config: &'h Config,
 ) -> Result<Edited<'h>, ReadlineError> {
     let screen = ScreenRenderer::new(
         WriteSink::new(rt.stderr()),
@@ -169,7 +167,14 @@ fn edited<'h>(
         GraphemeClusterMode::Unicode,
         BellStyle::Audible,
     );
-    State::new(rt.alloc(), screen, "> ", helper, Context::new(history))
+    State::new(
+        rt.alloc(),
+        screen,
+        "> ",
+        helper,
+        Context::new(history),
+        config,
+    )
 }
 
 fn play_over(
@@ -180,8 +185,9 @@ fn play_over(
 ) -> Result<io::Result<()>, ReadlineError> {
     let history = history_of(rt.alloc(), entries)?;
     let helper = helper_of(rt.alloc(), words)?;
-    let mut state = edited(rt, &history, helper)?;
-    play_with(rt, &mut state, steps)
+    let config = Config::builder().build();
+    let mut state = edited(rt, &history, helper, &config)?;
+    play_with(rt, &mut state, &config, steps)
 }
 
 /// Makes the steps on a line over a history with these entries and a helper with these words, and

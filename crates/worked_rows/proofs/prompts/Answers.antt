@@ -1,7 +1,7 @@
 use Rattle.std.proofs.Common.{◌≡◌, [], refl}
 use Rattle.worked_rows.specs.Playing.{differing}
 use Rattle.worked_rows.specs.Prompts.{prompts_rows}
-use Rattle.worked_rows.specs.Showing.{AllShown, short, unshown}
+use Rattle.worked_rows.specs.Showing.{short, unshown}
 use Rattle.worked_rows.proofs.Computing.{computing}
 use Rattle.worked_rows.proofs.ShownLemmas.{all_shown}
 use Rattle.worked_rows.proofs.prompts.Goals as goal

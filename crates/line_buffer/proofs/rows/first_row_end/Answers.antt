@@ -1,10 +1,15 @@
-use Rattle.std.proofs.Common.{◌∙◌, sym, zero-add, lit<, Some, None, rules}
-use Rattle.std.proofs.lemmas.Str.Pattern.{find_char}
-use Rattle.line_buffer.proofs.RowStartLemmas.{row_len_some, row_len_none}
+use Rattle.std.proofs.Common.{◌≡◌, length, take, ap, ◌∙◌, arith}
+use Rattle.std.specs.List.{list_all}
+use Rattle.line_buffer.specs.Rows.{is_in_row}
+use Rattle.line_buffer.proofs.RowStartLemmas.{finds_row_end}
 use Rattle.line_buffer.proofs.rows.first_row_end.Goals as goal
 
-pub returns-in-Some : goal.returns-in-Some
-returns-in-Some c = record { value = sym (zero-add _ ∙ row_len_some c.args.text.now _ (find_char 10 _ (Some _) c.in-Some.ensures.cases (lit< tt))); boundary = search rules }
+pub returns-then-bytes-end-eq10 : goal.returns-then-bytes-end-eq10
+returns-then-bytes-end-eq10 c =
+    finds_row_end c.args.text.now c.as_bytes-bytes.result.now c.loop-end.end c.as_bytes-bytes.ensures.value c.loop-end.invariant.bound (λ l. c.if-bytes-end-eq10.true) c.loop-end.invariant.in_row
 
-pub returns-in-None : goal.returns-in-None
-returns-in-None c = record { value = sym (zero-add _ ∙ row_len_none c.args.text.now (find_char 10 _ None c.in-None.ensures.cases (lit< tt))); boundary = search rules }
+pub returns : goal.returns
+returns c =
+    let whole : length c.as_bytes-bytes.result.now ≡ c.loop-end.end = omega (arith, c.loop-end-test.false, c.loop-end.invariant.bound) in
+    finds_row_end c.args.text.now c.as_bytes-bytes.result.now (length c.as_bytes-bytes.result.now) c.as_bytes-bytes.ensures.value (omega arith) (λ l. absurd (omega (arith, l)))
+    (ap (λ n. list_all is_in_row (take n c.as_bytes-bytes.result.now)) whole ∙ c.loop-end.invariant.in_row)

@@ -1,17 +1,15 @@
-use Rattle.std.proofs.Common.{sym, lit<, Some, None, rules}
-use Rattle.std.proofs.lemmas.Str.{IsCharBoundary-start}
-use Rattle.std.proofs.lemmas.Str.Pattern.{rfind_char}
-use Rattle.line_buffer.proofs.RowStartLemmas.{row_start_is, opens_some, opens_none}
+use Rattle.std.proofs.Common.{◌≡◌, drop, ap, ◌∙◌, arith}
+use Rattle.std.specs.List.{list_all}
+use Rattle.line_buffer.specs.Rows.{is_in_row}
+use Rattle.line_buffer.proofs.RowStartLemmas.{finds_row_start}
 use Rattle.line_buffer.proofs.rows.last_row_start.Goals as goal
 
-pub returns-in-Some : goal.returns-in-Some
-returns-in-Some c = record {
-  value = sym (row_start_is c.args.text.now _ (opens_some c.args.text.now _ (rfind_char 10 _ (Some _) c.in-Some.ensures.cases (lit< tt))));
-  boundary = search rules;
-}
+pub returns-then-bytes-start-eq10 : goal.returns-then-bytes-start-eq10
+returns-then-bytes-start-eq10 c =
+    finds_row_start c.args.text.now c.as_bytes-bytes.result.now c.loop-start.start c.as_bytes-bytes.ensures.value c.utf8.text c.loop-start.invariant.bound (λ l. c.if-bytes-start-eq10.true) c.loop-start.invariant.in_row
 
-pub returns-in-None : goal.returns-in-None
-returns-in-None c = record {
-  value = sym (row_start_is c.args.text.now 0 (opens_none c.args.text.now (rfind_char 10 _ None c.in-None.ensures.cases (lit< tt))));
-  boundary = IsCharBoundary-start _ c.utf8.text;
-}
+pub returns : goal.returns
+returns c =
+    let front : 0 ≡ c.loop-start.start = omega (arith, c.loop-start-test.false) in
+    finds_row_start c.args.text.now c.as_bytes-bytes.result.now 0 c.as_bytes-bytes.ensures.value c.utf8.text (omega arith) (λ l. absurd (omega (arith, l)))
+    (ap (λ n. list_all is_in_row (drop n c.as_bytes-bytes.result.now)) front ∙ c.loop-start.invariant.in_row)

@@ -1,32 +1,19 @@
-use Rattle.std.proofs.Common.{◌<◌, ◌-◌, ◌∷◌, ap, sym, ◌∙◌, arith}
+use Rattle.std.proofs.Common.{◌-◌, ◌∷◌, drop, length, ap, sym, ◌∙◌}
 use Rattle.std.specs.Prelude.{slice_get}
 use Rattle.line_buffer.specs.Words.{edges_of, kinds}
-use Rattle.line_buffer.proofs.WordLemmas.{turn_missed, turn_found, turn_passed, forward_split, none_in_one, edges_of-nil}
+use Rattle.line_buffer.proofs.NextRunLemmas.{clusters_at-empty}
+use Rattle.line_buffer.proofs.WordLemmas.{none_in_one, edges_of-nil}
 use Rattle.line_buffer.proofs.words.nth_edge.Goals as goal
 
-pub loop-i-preserved : goal.loop-i-preserved
-loop-i-preserved c = record {
-  some = c.loop-i.invariant.some;
-  found = turn_missed _ _ _ _ (forward_split c.args.at c.args.word c.loop-i.left _ _ (c.in-Some-2.i, c.in-Some-2.cluster.now) c.kind_of-in-loop-i.result c.kind_of-in-loop-i.ensures c.in-Some-2.ensures.steps) c.loop-i.missing c.loop-i.invariant.found (sym c.edge_between.ensures ∙ c.in_default-edge_between.is);
-}
-
-pub returns-then-missing-eq0 : goal.returns-then-missing-eq0
-returns-then-missing-eq0 c =
-    turn_found _ _ _ _ (forward_split c.args.at c.args.word c.loop-i.left _ _ (c.in-Some-2.i, c.in-Some-2.cluster.now) c.kind_of-in-loop-i.result c.kind_of-in-loop-i.ensures c.in-Some-2.ensures.steps) c.loop-i.missing c.loop-i.invariant.found _ (sym c.edge_between.ensures ∙ c.in-Some-edge_between.is) c.if-missing-eq0.true
-
-pub loop-i-preserved-else-missing-eq0 : goal.loop-i-preserved-else-missing-eq0
-loop-i-preserved-else-missing-eq0 c =
-    let more : 0 < c.loop-i.missing - 1 = omega (arith, c.if-missing-eq0.false) in
-    record {
-      some = more;
-      found = turn_passed _ _ _ _ (forward_split c.args.at c.args.word c.loop-i.left _ _ (c.in-Some-2.i, c.in-Some-2.cluster.now) c.kind_of-in-loop-i.result c.kind_of-in-loop-i.ensures c.in-Some-2.ensures.steps) c.loop-i.missing c.loop-i.invariant.found _ (sym c.edge_between.ensures ∙ c.in-Some-edge_between.is) more;
-    }
-
-pub returns-in_default : goal.returns-in_default
-returns-in_default c =
-    sym (ap (λ xs. slice_get (edges_of c.args.at (kinds c.args.word xs)) (c.args.n - 1)) c.in_default.ensures.steps.0 ∙ ap (λ xs. slice_get xs (c.args.n - 1)) (edges_of-nil c.args.at))
+pub returns-in_err-last : goal.returns-in_err-last
+returns-in_err-last c =
+    c.from_residual.ensures
+    ∙ sym (ap (λ xs. slice_get (edges_of c.args.at (kinds c.args.word xs)) (c.args.n - 1))
+    (clusters_at-empty c.args.from (drop c.args.from c.args.text.now) (ap length (sym c.range_from.ensures.value) ∙ c.in_err-last.ensures))
+    ∙ ap (λ xs. slice_get xs (c.args.n - 1)) (edges_of-nil c.args.at))
 
 pub returns : goal.returns
 returns c =
-    none_in_one _ c.args.at c.loop-i.left (c.loop-i.missing - 1)
-    (c.loop-i.invariant.found ∙ ap (λ xs. slice_get (edges_of c.args.at (c.loop-i.left ∷ kinds c.args.word xs)) (c.loop-i.missing - 1)) c.in-None.ensures.steps.0)
+    none_in_one _ c.args.at c.loop-last.left (c.loop-last.missing - 1)
+    (c.loop-last.invariant.found ∙ ap (λ xs. slice_get (edges_of c.args.at (c.loop-last.left ∷ kinds c.args.word xs)) (c.loop-last.missing - 1))
+    (clusters_at-empty c.loop-last.place (drop c.loop-last.place c.args.text.now) (ap length (sym c.range_from-in-loop-last.ensures.value) ∙ c.in_default.ensures)))

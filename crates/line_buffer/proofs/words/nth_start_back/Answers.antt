@@ -1,36 +1,49 @@
-use Rattle.std.proofs.Common.{◌≡◌, ◌<◌, ◌-◌, ◌∷◌, ◌++◌, [], reverse, ap, sym, ◌∙◌, arith}
+use Rattle.std.proofs.Common.{◌<◌, ◌-◌, ◌∷◌, ◌++◌, [], reverse, ap, sym, ◌∙◌, arith, subst}
 use Rattle.std.specs.Prelude.{slice_get}
-use Rattle.unicode_segmentation.specs.Iter.{grapheme_indices_left}
+use Rattle.std.proofs.lemmas.Str.{IsCharBoundary-end}
 use Rattle.line_buffer.specs.Clusters.{clusters}
-use Rattle.line_buffer.specs.Words.{edges_of, kinds}
+use Rattle.line_buffer.specs.Words.{EndsInRun, edges_of, kinds}
 use Rattle.line_buffer.specs.declared.types.At.TheVariants.{Start}
-use Rattle.line_buffer.proofs.WordLemmas.{turn_missed, turn_found, turn_passed, backward_split, none_in_one_back, edges_of-nil}
+use Rattle.line_buffer.proofs.PartLemmas.{boundary_before, slice_range-front}
+use Rattle.line_buffer.proofs.StopLemmas.{clusters-empty}
+use Rattle.line_buffer.proofs.WordLemmas.{turn_missed, turn_found, turn_passed, none_in_one_back}
+use Rattle.line_buffer.proofs.WordRunLemmas.{run_split, blank_end}
 use Rattle.line_buffer.proofs.words.nth_start_back.Goals as goal
 
-pub loop-i-preserved : goal.loop-i-preserved
-loop-i-preserved c = record {
-  some = c.loop-i.invariant.some;
-  found = turn_missed _ _ _ _ (backward_split Start c.args.word c.loop-i.right _ _ (c.in-Some-2.i, c.in-Some-2.cluster.now) c.kind_of-in-loop-i.result c.kind_of-in-loop-i.ensures c.in-Some-2.ensures.steps) c.loop-i.missing c.loop-i.invariant.found (sym c.edge_between.ensures ∙ c.in_default-edge_between.is);
+pub loop-start-init : goal.loop-start-init
+loop-start-init c = record {
+  some = c.requires;
+  boundary = IsCharBoundary-end c.args.text.now;
+  found = ap (λ xs. slice_get (reverse xs) (c.args.n - 1)) (blank_end c.args.word c.args.text.now);
 }
+
+pub loop-start-preserved : goal.loop-start-preserved
+loop-start-preserved c =
+    let run = subst (λ t. EndsInRun c.args.word t c.in-Some.start c.in-Some.kind) (c.range.ensures.value ∙ slice_range-front c.args.text.now c.loop-start.end) c.in-Some.ensures in
+    record {
+      some = c.loop-start.invariant.some;
+      boundary = boundary_before c.args.text.now c.loop-start.end c.in-Some.start c.loop-start.invariant.boundary run.start;
+      found = turn_missed _ _ _ _ (run_split c.args.word c.args.text.now c.loop-start.end c.in-Some.start c.in-Some.kind c.loop-start.right run) c.loop-start.missing c.loop-start.invariant.found (sym c.edge_between.ensures ∙ c.in_default-edge_between.is);
+    }
 
 pub returns-then-missing-eq0 : goal.returns-then-missing-eq0
 returns-then-missing-eq0 c =
-    turn_found _ _ _ _ (backward_split Start c.args.word c.loop-i.right _ _ (c.in-Some-2.i, c.in-Some-2.cluster.now) c.kind_of-in-loop-i.result c.kind_of-in-loop-i.ensures c.in-Some-2.ensures.steps) c.loop-i.missing c.loop-i.invariant.found _ (sym c.edge_between.ensures ∙ c.in-Some-edge_between.is) c.if-missing-eq0.true
+    let run = subst (λ t. EndsInRun c.args.word t c.in-Some.start c.in-Some.kind) (c.range.ensures.value ∙ slice_range-front c.args.text.now c.loop-start.end) c.in-Some.ensures in
+    turn_found _ _ _ _ (run_split c.args.word c.args.text.now c.loop-start.end c.in-Some.start c.in-Some.kind c.loop-start.right run) c.loop-start.missing c.loop-start.invariant.found _ (sym c.edge_between.ensures ∙ c.in-Some-edge_between.is) c.if-missing-eq0.true
 
-pub loop-i-preserved-else-missing-eq0 : goal.loop-i-preserved-else-missing-eq0
-loop-i-preserved-else-missing-eq0 c =
-    let more : 0 < c.loop-i.missing - 1 = omega (arith, c.if-missing-eq0.false) in
+pub loop-start-preserved-else-missing-eq0 : goal.loop-start-preserved-else-missing-eq0
+loop-start-preserved-else-missing-eq0 c =
+    let run = subst (λ t. EndsInRun c.args.word t c.in-Some.start c.in-Some.kind) (c.range.ensures.value ∙ slice_range-front c.args.text.now c.loop-start.end) c.in-Some.ensures in
+    let more : 0 < c.loop-start.missing - 1 = omega (arith, c.if-missing-eq0.false) in
     record {
       some = more;
-      found = turn_passed _ _ _ _ (backward_split Start c.args.word c.loop-i.right _ _ (c.in-Some-2.i, c.in-Some-2.cluster.now) c.kind_of-in-loop-i.result c.kind_of-in-loop-i.ensures c.in-Some-2.ensures.steps) c.loop-i.missing c.loop-i.invariant.found _ (sym c.edge_between.ensures ∙ c.in-Some-edge_between.is) more;
+      boundary = boundary_before c.args.text.now c.loop-start.end c.in-Some.start c.loop-start.invariant.boundary run.start;
+      found = turn_passed _ _ _ _ (run_split c.args.word c.args.text.now c.loop-start.end c.in-Some.start c.in-Some.kind c.loop-start.right run) c.loop-start.missing c.loop-start.invariant.found _ (sym c.edge_between.ensures ∙ c.in-Some-edge_between.is) more;
     }
-
-pub returns-in_default : goal.returns-in_default
-returns-in_default c =
-    let e : clusters c.args.text.now ≡ [] = sym (ap grapheme_indices_left c.rev-clusters.ensures.source ∙ c.grapheme_indices.ensures.left) ∙ c.in_default.ensures.steps.0 in
-    sym (ap (λ xs. slice_get (reverse (edges_of Start (kinds c.args.word xs))) (c.args.n - 1)) e ∙ ap (λ xs. slice_get (reverse xs) (c.args.n - 1)) (edges_of-nil Start))
 
 pub returns : goal.returns
 returns c =
-    none_in_one_back _ Start c.loop-i.right (c.loop-i.missing - 1)
-    (c.loop-i.invariant.found ∙ ap (λ xs. slice_get (reverse (edges_of Start (kinds c.args.word xs ++ c.loop-i.right ∷ []))) (c.loop-i.missing - 1)) c.in-None.ensures.steps.0)
+    none_in_one_back _ Start (c.loop-start.end, c.loop-start.right) (c.loop-start.missing - 1)
+    (c.loop-start.invariant.found
+    ∙ ap (λ xs. slice_get (reverse (edges_of Start (kinds c.args.word xs ++ (c.loop-start.end, c.loop-start.right) ∷ []))) (c.loop-start.missing - 1))
+    (ap clusters (sym (c.range.ensures.value ∙ slice_range-front c.args.text.now c.loop-start.end)) ∙ clusters-empty c.range.result.now c.in_default.ensures))

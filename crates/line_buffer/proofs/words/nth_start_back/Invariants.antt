@@ -1,13 +1,15 @@
-use Rattle.std.proofs.Common.{◌≡◌, ◌<◌, ◌-◌, ◌∷◌, ◌++◌, [], reverse}
-use Rattle.std.specs.Prelude.{slice_get}
-use Rattle.std.specs.Iterator.Adapters.{rev_source}
-use Rattle.unicode_segmentation.specs.Iter.{grapheme_indices_left}
+use Rattle.std.proofs.Common.{◌≡◌, ◌<◌, ◌-◌, ◌∷◌, ◌++◌, [], take, reverse}
+use Rattle.std.specs.Prelude.{slice_get, IsCharBoundary}
 use Rattle.line_buffer.specs.Clusters.{clusters}
 use Rattle.line_buffer.specs.Words.{starts_of, kinds}
 use Rattle.line_buffer.proofs.words.nth_start_back.Given as goal
 
-abbrev pub invariant-loop-i : goal.invariant-loop-i
-invariant-loop-i l = record {
+abbrev pub invariant-loop-start : goal.invariant-loop-start
+invariant-loop-start l = record {
   some : 0 < l.missing;
-  found : slice_get (reverse (starts_of (kinds l.word (clusters l.text)))) (l.fn.n - 1) ≡ slice_get (reverse (starts_of (kinds l.word (grapheme_indices_left (rev_source l.i-iterator)) ++ l.right ∷ []))) (l.missing - 1);
+  boundary : IsCharBoundary l.text l.end;
+  found : slice_get (reverse (starts_of (kinds l.word (clusters l.text)))) (l.fn.n - 1) ≡ slice_get (reverse (starts_of (kinds l.word (clusters (take l.end l.text)) ++ (l.end, l.right) ∷ []))) (l.missing - 1);
 }
+
+abbrev pub decreases-loop-start : goal.decreases-loop-start
+decreases-loop-start l = l.end

@@ -8,5 +8,5 @@ returns-in_err-restore g c =
     let at : c.set_history_index.new.self.place ≡ length (setting_of c.args.self.now).entries = search rules in
     record {
       does = back_cut c.args.self.now _ _ _ _ c.from_residual.ensures.1 (ap (λ place. record (value_of c.args.self.now) { history = place }) at) refl
-          (record { ruler = refl; prompt = refl; history_is = c.set_history_index.ensures.history; hooks_are = refl; marks_are = refl }) c.in_err-restore.ensures.does;
+          (record { ruler = refl; prompt = refl; history_is = c.set_history_index.ensures.history; hooks_are = refl; marks_are = refl; config_is = refl }) c.in_err-restore.ensures.does;
     }

@@ -14,7 +14,7 @@ returns-in_err-indent g c =
       does = edit_refused (indent_effect c.args.movement.now c.args.amount c.args.dedent) refreshed
           edit (value_of s) s _ _ _ _ c.from_residual.ensures.1 refl refl c.in_err-indent.ensures
           refl refl
-          (record { ruler = refl; prompt = refl; history_is = refl; hooks_are = refl; marks_are = refl });
+          (record { ruler = refl; prompt = refl; history_is = refl; hooks_are = refl; marks_are = refl; config_is = refl });
     }
 
 pub returns : goal.returns
@@ -24,6 +24,6 @@ returns g c =
     record {
       does = edit_then (indent_effect c.args.movement.now c.args.amount c.args.dedent) refreshed
           edit (value_of s) s _ _ _ _ _ _ refl refl c.in_ok-indent.ensures refl refl
-          (record { ruler = refl; prompt = refl; history_is = refl; hooks_are = refl; marks_are = refl })
+          (record { ruler = refl; prompt = refl; history_is = refl; hooks_are = refl; marks_are = refl; config_is = refl })
           c.refresh.ensures.does;
     }

@@ -25,14 +25,14 @@ returns-in_err-inserted g c =
           (value_of s) s _ _ _ _ c.from_residual.ensures.1
           (char_put c.args.ch c.args.n (setting_of s) (value_of s) c.in_err-inserted.ensures.refused)
           refl c.in_err-inserted.ensures.writes refl refl
-          (record { ruler = refl; prompt = refl; history_is = refl; hooks_are = refl; marks_are = refl });
+          (record { ruler = refl; prompt = refl; history_is = refl; hooks_are = refl; marks_are = refl; config_is = refl });
     }
 
 pub returns-then-is_none : goal.returns-then-is_none
 returns-then-is_none g c = record {
   does = nothing_typed c.args.ch c.args.n c.args.self.now _ _ _
       (c.is_none.ensures ∙ ap not c.if-is_none.true) c.in_ok-inserted.ensures.writes refl refl
-      (record { ruler = refl; prompt = refl; history_is = refl; hooks_are = refl; marks_are = refl });
+      (record { ruler = refl; prompt = refl; history_is = refl; hooks_are = refl; marks_are = refl; config_is = refl });
 }
 
 pub returns : goal.returns
@@ -46,6 +46,6 @@ returns g c =
           (ap is_some (sym c.in_ok-inserted.ensures.writes.writes.answers)
           ∙ c.is_none.ensures ∙ ap not c.if-is_none.false) c.may_be_typed-alone.ensures)
           refl c.in_ok-inserted.ensures.writes refl refl
-          (record { ruler = refl; prompt = refl; history_is = refl; hooks_are = refl; marks_are = refl })
+          (record { ruler = refl; prompt = refl; history_is = refl; hooks_are = refl; marks_are = refl; config_is = refl })
           c.show_inserted.ensures.does;
     }

@@ -15,7 +15,7 @@ returns-in_err-insert_text g c =
           (text_put c.args.text.now (setting_of s) (value_of s)
           (sym c.is_empty.ensures ∙ c.if-is_empty.false)) refl c.in_err-insert_text.ensures refl
           refl
-          (record { ruler = refl; prompt = refl; history_is = refl; hooks_are = refl; marks_are = refl });
+          (record { ruler = refl; prompt = refl; history_is = refl; hooks_are = refl; marks_are = refl; config_is = refl });
     }
 
 pub returns : goal.returns
@@ -27,6 +27,6 @@ returns g c =
           (text_put c.args.text.now (setting_of s) (value_of s)
           (sym c.is_empty.ensures ∙ c.if-is_empty.false)) refl c.in_ok-insert_text.ensures refl
           refl
-          (record { ruler = refl; prompt = refl; history_is = refl; hooks_are = refl; marks_are = refl })
+          (record { ruler = refl; prompt = refl; history_is = refl; hooks_are = refl; marks_are = refl; config_is = refl })
           c.refresh.ensures.does;
     }

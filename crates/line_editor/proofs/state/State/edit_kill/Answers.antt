@@ -14,7 +14,7 @@ returns-in_err-killed-clause-does g c =
     (killing c.args.movement.now) (value_of s) s _ _ _ _ c.from_residual.ensures.1
     (part_killed c.args.movement.now (setting_of s) (value_of s) c.in_err-killed.ensures.refused)
     refl c.in_err-killed.ensures.writes refl refl
-    (record { ruler = refl; prompt = refl; history_is = refl; hooks_are = refl; marks_are = refl })
+    (record { ruler = refl; prompt = refl; history_is = refl; hooks_are = refl; marks_are = refl; config_is = refl })
 
 pub returns-clause-does : goal.returns-clause-does
 returns-clause-does g c =
@@ -24,7 +24,7 @@ returns-clause-does g c =
     (part_killed c.args.movement.now (setting_of s) (value_of s)
     (sym c.in_ok-killed.ensures.writes.writes.answers ∙ c.if-not-killed.false)) refl
     c.in_ok-killed.ensures.writes refl refl
-    (record { ruler = refl; prompt = refl; history_is = refl; hooks_are = refl; marks_are = refl })
+    (record { ruler = refl; prompt = refl; history_is = refl; hooks_are = refl; marks_are = refl; config_is = refl })
     (taken_by _ _ (value_of s) (kill_line c.args.movement.now s.recorded.line) _ _ _
     (ap (λ n. n - c.len.result) c.len-before.ensures ∙ ap (λ n. length s.recorded.line.text - n)
     c.len.ensures) c.may_be_taken-alone.ensures c.in_ok-killed.ensures.writes.writes.line

@@ -17,6 +17,6 @@ returns-then-move_buffer_end g c =
     record {
       does = moved_on c.args.kind (not (l.place == (length l.text))) there (move_buffer_end c.args.kind) s _ _ _ (search rules)
           (ap (λ (x : Line). let v : Value = record (value_of s) { line = x; held = held_on s.recorded.changes x.text } in v) c.move_buffer_end.ensures.line)
-          refl (record { ruler = refl; prompt = refl; history_is = refl; hooks_are = refl; marks_are = refl }) refl c.move_cursor.ensures.does;
+          refl (record { ruler = refl; prompt = refl; history_is = refl; hooks_are = refl; marks_are = refl; config_is = refl }) refl c.move_cursor.ensures.does;
       fault = c.move_cursor.ensures.fault;
     }

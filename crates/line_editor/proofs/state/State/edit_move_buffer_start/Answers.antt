@@ -18,5 +18,5 @@ returns-then-move_buffer_start g c =
     record {
       does = moved_on MoveCursor (not (l.place == (0))) there move_buffer_start s _ _ _ (search rules)
           (ap (λ (x : Line). let v : Value = record (value_of s) { line = x; held = held_on s.recorded.changes x.text } in v) c.move_buffer_start.ensures.line)
-          refl (record { ruler = refl; prompt = refl; history_is = refl; hooks_are = refl; marks_are = refl }) refl c.move_cursor.ensures.does;
+          refl (record { ruler = refl; prompt = refl; history_is = refl; hooks_are = refl; marks_are = refl; config_is = refl }) refl c.move_cursor.ensures.does;
     }

@@ -21,5 +21,5 @@ returns-then-move_to g c =
       does = moved_on MoveCursor (is_some found) there (move_to c.args.search c.args.n) s _ _ _ (search rules)
           (ap (λ (x : Line). let v : Value = record (value_of s) { line = x; held = held_on s.recorded.changes x.text } in v) c.move_to.ensures.line
           ∙ ap (λ (t : List ℕ). let v : Value = record (value_of s) { line = there; held = held_on s.recorded.changes t } in v) (same_text found l))
-          refl (record { ruler = refl; prompt = refl; history_is = refl; hooks_are = refl; marks_are = refl }) refl c.move_cursor.ensures.does;
+          refl (record { ruler = refl; prompt = refl; history_is = refl; hooks_are = refl; marks_are = refl; config_is = refl }) refl c.move_cursor.ensures.does;
     }

@@ -12,14 +12,14 @@ pub returns-in_err-written : goal.returns-in_err-written
 returns-in_err-written g c =
     let s = c.args.self.now in
     record {
-      does = edit_refused (overwrite_char c.args.ch) (refreshed_if (is_some (place_forward 1 s.recorded.line))) (overwriting c.args.ch) (value_of s) s _ _ _ _ c.from_residual.ensures.1 refl refl c.in_err-written.ensures refl refl (record { ruler = refl; prompt = refl; history_is = refl; hooks_are = refl; marks_are = refl });
+      does = edit_refused (overwrite_char c.args.ch) (refreshed_if (is_some (place_forward 1 s.recorded.line))) (overwriting c.args.ch) (value_of s) s _ _ _ _ c.from_residual.ensures.1 refl refl c.in_err-written.ensures refl refl (record { ruler = refl; prompt = refl; history_is = refl; hooks_are = refl; marks_are = refl; config_is = refl });
     }
 
 pub returns-then-written : goal.returns-then-written
 returns-then-written g c =
     let s = c.args.self.now in
     record {
-      does = edit_then (overwrite_char c.args.ch) (refreshed_if (is_some (place_forward 1 s.recorded.line))) (overwriting c.args.ch) (value_of s) s _ _ _ _ _ _ refl refl c.in_ok-written.ensures refl refl (record { ruler = refl; prompt = refl; history_is = refl; hooks_are = refl; marks_are = refl })
+      does = edit_then (overwrite_char c.args.ch) (refreshed_if (is_some (place_forward 1 s.recorded.line))) (overwriting c.args.ch) (value_of s) s _ _ _ _ _ _ refl refl c.in_ok-written.ensures refl refl (record { ruler = refl; prompt = refl; history_is = refl; hooks_are = refl; marks_are = refl; config_is = refl })
           (drawn_if (is_some (place_forward 1 s.recorded.line)) _ _ _ (overwrites_if c.args.ch s.recorded.line _ c.in_ok-written.ensures.writes.answers ∙ c.if-written.true) c.refresh.ensures.does);
     }
 
@@ -27,6 +27,6 @@ pub returns-else-written : goal.returns-else-written
 returns-else-written g c =
     let s = c.args.self.now in
     record {
-      does = edit_then (overwrite_char c.args.ch) (refreshed_if (is_some (place_forward 1 s.recorded.line))) (overwriting c.args.ch) (value_of s) s _ _ _ _ _ _ refl refl c.in_ok-written.ensures refl refl (record { ruler = refl; prompt = refl; history_is = refl; hooks_are = refl; marks_are = refl })
+      does = edit_then (overwrite_char c.args.ch) (refreshed_if (is_some (place_forward 1 s.recorded.line))) (overwriting c.args.ch) (value_of s) s _ _ _ _ _ _ refl refl c.in_ok-written.ensures refl refl (record { ruler = refl; prompt = refl; history_is = refl; hooks_are = refl; marks_are = refl; config_is = refl })
           (undrawn_if (is_some (place_forward 1 s.recorded.line)) _ _ (overwrites_if c.args.ch s.recorded.line _ c.in_ok-written.ensures.writes.answers ∙ c.if-written.false));
     }

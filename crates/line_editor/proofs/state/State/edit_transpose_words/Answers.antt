@@ -12,5 +12,5 @@ returns-in_err-done g c =
       does = edit_refused (transpose_words_effect c.args.n) (words_drawn c.args.n (value_of s))
           (transposing_words_in_group c.args.n) (value_of s) s _ _ _ _ c.from_residual.ensures.1
           refl refl c.in_err-done.ensures refl refl
-          (record { ruler = refl; prompt = refl; history_is = refl; hooks_are = refl; marks_are = refl });
+          (record { ruler = refl; prompt = refl; history_is = refl; hooks_are = refl; marks_are = refl; config_is = refl });
     }

@@ -12,14 +12,14 @@ pub returns-in_err-done : goal.returns-in_err-done
 returns-in_err-done g c =
     let s = c.args.self.now in
     record {
-      does = edit_refused (edit_word_effect c.args.action) (refreshed_if (is_some (word_to_edit s.recorded.line))) (editing_word_in_group c.args.action) (value_of s) s _ _ _ _ c.from_residual.ensures.1 refl refl c.in_err-done.ensures refl refl (record { ruler = refl; prompt = refl; history_is = refl; hooks_are = refl; marks_are = refl });
+      does = edit_refused (edit_word_effect c.args.action) (refreshed_if (is_some (word_to_edit s.recorded.line))) (editing_word_in_group c.args.action) (value_of s) s _ _ _ _ c.from_residual.ensures.1 refl refl c.in_err-done.ensures refl refl (record { ruler = refl; prompt = refl; history_is = refl; hooks_are = refl; marks_are = refl; config_is = refl });
     }
 
 pub returns-then-done : goal.returns-then-done
 returns-then-done g c =
     let s = c.args.self.now in
     record {
-      does = edit_then (edit_word_effect c.args.action) (refreshed_if (is_some (word_to_edit s.recorded.line))) (editing_word_in_group c.args.action) (value_of s) s _ _ _ _ _ _ refl refl c.in_ok-done.ensures refl refl (record { ruler = refl; prompt = refl; history_is = refl; hooks_are = refl; marks_are = refl })
+      does = edit_then (edit_word_effect c.args.action) (refreshed_if (is_some (word_to_edit s.recorded.line))) (editing_word_in_group c.args.action) (value_of s) s _ _ _ _ _ _ refl refl c.in_ok-done.ensures refl refl (record { ruler = refl; prompt = refl; history_is = refl; hooks_are = refl; marks_are = refl; config_is = refl })
           (drawn_if (is_some (word_to_edit s.recorded.line)) _ _ _ (sym c.in_ok-done.ensures.writes.answers ∙ c.if-done.true) c.refresh.ensures.does);
     }
 
@@ -27,6 +27,6 @@ pub returns-else-done : goal.returns-else-done
 returns-else-done g c =
     let s = c.args.self.now in
     record {
-      does = edit_then (edit_word_effect c.args.action) (refreshed_if (is_some (word_to_edit s.recorded.line))) (editing_word_in_group c.args.action) (value_of s) s _ _ _ _ _ _ refl refl c.in_ok-done.ensures refl refl (record { ruler = refl; prompt = refl; history_is = refl; hooks_are = refl; marks_are = refl })
+      does = edit_then (edit_word_effect c.args.action) (refreshed_if (is_some (word_to_edit s.recorded.line))) (editing_word_in_group c.args.action) (value_of s) s _ _ _ _ _ _ refl refl c.in_ok-done.ensures refl refl (record { ruler = refl; prompt = refl; history_is = refl; hooks_are = refl; marks_are = refl; config_is = refl })
           (undrawn_if (is_some (word_to_edit s.recorded.line)) _ _ (sym c.in_ok-done.ensures.writes.answers ∙ c.if-done.false));
     }

@@ -12,7 +12,7 @@ returns-in_err-put g c =
           c.args.text.now c.args.anchor c.args.n s _ _ _ _ c.from_residual.ensures.1
           (at_anchor c.args.anchor s _ c.step_on-stepped.ensures.line c.step_on-stepped.ensures.text)
           c.in_err-put.ensures.writes c.in_err-put.ensures.refused refl refl
-          (record { ruler = refl; prompt = refl; history_is = refl; hooks_are = refl; marks_are = refl });
+          (record { ruler = refl; prompt = refl; history_is = refl; hooks_are = refl; marks_are = refl; config_is = refl });
     }
 
 pub returns-then-is_some : goal.returns-then-is_some
@@ -25,7 +25,7 @@ returns-then-is_some g c =
           (at_anchor c.args.anchor s _ c.step_on-stepped.ensures.line c.step_on-stepped.ensures.text)
           c.in_ok-put.ensures.writes (sym c.is_some.ensures ∙ c.if-is_some.true) refl refl
           c.is_vi_cmd_mode.ensures c.step_back.ensures.line c.step_back.ensures.text refl
-          (record { ruler = refl; prompt = refl; history_is = refl; hooks_are = refl; marks_are = refl })
+          (record { ruler = refl; prompt = refl; history_is = refl; hooks_are = refl; marks_are = refl; config_is = refl })
           c.refresh.ensures.does;
     }
 
@@ -38,7 +38,7 @@ returns-then-stepped g c =
           (at_anchor c.args.anchor s _ c.step_on-stepped.ensures.line c.step_on-stepped.ensures.text)
           c.in_ok-put.ensures.writes (sym c.is_some.ensures ∙ c.if-is_some.false)
           (sym c.step_on-stepped.ensures.stepped ∙ c.if-stepped.true) refl refl refl refl refl
-          (record { ruler = refl; prompt = refl; history_is = refl; hooks_are = refl; marks_are = refl })
+          (record { ruler = refl; prompt = refl; history_is = refl; hooks_are = refl; marks_are = refl; config_is = refl })
           c.refresh-then-stepped.ensures.does;
     }
 
@@ -52,5 +52,5 @@ returns-else-stepped g c =
           (at_anchor c.args.anchor s _ c.step_on-stepped.ensures.line c.step_on-stepped.ensures.text)
           c.in_ok-put.ensures.writes (sym c.is_some.ensures ∙ c.if-is_some.false)
           (sym c.step_on-stepped.ensures.stepped ∙ c.if-stepped.false) refl refl refl
-          (record { ruler = refl; prompt = refl; history_is = refl; hooks_are = refl; marks_are = refl });
+          (record { ruler = refl; prompt = refl; history_is = refl; hooks_are = refl; marks_are = refl; config_is = refl });
     }

@@ -16,7 +16,7 @@ returns-in_err-yank_pop g c =
           (text_popped c.args.yank_size c.args.text.now (setting_of s) (value_of s)
           (sym c.can_take_before.ensures.value ∙ c.if-not-can_take_before.false)) refl
           c.in_err-yank_pop.ensures refl refl
-          (record { ruler = refl; prompt = refl; history_is = refl; hooks_are = refl; marks_are = refl });
+          (record { ruler = refl; prompt = refl; history_is = refl; hooks_are = refl; marks_are = refl; config_is = refl });
     }
 
 pub returns : goal.returns
@@ -29,6 +29,6 @@ returns g c =
           (text_popped c.args.yank_size c.args.text.now (setting_of s) (value_of s)
           (sym c.can_take_before.ensures.value ∙ c.if-not-can_take_before.false)) refl
           c.in_ok-yank_pop.ensures refl refl
-          (record { ruler = refl; prompt = refl; history_is = refl; hooks_are = refl; marks_are = refl })
+          (record { ruler = refl; prompt = refl; history_is = refl; hooks_are = refl; marks_are = refl; config_is = refl })
           c.refresh.ensures.does;
     }

@@ -1,3 +1,5 @@
+use Rattle.std.proofs.Common.{true, false}
+use Rattle.line_editor.proofs.DoesLemmas.{indent_does}
 use Rattle.line_editor.proofs.state.State.obey.Goals as goal
 
 pub returns-in-SelfInsert-clause-does : goal.returns-in-SelfInsert-clause-does
@@ -73,10 +75,10 @@ pub returns-in-Undo-clause-does : goal.returns-in-Undo-clause-does
 returns-in-Undo-clause-does g c = rw c.in-Undo.is c.edit_undo.ensures.does
 
 pub returns-in-Indent-clause-does : goal.returns-in-Indent-clause-does
-returns-in-Indent-clause-does g c = rw c.in-Indent.is c.edit_indent.ensures.does
+returns-in-Indent-clause-does g c = rw c.in-Indent.is (indent_does c.in-Indent.movement false c.indent_size.result c.args.self.now c.edit_indent.new.self c.edit_indent.result c.indent_size.ensures c.edit_indent.ensures.does)
 
 pub returns-in-Dedent-clause-does : goal.returns-in-Dedent-clause-does
-returns-in-Dedent-clause-does g c = rw c.in-Dedent.is c.edit_indent-in-Dedent.ensures.does
+returns-in-Dedent-clause-does g c = rw c.in-Dedent.is (indent_does c.in-Dedent.movement true c.indent_size-in-Dedent.result c.args.self.now c.edit_indent-in-Dedent.new.self c.edit_indent-in-Dedent.result c.indent_size-in-Dedent.ensures c.edit_indent-in-Dedent.ensures.does)
 
 pub returns-in-Complete-clause-does : goal.returns-in-Complete-clause-does
 returns-in-Complete-clause-does g c = rw c.in-Complete.is c.complete.ensures.does

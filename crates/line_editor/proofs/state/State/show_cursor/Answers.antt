@@ -11,7 +11,7 @@ returns-then-eq g c =
     cursor_rests (λ a v. Moved v.line.text v.line.place) c.position_at-cursor.result s _ _
     (ap (moved s.layout) (c.position_at-cursor.ensures ∙ ap (λ place. (g.Out.Renderer.canvas.ruler s.out).measure (take place s.recorded.line.text) s.layout.prompt_size) c.pos-pos.ensures.value))
     (sym c.eq.ensures ∙ c.if-eq.true) refl refl
-    (record { ruler = refl; prompt = refl; history_is = refl; hooks_are = refl; marks_are = refl })
+    (record { ruler = refl; prompt = refl; history_is = refl; hooks_are = refl; marks_are = refl; config_is = refl })
 
 pub returns-in_err-move_cursor : goal.returns-in_err-move_cursor
 returns-in_err-move_cursor g c =
@@ -21,7 +21,7 @@ returns-in_err-move_cursor g c =
     (ap (moved s.layout) (c.position_at-cursor.ensures ∙ ap (λ place. (g.Out.Renderer.canvas.ruler s.out).measure (take place s.recorded.line.text) s.layout.prompt_size) c.pos-pos.ensures.value))
     (sym c.eq.ensures ∙ c.if-eq.false) refl c.in_err-move_cursor.ensures.refused
     c.in_err-move_cursor.ensures.failed refl
-    (record { ruler = c.in_err-move_cursor.ensures.ruler; prompt = refl; history_is = refl; hooks_are = refl; marks_are = refl })
+    (record { ruler = c.in_err-move_cursor.ensures.ruler; prompt = refl; history_is = refl; hooks_are = refl; marks_are = refl; config_is = refl })
 
 pub returns : goal.returns
 returns g c =
@@ -29,4 +29,4 @@ returns g c =
     cursor_goes (λ a v. Moved v.line.text v.line.place) c.position_at-cursor.result s _ _
     (ap (moved s.layout) (c.position_at-cursor.ensures ∙ ap (λ place. (g.Out.Renderer.canvas.ruler s.out).measure (take place s.recorded.line.text) s.layout.prompt_size) c.pos-pos.ensures.value))
     (sym c.eq.ensures ∙ c.if-eq.false) refl c.in_ok-move_cursor.ensures.made refl
-    (record { ruler = c.in_ok-move_cursor.ensures.ruler; prompt = refl; history_is = refl; hooks_are = refl; marks_are = refl })
+    (record { ruler = c.in_ok-move_cursor.ensures.ruler; prompt = refl; history_is = refl; hooks_are = refl; marks_are = refl; config_is = refl })

@@ -5,16 +5,16 @@ use Rattle.line_editor.proofs.state.State.turn.Goals as goal
 
 pub returns-in_err-cmd-clause-turn : goal.returns-in_err-cmd-clause-turn
 returns-in_err-cmd-clause-turn g c =
-    turn_refused (custom_in c.args.input_state.now g.D.Decides.decides) c.args.config.now.indent_size _ _ _ _ _ _ _ _ _ _ c.from_residual.ensures.1 c.in_err-cmd.ensures.phrase
+    turn_refused (custom_in c.args.input_state.now g.D.Decides.decides) _ _ _ _ _ _ _ _ _ _ c.from_residual.ensures.1 c.in_err-cmd.ensures.phrase
 
 pub returns-in_err-meet-clause-turn : goal.returns-in_err-meet-clause-turn
 returns-in_err-meet-clause-turn g c =
-    turn_unmade (custom_in c.args.input_state.now g.D.Decides.decides) c.args.config.now.indent_size _ _ _ _ _ _ _ _ _ _ _ _ _ c.from_residual-in_err-meet.ensures.1
+    turn_unmade (custom_in c.args.input_state.now g.D.Decides.decides) _ _ _ _ _ _ _ _ _ _ _ _ _ c.from_residual-in_err-meet.ensures.1
     c.in_ok-cmd.ensures.phrase c.in_err-meet.ensures
 
 pub returns-clause-turn : goal.returns-clause-turn
 returns-clause-turn g c =
-    turn_commanded (custom_in c.args.input_state.now g.D.Decides.decides) c.args.config.now.indent_size _ _ _ _ _ _ _ _ _ _ _ _ _ _ _ _
+    turn_commanded (custom_in c.args.input_state.now g.D.Decides.decides) _ _ _ _ _ _ _ _ _ _ _ _ _ _ _ _
     c.in_ok-cmd.ensures.phrase c.in_ok-cmd.ensures.falls c.in_ok-meet.ensures c.reset_for.ensures c.execute.ensures
 
 pub returns-in_err-cmd-clause-asks : goal.returns-in_err-cmd-clause-asks

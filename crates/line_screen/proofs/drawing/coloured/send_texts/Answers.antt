@@ -47,30 +47,6 @@ returns-in_err-line_end g c =
     (sends_cut held failed _ second (third ++ no_style) c.from_residual-in_err-line_end.ensures.1 c.in_err-line_end.ensures.sends.err
     (subst SomeLine c.in_ok-prompt_end.ensures.next c.in_err-line_end.ensures.sends.begins)))
 
-pub returns-in_err-send_part : goal.returns-in_err-send_part
-returns-in_err-send_part g c =
-    let held = g.D.Sink.held in
-    let failed = g.D.Sink.has_failed in
-    let columns = c.args.grid.columns in
-    let wide = widths_by c.args.grid.mode c.args.grid.tab columns in
-    let prompt = painted_text wide (styles_in g.H.Highlighter.marks c.args.painting.now).prompt c.args.painting.now.prompt.text.now in
-    let line = painted_text wide (styles_in g.H.Highlighter.marks c.args.painting.now).line c.args.painting.now.line.text.now in
-    let info = painted_text wide (styles_in g.H.Highlighter.marks c.args.painting.now).info c.args.painting.now.info.text.now in
-    let line_at = end_of columns prompt 0 in
-    let first = no_style ++ painted columns prompt 0 in
-    let second = no_style ++ painted columns line line_at in
-    let third = no_style ++ painted columns info (end_of columns line line_at) in
-    let Shows : List ℕ → Type 0 = λ bytes. Sends held failed bytes c.args.sink.now c.send_part-3.new.sink c.from_residual-in_err-send_part.result in
-    let parts = shown_parts (painted columns prompt 0) (painted columns line line_at) (painted columns info (end_of columns line line_at)) in
-    let Line : ℕ → Type 0 = λ at. Takes held c.send_part.new.sink c.send_part-2.new.sink (no_style ++ painted columns line at) in
-    let SomeInfo : ℕ → Type 0 = λ at. TakesSome held c.send_part-2.new.sink c.send_part-3.new.sink (no_style ++ painted columns info at) in
-    let line_is = c.in_ok-prompt_end.ensures.next in
-    subst Shows parts
-    (sends_then held failed first (second ++ (third ++ no_style)) c.in_ok-prompt_end.ensures.sends.sent c.in_ok-prompt_end.ensures.sends.works
-    (sends_then held failed second (third ++ no_style) (subst Line {y = line_at} line_is c.in_ok-line_end.ensures.sends.sent) c.in_ok-line_end.ensures.sends.works
-    (sends_cut held failed _ third no_style c.from_residual-in_err-send_part.ensures.1 c.in_err-send_part.ensures.sends.err
-    (subst SomeInfo {y = end_of columns line line_at} (c.in_ok-line_end.ensures.next ∙ ap (end_of columns line) line_is) c.in_err-send_part.ensures.sends.begins))))
-
 pub returns : goal.returns
 returns g c =
     let held = g.D.Sink.held in
@@ -84,13 +60,12 @@ returns g c =
     let first = no_style ++ painted columns prompt 0 in
     let second = no_style ++ painted columns line line_at in
     let third = no_style ++ painted columns info (end_of columns line line_at) in
-    let Shows : List ℕ → Type 0 = λ bytes. Sends held failed bytes c.args.sink.now c.send.new.sink c.send.result in
+    let Shows : List ℕ → Type 0 = λ bytes. Sends held failed bytes c.args.sink.now c.send_end.new.sink c.send_end.result in
     let parts = shown_parts (painted columns prompt 0) (painted columns line line_at) (painted columns info (end_of columns line line_at)) in
     let Line : ℕ → Type 0 = λ at. Takes held c.send_part.new.sink c.send_part-2.new.sink (no_style ++ painted columns line at) in
-    let Info : ℕ → Type 0 = λ at. Takes held c.send_part-2.new.sink c.send_part-3.new.sink (no_style ++ painted columns info at) in
+    let End : ℕ → Type 0 = λ at. Sends held failed ((no_style ++ painted columns info at) ++ no_style) c.send_part-2.new.sink c.send_end.new.sink c.send_end.result in
     let line_is = c.in_ok-prompt_end.ensures.next in
     subst Shows parts
     (sends_then held failed first (second ++ (third ++ no_style)) c.in_ok-prompt_end.ensures.sends.sent c.in_ok-prompt_end.ensures.sends.works
     (sends_then held failed second (third ++ no_style) (subst Line {y = line_at} line_is c.in_ok-line_end.ensures.sends.sent) c.in_ok-line_end.ensures.sends.works
-    (sends_then held failed third no_style
-    (subst Info (c.in_ok-line_end.ensures.next ∙ ap (end_of columns line) line_is) c.in_ok-send_part.ensures.sends.sent) c.in_ok-send_part.ensures.sends.works c.send.ensures)))
+    (subst End (c.in_ok-line_end.ensures.next ∙ ap (end_of columns line) line_is) c.send_end.ensures)))

@@ -1,58 +1,24 @@
--- A text row by row.
-use Rattle.std.proofs.Common.{List, ◌≤◌, ◌++◌, ◌∷◌, [], false, true, map, length, lit<, arith, sym, subst, refl}
-use Rattle.std.proofs.lemmas.List.{length_push, drop_all}
-use Rattle.std.proofs.lemmas.Iterator.Consumers.{YieldsList-turn, YieldsList-end}
-use Rattle.std.proofs.lemmas.Iterator.Splits.{YieldsList-from_str_split}
-use Rattle.line_screen.specs.Colours.{Span, painted_text, next_painted, spans_in, brush_paints, brush_spans, span_of, spans_behind}
-use Rattle.line_screen.specs.Drawing.{split_rows}
+-- Letters, a text without spans, or row by row.
+use Rattle.std.proofs.Common.{List, subst}
+use Rattle.line_screen.specs.Colours.{PaintedItem, SendsPainted, all_spans, brush_paints}
+use Rattle.line_screen.specs.Drawing.{text_items}
 use Rattle.line_screen.specs.Measure.{widths_by}
-use Rattle.line_screen.proofs.PaintRuns.{PaintSoFar, paint_start, paint_steps, paint_done, paint_cut}
-use Rattle.line_screen.proofs.PaintCode.{painted_from, rows_take, rows_end}
+use Rattle.line_screen.proofs.PaintRuns.{sends_items}
+use Rattle.line_screen.proofs.PaintCode.{letters_sent, no_spans, bare_text}
 use Rattle.line_screen.proofs.drawing.painted.send_painted.Goals as goal
 
-pub loop-row-init : goal.loop-row-init
-loop-row-init g c =
+pub returns-then-is_printable_text : goal.returns-then-is_printable_text
+returns-then-is_printable_text g c =
     let wide = widths_by c.args.grid.mode c.args.grid.tab c.args.grid.columns in
-    let all = painted_text wide (brush_spans g.H.Highlighter.marks c.args.brush.now) c.args.brush.now.text.now in
-    let Start : List Span → Type 0 = λ ss. PaintSoFar g.D.Sink.held g.D.Sink.has_failed c.args.grid.columns c.args.start all (painted_from wide c.args.brush.now.text.now true ss 0) c.args.sink.now c.args.sink.now c.args.start in
-    subst Start (sym c.new-left.ensures) (paint_start g.D.Sink.held g.D.Sink.has_failed c.args.grid.columns c.args.start all c.args.sink.now c.requires.inside)
+    let All : List PaintedItem → Type 0 = λ items. SendsPainted items c.args.start c.args.grid.columns g.D.Sink.held g.D.Sink.has_failed c.args.sink.now c.send_spans.new.sink c.send_spans.result in
+    subst All (letters_sent wide (brush_paints g.H.Highlighter.marks c.args.brush.now) c.all.result c.as_bytes.result.now c.args.brush.now.text.now c.all.ensures.first c.all.ensures.mark c.as_bytes.ensures.value c.if-is_printable_text.ensures)
+    c.send_spans.ensures
 
-pub loop-row-preserved : goal.loop-row-preserved
-loop-row-preserved g c =
+pub returns-in-None : goal.returns-in-None
+returns-in-None g c =
     let wide = widths_by c.args.grid.mode c.args.grid.tab c.args.grid.columns in
     let text = c.args.brush.now.text.now in
-    let turn = YieldsList-turn (YieldsList-from_str_split 10 text (lit< tt) (cc) (cc) (cc)) c.loop-row.yielded _ c.loop-row.yielded_by _ _ c.in-Some.row c.in-Some.is c.next.ensures.steps in
-    paint_steps g.D.Sink.held g.D.Sink.has_failed c.args.grid.columns c.args.start
-    (painted_text wide (brush_spans g.H.Highlighter.marks c.args.brush.now) text) (next_painted wide c.loop-row.is_first (spans_in (brush_paints g.H.Highlighter.marks c.args.brush.now) c.loop-row.left) c.in-Some.row.now)
-    (painted_from wide text false (spans_in (brush_paints g.H.Highlighter.marks c.args.brush.now) c.behind_row-left.result) (length (c.loop-row.yielded ++ c.in-Some.row ∷ [])))
-    (painted_from wide text c.loop-row.is_first (spans_in (brush_paints g.H.Highlighter.marks c.args.brush.now) c.loop-row.left) (length c.loop-row.yielded))
-    c.args.sink.now c.loop-row.sink c.send_next_painted.new.sink c.loop-row.col c.in_ok-col.col
-    c.loop-row.invariant
-    (rows_take wide text c.loop-row.is_first (spans_in (brush_paints g.H.Highlighter.marks c.args.brush.now) c.loop-row.left) (spans_in (brush_paints g.H.Highlighter.marks c.args.brush.now) c.behind_row-left.result) (length c.loop-row.yielded) _ c.in-Some.row.now turn.0 turn.1 (length_push c.loop-row.yielded c.in-Some.row) c.behind_row-left.ensures)
-    c.in_ok-col.ensures.sends.sent c.in_ok-col.ensures.sends.works c.in_ok-col.ensures.next c.in_ok-col.ensures.inside
-
-pub returns-in_err-col : goal.returns-in_err-col
-returns-in_err-col g c =
-    let wide = widths_by c.args.grid.mode c.args.grid.tab c.args.grid.columns in
-    let text = c.args.brush.now.text.now in
-    let spans = spans_in (brush_paints g.H.Highlighter.marks c.args.brush.now) c.loop-row.left in
-    let row = c.in-Some.row.now in
-    let turn = YieldsList-turn (YieldsList-from_str_split 10 text (lit< tt) (cc) (cc) (cc)) c.loop-row.yielded _ c.loop-row.yielded_by _ _ c.in-Some.row c.in-Some.is c.next.ensures.steps in
-    paint_cut g.D.Sink.held g.D.Sink.has_failed c.args.grid.columns c.args.start _
-    (painted_text wide (brush_spans g.H.Highlighter.marks c.args.brush.now) text) (next_painted wide c.loop-row.is_first spans row)
-    (painted_from wide text false (spans_behind c.loop-row.is_first spans row) (length (c.loop-row.yielded ++ c.in-Some.row ∷ [])))
-    (painted_from wide text c.loop-row.is_first spans (length c.loop-row.yielded))
-    c.args.sink.now c.loop-row.sink c.send_next_painted.new.sink c.loop-row.col c.from_residual.result
-    c.loop-row.invariant
-    (rows_take wide text c.loop-row.is_first spans (spans_behind c.loop-row.is_first spans row) (length c.loop-row.yielded) _ row turn.0 turn.1 (length_push c.loop-row.yielded c.in-Some.row) refl)
-    c.from_residual.ensures.1 c.in_err-col.ensures.sends.err c.in_err-col.ensures.sends.begins
-
-pub returns : goal.returns
-returns g c =
-    let wide = widths_by c.args.grid.mode c.args.grid.tab c.args.grid.columns in
-    let text = c.args.brush.now.text.now in
-    let last = YieldsList-end (YieldsList-from_str_split 10 text (lit< tt) (cc) (cc) (cc)) c.loop-row.yielded _ c.loop-row.yielded_by _ _ c.in-None.is c.next.ensures.steps in
-    let all : length (split_rows text) ≤ length c.loop-row.yielded = omega (arith, last.1) in
-    paint_done g.D.Sink.held g.D.Sink.has_failed c.args.grid.columns c.args.start
-    (painted_text wide (brush_spans g.H.Highlighter.marks c.args.brush.now) text) (painted_from wide text c.loop-row.is_first (spans_in (brush_paints g.H.Highlighter.marks c.args.brush.now) c.loop-row.left) (length c.loop-row.yielded)) c.args.sink.now c.loop-row.sink c.loop-row.col c.loop-row.invariant
-    (rows_end wide text c.loop-row.is_first (spans_in (brush_paints g.H.Highlighter.marks c.args.brush.now) c.loop-row.left) (length c.loop-row.yielded) (drop_all (length c.loop-row.yielded) (split_rows text) all))
+    let paints = brush_paints g.H.Highlighter.marks c.args.brush.now in
+    let All : List PaintedItem → Type 0 = λ items. SendsPainted items c.args.start c.args.grid.columns g.D.Sink.held g.D.Sink.has_failed c.args.sink.now c.send_text.new.sink c.send_text.result in
+    subst All (bare_text wide (all_spans paints) text (no_spans paints c.first.result c.first.ensures c.in-None.ensures))
+    (sends_items g.D.Sink.held g.D.Sink.has_failed c.args.grid.columns (text_items wide text) c.args.start c.send_text.ensures)

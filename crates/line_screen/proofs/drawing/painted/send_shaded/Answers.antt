@@ -1,5 +1,5 @@
 -- A style, its letters, and its end.
-use Rattle.std.proofs.Common.{List, [], ◌++◌, map, subst, ◌∙◌}
+use Rattle.std.proofs.Common.{List, ◌++◌, map, subst, ◌∙◌}
 use Rattle.line_screen.proofs.StyleLemmas.{plain_none}
 use Rattle.line_screen.specs.Styles.{numbers}
 use Rattle.line_screen.specs.Drawing.{no_style}
@@ -27,34 +27,6 @@ returns-in_err-send_style g c =
     (sends_to_cut held failed _ (end_of columns xs c.args.col) columns (style_bytes style) (painted columns xs c.args.col ++ no_style)
     c.from_residual.ensures.1 c.in_err-send_style.ensures.err c.in_err-send_style.ensures.begins)
 
-pub returns-in_err-end : goal.returns-in_err-end
-returns-in_err-end g c =
-    let held = g.D.Sink.held in
-    let failed = g.D.Sink.has_failed in
-    let columns = c.args.grid.columns in
-    let style = (numbers c.args.style) in
-    let letters = c.args.letters.now in
-    let xs = map (Shaded style) letters in
-    let last = end_of columns xs c.args.col in
-    sends_framed held failed columns style letters c.args.col (c.if-is_plain.ensures ∙ plain_none c.args.style) c.if-is_empty.ensures
-    (sends_to_then held failed last columns (style_bytes style) (painted columns xs c.args.col ++ no_style) c.in_ok-send_style.ensures.sent c.in_ok-send_style.ensures.works
-    (sends_to_cut held failed _ last columns (painted columns xs c.args.col) no_style
-    c.from_residual-in_err-end.ensures.1 c.in_err-end.ensures.sends.err c.in_err-end.ensures.sends.begins))
-
-pub returns-in_err-send : goal.returns-in_err-send
-returns-in_err-send g c =
-    let held = g.D.Sink.held in
-    let failed = g.D.Sink.has_failed in
-    let columns = c.args.grid.columns in
-    let style = (numbers c.args.style) in
-    let letters = c.args.letters.now in
-    let xs = map (Shaded style) letters in
-    let last = end_of columns xs c.args.col in
-    sends_framed held failed columns style letters c.args.col (c.if-is_plain.ensures ∙ plain_none c.args.style) c.if-is_empty.ensures
-    (sends_to_then held failed last columns (style_bytes style) (painted columns xs c.args.col ++ no_style) c.in_ok-send_style.ensures.sent c.in_ok-send_style.ensures.works
-    (sends_to_then held failed last columns (painted columns xs c.args.col) no_style c.in_ok-end.ensures.sends.sent c.in_ok-end.ensures.sends.works
-    (sends_to_cut held failed _ last columns no_style [] c.from_residual-in_err-send.ensures.1 c.in_err-send.ensures.err c.in_err-send.ensures.begins)))
-
 pub returns : goal.returns
 returns g c =
     let held = g.D.Sink.held in
@@ -63,12 +35,6 @@ returns g c =
     let style = (numbers c.args.style) in
     let letters = c.args.letters.now in
     let xs = map (Shaded style) letters in
-    let last = end_of columns xs c.args.col in
     sends_framed held failed columns style letters c.args.col (c.if-is_plain.ensures ∙ plain_none c.args.style) c.if-is_empty.ensures
-    (sends_to_then held failed last columns (style_bytes style) (painted columns xs c.args.col ++ no_style) c.in_ok-send_style.ensures.sent c.in_ok-send_style.ensures.works
-    (sends_to_then held failed last columns (painted columns xs c.args.col) no_style c.in_ok-end.ensures.sends.sent c.in_ok-end.ensures.sends.works
-    (record {
-      sends = record { sent = c.in_ok-send.ensures.sent; works = c.in_ok-send.ensures.works; err = tt; begins = tt };
-      next = c.in_ok-end.ensures.next;
-      inside = c.in_ok-end.ensures.inside;
-    })))
+    (sends_to_then held failed (end_of columns xs c.args.col) columns (style_bytes style) (painted columns xs c.args.col ++ no_style)
+    c.in_ok-send_style.ensures.sent c.in_ok-send_style.ensures.works c.send_shades_end.ensures)

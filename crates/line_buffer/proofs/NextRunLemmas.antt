@@ -1,0 +1,173 @@
+-- The first clusters of a text that are of one kind: a run of letters of ASCII, or the first cluster alone.
+use Rattle.std.proofs.Common.{◌≡◌, ℕ, suc, ◌+◌, ◌-◌, ◌<◌, ◌≤◌, Bool, true, ◌&&◌, List, [], ◌∷◌, ◌++◌, length, take, drop, None, Some, refl, sym, ap, ap₂, ◌∙◌, subst, arith}
+use Rattle.std.specs.Prelude.{IsUtf8, IsCharBoundary, encode_utf8, option_to_list, slice_range}
+use Rattle.std.specs.Char.{is_ascii_alphanumeric}
+use Rattle.std.specs.List.{last_or, list_all, concat}
+use Rattle.std.proofs.lemmas.Bool.{and_from, and_parts}
+use Rattle.std.proofs.lemmas.Bool.Decides.{nat_tests}
+use Rattle.std.proofs.lemmas.List.{take-append-drop, length-take-le, drop-drop}
+use Rattle.std.proofs.lemmas.List.Folds.{list_all-append}
+use Rattle.std.proofs.lemmas.Str.{encode_ascii, IsUtf8-past_char, IsCharBoundary-from_rest}
+use Rattle.unicode_segmentation.specs.Grapheme.{is_grapheme_break, graphemes}
+use Rattle.unicode_segmentation.specs.Segments.{with_offsets}
+use Rattle.unicode_segmentation.proofs.SegmentsLemmas.{AllPieces, segments_nonempty, concat-segments, nil_from-with_offsets}
+use Rattle.unicode_segmentation.proofs.TextLemmas.{take_split}
+use Rattle.line_buffer.specs.Clusters.{clusters}
+use Rattle.line_buffer.specs.Printable.{is_printable}
+use Rattle.line_buffer.specs.Words.{BeginsInRun, clusters_at, kind_of, kinds, edges_of, edge_between}
+use Rattle.line_buffer.specs.declared.types.At.{At}
+use Rattle.line_buffer.specs.declared.types.At.TheVariants.{Start, BeforeEnd, AfterEnd}
+use Rattle.line_buffer.specs.declared.types.Word.{Word}
+use Rattle.line_buffer.specs.declared.words.ClusterKind.{ClusterKind}
+use Rattle.line_buffer.specs.declared.words.ClusterKind.TheVariants.{Blank, InWord, Other}
+use Rattle.line_buffer.proofs.LetterLemmas.{first_letter}
+use Rattle.line_buffer.proofs.RestLemmas.{graphemes_rest}
+use Rattle.line_buffer.proofs.StopLemmas.{clusters-empty}
+use Rattle.line_buffer.proofs.WordLemmas.{edges_of-cons}
+use Rattle.line_buffer.proofs.WordRunLemmas.{kind_of_letter, letter_ascii}
+
+-- ---- bytes that are all letters
+pub block_before : (p : ℕ → Bool) (xs : List ℕ) (i j : ℕ) → i ≤ j → list_all p (slice_range xs i j) ≡ true → list_all p (take i xs) ≡ true → list_all p (take j xs) ≡ true
+block_before p xs i j le h k = ap (list_all p) (take_split xs i j le) ∙ list_all-append p (take i xs) (slice_range xs i j) ∙ and_from _ _ k h
+
+-- ---- the first cluster alone
+no_edge : (at : At) (kind : ClusterKind) (i j : ℕ) → edge_between at (i, kind) (j, kind) ≡ None
+no_edge Start Blank i j = refl
+no_edge Start InWord i j = refl
+no_edge Start Other i j = refl
+no_edge BeforeEnd Blank i j = refl
+no_edge BeforeEnd InWord i j = refl
+no_edge BeforeEnd Other i j = refl
+no_edge AfterEnd Blank i j = refl
+no_edge AfterEnd InWord i j = refl
+no_edge AfterEnd Other i j = refl
+
+from_here : (n : ℕ) → n ≡ n + 0
+from_here n = omega arith
+
+begins_in_piece : (word : Word) (text p : List ℕ) (ps : List (List ℕ)) → IsUtf8 text → graphemes true text ≡ p ∷ ps → BeginsInRun word text 0 (length p) (kind_of word p)
+unfolding with_offsets
+begins_in_piece word text p ps u is = record {
+  boundary = rest.0;
+  some = (subst (AllPieces (λ q. 0 < length q)) is (segments_nonempty (is_grapheme_break true) text)).0;
+  first = λ at from. ap (edges_of at) (shape from) ∙ place at from;
+  splits = λ at from left. ap (λ xs. edges_of at (left ∷ xs)) (shape from) ∙ edges_of-cons at left (from, kind_of word p) (behind from) ∙ ap (λ zs. option_to_list (edge_between at left (from, kind_of word p)) ++ zs) (place at from);
+}
+  where
+    rest : IsCharBoundary text (length p) × (graphemes true (drop (length p) text) ≡ ps)
+    rest = graphemes_rest text p ps u is
+
+    behind : ℕ → List (ℕ × ClusterKind)
+    behind from = kinds word (clusters_at (from + length p) (drop (length p) text))
+
+    shape : (from : ℕ) → kinds word (clusters_at from text) ≡ (from, kind_of word p) ∷ behind from
+    shape from = ap (λ gs. kinds word (with_offsets from gs)) is ∙ ap (λ gs. (from, kind_of word p) ∷ kinds word (with_offsets (from + length p) gs)) (sym rest.1)
+
+    place : (at : At) (from : ℕ) → edges_of at ((from, kind_of word p) ∷ behind from) ≡ edges_of at ((from + 0, kind_of word p) ∷ behind from)
+    place at from = ap (λ n. edges_of at ((n, kind_of word p) ∷ behind from)) (from_here from)
+
+first_piece : (text p : List ℕ) (ps : List (List ℕ)) (x : ℕ × List ℕ) → graphemes true text ≡ p ∷ ps → Some x ≡ last_or None (take 1 (clusters text)) → x.1 ≡ p
+unfolding with_offsets
+first_piece text p ps x is found =
+    let e : Some x ≡ Some (0, p) = found ∙ ap (λ gs. last_or None (take 1 (with_offsets 0 gs))) is in
+    ap (λ y. y.1) (let q : x ≡ (0, p) = cc in q)
+
+no_first : (text : List ℕ) (x : ℕ × List ℕ) → graphemes true text ≡ [] → Some x ≡ last_or None (take 1 (clusters text)) → ⊥
+unfolding with_offsets
+no_first text x is found = let e : Some x ≡ None = found ∙ ap (λ gs. last_or None (take 1 (with_offsets 0 gs))) is in cc
+
+pub begins_in_cluster : (word : Word) (text : List ℕ) (x : ℕ × List ℕ) (kind : ClusterKind) → IsUtf8 text → Some x ≡ last_or None (take 1 (clusters text)) → kind ≡ kind_of word x.1 → BeginsInRun word text 0 (length x.1) kind
+begins_in_cluster word text x kind u found is = by (graphemes true text) refl
+  where
+    by : (gs : List (List ℕ)) → graphemes true text ≡ gs → BeginsInRun word text 0 (length x.1) kind
+    by [] e = absurd (no_first text x e found)
+    by (p ∷ ps) e =
+        let same = first_piece text p ps x e found in
+        subst (λ k. BeginsInRun word text 0 (length x.1) k) (sym is) (subst (λ q. BeginsInRun word text 0 (length q) (kind_of word q)) (sym same) (begins_in_piece word text p ps u e))
+
+pub no_first_cluster : (text : List ℕ) → IsUtf8 text → None ≡ last_or None (take 1 (clusters text)) → length text ≡ 0
+unfolding with_offsets
+no_first_cluster text u found = by (graphemes true text) refl
+  where
+    by : (gs : List (List ℕ)) → graphemes true text ≡ gs → length text ≡ 0
+    by [] e = ap length (sym (concat-segments (is_grapheme_break true) text u)) ∙ ap (λ ps. length (concat ps)) e
+    by (p ∷ ps) e = absurd (let some : None ≡ Some (0, p) = found ∙ ap (λ gs. last_or None (take 1 (with_offsets 0 gs))) e in cc)
+
+pub clusters_at-empty : (from : ℕ) (text : List ℕ) → length text ≡ 0 → clusters_at from text ≡ []
+unfolding with_offsets
+clusters_at-empty from text none = ap (with_offsets from) (nil_from-with_offsets 0 (graphemes true text) (clusters-empty text none))
+
+-- the clusters behind the first
+pub behind_first : (text : List ℕ) (x : ℕ × List ℕ) → IsUtf8 text → Some x ≡ last_or None (take 1 (clusters text)) → IsCharBoundary text (length x.1) × (drop 1 (clusters text) ≡ clusters_at (length x.1) (drop (length x.1) text))
+unfolding with_offsets
+behind_first text x u found = by (graphemes true text) refl
+  where
+    by : (gs : List (List ℕ)) → graphemes true text ≡ gs → IsCharBoundary text (length x.1) × (drop 1 (clusters text) ≡ clusters_at (length x.1) (drop (length x.1) text))
+    by [] e = absurd (no_first text x e found)
+    by (p ∷ ps) e =
+        let same = first_piece text p ps x e found in
+        let rest = graphemes_rest text p ps u e in
+        let long : 0 + length p ≡ length p = omega arith in
+        subst (λ q. IsCharBoundary text (length q) × (drop 1 (clusters text) ≡ clusters_at (length q) (drop (length q) text))) (sym same)
+        (rest.0, ap (λ gs. drop 1 (with_offsets 0 gs)) e ∙ ap₂ with_offsets long (sym rest.1))
+
+-- ---- one run after another of the same kind
+drop-drop_add : (i j : ℕ) (xs : List ℕ) → drop j (drop i xs) ≡ drop (i + j) xs
+drop-drop_add i j xs = drop-drop j i xs
+
+runs_join : (word : Word) (text : List ℕ) (last end later upto : ℕ) (kind : ClusterKind) → BeginsInRun word text last end kind → BeginsInRun word (drop end text) later upto kind → BeginsInRun word text (end + later) (end + upto) kind
+runs_join word text last end later upto kind one two = record {
+  boundary = IsCharBoundary-from_rest text end upto one.boundary.0 two.boundary;
+  some = omega (arith, two.some);
+  first = λ at from. one.first at from ∙ on at from;
+  splits = λ at from left. one.splits at from left ∙ ap (λ zs. option_to_list (edge_between at left (from, kind)) ++ zs) (on at from);
+}
+  where
+    on : (at : At) (from : ℕ) → edges_of at ((from + last, kind) ∷ kinds word (clusters_at (from + end) (drop end text)))
+        ≡ edges_of at ((from + (end + later), kind) ∷ kinds word (clusters_at (from + (end + upto)) (drop (end + upto) text)))
+    on at from =
+        let place : from + end + later ≡ from + (end + later) = omega arith in
+        let behind : from + end + upto ≡ from + (end + upto) = omega arith in
+        two.splits at (from + end) (from + last, kind)
+        ∙ ap (λ o. option_to_list o ++ edges_of at ((from + end + later, kind) ∷ kinds word (clusters_at (from + end + upto) (drop upto (drop end text))))) (no_edge at kind (from + last) (from + end))
+        ∙ ap₂ (λ i j. edges_of at ((i, kind) ∷ kinds word (clusters_at j (drop upto (drop end text))))) place behind
+        ∙ ap (λ bs. edges_of at ((from + (end + later), kind) ∷ kinds word (clusters_at (from + (end + upto)) bs))) (drop-drop_add end upto text)
+
+-- ---- letters
+letter_printable : (c : ℕ) → is_ascii_alphanumeric c ≡ true → is_printable c ≡ true
+letter_printable c h = grind (arith, nat_tests, h)
+
+in_front : (c : ℕ) (text : List ℕ) → is_ascii_alphanumeric c ≡ true → c ∷ text ≡ encode_utf8 c ++ text
+in_front c text h = ap (λ bs. bs ++ text) (sym (encode_ascii c (letter_ascii c h)))
+
+letter_first : (word : Word) (w v : ℕ) (text : List ℕ) → IsUtf8 (w ∷ (v ∷ text)) → is_ascii_alphanumeric w ≡ true → is_ascii_alphanumeric v ≡ true → BeginsInRun word (w ∷ (v ∷ text)) 0 1 InWord
+letter_first word w v text u hw hv =
+    begins_in_cluster word (w ∷ (v ∷ text)) (0, w ∷ []) InWord u
+    (sym (first_letter (w ∷ (v ∷ text)) (v ∷ text) text w v u (in_front w (v ∷ text) hw) (in_front v text hv) (letter_printable w hw) (letter_printable v hv)))
+    (sym (kind_of_letter word w hw))
+
+letters_first : (word : Word) (w v : ℕ) (more rest : List ℕ) → IsUtf8 (w ∷ (v ∷ (more ++ rest))) → is_ascii_alphanumeric w ≡ true → is_ascii_alphanumeric v ≡ true → list_all is_ascii_alphanumeric more ≡ true
+    → BeginsInRun word (w ∷ (v ∷ (more ++ rest))) (length more) (length more + 1) InWord
+letters_first word w v [] rest u hw hv h = letter_first word w v rest u hw hv
+letters_first word w v (m ∷ more) rest u hw hv h =
+    let parts = and_parts (is_ascii_alphanumeric m) (list_all is_ascii_alphanumeric more) h in
+    let text = w ∷ (v ∷ (m ∷ (more ++ rest))) in
+    let later = letters_first word v m more rest (IsUtf8-past_char text (v ∷ (m ∷ (more ++ rest))) w u (in_front w (v ∷ (m ∷ (more ++ rest))) hw)) hv parts.0 parts.1 in
+    let joined = runs_join word text 0 1 (length more) (length more + 1) InWord (letter_first word w v (m ∷ (more ++ rest)) u hw hv) later in
+    let last : 1 + length more ≡ suc (length more) = omega arith in
+    let end : 1 + (length more + 1) ≡ suc (length more) + 1 = omega arith in
+    subst (λ n. BeginsInRun word text n (suc (length more) + 1) InWord) last (subst (λ n. BeginsInRun word text (1 + length more) n InWord) end joined)
+
+pub begins_in_letters : (word : Word) (text : List ℕ) (count : ℕ) → IsUtf8 text → 1 < count → count ≤ length text → list_all is_ascii_alphanumeric (take count text) ≡ true → BeginsInRun word text (count - 2) (count - 1) InWord
+begins_in_letters word text count u l m h = by (take count text) (sym (take-append-drop count text)) (length-take-le count text m) h
+  where
+    by : (front : List ℕ) → text ≡ front ++ drop count text → length front ≡ count → list_all is_ascii_alphanumeric front ≡ true → BeginsInRun word text (count - 2) (count - 1) InWord
+    by [] e n k = absurd (omega (arith, l, n))
+    by (w ∷ []) e n k = absurd (omega (arith, l, n))
+    by (w ∷ (v ∷ more)) e n k =
+        let outer = and_parts (is_ascii_alphanumeric w) (is_ascii_alphanumeric v && list_all is_ascii_alphanumeric more) k in
+        let inner = and_parts (is_ascii_alphanumeric v) (list_all is_ascii_alphanumeric more) outer.1 in
+        let last : length more ≡ count - 2 = omega (arith, n) in
+        let end : length more + 1 ≡ count - 1 = omega (arith, n) in
+        subst (λ i. BeginsInRun word text i (count - 1) InWord) last (subst (λ i. BeginsInRun word text (length more) i InWord) end
+        (subst (λ t. BeginsInRun word t (length more) (length more + 1) InWord) (sym e) (letters_first word w v more (drop count text) (subst IsUtf8 e u) outer.0 inner.0 inner.1)))

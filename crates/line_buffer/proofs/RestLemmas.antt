@@ -1,0 +1,275 @@
+-- The text behind a text's first cluster is cut into the clusters that come after it: no rule reads past a break.
+use Rattle.std.proofs.Common.{◌≡◌, ℕ, Bool, true, false, not, cond, ◌&&◌, ◌||◌, List, [], ◌∷◌, ◌++◌, length, map, drop, unwrap_or, refl, sym, ap, ap₂, ◌∙◌, append_assoc, subst}
+use Rattle.std.specs.Prelude.{IsUtf8, IsCharBoundary, chars, encode_utf8_all}
+use Rattle.std.proofs.lemmas.Bool.{and_parts}
+use Rattle.std.proofs.lemmas.Str.{encodes-append, encodes-chars, IsUtf8-past_char}
+use Rattle.std.proofs.Math.Seq.{drop-append_seam}
+use Rattle.ucd_table.proofs.Stepped.{Stepped, zip_stepped}
+use Rattle.ucd_table.proofs.Facts.{Stepped-everywhere}
+use Rattle.ucd_table.proofs.Computing.{tables}
+use Rattle.ucd_breaks.specs.GraphemeClusterBreak.{grapheme_cluster_break}
+use Rattle.ucd_breaks.specs.declared.GraphemeClusterBreak.{GraphemeClusterBreak}
+use Rattle.ucd_breaks.specs.declared.GraphemeClusterBreak.TheVariants as Gcb
+use Rattle.ucd_breaks.proofs.GraphemeClusterBreakLemmas.{grapheme_cluster_break_stepped}
+use Rattle.ucd_derived.specs.IndicConjunctBreak.{indic_conjunct_break}
+use Rattle.ucd_derived.specs.declared.IndicConjunctBreak.{IndicConjunctBreak}
+use Rattle.ucd_derived.specs.declared.IndicConjunctBreak.TheVariants as InCb
+use Rattle.ucd_derived.proofs.IndicConjunctBreakLemmas.{indic_conjunct_break_stepped}
+use Rattle.ucd_emoji.specs.Binary.{is_extended_pictographic}
+use Rattle.ucd_emoji.proofs.BinaryLemmas.{is_extended_pictographic_stepped}
+use Rattle.unicode_segmentation.specs.Grapheme.{break_by_pair, joins_conjunct, joins_emoji, joins_flag, is_consonant, ends_in_linker, ends_in_pictograph, ends_in_half_flag, is_extend, is_zwj, is_regional, is_grapheme_break, graphemes}
+use Rattle.unicode_segmentation.specs.Segments.{cut, segments, prepend}
+use Rattle.line_buffer.proofs.CutLemmas.{at_seam}
+use Rattle.line_buffer.proofs.FrontLemmas.{pieces, chars_encoded}
+
+-- ---- what is joined to the text before it, and what ends such a text
+abbrev is_control : GraphemeClusterBreak → Bool
+is_control Gcb.Control = true
+is_control Gcb.Cr = true
+is_control Gcb.Lf = true
+is_control _ = false
+
+abbrev joins_before : GraphemeClusterBreak → Bool
+joins_before Gcb.Extend = true
+joins_before Gcb.Zwj = true
+joins_before _ = false
+
+abbrev extends : IndicConjunctBreak → Bool
+extends InCb.Extend = true
+extends _ = false
+
+abbrev links : IndicConjunctBreak → Bool
+links InCb.Extend = true
+links InCb.Linker = true
+links _ = false
+
+extending : ℕ → Bool
+extending c = not (extends (indic_conjunct_break c)) || joins_before (grapheme_cluster_break c)
+
+unfoldable extending_stepped : Stepped extending
+unfolding extending
+extending_stepped = zip_stepped (λ i g. not (extends i) || joins_before g) indic_conjunct_break grapheme_cluster_break indic_conjunct_break_stepped grapheme_cluster_break_stepped
+
+all_extending : (c : ℕ) → extending c ≡ true
+unfolding tables extending_stepped indic_conjunct_break_stepped grapheme_cluster_break_stepped
+all_extending = Stepped-everywhere extending extending_stepped refl
+
+dull : ℕ → Bool
+dull c = not (is_control (grapheme_cluster_break c)) || (not (links (indic_conjunct_break c)) && not (is_extended_pictographic c))
+
+unfoldable dull_stepped : Stepped dull
+unfolding dull
+dull_stepped =
+    zip_stepped (λ g b. not (is_control g) || b) grapheme_cluster_break (λ c. not (links (indic_conjunct_break c)) && not (is_extended_pictographic c)) grapheme_cluster_break_stepped
+    (zip_stepped (λ i p. not (links i) && not p) indic_conjunct_break is_extended_pictographic indic_conjunct_break_stepped is_extended_pictographic_stepped)
+
+all_dull : (c : ℕ) → dull c ≡ true
+unfolding tables dull_stepped indic_conjunct_break_stepped grapheme_cluster_break_stepped is_extended_pictographic_stepped
+all_dull = Stepped-everywhere dull dull_stepped refl
+
+implied : (a b : Bool) → a ≡ true → (not a || b) ≡ true → b ≡ true
+implied true b e h = h
+implied false b e h = cc
+
+not_true : (b : Bool) → not b ≡ true → b ≡ false
+not_true true h = sym h
+not_true false h = refl
+
+-- such a character is joined to what stands before it, unless that is a control character
+after_control : (v w : GraphemeClusterBreak) (b : Bool) → joins_before w ≡ true → unwrap_or (break_by_pair true v w) b ≡ true → is_control v ≡ true
+after_control Gcb.Control w b j h = refl
+after_control Gcb.Cr w b j h = refl
+after_control Gcb.Lf w b j h = refl
+after_control v Gcb.Extend b j h = by v h
+  where
+    by : (v : GraphemeClusterBreak) → unwrap_or (break_by_pair true v Gcb.Extend) b ≡ true → is_control v ≡ true
+    by Gcb.Control e = refl
+    by Gcb.Cr e = refl
+    by Gcb.Lf e = refl
+    by _ e = e
+after_control v Gcb.Zwj b j h = by v h
+  where
+    by : (v : GraphemeClusterBreak) → unwrap_or (break_by_pair true v Gcb.Zwj) b ≡ true → is_control v ≡ true
+    by Gcb.Control e = refl
+    by Gcb.Cr e = refl
+    by Gcb.Lf e = refl
+    by _ e = e
+after_control v _ b j h = absurd (let e : false ≡ true = j in cc)
+
+-- ---- the rules see the same with a text before the break and without it
+record NothingSeen (x : ℕ) (before : List ℕ) : Type 0 where
+  linker : ends_in_linker (indic_conjunct_break x ∷ map indic_conjunct_break before) ≡ ends_in_linker (indic_conjunct_break x ∷ [])
+  pictograph : ends_in_pictograph (x ∷ before) ≡ ends_in_pictograph (x ∷ [])
+  joiner : (n : ℕ) → joins_emoji (x ∷ before) n ≡ joins_emoji (x ∷ []) n
+  flag : ends_in_half_flag (x ∷ before) ≡ ends_in_half_flag (x ∷ [])
+
+no_linker : (i : IndicConjunctBreak) (is : List IndicConjunctBreak) → links i ≡ false → ends_in_linker (i ∷ is) ≡ false
+unfolding ends_in_linker
+no_linker InCb.Extend is h = absurd cc
+no_linker InCb.Linker is h = absurd cc
+no_linker _ is h = refl
+
+control_extends : (v : GraphemeClusterBreak) → is_control v ≡ true → is_extend v ≡ false
+control_extends Gcb.Extend h = absurd cc
+control_extends _ h = refl
+
+last_false : (a b : Bool) → not (a || b) ≡ true → b ≡ false
+last_false true b h = absurd cc
+last_false false b h = not_true b h
+
+first_false : (a b : Bool) → b ≡ true → (a && b) ≡ false → a ≡ false
+first_false true b e h = sym e ∙ h
+first_false false b e h = refl
+
+nothing_seen : (c x : ℕ) (before rest : List ℕ) → is_grapheme_break true (c ∷ before) (x ∷ rest) ≡ true → NothingSeen x (c ∷ before)
+unfolding is_grapheme_break ends_in_linker ends_in_pictograph ends_in_half_flag dull extending
+nothing_seen c x before rest h = record {
+  linker = linkers (indic_conjunct_break x) refl;
+  pictograph = ap (λ b. is_extended_pictographic x || b) (extended (grapheme_cluster_break x) refl);
+  joiner = λ n. joined n (grapheme_cluster_break x) refl;
+  flag = flagged (grapheme_cluster_break x) refl;
+}
+  where
+    none : Bool
+    none = not ((true && joins_conjunct (c ∷ before) x) || joins_emoji (c ∷ before) x || joins_flag (c ∷ before) x)
+
+    clear : joins_before (grapheme_cluster_break x) ≡ true → (is_control (grapheme_cluster_break c) ≡ true) × (links (indic_conjunct_break c) ≡ false) × (is_extended_pictographic c ≡ false)
+    clear j =
+        let control = after_control (grapheme_cluster_break c) (grapheme_cluster_break x) none j h in
+        let both = and_parts (not (links (indic_conjunct_break c))) (not (is_extended_pictographic c)) (implied (is_control (grapheme_cluster_break c)) _ control (all_dull c)) in
+        (control, not_true _ both.0, not_true _ both.1)
+
+    no_pictograph : joins_before (grapheme_cluster_break x) ≡ true → ends_in_pictograph (c ∷ before) ≡ false
+    no_pictograph j =
+        let facts = clear j in
+        ap₂ (λ a b. a || (b && ends_in_pictograph before)) facts.2 (control_extends (grapheme_cluster_break c) facts.0)
+
+    linkers : (i : IndicConjunctBreak) → indic_conjunct_break x ≡ i → ends_in_linker (i ∷ map indic_conjunct_break (c ∷ before)) ≡ ends_in_linker (i ∷ [])
+    linkers InCb.Linker e = refl
+    linkers InCb.Extend e = no_linker (indic_conjunct_break c) (map indic_conjunct_break before) (clear (implied (extends (indic_conjunct_break x)) _ (ap extends e) (all_extending x))).1
+    linkers _ e = refl
+
+    extended : (w : GraphemeClusterBreak) → grapheme_cluster_break x ≡ w → (is_extend w && ends_in_pictograph (c ∷ before)) ≡ (is_extend w && ends_in_pictograph [])
+    extended Gcb.Extend e = no_pictograph (ap joins_before e)
+    extended _ e = refl
+
+    joined : (n : ℕ) (w : GraphemeClusterBreak) → grapheme_cluster_break x ≡ w → (is_zwj w && ends_in_pictograph (c ∷ before) && is_extended_pictographic n) ≡ (is_zwj w && ends_in_pictograph [] && is_extended_pictographic n)
+    joined n Gcb.Zwj e = ap (λ p. true && p && is_extended_pictographic n) (no_pictograph (ap joins_before e))
+    joined n _ e = refl
+
+    half : (v : GraphemeClusterBreak) → grapheme_cluster_break c ≡ v → unwrap_or (break_by_pair true v Gcb.RegionalIndicator) none ≡ true → grapheme_cluster_break x ≡ Gcb.RegionalIndicator
+        → (is_regional v && not (ends_in_half_flag before)) ≡ false
+    half Gcb.RegionalIndicator e k r =
+        ap (λ v. is_regional v && not (ends_in_half_flag before)) (sym e)
+        ∙ first_false (ends_in_half_flag (c ∷ before)) (is_regional (grapheme_cluster_break x)) (ap is_regional r) (last_false _ (joins_flag (c ∷ before) x) k)
+    half _ e k r = refl
+
+    flagged : (w : GraphemeClusterBreak) → grapheme_cluster_break x ≡ w → (is_regional w && not (ends_in_half_flag (c ∷ before))) ≡ (is_regional w && not (ends_in_half_flag []))
+    flagged Gcb.RegionalIndicator e = ap not (half (grapheme_cluster_break c) refl (ap (λ w. unwrap_or (break_by_pair true (grapheme_cluster_break c) w) none) (sym e) ∙ h) e)
+    flagged _ e = refl
+
+module _ (x : ℕ) (before : List ℕ) (seen : NothingSeen x before) where
+  linker_seen : (zs : List ℕ) → ends_in_linker (map indic_conjunct_break (zs ++ x ∷ before)) ≡ ends_in_linker (map indic_conjunct_break (zs ++ x ∷ []))
+  unfolding ends_in_linker
+  linker_seen [] = seen.linker
+  linker_seen (z ∷ zs) = by (linker_seen zs) (indic_conjunct_break z)
+    where
+      by : ends_in_linker (map indic_conjunct_break (zs ++ x ∷ before)) ≡ ends_in_linker (map indic_conjunct_break (zs ++ x ∷ [])) → (i : IndicConjunctBreak)
+          → ends_in_linker (i ∷ map indic_conjunct_break (zs ++ x ∷ before)) ≡ ends_in_linker (i ∷ map indic_conjunct_break (zs ++ x ∷ []))
+      by shorter InCb.Extend = shorter
+      by shorter InCb.Linker = refl
+      by shorter _ = refl
+
+  pictograph_seen : (zs : List ℕ) → ends_in_pictograph (zs ++ x ∷ before) ≡ ends_in_pictograph (zs ++ x ∷ [])
+  unfolding ends_in_pictograph
+  pictograph_seen [] = seen.pictograph
+  pictograph_seen (z ∷ zs) = ap (λ p. is_extended_pictographic z || (is_extend (grapheme_cluster_break z) && p)) (pictograph_seen zs)
+
+  flag_seen : (zs : List ℕ) → ends_in_half_flag (zs ++ x ∷ before) ≡ ends_in_half_flag (zs ++ x ∷ [])
+  unfolding ends_in_half_flag
+  flag_seen [] = seen.flag
+  flag_seen (z ∷ zs) = ap (λ b. is_regional (grapheme_cluster_break z) && not b) (flag_seen zs)
+
+  joiner_seen : (zs : List ℕ) (n : ℕ) → joins_emoji (zs ++ x ∷ before) n ≡ joins_emoji (zs ++ x ∷ []) n
+  joiner_seen [] n = seen.joiner n
+  joiner_seen (z ∷ zs) n = ap (λ p. is_zwj (grapheme_cluster_break z) && p && is_extended_pictographic n) (pictograph_seen zs)
+
+  same_breaks : (zs after : List ℕ) → is_grapheme_break true (zs ++ x ∷ before) after ≡ is_grapheme_break true (zs ++ x ∷ []) after
+  unfolding is_grapheme_break
+  same_breaks [] [] = refl
+  same_breaks (z ∷ zs) [] = refl
+  same_breaks [] (n ∷ after) =
+      ap₂ (λ e f. unwrap_or (break_by_pair true (grapheme_cluster_break x) (grapheme_cluster_break n)) (not ((true && joins_conjunct (x ∷ before) n) || e || f)))
+      (seen.joiner n) (ap (λ f. f && is_regional (grapheme_cluster_break n)) seen.flag)
+      ∙ ap (λ l. unwrap_or (break_by_pair true (grapheme_cluster_break x) (grapheme_cluster_break n)) (not ((true && (l && is_consonant (indic_conjunct_break n))) || joins_emoji (x ∷ []) n || joins_flag (x ∷ []) n))) seen.linker
+  same_breaks (z ∷ zs) (n ∷ after) =
+      ap₂ (λ e f. unwrap_or (break_by_pair true (grapheme_cluster_break z) (grapheme_cluster_break n)) (not ((true && joins_conjunct (z ∷ (zs ++ x ∷ before)) n) || e || f)))
+      (joiner_seen (z ∷ zs) n) (ap (λ f. f && is_regional (grapheme_cluster_break n)) (flag_seen (z ∷ zs)))
+      ∙ ap (λ l. unwrap_or (break_by_pair true (grapheme_cluster_break z) (grapheme_cluster_break n)) (not ((true && (l && is_consonant (indic_conjunct_break n))) || joins_emoji (z ∷ (zs ++ x ∷ [])) n || joins_flag (z ∷ (zs ++ x ∷ [])) n))) (linker_seen (z ∷ zs))
+
+  same_pieces : (cs zs : List ℕ) → pieces (zs ++ x ∷ before) cs ≡ pieces (zs ++ x ∷ []) cs
+  unfolding cut
+  same_pieces [] zs = refl
+  same_pieces (c ∷ cs) zs = ap₂ (λ b ps. cond b ((c ∷ []) ∷ ps) (prepend (c ∷ []) ps)) (same_breaks (c ∷ zs) (cs ++ [])) (same_pieces cs (c ∷ zs))
+
+-- ---- behind the first piece
+abbrev Behind : List ℕ → List ℕ → List (List ℕ) → Type 0
+Behind cs q qs = (c : ℕ) × (before : List ℕ) × (ds : List ℕ) × (cs ≡ q ++ ds) × (pieces (c ∷ before) ds ≡ qs) × (is_grapheme_break true (c ∷ before) (ds ++ []) ≡ true)
+
+no_pieces : (before cs : List ℕ) → pieces before cs ≡ [] → cs ≡ []
+unfolding cut
+no_pieces before [] h = refl
+no_pieces before (c ∷ cs) h = absurd (by (is_grapheme_break true (c ∷ before) (cs ++ [])) (pieces (c ∷ before) cs) h)
+  where
+    by : (b : Bool) (rest : List (List ℕ)) → cond b ((c ∷ []) ∷ rest) (prepend (c ∷ []) rest) ≡ [] → ⊥
+    by true rest h = cc
+    by false [] h = cc
+    by false (p ∷ rest) h = cc
+
+cut_rest : (cs before q : List ℕ) (qs : List (List ℕ)) → pieces before cs ≡ q ∷ qs → Behind cs q qs
+unfolding cut is_grapheme_break
+cut_rest [] before q qs h = absurd cc
+cut_rest (c ∷ cs) before q qs h = by (λ p ps e. cut_rest cs (c ∷ before) p ps e) (is_grapheme_break true (c ∷ before) (cs ++ [])) refl (pieces (c ∷ before) cs) refl h
+  where
+    by : ((p : List ℕ) (ps : List (List ℕ)) → pieces (c ∷ before) cs ≡ p ∷ ps → Behind cs p ps) → (b : Bool) → is_grapheme_break true (c ∷ before) (cs ++ []) ≡ b → (rest : List (List ℕ)) → pieces (c ∷ before) cs ≡ rest
+        → cond b ((c ∷ []) ∷ rest) (prepend (c ∷ []) rest) ≡ q ∷ qs → Behind (c ∷ cs) q qs
+    by shorter true e rest r h =
+        let first : c ∷ [] ≡ q = cc in
+        (c, before, cs, ap (λ t. t ++ cs) first, r ∙ ap (drop 1) h, e)
+    by shorter false e [] r h =
+        absurd (let t : is_grapheme_break true (c ∷ before) (cs ++ []) ≡ true = ap (λ ds. is_grapheme_break true (c ∷ before) (ds ++ [])) (no_pieces (c ∷ before) cs r) in (let f : true ≡ false = sym t ∙ e in cc))
+    by shorter false e (p ∷ rest) r h =
+        let first : c ∷ p ≡ q = cc in
+        let inner = shorter p rest r in
+        (inner.0, inner.1, inner.2, ap (λ t. c ∷ t) inner.3 ∙ ap (λ t. t ++ inner.2) first, inner.4 ∙ ap (drop 1) h, inner.5)
+
+pieces_rest : (cs q : List ℕ) (qs : List (List ℕ)) → pieces [] cs ≡ q ∷ qs → (ds : List ℕ) × (cs ≡ q ++ ds) × (pieces [] ds ≡ qs)
+unfolding cut
+pieces_rest cs q qs h = let b = cut_rest cs [] q qs h in (b.2, b.3, by b.0 b.1 b.2 b.5 ∙ b.4)
+  where
+    by : (c : ℕ) (before ds : List ℕ) → is_grapheme_break true (c ∷ before) (ds ++ []) ≡ true → pieces [] ds ≡ pieces (c ∷ before) ds
+    by c before [] e = refl
+    by c before (d ∷ ds) e =
+        let seen = nothing_seen c d before (ds ++ []) e in
+        sym (ap₂ (λ b ps. cond b ((d ∷ []) ∷ ps) (prepend (d ∷ []) ps)) (same_breaks d (c ∷ before) seen [] (ds ++ [])) (same_pieces d (c ∷ before) seen ds []))
+
+-- ---- the same of the text's bytes
+utf8_behind : (cs ds : List ℕ) → IsUtf8 (encode_utf8_all cs ++ encode_utf8_all ds) → IsUtf8 (encode_utf8_all ds)
+utf8_behind [] ds u = u
+utf8_behind (c ∷ cs) ds u = utf8_behind cs ds (IsUtf8-past_char _ (encode_utf8_all cs ++ encode_utf8_all ds) c u (append_assoc _ (encode_utf8_all cs) (encode_utf8_all ds)))
+
+pub graphemes_rest : (text p : List ℕ) (ps : List (List ℕ)) → IsUtf8 text → graphemes true text ≡ p ∷ ps → IsCharBoundary text (length p) × (graphemes true (drop (length p) text) ≡ ps)
+unfolding segments
+graphemes_rest text p ps u is = by (pieces [] (chars text)) refl is
+  where
+    by : (zs : List (List ℕ)) → pieces [] (chars text) ≡ zs → map encode_utf8_all zs ≡ p ∷ ps → IsCharBoundary text (length p) × (graphemes true (drop (length p) text) ≡ ps)
+    by [] e h = absurd cc
+    by (q ∷ qs) e h =
+        let r = pieces_rest (chars text) q qs e in
+        let first : encode_utf8_all q ≡ p = cc in
+        let whole : text ≡ encode_utf8_all q ++ encode_utf8_all r.0 = sym (encodes-chars text u) ∙ ap encode_utf8_all r.1 ∙ encodes-append q r.0 in
+        let behind = utf8_behind q r.0 (subst IsUtf8 whole u) in
+        let left : drop (length p) text ≡ encode_utf8_all r.0 = ap₂ drop (sym (ap length first)) whole ∙ drop-append_seam (encode_utf8_all q) (encode_utf8_all r.0) in (
+          at_seam text (encode_utf8_all q) (encode_utf8_all r.0) (length p) whole (ap length first) behind,
+          ap (λ cs. map encode_utf8_all (pieces [] cs)) (ap chars left ∙ chars_encoded r.0 behind) ∙ ap (map encode_utf8_all) r.2 ∙ ap (drop 1) h,
+        )

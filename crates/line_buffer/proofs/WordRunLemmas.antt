@@ -1,0 +1,227 @@
+-- The last clusters of a text that are of one kind: a run of letters of ASCII, or the last cluster alone.
+use Rattle.std.proofs.Common.{◌≡◌, ℕ, zero, suc, ◌+◌, ◌<◌, ◌≤◌, ◌⊎◌, inl, inr, Bool, true, false, not, ◌&&◌, ◌||◌, if◌then◌else◌, List, [], ◌∷◌, ◌++◌, length, map, take, drop, reverse, get_or, Option, None, Some, refl, sym, ap, ap₂, ◌∙◌, subst, arith, append_assoc}
+use Rattle.std.specs.Prelude.{IsUtf8, chars, option_to_list, slice_range, bytes_eq}
+use Rattle.std.specs.Char.{IsScalar, is_ascii_alphanumeric, is_whitespace}
+use Rattle.std.specs.List.{last_or, list_all, concat}
+use Rattle.std.proofs.Math.Seq.{get_or-append_seam}
+use Rattle.std.proofs.lemmas.Bool.{and_from, and_parts}
+use Rattle.std.proofs.lemmas.Bool.Decides.{nat_tests}
+use Rattle.std.proofs.lemmas.List.{reverse-append, reverse-reverse, length-append, length-take-le, length-drop, map-append, append-nil, take_at, take_all, take-take, length-take, take-append-drop, drop_more}
+use Rattle.std.proofs.lemmas.List.Folds.{drop_split, list_all-append}
+use Rattle.std.proofs.lemmas.Str.{chars-IsAscii, encode_ascii, IsCharBoundary-after_ascii}
+use Rattle.unicode_segmentation.specs.Grapheme.{is_grapheme_break, graphemes}
+use Rattle.unicode_segmentation.specs.Segments.{is_alphanumeric}
+use Rattle.unicode_segmentation.proofs.AsciiLemmas.{is_alphanumeric_ascii}
+use Rattle.unicode_segmentation.proofs.SegmentsLemmas.{concat-segments, nil_from-with_offsets}
+use Rattle.line_buffer.specs.Clusters.{IsPlain, clusters}
+use Rattle.line_buffer.specs.Words.{EndsInRun, kind_of, kinds, starts_of, edges_of, edge_between}
+use Rattle.line_buffer.specs.declared.types.At.TheVariants.{Start}
+use Rattle.line_buffer.specs.declared.types.Word.{Word}
+use Rattle.line_buffer.specs.declared.types.Word.TheVariants.{Big, Emacs, Vi}
+use Rattle.line_buffer.specs.declared.words.ClusterKind.{ClusterKind}
+use Rattle.line_buffer.specs.declared.words.ClusterKind.TheVariants.{Blank, InWord, Other}
+use Rattle.line_buffer.proofs.FrontLemmas.{clusters_front, ends_or_not}
+use Rattle.line_buffer.proofs.JoinLemmas.{clusters-letters}
+use Rattle.line_buffer.proofs.PartingLemmas.{chars_last}
+use Rattle.line_buffer.proofs.WordLemmas.{edges_of-nil, edges_of-one, edges_of-snoc}
+
+-- ---- bytes that are all letters
+pub block_more : (p : ℕ → Bool) (xs : List ℕ) (i j : ℕ) → i ≤ j → list_all p (slice_range xs i j) ≡ true → list_all p (drop j xs) ≡ true → list_all p (drop i xs) ≡ true
+block_more p xs i j le h k = ap (list_all p) (drop_split xs i j le) ∙ list_all-append p (slice_range xs i j) (drop j xs) ∙ and_from _ _ h k
+
+pub byte_more : (p : ℕ → Bool) (xs : List ℕ) (i : ℕ) → i < length xs → p (get_or xs i 0) ≡ true → list_all p (drop (i + 1) xs) ≡ true → list_all p (drop i xs) ≡ true
+byte_more p xs i l h k = ap (list_all p) (drop_more xs i 0 l) ∙ and_from (p (get_or xs i 0)) (list_all p (drop (i + 1) xs)) h k
+
+reversed_all : (p : ℕ → Bool) (xs : List ℕ) → list_all p xs ≡ true → list_all p (reverse xs) ≡ true
+reversed_all p [] h = refl
+reversed_all p (x ∷ xs) h =
+    let parts = and_parts (p x) (list_all p xs) h in
+    ap (list_all p) (reverse-append (x ∷ []) xs) ∙ list_all-append p (reverse xs) (x ∷ [])
+    ∙ and_from (list_all p (reverse xs)) (p x && true) (reversed_all p xs parts.1) (and_from (p x) true parts.0 refl)
+
+-- ---- letters
+
+letter_plain : (c : ℕ) → is_ascii_alphanumeric c ≡ true → IsPlain c
+letter_plain c h = grind (arith, nat_tests, h)
+
+letter_scalar : (c : ℕ) → is_ascii_alphanumeric c ≡ true → IsScalar c
+letter_scalar c h = let plain = letter_plain c h in grind (arith, nat_tests, plain.1)
+
+pub letter_ascii : (c : ℕ) → is_ascii_alphanumeric c ≡ true → c < 128
+letter_ascii c h = let plain = letter_plain c h in omega (arith, plain.1)
+
+one_char : (c : ℕ) → c < 128 → chars (c ∷ []) ≡ c ∷ []
+one_char c l = chars-IsAscii (c ∷ []) ascii
+  where
+    ascii : (i : ℕ) → get_or (c ∷ []) i 0 < 128
+    ascii zero = l
+    ascii (suc i) = omega arith
+
+no_space : (c : ℕ) → is_ascii_alphanumeric c ≡ true → is_whitespace c ≡ false
+no_space c h = let plain = letter_plain c h in let low : 33 ≤ c = grind (arith, nat_tests, h) in grind (arith, nat_tests, plain.1, low)
+
+pub kind_of_letter : (word : Word) (c : ℕ) → is_ascii_alphanumeric c ≡ true → kind_of word (c ∷ []) ≡ InWord
+kind_of_letter word c h = by word
+  where
+    all : list_all is_alphanumeric (chars (c ∷ [])) ≡ true
+    all = ap (list_all is_alphanumeric) (one_char c (letter_ascii c h)) ∙ ap (λ b. b && true) (sym (is_alphanumeric_ascii c (letter_ascii c h)) ∙ h)
+
+    none : list_all (λ d. not (is_whitespace d)) (chars (c ∷ [])) ≡ true
+    none = ap (list_all (λ d. not (is_whitespace d))) (one_char c (letter_ascii c h)) ∙ ap (λ b. not b && true) (no_space c h)
+
+    by : (word : Word) → kind_of word (c ∷ []) ≡ InWord
+    by Emacs = ap (λ b. if b then InWord else Blank) all
+    by Big = ap (λ b. if b then InWord else Blank) none
+    by Vi = ap (λ b. if b || bytes_eq (c ∷ []) (95 ∷ []) then InWord else (if list_all (λ d. not (is_whitespace d)) (chars (c ∷ [])) then Other else Blank)) all
+
+-- the last of two letters at a text's end
+letter_off : (text most front : List ℕ) (last previous : ℕ) → IsUtf8 text → text ≡ most ++ last ∷ [] → most ≡ front ++ previous ∷ [] → is_ascii_alphanumeric previous ≡ true → is_ascii_alphanumeric last ≡ true
+    → IsUtf8 most × (clusters text ≡ clusters most ++ (length most, last ∷ []) ∷ [])
+letter_off text most front last previous u came earlier p q =
+    let first = chars_last text most last u (letter_scalar last q) (came ∙ ap (λ bs. most ++ bs) (sym (encode_ascii last (letter_ascii last q)))) in
+    let second = chars_last most front previous first.0 (letter_scalar previous p) (earlier ∙ ap (λ bs. front ++ bs) (sym (encode_ascii previous (letter_ascii previous p)))) in
+    let all : chars text ≡ chars front ++ previous ∷ last ∷ [] = first.1 ∙ ap (λ cs. cs ++ last ∷ []) second.1 ∙ append_assoc (chars front) (previous ∷ []) (last ∷ []) in
+    (first.0, clusters-letters text most front last previous first.0 all second.1 (letter_plain previous p) (letter_plain last q))
+
+-- the clusters behind the first letter, the letters after it in the other order
+abbrev Run : Word → List ℕ → ℕ → List ℕ → Type 0
+Run word front w rs = (later : List ℕ) × (kinds word (clusters (front ++ w ∷ reverse rs)) ≡ kinds word (clusters (front ++ w ∷ [])) ++ map (λ i. (i, InWord)) ((length front + 1) ∷ later))
+
+letters_run : (word : Word) (front : List ℕ) (w v : ℕ) (rs : List ℕ) → IsUtf8 (front ++ w ∷ reverse (v ∷ rs)) → is_ascii_alphanumeric w ≡ true → list_all is_ascii_alphanumeric (v ∷ rs) ≡ true → Run word front w (v ∷ rs)
+letters_run word front w v [] u hw h =
+    let parts = and_parts (is_ascii_alphanumeric v) true h in
+    let off = letter_off (front ++ w ∷ (v ∷ [])) (front ++ w ∷ []) front v w u (sym (append_assoc front (w ∷ []) (v ∷ []))) refl hw parts.0 in
+    let place : length (front ++ w ∷ []) ≡ length front + 1 = omega (arith, length-append front (w ∷ [])) in (
+      [],
+      ap (kinds word) off.1 ∙ map-append (λ x. (x.0, kind_of word x.1)) (clusters (front ++ w ∷ [])) ((length (front ++ w ∷ []), v ∷ []) ∷ [])
+          ∙ ap₂ (λ n k. kinds word (clusters (front ++ w ∷ [])) ++ (n, k) ∷ []) place (kind_of_letter word v parts.0),
+    )
+letters_run word front w v (r ∷ rs) u hw h =
+    let parts = and_parts (is_ascii_alphanumeric v) (list_all is_ascii_alphanumeric (r ∷ rs)) h in
+    let most = front ++ w ∷ reverse (r ∷ rs) in
+    let is : front ++ w ∷ reverse (v ∷ (r ∷ rs)) ≡ most ++ v ∷ [] = ap (λ t. front ++ w ∷ t) (reverse-append (v ∷ []) (r ∷ rs)) ∙ sym (append_assoc front (w ∷ reverse (r ∷ rs)) (v ∷ [])) in
+    let earlier : most ≡ (front ++ w ∷ reverse rs) ++ r ∷ [] = ap (λ t. front ++ w ∷ t) (reverse-append (r ∷ []) rs) ∙ sym (append_assoc front (w ∷ reverse rs) (r ∷ [])) in
+    let off = letter_off (front ++ w ∷ reverse (v ∷ (r ∷ rs))) most (front ++ w ∷ reverse rs) v r u is earlier (and_parts (is_ascii_alphanumeric r) (list_all is_ascii_alphanumeric rs) parts.1).0 parts.0 in
+    let inner = letters_run word front w r rs off.0 hw parts.1 in
+    let first = kinds word (clusters (front ++ w ∷ [])) in (
+      inner.0 ++ length most ∷ [],
+      ap (kinds word) off.1 ∙ map-append (λ x. (x.0, kind_of word x.1)) (clusters most) ((length most, v ∷ []) ∷ [])
+          ∙ ap₂ (λ xs k. xs ++ (length most, k) ∷ []) inner.1 (kind_of_letter word v parts.0)
+          ∙ append_assoc first (map (λ i. (i, InWord)) ((length front + 1) ∷ inner.0)) ((length most, InWord) ∷ [])
+          ∙ ap (λ t. first ++ (length front + 1, InWord) ∷ t) (sym (map-append (λ i. (i, InWord)) inner.0 (length most ∷ []))),
+    )
+
+split_letters : (word : Word) (text front ws : List ℕ) (w : ℕ) → IsUtf8 text → text ≡ front ++ w ∷ ws → 0 < length ws → list_all is_ascii_alphanumeric (w ∷ ws) ≡ true → EndsInRun word text (length front + 1) InWord
+split_letters word text front ws w u is some h = by (reverse ws) (sym (reverse-reverse ws)) (reversed_all is_ascii_alphanumeric ws parts.1)
+  where
+    parts : (is_ascii_alphanumeric w ≡ true) × (list_all is_ascii_alphanumeric ws ≡ true)
+    parts = and_parts (is_ascii_alphanumeric w) (list_all is_ascii_alphanumeric ws) h
+
+    long : length text ≡ length front + 1 + length ws
+    long = omega (arith, ap length is, length-append front (w ∷ ws))
+
+    here : get_or text (length front) 0 ≡ w
+    here = ap (λ t. get_or t (length front) 0) is ∙ get_or-append_seam front w ws 0
+
+    begin : take (length front + 1) text ≡ front ++ w ∷ []
+    begin = ap (take (length front + 1)) (is ∙ sym (append_assoc front (w ∷ []) ws)) ∙ take_at (front ++ w ∷ []) ws (length front + 1) (length-append front (w ∷ []))
+
+    by : (rs : List ℕ) → ws ≡ reverse rs → list_all is_ascii_alphanumeric rs ≡ true → EndsInRun word text (length front + 1) InWord
+    by [] e k = absurd (omega (arith, some, ap length e))
+    by (v ∷ rs) e k =
+        let same : text ≡ front ++ w ∷ reverse (v ∷ rs) = is ∙ ap (λ t. front ++ w ∷ t) e in
+        let run = letters_run word front w v rs (subst IsUtf8 same u) parts.0 k in
+        record {
+          start = IsCharBoundary-after_ascii text (length front) u (omega (arith, long)) (omega (arith, here, letter_ascii w parts.0));
+          shorter = omega (arith, long, some);
+          later = run.0;
+          splits = ap (λ t. kinds word (clusters t)) same ∙ run.1 ∙ ap (λ t. kinds word (clusters t) ++ map (λ i. (i, InWord)) ((length front + 1) ∷ run.0)) (sym begin);
+        }
+
+pub ends_in_letters : (word : Word) (text : List ℕ) (start : ℕ) → IsUtf8 text → start + 1 < length text → list_all is_ascii_alphanumeric (drop start text) ≡ true → EndsInRun word text (start + 1) InWord
+ends_in_letters word text start u l h = by (drop start text) refl h
+  where
+    long : length (take start text) ≡ start
+    long = length-take-le start text (omega (arith, l))
+
+    by : (end : List ℕ) → drop start text ≡ end → list_all is_ascii_alphanumeric end ≡ true → EndsInRun word text (start + 1) InWord
+    by [] e k = absurd (omega (arith, l, length-drop start text, ap length e))
+    by (w ∷ ws) e k =
+        subst (λ n. EndsInRun word text (n + 1) InWord) long
+        (split_letters word text (take start text) ws w u (sym (take-append-drop start text) ∙ ap (λ t. take start text ++ t) e) (omega (arith, l, length-drop start text, ap length e)) k)
+
+-- ---- the last cluster alone
+pub ends_in_cluster : (word : Word) (text : List ℕ) (start : ℕ) (cluster : List ℕ) (kind : ClusterKind) → IsUtf8 text → Some (start, cluster) ≡ last_or None (take 1 (reverse (clusters text)))
+    → kind ≡ kind_of word cluster → EndsInRun word text start kind
+ends_in_cluster word text start cluster kind u found is = elim (ends_or_not (clusters text)) [
+  | inl e ↦ absurd (let none : Some (start, cluster) ≡ None = found ∙ ap (λ xs. last_or None (take 1 (reverse xs))) e in cc)
+  | inr h ↦ at_last h.0 h.1 h.2
+]
+  where
+    at_last : (new : List (ℕ × List ℕ)) (x : ℕ × List ℕ) → clusters text ≡ new ++ x ∷ [] → EndsInRun word text start kind
+    at_last new x e =
+        let same : Some (start, cluster) ≡ Some x = found ∙ ap (λ xs. last_or None (take 1 (reverse xs))) e ∙ ap (λ xs. last_or None (take 1 xs)) (reverse-append new (x ∷ [])) in
+        let last : clusters text ≡ new ++ (start, cluster) ∷ [] = e ∙ ap (λ y. new ++ y ∷ []) (let q : x ≡ (start, cluster) = cc in q) in
+        let front = clusters_front text start cluster new u last in
+        record {
+          start = front.0;
+          shorter = by_order (at_most start (length text) front.0.0) front.1 last;
+          later = [];
+          splits = ap (kinds word) last ∙ map-append (λ y. (y.0, kind_of word y.1)) new ((start, cluster) ∷ []) ∙ ap₂ (λ ys k. kinds word ys ++ (start, k) ∷ []) (sym front.1) (sym is);
+        }
+      where
+        at_most : (i j : ℕ) → i ≤ j → (i < j) ⊎ (i ≡ j)
+        at_most i j l = grind (arith, l)
+
+        by_order : (start < length text) ⊎ (start ≡ length text) → clusters (take start text) ≡ new → clusters text ≡ new ++ (start, cluster) ∷ [] → start < length text
+        by_order (inl l) c d = l
+        by_order (inr q) c d =
+            let whole : take start text ≡ text = take_all start text (omega (arith, q)) in
+            let twice : new ≡ new ++ (start, cluster) ∷ [] = sym c ∙ ap clusters whole ∙ d in
+            absurd (omega (arith, ap length twice, length-append new ((start, cluster) ∷ [])))
+
+pub no_cluster : (text : List ℕ) → IsUtf8 text → None ≡ last_or None (take 1 (reverse (clusters text))) → length text ≡ 0
+no_cluster text u found = elim (ends_or_not (clusters text)) [
+  | inl e ↦ ap length (sym (concat-segments (is_grapheme_break true) text u)) ∙ ap (λ ps. length (concat ps)) (nil_from-with_offsets 0 (graphemes true text) e)
+  | inr h ↦ absurd (let some : None ≡ Some h.1 = found ∙ ap (λ xs. last_or None (take 1 (reverse xs))) h.2 ∙ ap (λ xs. last_or None (take 1 xs)) (reverse-append h.0 (h.1 ∷ [])) in cc)
+]
+
+-- ---- the starts of words around such clusters
+no_start : (kind : ClusterKind) (i j : ℕ) → edge_between Start (i, kind) (j, kind) ≡ None
+no_start Blank i j = refl
+no_start InWord i j = refl
+no_start Other i j = refl
+
+run_edges : (xs : List (ℕ × ClusterKind)) (kind : ClusterKind) (at : ℕ) (later : List ℕ) (y : ℕ × ClusterKind)
+    → edges_of Start ((xs ++ map (λ i. (i, kind)) (at ∷ later)) ++ y ∷ []) ≡ edges_of Start (xs ++ (at, kind) ∷ []) ++ option_to_list (edge_between Start (at, kind) y)
+run_edges xs kind at [] y = ap (edges_of Start) (append_assoc xs ((at, kind) ∷ []) (y ∷ [])) ∙ edges_of-snoc Start xs (at, kind) y
+run_edges xs kind at (i ∷ later) y =
+    ap (λ zs. edges_of Start (zs ++ y ∷ [])) (sym (append_assoc xs ((at, kind) ∷ []) (map (λ j. (j, kind)) (i ∷ later))))
+    ∙ run_edges (xs ++ (at, kind) ∷ []) kind i later y
+    ∙ ap (λ zs. zs ++ option_to_list (edge_between Start (at, kind) y))
+    (ap (edges_of Start) (append_assoc xs ((at, kind) ∷ []) ((i, kind) ∷ [])) ∙ edges_of-snoc Start xs (at, kind) (i, kind)
+    ∙ ap (λ o. edges_of Start (xs ++ (at, kind) ∷ []) ++ option_to_list o) (no_start kind at i) ∙ append-nil (edges_of Start (xs ++ (at, kind) ∷ [])))
+
+reverse_option : (o : Option ℕ) → reverse (option_to_list o) ≡ option_to_list o
+reverse_option None = refl
+reverse_option (Some i) = refl
+
+pub run_split : (word : Word) (text : List ℕ) (end at : ℕ) (kind right : ClusterKind) → EndsInRun word (take end text) at kind
+    → reverse (starts_of (kinds word (clusters (take end text)) ++ (end, right) ∷ [])) ≡ option_to_list (edge_between Start (at, kind) (end, right)) ++ reverse (starts_of (kinds word (clusters (take at text)) ++ (at, kind) ∷ []))
+run_split word text end at kind right run =
+    let front = take at (take end text) in
+    let edge = option_to_list (edge_between Start (at, kind) (end, right)) in
+    ap (λ xs. reverse (edges_of Start (xs ++ (end, right) ∷ []))) run.splits
+    ∙ ap reverse (run_edges (kinds word (clusters front)) kind at run.later (end, right))
+    ∙ reverse-append (edges_of Start (kinds word (clusters front) ++ (at, kind) ∷ [])) edge
+    ∙ ap₂ (λ zs bs. zs ++ reverse (edges_of Start (kinds word (clusters bs) ++ (at, kind) ∷ []))) (reverse_option (edge_between Start (at, kind) (end, right))) (take-take at end text (omega (arith, run.shorter, length-take end text)))
+
+-- nothing starts at the text's end
+pub blank_end : (word : Word) (text : List ℕ) → starts_of (kinds word (clusters text)) ≡ starts_of (kinds word (clusters (take (length text) text)) ++ (length text, Blank) ∷ [])
+blank_end word text = sym (ap (λ bs. edges_of Start (kinds word (clusters bs) ++ (length text, Blank) ∷ [])) (take_all (length text) text (omega arith)) ∙ behind (ends_or_not (kinds word (clusters text))))
+  where
+    behind : {xs : List (ℕ × ClusterKind)} → (xs ≡ []) ⊎ ((ys : List (ℕ × ClusterKind)) × (y : ℕ × ClusterKind) × (xs ≡ ys ++ y ∷ [])) → edges_of Start (xs ++ (length text, Blank) ∷ []) ≡ edges_of Start xs
+    behind (inl e) = ap (λ zs. edges_of Start (zs ++ (length text, Blank) ∷ [])) e ∙ edges_of-one Start (length text, Blank) ∙ sym (edges_of-nil Start) ∙ ap (edges_of Start) (sym e)
+    behind (inr h) =
+        ap (λ zs. edges_of Start (zs ++ (length text, Blank) ∷ [])) h.2 ∙ ap (edges_of Start) (append_assoc h.0 (h.1 ∷ []) ((length text, Blank) ∷ []))
+        ∙ edges_of-snoc Start h.0 h.1 (length text, Blank) ∙ append-nil (edges_of Start (h.0 ++ h.1 ∷ [])) ∙ ap (edges_of Start) (sym h.2)
