@@ -372,13 +372,13 @@ def entries_loaded(saved):
 def played(session, adds):
     """A session by the model, or None if it says nothing of it."""
     saved = session.history or b""
-    if not (session.is_searched() and is_text(session.keys) and is_text(saved) and PLAIN.fullmatch(session.prompt)):
+    if not (session.is_searched() and is_text(session.keys) and is_text(saved) and PLAIN.fullmatch(session.drawn_prompt)):
         return None
     entries, completes = entries_loaded(saved), session.completes()
     if not all(map(PLAIN.fullmatch, [*entries, *(completes.words or ())])):
         return None
     try:
-        return Played(session.mode, session.prompt, entries, adds, session.keys, completes)
+        return Played(session.mode, session.drawn_prompt, entries, adds, session.keys, completes)
     except Unknown:
         return None
 
