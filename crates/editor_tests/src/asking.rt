@@ -6,7 +6,7 @@ use line_config::{Config, EditMode};
 use line_editor::run;
 use line_keys::KeyEvent;
 use line_record::KillRing;
-use stand_ins::listener::{Listener, requests_in_words};
+use stand_ins::asked_keys::{AskedKeys, requests_in_words};
 use stand_ins::rows::{Player, raised, rows_hold};
 use std::alloc::Global;
 use std::test::Fail;
@@ -25,7 +25,7 @@ fn asked(alloc: Global, mode: EditMode, keys: &[KeyEvent]) -> Result<String, Fai
     let config = Config::builder().edit_mode(mode).build();
     let mut ring = KillRing::new(alloc, 60)?;
     let mut query = String::new(alloc);
-    let mut reader = Listener::new(alloc, keys);
+    let mut reader = AskedKeys::new(alloc, keys);
     run(
         alloc,
         &mut reader,

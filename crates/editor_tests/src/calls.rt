@@ -248,6 +248,22 @@ impl Renderer for CallList {
         self.clear_to_eol()
     }
 
+    fn insert_char(&mut self, ch: char) -> Result<(), ReadlineError> {
+        let log = &mut self.log;
+        log.note(format!(in log.alloc; "put in '{ch}'"))
+    }
+
+    fn move_and_delete_chars(
+        &mut self,
+        old: Position,
+        new: Position,
+        count: Unit,
+    ) -> Result<(), ReadlineError> {
+        self.move_cursor(old, new)?;
+        let log = &mut self.log;
+        log.note(format!(in log.alloc; "take out {count}"))
+    }
+
     fn move_cursor_at_leftmost(&mut self) -> Result<(), ReadlineError> {
         let log = &mut self.log;
         log.note(format!(in log.alloc; "leftmost"))

@@ -83,7 +83,7 @@ impl Hinter for Counting<'_> {
 }
 
 impl Validator for Counting<'_> {
-    ghost use Rattle.line_help.specs.declared.validate.ValidationResult.TheVariants.{Valid};
+    ghost use Rattle.line_help.specs.declared.helpers.validate.ValidationResult.TheVariants.{Valid};
 
     ghost verdict_of = { λ self text. gives_at_once (Valid None) };
 

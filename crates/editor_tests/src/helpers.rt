@@ -239,7 +239,7 @@ impl Highlighter for Adviser {
 }
 
 impl Validator for Adviser {
-    ghost use Rattle.line_help.specs.declared.validate.ValidationResult.TheVariants as results;
+    ghost use Rattle.line_help.specs.declared.helpers.validate.ValidationResult.TheVariants as results;
     ghost use Rattle.editor_tests.specs.declared.helpers.Verdict.TheVariants.{Incomplete, Invalid, InvalidTold, Valid, ValidTold};
 
     ghost verdict_of = { λ self text. gives_unless (nat_le self.verdict_fails_at (length text)) (elim self.verdict [

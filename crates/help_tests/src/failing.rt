@@ -2,71 +2,19 @@
 
 use crate::asks::Try;
 use crate::history::{add_lines, load_told, told_with_entries, with_lines};
-use line_config::{Config, DeviceFailed, Log, ReadlineError, Sink, SliceSource, Source, VecSink};
+use line_config::{Config, ReadlineError, Sink, SliceSource, Source, VecSink};
 use line_help::{FileHistory, History};
 use stand_ins::rows::{Player, raised, rows_hold, same};
+use stand_ins::sinks::FailingSink;
 use stand_ins::tables::{meant_bytes, or_nothing, pictured_bytes, word_and_rest};
 use std::alloc::{AllocError, Global};
 use std::test::Fail;
 
-/// A sink with space for so many bytes, which writes a bar for each flush.
-#[derive(Drop)]
-struct Narrow {
-    room: usize,
-    written: Vec<u8>,
-    taken: Log,
-    failed: bool,
-}
-
-impl Narrow {
-    ghost use Rattle.std.specs.Prelude.{◌≡◌, is_err, IsErr, IsTrue};
-
-    fn new(alloc: Global, room: usize) -> Self {
-        Narrow {
-            room,
-            written: Vec::new(alloc),
-            taken: Log::new(),
-            failed: false,
-        }
-    }
-
-    fn keep(&mut self, bytes: &[u8]) -> Result<(), DeviceFailed>
-        ensures taken { self.new.taken ≡ self.old.taken }
-        ensures failure { self.new.failed ≡ is_err result }
-        ensures for_good { IsTrue self.old.failed → IsErr result }
-    {
-        let fits = bytes.len() <= self.room;
-        if self.failed || !fits || self.written.extend_from_slice(bytes).is_err() {
-            self.failed = true;
-            return Err(DeviceFailed);
-        }
-        self.room -= bytes.len();
-        Ok(())
-    }
-}
-
-impl Sink for Narrow {
-    ghost use Rattle.std.specs.Prelude.{[]};
-
-    ghost held = { λ s. s.taken.bytes };
-
-    ghost waits = { λ _. [] };
-
-    ghost has_failed = { λ s. s.failed };
-
-    fn write(&mut self, bytes: &[u8]) -> Result<(), DeviceFailed> {
-        self.keep(bytes)?;
-        self.taken.note(&Ok(bytes.len()), bytes);
-        Ok(())
-    }
-
-    fn flush(&mut self) -> Result<(), DeviceFailed> {
-        self.keep(b"|")
-    }
-
-    fn failed(&self) -> bool {
-        self.failed
-    }
+/// A sink with space for so many bytes, which adds a bar for each flush.
+fn marking(room: usize) -> FailingSink {
+    let mut sink = FailingSink::with_room(room);
+    sink.mark_flushes();
+    sink
 }
 
 // The answer of the history `old` to a source that fails after these bytes, its entries then, and
@@ -218,13 +166,8 @@ fn write_to<S: Sink>(way: &Way, history: &mut FileHistory, sink: &mut S) -> &'st
 }
 
 // The two answers of a sink with so much space.
-fn answers(
-    alloc: Global,
-    way: &Way,
-    history: &mut FileHistory,
-    room: usize,
-) -> (&'static str, &'static str) {
-    let mut sink = Narrow::new(alloc, room);
+fn answers(way: &Way, history: &mut FileHistory, room: usize) -> (&'static str, &'static str) {
+    let mut sink = marking(room);
     let first = write_to(way, history, &mut sink);
     if sink.failed() == (first == "fine") {
         return (first, "not as the sink has failed");
@@ -240,7 +183,7 @@ fn with_room(
     history: &mut FileHistory,
     room: usize,
 ) -> Result<String, AllocError> {
-    let (first, second) = answers(alloc, way, history, room);
+    let (first, second) = answers(way, history, room);
     let entries = told_with_entries(alloc, history, "")?;
     let rest = written(alloc, way, history)?;
     let rest = or_nothing(rest.as_str());
@@ -276,7 +219,7 @@ fn sinks_that_fail_at_each_byte(rt: HostRuntime) -> Result<(), Fail> {
 }
 
 // Whether a history without entries has nothing to write to a sink.
-fn writes_nothing(alloc: Global, sink: &mut Narrow) -> bool {
+fn writes_nothing(alloc: Global, sink: &mut FailingSink) -> bool {
     let mut history = FileHistory::with_config(alloc, &Config::default());
     history.save_to(sink).is_ok() && history.append_to(sink).is_ok()
 }
@@ -284,7 +227,7 @@ fn writes_nothing(alloc: Global, sink: &mut Narrow) -> bool {
 /// A failed sink isn't called if nothing is new.
 #[test]
 fn nothing_new_for_a_failed_sink(rt: HostRuntime) {
-    let mut sink = Narrow::new(rt.alloc(), 0);
+    let mut sink = marking(0);
     assert!(rt; sink.flush().is_err() && writes_nothing(rt.alloc(), &mut sink));
 }
 
@@ -309,7 +252,7 @@ const PASSED_ON: &str = "
 #[derive(Drop)]
 struct Desk {
     history: FileHistory,
-    sink: Narrow,
+    sink: FailingSink,
 }
 
 impl Desk {
@@ -326,9 +269,9 @@ impl Desk {
 
 impl Player for Desk {
     fn play(&mut self, alloc: Global, call: &str) -> Result<String, Fail> {
-        let before = self.sink.written.len();
+        let before = self.sink.bytes().len();
         self.made(alloc, call)?;
-        let said = match self.sink.written.get(before..) {
+        let said = match self.sink.bytes().get(before..) {
             Some(written) => pictured_bytes(alloc, written),
             None => String::from_str(alloc, "less than before"),
         };
@@ -340,6 +283,6 @@ impl Player for Desk {
 #[test]
 fn rows_are_passed_on_at_their_end(rt: HostRuntime) -> Result<(), Fail> {
     let history = FileHistory::new(rt.alloc());
-    let sink = Narrow::new(rt.alloc(), usize::MAX);
+    let sink = marking(usize::MAX);
     rows_hold(rt.alloc(), &mut Desk { history, sink }, PASSED_ON)
 }

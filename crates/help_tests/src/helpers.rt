@@ -4,7 +4,7 @@ ghost use Rattle.std.proofs.Common.{ap};
 ghost use Rattle.line_help.specs.Completion.{nothing_offered};
 ghost use Rattle.line_keys.specs.Replies.{Replies, gives, gives_at_once, gives_unless, itself};
 ghost use Rattle.line_config.specs.declared.errors.HookFault.{HookFault};
-ghost use Rattle.line_help.specs.declared.validate.ValidationResult.TheVariants.{Valid};
+ghost use Rattle.line_help.specs.declared.helpers.validate.ValidationResult.TheVariants.{Valid};
 
 use crate::asks::Ask;
 use crate::brackets::shown;

@@ -1,7 +1,7 @@
 -- Scripts that play alike on an input with so many keys and pastes, whatever fuel above that they have.
 use Rattle.std.proofs.Common.{◌≡◌, ℕ, zero, suc, ◌≤◌, Bool, true, false, refl, sym, ap, subst, arith}
 use Rattle.std.specs.Bool.{⊤}
-use Rattle.line_config.specs.Scripts.{Script, Ends, Asks, then}
+use Rattle.script.specs.Scripts.{Script, Ends, Asks, then}
 
 -- what follows an ask, by whether it reads: of no item nothing follows
 abbrev pub Next : Bool → ℕ → (ℕ → Type 0) → Type 0

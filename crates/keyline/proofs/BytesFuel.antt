@@ -6,7 +6,7 @@ use Rattle.line_config.specs.declared.settings.EditMode.{EditMode}
 use Rattle.line_config.specs.declared.settings.EditMode.TheVariants.{Emacs, Vi}
 use Rattle.line_keys.specs.Keys.{alt, key_of, none}
 use Rattle.line_screen.specs.Input.{AtBad, AtEnd, AtFailure, Chars, Continuation, Inside, Next, Over, Stop, Torn, after_byte, char_then, chars_of, in_char, lead_in, lead_rows, value_with, is_scalar}
-use Rattle.line_screen.specs.KeyGrammar.{Cut, Key, Paste, Readings, Stops, announces, byte_is, coming_of, esc, in_escape, in_paste, in_sequence, keeps_byte, lone_escape, marker, put, readings}
+use Rattle.line_screen.specs.KeyGrammar.{Cut, Key, Paste, Readings, Stops, announces, byte_is, coming_of, esc, in_escape, in_paste, in_sequence, keeps_byte, lone_escape, marker, paste_with_char, readings}
 use Rattle.line_screen.specs.Sequences.{awaits_more, sequence_key}
 use Rattle.keyline.specs.Sessions.{coming_from}
 use Rattle.keyline.specs.Fuel.{keys_and_pastes}
@@ -106,12 +106,12 @@ mutual
       let next = few mode rest in
       let on = few_paste mode text after_return (matched + 1) rest in
       let anew = few_paste mode (text ++ take matched marker) false 1 rest in
-      let more = few_paste mode (put (text ++ take matched marker) (after_return && (matched == 0)) c) (c == 0x0D) 0 rest in
+      let more = few_paste mode (paste_with_char (text ++ take matched marker) (after_return && (matched == 0)) c) (c == 0x0D) 0 rest in
       items_if (c == slice_index marker matched)
       (cond (matched == 5) (Paste text behind (readings mode rest)) (in_paste mode text after_return (matched + 1) rest))
-      (cond (c == 0x1B) (in_paste mode (text ++ take matched marker) false 1 rest) (in_paste mode (put (text ++ take matched marker) (after_return && (matched == 0)) c) (c == 0x0D) 0 rest)) (suc (size rest))
+      (cond (c == 0x1B) (in_paste mode (text ++ take matched marker) false 1 rest) (in_paste mode (paste_with_char (text ++ take matched marker) (after_return && (matched == 0)) c) (c == 0x0D) 0 rest)) (suc (size rest))
       (items_if (matched == 5) (Paste text behind (readings mode rest)) (in_paste mode text after_return (matched + 1) rest) (suc (size rest)) (omega arith) (omega arith))
-      (items_if (c == 0x1B) (in_paste mode (text ++ take matched marker) false 1 rest) (in_paste mode (put (text ++ take matched marker) (after_return && (matched == 0)) c) (c == 0x0D) 0 rest) (suc (size rest)) (omega arith) (omega arith))
+      (items_if (c == 0x1B) (in_paste mode (text ++ take matched marker) false 1 rest) (in_paste mode (paste_with_char (text ++ take matched marker) (after_return && (matched == 0)) c) (c == 0x0D) 0 rest) (suc (size rest)) (omega arith) (omega arith))
   few_paste mode text after_return matched (Over stop left) = omega arith
 
 pub few_in_bytes : (mode : EditMode) (bytes : List ℕ) (last : Last) → keys_and_pastes (coming_from mode bytes last) ≤ length bytes

@@ -1,28 +1,74 @@
 -- The end of a line: an exit for each fault, and the one where all went well.
 use Rattle.std.proofs.Common.{◌≡◌, ℕ, append-nil, Bool, true, false, ◌&&◌, List, [], ◌∷◌, inl, inr, refl, sym, ap, ◌∙◌, subst, IsTrue, Result, Ok, Err, IfErr}
-use Rattle.std.specs.Prelude.{if◌then◌else◌}
+use Rattle.std.specs.Global.{Global}
+use Rattle.std.specs.Prelude.{IfOk, MatchResult, OnErr, OnOk, String, if◌then◌else◌, string_bytes}
 use Rattle.line_config.specs.declared.errors.ReadlineError.{ReadlineError}
 use Rattle.line_config.specs.declared.errors.ReadlineError.TheVariants.{Display, Lines, Memory}
 use Rattle.line_config.specs.Sending.{Takes, TakesSome, Sends}
-use Rattle.line_config.proofs.ScriptLaws.{err_in}
+use Rattle.script.proofs.ScriptLaws.{err_in}
 use Rattle.line_config.proofs.Taking.{takes_none}
-use Rattle.line_editor.specs.Courses.{breaks_after}
+use Rattle.line_editor.specs.LineEndings.{breaks_after}
 use Rattle.line_help.specs.History.{Filed, takes}
-use Rattle.line_keys.specs.Coming.{Coming, made_of}
+use Rattle.line_keys.specs.Coming.{Coming, answer_map}
+use Rattle.line_screen.specs.ScreenCalls.{NothingWaits, Sent, CutSending, sink_of}
 use Rattle.line_screen.specs.Drawing.{row_break, break_if}
-use Rattle.keyline.specs.Playing.{AreDone, Work, Closes, CloseReason, IsStopped, Went, work}
-use Rattle.keyline.specs.Events.{Event, Breaks, Keeps, Writes, end_events}
-use Rattle.keyline.specs.Sessions.{remembered, line_text}
+use Rattle.line_screen.specs.declared.renderer.ScreenRenderer.{ScreenRenderer}
+use Rattle.line_screen.proofs.WaitingLemmas.{sent_rests, unsent_rests}
+use Rattle.keyline.specs.SessionEffects.{AreDone, Closes, CloseReason, DrawsEnd, EndIsCut, EndIsDrawn, CutSessionEvent, RowIsCut, RowIsDrawn, WantsMemory, Went, Work, breaks, work}
+use Rattle.keyline.specs.Events.{SessionEvent, Breaks, Keeps, Writes, end_events}
+use Rattle.keyline.specs.Sessions.{history_after, history_with_if, line_text}
 use Rattle.keyline.proofs.EventLemmas.{none_done as nothing_done, remembered_none}
 
 true_not_false : (b : Bool) → b ≡ true → b ≡ false → ⊥
 true_not_false b one other = absurd (cc)
 
--- a line with such an error gets a new row
-pub breaks_by : {A : Type 0} (f : A → List ℕ) (o : Result A ReadlineError) (e : ReadlineError) (b : Bool) → o ≡ Err e → b ≡ breaks_after e → b ≡ true
-    → IfErr (made_of f o) (λ e. breaks_after e ≡ true)
-breaks_by {A} f o e b is same broken =
-    let P : Result A ReadlineError → Type 0 = λ o. IfErr (made_of f o) (λ e. breaks_after e ≡ true) in subst P (sym is) (sym same ∙ broken)
+-- ---- the end of a line on the display and in the history
+
+module _ {D : Type 0} (held waits : D → List ℕ) (failed : D → Bool) where
+  pub row_drawn : {A : Type 0} (asked : Bool) (old new : ScreenRenderer D) (result : Result A ReadlineError) → asked ≡ true → OnOk result (Sent held waits failed row_break old new) → OnErr result (CutSending held failed row_break old new) → IfErr result (λ e. e ≡ Display)
+      → MatchResult result (λ _. RowIsDrawn held failed asked (sink_of old) (sink_of new)) (λ e. (e ≡ Display) × RowIsCut held failed asked (sink_of old) (sink_of new))
+  row_drawn asked old new (Ok x) is sent unsent fault = record {
+    drawn = subst (λ b. Takes held (sink_of old) (sink_of new) (break_if b)) (sym is) sent.takes;
+    works = sent.works;
+    stays = λ no. absurd (true_not_false asked is no);
+  }
+  row_drawn asked old new (Err e) is sent unsent fault = (fault, (is, unsent.begins, unsent.fails))
+
+  pub row_undrawn : (asked : Bool) (sink : D) → asked ≡ false → RowIsDrawn held failed asked sink sink
+  row_undrawn asked sink is = record { drawn = subst (λ b. Takes held sink sink (break_if b)) (sym is) (takes_none held sink sink refl); works = refl; stays = λ no. refl }
+
+  pub row_rests : {A : Type 0} (old new : ScreenRenderer D) (result : Result A ReadlineError) → OnOk result (Sent held waits failed row_break old new) → OnErr result (CutSending held failed row_break old new)
+      → NothingWaits waits failed (sink_of old) → NothingWaits waits failed (sink_of new)
+  row_rests old new (Ok x) sent unsent none = sent_rests held waits failed row_break old new none sent
+  row_rests old new (Err e) sent unsent none = unsent_rests held waits failed row_break old new unsent
+
+module _ {D : Type 0} (shown : D → List ℕ) (show_failed : D → Bool) (adds : Bool) (outcome : Result (List ℕ) ReadlineError) (d d' : D) (h : Filed) where
+  abbrev End : {A : Type 0} → Filed → Result A ReadlineError → Type 0
+  End h' result = DrawsEnd shown show_failed adds outcome d d' h h' result
+
+  abbrev Row : Type 0
+  Row = RowIsDrawn shown show_failed (breaks outcome) d d'
+
+  -- the display failed
+  pub end_cut : {A : Type 0} (result : Result A ReadlineError) (e : ReadlineError) → result ≡ Err e → e ≡ Display → RowIsCut shown show_failed (breaks outcome) d d' → End h result
+  end_cut {A} result e is display cut =
+      let P : Result A ReadlineError → Type 0 = End h in
+      subst P (sym (is ∙ ap (λ e. Err e) display)) (cut, refl)
+
+  -- an accepted line is in the history, or memory ran out for it
+  pub end_kept : {A : Type 0} (text : List ℕ) (h' : Filed) (result : Result A ReadlineError) → outcome ≡ Ok text → Row → OnOk result (h' ≡ history_with_if adds (text ∷ []) h) → OnErr result (h' ≡ h)
+      → IfErr result (λ e. (e ≡ Memory) × IsTrue (adds && takes h text)) → End h' result
+  end_kept text h' (Ok x) is row added kept fault = record { row = row; kept = subst (λ o. h' ≡ history_after adds o h) (sym is) added }
+  end_kept text h' (Err e) is row added kept fault =
+      let Wants : Result (List ℕ) ReadlineError → Type 0 = λ o. WantsMemory adds h o Memory in
+      let P : ReadlineError → Type 0 = EndIsCut shown show_failed adds outcome d d' h h' in
+      subst P (sym fault.0) (row, subst Wants (sym is) (refl, fault.1), kept)
+
+  -- no line was accepted
+  pub end_other : (e : ReadlineError) → outcome ≡ Err e → Row → EndIsDrawn shown show_failed adds outcome d d' h h
+  end_other e is row = record { row = row; kept = sym (ap (λ o. history_after adds o h) is) }
+
+-- ---- and the line that is written
 
 module _ {D L : Type 0} (shown : D → List ℕ) (show_failed : D → Bool) (written_in : L → List ℕ) (write_failed : L → Bool) where
   abbrev Ends : Bool → Result (List ℕ) ReadlineError → (Coming → Work D L) → (Coming → Work D L) → Result (List ℕ) ReadlineError → Type 0
@@ -38,11 +84,15 @@ module _ {D L : Type 0} (shown : D → List ℕ) (show_failed : D → Bool) (wri
   stays_not (Err e) old new result p = λ other. absurd (true_not_false (breaks_after e) p other)
 
   -- its first event is the new row
-  row_first : (outcome : Result (List ℕ) ReadlineError) → Breaks' outcome → (others : List Event) × (end_events outcome ≡ Breaks ∷ others)
+  row_first : (outcome : Result (List ℕ) ReadlineError) → Breaks' outcome → (others : List SessionEvent) × (end_events outcome ≡ Breaks ∷ others)
   row_first (Ok text) p = (Keeps text ∷ (Writes text ∷ []), refl)
   row_first (Err e) p = ([], ap (λ b. if b then Breaks ∷ [] else []) p)
 
-  abbrev Sums : Bool → List Event → Work D L → Work D L → Type 0
+  row_asked : (outcome : Result (List ℕ) ReadlineError) → IsTrue (breaks outcome) → Breaks' outcome
+  row_asked (Ok text) p = tt
+  row_asked (Err e) p = p
+
+  abbrev Sums : Bool → List SessionEvent → Work D L → Work D L → Type 0
   Sums adds events old new = AreDone shown written_in adds events old new
 
   none_done : (adds : Bool) (x : Work D L) → Sums adds [] x x
@@ -52,7 +102,7 @@ module _ {D L : Type 0} (shown : D → List ℕ) (show_failed : D → Bool) (wri
   row_done adds d d' l h coming drawn = record { drawn = drawn; wrote = takes_none written_in l l refl; history_is = sym (remembered_none adds h); left_is = refl; answered = tt }
 
   -- the display failed
-  pub closes_undrawn : (adds : Bool) (outcome : Result (List ℕ) ReadlineError) (d d' : D) (l : L) (h : Filed) (result : Result (List ℕ) ReadlineError) (e : ReadlineError)
+  closes_undrawn : (adds : Bool) (outcome : Result (List ℕ) ReadlineError) (d d' : D) (l : L) (h : Filed) (result : Result (List ℕ) ReadlineError) (e : ReadlineError)
       → Breaks' outcome → result ≡ Err e → e ≡ Display → IsTrue (show_failed d') → TakesSome shown d d' row_break → Ends adds outcome (work d l h) (work d' l h) result
   closes_undrawn adds outcome d d' l h result e breaks is display failed some =
       let now : result ≡ Err Display = is ∙ ap (λ e. Err e) display in
@@ -68,7 +118,7 @@ module _ {D L : Type 0} (shown : D → List ℕ) (show_failed : D → Bool) (wri
       }
 
   -- the history could take no line
-  pub closes_unkept : (adds : Bool) (text : List ℕ) (d d' : D) (l : L) (h h' : Filed) (result : Result (List ℕ) ReadlineError) (e : ReadlineError)
+  closes_unkept : (adds : Bool) (text : List ℕ) (d d' : D) (l : L) (h h' : Filed) (result : Result (List ℕ) ReadlineError) (e : ReadlineError)
       → Takes shown d d' row_break → show_failed d' ≡ show_failed d → result ≡ Err e → e ≡ Memory → IsTrue (adds && takes h text) → h' ≡ h → Ends adds (Ok text) (work d l h) (work d' l h') result
   closes_unkept adds text d d' l h h' result e drawn works is memory adding kept =
       let now : result ≡ Err Memory = is ∙ ap (λ e. Err e) memory in
@@ -89,11 +139,11 @@ module _ {D L : Type 0} (shown : D → List ℕ) (show_failed : D → Bool) (wri
       }
 
   -- the line's text and newline were written, or torn
-  pub closes_written : (adds : Bool) (text : List ℕ) (d d' : D) (l l' : L) (h h' : Filed) (written : Result (Unit {0}) ReadlineError)
-      → Takes shown d d' row_break → show_failed d' ≡ show_failed d → h' ≡ remembered adds (text ∷ []) h
+  closes_written : {A : Type 0} (adds : Bool) (text : List ℕ) (d d' : D) (l l' : L) (h h' : Filed) (written : Result A ReadlineError)
+      → Takes shown d d' row_break → show_failed d' ≡ show_failed d → h' ≡ history_with_if adds (text ∷ []) h
       → Sends written_in write_failed (line_text text) l l' written → IfErr written (λ e. e ≡ Lines)
-      → Ends adds (Ok text) (work d l h) (work d' l' h') (made_of (λ u. text) written)
-  closes_written adds text d d' l l' h h' (Ok u) drawn works kept wrote named = record {
+      → Ends adds (Ok text) (work d l h) (work d' l' h') (answer_map (λ u. text) written)
+  closes_written adds text d d' l l' h h' (Ok x) drawn works kept wrote named = record {
     goes = λ coming. record {
       done = Breaks ∷ (Keeps text ∷ (Writes text ∷ []));
       others = [];
@@ -114,7 +164,7 @@ module _ {D L : Type 0} (shown : D → List ℕ) (show_failed : D → Bool) (wri
     lines_are = λ coming. inr wrote.works;
   }
   closes_written adds text d d' l l' h h' (Err e) drawn works kept wrote named =
-      let P : Coming → ReadlineError → Type 0 = λ coming e. IsStopped shown written_in adds (work d' l h' coming) (Writes text) e (work d' l' h' coming) in
+      let P : Coming → ReadlineError → Type 0 = λ coming e. CutSessionEvent shown written_in adds (work d' l h' coming) (Writes text) e (work d' l' h' coming) in
       record {
         goes = λ coming. record {
           done = Breaks ∷ (Keeps text ∷ []);
@@ -130,20 +180,8 @@ module _ {D L : Type 0} (shown : D → List ℕ) (show_failed : D → Bool) (wri
         lines_are = λ coming. inl (ap (λ e. Err e) named);
       }
 
-  -- the same, where the line is handed back
-  pub closes_handed : (adds : Bool) (text kept_text written_text : List ℕ) (d d' : D) (l l' : L) (h h' : Filed) (written : Result (Unit {0}) ReadlineError) (result : Result (List ℕ) ReadlineError)
-      → kept_text ≡ text → written_text ≡ text → made_of (λ u. text) written ≡ result
-      → Takes shown d d' row_break → show_failed d' ≡ show_failed d → h' ≡ remembered adds (kept_text ∷ []) h
-      → Sends written_in write_failed (line_text written_text) l l' written → IfErr written (λ e. e ≡ Lines)
-      → Ends adds (Ok text) (work d l h) (work d' l' h') result
-  closes_handed adds text kept_text written_text d d' l l' h h' written result kept_is written_is is drawn works kept wrote named =
-      let K : List ℕ → Type 0 = λ t. h' ≡ remembered adds (t ∷ []) h in
-      let W : List ℕ → Type 0 = λ t. Sends written_in write_failed (line_text t) l l' written in
-      let E : Result (List ℕ) ReadlineError → Type 0 = Ends adds (Ok text) (work d l h) (work d' l' h') in
-      subst E is (closes_written adds text d d' l l' h h' written drawn works (subst K kept_is kept) (subst W written_is wrote) named)
-
   -- no line was accepted
-  pub closes_other : (adds : Bool) (e : ReadlineError) (d d' : D) (l : L) (h : Filed)
+  closes_other : (adds : Bool) (e : ReadlineError) (d d' : D) (l : L) (h : Filed)
       → Takes shown d d' (break_if (breaks_after e)) → show_failed d' ≡ show_failed d → (breaks_after e ≡ false → d' ≡ d)
       → Ends adds (Err e) (work d l h) (work d' l h) (Err e)
   closes_other adds e d d' l h drawn works still = record {
@@ -160,3 +198,39 @@ module _ {D L : Type 0} (shown : D → List ℕ) (show_failed : D → Bool) (wri
           record { done = Breaks ∷ []; others = []; split = refl; at = work d' l h coming; are_done = row_done adds d d' l h coming drawn; stands = (refl, refl) }
       by coming false drawn still =
           record { done = []; others = []; split = refl; at = work d l h coming; are_done = none_done adds (work d l h coming); stands = (refl, ap (λ d. work d l h coming) (still refl)) }
+
+  same_text : (text : List ℕ) (o : Result (String Global) ReadlineError) → IfOk o (λ line. string_bytes line ≡ text) → answer_map (λ line. text) o ≡ answer_map string_bytes o
+  same_text text (Ok line) is = ap (λ t. Ok t) (sym is)
+  same_text text (Err e) is = refl
+
+  -- its end was drawn
+  pub closes_accepted : (adds : Bool) (text : List ℕ) (outcome : Result (List ℕ) ReadlineError) (d d' : D) (l l' : L) (h h' : Filed) (result : Result (String Global) ReadlineError)
+      → outcome ≡ Ok text → EndIsDrawn shown show_failed adds outcome d d' h h'
+      → Sends written_in write_failed (line_text text) l l' result → IfErr result (λ e. e ≡ Lines) → IfOk result (λ line. string_bytes line ≡ text)
+      → Ends adds outcome (work d l h) (work d' l' h') (answer_map string_bytes result)
+  closes_accepted adds text outcome d d' l l' h h' result is end wrote named same =
+      let Drawn : Result (List ℕ) ReadlineError → Type 0 = λ o. EndIsDrawn shown show_failed adds o d d' h h' in
+      let E : Result (List ℕ) ReadlineError → Type 0 = Ends adds (Ok text) (work d l h) (work d' l' h') in
+      let P : Result (List ℕ) ReadlineError → Type 0 = λ o. Ends adds o (work d l h) (work d' l' h') (answer_map string_bytes result) in
+      let drawn = subst Drawn is end in
+      subst P (sym is) (subst E (same_text text result same) (closes_written adds text d d' l l' h h' result drawn.row.drawn drawn.row.works drawn.kept wrote named))
+
+  pub closes_refused : (adds : Bool) (e : ReadlineError) (outcome : Result (List ℕ) ReadlineError) (d d' : D) (l : L) (h h' : Filed)
+      → outcome ≡ Err e → EndIsDrawn shown show_failed adds outcome d d' h h' → Ends adds outcome (work d l h) (work d' l h') (Err e)
+  closes_refused adds e outcome d d' l h h' is end =
+      let Drawn : Result (List ℕ) ReadlineError → Type 0 = λ o. EndIsDrawn shown show_failed adds o d d' h h' in
+      let P : Result (List ℕ) ReadlineError → Type 0 = λ o. Ends adds o (work d l h) (work d' l h') (Err e) in
+      let Q : Filed → Type 0 = λ h'. Ends adds (Err e) (work d l h) (work d' l h') (Err e) in
+      let drawn = subst Drawn is end in
+      subst P (sym is) (subst Q (sym drawn.kept) (closes_other adds e d d' l h drawn.row.drawn drawn.row.works drawn.row.stays))
+
+  -- its end was cut
+  pub closes_cut : (adds : Bool) (outcome : Result (List ℕ) ReadlineError) (d d' : D) (l : L) (h h' : Filed) (result : Result (List ℕ) ReadlineError) (e : ReadlineError)
+      → result ≡ Err e → EndIsCut shown show_failed adds outcome d d' h h' e → Ends adds outcome (work d l h) (work d' l h') result
+  closes_cut adds outcome d d' l h h' result Display is cut =
+      let P : Filed → Type 0 = λ h'. Ends adds outcome (work d l h) (work d' l h') result in
+      subst P (sym cut.1) (closes_undrawn adds outcome d d' l h result Display (row_asked outcome cut.0.0) is refl cut.0.2 cut.0.1)
+  closes_cut adds (Ok text) d d' l h h' result Memory is cut =
+      closes_unkept adds text d d' l h h' result Memory cut.0.drawn cut.0.works is refl cut.1.1 cut.2
+  closes_cut adds (Err e) d d' l h h' result Memory is cut = absurd (cut.1.1)
+  closes_cut adds outcome d d' l h h' result _ is cut = absurd cut

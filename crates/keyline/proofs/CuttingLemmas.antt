@@ -5,9 +5,9 @@ use Rattle.line_config.specs.declared.device.Last.TheVariants.{End}
 use Rattle.line_config.specs.declared.settings.EditMode.{EditMode}
 use Rattle.line_config.specs.declared.settings.EditMode.TheVariants.{Emacs, Vi}
 use Rattle.line_keys.specs.declared.key.KeyCode.TheVariants.{BracketedPasteStart, Char, Esc, Left}
-use Rattle.line_keys.specs.Coming.{Coming, Pressed, Pasted, CutOff, Ends, End as AtItsEnd, unread}
+use Rattle.line_keys.specs.Coming.{Coming, Pressed, Pasted, CutOff, Ends, End as AtItsEnd, bytes_to_come}
 use Rattle.line_keys.specs.Keys.{key_of, key_with, none, alt}
-use Rattle.line_screen.specs.KeyGrammar.{readings_then, Readings, Key, Paste, Cut, Stops, readings, lone_escape, in_escape, in_sequence, in_paste, are_whole, announces, byte_is, coming_of, esc, inside, keeps_byte, marker, put}
+use Rattle.line_screen.specs.KeyGrammar.{readings_then, Readings, Key, Paste, Cut, Stops, readings, lone_escape, in_escape, in_sequence, in_paste, are_whole, announces, byte_is, coming_of, esc, inside, keeps_byte, marker, paste_with_char}
 use Rattle.line_screen.specs.Input.{Chars, Next, Over, Stop, AtEnd, AtBad, AtFailure, Torn, Inside, ReadsFirst, chars_of}
 use Rattle.line_screen.specs.Sequences.{awaits_more, sequence_key}
 use Rattle.line_screen.proofs.FollowingLemmas.{whole_keys_stay}
@@ -101,12 +101,12 @@ mutual
       → Bare outer (in_paste mode text after_return matched chars)
   bare_paste mode text after_return matched outer here (Next c behind rest) is =
       let escaped : Readings = in_paste mode (text ++ take matched marker) false 1 rest in
-      let other : Readings = in_paste mode (put (text ++ take matched marker) (after_return && (matched == 0)) c) (c == 0x0D) 0 rest in
+      let other : Readings = in_paste mode (paste_with_char (text ++ take matched marker) (after_return && (matched == 0)) c) (c == 0x0D) 0 rest in
       bare_by (c == slice_index marker matched) outer (if matched == 5 then Paste text behind (readings mode rest) else in_paste mode text after_return (matched + 1) rest) (if c == 0x1B then escaped else other)
       (bare_by (matched == 5) outer (Paste text behind (readings mode rest)) (in_paste mode text after_return (matched + 1) rest)
       (bare mode behind rest is) (bare_paste mode text after_return (matched + 1) outer behind rest is))
       (bare_by (c == 0x1B) outer escaped other (bare_paste mode (text ++ take matched marker) false 1 outer behind rest is)
-      (bare_paste mode (put (text ++ take matched marker) (after_return && (matched == 0)) c) (c == 0x0D) 0 outer behind rest is))
+      (bare_paste mode (paste_with_char (text ++ take matched marker) (after_return && (matched == 0)) c) (c == 0x0D) 0 outer behind rest is))
   bare_paste mode text after_return matched outer here (Over stop left) is = tt
 
 -- ---- the law
@@ -116,11 +116,11 @@ coming_follows : (here : List ℕ) (r : Readings) (more : List ℕ) (following :
 coming_follows here (Key k behind rest) more following is whole =
     let later = coming_follows behind rest more following is whole in
     ap (λ bytes. Pressed (here ++ bytes) k (coming_of (behind ++ more) (readings_then rest more following))) (sym (unread_of more following))
-    ∙ ap (Pressed (here ++ unread (coming_of more following)) k) later
+    ∙ ap (Pressed (here ++ bytes_to_come (coming_of more following)) k) later
 coming_follows here (Paste text behind rest) more following is whole =
     let later = coming_follows behind rest more following is whole in
     ap (λ bytes. Pasted (here ++ bytes) text (coming_of (behind ++ more) (readings_then rest more following))) (sym (unread_of more following))
-    ∙ ap (Pasted (here ++ unread (coming_of more following)) text) later
+    ∙ ap (Pasted (here ++ bytes_to_come (coming_of more following)) text) later
 coming_follows here (Cut stop left) more following is whole = absurd (cc)
 coming_follows here (Stops AtEnd left) more following is whole = ap (λ bytes. coming_of (bytes ++ more) following) is
 coming_follows here (Stops AtBad left) more following is whole = absurd (cc)

@@ -7,30 +7,30 @@ use Rattle.line_config.specs.declared.config.Config.{Config}
 use Rattle.line_config.specs.declared.errors.ReadlineError.{ReadlineError}
 use Rattle.line_config.specs.declared.errors.ReadlineError.TheVariants.{Reader, Display, Lines, HistoryText, Helper, Handler, Memory}
 use Rattle.line_help.specs.History.{Filed}
-use Rattle.line_keys.specs.Answers.{Custom}
-use Rattle.line_keys.specs.Coming.{Coming, made_of}
-use Rattle.line_keys.specs.Feeds.{KeyFeed}
+use Rattle.line_keys.specs.CustomBindings.{Custom}
+use Rattle.line_keys.specs.Coming.{Coming, answer_map}
+use Rattle.line_keys.specs.KeyFeeds.{KeyFeed}
 use Rattle.line_record.specs.Ring.{Ring}
-use Rattle.line_editor.specs.Courses.{breaks_after}
-use Rattle.line_editor.specs.LineScripts.{LineState, LineStage, kept, line_script, line_stage}
+use Rattle.line_editor.specs.LineEndings.{breaks_after}
+use Rattle.line_editor.specs.LineScripts.{LineState, LineStage, line_state, line_script, line_stage}
 use Rattle.line_editor.specs.Redraws.{fresh}
-use Rattle.line_editor.specs.Running.{Helping, Runs, kept_first, outcome_of, setting_by, stage_first}
+use Rattle.line_editor.specs.LineRun.{Helping, Runs, first_line_state, outcome_of, setting_by, stage_first}
 use Rattle.line_editor.specs.States.{reason_of}
-use Rattle.line_editor.specs.Steps.{surface}
-use Rattle.line_editor.specs.Turning.{cause_of}
+use Rattle.line_editor.specs.EditSteps.{surface}
+use Rattle.line_editor.specs.Turn.{cause_of}
 use Rattle.line_editor.specs.Values.{Setting}
-use Rattle.line_editor.specs.declared.running.Ran.{Ran}
-use Rattle.line_screen.specs.Calls.{canvas_of, screen_of, sink_of, ruler_of}
+use Rattle.line_editor.specs.declared.line_run.Ran.{Ran}
+use Rattle.line_screen.specs.ScreenCalls.{canvas_of, screen_of, sink_of, ruler_of}
 use Rattle.line_screen.specs.Reader.{items_of}
 use Rattle.line_screen.specs.declared.reading.reader.KeyReader.{KeyReader}
 use Rattle.line_screen.specs.declared.renderer.ScreenRenderer.{ScreenRenderer}
 use Rattle.line_screen.proofs.CallLemmas.{goes_stay}
 use Rattle.line_screen.proofs.WaitingLemmas.{reads_find_nothing_waiting}
 use Rattle.keyline.specs.Desks.{TakesLine, DeskReason, desk_feed, session_state_of, work_of}
-use Rattle.keyline.specs.Known.{Known, HasPassedOn, HasPassedLines}
-use Rattle.keyline.specs.Playing.{AreDone, Closes, CloseReason, SessionReason, Work, work}
-use Rattle.keyline.specs.Events.{Event, Course, Begins, Breaks, asks_events, end_events, line_course, lines_kept, played_in}
-use Rattle.keyline.specs.Sessions.{Given, SessionState, given_of, history_after, remembered, state_after}
+use Rattle.keyline.specs.KnownDevices.{KnownDevices, HasPassedOn, HasPassedLines}
+use Rattle.keyline.specs.SessionEffects.{AreDone, Closes, CloseReason, SessionReason, Work, work}
+use Rattle.keyline.specs.Events.{SessionEvent, Course, Begins, Breaks, asks_events, end_events, line_course, lines_kept, line_play_in}
+use Rattle.keyline.specs.Sessions.{Given, SessionState, given_of, history_after, history_with_if, state_after}
 use Rattle.keyline.specs.Shows.{EachShown}
 use Rattle.keyline.specs.declared.desk.Desk.{Desk}
 use Rattle.keyline.proofs.EventLemmas.{Cut, Goes, Whole, done_both, line_went, none_done, remembered_none, went_before, went_behind, went_cases, went_not, went_not_whole, went_so, went_whole}
@@ -57,11 +57,11 @@ reason_by g source display lines feed hook _ of_source c = tt
 
 -- ---- the outcome of a line as that of its end
 
-err_given : {A : Type 0} (o : Result A ReadlineError) (f : A → List ℕ) (e : ReadlineError) (P : ReadlineError → Type 0) → IfErr o P → made_of f o ≡ Err e → P e
+err_given : {A : Type 0} (o : Result A ReadlineError) (f : A → List ℕ) (e : ReadlineError) (P : ReadlineError → Type 0) → IfErr o P → answer_map f o ≡ Err e → P e
 err_given (Ok x) f e P p is = absurd (cc)
 err_given (Err d) f e P p is = let same : d ≡ e = cc in subst P same p
 
-ok_given : {A : Type 0} (o : Result A ReadlineError) (f : A → List ℕ) (result : Result (List ℕ) ReadlineError) (P : Type 0) → OnOk o P → result ≡ made_of f o → OnOk result P
+ok_given : {A : Type 0} (o : Result A ReadlineError) (f : A → List ℕ) (result : Result (List ℕ) ReadlineError) (P : Type 0) → OnOk o P → result ≡ answer_map f o → OnOk result P
 ok_given (Ok x) f (Ok u) P p is = p
 ok_given (Ok x) f (Err e) P p is = tt
 ok_given (Err d) f (Ok u) P p is = absurd (cc)
@@ -73,6 +73,12 @@ ok_of_cut (Err d) e P is = tt
 
 -- ---- a line at a desk
 
+-- what holds with the renderer and the helper that were taken out holds of the desk
+pub with_held : {S H D L : Type 0} (P : Desk S H D L → Type 0) (at old : Desk S H D L) → at ≡ old → (out : ScreenRenderer D) (helper : Option H) → out ≡ at.out → helper ≡ at.helper
+    → P (record at { out = out; helper = helper }) → P old
+with_held P at old is out helper out_is helper_is p =
+    subst P is (subst (λ out. P (record at { out = out })) out_is (subst (λ helper. P (record at { out = out; helper = helper })) helper_is p))
+
 abbrev pair : Result (List ℕ) ReadlineError → SessionState → Result (List ℕ) ReadlineError × SessionState
 pair o x = (o, x)
 
@@ -80,9 +86,9 @@ abbrev desk_of : {S H D L : Type 0} → KeyReader S → ScreenRenderer D → Opt
 desk_of reader out helper history ring last_query lines =
     record { reader = reader; out = out; helper = helper; history = history; ring = ring; last_query = last_query; lines = lines }
 
-module _ {S H D L K T : Type 0} (k : Known S D L) (helps : Option H → Helping) (custom : Custom) (config : Config) (prompt : List ℕ)
+module _ {S H D L K T : Type 0} (k : KnownDevices S D L) (helps : Option H → Helping) (custom : Custom) (config : Config) (prompt : List ℕ)
     (old : Desk S H D L) (ran : Ran (ScreenRenderer D) H K T) (ring : Ring) (last_query : String Global) (reader : KeyReader S) where
-  abbrev RunsAt : Type 0
+  abbrev pub RunsAt : Type 0
   RunsAt = Runs (canvas_of k.shown k.waits k.show_failed) helps custom prompt old.helper old.history.kept.entries config
       old.out old.ring (string_bytes old.last_query) (items_of k.feed old.reader) ran ring (string_bytes last_query) (items_of k.feed reader)
 
@@ -99,7 +105,7 @@ module _ {S H D L K T : Type 0} (k : Known S D L) (helps : Option H → Helping)
   first = stage_first old.out (ruler_of (screen_of old.out)) setting old.ring (string_bytes old.last_query) come
 
   abbrev last : RunsAt → LineStage (ScreenRenderer D)
-  last runs = line_stage (surface ran.out runs.layout) (kept runs.value runs.input ring runs.modal left)
+  last runs = line_stage (surface ran.out runs.layout) (line_state runs.value runs.input ring runs.modal left)
 
   screen_stays : RunsAt → IsTrue (items_of k.feed reader).told → screen_of ran.out ≡ screen_of old.out
   screen_stays runs t =
@@ -138,12 +144,12 @@ module _ {S H D L K T : Type 0} (k : Known S D L) (helps : Option H → Helping)
     abbrev LineComes : ℕ → Type 0
     LineComes n = Goes k.shown k.written_in config.auto_add_history (line n).events (work_of k old) (work_of k new) ((result, session_state_of k new) ≡ (line n).answer) (λ e. result ≡ Err e)
 
-    abbrev Sums : List Event → Work D L → Work D L → Type 0
+    abbrev Sums : List SessionEvent → Work D L → Work D L → Type 0
     Sums events x y = AreDone k.shown k.written_in config.auto_add_history events x y
 
     -- what is asked of it
-    abbrev asked_of : ℕ → List Event
-    asked_of n = asks_events (screen_of old.out) setting (fresh (screen_of old.out).mode) (kept_first setting old.ring (string_bytes old.last_query) come) (played_in n given state).asks
+    abbrev asked_of : ℕ → List SessionEvent
+    asked_of n = asks_events (screen_of old.out) setting (fresh (screen_of old.out).mode) (first_line_state setting old.ring (string_bytes old.last_query) come) (line_play_in n given state).asks
 
     abbrev WholeLine : ℕ → RunsAt → Type 0
     WholeLine n runs =
@@ -153,23 +159,23 @@ module _ {S H D L K T : Type 0} (k : Known S D L) (helps : Option H → Helping)
     CutLine n runs =
         Cut k.shown k.written_in config.auto_add_history old.lines old.history k.waits k.show_failed (screen_of old.out) setting (line_script n custom) first (last runs) (outcome_of ran)
 
-    abbrev Went' : List Event → Work D L → Work D L → Type 0 → (ReadlineError → Type 0) → Type 0
+    abbrev Went' : List SessionEvent → Work D L → Work D L → Type 0 → (ReadlineError → Type 0) → Type 0
     Went' events x y W F = Goes k.shown k.written_in config.auto_add_history events x y W F
 
     -- the begin of a line makes nothing
-    begun : (events : List Event) (x y : Work D L) → Sums events x y → Sums (Begins (screen_of old.out) ∷ events) x y
+    begun : (events : List SessionEvent) (x y : Work D L) → Sums events x y → Sums (Begins (screen_of old.out) ∷ events) x y
     begun events x y d = record { drawn = d.drawn; wrote = d.wrote; history_is = d.history_is; left_is = d.left_is; answered = d.answered }
 
     -- an accepted line is kept, and no other
-    kept_in_end : (o : Result (List ℕ) ReadlineError) (h h' : Filed) → h' ≡ remembered config.auto_add_history (flat_map lines_kept (end_events o)) h → h' ≡ history_after config.auto_add_history o h
+    kept_in_end : (o : Result (List ℕ) ReadlineError) (h h' : Filed) → h' ≡ history_with_if config.auto_add_history (flat_map lines_kept (end_events o)) h → h' ≡ history_after config.auto_add_history o h
     kept_in_end (Ok text) h h' is = is
     kept_in_end (Err e) h h' is = by (breaks_after e) is
       where
-        by : (b : Bool) → h' ≡ remembered config.auto_add_history (flat_map lines_kept (if b then Breaks ∷ [] else [])) h → h' ≡ h
+        by : (b : Bool) → h' ≡ history_with_if config.auto_add_history (flat_map lines_kept (if b then Breaks ∷ [] else [])) h → h' ≡ h
         by true is = is ∙ remembered_none config.auto_add_history h
         by false is = is ∙ remembered_none config.auto_add_history h
 
-    abbrev begin_of : List Event
+    abbrev begin_of : List SessionEvent
     begin_of = Begins (screen_of old.out) ∷ []
 
     abbrev CutBy : ReadlineError → Type 0
@@ -185,9 +191,9 @@ module _ {S H D L K T : Type 0} (k : Known S D L) (helps : Option H → Helping)
     line_comes n runs closes (inl whole) =
         let adds = config.auto_add_history in
         let o = outcome_of ran in
-        let p = played_in n given state in
+        let p = line_play_in n given state in
         let first = begun (asked_of n) (work_of k old) at_end whole.are_done in
-        let here : List Event = Begins (screen_of old.out) ∷ asked_of n in
+        let here : List SessionEvent = Begins (screen_of old.out) ∷ asked_of n in
         subst (λ o. Went' (here ++ end_events o) (work_of k old) (work_of k new) (Whole' n) Refused) (sym whole.answer_is)
         (went_cases k.shown k.written_in adds (result ≡ o) Refused (end_events o) at_end (work_of k new) (closes.goes left)
         (λ done same.
@@ -203,7 +209,7 @@ module _ {S H D L K T : Type 0} (k : Known S D L) (helps : Option H → Helping)
         (went_not_whole k.shown k.written_in adds (Whole' n) Refused (end_events o) at_end (work_of k new) cut)))
     line_comes n runs closes (inr cut) =
         let adds = config.auto_add_history in
-        let end = end_events (played_in n given state).answer in
+        let end = end_events (line_play_in n given state).answer in
         let here = went_behind k.shown k.written_in adds ⊥ CutBy begin_of (asked_of n) (work_of k old) (work_of k old) at_end (begun [] (work_of k old) (work_of k old) (none_done k.shown k.written_in adds (work_of k old))) cut in
         let stays = λ (e : ReadlineError) (by : CutBy e). (subst Ends by.0 closes).stays (unbroken true ⊤ e by.1) in
         let is : work_of k new ≡ at_end =

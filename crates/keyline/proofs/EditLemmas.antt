@@ -4,13 +4,13 @@ use Rattle.std.specs.Prelude.{string_bytes}
 use Rattle.line_config.specs.Feed.{Feed}
 use Rattle.line_config.specs.declared.config.Config.{Config}
 use Rattle.line_help.specs.History.{Filed}
-use Rattle.line_keys.specs.Answers.{Custom, custom_of}
+use Rattle.line_keys.specs.CustomBindings.{Custom, custom_of}
 use Rattle.line_keys.specs.Handling.{Meaning}
 use Rattle.line_keys.specs.declared.events.Event.{Event}
-use Rattle.line_screen.specs.Calls.{screen_of}
-use Rattle.keyline.specs.Known.{Known}
+use Rattle.line_screen.specs.ScreenCalls.{screen_of}
+use Rattle.keyline.specs.KnownDevices.{KnownDevices}
 use Rattle.keyline.specs.Program.{EditHelper, EditsBy, edit_helping, given_to, helper_of, nothing_bound}
-use Rattle.keyline.specs.Plays.{Loaded, Opens, RunsSession}
+use Rattle.keyline.specs.SessionRuns.{Loaded, Opens, RunsSession}
 use Rattle.keyline.specs.Sessions.{Given, given_of}
 use Rattle.keyline.specs.declared.desk.Desk.{Desk}
 use Rattle.keyline.specs.declared.options.Options.{Options}
@@ -23,7 +23,7 @@ none_bound bindings means none = ap (λ b. custom_of b means) none
 pub loaded_where : {P Q : Type 0} (config : Config) (text : Feed) (history : Filed) → (P → Q) → Loaded Q config text history → Loaded P config text history
 loaded_where config text history follows loaded = record { whole = λ p. loaded.whole (follows p); history_is = λ p. loaded.history_is (follows p) }
 
-module _ {F S D L T : Type 0} (loads : F → Feed) (k : Known S D L) (held : T → List ℕ) (failed : T → Bool) where
+module _ {F S D L T : Type 0} (loads : F → Feed) (k : KnownDevices S D L) (held : T → List ℕ) (failed : T → Bool) where
   pub edited : (config : Config) (options : Options) (words : Option (List (List ℕ))) (history : F) (source : S) (display : D) (lines : L) (text text' : T) (ended : Ended S D L T)
       (desk : Desk S EditHelper D L) (config' : Config) (custom : Custom) (prompt : List ℕ) (helper : Option EditHelper)
       → Opens loads k.feed config history helper source options.columns display lines desk

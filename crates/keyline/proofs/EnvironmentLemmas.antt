@@ -5,18 +5,18 @@ use Rattle.line_config.specs.Feed.{Feed}
 use Rattle.line_config.specs.declared.config.Config.{Config}
 use Rattle.line_config.specs.declared.errors.ReadlineError.{ReadlineError}
 use Rattle.line_config.specs.declared.errors.ReadlineError.TheVariants.{HistoryText, Memory, Reader}
-use Rattle.keyline.specs.Plays.{LoadRefused, RefusesText}
-use Rattle.keyline.specs.Program.{IsByEnvironment, uncoloured}
+use Rattle.keyline.specs.SessionRuns.{LoadRefused, RefusesText}
+use Rattle.keyline.specs.Program.{IsByEnvironment, config_without_colours}
 
-pub coloured_or_not : (asked : Bool) (config : Config) → IsByEnvironment config (if asked then uncoloured config else config)
+pub coloured_or_not : (asked : Bool) (config : Config) → IsByEnvironment config (if asked then config_without_colours config else config)
 coloured_or_not true config = inr refl
 coloured_or_not false config = inl refl
 
 -- colours have no part in the loading of a history
-text_refused : (config : Config) (text left : Feed) (why : ReadlineError) → RefusesText (uncoloured config) text left why → RefusesText config text left why
+text_refused : (config : Config) (text left : Feed) (why : ReadlineError) → RefusesText (config_without_colours config) text left why → RefusesText config text left why
 text_refused config text left why r = record { answer = r.answer; behind = r.behind }
 
-uncoloured_refused : (config : Config) (text left : Feed) (why : ReadlineError) → LoadRefused (uncoloured config) text left why → LoadRefused config text left why
+uncoloured_refused : (config : Config) (text left : Feed) (why : ReadlineError) → LoadRefused (config_without_colours config) text left why → LoadRefused config text left why
 uncoloured_refused config text left Reader h = (h.0, λ told. text_refused config text left Reader (h.1 told))
 uncoloured_refused config text left HistoryText h = (h.0, λ told. text_refused config text left HistoryText (h.1 told))
 uncoloured_refused config text left Memory h = h

@@ -4,96 +4,96 @@ use Rattle.std.specs.List.{FoldsTo, flat_map}
 use Rattle.std.specs.Prelude.{⊤, map}
 use Rattle.std.proofs.lemmas.Grind.{flat_map-append}
 use Rattle.line_buffer.specs.declared.layout.Layout.{Layout}
-use Rattle.line_config.specs.Scripts.{Goes as GoesOn}
+use Rattle.script.specs.Scripts.{Goes as GoesOn}
 use Rattle.line_config.specs.Sending.{Takes as TakesAll, TakesSome}
 use Rattle.line_config.specs.declared.errors.ReadlineError.{ReadlineError}
 use Rattle.line_config.specs.declared.errors.ReadlineError.TheVariants.{Display, Helper, Memory}
 use Rattle.line_config.proofs.Taking.{takes_none, takes_then, some_of_more, some_then}
-use Rattle.line_help.specs.History.{Filed, filed_with, filed_with_all}
-use Rattle.line_keys.specs.Coming.{Coming, left_by}
-use Rattle.line_keys.specs.Feeds.{InputItem, IsReadFault, Paste, behind}
-use Rattle.line_keys.specs.Phrases.{Reads}
-use Rattle.line_editor.specs.Calls.{Call, Canvas, MadeIn, RefusedIn, BrokenOff}
-use Rattle.line_editor.specs.Calls.Call.{Help}
-use Rattle.line_editor.specs.LineScripts.{Begins as TurnBegins, DrawnBy, FaultLeaves, Keys, LineAsk, LineScript, LineStage, LineState, Obeys, Stopped, effect_at, left_at, line_world, line_stage, played_from, steps_along}
-use Rattle.line_editor.specs.Redraws.{Asked, asked_by}
+use Rattle.line_help.specs.History.{Filed, history_with_line, history_with_lines}
+use Rattle.line_keys.specs.Coming.{Coming, coming_after_error}
+use Rattle.line_keys.specs.KeyFeeds.{InputItem, IsReadFault, Paste, behind}
+use Rattle.line_keys.specs.PhraseScripts.{Reads}
+use Rattle.line_editor.specs.RenderCalls.{Call, Canvas, MadeIn, CutCall, CutCalls}
+use Rattle.line_editor.specs.RenderCalls.Call.{Help}
+use Rattle.line_editor.specs.LineScripts.{Begins as TurnBegins, DrawnBy, CutLineAsk, Keys, LineAsk, LineScript, LineStage, LineState, Obeys, Stopped, effect_at, left_at, line_world, line_stage, played_from, steps_along}
+use Rattle.line_editor.specs.Redraws.{RedrawCalls, calls_of_redraw}
 use Rattle.line_editor.specs.States.{reason_of}
-use Rattle.line_editor.specs.Steps.{one, Surface, StepCut, Unhelped, Stops as StepsStop}
+use Rattle.line_editor.specs.EditSteps.{one, Surface, CutStep, CutHelp, CutEditSteps as StepsStop}
 use Rattle.line_editor.specs.Values.{Value, Setting, EditStep, shown_marks}
 use Rattle.line_editor.specs.Values.EditStep.{Draws as DrawStep, Helped as HelpStep, Edits as EditingStep, TakesBack as BackStep, Takes as TakingStep}
 use Rattle.line_editor.proofs.StopsLemmas.{asked_both}
 use Rattle.line_editor.proofs.ToldLemmas.{AllDone, StoppedIn, left_along, rest_along, stopped_cause, went}
-use Rattle.line_screen.specs.Calls.{Screen, bytes_of, canvas_of, ruler_of, screen_of, sink_of}
+use Rattle.line_screen.specs.ScreenCalls.{Screen, bytes_of, canvas_of, ruler_of, screen_of, sink_of}
 use Rattle.line_screen.specs.declared.renderer.ScreenRenderer.{ScreenRenderer}
 use Rattle.line_screen.proofs.CallLemmas.{sent_in_all}
-use Rattle.keyline.specs.Events.{Event, Takes, Helped, Draws, Hears, AllAnswered, asks_events, bytes_drawn, left_to_come, lines_kept, lines_written, own_events, step_event, step_events}
-use Rattle.keyline.specs.Playing.{AreDone, IsStopped, Stands, Went, Work, work}
-use Rattle.keyline.specs.Sessions.{line_text, lines_text, remembered}
-use Rattle.keyline.specs.Shows.{drawn_by}
+use Rattle.keyline.specs.Events.{SessionEvent, Takes, Helped, Draws, Hears, AllAnswered, asks_events, bytes_drawn, coming_after_events, lines_kept, lines_written, own_events, step_event, step_events}
+use Rattle.keyline.specs.SessionEffects.{AreDone, CutSessionEvent, Stands, Went, Work, work}
+use Rattle.keyline.specs.Sessions.{line_text, lines_text, history_with_if}
+use Rattle.keyline.specs.Shows.{calls_by_screen}
 use Rattle.keyline.proofs.ShowCourse.{all_of_map}
 
 -- ---- events, some after others
 
-pub left_both : (c : Coming) (xs ys : List Event) → left_to_come c (xs ++ ys) ≡ left_to_come (left_to_come c xs) ys
+pub left_both : (c : Coming) (xs ys : List SessionEvent) → coming_after_events c (xs ++ ys) ≡ coming_after_events (coming_after_events c xs) ys
 left_both c [] ys = refl
 left_both c (Hears item ∷ xs) ys = left_both (behind item c) xs ys
 left_both c (_ ∷ xs) ys = left_both c xs ys
 
-answered_both : (xs ys : List Event) → AllAnswered xs → AllAnswered ys → AllAnswered (xs ++ ys)
+answered_both : (xs ys : List SessionEvent) → AllAnswered xs → AllAnswered ys → AllAnswered (xs ++ ys)
 answered_both [] ys h k = k
 answered_both (Helped fails takes ∷ xs) ys h k = (h.0, answered_both xs ys h.1 k)
 answered_both (_ ∷ xs) ys h k = answered_both xs ys h k
 
 -- ---- the history
 
-filed_both : (h : Filed) (xs ys : List (List ℕ)) → filed_with_all h (xs ++ ys) ≡ filed_with_all (filed_with_all h xs) ys
+filed_both : (h : Filed) (xs ys : List (List ℕ)) → history_with_lines h (xs ++ ys) ≡ history_with_lines (history_with_lines h xs) ys
 filed_both h [] ys = refl
-filed_both h (x ∷ xs) ys = filed_both (filed_with h x) xs ys
+filed_both h (x ∷ xs) ys = filed_both (history_with_line h x) xs ys
 
-remembered_both : (adds : Bool) (xs ys : List (List ℕ)) (h : Filed) → remembered adds (xs ++ ys) h ≡ remembered adds ys (remembered adds xs h)
+remembered_both : (adds : Bool) (xs ys : List (List ℕ)) (h : Filed) → history_with_if adds (xs ++ ys) h ≡ history_with_if adds ys (history_with_if adds xs h)
 remembered_both true xs ys h = filed_both h xs ys
 remembered_both false xs ys h = refl
 
-pub remembered_none : (adds : Bool) (h : Filed) → remembered adds [] h ≡ h
+pub remembered_none : (adds : Bool) (h : Filed) → history_with_if adds [] h ≡ h
 remembered_none true h = refl
 remembered_none false h = refl
 
 -- ---- what a line's events come to
 
 module _ (s : Screen) where
-  abbrev drawn_in : List Event → List ℕ
+  abbrev drawn_in : List SessionEvent → List ℕ
   drawn_in events = flat_map bytes_drawn events
 
-  step_bytes : (l : Layout) (rs : List EditStep) → drawn_in (step_events s l rs) ≡ flat_map (bytes_of s) (drawn_by s l rs).calls
+  step_bytes : (l : Layout) (rs : List EditStep) → drawn_in (step_events s l rs) ≡ flat_map (bytes_of s) (calls_by_screen s l rs).calls
   step_bytes l [] = refl
   step_bytes l (DrawStep v marks redraw ∷ rs) =
-      let a = asked_by (ruler_of s) (shown_marks v marks) l redraw in
-      let more = (drawn_by s a.layout rs).calls in
+      let a = calls_of_redraw (ruler_of s) (shown_marks v marks) l redraw in
+      let more = (calls_by_screen s a.layout rs).calls in
       ap (λ b. b ++ drawn_in (step_events s a.layout rs)) (all_of_map (bytes_of s) a.calls)
       ∙ ap (λ b. flat_map (bytes_of s) a.calls ++ b) (step_bytes a.layout rs)
       ∙ sym (flat_map-append (bytes_of s) a.calls more)
   step_bytes l (HelpStep v fails takes ∷ rs) = step_bytes l rs
   step_bytes l (_ ∷ rs) = step_bytes l rs
 
-  step_left : (c : Coming) (l : Layout) (rs : List EditStep) → left_to_come c (step_events s l rs) ≡ c
+  step_left : (c : Coming) (l : Layout) (rs : List EditStep) → coming_after_events c (step_events s l rs) ≡ c
   step_left c l [] = refl
-  step_left c l (DrawStep v marks redraw ∷ rs) = step_left c (asked_by (ruler_of s) (shown_marks v marks) l redraw).layout rs
+  step_left c l (DrawStep v marks redraw ∷ rs) = step_left c (calls_of_redraw (ruler_of s) (shown_marks v marks) l redraw).layout rs
   step_left c l (HelpStep v fails takes ∷ rs) = step_left c l rs
   step_left c l (_ ∷ rs) = step_left c l rs
 
   pub step_quiet : (l : Layout) (rs : List EditStep) → (flat_map lines_kept (step_events s l rs) ≡ []) × (flat_map lines_written (step_events s l rs) ≡ [])
   step_quiet l [] = (refl, refl)
-  step_quiet l (DrawStep v marks redraw ∷ rs) = step_quiet (asked_by (ruler_of s) (shown_marks v marks) l redraw).layout rs
+  step_quiet l (DrawStep v marks redraw ∷ rs) = step_quiet (calls_of_redraw (ruler_of s) (shown_marks v marks) l redraw).layout rs
   step_quiet l (HelpStep v fails takes ∷ rs) = step_quiet l rs
   step_quiet l (_ ∷ rs) = step_quiet l rs
 
   module _ (a : Setting) where
-    own_bytes : (k : LineState) (ask : LineAsk) (more : List Event) → drawn_in (own_events a k ask ++ more) ≡ drawn_in more
+    own_bytes : (k : LineState) (ask : LineAsk) (more : List SessionEvent) → drawn_in (own_events a k ask ++ more) ≡ drawn_in more
     own_bytes k TurnBegins more = refl
     own_bytes k (Keys (Reads item)) more = refl
     own_bytes k _ more = refl
 
-    own_left : (k : LineState) (ask : LineAsk) (more : List Event) → left_to_come k.coming (own_events a k ask ++ more) ≡ left_to_come (left_at a k ask).coming more
+    own_left : (k : LineState) (ask : LineAsk) (more : List SessionEvent) → coming_after_events k.coming (own_events a k ask ++ more) ≡ coming_after_events (left_at a k ask).coming more
     own_left k TurnBegins more = refl
     own_left k (Keys (Reads item)) more = refl
     own_left k _ more = refl
@@ -108,33 +108,33 @@ module _ (s : Screen) where
     own_answered k (Keys (Reads item)) = tt
     own_answered k _ = tt
 
-    asks_bytes : (l : Layout) (k : LineState) (asks : List LineAsk) → drawn_in (asks_events s a l k asks) ≡ flat_map (bytes_of s) (drawn_by s l (steps_along a k asks)).calls
+    asks_bytes : (l : Layout) (k : LineState) (asks : List LineAsk) → drawn_in (asks_events s a l k asks) ≡ flat_map (bytes_of s) (calls_by_screen s l (steps_along a k asks)).calls
     asks_bytes l k [] = refl
     asks_bytes l k (ask ∷ asks) =
         let rs = (effect_at a k ask).steps in
         let left = left_at a k ask in
-        let x = drawn_by s l rs in
+        let x = calls_by_screen s l rs in
         let more = asks_events s a x.layout left asks in
         let later = steps_along a left asks in
         flat_map-append bytes_drawn (step_events s l rs) (own_events a k ask ++ more)
         ∙ ap (λ b. b ++ drawn_in (own_events a k ask ++ more)) (step_bytes l rs)
         ∙ ap (λ b. flat_map (bytes_of s) x.calls ++ b) (own_bytes k ask more ∙ asks_bytes x.layout left asks)
-        ∙ sym (flat_map-append (bytes_of s) x.calls (drawn_by s x.layout later).calls)
-        ∙ ap (λ (q : Asked). flat_map (bytes_of s) q.calls) (sym (asked_both (ruler_of s) l rs later))
+        ∙ sym (flat_map-append (bytes_of s) x.calls (calls_by_screen s x.layout later).calls)
+        ∙ ap (λ (q : RedrawCalls). flat_map (bytes_of s) q.calls) (sym (asked_both (ruler_of s) l rs later))
 
-    asks_left : (l : Layout) (k : LineState) (asks : List LineAsk) → left_to_come k.coming (asks_events s a l k asks) ≡ (left_along a k asks).coming
+    asks_left : (l : Layout) (k : LineState) (asks : List LineAsk) → coming_after_events k.coming (asks_events s a l k asks) ≡ (left_along a k asks).coming
     asks_left l k [] = refl
     asks_left l k (ask ∷ asks) =
         let rs = (effect_at a k ask).steps in
         let left = left_at a k ask in
-        let x = drawn_by s l rs in
+        let x = calls_by_screen s l rs in
         let more = asks_events s a x.layout left asks in
         left_both k.coming (step_events s l rs) (own_events a k ask ++ more)
-        ∙ ap (λ c. left_to_come c (own_events a k ask ++ more)) (step_left k.coming l rs)
+        ∙ ap (λ c. coming_after_events c (own_events a k ask ++ more)) (step_left k.coming l rs)
         ∙ own_left k ask more
         ∙ asks_left x.layout left asks
 
-    nothing_in : (f : Event → List (List ℕ)) (xs ys zs : List Event) → flat_map f xs ≡ [] → flat_map f ys ≡ [] → flat_map f zs ≡ [] → flat_map f (xs ++ (ys ++ zs)) ≡ []
+    nothing_in : (f : SessionEvent → List (List ℕ)) (xs ys zs : List SessionEvent) → flat_map f xs ≡ [] → flat_map f ys ≡ [] → flat_map f zs ≡ [] → flat_map f (xs ++ (ys ++ zs)) ≡ []
     nothing_in f xs ys zs p q r =
         flat_map-append f xs (ys ++ zs) ∙ (ap (λ b. b ++ flat_map f (ys ++ zs)) p ∙ (flat_map-append f ys zs ∙ (ap (λ b. b ++ flat_map f zs) q ∙ r)))
 
@@ -143,7 +143,7 @@ module _ (s : Screen) where
     asks_quiet l k (ask ∷ asks) =
         let rs = (effect_at a k ask).steps in
         let left = left_at a k ask in
-        let x = drawn_by s l rs in
+        let x = calls_by_screen s l rs in
         let first = step_quiet l rs in
         let own = own_quiet k ask in
         let rest = asks_quiet x.layout left asks in
@@ -153,22 +153,22 @@ module _ (s : Screen) where
 
     -- the events of some asks, and of those after them
     pub asks_both : (l : Layout) (k : LineState) (xs ys : List LineAsk)
-        → asks_events s a l k (xs ++ ys) ≡ asks_events s a l k xs ++ asks_events s a (drawn_by s l (steps_along a k xs)).layout (left_along a k xs) ys
+        → asks_events s a l k (xs ++ ys) ≡ asks_events s a l k xs ++ asks_events s a (calls_by_screen s l (steps_along a k xs)).layout (left_along a k xs) ys
     asks_both l k [] ys = refl
     asks_both l k (ask ∷ xs) ys =
         let rs = (effect_at a k ask).steps in
         let left = left_at a k ask in
-        let m = (drawn_by s l rs).layout in
+        let m = (calls_by_screen s l rs).layout in
         let events = step_events s l rs in
         let own = own_events a k ask in
         let mine = asks_events s a m left xs in
         let after = left_along a left xs in
-        let others : Layout → List Event = λ l. asks_events s a l after ys in
-        let there = (drawn_by s m (steps_along a left xs)).layout in
+        let others : Layout → List SessionEvent = λ l. asks_events s a l after ys in
+        let there = (calls_by_screen s m (steps_along a left xs)).layout in
         ap (λ b. events ++ (own ++ b)) (asks_both m left xs ys)
         ∙ ap (λ b. events ++ b) (sym (append_assoc own mine (others there)))
         ∙ sym (append_assoc events (own ++ mine) (others there))
-        ∙ ap (λ (q : Asked). (events ++ (own ++ mine)) ++ others q.layout) (sym (asked_both (ruler_of s) l rs (steps_along a left xs)))
+        ∙ ap (λ (q : RedrawCalls). (events ++ (own ++ mine)) ++ others q.layout) (sym (asked_both (ruler_of s) l rs (steps_along a left xs)))
 
 -- ---- on devices
 
@@ -177,49 +177,49 @@ folds_apart made [] ys a c h = (a, refl, h)
 folds_apart made (x ∷ xs) ys a c h = let r = folds_apart made xs ys h.0 c h.2 in (r.0, (h.0, h.1, r.1), r.2)
 
 module _ {D L : Type 0} (shown : D → List ℕ) (written_in : L → List ℕ) (adds : Bool) where
-  abbrev Sums : List Event → Work D L → Work D L → Type 0
+  abbrev Sums : List SessionEvent → Work D L → Work D L → Type 0
   Sums events old new = AreDone shown written_in adds events old new
 
   pub none_done : (s : Work D L) → Sums [] s s
   none_done s = record { drawn = takes_none shown s.display s.display refl; wrote = takes_none written_in s.lines s.lines refl; history_is = sym (remembered_none adds s.history); left_is = refl; answered = tt }
 
-  pub done_both : (xs ys : List Event) (s m t : Work D L) → Sums xs s m → Sums ys m t → Sums (xs ++ ys) s t
+  pub done_both : (xs ys : List SessionEvent) (s m t : Work D L) → Sums xs s m → Sums ys m t → Sums (xs ++ ys) s t
   done_both xs ys s m t d r = record {
     drawn = subst (TakesAll shown s.display t.display) (sym (flat_map-append bytes_drawn xs ys))
         (takes_then shown s.display m.display t.display (flat_map bytes_drawn xs) (flat_map bytes_drawn ys) d.drawn r.drawn);
     wrote = subst (TakesAll written_in s.lines t.lines) (sym (flat_map-append line_text (flat_map lines_written xs) (flat_map lines_written ys)) ∙ ap lines_text (sym (flat_map-append lines_written xs ys)))
         (takes_then written_in s.lines m.lines t.lines (lines_text (flat_map lines_written xs)) (lines_text (flat_map lines_written ys)) d.wrote r.wrote);
-    history_is = r.history_is ∙ (ap (λ h. remembered adds (flat_map lines_kept ys) h) d.history_is ∙ (sym (remembered_both adds (flat_map lines_kept xs) (flat_map lines_kept ys) s.history)
-        ∙ ap (λ lines. remembered adds lines s.history) (sym (flat_map-append lines_kept xs ys))));
-    left_is = r.left_is ∙ (ap (λ here. left_to_come here ys) d.left_is ∙ sym (left_both s.coming xs ys));
+    history_is = r.history_is ∙ (ap (λ h. history_with_if adds (flat_map lines_kept ys) h) d.history_is ∙ (sym (remembered_both adds (flat_map lines_kept xs) (flat_map lines_kept ys) s.history)
+        ∙ ap (λ lines. history_with_if adds lines s.history) (sym (flat_map-append lines_kept xs ys))));
+    left_is = r.left_is ∙ (ap (λ here. coming_after_events here ys) d.left_is ∙ sym (left_both s.coming xs ys));
     answered = answered_both xs ys d.answered r.answered;
   }
 
   -- ---- all that goes, or what a fault stopped
 
-  abbrev pub Goes : List Event → Work D L → Work D L → Type 0 → (ReadlineError → Type 0) → Type 0
+  abbrev pub Goes : List SessionEvent → Work D L → Work D L → Type 0 → (ReadlineError → Type 0) → Type 0
   Goes events s t Whole Faulted = Went shown written_in adds events s t Whole Faulted
 
   module _ (W : Type 0) (F : ReadlineError → Type 0) where
-    pub went_whole : (events : List Event) (s t : Work D L) → Sums events s t → W → Goes events s t W F
+    pub went_whole : (events : List SessionEvent) (s t : Work D L) → Sums events s t → W → Goes events s t W F
     went_whole events s t d w = record { done = events; others = []; split = sym (append-nil events); at = t; are_done = d; stands = (w, refl) }
 
-    pub went_stopped : (done : List Event) (event : Event) (others : List Event) (s at t : Work D L) (why : ReadlineError) → Sums done s at → IsStopped shown written_in adds at event why t → F why
+    pub went_stopped : (done : List SessionEvent) (event : SessionEvent) (others : List SessionEvent) (s at t : Work D L) (why : ReadlineError) → Sums done s at → CutSessionEvent shown written_in adds at event why t → F why
         → Goes (done ++ (event ∷ others)) s t W F
     went_stopped done event others s at t why d stops f = record { done = done; others = event ∷ others; split = refl; at = at; are_done = d; stands = (why, stops, f) }
 
     -- it was all of them, or a fault stopped one
-    pub went_cases : {P : Type 0} (events : List Event) (s t : Work D L) → Goes events s t W F → (Sums events s t → W → P) → (Goes events s t ⊥ F → P) → P
+    pub went_cases : {P : Type 0} (events : List SessionEvent) (s t : Work D L) → Goes events s t W F → (Sums events s t → W → P) → (Goes events s t ⊥ F → P) → P
     went_cases {P} events s t w whole cut = by w.others w.split w.stands
       where
-        by : (others : List Event) → events ≡ w.done ++ others → Stands shown written_in adds others w.at t W F → P
+        by : (others : List SessionEvent) → events ≡ w.done ++ others → Stands shown written_in adds others w.at t W F → P
         by [] split stands =
             let all : Sums events s w.at = subst (λ events. Sums events s w.at) (sym (split ∙ append-nil w.done)) w.are_done in
             whole (subst (Sums events s) (sym stands.1) all) stands.0
         by (event ∷ others) split stands = cut (record { done = w.done; others = event ∷ others; split = split; at = w.at; are_done = w.are_done; stands = stands })
 
     -- behind others that were done
-    pub went_behind : (xs ys : List Event) (s m t : Work D L) → Sums xs s m → Goes ys m t W F → Goes (xs ++ ys) s t W F
+    pub went_behind : (xs ys : List SessionEvent) (s m t : Work D L) → Sums xs s m → Goes ys m t W F → Goes (xs ++ ys) s t W F
     went_behind xs ys s m t d w = record {
       done = xs ++ w.done;
       others = w.others;
@@ -230,36 +230,36 @@ module _ {D L : Type 0} (shown : D → List ℕ) (written_in : L → List ℕ) (
     }
 
     -- a fault stopped one, so those after it were not done
-    pub went_before : (xs ys : List Event) (s t : Work D L) → Goes xs s t ⊥ F → Goes (xs ++ ys) s t W F
+    pub went_before : (xs ys : List SessionEvent) (s t : Work D L) → Goes xs s t ⊥ F → Goes (xs ++ ys) s t W F
     went_before xs ys s t w = by w.others w.split w.stands
       where
-        by : (others : List Event) → xs ≡ w.done ++ others → Stands shown written_in adds others w.at t ⊥ F → Goes (xs ++ ys) s t W F
+        by : (others : List SessionEvent) → xs ≡ w.done ++ others → Stands shown written_in adds others w.at t ⊥ F → Goes (xs ++ ys) s t W F
         by [] split stands = absurd (stands.0)
         by (event ∷ others) split stands =
             subst (λ zs. Goes zs s t W F) (sym (ap (λ zs. zs ++ ys) split ∙ append_assoc w.done (event ∷ others) ys))
             (went_stopped w.done event (others ++ ys) s w.at t stands.0 w.are_done stands.1 stands.2)
 
-    pub went_not_whole : (events : List Event) (s t : Work D L) → Goes events s t ⊥ F → Goes events s t W F
+    pub went_not_whole : (events : List SessionEvent) (s t : Work D L) → Goes events s t ⊥ F → Goes events s t W F
     went_not_whole events s t w = subst (λ zs. Goes zs s t W F) (append-nil events) (went_before events [] s t w)
 
     -- for another reason
-    pub went_so : (G : ReadlineError → Type 0) → ((e : ReadlineError) → F e → G e) → (events : List Event) (s t : Work D L) → Goes events s t W F → Goes events s t W G
+    pub went_so : (G : ReadlineError → Type 0) → ((e : ReadlineError) → F e → G e) → (events : List SessionEvent) (s t : Work D L) → Goes events s t W F → Goes events s t W G
     went_so G so events s t w = record { done = w.done; others = w.others; split = w.split; at = w.at; are_done = w.are_done; stands = by w.others w.stands }
       where
-        by : (others : List Event) → Stands shown written_in adds others w.at t W F → Stands shown written_in adds others w.at t W G
+        by : (others : List SessionEvent) → Stands shown written_in adds others w.at t W F → Stands shown written_in adds others w.at t W G
         by [] stands = stands
         by (event ∷ others) stands = (stands.0, stands.1, so stands.0 stands.2)
 
   -- no fault can have stopped one
-  pub went_not : {P : Type 0} (F : ReadlineError → Type 0) → ((e : ReadlineError) → F e → P) → (events : List Event) (s t : Work D L) → Goes events s t ⊥ F → P
+  pub went_not : {P : Type 0} (F : ReadlineError → Type 0) → ((e : ReadlineError) → F e → P) → (events : List SessionEvent) (s t : Work D L) → Goes events s t ⊥ F → P
   went_not {P} F never events s t w = by w.others w.stands
     where
-      by : (others : List Event) → Stands shown written_in adds others w.at t ⊥ F → P
+      by : (others : List SessionEvent) → Stands shown written_in adds others w.at t ⊥ F → P
       by [] stands = absurd (stands.0)
       by (event ∷ others) stands = never stands.0 stands.2
 
   -- a fault stopped one of these
-  abbrev pub Broken : List Event → Work D L → ReadlineError → Work D L → Type 0
+  abbrev pub Broken : List SessionEvent → Work D L → ReadlineError → Work D L → Type 0
   Broken events s why t = Goes events s t ⊥ (λ e. e ≡ why)
 
   -- ---- a line's calls on a screen; lines and history stay
@@ -282,49 +282,49 @@ module _ {D L : Type 0} (shown : D → List ℕ) (written_in : L → List ℕ) (
         let P : Screen → Type 0 = λ s. TakesAll shown (sink_of a) (sink_of b) (flat_map (bytes_of s) calls) in
         subst P is (sent_in_all shown waits show_failed calls a b made).takes
 
-    call_breaks : (call : Call) (a b : ScreenRenderer D) → screen_of a ≡ s → RefusedIn canvas a call b → TakesSome shown (sink_of a) (sink_of b) (bytes_of s call)
+    call_breaks : (call : Call) (a b : ScreenRenderer D) → screen_of a ≡ s → CutCall canvas a call b → TakesSome shown (sink_of a) (sink_of b) (bytes_of s call)
     call_breaks (Help fails) a b is h = absurd h
     call_breaks call a b is h = let P : Screen → Type 0 = λ s. TakesSome shown (sink_of a) (sink_of b) (bytes_of s call) in subst P is h.begins
 
-    calls_break : (calls : List Call) (a b : ScreenRenderer D) → screen_of a ≡ s → BrokenOff canvas calls a b → TakesSome shown (sink_of a) (sink_of b) (flat_map (bytes_of s) calls)
-    unfolding BrokenOff
+    calls_break : (calls : List Call) (a b : ScreenRenderer D) → screen_of a ≡ s → CutCalls canvas calls a b → TakesSome shown (sink_of a) (sink_of b) (flat_map (bytes_of s) calls)
+    unfolding CutCalls
     calls_break [] a b is h = absurd h
     calls_break (call ∷ calls) a b is (inl h) = some_of_more shown (sink_of a) (sink_of b) (bytes_of s call) (flat_map (bytes_of s) calls) (call_breaks call a b is h)
     calls_break (call ∷ calls) a b is (inr (m, made, h)) =
         let took = subst (TakesAll shown (sink_of a) (sink_of m)) (append-nil (bytes_of s call)) (calls_sent (call ∷ []) a m is (m, made, refl)) in
         some_then shown (sink_of a) (sink_of m) (sink_of b) (bytes_of s call) (flat_map (bytes_of s) calls) took (calls_break calls m b (screen_kept (call ∷ []) a m is (m, made, refl)) h)
 
-    steps_answered : (l : Layout) (rs : List EditStep) (a b : ScreenRenderer D) → Drawn (drawn_by s l rs).calls a b → AllAnswered (step_events s l rs)
+    steps_answered : (l : Layout) (rs : List EditStep) (a b : ScreenRenderer D) → Drawn (calls_by_screen s l rs).calls a b → AllAnswered (step_events s l rs)
     steps_answered l [] a b made = tt
     steps_answered l (DrawStep v marks redraw ∷ rs) a b made =
-        let x = asked_by (ruler_of s) (shown_marks v marks) l redraw in
-        let parts = folds_apart (MadeIn canvas) x.calls (drawn_by s x.layout rs).calls a b made in
+        let x = calls_of_redraw (ruler_of s) (shown_marks v marks) l redraw in
+        let parts = folds_apart (MadeIn canvas) x.calls (calls_by_screen s x.layout rs).calls a b made in
         steps_answered x.layout rs parts.0 b parts.2
     steps_answered l (HelpStep v fails takes ∷ rs) a b made = (made.1.0, steps_answered l rs made.0 b made.2)
     steps_answered l (EditingStep v edit ∷ rs) a b made = steps_answered l rs a b made
     steps_answered l (BackStep v count ∷ rs) a b made = steps_answered l rs a b made
     steps_answered l (TakingStep v ∷ rs) a b made = steps_answered l rs a b made
 
-    steps_done : (rs : List EditStep) (c : Coming) (a b : Surface (ScreenRenderer D)) → screen_of a.out ≡ s → Drawn (drawn_by s a.layout rs).calls a.out b.out → Sums (step_events s a.layout rs) (on a.out c) (on b.out c)
+    steps_done : (rs : List EditStep) (c : Coming) (a b : Surface (ScreenRenderer D)) → screen_of a.out ≡ s → Drawn (calls_by_screen s a.layout rs).calls a.out b.out → Sums (step_events s a.layout rs) (on a.out c) (on b.out c)
     steps_done rs c a b is made =
         let quiet = step_quiet s a.layout rs in
         record {
-          drawn = subst (TakesAll shown (sink_of a.out) (sink_of b.out)) (sym (step_bytes s a.layout rs)) (calls_sent (drawn_by s a.layout rs).calls a.out b.out is made);
+          drawn = subst (TakesAll shown (sink_of a.out) (sink_of b.out)) (sym (step_bytes s a.layout rs)) (calls_sent (calls_by_screen s a.layout rs).calls a.out b.out is made);
           wrote = subst (λ xs. TakesAll written_in lines lines (lines_text xs)) (sym quiet.1) (takes_none written_in lines lines refl);
-          history_is = sym (remembered_none adds history) ∙ ap (λ xs. remembered adds xs history) (sym quiet.0);
+          history_is = sym (remembered_none adds history) ∙ ap (λ xs. history_with_if adds xs history) (sym quiet.0);
           left_is = sym (step_left s c a.layout rs);
           answered = steps_answered a.layout rs a.out b.out made;
         }
 
     -- a step that failed
-    step_stopped : (step : EditStep) (c : Coming) (e : ReadlineError) (v : Value) (a b : Surface (ScreenRenderer D)) → screen_of a.out ≡ s → StepCut canvas (ruler_of s) a step e v b
-        → IsStopped shown written_in adds (on a.out c) (step_event s a.layout step) e (on b.out c)
-    unfolding BrokenOff
+    step_stopped : (step : EditStep) (c : Coming) (e : ReadlineError) (v : Value) (a b : Surface (ScreenRenderer D)) → screen_of a.out ≡ s → CutStep canvas (ruler_of s) a step e v b
+        → CutSessionEvent shown written_in adds (on a.out c) (step_event s a.layout step) e (on b.out c)
+    unfolding CutCalls
     step_stopped (DrawStep v marks redraw) c e left a b is h =
-        subst (λ why. IsStopped shown written_in adds (on a.out c) (Draws (shown_marks v marks) redraw (map (bytes_of s) (asked_by (ruler_of s) (shown_marks v marks) a.layout redraw).calls)) why (on b.out c)) (sym h.0)
-        (by (asked_by (ruler_of s) (shown_marks v marks) a.layout redraw).calls h.1)
+        subst (λ why. CutSessionEvent shown written_in adds (on a.out c) (Draws (shown_marks v marks) redraw (map (bytes_of s) (calls_of_redraw (ruler_of s) (shown_marks v marks) a.layout redraw).calls)) why (on b.out c)) (sym h.0)
+        (by (calls_of_redraw (ruler_of s) (shown_marks v marks) a.layout redraw).calls h.1)
       where
-        by : (calls : List Call) → BrokenOff canvas calls a.out b.out → IsStopped shown written_in adds (on a.out c) (Draws (shown_marks v marks) redraw (map (bytes_of s) calls)) Display (on b.out c)
+        by : (calls : List Call) → CutCalls canvas calls a.out b.out → CutSessionEvent shown written_in adds (on a.out c) (Draws (shown_marks v marks) redraw (map (bytes_of s) calls)) Display (on b.out c)
         by [] broken = absurd broken
         by (call ∷ calls) broken =
             (subst (TakesSome shown (sink_of a.out) (sink_of b.out)) (sym (all_of_map (bytes_of s) (call ∷ calls))) (calls_break (call ∷ calls) a.out b.out is broken), refl)
@@ -333,21 +333,21 @@ module _ {D L : Type 0} (shown : D → List ℕ) (written_in : L → List ℕ) (
         same : on b.out c ≡ on a.out c
         same = ap (λ (x : Surface (ScreenRenderer D)). on x.out c) h.1
 
-        by : (why : ReadlineError) → Unhelped fails takes why → IsStopped shown written_in adds (on a.out c) (Helped fails takes) why (on b.out c)
+        by : (why : ReadlineError) → CutHelp fails takes why → CutSessionEvent shown written_in adds (on a.out c) (Helped fails takes) why (on b.out c)
         by Helper p = (p, same)
         by Memory p = (p, same)
         by _ p = absurd p
     step_stopped (EditingStep v edit) c e left a b is h =
-        subst (λ why. IsStopped shown written_in adds (on a.out c) Takes why (on b.out c)) (sym h.0) (ap (λ (x : Surface (ScreenRenderer D)). on x.out c) h.1)
+        subst (λ why. CutSessionEvent shown written_in adds (on a.out c) Takes why (on b.out c)) (sym h.0) (ap (λ (x : Surface (ScreenRenderer D)). on x.out c) h.1)
     step_stopped (BackStep v count) c e left a b is h =
-        subst (λ why. IsStopped shown written_in adds (on a.out c) Takes why (on b.out c)) (sym h.0) (ap (λ (x : Surface (ScreenRenderer D)). on x.out c) h.1)
+        subst (λ why. CutSessionEvent shown written_in adds (on a.out c) Takes why (on b.out c)) (sym h.0) (ap (λ (x : Surface (ScreenRenderer D)). on x.out c) h.1)
     step_stopped (TakingStep v) c e left a b is h =
-        subst (λ why. IsStopped shown written_in adds (on a.out c) Takes why (on b.out c)) (sym h.0) (ap (λ (x : Surface (ScreenRenderer D)). on x.out c) h.1)
+        subst (λ why. CutSessionEvent shown written_in adds (on a.out c) Takes why (on b.out c)) (sym h.0) (ap (λ (x : Surface (ScreenRenderer D)). on x.out c) h.1)
 
     step_one : (step : EditStep) (a : Surface (ScreenRenderer D)) (rs : List EditStep) → step_events s a.layout (step ∷ rs) ≡ step_events s a.layout (step ∷ []) ++ step_events s (one (ruler_of s) a.layout step).layout rs
     step_one step a rs = refl
 
-    one_calls : (step : EditStep) (l : Layout) → (drawn_by s l (step ∷ [])).calls ≡ (one (ruler_of s) l step).calls
+    one_calls : (step : EditStep) (l : Layout) → (calls_by_screen s l (step ∷ [])).calls ≡ (one (ruler_of s) l step).calls
     one_calls step l = append-nil (one (ruler_of s) l step).calls
 
     steps_stopped : (rs : List EditStep) (c : Coming) (why : ReadlineError) (v : Value) (a b : Surface (ScreenRenderer D)) → screen_of a.out ≡ s
@@ -370,14 +370,14 @@ module _ {D L : Type 0} (shown : D → List ℕ) (written_in : L → List ℕ) (
       abbrev pub at : LineStage (ScreenRenderer D) → Work D L
       at x = on x.drawn.out x.kept.coming
 
-      asks_answered : (l : Layout) (k : LineState) (asks : List LineAsk) (x y : ScreenRenderer D) → Drawn (drawn_by s l (steps_along a k asks)).calls x y → AllAnswered (asks_events s a l k asks)
+      asks_answered : (l : Layout) (k : LineState) (asks : List LineAsk) (x y : ScreenRenderer D) → Drawn (calls_by_screen s l (steps_along a k asks)).calls x y → AllAnswered (asks_events s a l k asks)
       asks_answered l k [] x y made = tt
       asks_answered l k (ask ∷ asks) x y made =
           let rs = (effect_at a k ask).steps in
           let left = left_at a k ask in
-          let m = drawn_by s l rs in
+          let m = calls_by_screen s l rs in
           let later = steps_along a left asks in
-          let parts = folds_apart (MadeIn canvas) m.calls (drawn_by s m.layout later).calls x y (subst (λ (q : Asked). Drawn q.calls x y) (asked_both (ruler_of s) l rs later) made) in
+          let parts = folds_apart (MadeIn canvas) m.calls (calls_by_screen s m.layout later).calls x y (subst (λ (q : RedrawCalls). Drawn q.calls x y) (asked_both (ruler_of s) l rs later) made) in
           answered_both (step_events s l rs) (own_events a k ask ++ asks_events s a m.layout left asks) (steps_answered l rs x parts.0 parts.1)
           (answered_both (own_events a k ask) (asks_events s a m.layout left asks) (own_answered s a k ask) (asks_answered m.layout left asks parts.0 y parts.2))
 
@@ -388,14 +388,14 @@ module _ {D L : Type 0} (shown : D → List ℕ) (written_in : L → List ℕ) (
           let quiet = asks_quiet s a l x.kept asks in
           record {
             drawn = subst (TakesAll shown (sink_of x.drawn.out) (sink_of y.drawn.out)) (sym (asks_bytes s a l x.kept asks))
-                (calls_sent (drawn_by s l (steps_along a x.kept asks)).calls x.drawn.out y.drawn.out is made.0);
+                (calls_sent (calls_by_screen s l (steps_along a x.kept asks)).calls x.drawn.out y.drawn.out is made.0);
             wrote = subst (λ xs. TakesAll written_in lines lines (lines_text xs)) (sym quiet.1) (takes_none written_in lines lines refl);
-            history_is = sym (remembered_none adds history) ∙ ap (λ xs. remembered adds xs history) (sym quiet.0);
+            history_is = sym (remembered_none adds history) ∙ ap (λ xs. history_with_if adds xs history) (sym quiet.0);
             left_is = left_is ∙ sym (asks_left s a l x.kept asks);
             answered = asks_answered l x.kept asks x.drawn.out y.drawn.out made.0;
           }
 
-      leaves_coming : (ask : LineAsk) (k l : LineState) (why : ReadlineError) → FaultLeaves ask k why l → l.coming ≡ k.coming
+      leaves_coming : (ask : LineAsk) (k l : LineState) (why : ReadlineError) → CutLineAsk ask k why l → l.coming ≡ k.coming
       leaves_coming (Obeys cmd) k l why h = ap (λ (z : LineState). z.coming) h.0
       leaves_coming _ k l why h = ap (λ (z : LineState). z.coming) h
 
@@ -403,13 +403,13 @@ module _ {D L : Type 0} (shown : D → List ℕ) (written_in : L → List ℕ) (
           → Broken (asks_events s a x.drawn.layout x.kept (ask ∷ asks)) (at x) why (at y)
       ask_stopped ask asks why x y is (inl (stops, leaves)) =
           let rs = (effect_at a x.kept ask).steps in
-          let more = own_events a x.kept ask ++ asks_events s a (drawn_by s x.drawn.layout rs).layout (left_at a x.kept ask) asks in
+          let more = own_events a x.kept ask ++ asks_events s a (calls_by_screen s x.drawn.layout rs).layout (left_at a x.kept ask) asks in
           let events = step_events s x.drawn.layout rs ++ more in
           subst (λ c. Broken events (at x) why (on y.drawn.out c)) (sym (leaves_coming ask x.kept y.kept why leaves))
           (went_before ⊥ (λ e. e ≡ why) (step_events s x.drawn.layout rs) more (at x) (on y.drawn.out x.kept.coming) (steps_stopped rs x.kept.coming why y.kept.value x.drawn y.drawn is stops))
       ask_stopped (Keys (Reads item)) asks why x y is (inr (left, unread, same)) = unread_by item why left unread same
         where
-          unread_by : (item : InputItem) (why : ReadlineError) (left : List ℕ) → IsReadFault item why → y ≡ line_stage x.drawn (record x.kept { coming = left_by why left })
+          unread_by : (item : InputItem) (why : ReadlineError) (left : List ℕ) → IsReadFault item why → y ≡ line_stage x.drawn (record x.kept { coming = coming_after_error why left })
               → Broken (Hears item ∷ asks_events s a x.drawn.layout (left_at a x.kept (Keys (Reads item))) asks) (at x) why (at y)
           unread_by Paste Memory left unread same =
               went_stopped ⊥ (λ e. e ≡ Memory) [] (Hears Paste) (asks_events s a x.drawn.layout (left_at a x.kept (Keys (Reads Paste))) asks) (at x) (at x) (at y) Memory (none_done (at x))
@@ -444,10 +444,10 @@ module _ {D L : Type 0} (shown : D → List ℕ) (written_in : L → List ℕ) (
           by (inr h) =
               let q = played_from a p x.kept in
               let first = asks_done h.done x h.at is h.drawn (ap (λ (k : LineState). k.coming) h.kept_is) in
-              let now : screen_of h.at.drawn.out ≡ s = screen_kept (drawn_by s x.drawn.layout (steps_along a x.kept h.done)).calls x.drawn.out h.at.drawn.out is h.drawn.0 in
+              let now : screen_of h.at.drawn.out ≡ s = screen_kept (calls_by_screen s x.drawn.layout (steps_along a x.kept h.done)).calls x.drawn.out h.at.drawn.out is h.drawn.0 in
               let next = ask_stopped h.ask h.others h.fault h.at y now h.stopped in
-              let E : Layout → LineState → List Event = λ l k. asks_events s a l k (h.ask ∷ h.others) in
-              let there = (drawn_by s x.drawn.layout (steps_along a x.kept h.done)).layout in
+              let E : Layout → LineState → List SessionEvent = λ l k. asks_events s a l k (h.ask ∷ h.others) in
+              let there = (calls_by_screen s x.drawn.layout (steps_along a x.kept h.done)).layout in
               let placed : Broken (E there (left_along a x.kept h.done)) (at h.at) h.fault (at y) =
               subst (λ k. Broken (E there k) (at h.at) h.fault (at y)) h.kept_is (subst (λ l. Broken (E l h.at.kept) (at h.at) h.fault (at y)) h.drawn.1 next) in
               let mine = asks_events s a x.drawn.layout x.kept h.done in

@@ -10,7 +10,7 @@ use Rattle.line_keys.specs.Coming.LastItem.{End as EndItem}
 use Rattle.line_keys.specs.Keys.{key_of, none, alt}
 use Rattle.line_keys.specs.declared.key.KeyEvent.{KeyEvent}
 use Rattle.line_screen.specs.Input.{Chars, Next, Over, Stop, AtEnd, AtBad, AtFailure, Torn, Inside, Continuation, chars_of, in_char, char_then, is_scalar, lead_in, lead_rows, value_with, after_byte}
-use Rattle.line_screen.specs.KeyGrammar.{Readings, Key, Paste, Cut, Stops, readings, lone_escape, in_escape, in_sequence, in_paste, byte_is, esc, keeps_byte, marker, put, announces, inside, coming_of}
+use Rattle.line_screen.specs.KeyGrammar.{Readings, Key, Paste, Cut, Stops, readings, lone_escape, in_escape, in_sequence, in_paste, byte_is, esc, keeps_byte, marker, paste_with_char, announces, inside, coming_of}
 use Rattle.line_screen.specs.Sequences.{awaits_more, sequence_key}
 use Rattle.line_screen.proofs.SequenceLemmas.{by_test}
 use Rattle.keyline.specs.Sessions.{coming_from}
@@ -216,7 +216,7 @@ mutual
   paste_opens mode text after_return matched here there (Next c behind rest) (Next d beyond more) on =
       subst (λ e. ReadingsOpen (in_paste mode text after_return matched (Next c behind rest)) (in_paste mode text after_return matched (Next e beyond more))) on.1
       (let later = readings_open mode behind beyond rest more on.2 in
-      let t : List ℕ = put (text ++ take matched marker) (after_return && (matched == 0)) c in
+      let t : List ℕ = paste_with_char (text ++ take matched marker) (after_return && (matched == 0)) c in
       keys_by (c == slice_index marker matched)
       (if matched == 5 then Paste text behind (readings mode rest) else in_paste mode text after_return (matched + 1) rest)
       (if c == 0x1B then in_paste mode (text ++ take matched marker) false 1 rest else in_paste mode t (c == 0x0D) 0 rest)

@@ -7,24 +7,24 @@ use Rattle.line_config.specs.declared.device.Last.TheVariants.{Failed as SourceF
 use Rattle.line_help.specs.History.{Filed}
 use Rattle.line_keys.specs.Coming.{Coming, Pressed, Pasted, CutOff, Ends as NoMore, Refused}
 use Rattle.line_keys.specs.Coming.LastItem.{End as EndItem, Bad, Failed}
-use Rattle.line_keys.specs.Feeds.{InputItem, InputOf, Key, Paste, behind, item_at}
-use Rattle.line_config.specs.Played.{Played, asked_first, played_on}
-use Rattle.line_config.specs.Scripts.{Ends, Asks}
-use Rattle.line_keys.specs.Phrases.{Reads}
+use Rattle.line_keys.specs.KeyFeeds.{InputItem, InputOf, Key, Paste, behind, item_at}
+use Rattle.script.specs.Played.{Played, play_with_first_ask, play_after_answer}
+use Rattle.script.specs.Scripts.{Ends, Asks}
+use Rattle.line_keys.specs.PhraseScripts.{Reads}
 use Rattle.line_record.specs.Ring.{Ring}
-use Rattle.line_editor.specs.Courses.{breaks_after}
+use Rattle.line_editor.specs.LineEndings.{breaks_after}
 use Rattle.line_editor.specs.LineScripts.{Keys, LineState, LineAsk, LineScript, answer_at, effect_at, left_at, line_script, played_from, steps_along}
 use Rattle.line_editor.specs.Modal.{Modal}
 use Rattle.line_editor.specs.Redraws.{fresh}
-use Rattle.line_editor.specs.Running.{kept_first}
-use Rattle.line_editor.specs.Steps.{asked}
+use Rattle.line_editor.specs.LineRun.{first_line_state}
+use Rattle.line_editor.specs.EditSteps.{calls_of_steps}
 use Rattle.line_editor.specs.Values.{Setting}
 use Rattle.line_editor.proofs.ToldLemmas.{left_along, played_each}
-use Rattle.line_screen.specs.Calls.{Screen, ruler_of}
-use Rattle.keyline.specs.Events.{Begins, Breaks, Course, Event, Hears, asks_events, end_events, going_on, line_course, own_events, played_in, session, step_events}
+use Rattle.line_screen.specs.ScreenCalls.{Screen, ruler_of}
+use Rattle.keyline.specs.Events.{Begins, Breaks, Course, SessionEvent, Hears, asks_events, end_events, course_after_line, line_course, own_events, line_play_in, session, step_events}
 use Rattle.keyline.specs.SessionLaws.{IsBeginning, LinesBegin, SessionsBegin}
 use Rattle.keyline.specs.Sessions.{Given, SessionState, coming_from, setting_in, state_over, history_after, LineGiven, for_line}
-use Rattle.keyline.specs.Shows.{drawn_by}
+use Rattle.keyline.specs.Shows.{calls_by_screen}
 use Rattle.keyline.proofs.EventLemmas.{asks_both}
 use Rattle.keyline.proofs.HeardBytes.{NeverEnds, Opens, bytes_open}
 
@@ -84,7 +84,7 @@ record Ended {X : Type 0} (p q : Play X) : Type 0 where
 abbrev Goes : {X : Type 0} → Play X → Play X → Type 0
 Goes p q = Same p q ⊎ Ended p q
 
-goes_first : {X : Type 0} (ask : LineAsk) (p q : Play X) → Goes p q → Goes (asked_first ask p) (asked_first ask q)
+goes_first : {X : Type 0} (ask : LineAsk) (p q : Play X) → Goes p q → Goes (play_with_first_ask ask p) (play_with_first_ask ask q)
 goes_first ask p q (inl same) = inl (record { answer = same.answer; asks = ap (λ asks. ask ∷ asks) same.asks; ring = same.ring; modal = same.modal; rest = same.rest })
 goes_first ask p q (inr cut) = inr (record { why = cut.why; answer = cut.answer; unbroken = cut.unbroken; later = cut.later; begins = ap (λ asks. ask ∷ asks) cut.begins })
 
@@ -93,7 +93,7 @@ over k c = record k { coming = c }
 
 -- an ask that reads nothing
 unheard : {B X : Type 0} (ask : LineAsk) (next : B → Coming → Play X) (k : LineState) (h c : Coming) → Opens h c → ((x : B) → Goes (next x h) (next x c))
-    → (r : Result B ReadlineError) → Goes (played_on (λ x. next x h) ask (over k h) r) (played_on (λ x. next x c) ask (over k c) r)
+    → (r : Result B ReadlineError) → Goes (play_after_answer (λ x. next x h) ask (over k h) r) (play_after_answer (λ x. next x c) ask (over k c) r)
 unheard ask next k h c on so (Ok x) = goes_first ask (next x h) (next x c) (so x)
 unheard ask next k h c on so (Err e) = inl (record { answer = refl; asks = refl; ring = refl; modal = refl; rest = on })
 
@@ -101,7 +101,7 @@ module _ (s : Setting) where
   module _ {X : Type 0} (item : InputItem) (t : InputOf item → LineScript X) (k : LineState) (h c : Coming)
       (later : (x : InputOf item) → Opens (behind item h) (behind item c) → Goes (played_from s (t x) (over k (behind item h))) (played_from s (t x) (over k (behind item c)))) where
     abbrev led : Coming → Result (InputOf item) ReadlineError → Play X
-    led c r = let rest = over k (behind item c) in played_on (λ x. played_from s (t x) rest) (Keys (Reads item)) rest r
+    led c r = let rest = over k (behind item c) in play_after_answer (λ x. played_from s (t x) rest) (Keys (Reads item)) rest r
 
     read_goes : (r q : Result (InputOf item) ReadlineError) → OnOk r ((r ≡ q) × Opens (behind item h) (behind item c)) → IfErr r (λ e. breaks_after e ≡ false) → Goes (led h r) (led c q)
     read_goes (Ok x) q alike unbroken =
@@ -129,7 +129,7 @@ events_unheard s a l k h c (Keys (Reads item) ∷ asks) =
     ap (λ events. Hears item ∷ events) (events_unheard s a l k (behind item h) (behind item c) asks)
 events_unheard s a l k h c (ask ∷ asks) =
     let steps = (effect_at a k ask).steps in
-    ap (λ events. step_events s l steps ++ (own_events a k ask ++ events)) (events_unheard s a (asked (ruler_of s) l steps).layout (left_at a k ask) h c asks)
+    ap (λ events. step_events s l steps ++ (own_events a k ask ++ events)) (events_unheard s a (calls_of_steps (ruler_of s) l steps).layout (left_at a k ask) h c asks)
 
 -- what goes on further
 further : {A : Type 0} (xs ys zs : List A) → IsBeginning xs ys → IsBeginning xs (ys ++ zs)
@@ -170,19 +170,19 @@ module _ (n : ℕ) (g : Given) (ring : Ring) (query : List ℕ) (history : Filed
   setting = setting_in g history.kept.entries
 
   abbrev first : Coming → LineState
-  first c = kept_first setting ring query c
+  first c = first_line_state setting ring query c
 
-  abbrev asks_in : Coming → List LineAsk → List Event
+  abbrev asks_in : Coming → List LineAsk → List SessionEvent
   asks_in c asks = asks_events g.screen setting (fresh g.screen.mode) (first c) asks
 
   line_goes : SameLine ⊎ StoppedLine
   line_goes = by (goes setting (line_script n g.custom) (first h) h c on)
     where
       p : Play (List ℕ)
-      p = played_in n g (state_at ring query history h)
+      p = line_play_in n g (state_at ring query history h)
 
       q : Play (List ℕ)
-      q = played_in n g (state_at ring query history c)
+      q = line_play_in n g (state_at ring query history c)
 
       by : Goes p q → SameLine ⊎ StoppedLine
       by (inl same) = inl (record {
@@ -197,7 +197,7 @@ module _ (n : ℕ) (g : Given) (ring : Ring) (query : List ℕ) (history : Filed
       by (inr cut) =
           let l = fresh g.screen.mode in
           let mine = asks_in c p.asks in
-          let more = asks_events g.screen setting (drawn_by g.screen l (steps_along setting (first c) p.asks)).layout
+          let more = asks_events g.screen setting (calls_by_screen g.screen l (steps_along setting (first c) p.asks)).layout
           (left_along setting (first c) p.asks) cut.later in
           let fewer : one.events ≡ Begins g.screen ∷ mine =
           ap (λ events. Begins g.screen ∷ (events ++ end_events p.answer)) (events_unheard g.screen setting l (first h) h c p.asks)
@@ -242,27 +242,27 @@ session_begins (suc n) g at ring query history h c on =
     adds = g.config.auto_add_history
 
     on_line : So → (o : Result (List ℕ) ReadlineError) (r : Ring) (query : List ℕ) (h c : Coming) → Opens h c
-        → IsBeginning (going_on next (o, state_at r query (history_after adds o history) h)).events (going_on next (o, state_at r query (history_after adds o history) c)).events
+        → IsBeginning (course_after_line next (o, state_at r query (history_after adds o history) h)).events (course_after_line next (o, state_at r query (history_after adds o history) c)).events
     on_line so (Ok text) r query h c on = so r query (history_after adds (Ok text) history) h c on
     on_line so (Err e) r query h c on = ([], refl)
 
     by : So → SameLine (suc n) first ring query history h c on ⊎ StoppedLine (suc n) first ring query history h c on
-        → IsBeginning (fewer.events ++ (going_on next fewer.answer).events) (all.events ++ (going_on next all.answer).events)
+        → IsBeginning (fewer.events ++ (course_after_line next fewer.answer).events) (all.events ++ (course_after_line next all.answer).events)
     by so (inl same) =
         let x = fewer.answer.1 in
         let y = all.answer.1 in
-        let hears : Result (List ℕ) ReadlineError → Ring → List ℕ → List Event = λ o r query. (going_on next (o, state_at r query (history_after adds o history) y.coming)).events in
-        let P : List Event → Result (List ℕ) ReadlineError → Ring → List ℕ → Type 0 = λ events o r query. IsBeginning (fewer.events ++ (going_on next fewer.answer).events) (events ++ hears o r query) in
+        let hears : Result (List ℕ) ReadlineError → Ring → List ℕ → List SessionEvent = λ o r query. (course_after_line next (o, state_at r query (history_after adds o history) y.coming)).events in
+        let P : List SessionEvent → Result (List ℕ) ReadlineError → Ring → List ℕ → Type 0 = λ events o r query. IsBeginning (fewer.events ++ (course_after_line next fewer.answer).events) (events ++ hears o r query) in
         subst (λ events. P events all.answer.0 y.ring y.query) same.events
         (subst (λ o. P fewer.events o y.ring y.query) same.outcome
         (subst (λ r. P fewer.events fewer.answer.0 r y.query) same.ring_is
         (subst (λ query. P fewer.events fewer.answer.0 x.ring query) same.query_is
-        (behind_both fewer.events (going_on next fewer.answer).events (hears fewer.answer.0 x.ring x.query) (on_line so fewer.answer.0 x.ring x.query x.coming y.coming same.rest)))))
+        (behind_both fewer.events (course_after_line next fewer.answer).events (hears fewer.answer.0 x.ring x.query) (on_line so fewer.answer.0 x.ring x.query x.coming y.coming same.rest)))))
     by so (inr cut) =
         let y = fewer.answer.1 in
-        let P : Result (List ℕ) ReadlineError → Type 0 = λ o. IsBeginning (fewer.events ++ (going_on next (o, y)).events) (all.events ++ (going_on next all.answer).events) in
+        let P : Result (List ℕ) ReadlineError → Type 0 = λ o. IsBeginning (fewer.events ++ (course_after_line next (o, y)).events) (all.events ++ (course_after_line next all.answer).events) in
         subst P (sym cut.outcome)
-        (subst (λ events. IsBeginning events (all.events ++ (going_on next all.answer).events)) (sym (append-nil fewer.events)) (further fewer.events all.events (going_on next all.answer).events cut.begins))
+        (subst (λ events. IsBeginning events (all.events ++ (course_after_line next all.answer).events)) (sym (append-nil fewer.events)) (further fewer.events all.events (course_after_line next all.answer).events cut.begins))
 
 -- ---- the laws
 

@@ -6,7 +6,7 @@ use Rattle.std.proofs.lemmas.Bool.Decides.{nat_tests}
 use Rattle.std.proofs.lemmas.List.{drop-map, take-map, take_rest}
 use Rattle.std.proofs.lemmas.List.Quantifiers.{position-Some}
 use Rattle.clap.specs.Words.{Text}
-use Rattle.keyline.specs.Invocations.{decides, extended_among}
+use Rattle.keyline.specs.Invocations.{decides, place_of_extended}
 
 passes : (a b : Bool) (x y z : Option ℕ) → (a || b) ≡ false → (if a then x else if b then y else z) ≡ z
 passes true b x y z doesnt = absurd (cc)
@@ -31,15 +31,15 @@ is_none_at true i is = absurd (cc)
 is_none_at false i is = refl
 
 -- the words behind one that doesn't decide
-behind : (word : Text) (words : List Text) → decides word ≡ false → extended_among (word ∷ words) ≡ option_map suc (extended_among words)
-behind word words doesnt = passes (bytes_eq word (codes "--extended")) (bytes_eq word (codes "--")) (Some 0) None (option_map suc (extended_among words)) doesnt
+behind : (word : Text) (words : List Text) → decides word ≡ false → place_of_extended (word ∷ words) ≡ option_map suc (place_of_extended words)
+behind word words doesnt = passes (bytes_eq word (codes "--extended")) (bytes_eq word (codes "--")) (Some 0) None (option_map suc (place_of_extended words)) doesnt
 
 module _ {A : Type 0} (text : A → Text) where
   at_first : (xs : List A) (i : ℕ) (d : A) → i < length xs → decides (text (get_or xs i d)) ≡ true → ((k : ℕ) → k < i → decides (text (get_or xs k d)) ≡ false)
-      → extended_among (map text xs) ≡ (if bytes_eq (text (get_or xs i d)) (codes "--extended") then Some i else None)
+      → place_of_extended (map text xs) ≡ (if bytes_eq (text (get_or xs i d)) (codes "--extended") then Some i else None)
   at_first [] i d low does before = absurd (omega arith)
   at_first (x ∷ xs) zero d low does before =
-      stops (bytes_eq (text x) (codes "--extended")) (bytes_eq (text x) (codes "--")) (option_map suc (extended_among (map text xs))) does
+      stops (bytes_eq (text x) (codes "--extended")) (bytes_eq (text x) (codes "--")) (option_map suc (place_of_extended (map text xs))) does
   at_first (x ∷ xs) (suc i) d low does before =
       behind (text x) (map text xs) (before 0 (omega arith))
       ∙ (ap (option_map suc) (at_first xs i d (omega arith) does (λ k l. before (suc k) (omega arith)))
@@ -47,26 +47,26 @@ module _ {A : Type 0} (text : A → Text) where
 
   -- the first word that decides is the flag, or none is
   pub at_place : (xs : List A) (i : ℕ) (d : A) → position (λ x. decides (text x)) xs ≡ Some i
-      → extended_among (map text xs) ≡ (if bytes_eq (text (get_or xs i d)) (codes "--extended") then Some i else None)
+      → place_of_extended (map text xs) ≡ (if bytes_eq (text (get_or xs i d)) (codes "--extended") then Some i else None)
   at_place xs i d found = let p = position-Some (λ x. decides (text x)) xs i d found in at_first xs i d p.0 p.1 p.2
 
-  nowhere_by : (xs : List A) → nat_lt (position_or_len (λ x. decides (text x)) xs) (length xs) ≡ false → extended_among (map text xs) ≡ None
+  nowhere_by : (xs : List A) → nat_lt (position_or_len (λ x. decides (text x)) xs) (length xs) ≡ false → place_of_extended (map text xs) ≡ None
   nowhere_by [] low = refl
   nowhere_by (x ∷ xs) low =
       let both = skips (decides (text x)) (position_or_len (λ x. decides (text x)) xs) (length xs) low in
       behind (text x) (map text xs) both.0 ∙ ap (option_map suc) (nowhere_by xs both.1)
 
-  pub nowhere : (xs : List A) → position (λ x. decides (text x)) xs ≡ None → extended_among (map text xs) ≡ None
+  pub nowhere : (xs : List A) → position (λ x. decides (text x)) xs ≡ None → place_of_extended (map text xs) ≡ None
   nowhere xs none = nowhere_by xs (is_none_at (nat_lt (position_or_len (λ x. decides (text x)) xs) (length xs)) (position_or_len (λ x. decides (text x)) xs) none)
 
   pub is_flag : (xs : List A) (i : ℕ) (x : A) (word : Text) → Some i ≡ position (λ x. decides (text x)) xs → get_or xs i x ≡ x → word ≡ text x
-      → true ≡ bytes_eq word (codes "--extended") → Some i ≡ extended_among (map text xs)
+      → true ≡ bytes_eq word (codes "--extended") → Some i ≡ place_of_extended (map text xs)
   is_flag xs i x word found at same does = sym (at_place xs i x (sym found)
       ∙ (ap (λ (y : A). if bytes_eq (text y) (codes "--extended") then Some i else None) at
       ∙ (ap (λ w. if bytes_eq w (codes "--extended") then Some i else None) (sym same) ∙ ap (λ b. if b then Some i else None) (sym does))))
 
   pub is_no_flag : (xs : List A) (i : ℕ) (x : A) (word : Text) → Some i ≡ position (λ x. decides (text x)) xs → get_or xs i x ≡ x → word ≡ text x
-      → false ≡ bytes_eq word (codes "--extended") → None ≡ extended_among (map text xs)
+      → false ≡ bytes_eq word (codes "--extended") → None ≡ place_of_extended (map text xs)
   is_no_flag xs i x word found at same doesnt = sym (at_place xs i x (sym found)
       ∙ (ap (λ (y : A). if bytes_eq (text y) (codes "--extended") then Some i else None) at
       ∙ (ap (λ w. if bytes_eq w (codes "--extended") then Some i else None) (sym same) ∙ ap (λ b. if b then Some i else None) (sym doesnt))))

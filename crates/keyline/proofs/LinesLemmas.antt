@@ -1,12 +1,12 @@
 -- Lines in a loop, with one prompt, and with a prompt and columns for each.
 use Rattle.std.proofs.Common.{◌≡◌, ℕ, suc, ◌<◌, List, Result, Ok, Err, IsTrue, refl, sym, ap, ◌∙◌, subst}
 use Rattle.line_config.specs.declared.errors.ReadlineError.{ReadlineError}
-use Rattle.line_screen.specs.Calls.{sink_of}
+use Rattle.line_screen.specs.ScreenCalls.{sink_of}
 use Rattle.line_screen.specs.declared.renderer.ScreenRenderer.{ScreenRenderer}
 use Rattle.keyline.specs.Desks.{TakesLine, TakesLines, desk_feed, session_state_of}
 use Rattle.keyline.specs.Events.{session}
-use Rattle.keyline.specs.Known.{Known, HasPassedOn}
-use Rattle.keyline.specs.Playing.{Went, Work, work}
+use Rattle.keyline.specs.KnownDevices.{KnownDevices, HasPassedOn}
+use Rattle.keyline.specs.SessionEffects.{Went, Work, work}
 use Rattle.keyline.specs.Sessions.{Given, LineGiven, each, for_line}
 use Rattle.keyline.specs.declared.desk.Desk.{Desk}
 use Rattle.keyline.proofs.SessionSteps.{Onward, Onwards, onward_nowhere, onward_ok, onward_err}
@@ -17,12 +17,12 @@ along same f = ap f same
 -- ---- one prompt
 
 -- lines were taken, and this is handed in for the next one
-pub record Underway {S H D L : Type 0} (k : Known S D L) (g h : Given) (first now : Desk S H D L) : Type 0 where
+pub record Underway {S H D L : Type 0} (k : KnownDevices S D L) (g h : Given) (first now : Desk S H D L) : Type 0 where
   pub onward : Onward k g (each g) (each g) first now
   pub given : IsTrue (desk_feed k now).told → h ≡ g
   pub custom : h.custom ≡ g.custom
 
-module _ {S H D L : Type 0} (k : Known S D L) where
+module _ {S H D L : Type 0} (k : KnownDevices S D L) where
   pub underway_nowhere : (g : Given) (d : Desk S H D L) → Underway k g g d d
   underway_nowhere g d = record { onward = onward_nowhere k g (each g) d; given = λ t. refl; custom = refl }
 
@@ -40,12 +40,12 @@ module _ {S H D L : Type 0} (k : Known S D L) where
 -- ---- a prompt and columns for each
 
 -- the same where each line is handed its own
-pub record Asking {S H D L : Type 0} (k : Known S D L) (g h : Given) (at at' : ℕ → LineGiven) (first now : Desk S H D L) : Type 0 where
+pub record Asking {S H D L : Type 0} (k : KnownDevices S D L) (g h : Given) (at at' : ℕ → LineGiven) (first now : Desk S H D L) : Type 0 where
   pub onward : Onward k g at at' first now
   pub given : IsTrue (desk_feed k now).told → (line : LineGiven) → for_line h line ≡ for_line g line
   pub custom : h.custom ≡ g.custom
 
-module _ {S H D L : Type 0} (k : Known S D L) where
+module _ {S H D L : Type 0} (k : KnownDevices S D L) where
   pub asking_nowhere : (g : Given) (at : ℕ → LineGiven) (d : Desk S H D L) → Asking k g g at at d d
   asking_nowhere g at d = record { onward = onward_nowhere k g at d; given = λ t line. refl; custom = refl }
 

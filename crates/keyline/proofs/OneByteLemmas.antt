@@ -5,41 +5,43 @@ use Rattle.std.proofs.lemmas.Bool.{and_parts, and_from, not-true, ltb-true}
 use Rattle.std.proofs.lemmas.Str.{encode_ascii}
 use Rattle.line_buffer.specs.Cells.{same_cell}
 use Rattle.line_buffer.specs.Insertions.{insert as insertion}
-use Rattle.line_buffer.specs.Printable.{is_printable, typed_at_end}
+use Rattle.line_buffer.specs.Printable.{is_printable, is_typed_at_end}
 use Rattle.line_buffer.specs.declared.layout.Layout.{Layout}
 use Rattle.line_buffer.specs.declared.layout.Position.{Position}
-use Rattle.line_keys.specs.Answers.{Custom}
-use Rattle.line_keys.specs.Phrases.{steps}
+use Rattle.line_keys.specs.CustomBindings.{Custom}
+use Rattle.line_keys.specs.PhraseScripts.{steps}
 use Rattle.line_keys.specs.declared.command.Cmd.{Cmd}
 use Rattle.line_keys.specs.declared.command.Cmd.TheVariants.{SelfInsert}
-use Rattle.line_editor.specs.Calls.{Marks}
-use Rattle.line_editor.specs.Drawing.{drawn, asked_anew}
+use Rattle.line_editor.specs.RenderCalls.{Marks}
+use Rattle.line_editor.specs.Drawing.{redraw_of, ask_anew_effect}
 use Rattle.line_keys.specs.Replies.{Reply, fails}
 use Rattle.line_editor.specs.Asks.{shown_in}
-use Rattle.line_editor.specs.Inserting.{is_bare, may_be_typed, inserted_shown, insert_char}
-use Rattle.line_editor.specs.LineScripts.{Meets, LineState, beginning, line_plan, made_from, met_then, obeying, phrase_script, played_from, steps_along, turn_script}
+use Rattle.line_editor.specs.Inserting.{is_bare, may_be_typed, may_be_put_in, insertion_way, put_redraw, show_inserted_effect, insert_char}
+use Rattle.line_editor.specs.declared.way.Way.{Way}
+use Rattle.line_editor.specs.declared.way.Way.TheVariants.{AtEnd, InRow, Whole}
+use Rattle.line_editor.specs.LineScripts.{Meets, LineState, turn_start, line_plan, made_from, meet_script, obey_script, phrase_script, played_from, steps_along, turn_script}
 use Rattle.line_editor.specs.Modal.{Modal, is_at_rest}
 use Rattle.line_editor.specs.NextCommand.{line_phrase}
-use Rattle.line_editor.specs.Redraws.{Asked, full, nothing_asked, moved_by_call, typed_short, taken_short, may_type, may_take}
-use Rattle.line_editor.specs.Redraws.Redraw.{Drawn, Moved, Typed, Taken, Bared, ToEnd, Beeped, Cleared}
+use Rattle.line_editor.specs.Redraws.{RedrawCalls, full, nothing_asked, move_call, char_call, erase_call, put_in_short, taken_out_short, may_type, may_take, may_put_in, may_take_out}
+use Rattle.line_editor.specs.Redraws.Redraw.{Drawn, Moved, Typed, Taken, PutIn, TakenOut, Bared, ToEnd, Beeped, Cleared}
 use Rattle.line_editor.specs.Sights.{Sight, sight, Fits}
-use Rattle.line_editor.specs.Steps.{one}
-use Rattle.line_editor.specs.Values.{shown_marks, Value, Setting, Effect, EditStep, helped, hint_reply, unchanged}
+use Rattle.line_editor.specs.EditSteps.{one}
+use Rattle.line_editor.specs.Values.{shown_marks, Value, Setting, Effect, EditStep, help_steps, hint_reply, no_effect}
 use Rattle.line_editor.specs.Values.EditStep.{Draws, Helped, Edits, TakesBack, Takes}
 use Rattle.line_editor.specs.declared.commands.Status.{Status}
 use Rattle.line_editor.proofs.PastLemmas.{plays_past, steps_past, phrase_keeps}
 use Rattle.line_editor.proofs.StopsLemmas.{asked_both}
 use Rattle.line_editor.proofs.ToldLemmas.{PlayedOf, follows, joined_on, played_then, rest_along, steps_both}
-use Rattle.line_screen.specs.Calls.{Screen, bytes_of, ruler_of}
+use Rattle.line_screen.specs.ScreenCalls.{Screen, bytes_of, ruler_of}
 use Rattle.keyline.specs.OneByte.{TellsSight, LayoutsTell, TypedAtEnd, OneByte, ReadAlone}
-use Rattle.keyline.specs.Shows.{drawn_by, bytes_for}
+use Rattle.keyline.specs.Shows.{calls_by_screen, bytes_for}
 
 small : (c : ℕ) → is_printable c ≡ true → c < 128
 small c h = let parts = and_parts (nat_le 32 c) (nat_lt c 127) h in let k = ltb-true c 127 parts.1 in omega arith
 
 -- ---- the layout that is kept
 
-moved_tells : (l : Layout) (x : Sight) (cursor : Position) (b : Bool) → TellsSight l x → TellsSight (if b then nothing_asked l else moved_by_call l cursor).layout x
+moved_tells : (l : Layout) (x : Sight) (cursor : Position) (b : Bool) → TellsSight l x → TellsSight (if b then nothing_asked l else move_call l cursor).layout x
 moved_tells l x cursor true h = h
 moved_tells l x cursor false h = record { info_is = h.info_is; given_is = h.given_is }
 
@@ -51,12 +53,23 @@ one_tells s own l x (Draws v m (Moved text at)) h fits =
     record { info_is = t.info_is; given_is = t.given_is }
 one_tells s own l x (Draws v m (Typed prompt c text at)) h fits = by_test (may_type (ruler_of s) l) refl
   where
-    by_test : (b : Bool) → may_type (ruler_of s) l ≡ b → TellsSight (if b then typed_short l c else full (ruler_of s) (shown_marks v m) l prompt true text at None).layout (sight x (Draws v m (Typed prompt c text at)))
+    by_test : (b : Bool) → may_type (ruler_of s) l ≡ b → TellsSight (if b then char_call l c else full (ruler_of s) (shown_marks v m) l prompt true text at None).layout (sight x (Draws v m (Typed prompt c text at)))
     by_test true e = record { info_is = not-true l.has_info (and_parts (not l.has_info) _ e).0; given_is = h.given_is ∙ fits.0 }
     by_test false e = record { info_is = refl; given_is = refl }
 one_tells s own l x (Draws v m (Taken prompt count text at)) h fits = by_test (may_take l count) refl
   where
-    by_test : (b : Bool) → may_take l count ≡ b → TellsSight (if b then taken_short l count else full (ruler_of s) (shown_marks v m) l prompt true text at None).layout (sight x (Draws v m (Taken prompt count text at)))
+    by_test : (b : Bool) → may_take l count ≡ b → TellsSight (if b then erase_call l count else full (ruler_of s) (shown_marks v m) l prompt true text at None).layout (sight x (Draws v m (Taken prompt count text at)))
+    by_test true e = record { info_is = not-true l.has_info (and_parts (not l.has_info) _ e).0; given_is = h.given_is ∙ fits.0 }
+    by_test false e = record { info_is = refl; given_is = refl }
+one_tells s own l x (Draws v m (PutIn prompt c text at)) h fits = by_test (may_put_in (ruler_of s) l) refl
+  where
+    by_test : (b : Bool) → may_put_in (ruler_of s) l ≡ b → TellsSight (if b then put_in_short l c else full (ruler_of s) (shown_marks v m) l prompt true text at None).layout (sight x (Draws v m (PutIn prompt c text at)))
+    by_test true e = record { info_is = not-true l.has_info (and_parts (not l.has_info) _ e).0; given_is = h.given_is ∙ fits.0 }
+    by_test false e = record { info_is = refl; given_is = refl }
+one_tells s own l x (Draws v m (TakenOut prompt count text at)) h fits = by_test (may_take_out l ((ruler_of s).measure (take at text) l.prompt_size) count) refl
+  where
+    by_test : (b : Bool) → may_take_out l ((ruler_of s).measure (take at text) l.prompt_size) count ≡ b
+        → TellsSight (if b then taken_out_short l ((ruler_of s).measure (take at text) l.prompt_size) count else full (ruler_of s) (shown_marks v m) l prompt true text at None).layout (sight x (Draws v m (TakenOut prompt count text at)))
     by_test true e = record { info_is = not-true l.has_info (and_parts (not l.has_info) _ e).0; given_is = h.given_is ∙ fits.0 }
     by_test false e = record { info_is = refl; given_is = refl }
 one_tells s own l x (Draws v m (Bared prompt text at)) h fits = by_test l.default_prompt (h.given_is ∙ fits)
@@ -81,56 +94,58 @@ layouts_tell s own (r ∷ rs) l x h fits = layouts_tell s own rs (one (ruler_of 
 -- ---- the byte
 
 printed : (tabs : Bool) (v : Value) (c : ℕ) → may_be_typed tabs c 1 v ≡ true → is_printable c ≡ true
-printed tabs v c alone = (and_parts (is_printable c) _ (and_parts (is_bare v) (typed_at_end tabs c v.line.text v.line.place) alone).1).0
+printed tabs v c alone = (and_parts (is_printable c) _ (and_parts (is_bare v) (is_typed_at_end tabs c v.line.text v.line.place) alone).1).0
 
 -- its drawing is the short one, behind a step that sends nothing and what the helper is asked
-shown_short : (a : Setting) (u : Value) (step : EditStep) (c : ℕ) (b alone : Bool) → b ≡ true → alone ≡ true
-    → (let shown = inserted_shown c alone a u in let e : Effect = if b then record { value = shown.value; steps = step ∷ shown.steps } else unchanged a u in
-    is_bare e.value ≡ true → e.steps ≡ step ∷ (helped u (hint_reply a u) ++ (Draws e.value a.marks (Typed a.prompt c e.value.line.text e.value.line.place) ∷ [])))
-shown_short a u step c true alone room before after =
-    let w = (asked_anew a u).value in
-    ap (λ b. step ∷ (helped u (hint_reply a u) ++ (Draws w a.marks (if b then Typed a.prompt c w.line.text w.line.place else drawn a w) ∷ []))) (and_from alone (is_bare w) before after)
-shown_short a u step c false alone room before after = cc
+shown_short : (a : Setting) (u : Value) (step : EditStep) (c : ℕ) (b : Bool) (way : Way) → b ≡ true → way ≡ AtEnd
+    → (let shown = show_inserted_effect c way a u in let e : Effect = if b then record { value = shown.value; steps = step ∷ shown.steps } else no_effect a u in
+    is_bare e.value ≡ true → e.steps ≡ step ∷ (help_steps u (hint_reply a u) ++ (Draws e.value a.marks (Typed a.prompt c e.value.line.text e.value.line.place) ∷ [])))
+shown_short a u step c true way room before after =
+    let w = (ask_anew_effect a u).value in
+    ap (λ shown. step ∷ (help_steps u (hint_reply a u) ++ (Draws w a.marks (put_redraw shown c a w) ∷ []))) (ap (λ b. if b then way else Whole) after ∙ before)
+shown_short a u step c false way room before after = cc
 
 -- neither sends anything
 help_bytes : {A : Type 0} (s : Screen) (l : Layout) (u : Value) (step : EditStep) (reply : Option (Reply A)) (steps : List EditStep) → one (ruler_of s) l step ≡ nothing_asked l
-    → bytes_for s l (step ∷ (helped u reply ++ steps)) ≡ bytes_for s l steps
-help_bytes s l u step None steps nothing = ap (λ a. flat_map (bytes_of s) (a.calls ++ (drawn_by s a.layout steps).calls)) nothing
-help_bytes s l u step (Some reply) steps nothing = ap (λ a. flat_map (bytes_of s) (a.calls ++ (drawn_by s a.layout (Helped u (fails reply) reply.takes ∷ steps)).calls)) nothing
+    → bytes_for s l (step ∷ (help_steps u reply ++ steps)) ≡ bytes_for s l steps
+help_bytes s l u step None steps nothing = ap (λ a. flat_map (bytes_of s) (a.calls ++ (calls_by_screen s a.layout steps).calls)) nothing
+help_bytes s l u step (Some reply) steps nothing = ap (λ a. flat_map (bytes_of s) (a.calls ++ (calls_by_screen s a.layout (Helped u (fails reply) reply.takes ∷ steps)).calls)) nothing
 
-sent_short : (s : Screen) (l : Layout) (a : Setting) (u : Value) (step : EditStep) (c : ℕ) (b alone : Bool) → b ≡ true → alone ≡ true
-    → (let shown = inserted_shown c alone a u in let e : Effect = if b then record { value = shown.value; steps = step ∷ shown.steps } else unchanged a u in
+sent_short : (s : Screen) (l : Layout) (a : Setting) (u : Value) (step : EditStep) (c : ℕ) (b : Bool) (way : Way) → b ≡ true → way ≡ AtEnd
+    → (let shown = show_inserted_effect c way a u in let e : Effect = if b then record { value = shown.value; steps = step ∷ shown.steps } else no_effect a u in
     is_bare e.value ≡ true → one (ruler_of s) l step ≡ nothing_asked l → bytes_for s l e.steps ≡ bytes_for s l (Draws e.value a.marks (Typed a.prompt c e.value.line.text e.value.line.place) ∷ []))
-sent_short s l a u step c b alone room before after nothing =
-    let shown = inserted_shown c alone a u in
-    let e : Effect = if b then record { value = shown.value; steps = step ∷ shown.steps } else unchanged a u in
-    ap (bytes_for s l) (shown_short a u step c b alone room before after)
+sent_short s l a u step c b way room before after nothing =
+    let shown = show_inserted_effect c way a u in
+    let e : Effect = if b then record { value = shown.value; steps = step ∷ shown.steps } else no_effect a u in
+    ap (bytes_for s l) (shown_short a u step c b way room before after)
     ∙ help_bytes s l u step (hint_reply a u) (Draws e.value a.marks (Typed a.prompt c e.value.line.text e.value.line.place) ∷ []) nothing
 
 typed_bytes : (s : Screen) (l : Layout) (a : Setting) (v : Value) (c : ℕ) → TypedAtEnd a v c
     → (let e = insert_char c 1 a v in bytes_for s l e.steps ≡ bytes_for s l (Draws e.value a.marks (Typed a.prompt c e.value.line.text e.value.line.place) ∷ []))
-typed_bytes s l a v c t = sent_short s l a _ _ c (is_some (insertion c 1 v.line).answer) (may_be_typed (is_some a.tabs) c 1 v) t.room t.alone t.after refl
+typed_bytes s l a v c t =
+    let way_is : insertion_way a c 1 v ≡ AtEnd = ap (λ b. if b then AtEnd else if may_be_put_in a.config.partial_redraw c 1 v then InRow else Whole) t.alone in
+    sent_short s l a _ _ c (is_some (insertion c 1 v.line).answer) (insertion_way a c 1 v) t.room way_is t.after refl
 
 short_bytes : (s : Screen) (l : Layout) (v : Value) (m : Option Marks) (prompt : List ℕ) (c : ℕ) (text : List ℕ) (at : ℕ) → is_printable c ≡ true → may_type (ruler_of s) l ≡ true → bytes_for s l (Draws v m (Typed prompt c text at) ∷ []) ≡ c ∷ []
 short_bytes s l v m prompt c text at printable may =
-    ap (λ b. flat_map (bytes_of s) ((if b then typed_short l c else full (ruler_of s) (shown_marks v m) l prompt true text at None).calls ++ [])) may
+    ap (λ b. flat_map (bytes_of s) ((if b then char_call l c else full (ruler_of s) (shown_marks v m) l prompt true text at None).calls ++ [])) may
     ∙ append-nil (encode_utf8 c) ∙ encode_ascii c (small c printable)
 
-turned_steps : (n : ℕ) (a : Setting) (custom : Custom) (k : LineState) (c : ℕ) → is_at_rest k.modal.standing ≡ true → (let phrase = phrase_script n custom (beginning k) in ReadAlone a k phrase c
+turned_steps : (n : ℕ) (a : Setting) (custom : Custom) (k : LineState) (c : ℕ) → is_at_rest k.modal.standing ≡ true → (let phrase = phrase_script n custom (turn_start k) in ReadAlone a k phrase c
     → (made_from a (turn_script n custom) k).steps ≡ (made_from a phrase k).steps ++ (insert_char c 1 a k.value).steps)
 unfolding turn_script
 turned_steps n a custom k c rests alone =
     let cmd = SelfInsert 1 c in
-    let phrase = phrase_script n custom (beginning k) in
+    let phrase = phrase_script n custom (turn_start k) in
     let p = played_from a phrase k in
     let first = steps_along a k p.asks in
-    let on : Cmd → LineState → PlayedOf a Status = follows (line_plan a) met_then in
-    let obeyed = (played_from a (obeying cmd) p.rest).asks in
+    let on : Cmd → LineState → PlayedOf a Status = follows (line_plan a) meet_script in
+    let obeyed = (played_from a (obey_script cmd) p.rest).asks in
     let more = Meets cmd ∷ obeyed in
     let all : PlayedOf a Status → List EditStep = λ q. steps_along a k q.asks in
     let still : is_at_rest p.rest.modal.standing ≡ true =
     ap (λ (m : Modal). is_at_rest m.standing) (phrase_keeps a (steps (line_phrase custom k.input (shown_in k.value)) n) k) ∙ rests in
-    ap all (played_then (line_plan a) met_then phrase k)
+    ap all (played_then (line_plan a) meet_script phrase k)
     ∙ ap (λ answer. all (joined_on on p.asks p.rest answer)) alone.answer
     ∙ ap (λ (q : PlayedOf a Status). steps_along a k (p.asks ++ q.asks)) (plays_past a cmd p.rest still refl)
     ∙ steps_both a k p.asks more
@@ -140,14 +155,14 @@ turned_steps n a custom k c rests alone =
     ∙ ap (λ steps. first ++ steps) (append-nil (insert_char c 1 a k.value).steps)
 
 -- after steps that call nothing
-unasked_bytes : (s : Screen) (l : Layout) (xs ys : List EditStep) → drawn_by s l xs ≡ nothing_asked l → bytes_for s l (xs ++ ys) ≡ bytes_for s l ys
+unasked_bytes : (s : Screen) (l : Layout) (xs ys : List EditStep) → calls_by_screen s l xs ≡ nothing_asked l → bytes_for s l (xs ++ ys) ≡ bytes_for s l ys
 unasked_bytes s l xs ys none =
-    ap (λ (x : Asked). flat_map (bytes_of s) x.calls) (asked_both (ruler_of s) l xs ys)
-    ∙ ap (λ (x : Asked). flat_map (bytes_of s) (x.calls ++ (drawn_by s x.layout ys).calls)) none
+    ap (λ (x : RedrawCalls). flat_map (bytes_of s) x.calls) (asked_both (ruler_of s) l xs ys)
+    ∙ ap (λ (x : RedrawCalls). flat_map (bytes_of s) (x.calls ++ (calls_by_screen s x.layout ys).calls)) none
 
 pub one_byte : OneByte
 one_byte n s l a custom k c rests alone t may =
-    let first = (made_from a (phrase_script n custom (beginning k)) k).steps in
+    let first = (made_from a (phrase_script n custom (turn_start k)) k).steps in
     let e = insert_char c 1 a k.value in
     ap (bytes_for s l) (turned_steps n a custom k c rests alone)
     ∙ unasked_bytes s l first e.steps (alone.unasked s l)

@@ -21,29 +21,29 @@ use Rattle.line_keys.specs.declared.command.InputMode.TheVariants.{Command, Inse
 use Rattle.line_keys.specs.declared.events.Event.TheVariants.{Any}
 use Rattle.line_keys.specs.declared.key.KeyCode.TheVariants.{Char, Enter}
 use Rattle.line_keys.specs.declared.key.KeyEvent.{KeyEvent}
-use Rattle.line_keys.specs.Answers.{Custom}
-use Rattle.line_config.specs.Played.{Played, asked_first}
-use Rattle.line_config.specs.Scripts.{Ends}
+use Rattle.line_keys.specs.CustomBindings.{Custom}
+use Rattle.script.specs.Played.{Played, play_with_first_ask}
+use Rattle.script.specs.Scripts.{Ends}
 use Rattle.line_config.specs.declared.errors.ReadlineError.{ReadlineError}
 use Rattle.line_keys.specs.Coming.{Coming, Pressed, Pasted, Ends as NoMore, End as AtItsEnd}
 use Rattle.line_keys.specs.Common.{common_action}
-use Rattle.line_keys.specs.Custom.{situation}
+use Rattle.line_keys.specs.CustomKeys.{situation}
 use Rattle.line_keys.specs.Emacs.{emacs_action, emacs_command}
 use Rattle.line_keys.specs.Events.{single}
-use Rattle.line_keys.specs.Feeds.{Key}
+use Rattle.line_keys.specs.KeyFeeds.{Key}
 use Rattle.line_keys.specs.InputStates.{new_input}
 use Rattle.line_keys.specs.Keys.{key_with, none}
-use Rattle.line_keys.specs.Phrase.{phrase_from}
-use Rattle.line_keys.specs.Phrases.{steps, Reads, answered, needing, with_read, from_key, asking, becoming, deciding, and_then}
+use Rattle.line_keys.specs.NextPhrase.{phrase_from}
+use Rattle.line_keys.specs.PhraseScripts.{steps, Reads, answer_part, memory_then, with_read, from_key, show_then, keep_then, reply_then, and_then}
 use Rattle.line_keys.specs.Refreshing.{Shown}
-use Rattle.line_keys.specs.Vi.{changed, typed, command_table, vi_counted, vi_command, insert_table, vi_insert}
+use Rattle.line_keys.specs.Vi.{change_part, insert_part, command_table, vi_counted, vi_command, insert_table, vi_insert}
 use Rattle.line_keys.specs.ViTables.{insert_action, action_of}
 use Rattle.line_record.specs.Ring.{new_ring}
 use Rattle.line_editor.specs.Accepting.{accept_or_insert}
 use Rattle.line_editor.specs.Asks.{shown_in}
 use Rattle.line_editor.specs.Commands.{in_vi_command, means_of}
-use Rattle.line_editor.specs.LineScripts.{Begins, Keys, Obeys, LineState, LineAsk, beginning, kept, left_at, line_plan, line_script, met_then, phrase_script, played_from, turn_script, turned_on, turns_script, line_begun}
-use Rattle.line_editor.specs.NextCommand.{reset_by}
+use Rattle.line_editor.specs.LineScripts.{Begins, Keys, Obeys, LineState, LineAsk, turn_start, line_state, left_at, line_plan, line_script, meet_script, phrase_script, played_from, turn_script, line_script_after, turns_script, line_begun}
+use Rattle.line_editor.specs.NextCommand.{ring_after_reset}
 use Rattle.line_editor.specs.Moving.{cursor_moved_if}
 use Rattle.line_editor.specs.Modal.{is_at_rest, modal_first}
 use Rattle.line_editor.specs.Values.{Setting, Value, empty_at, first_value, at_line}
@@ -56,8 +56,9 @@ use Rattle.line_editor.proofs.ToldLemmas.{follows, joined, played_then}
 use Rattle.line_screen.specs.KeyGrammar.{paste_start}
 use Rattle.keyline.proofs.PastePhrases.{IsFree, at_rest, behind_key, behind_start, by_the_table, drawn_if, input_with, kept_after, paste_kept, plays_paste, reads_as, with_rest}
 use Rattle.keyline.specs.Program.{nothing_bound}
-use Rattle.keyline.specs.Pasting.{sent_as_paste, IsUnbound, IsEmptyLine, Accepts, PastesAreAccepted, PastedLinesAreAccepted}
+use Rattle.keyline.specs.Pasting.{paste_bytes, IsUnbound, IsEmptyLine, Accepts, PastesAreAccepted, PastedLinesAreAccepted}
 use Rattle.keyline.specs.Sessions.{coming_from, setting_in}
+use Rattle.keyline.specs.declared.session.TheConstants.{KILL_RING_SIZE}
 
 abbrev enter : KeyEvent
 enter = key_with Enter none
@@ -69,28 +70,28 @@ free_key custom k free = (free (single k), free Any)
 
 enters : (mode : EditMode) (input_mode : InputMode) (custom : Custom) (last : Cmd) (search : Option CharSearch) (modal : Bool) (shown : Shown) (n : ℕ) → IsUnbound custom
     → steps (phrase_from mode custom (input_with mode input_mode last search modal) shown enter) n ≡ Ends (AcceptOrInsertLine true)
-unfolding answered needing with_read from_key asking becoming deciding and_then emacs_action common_action action_of insert_action command_table vi_counted vi_command insert_table vi_insert
+unfolding answer_part memory_then with_read from_key show_then keep_then reply_then and_then emacs_action common_action action_of insert_action command_table vi_counted vi_command insert_table vi_insert
 enters Emacs input_mode custom last search modal shown n free =
     let s = situation custom (input_with Emacs input_mode last search modal) shown 1 true in
     by_the_table (Some 1) s enter (emacs_command s enter) n (free_key custom enter free) refl
 enters Vi Command custom last search modal shown n free =
     let input = input_with Vi Command last search modal in
     let s = situation custom input shown 1 true in
-    by_the_table None s enter (and_then input shown (command_table None s enter) changed) n (free_key custom enter free) refl
+    by_the_table None s enter (and_then input shown (command_table None s enter) change_part) n (free_key custom enter free) refl
 enters Vi Inserting custom last search modal shown n free =
     let input = input_with Vi Inserting last search modal in
-    by_the_table None (situation custom input shown 0 true) enter (and_then input shown (insert_table custom input shown enter) typed) n (free_key custom enter free) refl
+    by_the_table None (situation custom input shown 0 true) enter (and_then input shown (insert_table custom input shown enter) insert_part) n (free_key custom enter free) refl
 enters Vi Overwriting custom last search modal shown n free =
     let input = input_with Vi Overwriting last search modal in
-    by_the_table None (situation custom input shown 0 true) enter (and_then input shown (insert_table custom input shown enter) typed) n (free_key custom enter free) refl
+    by_the_table None (situation custom input shown 0 true) enter (and_then input shown (insert_table custom input shown enter) insert_part) n (free_key custom enter free) refl
 
 abbrev enter_played : LineState → Coming → Played LineAsk LineState ReadlineError Cmd
 enter_played k rest = record { answer = Ok (AcceptOrInsertLine true); asks = []; rest = with_rest k rest }
 
 module _ (s : Setting) (custom : Custom) (free : IsUnbound custom) where
   plays_enter : (n : ℕ) (k : LineState) (bytes : List ℕ) (rest : Coming)
-      → (let on = with_rest k (Pressed bytes enter rest) in played_from s (phrase_script (suc n) custom (beginning k)) on ≡ asked_first (Keys (Reads Key)) (enter_played k rest))
-  unfolding and_then with_read answered
+      → (let on = with_rest k (Pressed bytes enter rest) in played_from s (phrase_script (suc n) custom (turn_start k)) on ≡ play_with_first_ask (Keys (Reads Key)) (enter_played k rest))
+  unfolding and_then with_read answer_part
   plays_enter n k bytes rest =
       let input = k.input in ap (behind_key s (suc n) k rest) (enters input.mode input.input_mode custom input.last input.search input.modal_commands (shown_in k.value) n free)
 
@@ -152,18 +153,18 @@ module _ (s : Setting) (custom : Custom) (free : IsUnbound custom) where
 
   -- a phrase, its command, and the turns after it
   abbrev turn_on : Played LineAsk LineState ReadlineError Cmd → Played LineAsk LineState ReadlineError Status
-  turn_on p = asked_first Begins (joined (follows (line_plan bare) met_then) p)
+  turn_on p = play_with_first_ask Begins (joined (follows (line_plan bare) meet_script) p)
 
   abbrev line_on : ℕ → Played LineAsk LineState ReadlineError Cmd → Played LineAsk LineState ReadlineError (List ℕ)
-  line_on n p = joined (follows (line_plan bare) (turned_on (turns_script n custom))) (turn_on p)
+  line_on n p = joined (follows (line_plan bare) (line_script_after (turns_script n custom))) (turn_on p)
 
-  turns_on : (n : ℕ) (k : LineState) → played_from bare (turns_script (suc n) custom) k ≡ line_on n (played_from bare (phrase_script (suc n) custom (beginning k)) k)
+  turns_on : (n : ℕ) (k : LineState) → played_from bare (turns_script (suc n) custom) k ≡ line_on n (played_from bare (phrase_script (suc n) custom (turn_start k)) k)
   unfolding turns_script turn_script
   turns_on n k =
       let plan = line_plan bare in
-      let next = turned_on (turns_script n custom) in
+      let next = line_script_after (turns_script n custom) in
       played_then plan next (turn_script (suc n) custom) k
-      ∙ ap (λ t. joined (follows plan next) (asked_first Begins t)) (played_then plan met_then (phrase_script (suc n) custom (beginning k)) k)
+      ∙ ap (λ t. joined (follows plan next) (play_with_first_ask Begins t)) (played_then plan meet_script (phrase_script (suc n) custom (turn_start k)) k)
 
   enter_accepts : (at : Standing) → is_at_rest at ≡ true → (n : ℕ) (j : LineState) (bytes : List ℕ) (rest : Coming)
       → Takes (played_from bare (turns_script (suc n) custom) (with_rest (at_rest at j) (Pressed bytes enter rest))) j.value.line.text rest
@@ -190,7 +191,7 @@ module _ (s : Setting) (custom : Custom) (free : IsUnbound custom) where
       let entered = Pressed others enter rest in
       let on = with_rest k (Pressed before paste_start (Pasted bytes text entered)) in
       let after_paste = left_at bare (paste_kept k.input.mode text k entered) (Obeys (Insert 1 text)) in
-      let vi : Bool = in_vi_command (means_of (kept_after k.input.mode text k.input) (reset_by (Insert 1 text) k.ring)) in
+      let vi : Bool = in_vi_command (means_of (kept_after k.input.mode text k.input) (ring_after_reset (Insert 1 text) k.ring)) in
       let a = enter_accepts Off refl n after_paste others rest in
       subst (λ p. Takes p text rest) (sym (turns_on (suc n) on ∙ ap (line_on (suc n)) (plays_paste bare custom (free_key custom paste_start free) n k before bytes text entered))) (
         a.0 ∙ ap Ok (pasted_text vi text bare k.value empty.empty empty.grows),
@@ -201,7 +202,7 @@ module _ (s : Setting) (custom : Custom) (free : IsUnbound custom) where
       let entered = Pressed others enter rest in
       let on = with_rest k (Pressed before paste_start (Pasted bytes text entered)) in
       let after_paste = left_at bare (paste_kept k.input.mode text k entered) (Obeys (Insert 1 text)) in
-      let vi : Bool = in_vi_command (means_of (kept_after k.input.mode text k.input) (reset_by (Insert 1 text) k.ring)) in
+      let vi : Bool = in_vi_command (means_of (kept_after k.input.mode text k.input) (ring_after_reset (Insert 1 text) k.ring)) in
       let a = enter_accepts Rests refl n after_paste others rest in
       subst (λ p. Takes p text rest) (sym (turns_on (suc n) on ∙ ap (line_on (suc n)) (plays_paste bare custom (free_key custom paste_start free) n k before bytes text entered))) (
         a.0 ∙ ap Ok (pasted_text vi text bare k.value empty.empty empty.grows),
@@ -214,7 +215,7 @@ pastes_are_accepted n s custom k text more last none free empty rests paste come
     let left = coming_from k.input.mode more last in
     let turns = turns_script (suc (suc n)) custom in
     let taken = subst (λ hooks. Takes (played_from (record s { hooks = hooks }) turns k) text left) (sym none)
-    (subst (λ c. Takes (played_from (without_hooks s) turns (with_rest k c)) text left) (sym (comes ∙ reads_as k.input.mode text (0x0D ∷ more) last paste)) (paste_accepts s custom free k.modal.standing rests n k (sent_as_paste text ++ 0x0D ∷ more) (behind_start text (0x0D ∷ more)) text (0x0D ∷ more) left empty)) in
+    (subst (λ c. Takes (played_from (without_hooks s) turns (with_rest k c)) text left) (sym (comes ∙ reads_as k.input.mode text (0x0D ∷ more) last paste)) (paste_accepts s custom free k.modal.standing rests n k (paste_bytes text ++ 0x0D ∷ more) (behind_start text (0x0D ∷ more)) text (0x0D ∷ more) left empty)) in
     record { outcome = taken.0; rest_is = taken.1 }
 
 pub pasted_lines_are_accepted : PastedLinesAreAccepted
@@ -222,13 +223,13 @@ unfolding line_script
 pasted_lines_are_accepted n g x text more last none free paste is =
     let s : Setting = setting_in g x.history.kept.entries in
     let e = line_begun s (first_value s) in
-    let k = kept e.value (new_input g.config) x.ring (modal_first g.config x.query) x.coming in
+    let k = line_state e.value (new_input g.config) x.ring (modal_first g.config x.query) x.coming in
     let a = pastes_are_accepted n s g.custom k text more last none free (record { empty = refl; grows = refl }) (first_rests g.config.modal_commands) paste is in
     record { outcome = a.outcome; rest_is = a.rest_is }
 
 -- ---- worked rows
 
-bytes_of_a_paste : sent_as_paste (codes "a") ≡ 0x1B ∷ codes "[200~a" ++ 0x1B ∷ codes "[201~"
+bytes_of_a_paste : paste_bytes (codes "a") ≡ 0x1B ∷ codes "[200~a" ++ 0x1B ∷ codes "[201~"
 bytes_of_a_paste = refl
 
 plain_setting : Setting
@@ -237,20 +238,20 @@ plain_setting = record { prompt = []; column = 0; mode = Unicode; tabs = None; h
 pasted_in : InputMode → List ℕ → Played LineAsk LineState ReadlineError (List ℕ)
 pasted_in input_mode text =
     played_from plain_setting (turns_script 2 nothing_bound)
-    (kept (empty_at 0) (input_with Vi input_mode Noop None false) (new_ring 60) (modal_first default_config []) (coming_from Vi (sent_as_paste text ++ 0x0D ∷ codes "b") End))
+    (line_state (empty_at 0) (input_with Vi input_mode Noop None false) (new_ring KILL_RING_SIZE) (modal_first default_config []) (coming_from Vi (paste_bytes text ++ 0x0D ∷ codes "b") End))
 
 later : Coming
 later = Pressed (codes "b") (key_with (Char 0x62) none) (NoMore [] AtItsEnd [])
 
 pasted_row : Accepts (pasted_in Inserting (codes "a")) (codes "a") later
-unfolding turns_script turn_script answered needing with_read from_key asking becoming deciding and_then common_action insert_action insert_table vi_insert pasted_in plain_setting later lib.Utf8.encode
+unfolding turns_script turn_script answer_part memory_then with_read from_key show_then keep_then reply_then and_then common_action insert_action insert_table vi_insert pasted_in plain_setting later lib.Utf8.encode
 pasted_row = record { outcome = refl; rest_is = refl }
 
 empty_row : Accepts (pasted_in Command []) [] later
-unfolding turns_script turn_script answered needing with_read from_key asking becoming deciding and_then common_action action_of command_table vi_counted vi_command pasted_in plain_setting later lib.Utf8.encode
+unfolding turns_script turn_script answer_part memory_then with_read from_key show_then keep_then reply_then and_then common_action action_of command_table vi_counted vi_command pasted_in plain_setting later lib.Utf8.encode
 empty_row = record { outcome = refl; rest_is = refl }
 
 -- a CR is a newline
 return_row : Accepts (pasted_in Overwriting (0x0D ∷ [])) (0x0A ∷ []) later
-unfolding turns_script turn_script answered needing with_read from_key asking becoming deciding and_then common_action insert_action insert_table vi_insert pasted_in plain_setting later lib.Utf8.encode
+unfolding turns_script turn_script answer_part memory_then with_read from_key show_then keep_then reply_then and_then common_action insert_action insert_table vi_insert pasted_in plain_setting later lib.Utf8.encode
 return_row = record { outcome = refl; rest_is = refl }

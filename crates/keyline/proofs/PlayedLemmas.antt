@@ -15,19 +15,20 @@ use Rattle.line_config.specs.declared.errors.ReadlineError.TheVariants.{Display,
 use Rattle.line_help.specs.History.{Filed, all_saved}
 use Rattle.line_help.specs.HistoryText.{text_to_save}
 use Rattle.line_keys.specs.Coming.{Coming}
-use Rattle.line_keys.specs.Feeds.{Paste}
+use Rattle.line_keys.specs.KeyFeeds.{Paste}
 use Rattle.line_record.specs.Ring.{Ring, new_ring}
-use Rattle.line_screen.specs.Calls.{Screen}
-use Rattle.line_screen.specs.Reader.{kept_of}
-use Rattle.line_screen.specs.Reading.{kept_count}
+use Rattle.line_screen.specs.ScreenCalls.{Screen}
+use Rattle.line_screen.specs.Reader.{byte_ahead_of}
+use Rattle.line_screen.specs.Reading.{count_of_kept}
 use Rattle.keyline.specs.Desks.{GoesShown, desk_feed, session_state_of, work_of}
-use Rattle.keyline.specs.Events.{Event, Takes, Helped, Draws, Hears, Breaks, Keeps, Writes, session}
-use Rattle.keyline.specs.Known.{Known}
+use Rattle.keyline.specs.Events.{SessionEvent, Takes, Helped, Draws, Hears, Breaks, Keeps, Writes, session}
+use Rattle.keyline.specs.KnownDevices.{KnownDevices}
 use Rattle.keyline.specs.Program.{EditHelper, EditsBy, edit_helping, given_by, given_to, nothing_bound, PlaysBytes, PlaysOver, UnopensOver, start_by}
-use Rattle.keyline.specs.Playing.{IsStopped, SessionReason, Stands, Work, work}
-use Rattle.keyline.specs.Plays.{LoadRefused, loaded_from, loads}
+use Rattle.keyline.specs.SessionEffects.{CutSessionEvent, SessionReason, Stands, Work, work}
+use Rattle.keyline.specs.SessionRuns.{LoadRefused, history_loaded_from, loads}
 use Rattle.keyline.specs.Sessions.{Given, SessionState, given_of, coming_from, each}
 use Rattle.keyline.specs.declared.options.Options.{Options}
+use Rattle.keyline.specs.declared.session.TheConstants.{KILL_RING_SIZE}
 use Rattle.keyline.specs.declared.session.Ended.{Ended}
 use Rattle.keyline.specs.declared.session.Unopened.{Unopened}
 use Rattle.keyline.proofs.PlaysLemmas.{reason_at_end}
@@ -80,7 +81,7 @@ module _ {D L : Type 0} (shown : D → List ℕ) (written_in : L → List ℕ) w
   abbrev seen : List ℕ → List ℕ
   seen bytes = bytes
 
-  stopped_in_bytes : (adds : Bool) (x : Work D L) (event : Event) (why : ReadlineError) (y : Work D L) → IsStopped shown written_in adds x event why y → IsStopped seen seen adds (in_bytes x) event why (in_bytes y)
+  stopped_in_bytes : (adds : Bool) (x : Work D L) (event : SessionEvent) (why : ReadlineError) (y : Work D L) → CutSessionEvent shown written_in adds x event why y → CutSessionEvent seen seen adds (in_bytes x) event why (in_bytes y)
   stopped_in_bytes adds x Takes Memory y same = ap in_bytes same
   stopped_in_bytes adds x (Helped fails takes) Helper y (h, same) = (h, ap in_bytes same)
   stopped_in_bytes adds x (Helped fails takes) Memory y (h, same) = (h, ap in_bytes same)
@@ -91,13 +92,13 @@ module _ {D L : Type 0} (shown : D → List ℕ) (written_in : L → List ℕ) w
   stopped_in_bytes adds x (Writes line) Lines y (took, same) = (took, ap in_bytes same)
   stopped_in_bytes adds x _ _ y h = absurd h
 
-  stands_in_bytes : (adds : Bool) (others : List Event) (at new : Work D L) (Whole : Type 0) (Faulted : ReadlineError → Type 0)
+  stands_in_bytes : (adds : Bool) (others : List SessionEvent) (at new : Work D L) (Whole : Type 0) (Faulted : ReadlineError → Type 0)
       → Stands shown written_in adds others at new Whole Faulted → Stands seen seen adds others (in_bytes at) (in_bytes new) Whole Faulted
   stands_in_bytes adds [] at new Whole Faulted h = (h.0, ap in_bytes h.1)
   stands_in_bytes adds (event ∷ others) at new Whole Faulted h = (h.0, stopped_in_bytes adds at event h.0 new h.1, h.2)
 
   -- what goes on a display and on a sink of lines that have these bytes
-  as_bytes : (adds : Bool) (events : List Event) (old new : Work D L) (Whole : Type 0) (Faulted : ReadlineError → Type 0) (first before drawn wrote : List ℕ)
+  as_bytes : (adds : Bool) (events : List SessionEvent) (old new : Work D L) (Whole : Type 0) (Faulted : ReadlineError → Type 0) (first before drawn wrote : List ℕ)
       → shown old.display ≡ first → drawn ≡ shown new.display → written_in old.lines ≡ before → wrote ≡ written_in new.lines
       → GoesShown shown written_in adds events old new Whole Faulted
       → GoesShown seen seen adds events (work first before old.history old.coming) (work drawn wrote new.history new.coming) Whole Faulted
@@ -120,7 +121,7 @@ module _ {D L : Type 0} (shown : D → List ℕ) (written_in : L → List ℕ) w
       (subst (λ c. R (shown old.display) (written_in old.lines) c wrote) (sym drawn_is)
       (subst (λ d. R (shown old.display) (written_in old.lines) (shown new.display) d) (sym wrote_is) both)))
 
-module _ {F S D L T : Type 0} (text_of : F → Feed) (k : Known S D L) (held : T → List ℕ) (failed : T → Bool) where
+module _ {F S D L T : Type 0} (text_of : F → Feed) (k : KnownDevices S D L) (held : T → List ℕ) (failed : T → Bool) where
   pub played : (config : Config) (options : Options) (words : Option (List (List ℕ))) (drawn wrote old bytes : List ℕ) (last : Last) (history : F) (source : S) (display : D) (lines : L) (text : T)
       (ended : Ended S D L T) (display' : D) (lines' : L)
       → EditsBy text_of k held failed config options words history source display lines text ended → AlwaysTold text_of → text_of history ≡ fresh_feed old End
@@ -142,16 +143,16 @@ module _ {F S D L T : Type 0} (text_of : F → Feed) (k : Known S D L) (held : T
       ∙ ap (λ (h : Option EditHelper). (record g { helping = edit_helping h })) opens.helper_is in
       let coming : (desk_feed k desk).coming ≡ coming_from config.edit_mode bytes last =
       opens.coming ∙ (ap (λ bs. coming_from config.edit_mode bs (k.feed source).last) coming_is ∙ ap (λ l. coming_from config.edit_mode bytes l) last_is) in
-      let loaded_is = loaded_from config (fresh_feed old End) in
-      let history_is : desk.history ≡ loaded_is = opens.loaded.history_is always ∙ ap (λ (f : Feed). loaded_from config f) text_is in
-      let bound : (desk_feed k desk).bound ≡ 2 ^ 63 + kept_count (kept_of desk.reader) =
-      ap (λ (s : S). (k.feed s).bound + kept_count (kept_of desk.reader)) opens.source_is ∙ ap (λ b. b + kept_count (kept_of desk.reader)) bound_is in
+      let loaded_is = history_loaded_from config (fresh_feed old End) in
+      let history_is : desk.history ≡ loaded_is = opens.loaded.history_is always ∙ ap (λ (f : Feed). history_loaded_from config f) text_is in
+      let bound : (desk_feed k desk).bound ≡ 2 ^ 63 + count_of_kept (byte_ahead_of desk.reader) =
+      ap (λ (s : S). (k.feed s).bound + count_of_kept (byte_ahead_of desk.reader)) opens.source_is ∙ ap (λ b. b + count_of_kept (byte_ahead_of desk.reader)) bound_is in
       let left = (desk_feed k left_desk).coming in
       let start_is : session_state_of k desk ≡ start =
       ap (λ (r : Ring). state_by r (string_bytes desk.last_query) desk.history (desk_feed k desk).coming) opens.ring
-      ∙ (ap (λ query. state_by (new_ring 60) query desk.history (desk_feed k desk).coming) opens.query
-      ∙ (ap (λ (h : Filed). state_by (new_ring 60) [] h (desk_feed k desk).coming) history_is
-      ∙ ap (λ (c : Coming). state_by (new_ring 60) [] loaded_is c) coming)) in
+      ∙ (ap (λ query. state_by (new_ring KILL_RING_SIZE) query desk.history (desk_feed k desk).coming) opens.query
+      ∙ (ap (λ (h : Filed). state_by (new_ring KILL_RING_SIZE) [] h (desk_feed k desk).coming) history_is
+      ∙ ap (λ (c : Coming). state_by (new_ring KILL_RING_SIZE) [] loaded_is c) coming)) in
       record {
         kept = left_desk.history;
         reader = left_desk.reader;
@@ -159,7 +160,7 @@ module _ {F S D L T : Type 0} (text_of : F → Feed) (k : Known S D L) (held : T
         saved = end.saved;
         loaded = subst (λ (f : Feed). IsOk (loads config f)) text_is (opens.loaded.whole always);
         goes = λ n low.
-            let went = edits.runs.takes.goes (subst (λ (s : S). IsTrue (k.feed s).told) end.source_is agrees) n (below (2 ^ 63) (kept_count (kept_of desk.reader)) (desk_feed k desk).bound n (ap kept_count opens.kept) bound low) in
+            let went = edits.runs.takes.goes (subst (λ (s : S). IsTrue (k.feed s).told) end.source_is agrees) n (below (2 ^ 63) (count_of_kept (byte_ahead_of desk.reader)) (desk_feed k desk).bound n (ap count_of_kept opens.kept) bound low) in
             let G : Given → SessionState → Type 0 = λ g x.
             let lines = session n g (each g) x in
             GoesShown k.shown k.written_in g.config.auto_add_history lines.events (work_of k desk) (work_of k left_desk) (why ≡ lines.answer) (λ e. why ≡ e) in
@@ -190,7 +191,7 @@ module _ {F S D L T : Type 0} (text_of : F → Feed) (k : Known S D L) (held : T
 -- ---- settings that are equal
 
 module _ {R K E W T : Type 0} where
-  pub plays_by : {X : Type 0} (known : Known (ReadSource R K) (WriteSink E) (WriteSink W)) (held : T → List ℕ) (failed : T → Bool) (config config' : Config) (options : Options)
+  pub plays_by : {X : Type 0} (known : KnownDevices (ReadSource R K) (WriteSink E) (WriteSink W)) (held : T → List ℕ) (failed : T → Bool) (config config' : Config) (options : Options)
       (words : Option (List (List ℕ))) (shown wrote old bytes : List ℕ) (last : Last) (r : Result (Ended (ReadSource R K) (WriteSink E) (WriteSink W) T) X) → config ≡ config'
       → IfOk r (PlaysOver known held failed config options words shown wrote old bytes last) → IfOk r (PlaysOver known held failed config' options words shown wrote old bytes last)
   plays_by known held failed config config' options words shown wrote old bytes last r same plays =

@@ -1,17 +1,17 @@
 -- Why a session ended, by the devices that come back.
 use Rattle.std.proofs.Common.{ℕ, Bool, List, sym, subst}
 use Rattle.line_config.specs.declared.errors.ReadlineError.{ReadlineError}
-use Rattle.line_screen.specs.Calls.{sink_of}
+use Rattle.line_screen.specs.ScreenCalls.{sink_of}
 use Rattle.line_screen.specs.Reader.{source_of}
 use Rattle.keyline.specs.Desks.{DeskReason}
-use Rattle.keyline.specs.Known.{Known}
-use Rattle.keyline.specs.Playing.{SessionReason}
-use Rattle.keyline.specs.Plays.{Finishes}
+use Rattle.keyline.specs.KnownDevices.{KnownDevices}
+use Rattle.keyline.specs.SessionEffects.{SessionReason}
+use Rattle.keyline.specs.SessionRuns.{Finishes}
 use Rattle.keyline.specs.Sessions.{Given}
 use Rattle.keyline.specs.declared.desk.Desk.{Desk}
 use Rattle.keyline.specs.declared.session.Ended.{Ended}
 
-pub reason_at_end : {S H D L T : Type 0} (k : Known S D L) (held : T → List ℕ) (failed : T → Bool) (g : Given) (last : Desk S H D L) (text : T) (why : ReadlineError) (ended : Ended S D L T)
+pub reason_at_end : {S H D L T : Type 0} (k : KnownDevices S D L) (held : T → List ℕ) (failed : T → Bool) (g : Given) (last : Desk S H D L) (text : T) (why : ReadlineError) (ended : Ended S D L T)
     → Finishes k.feed held failed last text why ended → DeskReason k g last why
     → SessionReason g (k.feed ended.source).failed (k.show_failed ended.display) (k.write_failed ended.lines) why
 reason_at_end {S} {H} {D} {L} k held failed g last text why ended end reason =

@@ -1,19 +1,19 @@
 -- A session by two amounts of fuel above the keys and pastes to come is one.
 use Rattle.std.proofs.Common.{◌≡◌, ℕ, zero, suc, ◌<◌, ◌≤◌, Bool, true, false, List, ◌∷◌, ◌++◌, refl, sym, ap, ◌∙◌, arith, Result, Ok, Err}
-use Rattle.line_config.specs.Played.{Played, asked_first, played_on}
-use Rattle.line_config.specs.Scripts.{Ends, Asks}
+use Rattle.script.specs.Played.{Played, play_with_first_ask, play_after_answer}
+use Rattle.script.specs.Scripts.{Ends, Asks}
 use Rattle.line_config.specs.declared.errors.ReadlineError.{ReadlineError}
 use Rattle.line_config.specs.declared.errors.ReadlineError.TheVariants.{Eof}
-use Rattle.line_editor.specs.LineScripts.{Begins, Keys, Meets, Obeys, Makes, LineAnswer, LineAsk, LineScript, LineState, answer_at, beginning, left_at, line_begun, line_script, played_from, turn_script, turns_script}
+use Rattle.line_editor.specs.LineScripts.{Begins, Keys, Meets, Obeys, Makes, LineAnswer, LineAsk, LineScript, LineState, answer_at, turn_start, left_at, line_begun, line_script, played_from, turn_script, turns_script}
 use Rattle.line_editor.specs.Redraws.{fresh}
-use Rattle.line_editor.specs.Running.{kept_first}
+use Rattle.line_editor.specs.LineRun.{first_line_state}
 use Rattle.line_editor.specs.Values.{Setting}
-use Rattle.line_keys.specs.Answers.{Custom}
-use Rattle.line_keys.specs.Coming.{Coming, Pressed, Pasted, CutOff, Ends as Ended, Refused, left_by, refusal_of}
-use Rattle.line_keys.specs.Feeds.{InputItem, InputOf, Key, Paste, behind, item_at}
-use Rattle.line_keys.specs.Phrases.{Needs, Shows, Reads, Becomes, Refuses, and_then, with_read}
+use Rattle.line_keys.specs.CustomBindings.{Custom}
+use Rattle.line_keys.specs.Coming.{Coming, Pressed, Pasted, CutOff, Ends as Ended, Refused, coming_after_error, refusal_of}
+use Rattle.line_keys.specs.KeyFeeds.{InputItem, InputOf, Key, Paste, behind, item_at}
+use Rattle.line_keys.specs.PhraseScripts.{Needs, Shows, Reads, Becomes, Refuses, and_then, with_read}
 use Rattle.line_keys.specs.declared.key.KeyEvent.{KeyEvent}
-use Rattle.keyline.specs.Events.{Begins as LineBegins, Course, asks_events, end_events, events_first, going_on, line_course, played_in, session}
+use Rattle.keyline.specs.Events.{Begins as LineBegins, Course, asks_events, end_events, events_first, course_after_line, line_course, line_play_in, session}
 use Rattle.keyline.specs.Sessions.{Given, LineGiven, SessionState, for_line, setting_in, state_after}
 use Rattle.keyline.specs.Fuel.{keys_and_pastes}
 use Rattle.keyline.proofs.AlikeScripts.{Alike, Next}
@@ -33,7 +33,7 @@ read_falls Paste (CutOff bytes last left) x is = absurd (cc)
 read_falls Paste (Ended bytes last left) x is = absurd (cc)
 read_falls Paste (Refused bytes why) x is = absurd (cc)
 
-none_by : (e : ReadlineError) (left : List ℕ) → keys_and_pastes (left_by e left) ≡ 0
+none_by : (e : ReadlineError) (left : List ℕ) → keys_and_pastes (coming_after_error e left) ≡ 0
 none_by Eof left = refl
 none_by _ left = refl
 
@@ -82,8 +82,8 @@ module _ (s : Setting) where
 
   on_answer : {X : Type 0} (ask : LineAsk) (f g : LineAnswer ask → LineScript X) (after : LineState) (r : Result (LineAnswer ask) ReadlineError)
       → ((x : LineAnswer ask) → r ≡ Ok x → played_from s (f x) after ≡ played_from s (g x) after)
-      → played_on (λ x. played_from s (f x) after) ask after r ≡ played_on (λ x. played_from s (g x) after) ask after r
-  on_answer ask f g after (Ok x) h = ap (asked_first ask) (h x refl)
+      → play_after_answer (λ x. played_from s (f x) after) ask after r ≡ play_after_answer (λ x. played_from s (g x) after) ask after r
+  on_answer ask f g after (Ok x) h = ap (play_with_first_ask ask) (h x refl)
   on_answer ask f g after (Err e) h = refl
 
   played_alike : {X : Type 0} (k : ℕ) (p q : LineScript X) → Alike is_line_read k p q → (c : LineState) → keys_and_pastes c.coming ≤ k → played_from s p c ≡ played_from s q c
@@ -99,7 +99,7 @@ module _ (s : Setting) where
 
   rest_on : {X : Type 0} (ask : LineAsk) (f : LineAnswer ask → LineScript X) (after : LineState) (most : ℕ) (r : Result (LineAnswer ask) ReadlineError) → keys_and_pastes after.coming ≤ most
       → ((x : LineAnswer ask) → keys_and_pastes (played_from s (f x) after).rest.coming ≤ keys_and_pastes after.coming)
-      → keys_and_pastes (played_on (λ x. played_from s (f x) after) ask after r).rest.coming ≤ most
+      → keys_and_pastes (play_after_answer (λ x. played_from s (f x) after) ask after r).rest.coming ≤ most
   rest_on ask f after most (Ok x) low h = let stays = h x in omega arith
   rest_on ask f after most (Err e) low h = low
 
@@ -109,8 +109,8 @@ module _ (s : Setting) where
       rest_on ask f (left_at s c ask) (keys_and_pastes c.coming) (answer_at s c ask) (left_le c ask) (λ x. rest_stays (f x) (left_at s c ask))
 
   first_key : (f : KeyEvent → LineScript (List ℕ)) (c : LineState) (r : Result KeyEvent ReadlineError) → item_at Key c.coming ≡ r → (text : List ℕ)
-      → (played_on (λ x. played_from s (f x) (left_at s c (Keys (Reads Key)))) (Keys (Reads Key)) (left_at s c (Keys (Reads Key))) r).answer ≡ Ok text
-      → suc (keys_and_pastes (played_on (λ x. played_from s (f x) (left_at s c (Keys (Reads Key)))) (Keys (Reads Key)) (left_at s c (Keys (Reads Key))) r).rest.coming) ≤ keys_and_pastes c.coming
+      → (play_after_answer (λ x. played_from s (f x) (left_at s c (Keys (Reads Key)))) (Keys (Reads Key)) (left_at s c (Keys (Reads Key))) r).answer ≡ Ok text
+      → suc (keys_and_pastes (play_after_answer (λ x. played_from s (f x) (left_at s c (Keys (Reads Key)))) (Keys (Reads Key)) (left_at s c (Keys (Reads Key))) r).rest.coming) ≤ keys_and_pastes c.coming
   first_key f c (Ok k) is text ok =
       let less = read_falls Key c.coming k is in
       let stays = rest_stays (f k) (left_at s c (Keys (Reads Key))) in omega arith
@@ -122,7 +122,7 @@ module _ (s : Setting) where
   line_falls n custom c text ok =
       let drawn = left_at s c (Makes line_begun) in
       let begun = left_at s drawn Begins in
-      first_key (turn_after n custom (beginning drawn)) begun (item_at Key c.coming) refl text ok
+      first_key (turn_after n custom (turn_start drawn)) begun (item_at Key c.coming) refl text ok
 
 -- ---- sessions
 
@@ -130,18 +130,18 @@ abbrev course_by : Given → SessionState → Played LineAsk LineState ReadlineE
 course_by g x p =
     let a = setting_in g x.history.kept.entries in
     record {
-      events = LineBegins g.screen ∷ (asks_events g.screen a (fresh g.screen.mode) (kept_first a x.ring x.query x.coming) p.asks ++ end_events p.answer);
+      events = LineBegins g.screen ∷ (asks_events g.screen a (fresh g.screen.mode) (first_line_state a x.ring x.query x.coming) p.asks ++ end_events p.answer);
       answer = (p.answer, state_after g.config.auto_add_history p.answer p.rest.ring p.rest.modal.query p.rest.coming x);
     }
 
 line_is : (n m : ℕ) (g : Given) (x : SessionState) → keys_and_pastes x.coming < n → keys_and_pastes x.coming < m → line_course n g x ≡ line_course m g x
 line_is n m g x low low' =
     let s = setting_in g x.history.kept.entries in
-    let c = kept_first s x.ring x.query x.coming in
+    let c = first_line_state s x.ring x.query x.coming in
     ap (course_by g x)
     (played_alike s (keys_and_pastes x.coming) (line_script n g.custom) (line_script m g.custom) (line_alike g.custom n m (keys_and_pastes x.coming) low low') c (omega arith))
 
-going_same : (a b : SessionState → Course ReadlineError) (r : Result (List ℕ) ReadlineError) (y : SessionState) → ((text : List ℕ) → r ≡ Ok text → a y ≡ b y) → going_on a (r, y) ≡ going_on b (r, y)
+going_same : (a b : SessionState → Course ReadlineError) (r : Result (List ℕ) ReadlineError) (y : SessionState) → ((text : List ℕ) → r ≡ Ok text → a y ≡ b y) → course_after_line a (r, y) ≡ course_after_line b (r, y)
 going_same a b (Ok text) y h = h text refl
 going_same a b (Err e) y h = refl
 
@@ -151,12 +151,12 @@ session_is zero m g at x low low' = absurd (omega arith)
 session_is (suc n) zero g at x low low' = absurd (omega arith)
 session_is (suc n) (suc m) g at x low low' =
     let here = for_line g (at 0) in
-    let p = played_in (suc n) here x in
+    let p = line_play_in (suc n) here x in
     let line = course_by here x p in
     let s = setting_in here x.history.kept.entries in
     let others = λ (line : ℕ). at (suc line) in
     ap (events_first line.events)
     (going_same (session n g others) (session m g others) p.answer (state_after here.config.auto_add_history p.answer p.rest.ring p.rest.modal.query p.rest.coming x)
-    (λ text ok. let less = line_falls s n here.custom (kept_first s x.ring x.query x.coming) text ok in
+    (λ text ok. let less = line_falls s n here.custom (first_line_state s x.ring x.query x.coming) text ok in
     session_is n m g others (state_after here.config.auto_add_history p.answer p.rest.ring p.rest.modal.query p.rest.coming x) (omega arith) (omega arith)))
-    ∙ ap (λ (line : Course (Result (List ℕ) ReadlineError × SessionState)). events_first line.events (going_on (session m g others) line.answer)) (line_is (suc n) (suc m) here x low low')
+    ∙ ap (λ (line : Course (Result (List ℕ) ReadlineError × SessionState)). events_first line.events (course_after_line (session m g others) line.answer)) (line_is (suc n) (suc m) here x low low')

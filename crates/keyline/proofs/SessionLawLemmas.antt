@@ -6,17 +6,17 @@ use Rattle.line_buffer.specs.declared.layout.TabStops.{TabStops}
 use Rattle.line_config.specs.declared.errors.ReadlineError.{ReadlineError}
 use Rattle.line_editor.specs.LineScripts.{LineAsk, LineState, effect_at, left_at, steps_along}
 use Rattle.line_editor.specs.Redraws.{fresh}
-use Rattle.line_editor.specs.Running.{kept_first, line_played}
-use Rattle.line_editor.specs.Steps.{one}
+use Rattle.line_editor.specs.LineRun.{first_line_state, line_played}
+use Rattle.line_editor.specs.EditSteps.{one}
 use Rattle.line_editor.specs.Values.{EditStep, Setting, shown_marks}
 use Rattle.line_editor.specs.Values.EditStep.{Draws as DrawStep, Helped as HelpStep, Edits as EditingStep, TakesBack as BackStep, Takes as TakingStep}
-use Rattle.line_help.specs.History.{Filed, nothing_filed, ignored, filed_with_all, newest, unsaved_after}
+use Rattle.line_help.specs.History.{Filed, nothing_filed, ignores_line, history_with_lines, newest, count_of_unsaved}
 use Rattle.line_help.proofs.NewestLemmas.{all_new, length-newest, newest_behind}
-use Rattle.line_screen.specs.Calls.{Screen, ruler_of}
-use Rattle.keyline.specs.Events.{Course, Begins, Takes, Helped, Draws, asks_events, end_events, events_first, going_on, line_course, lines_kept, own_events, session, step_events}
-use Rattle.keyline.specs.SessionLaws.{at_columns, prompt_column, unmeasured, ColumnsAreFree, LineColumnsAreFree, taken_of, LastAreKept}
+use Rattle.line_screen.specs.ScreenCalls.{Screen, ruler_of}
+use Rattle.keyline.specs.Events.{Course, Begins, Takes, Helped, Draws, asks_events, end_events, events_first, course_after_line, line_course, lines_kept, own_events, session, step_events}
+use Rattle.keyline.specs.SessionLaws.{at_columns, prompt_column, event_without_columns, ColumnsAreFree, LineColumnsAreFree, lines_taken, LastAreKept}
 use Rattle.keyline.specs.Sessions.{Given, SessionState, each, setting_in, state_after}
-use Rattle.keyline.specs.Shows.{drawn_by}
+use Rattle.keyline.specs.Shows.{calls_by_screen}
 
 -- ---- columns
 
@@ -26,7 +26,7 @@ mapped_both f (x ∷ xs) ys = ap (λ zs. f x ∷ zs) (mapped_both f xs ys)
 
 module _ (s t : Screen) where
   -- whatever is kept of the drawing
-  step_alike : (l m : Layout) (rs : List EditStep) → map unmeasured (step_events s l rs) ≡ map unmeasured (step_events t m rs)
+  step_alike : (l m : Layout) (rs : List EditStep) → map event_without_columns (step_events s l rs) ≡ map event_without_columns (step_events t m rs)
   step_alike l m [] = refl
   step_alike l m (DrawStep v marks redraw ∷ rs) = ap (λ events. Draws (shown_marks v marks) redraw [] ∷ events) (step_alike (one (ruler_of s) l (DrawStep v marks redraw)).layout (one (ruler_of t) m (DrawStep v marks redraw)).layout rs)
   step_alike l m (HelpStep v fails takes ∷ rs) = ap (λ events. Helped fails takes ∷ events) (step_alike l m rs)
@@ -34,20 +34,20 @@ module _ (s t : Screen) where
   step_alike l m (BackStep v count ∷ rs) = ap (λ events. Takes ∷ events) (step_alike l m rs)
   step_alike l m (TakingStep v ∷ rs) = ap (λ events. Takes ∷ events) (step_alike l m rs)
 
-  asks_alike : (a : Setting) (l m : Layout) (k : LineState) (asks : List LineAsk) → map unmeasured (asks_events s a l k asks) ≡ map unmeasured (asks_events t a m k asks)
+  asks_alike : (a : Setting) (l m : Layout) (k : LineState) (asks : List LineAsk) → map event_without_columns (asks_events s a l k asks) ≡ map event_without_columns (asks_events t a m k asks)
   asks_alike a l m k [] = refl
   asks_alike a l m k (ask ∷ asks) =
       let rs = (effect_at a k ask).steps in
       let left = left_at a k ask in
       let own = own_events a k ask in
-      let one_rest = asks_events s a (drawn_by s l rs).layout left asks in
-      let other_rest = asks_events t a (drawn_by t m rs).layout left asks in
-      mapped_both unmeasured (step_events s l rs) (own ++ one_rest)
-      ∙ ap (λ events. events ++ map unmeasured (own ++ one_rest)) (step_alike l m rs)
-      ∙ ap (λ events. map unmeasured (step_events t m rs) ++ events) (mapped_both unmeasured own one_rest
-      ∙ ap (λ events. map unmeasured own ++ events) (asks_alike a (drawn_by s l rs).layout (drawn_by t m rs).layout left asks)
-      ∙ sym (mapped_both unmeasured own other_rest))
-      ∙ sym (mapped_both unmeasured (step_events t m rs) (own ++ other_rest))
+      let one_rest = asks_events s a (calls_by_screen s l rs).layout left asks in
+      let other_rest = asks_events t a (calls_by_screen t m rs).layout left asks in
+      mapped_both event_without_columns (step_events s l rs) (own ++ one_rest)
+      ∙ ap (λ events. events ++ map event_without_columns (own ++ one_rest)) (step_alike l m rs)
+      ∙ ap (λ events. map event_without_columns (step_events t m rs) ++ events) (mapped_both event_without_columns own one_rest
+      ∙ ap (λ events. map event_without_columns own ++ events) (asks_alike a (calls_by_screen s l rs).layout (calls_by_screen t m rs).layout left asks)
+      ∙ sym (mapped_both event_without_columns own other_rest))
+      ∙ sym (mapped_both event_without_columns (step_events t m rs) (own ++ other_rest))
 
 -- where tabs end on its rows
 abbrev tabs_of : Given → Option TabStops
@@ -66,7 +66,7 @@ untabbed g columns none = ap (λ tab. tabs_of (at_columns columns (tabbed g tab)
 -- a line on one screen and on another, by one setting
 abbrev course_on : ℕ → Given → SessionState → Screen → Setting → Course (Result (List ℕ) ReadlineError × SessionState)
 course_on n g x s a =
-    let k = kept_first a x.ring x.query x.coming in
+    let k = first_line_state a x.ring x.query x.coming in
     let p = line_played n a g.custom x.ring x.query x.coming in
     record {
       events = Begins s ∷ (asks_events s a (fresh s.mode) k p.asks ++ end_events p.answer);
@@ -74,7 +74,7 @@ course_on n g x s a =
     }
 
 record Alike {X : Type 0} (c d : Course X) : Type 0 where
-  events : map unmeasured c.events ≡ map unmeasured d.events
+  events : map event_without_columns c.events ≡ map event_without_columns d.events
   answer : c.answer ≡ d.answer
 
 lines_alike : (n : ℕ) (g : Given) (x : SessionState) (columns : ℕ) → tabs_of (at_columns columns g) ≡ tabs_of g → prompt_column (at_columns columns g) ≡ prompt_column g → Alike (line_course n (at_columns columns g) x) (line_course n g x)
@@ -85,37 +85,37 @@ lines_alike n g x columns t e =
     let entries = x.history.kept.entries in
     let a = setting_in g entries in
     let p = line_played n a g.custom x.ring x.query x.coming in
-    let k = kept_first a x.ring x.query x.coming in
+    let k = first_line_state a x.ring x.query x.coming in
     let asks = λ (s : Screen). asks_events s a (fresh s.mode) k p.asks in
     let same : line_course n other x ≡ course_on n g x s a =
     ap (λ column. course_on n g x s (setting_at g entries column (tabs_of other))) e
     ∙ ap (λ tabs. course_on n g x s (setting_at g entries (prompt_column g) tabs)) t in
     let alike : Alike (course_on n g x s a) (line_course n g x) = record {
       events = ap (λ events. Begins (record s { columns = 0 }) ∷ events)
-          (mapped_both unmeasured (asks s) (end_events p.answer)
-          ∙ ap (λ events. events ++ map unmeasured (end_events p.answer)) (asks_alike s g.screen a (fresh s.mode) (fresh g.screen.mode) k p.asks)
-          ∙ sym (mapped_both unmeasured (asks g.screen) (end_events p.answer)));
+          (mapped_both event_without_columns (asks s) (end_events p.answer)
+          ∙ ap (λ events. events ++ map event_without_columns (end_events p.answer)) (asks_alike s g.screen a (fresh s.mode) (fresh g.screen.mode) k p.asks)
+          ∙ sym (mapped_both event_without_columns (asks g.screen) (end_events p.answer)));
       answer = refl;
     } in
     subst (λ c. Alike c (line_course n g x)) (sym same) alike
 
 -- a line, and what comes after it
 line_first : (c d : Course (Result (List ℕ) ReadlineError × SessionState)) (f h : SessionState → Course ReadlineError) → Alike c d → ((x : SessionState) → Alike (f x) (h x))
-    → Alike (events_first c.events (going_on f c.answer)) (events_first d.events (going_on h d.answer))
+    → Alike (events_first c.events (course_after_line f c.answer)) (events_first d.events (course_after_line h d.answer))
 line_first c d f h alike so =
-    subst (λ answer. Alike (events_first c.events (going_on f c.answer)) (events_first d.events (going_on h answer))) alike.answer (by c.answer.0)
+    subst (λ answer. Alike (events_first c.events (course_after_line f c.answer)) (events_first d.events (course_after_line h answer))) alike.answer (by c.answer.0)
   where
     y : SessionState
     y = c.answer.1
 
     first : (one other : Course ReadlineError) → Alike one other → Alike (events_first c.events one) (events_first d.events other)
     first one other is = record {
-      events = mapped_both unmeasured c.events one.events ∙ ap (λ events. events ++ map unmeasured one.events) alike.events ∙ ap (λ events. map unmeasured d.events ++ events) is.events
-          ∙ sym (mapped_both unmeasured d.events other.events);
+      events = mapped_both event_without_columns c.events one.events ∙ ap (λ events. events ++ map event_without_columns one.events) alike.events ∙ ap (λ events. map event_without_columns d.events ++ events) is.events
+          ∙ sym (mapped_both event_without_columns d.events other.events);
       answer = is.answer;
     }
 
-    by : (o : Result (List ℕ) ReadlineError) → Alike (events_first c.events (going_on f (o, y))) (events_first d.events (going_on h (o, y)))
+    by : (o : Result (List ℕ) ReadlineError) → Alike (events_first c.events (course_after_line f (o, y))) (events_first d.events (course_after_line h (o, y)))
     by (Ok text) = first (f y) (h y) (so y)
     by (Err e) = first (record { events = []; answer = e }) (record { events = []; answer = e }) (record { events = refl; answer = refl })
 
@@ -137,7 +137,7 @@ line_columns_are_free n g x columns none e =
     let own = prompt_column g in
     let tabs = tabs_of (at_columns columns g) in
     let t = untabbed g columns none in
-    let first : Setting → LineState = λ a. kept_first a x.ring x.query x.coming in
+    let first : Setting → LineState = λ a. first_line_state a x.ring x.query x.coming in
     let played = λ (a : Setting). line_played n a g.custom x.ring x.query x.coming in
     let stepped = λ (a : Setting). steps_along a (first a) (played a).asks in (
       ap (λ column. played (at column tabs)) e ∙ ap (λ tabs. played (at own tabs)) t,
@@ -150,9 +150,9 @@ small_after : (n : ℕ) (entries : List (List ℕ)) → length (newest n entries
 small_after n entries = let e = length-newest n entries in omega arith
 
 kept_from : (lines : List (List ℕ)) (filed : Filed) → length filed.kept.entries ≤ filed.kept.settings.max_len
-    → (filed_with_all filed lines).kept.entries ≡ newest filed.kept.settings.max_len (filed.kept.entries ++ taken_of filed lines)
+    → (history_with_lines filed lines).kept.entries ≡ newest filed.kept.settings.max_len (filed.kept.entries ++ lines_taken filed lines)
 kept_from [] filed few = sym (ap (newest filed.kept.settings.max_len) (append-nil filed.kept.entries) ∙ all_new filed.kept.settings.max_len filed.kept.entries few)
-kept_from (line ∷ lines) filed few = by_test (ignored filed.kept.settings filed.kept.entries line) (kept_from lines)
+kept_from (line ∷ lines) filed few = by_test (ignores_line filed.kept.settings filed.kept.entries line) (kept_from lines)
   where
     max : ℕ
     max = filed.kept.settings.max_len
@@ -163,17 +163,17 @@ kept_from (line ∷ lines) filed few = by_test (ignored filed.kept.settings file
     next : Bool → Filed
     next b = record {
       kept = record { entries = if b then entries else newest max (entries ++ line ∷ []); settings = filed.kept.settings };
-      unsaved = unsaved_after filed.kept.settings entries line filed.unsaved;
+      unsaved = count_of_unsaved filed.kept.settings entries line filed.unsaved;
     }
 
     by_test : (b : Bool)
-        → ((f : Filed) → length f.kept.entries ≤ f.kept.settings.max_len → (filed_with_all f lines).kept.entries ≡ newest f.kept.settings.max_len (f.kept.entries ++ taken_of f lines))
-        → (filed_with_all (next b) lines).kept.entries ≡ newest max (entries ++ (if b then taken_of (next b) lines else line ∷ taken_of (next b) lines))
+        → ((f : Filed) → length f.kept.entries ≤ f.kept.settings.max_len → (history_with_lines f lines).kept.entries ≡ newest f.kept.settings.max_len (f.kept.entries ++ lines_taken f lines))
+        → (history_with_lines (next b) lines).kept.entries ≡ newest max (entries ++ (if b then lines_taken (next b) lines else line ∷ lines_taken (next b) lines))
     by_test true rest = rest (next true) few
     by_test false rest =
         rest (next false) (small_after max (entries ++ line ∷ []))
-        ∙ newest_behind max (entries ++ line ∷ []) (taken_of (next false) lines)
-        ∙ ap (newest max) (append_assoc entries (line ∷ []) (taken_of (next false) lines))
+        ∙ newest_behind max (entries ++ line ∷ []) (lines_taken (next false) lines)
+        ∙ ap (newest max) (append_assoc entries (line ∷ []) (lines_taken (next false) lines))
 
 pub last_are_kept : LastAreKept
 last_are_kept n g at x settings = kept_from (flat_map lines_kept (session n g at x).events) (nothing_filed settings) (omega arith)

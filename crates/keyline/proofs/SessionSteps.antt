@@ -2,13 +2,13 @@
 use Rattle.std.proofs.Common.{◌≡◌, ℕ, zero, suc, ◌<◌, List, [], ◌++◌, refl, sym, ap, subst, append-nil, IsTrue, Result, Ok, Err, IfErr, OnOk, arith}
 use Rattle.line_config.specs.declared.errors.ReadlineError.{ReadlineError}
 use Rattle.line_config.specs.declared.errors.ReadlineError.TheVariants.{Handler}
-use Rattle.line_config.proofs.ScriptLaws.{err_in, fault_or, ok_not_err}
-use Rattle.line_keys.specs.Answers.{HandlerFails}
-use Rattle.line_screen.specs.Calls.{sink_of}
+use Rattle.script.proofs.ScriptLaws.{err_in, fault_or, ok_not_err}
+use Rattle.line_keys.specs.CustomBindings.{HandlerFails}
+use Rattle.line_screen.specs.ScreenCalls.{sink_of}
 use Rattle.keyline.specs.Desks.{TakesLine, TakesLines, DeskReason, desk_feed, session_state_of, work_of}
-use Rattle.keyline.specs.Events.{Course, events_first, going_on, line_course, session}
-use Rattle.keyline.specs.Known.{Known, HasPassedOn, HasPassedLines}
-use Rattle.keyline.specs.Playing.{AreDone, Went, Work}
+use Rattle.keyline.specs.Events.{Course, events_first, course_after_line, line_course, session}
+use Rattle.keyline.specs.KnownDevices.{KnownDevices, HasPassedOn, HasPassedLines}
+use Rattle.keyline.specs.SessionEffects.{AreDone, Went, Work}
 use Rattle.keyline.specs.Sessions.{Given, LineGiven, SessionState, for_line}
 use Rattle.keyline.specs.Shows.{EachShown}
 use Rattle.keyline.specs.declared.desk.Desk.{Desk}
@@ -20,7 +20,7 @@ lower a b m less below = search arith
 
 -- ---- the loop
 
-module _ {S H D L : Type 0} (k : Known S D L) where
+module _ {S H D L : Type 0} (k : KnownDevices S D L) where
   -- a session from this desk on
   abbrev pub Onwards : ℕ → Given → (ℕ → LineGiven) → Desk S H D L → Work D L → ReadlineError → Type 0
   Onwards n g at d end why =
@@ -28,14 +28,14 @@ module _ {S H D L : Type 0} (k : Known S D L) where
       Went k.shown k.written_in g.config.auto_add_history lines.events (work_of k d) end (why ≡ lines.answer) (λ e. why ≡ e)
 
 -- lines were taken: what is read, drawn, kept and written from here on is, with them, what is so from the first desk on
-pub record Onward {S H D L : Type 0} (k : Known S D L) (g : Given) (at at' : ℕ → LineGiven) (first now : Desk S H D L) : Type 0 where
+pub record Onward {S H D L : Type 0} (k : KnownDevices S D L) (g : Given) (at at' : ℕ → LineGiven) (first now : Desk S H D L) : Type 0 where
   pub told : IsTrue (desk_feed k now).told → IsTrue (desk_feed k first).told
   pub passes : IsTrue (desk_feed k now).told → HasPassedOn k (sink_of first.out) → HasPassedOn k (sink_of now.out)
   pub passes_lines : HasPassedLines k first.lines → HasPassedLines k now.lines
   pub onward : IsTrue (desk_feed k now).told → (n : ℕ) → (desk_feed k first).bound < n → (m : ℕ) × ((desk_feed k now).bound < m)
       × ((end : Work D L) (why : ReadlineError) → Onwards k m g at' now end why → Onwards k n g at first end why)
 
-module _ {S H D L : Type 0} (k : Known S D L) where
+module _ {S H D L : Type 0} (k : KnownDevices S D L) where
   pub onward_nowhere : (g : Given) (at : ℕ → LineGiven) (d : Desk S H D L) → Onward k g at at d d
   onward_nowhere g at d = record { told = λ t. t; passes = λ t none. none; passes_lines = λ none. none; onward = λ t n b. (n, b, λ end why r. r) }
 
@@ -54,7 +54,7 @@ module _ {S H D L : Type 0} (k : Known S D L) where
 
     -- what such a line's answer leads to
     abbrev led : Result (List ℕ) ReadlineError × SessionState → Course ReadlineError
-    led answer = events_first line.events (going_on later answer)
+    led answer = events_first line.events (course_after_line later answer)
 
     abbrev Ends : Course ReadlineError → Work D L → ReadlineError → Type 0
     Ends c end why = Goes k.shown k.written_in g.config.auto_add_history c.events (work_of k now) end (why ≡ c.answer) (λ e. why ≡ e)
@@ -78,12 +78,12 @@ module _ {S H D L : Type 0} (k : Known S D L) where
     unfolding session
     line_off e w =
         let adds = g.config.auto_add_history in
-        let more = (going_on later line.answer).events in
+        let more = (course_after_line later line.answer).events in
         went_cases k.shown k.written_in adds (Whole (Err e)) (λ why. err_in (List ℕ) e ≡ Err why) line.events (work_of k now) (work_of k next) w
         (λ done whole. subst (λ answer. Ends (led answer) (work_of k next) e) whole
         (went_whole k.shown k.written_in adds (e ≡ e) (λ why. e ≡ why) (line.events ++ []) (work_of k now) (work_of k next)
         (subst (λ events. AreDone k.shown k.written_in adds events (work_of k now) (work_of k next)) (sym (append-nil line.events)) done) refl))
-        (λ cut. went_before k.shown k.written_in adds (e ≡ (going_on later line.answer).answer) (λ why. e ≡ why) line.events more (work_of k now) (work_of k next)
+        (λ cut. went_before k.shown k.written_in adds (e ≡ (course_after_line later line.answer).answer) (λ why. e ≡ why) line.events more (work_of k now) (work_of k next)
         (went_so k.shown k.written_in adds ⊥ (λ why. err_in (List ℕ) e ≡ Err why) (λ why. e ≡ why) (λ why is. ap (fault_or e) is) line.events (work_of k now) (work_of k next) cut))
 
   module _ (g : Given) (at at' : ℕ → LineGiven) (first now next : Desk S H D L) (h h' : Given) (result : Result (List ℕ) ReadlineError)

@@ -4,32 +4,32 @@ use Rattle.std.specs.List.{filter, flat_map}
 use Rattle.std.specs.Prelude.{⊤}
 use Rattle.line_buffer.specs.declared.layout.Layout.{Layout}
 use Rattle.line_config.specs.declared.errors.ReadlineError.{ReadlineError}
-use Rattle.line_editor.specs.Calls.{Marks}
-use Rattle.line_editor.specs.Courses.{breaks_after}
+use Rattle.line_editor.specs.RenderCalls.{Marks}
+use Rattle.line_editor.specs.LineEndings.{breaks_after}
 use Rattle.line_editor.specs.Leads.{BeginShows, EndShows, LeadsAlong}
 use Rattle.line_editor.specs.LineScripts.{Begins as TurnBegins, Keys, LineAsk, LineState, effect_at, left_at}
-use Rattle.line_editor.specs.Meeting.{modal_seen, seen_by}
+use Rattle.line_editor.specs.ModalCommands.{modal_seen, sight_in_mode}
 use Rattle.line_editor.specs.Modal.{Modal}
-use Rattle.line_editor.specs.Redraws.{asked_by, fresh}
-use Rattle.line_editor.specs.Running.{kept_first}
+use Rattle.line_editor.specs.Redraws.{calls_of_redraw, fresh}
+use Rattle.line_editor.specs.LineRun.{first_line_state}
 use Rattle.line_editor.specs.Sights.{Sight, no_sight, sight, sight_all, sight_drawn, sight_with, FitsAll}
-use Rattle.line_editor.specs.Steps.{one}
+use Rattle.line_editor.specs.EditSteps.{one}
 use Rattle.line_editor.specs.Values.{EditStep, Setting, Value, shown_marks}
 use Rattle.line_editor.specs.declared.modal_state.Standing.{Standing}
 use Rattle.line_editor.specs.declared.modal_state.Standing.TheVariants.{Searches}
 use Rattle.line_editor.specs.Values.EditStep.{Draws as DrawStep, Helped as HelpStep}
 use Rattle.line_editor.proofs.LineLeads.{lines_lead}
 use Rattle.line_keys.specs.InputStates.{new_input}
-use Rattle.line_keys.specs.Phrases.{Reads}
-use Rattle.line_screen.specs.Calls.{Screen, bytes_of, ruler_of}
+use Rattle.line_keys.specs.PhraseScripts.{Reads}
+use Rattle.line_screen.specs.ScreenCalls.{Screen, bytes_of, ruler_of}
 use Rattle.line_screen.specs.Chain.{Good, Shows, empty_view, finish_of, cursor_of, above}
 use Rattle.line_screen.specs.Display.{Display, Placed, at_cursor}
 use Rattle.line_screen.specs.Drawing.{row_break, next_row}
 use Rattle.line_screen.specs.Laws.{widths}
 use Rattle.line_screen.proofs.LawLemmas.{start_is_empty, shown_is_meant, line_ends_anywhere, ended_line_stays}
-use Rattle.keyline.specs.Events.{Event, Course, Begins, Draws, Rests, Breaks, all_of, asks_events, end_events, going_on, line_course, own_events, played_in, session, step_events}
+use Rattle.keyline.specs.Events.{SessionEvent, Course, Begins, Draws, Rests, Breaks, all_of, asks_events, end_events, course_after_line, line_course, own_events, line_play_in, session, step_events}
 use Rattle.keyline.specs.Sessions.{Given, LineGiven, SessionState, for_line, setting_in}
-use Rattle.keyline.specs.Shows.{picture, place_in, view_in, DisplayHolds, LowAll, top_by, top_drawn, top_after, next_top, above_by, above_drawn, above_after, drawn_by, bytes_for, Face, face, blank, drawn_on, broken, below, IsAtRest, BlankIsAtRest, HasMeaning, MomentShown, EachShown, SessionsShow}
+use Rattle.keyline.specs.Shows.{picture, place_in, view_in, DisplayHolds, LowAll, top_by, top_drawn, top_after, next_top, above_by, above_drawn, above_after, calls_by_screen, bytes_for, Face, face, blank, face_with_drawing, face_on_new_row, below, IsAtRest, BlankIsAtRest, HasMeaning, MomentShown, EachShown, SessionsShow}
 use Rattle.keyline.proofs.ShowSteps.{fresh_holds, step}
 
 pub flat_both : {A B : Type 0} (f : A → List B) (xs ys : List A) → flat_map f (xs ++ ys) ≡ flat_map f xs ++ flat_map f ys
@@ -46,7 +46,7 @@ some_same e = cc
 module _ (s : Screen) (low : 2 ≤ s.columns) (high : s.columns ≤ 1000) (own : List ℕ) where
   -- steps one after the other
   pub steps : (bytes : List ℕ) (over : List Placed) (top : ℕ) (l : Layout) (x : Sight) (rs : List EditStep) → DisplayHolds s bytes over top l x → FitsAll own x rs → LowAll s x rs
-      → DisplayHolds s (bytes ++ bytes_for s l rs) (above_after rs over) (top_after rs top) (drawn_by s l rs).layout (sight_all x rs)
+      → DisplayHolds s (bytes ++ bytes_for s l rs) (above_after rs over) (top_after rs top) (calls_by_screen s l rs).layout (sight_all x rs)
   steps bytes over top l x [] h fits rows = subst (λ b. DisplayHolds s b over top l x) (sym (append-nil bytes)) h
   steps bytes over top l x (r ∷ rs) h fits rows =
       let a = one (ruler_of s) l r in
@@ -54,8 +54,8 @@ module _ (s : Screen) (low : 2 ≤ s.columns) (high : s.columns ≤ 1000) (own :
       let first = step s low high own bytes over top l x r h fits.0 rows.0 in
       let rest = steps (bytes ++ new) (above_by r over) (top_by r top) a.layout (sight x r) rs first fits.1 rows.1 in
       let joined : (bytes ++ new) ++ bytes_for s a.layout rs ≡ bytes ++ bytes_for s l (r ∷ rs) =
-      append_assoc bytes new (bytes_for s a.layout rs) ∙ ap (λ b. bytes ++ b) (sym (flat_both (bytes_of s) a.calls (drawn_by s a.layout rs).calls)) in
-      subst (λ b. DisplayHolds s b (above_after (r ∷ rs) over) (top_after (r ∷ rs) top) (drawn_by s l (r ∷ rs)).layout (sight_all x (r ∷ rs))) joined rest
+      append_assoc bytes new (bytes_for s a.layout rs) ∙ ap (λ b. bytes ++ b) (sym (flat_both (bytes_of s) a.calls (calls_by_screen s a.layout rs).calls)) in
+      subst (λ b. DisplayHolds s b (above_after (r ∷ rs) over) (top_after (r ∷ rs) top) (calls_by_screen s l (r ∷ rs)).layout (sight_all x (r ∷ rs))) joined rest
 
   place_by : (x : Sight) (b : Bool) → x.ended ≡ b → place_in s x ≡ (if b then finish_of s.columns (widths s) (picture x) else cursor_of s.columns (widths s) (picture x))
   place_by x b e = ap (λ t. if t then finish_of s.columns (widths s) (picture x) else cursor_of s.columns (widths s) (picture x)) e
@@ -75,7 +75,7 @@ module _ (s : Screen) (low : 2 ≤ s.columns) (high : s.columns ≤ 1000) (own :
       record { display = m.0; means = m.1; shows = subst P is (m.4 (place_by x false (ap (λ (y : Sight). y.ended) is))); over_is = m.3 }
 
   -- CR LF wherever the cursor stands: every cell stays
-  closed : (bytes : List ℕ) (over : List Placed) (top : ℕ) (x : Sight) → Holds bytes over top x → HasMeaning (broken (face s bytes top over x))
+  closed : (bytes : List ℕ) (over : List Placed) (top : ℕ) (x : Sight) → Holds bytes over top x → HasMeaning (face_on_new_row (face s bytes top over x))
   closed bytes over top x g =
       let m = shown_is_meant s bytes over (view_in s top x) g in
       let e = line_ends_anywhere s (omega arith) bytes over (view_in s top x) g in
@@ -83,7 +83,7 @@ module _ (s : Screen) (low : 2 ≤ s.columns) (high : s.columns ≤ 1000) (own :
 
   -- the next line's top, under all that stands
   next_line : (bytes : List ℕ) (over : List Placed) (top : ℕ) (x : Sight) (g : Holds bytes over top x) → x.ended ≡ true
-      → (let f = broken (face s bytes top over x) in let m = closed bytes over top x g in IsAtRest (below f m.display))
+      → (let f = face_on_new_row (face s bytes top over x) in let m = closed bytes over top x g in IsAtRest (below f m.display))
   unfolding closed
   next_line bytes over top x g ended =
       let next = next_top s top x in
@@ -97,12 +97,12 @@ module _ (s : Screen) (low : 2 ≤ s.columns) (high : s.columns ≤ 1000) (own :
 
   -- ---- an edit's steps
 
-  steps_shown : (later : List Event) (rs : List EditStep) (bytes : List ℕ) (over : List Placed) (top : ℕ) (l : Layout) (x : Sight) → DisplayHolds s bytes over top l x → FitsAll own x rs
-      → ((bytes : List ℕ) (over : List Placed) (top : ℕ) → DisplayHolds s bytes over top (drawn_by s l rs).layout (sight_all x rs) → EachShown (face s bytes top over (sight_all x rs)) later)
+  steps_shown : (later : List SessionEvent) (rs : List EditStep) (bytes : List ℕ) (over : List Placed) (top : ℕ) (l : Layout) (x : Sight) → DisplayHolds s bytes over top l x → FitsAll own x rs
+      → ((bytes : List ℕ) (over : List Placed) (top : ℕ) → DisplayHolds s bytes over top (calls_by_screen s l rs).layout (sight_all x rs) → EachShown (face s bytes top over (sight_all x rs)) later)
       → EachShown (face s bytes top over x) (step_events s l rs ++ later)
   steps_shown later [] bytes over top l x h fits next = next bytes over top h
   steps_shown later (DrawStep v m redraw ∷ rs) bytes over top l x h fits next = λ rows.
-      let a = asked_by (ruler_of s) (shown_marks v m) l redraw in
+      let a = calls_of_redraw (ruler_of s) (shown_marks v m) l redraw in
       let new = bytes ++ all_of (map (bytes_of s) a.calls) in
       let over' = above_drawn redraw over in
       let top' = top_drawn redraw top in
@@ -114,7 +114,7 @@ module _ (s : Screen) (low : 2 ≤ s.columns) (high : s.columns ≤ 1000) (own :
   steps_shown later (_ ∷ rs) bytes over top l x h fits next = steps_shown later rs bytes over top l x h fits.1 next
 
 -- with other information, the same is to be seen
-seen_with : (at : Standing) (m : Modal) (a : Setting) (v : Value) (info : Option (List ℕ)) → (let y = seen_by at m a v None in seen_by at m a v info ≡ sight_with (shown_marks v a.marks) y.given y.prompt y.line y.place info)
+seen_with : (at : Standing) (m : Modal) (a : Setting) (v : Value) (info : Option (List ℕ)) → (let y = sight_in_mode at m a v None in sight_in_mode at m a v info ≡ sight_with (shown_marks v a.marks) y.given y.prompt y.line y.place info)
 seen_with Searches m a v info = refl
 seen_with _ m a v info = refl
 
@@ -124,7 +124,7 @@ After (Ok text) f = IsAtRest f
 After (Err e) f = ⊤
 
 module _ (s : Screen) (low : 2 ≤ s.columns) (high : s.columns ≤ 1000) (a : Setting) where
-  own_shown : (later : List Event) (ask : LineAsk) (k : LineState) (bytes : List ℕ) (over : List Placed) (top : ℕ) (x : Sight) → Good s.columns (widths s) bytes over (view_in s top x) → BeginShows a ask k x
+  own_shown : (later : List SessionEvent) (ask : LineAsk) (k : LineState) (bytes : List ℕ) (over : List Placed) (top : ℕ) (x : Sight) → Good s.columns (widths s) bytes over (view_in s top x) → BeginShows a ask k x
       → EachShown (face s bytes top over x) later → EachShown (face s bytes top over x) (own_events a k ask ++ later)
   own_shown later TurnBegins k bytes over top x g leads rest =
       let y = modal_seen k.modal a k.value None in
@@ -133,56 +133,56 @@ module _ (s : Screen) (low : 2 ≤ s.columns) (high : s.columns ≤ 1000) (a : S
   own_shown later _ k bytes over top x g leads rest = rest
 
   -- what follows on the asks
-  abbrev Follows : Result (List ℕ) ReadlineError → List Event → Type 0
+  abbrev Follows : Result (List ℕ) ReadlineError → List SessionEvent → Type 0
   Follows o later = (bytes : List ℕ) (over : List Placed) (top : ℕ) (l : Layout) (x : Sight) → DisplayHolds s bytes over top l x → EndShows a o x → EachShown (face s bytes top over x) later
 
-  asks_shown : (o : Result (List ℕ) ReadlineError) (later : List Event) → Follows o later → (asks : List LineAsk) (k : LineState) (bytes : List ℕ) (over : List Placed) (top : ℕ) (l : Layout) (x : Sight)
+  asks_shown : (o : Result (List ℕ) ReadlineError) (later : List SessionEvent) → Follows o later → (asks : List LineAsk) (k : LineState) (bytes : List ℕ) (over : List Placed) (top : ℕ) (l : Layout) (x : Sight)
       → DisplayHolds s bytes over top l x → LeadsAlong a o k x asks → EachShown (face s bytes top over x) (asks_events s a l k asks ++ later)
   asks_shown o later next [] k bytes over top l x h leads = next bytes over top l x h leads
   asks_shown o later next (ask ∷ asks) k bytes over top l x h leads =
       let rs = (effect_at a k ask).steps in
-      let m = (drawn_by s l rs).layout in
+      let m = (calls_by_screen s l rs).layout in
       let y = sight_all x rs in
       let left = left_at a k ask in
       let first = step_events s l rs in
       let more = asks_events s a m left asks in
       let mine = own_events a k ask in
-      let E : List Event → Type 0 = EachShown (face s bytes top over x) in
+      let E : List SessionEvent → Type 0 = EachShown (face s bytes top over x) in
       subst E (sym (append_assoc first (mine ++ more) later ∙ ap (λ events. first ++ events) (append_assoc mine more later)))
       (steps_shown s low high a.prompt (mine ++ (more ++ later)) rs bytes over top l x h leads.0
       (λ bytes over top h. own_shown (more ++ later) ask k bytes over top y h.good leads.1 (asks_shown o later next asks left bytes over top m y h leads.2)))
 
   -- ---- its end
 
-  end_shown : (more : List Event) (o : Result (List ℕ) ReadlineError) → ((f : Face) → After o f → EachShown f more) → Follows o (end_events o ++ more)
+  end_shown : (more : List SessionEvent) (o : Result (List ℕ) ReadlineError) → ((f : Face) → After o f → EachShown f more) → Follows o (end_events o ++ more)
   end_shown more (Ok text) next bytes over top l x h ended =
       let m = closed s low high a.prompt bytes over top x h.good in
-      (m, next (below (broken (face s bytes top over x)) m.display) (next_line s low high a.prompt bytes over top x h.good ended))
+      (m, next (below (face_on_new_row (face s bytes top over x)) m.display) (next_line s low high a.prompt bytes over top x h.good ended))
   end_shown more (Err e) next bytes over top l x h ended = by (breaks_after e)
     where
       by : (b : Bool) → EachShown (face s bytes top over x) ((if b then Breaks ∷ [] else []) ++ more)
-      by true = let m = closed s low high a.prompt bytes over top x h.good in (m, next (below (broken (face s bytes top over x)) m.display) tt)
+      by true = let m = closed s low high a.prompt bytes over top x h.good in (m, next (below (face_on_new_row (face s bytes top over x)) m.display) tt)
       by false = next (face s bytes top over x) tt
 
 -- ---- a line, from a display between two lines
 
 -- what follows on its begin
-abbrev tail_of : ℕ → Given → SessionState → List Event
+abbrev tail_of : ℕ → Given → SessionState → List SessionEvent
 tail_of n g x =
     let a = setting_in g x.history.kept.entries in
-    let p = played_in n g x in
-    asks_events g.screen a (fresh g.screen.mode) (kept_first a x.ring x.query x.coming) p.asks ++ end_events p.answer
+    let p = line_play_in n g x in
+    asks_events g.screen a (fresh g.screen.mode) (first_line_state a x.ring x.query x.coming) p.asks ++ end_events p.answer
 
-line_shown : (n : ℕ) (g : Given) (x : SessionState) (more : List Event)
-    → ((f : Face) → After (played_in n g x).answer f → EachShown f more)
+line_shown : (n : ℕ) (g : Given) (x : SessionState) (more : List SessionEvent)
+    → ((f : Face) → After (line_play_in n g x).answer f → EachShown f more)
     → (f : Face) → IsAtRest (record f { screen = g.screen }) → EachShown (record f { screen = g.screen }) (tail_of n g x ++ more)
 line_shown n g x more next f rest =
     let s = g.screen in
     let low = rest.screen.least in
     let high = rest.screen.most in
     let a = setting_in g x.history.kept.entries in
-    let k = kept_first a x.ring x.query x.coming in
-    let p = played_in n g x in
+    let k = first_line_state a x.ring x.query x.coming in
+    let p = line_play_in n g x in
     let lead = lines_lead n a g.custom (new_input g.config) x.ring g.config x.query x.coming in
     let asks = asks_events s a (fresh s.mode) k p.asks in
     let h : DisplayHolds s f.bytes f.over f.top (fresh s.mode) no_sight = fresh_holds s low high f.bytes f.over f.top (fresh s.mode) rest.good in
@@ -195,7 +195,7 @@ line_shown n g x more next f rest =
 pub blank_is_at_rest : BlankIsAtRest
 blank_is_at_rest s is = record { screen = is; good = start_is_empty s is.least is.most; nothing = refl }
 
-course_shown : (n : ℕ) (g : Given) (x : SessionState) (more : List Event) → ((f : Face) → After (played_in n g x).answer f → EachShown f more)
+course_shown : (n : ℕ) (g : Given) (x : SessionState) (more : List SessionEvent) → ((f : Face) → After (line_play_in n g x).answer f → EachShown f more)
     → (f : Face) → IsAtRest f → EachShown f ((line_course n g x).events ++ more)
 course_shown n g x more next f rest =
     let s = g.screen in (
@@ -207,7 +207,7 @@ course_shown n g x more next f rest =
     )
 
 on_line : (later : SessionState → Course ReadlineError) (y : SessionState) → ((f : Face) → IsAtRest f → EachShown f (later y).events)
-    → (o : Result (List ℕ) ReadlineError) (f : Face) → After o f → EachShown f (going_on later (o, y)).events
+    → (o : Result (List ℕ) ReadlineError) (f : Face) → After o f → EachShown f (course_after_line later (o, y)).events
 on_line later y so (Ok text) f rest = so f rest
 on_line later y so (Err e) f rest = tt
 
@@ -220,16 +220,16 @@ sessions_show (suc n) g at x f rest =
     let line = line_course (suc n) first x in
     let later : SessionState → Course ReadlineError = session n g rest_of in
     let y = line.answer.1 in
-    course_shown (suc n) first x (going_on later line.answer).events (on_line later y (λ f rest. sessions_show n g rest_of y f rest) line.answer.0) f rest
+    course_shown (suc n) first x (course_after_line later line.answer).events (on_line later y (λ f rest. sessions_show n g rest_of y f rest) line.answer.0) f rest
 
 -- ---- the first of the events
 
-pub first_shown : (done others : List Event) (f : Face) → EachShown f (done ++ others) → EachShown f done
+pub first_shown : (done others : List SessionEvent) (f : Face) → EachShown f (done ++ others) → EachShown f done
 first_shown [] others f h = tt
 first_shown (Begins s ∷ done) others f h = (λ same. first_shown done others f (h.0 same), λ is. first_shown done others (blank s) (h.1 is))
-first_shown (Draws marks redraw sent ∷ done) others f h = λ rows. let m = h rows in (m.0, first_shown done others (drawn_on f marks redraw sent) m.1)
+first_shown (Draws marks redraw sent ∷ done) others f h = λ rows. let m = h rows in (m.0, first_shown done others (face_with_drawing f marks redraw sent) m.1)
 first_shown (Rests marks given prompt text place ∷ done) others f h = (h.0, first_shown done others f h.1)
-first_shown (Breaks ∷ done) others f h = let m = h.0 in (m, first_shown done others (below (broken f) m.display) h.1)
+first_shown (Breaks ∷ done) others f h = let m = h.0 in (m, first_shown done others (below (face_on_new_row f) m.display) h.1)
 first_shown (_ ∷ done) others f h = first_shown done others f h
 
 pub lines_show : (n : ℕ) (g : Given) (x : SessionState) (f : Face) → IsAtRest f → EachShown f (line_course n g x).events

@@ -8,7 +8,7 @@ use Rattle.line_editor.specs.Redraws.Redraw.{Drawn, Moved, Typed, Bared, ToEnd, 
 use Rattle.line_editor.specs.Sights.{Turns, sight_as, ended_sight, no_sight}
 use Rattle.line_editor.specs.Values.{EditStep, empty_at}
 use Rattle.line_editor.specs.Values.EditStep.{Draws as DrawStep}
-use Rattle.line_screen.specs.Calls.{Screen}
+use Rattle.line_screen.specs.ScreenCalls.{Screen}
 use Rattle.keyline.specs.Events.{Draws, step_events}
 
 own : List ℕ

@@ -1,5 +1,5 @@
 -- A step leads from what is shown before it to what is to be shown after it.
-use Rattle.std.proofs.Common.{◌≡◌, ◌≢◌, ℕ, ◌+◌, ◌==◌, not, ◌<◌, ◌≤◌, inl, inr, nat_lt, nat_le, Bool, true, false, List, [], ◌∷◌, ◌++◌, take, length, length-append, map, Option, Some, None, is_some, encode_utf8, refl, sym, ap, ◌∙◌, subst, append-nil, arith, if◌then◌else◌}
+use Rattle.std.proofs.Common.{◌≡◌, ◌≢◌, ℕ, ◌+◌, ◌==◌, not, ◌<◌, ◌≤◌, inl, inr, nat_lt, nat_le, Bool, true, false, List, [], ◌∷◌, ◌++◌, take, take_all, ap₂, length, length-append, map, Option, Some, None, is_some, encode_utf8, refl, sym, ap, ◌∙◌, subst, append-nil, arith, if◌then◌else◌}
 use Rattle.std.specs.List.{filter, flat_map}
 use Rattle.std.proofs.lemmas.Bool.{and_parts, not-true, eqb-true, lt-ltb, ltb-true}
 use Rattle.std.proofs.lemmas.Bool.Decides.{nat_tests}
@@ -8,26 +8,27 @@ use Rattle.line_buffer.specs.Cells.{same_cell, origin}
 use Rattle.line_buffer.specs.Printable.{is_printable, is_plain, at_simple_end}
 use Rattle.line_buffer.specs.declared.layout.Layout.{Layout}
 use Rattle.line_buffer.specs.declared.layout.Position.{Position}
-use Rattle.line_editor.specs.Calls.{Call, Marks}
-use Rattle.line_editor.specs.Calls.Call.{Draw, Move, Write, Beep, ClearScreen, MoveAndClearToEol, Help}
-use Rattle.line_editor.specs.Redraws.{info_text, fresh, layout_of, full, nothing_asked, moved_by_call, column_on, column_back, typed_short, taken_short, fits_in_row, may_type, may_take}
-use Rattle.line_editor.specs.Redraws.Redraw.{Drawn, Moved, Typed, Taken, Bared, ToEnd, Beeped, Cleared}
-use Rattle.line_editor.specs.Sights.{Sight, PartSpans, SameStyles, sight_with, sight_as, no_sight, sight, ended_sight, TypedFits, TakenFits, Fits}
-use Rattle.line_editor.specs.Steps.{one}
+use Rattle.line_editor.specs.RenderCalls.{Call, Marks}
+use Rattle.line_editor.specs.RenderCalls.Call.{Draw, Move, Write, Beep, ClearScreen, MoveAndClearToEol, InsertChar, MoveAndDelete, Help}
+use Rattle.line_editor.specs.Redraws.{info_text, fresh, layout_of, full, nothing_asked, move_call, column_on, column_back, char_call, erase_call, put_in_short, taken_out_short, fits_in_row, may_type, may_take, may_put_in, may_take_out}
+use Rattle.line_editor.specs.Redraws.Redraw.{Drawn, Moved, Typed, Taken, PutIn, TakenOut, Bared, ToEnd, Beeped, Cleared}
+use Rattle.line_editor.specs.Sights.{Sight, PartSpans, SameStyles, sight_with, sight_as, no_sight, sight, ended_sight, TypedFits, TakenFits, PutInFits, TakenOutFits, Fits}
+use Rattle.line_editor.specs.EditSteps.{one}
 use Rattle.line_editor.specs.Values.{shown_marks, EditStep}
 use Rattle.line_editor.specs.Values.EditStep.{Draws, Helped, Edits, TakesBack, Takes}
-use Rattle.line_screen.specs.Calls.{Screen, bytes_of, ruler_of}
+use Rattle.line_screen.specs.ScreenCalls.{Screen, bytes_of, ruler_of}
 use Rattle.line_screen.specs.Colours.{span_of}
-use Rattle.line_screen.specs.Chain.{View, Good, Inside, LeadsView, empty_view, Types, Picture, shown_items, finish_of, cursor_of, above}
+use Rattle.line_screen.specs.Chain.{View, Good, Inside, LeadsView, empty_view, Types, with_text, Picture, shown_items, finish_of, cursor_of, above}
 use Rattle.line_screen.specs.Display.{Placed}
 use Rattle.line_screen.specs.Drawing.{DrawnItem, row_break, text_items, place_after}
 use Rattle.line_screen.specs.Laws.{widths, TellsView}
-use Rattle.line_screen.specs.Measure.{measure_of, saturated}
+use Rattle.line_screen.specs.Measure.{measure_of, position_within_limit}
 use Rattle.line_screen.proofs.Fitting.{items_fit, fit_append, after_inside}
 use Rattle.line_screen.proofs.LawLemmas.{calls_lead, place_is_free, measures_go_on}
 use Rattle.line_screen.proofs.Leading.{line_cursor, line_finish, over_again}
 use Rattle.line_screen.proofs.ListLemmas.{filter_none, list_all_true}
-use Rattle.line_screen.proofs.ShortLemmas.{typing_leads, killing_leads}
+use Rattle.line_screen.proofs.ShortLemmas.{typing_leads, killing_leads, putting_in_leads, taking_out_leads}
+use Rattle.std.proofs.lemmas.List.{take_at}
 use Rattle.keyline.specs.Shows.{picture, place_in, view_in, DisplayHolds, Low, LowStep, top_by, above_by}
 
 same_if : (a b : Position) → same_cell a b ≡ true → a ≡ b
@@ -108,7 +109,7 @@ module _ (s : Screen) (low : 2 ≤ s.columns) (high : s.columns ≤ 1000) where
       record { row = omega arith; col = after_inside s.columns (widths s).cluster (shown_items (widths s) (picture x)) origin fits some }
 
   nothing_measured : measure_of s.mode s.tab s.columns [] origin ≡ origin
-  nothing_measured = ap (λ b. saturated (place_after s.columns (text_items (widths s) []) (if b then origin else record { col = 0; row = 1 }))) (lt-ltb 0 s.columns some)
+  nothing_measured = ap (λ b. position_within_limit (place_after s.columns (text_items (widths s) []) (if b then origin else record { col = 0; row = 1 }))) (lt-ltb 0 s.columns some)
 
   -- ---- a full drawing, over anything that is shown, with any layout whose cursor is the display's
 
@@ -144,7 +145,7 @@ module _ (s : Screen) (low : 2 ≤ s.columns) (high : s.columns ≤ 1000) where
   moved_if : (bytes : List ℕ) (over : List Placed) (top : ℕ) (l : Layout) (x : Sight) (at : ℕ) (cursor : Position) (b : Bool) → DisplayHolds s bytes over top l x
       → (let y = moved_to x at in
       cursor ≡ cursor_of s.columns (widths s) (picture y) → Low s y → same_cell l.cursor cursor ≡ b
-      → (let a = if b then nothing_asked l else moved_by_call l cursor in DisplayHolds s (bytes ++ flat_map (bytes_of s) a.calls) over top a.layout y))
+      → (let a = if b then nothing_asked l else move_call l cursor in DisplayHolds s (bytes ++ flat_map (bytes_of s) a.calls) over top a.layout y))
   moved_if bytes over top l x at cursor true h is rows e =
       let y = moved_to x at in
       let here : place_in s x ≡ cursor_of s.columns (widths s) (picture y) = sym h.cursor ∙ same_if l.cursor cursor e ∙ is in
@@ -172,7 +173,7 @@ module _ (s : Screen) (low : 2 ≤ s.columns) (high : s.columns ≤ 1000) where
       }
 
   end_if : (bytes : List ℕ) (over : List Placed) (top : ℕ) (l : Layout) (x : Sight) (b : Bool) → DisplayHolds s bytes over top l x → Low s x → same_cell l.cursor l.end ≡ b
-      → (let a = if b then nothing_asked l else moved_by_call l l.end in DisplayHolds s (bytes ++ flat_map (bytes_of s) a.calls) over top a.layout (ended_sight x))
+      → (let a = if b then nothing_asked l else move_call l l.end in DisplayHolds s (bytes ++ flat_map (bytes_of s) a.calls) over top a.layout (ended_sight x))
   end_if bytes over top l x true h rows e =
       let here : place_in s x ≡ finish_of s.columns (widths s) (picture x) = sym h.cursor ∙ same_if l.cursor l.end e ∙ h.finish in
       record {
@@ -235,7 +236,7 @@ module _ (s : Screen) (low : 2 ≤ s.columns) (high : s.columns ≤ 1000) where
 
   typed_if : (bytes : List ℕ) (over : List Placed) (top : ℕ) (m : Option Marks) (l : Layout) (x : Sight) (prompt : List ℕ) (c : ℕ) (text : List ℕ) (at : ℕ) (b : Bool) → DisplayHolds s bytes over top l x
       → x.given ≡ true → x.ended ≡ false → TypedFits x prompt c text at → SameStyles x m prompt text at → Low s (sight_as m prompt text at None) → may_type (ruler_of s) l ≡ b
-      → (let a = if b then typed_short l c else full (ruler_of s) m l prompt true text at None in DisplayHolds s (bytes ++ flat_map (bytes_of s) a.calls) over top a.layout (sight_as m prompt text at None))
+      → (let a = if b then char_call l c else full (ruler_of s) m l prompt true text at None in DisplayHolds s (bytes ++ flat_map (bytes_of s) a.calls) over top a.layout (sight_as m prompt text at None))
   typed_if bytes over top m l x prompt c text at false h given unended t k rows e = drawn_holds bytes over top m l x prompt true text at None h.good h.cursor rows
   typed_if bytes over top m l x prompt c text at true h given unended t k rows e =
       let w = view_in s top x in
@@ -251,7 +252,7 @@ module _ (s : Screen) (low : 2 ≤ s.columns) (high : s.columns ≤ 1000) where
       subst (λ text. Good s.columns (widths s) (bytes ++ flat_map (bytes_of s) (Write text ∷ [])) over there) (sym (encode_ascii c (small c letter.0))) plain in
       let cursor_is : column_on l.cursor ≡ cursor_of s.columns (widths s) (picture y) = typed_place w there c leads in
       let end : y.place ≡ length y.line = let count = length-append x.line (c ∷ []) in omega arith in
-      let done : DisplayHolds s new over top (typed_short l c).layout y = record {
+      let done : DisplayHolds s new over top (char_call l c).layout y = record {
         good = subst (λ p. Good s.columns (widths s) new over (record { shown = picture y; top = top; place = p })) cursor_is good;
         cursor = cursor_is;
         finish = cursor_is ∙ sym (end_is_cursor (picture y) refl end);
@@ -259,7 +260,7 @@ module _ (s : Screen) (low : 2 ≤ s.columns) (high : s.columns ≤ 1000) where
         info_is = not-true l.has_info (and_parts (not l.has_info) (fits_in_row s.columns l.cursor) e).0;
         given_is = h.given_is ∙ given;
       } in
-      subst (DisplayHolds s new over top (typed_short l c).layout) (sym (typed_is m x prompt c text at t k none)) done
+      subst (DisplayHolds s new over top (char_call l c).layout) (sym (typed_is m x prompt c text at t k none)) done
 
   -- ---- a kill at the line's end
 
@@ -276,7 +277,7 @@ module _ (s : Screen) (low : 2 ≤ s.columns) (high : s.columns ≤ 1000) where
 
   taken_if : (bytes : List ℕ) (over : List Placed) (top : ℕ) (m : Option Marks) (l : Layout) (x : Sight) (prompt : List ℕ) (count : ℕ) (text : List ℕ) (at : ℕ) (b : Bool) → DisplayHolds s bytes over top l x
       → x.given ≡ true → TakenFits x prompt count text at → SameStyles x m prompt text at → Low s (sight_as m prompt text at None) → may_take l count ≡ b
-      → (let a = if b then taken_short l count else full (ruler_of s) m l prompt true text at None in DisplayHolds s (bytes ++ flat_map (bytes_of s) a.calls) over top a.layout (sight_as m prompt text at None))
+      → (let a = if b then erase_call l count else full (ruler_of s) m l prompt true text at None in DisplayHolds s (bytes ++ flat_map (bytes_of s) a.calls) over top a.layout (sight_as m prompt text at None))
   taken_if bytes over top m l x prompt count text at false h given t k rows e = drawn_holds bytes over top m l x prompt true text at None h.good h.cursor rows
   taken_if bytes over top m l x prompt count text at true h given t k rows e =
       let w = view_in s top x in
@@ -293,7 +294,7 @@ module _ (s : Screen) (low : 2 ≤ s.columns) (high : s.columns ≤ 1000) where
       let same : bytes ++ flat_map (bytes_of s) (MoveAndClearToEol w.place to ∷ []) ≡ new =
       ap (λ p. bytes ++ flat_map (bytes_of s) (MoveAndClearToEol p to ∷ [])) (sym h.cursor) ∙ ap (λ p. bytes ++ flat_map (bytes_of s) (MoveAndClearToEol l.cursor p ∷ [])) (sym back) in
       let cursor_is : column_back count l.end ≡ cursor_of s.columns (widths s) (picture y) = back ∙ place_is in
-      let done : DisplayHolds s new over top (taken_short l count).layout y = record {
+      let done : DisplayHolds s new over top (erase_call l count).layout y = record {
         good = subst (λ p. Good s.columns (widths s) new over (record { shown = picture y; top = top; place = p })) place_is (subst (λ b. Good s.columns (widths s) b over there) same good);
         cursor = cursor_is;
         finish = cursor_is ∙ sym (end_is_cursor (picture y) refl refl);
@@ -301,7 +302,81 @@ module _ (s : Screen) (low : 2 ≤ s.columns) (high : s.columns ≤ 1000) where
         info_is = not-true l.has_info (and_parts (not l.has_info) _ e).0;
         given_is = h.given_is ∙ given;
       } in
-      subst (DisplayHolds s new over top (taken_short l count).layout) (sym (taken_is m x prompt count text at t k none)) done
+      subst (DisplayHolds s new over top (erase_call l count).layout) (sym (taken_is m x prompt count text at t k none)) done
+
+  -- ---- a character put in
+
+  put_in_is : (m : Option Marks) (x : Sight) (prompt : List ℕ) (c : ℕ) (text : List ℕ) (at : ℕ) → (t : PutInFits x prompt c text at) → SameStyles x m prompt text at → x.info ≡ None
+      → sight_as m prompt text at None ≡ bare_sight x.spans x.prompt (t.before ++ c ∷ t.rest) (length t.before + 1)
+  put_in_is m x prompt c text at t k none =
+      ap (λ spans. bare_sight spans prompt text at) (k.same none)
+      ∙ ap (λ p. bare_sight x.spans p text at) t.prompt_is ∙ ap (λ p. bare_sight x.spans x.prompt p at) t.text_is ∙ ap (λ n. bare_sight x.spans x.prompt (t.before ++ c ∷ t.rest) n) t.behind
+
+  put_in_if : (bytes : List ℕ) (over : List Placed) (top : ℕ) (m : Option Marks) (l : Layout) (x : Sight) (prompt : List ℕ) (c : ℕ) (text : List ℕ) (at : ℕ) (b : Bool) → DisplayHolds s bytes over top l x
+      → x.given ≡ true → x.ended ≡ false → PutInFits x prompt c text at → SameStyles x m prompt text at → Low s (sight_as m prompt text at None) → may_put_in (ruler_of s) l ≡ b
+      → (let a = if b then put_in_short l c else full (ruler_of s) m l prompt true text at None in DisplayHolds s (bytes ++ flat_map (bytes_of s) a.calls) over top a.layout (sight_as m prompt text at None))
+  put_in_if bytes over top m l x prompt c text at false h given unended t k rows e = drawn_holds bytes over top m l x prompt true text at None h.good h.cursor rows
+  put_in_if bytes over top m l x prompt c text at true h given unended t k rows e =
+      let w = view_in s top x in
+      let free = (and_parts (not l.has_info) _ e).0 in
+      let none = nothing_after bytes over top l x h free in
+      let y = bare_sight x.spans x.prompt (t.before ++ c ∷ t.rest) (length t.before + 1) in
+      let there : View = record { shown = picture y; top = top; place = column_on l.cursor } in
+      let leads = putting_in_leads s low high l w t.before t.rest c (tells bytes over top l x h) (place_if x unended) (no_styles_in x k.unstyled) t.plain t.printable t.whole t.at e in
+      let new = bytes ++ flat_map (bytes_of s) (InsertChar c ∷ []) in
+      let good : Good s.columns (widths s) new over there = one_led bytes over w there (InsertChar c) h.good leads.0 refl (λ e. cc) in
+      let done : DisplayHolds s new over top (put_in_short l c).layout y = record {
+        good = subst (λ p. Good s.columns (widths s) new over (record { shown = picture y; top = top; place = p })) leads.1 good;
+        cursor = leads.1;
+        finish = leads.2;
+        prompt_size = h.prompt_size;
+        info_is = not-true l.has_info free;
+        given_is = h.given_is ∙ given;
+      } in
+      subst (DisplayHolds s new over top (put_in_short l c).layout) (sym (put_in_is m x prompt c text at t k none)) done
+
+  -- ---- characters taken out
+
+  taken_out_is : (m : Option Marks) (x : Sight) (prompt : List ℕ) (count : ℕ) (text : List ℕ) (at : ℕ) → (t : TakenOutFits x prompt count text at) → SameStyles x m prompt text at → x.info ≡ None
+      → sight_as m prompt text at None ≡ bare_sight x.spans x.prompt (t.before ++ t.rest) (length t.before)
+  taken_out_is m x prompt count text at t k none =
+      ap (λ spans. bare_sight spans prompt text at) (k.same none)
+      ∙ ap (λ p. bare_sight x.spans p text at) t.prompt_is ∙ ap (λ p. bare_sight x.spans x.prompt p at) t.text_is ∙ ap (λ n. bare_sight x.spans x.prompt (t.before ++ t.rest) n) t.at
+
+  taken_out_if : (bytes : List ℕ) (over : List Placed) (top : ℕ) (m : Option Marks) (l : Layout) (x : Sight) (prompt : List ℕ) (count : ℕ) (text : List ℕ) (at : ℕ) (b : Bool) → DisplayHolds s bytes over top l x
+      → x.given ≡ true → TakenOutFits x prompt count text at → SameStyles x m prompt text at → Low s (sight_as m prompt text at None)
+      → (let cell = measure_of s.mode s.tab s.columns (take at text) l.prompt_size in may_take_out l cell count ≡ b
+      → (let a = if b then taken_out_short l cell count else full (ruler_of s) m l prompt true text at None in DisplayHolds s (bytes ++ flat_map (bytes_of s) a.calls) over top a.layout (sight_as m prompt text at None)))
+  taken_out_if bytes over top m l x prompt count text at false h given t k rows e = drawn_holds bytes over top m l x prompt true text at None h.good h.cursor rows
+  taken_out_if bytes over top m l x prompt count text at true h given t k rows e =
+      let w = view_in s top x in
+      let cell = measure_of s.mode s.tab s.columns (take at text) l.prompt_size in
+      let free = (and_parts (not l.has_info) _ e).0 in
+      let none = nothing_after bytes over top l x h free in
+      let y = bare_sight x.spans x.prompt (t.before ++ t.rest) (length t.before) in
+      let same = taken_out_is m x prompt count text at t k none in
+      let low_y : Low s y = subst (Low s) same rows in
+      let first : take at text ≡ take (length t.before) (t.before ++ t.rest) = ap₂ take t.at t.text_is in
+      let cell_is : cell ≡ cursor_of s.columns (widths s) (picture y) =
+      ap₂ (measure_of s.mode s.tab s.columns) first h.prompt_size ∙ (measures_go_on s some (picture y)).0 low_y.cursor in
+      let cut : take (length t.before) (t.before ++ t.rest) ≡ take (length t.before) t.before = take_at t.before t.rest (length t.before) refl ∙ sym (take_all (length t.before) t.before (omega arith)) in
+      let at_is : cell ≡ cursor_of s.columns (widths s) (with_text w.shown t.before (length t.before)) =
+      cell_is ∙ ap (λ xs. place_after s.columns (text_of x.prompt ++ text_of xs) origin) cut in
+      let there : View = record { shown = picture y; top = top; place = cell } in
+      let leads = taking_out_leads s low high l w t.before t.killed t.rest cell (tells bytes over top l x h) h.good.inside (no_styles_in x k.unstyled) t.plain t.whole at_is (subst (λ n. may_take_out l cell n ≡ true) t.count_is e) in
+      let made = one_led bytes over w there (MoveAndDelete w.place cell (length t.killed)) h.good leads.0 refl (λ e. cc) in
+      let new = bytes ++ flat_map (bytes_of s) (MoveAndDelete l.cursor cell count ∷ []) in
+      let bytes_are : bytes ++ flat_map (bytes_of s) (MoveAndDelete w.place cell (length t.killed) ∷ []) ≡ new =
+      ap (λ p. bytes ++ flat_map (bytes_of s) (MoveAndDelete p cell (length t.killed) ∷ [])) (sym h.cursor) ∙ ap (λ n. bytes ++ flat_map (bytes_of s) (MoveAndDelete l.cursor cell n ∷ [])) (sym t.count_is) in
+      let done : DisplayHolds s new over top (taken_out_short l cell count).layout y = record {
+        good = subst (λ p. Good s.columns (widths s) new over (record { shown = picture y; top = top; place = p })) leads.1 (subst (λ b. Good s.columns (widths s) b over there) bytes_are made);
+        cursor = leads.1;
+        finish = ap (λ n. column_back n l.end) t.count_is ∙ leads.2;
+        prompt_size = h.prompt_size;
+        info_is = not-true l.has_info free;
+        given_is = h.given_is ∙ given;
+      } in
+      subst (DisplayHolds s new over top (taken_out_short l cell count).layout) (sym same) done
 
   -- ---- no call, also if the session's own prompt stands
 
@@ -339,6 +414,9 @@ module _ (s : Screen) (low : 2 ≤ s.columns) (high : s.columns ≤ 1000) where
       moved_if bytes over top l x at cursor (same_cell l.cursor cursor) h is rows refl
   step own bytes over top l x (Draws v m (Typed prompt c text at)) h fits rows = typed_if bytes over top (shown_marks v m) l x prompt c text at (may_type (ruler_of s) l) h fits.0 fits.2 fits.3 fits.4 rows refl
   step own bytes over top l x (Draws v m (Taken prompt count text at)) h fits rows = taken_if bytes over top (shown_marks v m) l x prompt count text at (may_take l count) h fits.0 fits.2 fits.3 rows refl
+  step own bytes over top l x (Draws v m (PutIn prompt c text at)) h fits rows = put_in_if bytes over top (shown_marks v m) l x prompt c text at (may_put_in (ruler_of s) l) h fits.0 fits.2 fits.3 fits.4 rows refl
+  step own bytes over top l x (Draws v m (TakenOut prompt count text at)) h fits rows =
+      taken_out_if bytes over top (shown_marks v m) l x prompt count text at (may_take_out l (measure_of s.mode s.tab s.columns (take at text) l.prompt_size) count) h fits.0 fits.2 fits.3 rows refl
   step own bytes over top l x (Draws v m (Bared prompt text at)) h fits rows = bared_if bytes over top (shown_marks v m) l x prompt text at l.default_prompt h (h.given_is ∙ fits)
   step own bytes over top l x (Draws v m ToEnd) h fits rows = end_if bytes over top l x (same_cell l.cursor l.end) h (record { finish = rows.finish; cursor = rows.cursor }) refl
   step own bytes over top l x (Draws v m Beeped) h fits rows = same_holds bytes over top l x Beep h refl (λ e. cc)

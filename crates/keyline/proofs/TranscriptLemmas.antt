@@ -8,31 +8,32 @@ use Rattle.line_config.specs.declared.errors.ReadlineError.{ReadlineError}
 use Rattle.line_config.specs.declared.errors.ReadlineError.TheVariants.{Eof, Interrupted, NotUtf8, PasteOutOfPlace, Display, Lines, Helper, Memory}
 use Rattle.line_help.specs.History.{Filed}
 use Rattle.line_help.specs.HistoryText.{text_to_save}
-use Rattle.line_keys.specs.Answers.{Custom}
-use Rattle.line_keys.specs.Coming.{Coming, unread}
-use Rattle.line_keys.specs.Feeds.{Paste}
+use Rattle.line_keys.specs.CustomBindings.{Custom}
+use Rattle.line_keys.specs.Coming.{Coming, bytes_to_come}
+use Rattle.line_keys.specs.KeyFeeds.{Paste}
 use Rattle.line_record.specs.Ring.{Ring, new_ring}
-use Rattle.line_screen.specs.Calls.{Screen, screen_of}
-use Rattle.line_screen.specs.Reader.{kept_of, left_in, source_of}
-use Rattle.line_screen.specs.Reading.{kept_count, with_kept}
+use Rattle.line_screen.specs.ScreenCalls.{Screen, screen_of}
+use Rattle.line_screen.specs.Reader.{byte_ahead_of, bytes_left_in, source_of}
+use Rattle.line_screen.specs.Reading.{count_of_kept, with_kept}
 use Rattle.line_screen.proofs.Outcomes.{unread_in}
 use Rattle.keyline.specs.Desks.{GoesShown, desk_feed, session_state_of, work_of}
 use Rattle.keyline.specs.Endings.{ending_of}
-use Rattle.keyline.specs.Known.{Known}
-use Rattle.keyline.specs.Playing.{AreDone, IsStopped, Stands, Went, Work, ending_after}
-use Rattle.keyline.specs.Plays.{Opens, RunsSession, loaded_from}
+use Rattle.keyline.specs.KnownDevices.{KnownDevices}
+use Rattle.keyline.specs.SessionEffects.{AreDone, CutSessionEvent, Stands, Went, Work, ending_after}
+use Rattle.keyline.specs.SessionRuns.{Opens, RunsSession, history_loaded_from}
 use Rattle.keyline.specs.Program.{EditHelper, edit_helping}
-use Rattle.keyline.specs.Events.{Event, Takes, Helped, Draws, Hears, Breaks, Keeps, Writes, bytes_drawn, left_to_come, lines_kept, lines_written, session}
-use Rattle.keyline.specs.Sessions.{Given, SessionState, coming_from, each, given_of, lines_text, remembered, screen_by}
+use Rattle.keyline.specs.Events.{SessionEvent, Takes, Helped, Draws, Hears, Breaks, Keeps, Writes, bytes_drawn, coming_after_events, lines_kept, lines_written, session}
+use Rattle.keyline.specs.Sessions.{Given, SessionState, coming_from, each, given_of, lines_text, history_with_if, screen_by}
 use Rattle.keyline.specs.Shows.{EachShown}
 use Rattle.keyline.specs.Transcripts.{Transcribes, given_by, is_cut, start_by, word_helper}
 use Rattle.keyline.specs.declared.desk.Desk.{Desk}
 use Rattle.keyline.specs.declared.over_memory.Transcript.{Transcript}
+use Rattle.keyline.specs.declared.session.TheConstants.{KILL_RING_SIZE}
 use Rattle.keyline.specs.declared.session.Ended.{Ended}
 
 -- no fault ends a session so
-no_fault : {D L : Type 0} (shown : D → List ℕ) (written_in : L → List ℕ) (adds : Bool) (x y : Work D L) (event : Event) (why : ReadlineError)
-    → is_cut (ending_of why) ≡ false → IsStopped shown written_in adds x event why y → ⊥
+no_fault : {D L : Type 0} (shown : D → List ℕ) (written_in : L → List ℕ) (adds : Bool) (x y : Work D L) (event : SessionEvent) (why : ReadlineError)
+    → is_cut (ending_of why) ≡ false → CutSessionEvent shown written_in adds x event why y → ⊥
 no_fault shown written_in adds x y Takes Memory is h = absurd (cc)
 no_fault shown written_in adds x y (Helped fails takes) Helper is h = absurd (cc)
 no_fault shown written_in adds x y (Helped fails takes) Memory is h = absurd (cc)
@@ -51,18 +52,18 @@ module _ {D L : Type 0} (shown : D → List ℕ) (written_in : L → List ℕ) (
   abbrev FaultIs : ReadlineError → Type 0
   FaultIs e = why ≡ e
 
-  none_left : (others : List Event) (at new : Work D L) → is_cut (ending_of why) ≡ false → Stands shown written_in adds others at new (why ≡ answer) FaultIs
+  none_left : (others : List SessionEvent) (at new : Work D L) → is_cut (ending_of why) ≡ false → Stands shown written_in adds others at new (why ≡ answer) FaultIs
       → (others ≡ []) × (why ≡ answer) × (new ≡ at)
   none_left [] at new by_keys (is, same) = (refl, is, same)
   none_left (event ∷ others) at new by_keys (e, stopped, is) = absurd (no_fault shown written_in adds at new event e (subst (λ w. is_cut (ending_of w) ≡ false) is by_keys) stopped)
 
   -- all events were done
-  record AllDone (events done : List Event) (old new : Work D L) : Type 0 where
+  record AllDone (events done : List SessionEvent) (old new : Work D L) : Type 0 where
     pub answer_is : why ≡ answer
     pub done_is : done ≡ events
     pub are_done : AreDone shown written_in adds events old new
 
-  all_done : (events : List Event) (old new : Work D L) (w : Went shown written_in adds events old new (why ≡ answer) FaultIs) → is_cut (ending_of why) ≡ false → AllDone events w.done old new
+  all_done : (events : List SessionEvent) (old new : Work D L) (w : Went shown written_in adds events old new (why ≡ answer) FaultIs) → is_cut (ending_of why) ≡ false → AllDone events w.done old new
   all_done events old new w by_keys =
       let left = none_left w.others w.at new by_keys w.stands in
       let done_is : w.done ≡ events = sym (w.split ∙ (ap (λ o. w.done ++ o) left.0 ∙ append_nothing w.done)) in
@@ -90,7 +91,7 @@ no_byte_kept kept bound count none is = omega arith
 abbrev state_by : Ring → List ℕ → Filed → Coming → SessionState
 state_by ring query history coming = record { ring = ring; query = query; history = history; coming = coming }
 
-module _ {F S D L T : Type 0} (text_of : F → Feed) (k : Known S D L) (held : T → List ℕ) (failed : T → Bool) where
+module _ {F S D L T : Type 0} (text_of : F → Feed) (k : KnownDevices S D L) (held : T → List ℕ) (failed : T → Bool) where
   pub transcribed : (config config' : Config) (words : Option (List (List ℕ))) (helper : Option EditHelper) (custom custom' : Custom) (prompt prompt' : List ℕ) (columns : ℕ) (old keys : List ℕ) (history : F) (source : S)
       (display : D) (lines : L) (text text' : T) (desk : Desk S EditHelper D L) (ended : Ended S D L T) (t : Transcript)
       → Opens text_of k.feed config history helper source columns display lines desk
@@ -115,24 +116,24 @@ module _ {F S D L T : Type 0} (text_of : F → Feed) (k : Known S D L) (held : T
       ∙ (ap (λ (x : List ℕ). given_of config custom x (screen_of desk.out) (edit_helping desk.helper)) prompt_is
       ∙ (ap (λ (x : Screen). given_of config custom prompt x (edit_helping desk.helper)) opens.screen
       ∙ ap (λ (x : Option EditHelper). given_of config custom prompt (screen_by config columns) (edit_helping x)) (opens.helper_is ∙ helper_is)))) in
-      let loaded = loaded_from config (fresh_feed old End) in
+      let loaded = history_loaded_from config (fresh_feed old End) in
       let coming : (desk_feed k desk).coming ≡ coming_from config.edit_mode keys End =
       opens.coming ∙ ap (λ (f : Feed). coming_from config.edit_mode f.coming f.last) source_is in
-      let filed : desk.history ≡ loaded = opens.loaded.history_is always ∙ ap (λ (f : Feed). loaded_from config f) text_of_is in
+      let filed : desk.history ≡ loaded = opens.loaded.history_is always ∙ ap (λ (f : Feed). history_loaded_from config f) text_of_is in
       let state_is : session_state_of k desk ≡ start =
       ap (λ (r : Ring). state_by r (string_bytes desk.last_query) desk.history (desk_feed k desk).coming) opens.ring
-      ∙ (ap (λ query. state_by (new_ring 60) query desk.history (desk_feed k desk).coming) opens.query
-      ∙ (ap (λ (h : Filed). state_by (new_ring 60) [] h (desk_feed k desk).coming) filed
-      ∙ ap (λ (c : Coming). state_by (new_ring 60) [] loaded c) coming)) in
+      ∙ (ap (λ query. state_by (new_ring KILL_RING_SIZE) query desk.history (desk_feed k desk).coming) opens.query
+      ∙ (ap (λ (h : Filed). state_by (new_ring KILL_RING_SIZE) [] h (desk_feed k desk).coming) filed
+      ∙ ap (λ (c : Coming). state_by (new_ring KILL_RING_SIZE) [] loaded c) coming)) in
       let bound : (desk_feed k desk).bound ≡ length keys =
-      no_byte_kept (kept_count (kept_of desk.reader)) (desk_feed k desk).bound (length keys) (ap kept_count opens.kept)
-      (ap (λ (s : S). (k.feed s).bound + kept_count (kept_of desk.reader)) opens.source_is ∙ ap (λ (f : Feed). f.bound + kept_count (kept_of desk.reader)) source_is) in
+      no_byte_kept (count_of_kept (byte_ahead_of desk.reader)) (desk_feed k desk).bound (length keys) (ap count_of_kept opens.kept)
+      (ap (λ (s : S). (k.feed s).bound + count_of_kept (byte_ahead_of desk.reader)) opens.source_is ∙ ap (λ (f : Feed). f.bound + count_of_kept (byte_ahead_of desk.reader)) source_is) in
       let saved : end.saved ≡ true = was_saved end.saved (failed ended.text) (λ s. (end.saves.refused s).1) works in
       let ended_is : ended.ending ≡ ending_of why =
       end.ending_is ∙ (ap (λ s. ending_of (ending_after why s)) saved ∙ ap ending_of (when_saved why)) in
       let by_keys : is_cut (ending_of why) ≡ false = ap is_cut (sym ended_is) ∙ uncut in
       let adds = config.auto_add_history in
-      let events : ℕ → List Event = λ n. (session n g (each g) start).events in
+      let events : ℕ → List SessionEvent = λ n. (session n g (each g) start).events in
       let answer : ℕ → ReadlineError = λ n. (session n g (each g) start).answer in
       let Shown : Given → SessionState → ℕ → Type 0 = λ g x n. GoesShown k.shown k.written_in g.config.auto_add_history (session n g (each g) x).events (work_of k desk) (work_of k last)
       (why ≡ (session n g (each g) x).answer) (λ e. why ≡ e) in
@@ -146,12 +147,12 @@ module _ {F S D L T : Type 0} (text_of : F → Feed) (k : Known S D L) (held : T
         gives = λ n low.
             let all = whole n low in
             let done = all.are_done in
-            let kept_is : last.history ≡ remembered adds (flat_map lines_kept (events n)) loaded =
-            done.history_is ∙ ap (λ (h : Filed). remembered adds (flat_map lines_kept (events n)) h) filed in
-            let rest_is : (desk_feed k last).coming ≡ left_to_come (coming_from config.edit_mode keys End) (events n) =
-            done.left_is ∙ ap (λ c. left_to_come c (events n)) coming in
-            let left : t.unread.items ≡ left_in k.feed last.reader =
-            unread_is ∙ (ap (λ a. (with_kept a (k.feed ended.source)).coming) end.ahead_is ∙ ap (λ (s : S). (with_kept (kept_of last.reader) (k.feed s)).coming) end.source_is) in
+            let kept_is : last.history ≡ history_with_if adds (flat_map lines_kept (events n)) loaded =
+            done.history_is ∙ ap (λ (h : Filed). history_with_if adds (flat_map lines_kept (events n)) h) filed in
+            let rest_is : (desk_feed k last).coming ≡ coming_after_events (coming_from config.edit_mode keys End) (events n) =
+            done.left_is ∙ ap (λ c. coming_after_events c (events n)) coming in
+            let left : t.unread.items ≡ bytes_left_in k.feed last.reader =
+            unread_is ∙ (ap (λ a. (with_kept a (k.feed ended.source)).coming) end.ahead_is ∙ ap (λ (s : S). (with_kept (byte_ahead_of last.reader) (k.feed s)).coming) end.source_is) in
             record {
               lines_are = lines_are ∙ (ap k.written_in end.lines_are ∙ (done.wrote
                   ∙ ap (λ front. front ++ lines_text (flat_map lines_written (events n))) (ap k.written_in opens.lines_are ∙ bare)));
@@ -160,6 +161,6 @@ module _ {F S D L T : Type 0} (text_of : F → Feed) (k : Known S D L) (held : T
               history_is = history_is ∙ ((end.saves.done saved).1
                   ∙ (ap (λ front. front ++ text_to_save last.history) (ap held text_is ∙ blank) ∙ ap text_to_save kept_is));
               ending_is = ending_is ∙ (ended_is ∙ ap ending_of all.answer_is);
-              unread_is = left ∙ (sym (unread_in k.feed last.reader) ∙ ap unread rest_is);
+              unread_is = left ∙ (sym (unread_in k.feed last.reader) ∙ ap bytes_to_come rest_is);
             };
       }

@@ -1,23 +1,23 @@
 -- Where the setting is off, a script goes as it does without the requests that meet a command.
 use Rattle.std.proofs.Common.{◌≡◌, ℕ, List, ◌∷◌, ◌++◌, Result, Ok, Err, refl, sym, ap, ◌∙◌, subst}
 use Rattle.line_buffer.specs.declared.layout.Layout.{Layout}
-use Rattle.line_config.specs.Played.{Played, played_on}
-use Rattle.line_config.specs.Scripts.{Ends, Asks}
+use Rattle.script.specs.Played.{Played, play_after_answer}
+use Rattle.script.specs.Scripts.{Ends, Asks}
 use Rattle.line_config.specs.declared.errors.ReadlineError.{ReadlineError}
 use Rattle.line_editor.specs.LineScripts.{Keys, Meets, LineAnswer, LineAsk, LineScript, LineState, answer_at, effect_at, left_at, line_script, played_from}
-use Rattle.line_editor.specs.Modal.{Meeting, Modal, standing_first}
-use Rattle.line_editor.specs.Meeting.{meeting}
+use Rattle.line_editor.specs.Modal.{Meeting, Modal, first_standing}
+use Rattle.line_editor.specs.ModalCommands.{meeting}
 use Rattle.line_editor.specs.Redraws.{fresh}
-use Rattle.line_editor.specs.Steps.{asked}
+use Rattle.line_editor.specs.EditSteps.{calls_of_steps}
 use Rattle.line_editor.specs.Values.{Setting}
 use Rattle.line_editor.specs.declared.modal_state.Standing.TheVariants.{Off}
 use Rattle.line_editor.proofs.PastLemmas.{off_passes}
-use Rattle.line_keys.specs.Phrases.{Becomes, Reads}
+use Rattle.line_keys.specs.PhraseScripts.{Becomes, Reads}
 use Rattle.line_keys.specs.declared.command.Cmd.{Cmd}
-use Rattle.line_screen.specs.Calls.{Screen, ruler_of}
-use Rattle.keyline.specs.Events.{Event, asks_events, own_events, step_events}
+use Rattle.line_screen.specs.ScreenCalls.{Screen, ruler_of}
+use Rattle.keyline.specs.Events.{SessionEvent, asks_events, own_events, step_events}
 use Rattle.keyline.specs.Sessions.{setting_in}
-use Rattle.keyline.specs.Unmet.{OffMeetsNone, first_in, unmet}
+use Rattle.keyline.specs.Unmet.{OffMeetsNone, first_in, script_without_meeting}
 
 abbrev PlayedBy : Type 0 → Type 0
 PlayedBy X = Played LineAsk LineState ReadlineError X
@@ -30,7 +30,7 @@ module _ (s : Screen) (a : Setting) where
     pub modal : p.rest.modal ≡ k.modal
 
   abbrev layout_after : Layout → LineState → LineAsk → Layout
-  layout_after l k ask = (asked (ruler_of s) l (effect_at a k ask).steps).layout
+  layout_after l k ask = (calls_of_steps (ruler_of s) l (effect_at a k ask).steps).layout
 
   -- nothing begins to stand
   stays_as : (k : LineState) (ask : LineAsk) → k.modal.standing ≡ Off → (left_at a k ask).modal ≡ k.modal
@@ -41,7 +41,7 @@ module _ (s : Screen) (a : Setting) where
 
   one_alike : {X : Type 0} (ask : LineAsk) (f g : LineAnswer ask → LineScript X) (l : Layout) (k : LineState) → k.modal.standing ≡ Off → (r : Result (LineAnswer ask) ReadlineError)
       → (let left = left_at a k ask in ((x : LineAnswer ask) → Alike (layout_after l k ask) left (played_from a (f x) left) (played_from a (g x) left))
-      → Alike l k (played_on (λ x. played_from a (f x) left) ask left r) (played_on (λ x. played_from a (g x) left) ask left r))
+      → Alike l k (play_after_answer (λ x. played_from a (f x) left) ask left r) (play_after_answer (λ x. played_from a (g x) left) ask left r))
   one_alike ask f g l k off (Ok x) so =
       let y = so x in
       record {
@@ -65,21 +65,21 @@ module _ (s : Screen) (a : Setting) where
       on : Meeting → PlayedBy X
       on m = played_from a (t m.next) (after m)
 
-      events : Meeting → List Event
-      events m = let steps = m.effect.steps in step_events s l steps ++ asks_events s a (asked (ruler_of s) l steps).layout (after m) (on m).asks
+      events : Meeting → List SessionEvent
+      events m = let steps = m.effect.steps in step_events s l steps ++ asks_events s a (calls_of_steps (ruler_of s) l steps).layout (after m) (on m).asks
 
       Goes : Meeting → Type 0
       Goes m = ((on m).answer ≡ q.answer) × ((on m).rest ≡ q.rest) × (events m ≡ asks_events s a l k q.asks) × ((on m).rest.modal ≡ k.modal)
 
-  unmet_alike : {X : Type 0} (p : LineScript X) (l : Layout) (k : LineState) → k.modal.standing ≡ Off → Alike l k (played_from a p k) (played_from a (unmet p) k)
+  unmet_alike : {X : Type 0} (p : LineScript X) (l : Layout) (k : LineState) → k.modal.standing ≡ Off → Alike l k (played_from a p k) (played_from a (script_without_meeting p) k)
   unmet_alike (Ends x) l k off = record { answer = refl; rest = refl; events = refl; modal = refl }
-  unmet_alike (Asks (Meets cmd) t) l k off = met_alike cmd t l k (played_from a (unmet (t cmd)) k) off (unmet_alike (t cmd) l k off)
+  unmet_alike (Asks (Meets cmd) t) l k off = met_alike cmd t l k (played_from a (script_without_meeting (t cmd)) k) off (unmet_alike (t cmd) l k off)
   unmet_alike (Asks ask t) l k off =
       let left = left_at a k ask in
-      one_alike ask t (λ x. unmet (t x)) l k off (answer_at a k ask)
+      one_alike ask t (λ x. script_without_meeting (t x)) l k off (answer_at a k ask)
       (λ x. unmet_alike (t x) (layout_after l k ask) left (ap (λ (m : Modal). m.standing) (stays_as k ask off) ∙ off))
 
 pub off_meets_none : OffMeetsNone
 off_meets_none n g x off =
-    let h = unmet_alike g.screen (setting_in g x.history.kept.entries) (line_script n g.custom) (fresh g.screen.mode) (first_in g x) (ap standing_first off) in
+    let h = unmet_alike g.screen (setting_in g x.history.kept.entries) (line_script n g.custom) (fresh g.screen.mode) (first_in g x) (ap first_standing off) in
     record { answer = h.answer; rest = h.rest; events = h.events; query = ap (λ (m : Modal). m.query) h.modal }

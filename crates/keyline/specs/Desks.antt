@@ -1,21 +1,21 @@
 -- The state that is passed from line to line, with its devices, and the effect of a line on it.
 use Rattle.std.specs.Prelude.{◌≡◌, ℕ, ◌<◌, Bool, List, Result, Err, IsTrue, IfErr, OnOk, string_bytes}
 use Rattle.line_buffer.specs.declared.layout.Layout.{Layout}
-use Rattle.line_config.specs.Scripts.{Goes}
+use Rattle.script.specs.Scripts.{Goes}
 use Rattle.line_config.specs.declared.errors.ReadlineError.{ReadlineError}
-use Rattle.line_editor.specs.LineScripts.{kept, line_script, line_stage, line_world}
+use Rattle.line_editor.specs.LineScripts.{line_state, line_script, line_stage, line_world}
 use Rattle.line_editor.specs.Modal.{Modal}
-use Rattle.line_editor.specs.Running.{stage_first}
-use Rattle.line_editor.specs.Steps.{surface}
+use Rattle.line_editor.specs.LineRun.{stage_first}
+use Rattle.line_editor.specs.EditSteps.{surface}
 use Rattle.line_editor.specs.Values.{Value}
-use Rattle.line_keys.specs.Feeds.{KeyFeed}
-use Rattle.line_keys.specs.Phrases.{Input}
-use Rattle.line_screen.specs.Calls.{canvas_of, ruler_of, sink_of}
+use Rattle.line_keys.specs.KeyFeeds.{KeyFeed}
+use Rattle.line_keys.specs.PhraseScripts.{Input}
+use Rattle.line_screen.specs.ScreenCalls.{canvas_of, ruler_of, sink_of}
 use Rattle.line_screen.specs.Reader.{items_of, source_of}
 use Rattle.line_screen.specs.declared.renderer.ScreenRenderer.{ScreenRenderer}
-use Rattle.keyline.specs.Known.{Known, HasPassedOn, HasPassedLines}
-use Rattle.keyline.specs.Events.{Event, line_course, session}
-use Rattle.keyline.specs.Playing.{Closes, Went, Work, SessionReason, work}
+use Rattle.keyline.specs.KnownDevices.{KnownDevices, HasPassedOn, HasPassedLines}
+use Rattle.keyline.specs.Events.{SessionEvent, line_course, session}
+use Rattle.keyline.specs.SessionEffects.{Closes, Went, Work, SessionReason, work}
 use Rattle.keyline.specs.Sessions.{Given, LineGiven, SessionState, setting_in}
 use Rattle.keyline.specs.Shows.{EachShown, Face, IsAtRest}
 use Rattle.keyline.specs.declared.desk.Desk.{Desk}
@@ -23,12 +23,13 @@ use Rattle.keyline.specs.declared.desk.Desk.{Desk}
 -- events happened so on a display and a sink of lines. At each moment of those that were done the
 -- display shows it, whatever it showed before the first of them
 pub record GoesShown {D L : Type 0} (shown : D → List ℕ) (written_in : L → List ℕ) (adds : Bool)
-    (events : List Event) (old new : Work D L) (Whole : Type 0) (Faulted : ReadlineError → Type 0)
+    (events : List SessionEvent) (old new : Work D L) (Whole : Type 0)
+    (Faulted : ReadlineError → Type 0)
     : Type 0 where
   pub went : Went shown written_in adds events old new Whole Faulted
   pub shows : (f : Face) → IsAtRest f → EachShown f went.done
 
-module _ {S H D L : Type 0} (k : Known S D L) where
+module _ {S H D L : Type 0} (k : KnownDevices S D L) where
   abbrev pub desk_feed : Desk S H D L → KeyFeed
   desk_feed d = items_of k.feed d.reader
 
@@ -64,7 +65,7 @@ module _ {S H D L : Type 0} (k : Known S D L) where
         (line_script n g.custom)
         (stage_first old.out ruler setting old.ring (string_bytes old.last_query)
         (desk_feed old).coming) outcome (line_stage (surface drawn layout)
-        (kept value input new.ring modal (desk_feed new).coming))
+        (line_state value input new.ring modal (desk_feed new).coming))
     pub last : string_bytes new.last_query ≡ modal.query
     pub closes : Closes k.shown k.show_failed k.written_in k.write_failed
         g.config.auto_add_history outcome (work (sink_of drawn) old.lines old.history)

@@ -1,7 +1,8 @@
 -- The endings of a session: the status of a program that ends with it, and its message.
-use Rattle.std.specs.Prelude.{ℕ, List, Option, Some, None, Result, Ok, Err, codes}
+use Rattle.std.specs.Prelude.{ℕ, List, Option, Some, None, Result, Ok, Err}
 use Rattle.line_config.specs.declared.errors.ReadlineError.{ReadlineError}
 use Rattle.line_config.specs.declared.errors.ReadlineError.TheVariants as Refusal
+use Rattle.line_config.specs.Refusals.{refusal_text}
 use Rattle.keyline.specs.declared.ending.Ending.{Ending}
 use Rattle.keyline.specs.declared.ending.Ending.TheVariants.{Eof, Interrupted, NotUtf8, PasteOutOfPlace, Reader, Display, Lines, HistoryText, Helper, Handler, Memory}
 
@@ -12,18 +13,22 @@ status_of NotUtf8 = 3
 status_of PasteOutOfPlace = 4
 status_of ending = 1
 
+-- the error that has this ending
+abbrev pub error_of : Ending → ReadlineError
+error_of Eof = Refusal.Eof
+error_of Interrupted = Refusal.Interrupted
+error_of NotUtf8 = Refusal.NotUtf8
+error_of PasteOutOfPlace = Refusal.PasteOutOfPlace
+error_of Reader = Refusal.Reader
+error_of Display = Refusal.Display
+error_of Lines = Refusal.Lines
+error_of HistoryText = Refusal.HistoryText
+error_of Helper = Refusal.Helper
+error_of Handler = Refusal.Handler
+error_of Memory = Refusal.Memory
+
 abbrev pub ending_text : Ending → List ℕ
-ending_text Eof = codes "EOF"
-ending_text Interrupted = codes "Interrupted"
-ending_text NotUtf8 = codes "input is not UTF-8"
-ending_text PasteOutOfPlace = codes "paste out of place"
-ending_text Reader = codes "input failed"
-ending_text Display = codes "display failed"
-ending_text Lines = codes "line output failed"
-ending_text HistoryText = codes "history text failed"
-ending_text Helper = codes "helper failed"
-ending_text Handler = codes "handler failed"
-ending_text Memory = codes "out of memory"
+ending_text ending = refusal_text (error_of ending)
 
 -- an error that ends a session, as its ending
 abbrev pub ending_of : ReadlineError → Ending
@@ -40,7 +45,7 @@ ending_of Refusal.Handler = Handler
 ending_of Refusal.Memory = Memory
 
 -- why there is no further line after this answer; after an interruption there is one
-abbrev pub ended_by : Result (List ℕ) ReadlineError → Option ReadlineError
-ended_by (Err Refusal.Interrupted) = None
-ended_by (Err why) = Some why
-ended_by (Ok text) = None
+abbrev pub reason_to_end : Result (List ℕ) ReadlineError → Option ReadlineError
+reason_to_end (Err Refusal.Interrupted) = None
+reason_to_end (Err why) = Some why
+reason_to_end (Ok text) = None

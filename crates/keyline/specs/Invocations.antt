@@ -16,23 +16,23 @@ abbrev pub decides : Text → Bool
 decides word = bytes_eq word (codes "--extended") || bytes_eq word (codes "--")
 
 -- the place of `--extended` in these words, if it stands before any `--`
-abbrev pub extended_among : List Text → Option ℕ
-extended_among [] = None
-extended_among (word ∷ words) = if bytes_eq word (codes "--extended") then Some 0
+abbrev pub place_of_extended : List Text → Option ℕ
+place_of_extended [] = None
+place_of_extended (word ∷ words) = if bytes_eq word (codes "--extended") then Some 0
     else if bytes_eq word (codes "--") then None
-    else option_map suc (extended_among words)
+    else option_map suc (place_of_extended words)
 
 -- its place in a command line, the first word of which is the program's name
-abbrev pub extended_at : List Text → Option ℕ
-extended_at [] = None
-extended_at (name ∷ words) = option_map suc (extended_among words)
+abbrev pub place_of_extended_in : List Text → Option ℕ
+place_of_extended_in [] = None
+place_of_extended_in (name ∷ words) = option_map suc (place_of_extended words)
 
 abbrev pub is_extended : List Text → Bool
-is_extended words = is_some (extended_at words)
+is_extended words = is_some (place_of_extended_in words)
 
 -- the command line without it
 abbrev pub without_extended : List Text → List Text
-without_extended words = option_map_or (remove words) (extended_at words) words
+without_extended words = option_map_or (remove words) (place_of_extended_in words) words
 
 -- the same answer, for the options alone
 abbrev pub for_options : Invoked → Parsed

@@ -2,14 +2,14 @@
 use Rattle.std.specs.Prelude.{◌≡◌, ℕ, Bool, List, Option, Result, string_bytes}
 use Rattle.line_config.specs.declared.config.Config.{Config}
 use Rattle.line_config.specs.declared.errors.ReadlineError.{ReadlineError}
-use Rattle.line_editor.specs.Running.{Helping}
-use Rattle.line_help.specs.History.{Filed, filed_with}
-use Rattle.line_keys.specs.Answers.{custom_of}
+use Rattle.line_editor.specs.LineRun.{Helping}
+use Rattle.line_help.specs.History.{Filed, history_with_line}
+use Rattle.line_keys.specs.CustomBindings.{custom_of}
 use Rattle.line_keys.specs.Handling.{Meaning}
 use Rattle.line_keys.specs.declared.events.Event.{Event}
-use Rattle.line_screen.specs.Calls.{screen_of, sink_of}
+use Rattle.line_screen.specs.ScreenCalls.{screen_of, sink_of}
 use Rattle.keyline.specs.Desks.{TakesLine}
-use Rattle.keyline.specs.Known.{Known}
+use Rattle.keyline.specs.KnownDevices.{KnownDevices}
 use Rattle.keyline.specs.Sessions.{Given, given_of}
 use Rattle.keyline.specs.declared.desk.Desk.{Desk}
 use Rattle.keyline.specs.declared.session.Session.{Session}
@@ -50,7 +50,7 @@ module _ {S H D L T B : Type 0} where
   -- ---- its calls
 
   -- the relation of a requested line: the desk takes it, and all else stays as it was
-  pub record ReadsNext (k : Known S D L) (given : Session S H D L T B → Given)
+  pub record ReadsNext (k : KnownDevices S D L) (given : Session S H D L T B → Given)
       (old new : Session S H D L T B) (result : Result (List ℕ) ReadlineError) : Type 0 where
     pub takes : TakesLine k (given old) (given new) old.desk new.desk result
     pub others : new ≡ record old { desk = new.desk }
@@ -68,7 +68,8 @@ module _ {S H D L T B : Type 0} where
     pub others : new ≡ record old { desk = record old.desk { out = new.desk.out } }
 
   abbrev pub with_entry : List ℕ → Session S H D L T B → Session S H D L T B
-  with_entry line s = record s { desk = record s.desk { history = filed_with (history_of s) line } }
+  with_entry line s = record s
+      { desk = record s.desk { history = history_with_line (history_of s) line } }
 
   abbrev pub with_helper : Option H → Session S H D L T B → Session S H D L T B
   with_helper helper s = record s { desk = record s.desk { helper = helper } }

@@ -18,8 +18,8 @@ abbrev pub text_option : Text → Rule
 text_option id = record (new_rule id) { long = Some id; value_names = 1 }
 
 -- the same, with its text if it isn't given
-abbrev pub defaulted : Text → Text → Rule
-defaulted id text = record (text_option id) { defaults = text ∷ [] }
+abbrev pub text_option_with_default : Text → Text → Rule
+text_option_with_default id text = record (text_option id) { defaults = text ∷ [] }
 
 -- `--id`
 abbrev pub flag : Text → Rule
@@ -28,9 +28,9 @@ flag id = record (new_rule id) { long = Some id; action = Some SetTrue }
 unfoldable pub command_line : App
 command_line = with_rule (with_rule (with_rule (with_rule (with_rule (with_rule
     (new_app (codes "keyline"))
-    (defaulted (codes "mode") (codes "emacs")))
-    (defaulted (codes "columns") (codes "80")))
-    (defaulted (codes "prompt") (codes "> ")))
+    (text_option_with_default (codes "mode") (codes "emacs")))
+    (text_option_with_default (codes "columns") (codes "80")))
+    (text_option_with_default (codes "prompt") (codes "> ")))
     (text_option (codes "history")))
     (text_option (codes "words")))
     (flag (codes "brackets"))

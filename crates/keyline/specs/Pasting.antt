@@ -2,21 +2,21 @@
 use Rattle.std.specs.Prelude.{◌≡◌, ◌≢◌, ℕ, suc, true, List, [], ◌∷◌, ◌++◌, None, Ok}
 use Rattle.std.specs.Str.{IsUtf8}
 use Rattle.line_config.specs.declared.device.Last.{Last}
-use Rattle.line_config.specs.Played.{Played}
+use Rattle.script.specs.Played.{Played}
 use Rattle.line_config.specs.declared.errors.ReadlineError.{ReadlineError}
 use Rattle.line_keys.specs.declared.events.Event.{Event}
-use Rattle.line_keys.specs.Answers.{Custom}
+use Rattle.line_keys.specs.CustomBindings.{Custom}
 use Rattle.line_keys.specs.Coming.{Coming}
 use Rattle.line_editor.specs.LineScripts.{LineAsk, LineState, played_from, turns_script}
 use Rattle.line_editor.specs.Modal.{is_at_rest}
 use Rattle.line_editor.specs.Values.{Setting, Value}
 use Rattle.line_screen.specs.KeyGrammar.{marker, start_marker, HaveNoMarker}
-use Rattle.keyline.specs.Events.{played_in}
+use Rattle.keyline.specs.Events.{line_play_in}
 use Rattle.keyline.specs.Sessions.{Given, SessionState, coming_from}
 
 -- ESC [ 2 0 0 ~, the text, and ESC [ 2 0 1 ~
-abbrev pub sent_as_paste : List ℕ → List ℕ
-sent_as_paste text = start_marker ++ text ++ marker
+abbrev pub paste_bytes : List ℕ → List ℕ
+paste_bytes text = start_marker ++ text ++ marker
 
 -- a text that stays as it is: UTF-8, without CR, and without the mark that ends it
 pub record IsPasteable (text : List ℕ) : Type 0 where
@@ -47,7 +47,7 @@ PastesAreAccepted =
     (last : Last)
     → s.hooks ≡ None → IsUnbound custom → IsEmptyLine k.value
     → is_at_rest k.modal.standing ≡ true → IsPasteable text
-    → k.coming ≡ coming_from k.input.mode (sent_as_paste text ++ 0x0D ∷ more) last
+    → k.coming ≡ coming_from k.input.mode (paste_bytes text ++ 0x0D ∷ more) last
     → Accepts (played_from s (turns_script (suc (suc n)) custom) k) text
     (coming_from k.input.mode more last)
 
@@ -56,5 +56,5 @@ abbrev pub PastedLinesAreAccepted : Type 0
 PastedLinesAreAccepted =
     (n : ℕ) (g : Given) (x : SessionState) (text more : List ℕ) (last : Last)
     → g.helping.hooks ≡ None → IsUnbound g.custom → IsPasteable text
-    → x.coming ≡ coming_from g.config.edit_mode (sent_as_paste text ++ 0x0D ∷ more) last
-    → Accepts (played_in (suc (suc n)) g x) text (coming_from g.config.edit_mode more last)
+    → x.coming ≡ coming_from g.config.edit_mode (paste_bytes text ++ 0x0D ∷ more) last
+    → Accepts (line_play_in (suc (suc n)) g x) text (coming_from g.config.edit_mode more last)

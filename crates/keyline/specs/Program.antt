@@ -13,29 +13,30 @@ use Rattle.line_keys.specs.Replies.{gives, gives_at_once}
 use Rattle.line_help.specs.Completion.{nothing_offered, word_reply}
 use Rattle.line_help.specs.Paints.{Prompted, prompt_marks, standard_marks}
 use Rattle.line_help.specs.Validation.{bracket_reply}
-use Rattle.line_help.specs.declared.bracket_validator.MatchingBracketValidator.{MatchingBracketValidator}
-use Rattle.line_help.specs.declared.helper_parts.HelperParts.{HelperParts}
-use Rattle.line_help.specs.declared.style.Span.{Span}
-use Rattle.line_help.specs.declared.standard_highlighter.StandardHighlighter.{StandardHighlighter}
-use Rattle.line_help.specs.declared.validate.ValidationResult.TheVariants.{Valid}
-use Rattle.line_keys.specs.Answers.{Custom}
-use Rattle.line_keys.specs.Coming.{unread}
-use Rattle.line_editor.specs.Running.{Helping, helping_by}
-use Rattle.line_screen.specs.Calls.{screen_of}
-use Rattle.line_screen.specs.Reader.{coming_in, kept_of, source_of}
+use Rattle.line_help.specs.declared.helpers.bracket_validator.MatchingBracketValidator.{MatchingBracketValidator}
+use Rattle.line_help.specs.declared.helpers.helper_parts.HelperParts.{HelperParts}
+use Rattle.line_help.specs.declared.helpers.style.Span.{Span}
+use Rattle.line_help.specs.declared.helpers.standard_highlighter.StandardHighlighter.{StandardHighlighter}
+use Rattle.line_help.specs.declared.helpers.validate.ValidationResult.TheVariants.{Valid}
+use Rattle.line_keys.specs.CustomBindings.{Custom}
+use Rattle.line_keys.specs.Coming.{bytes_to_come}
+use Rattle.line_editor.specs.LineRun.{Helping, helper_from_hooks}
+use Rattle.line_screen.specs.ScreenCalls.{screen_of}
+use Rattle.line_screen.specs.Reader.{coming_in, byte_ahead_of, source_of}
 use Rattle.line_screen.specs.Reading.{with_kept}
 use Rattle.line_screen.specs.declared.reading.reader.KeyReader.{KeyReader}
 use Rattle.keyline.specs.Desks.{GoesShown}
 use Rattle.keyline.specs.Events.{session}
-use Rattle.keyline.specs.Known.{Known}
-use Rattle.keyline.specs.Plays.{LoadRefused, Opens, RunsSession, loaded_from, loads}
+use Rattle.keyline.specs.KnownDevices.{KnownDevices}
+use Rattle.keyline.specs.SessionRuns.{LoadRefused, Opens, RunsSession, history_loaded_from, loads}
 use Rattle.keyline.specs.Sessions.{Given, SessionState, each, given_of, screen_by, state_over}
 use Rattle.keyline.specs.declared.desk.Desk.{Desk}
 use Rattle.keyline.specs.declared.invocation.Invocation.{Invocation}
 use Rattle.keyline.specs.declared.options.Options.{Options}
+use Rattle.keyline.specs.declared.session.TheConstants.{KILL_RING_SIZE}
 use Rattle.keyline.specs.declared.session.Ended.{Ended}
 use Rattle.keyline.specs.declared.session.Unopened.{Unopened}
-use Rattle.line_config.specs.Adapters.{IsUnread, IsUnused, sent_of, taken}
+use Rattle.line_config.specs.Adapters.{IsUnread, IsUnused, bytes_sent, bytes_taken}
 use Rattle.line_config.specs.Sending.{AppendsSome}
 use Rattle.line_config.specs.declared.adapters.ReadSource.{ReadSource}
 use Rattle.line_config.specs.declared.adapters.WriteSink.{WriteSink}
@@ -46,7 +47,7 @@ use Rattle.line_help.specs.History.{Filed, all_saved}
 use Rattle.line_help.specs.HistoryText.{text_to_save}
 use Rattle.line_record.specs.Ring.{new_ring}
 use Rattle.keyline.specs.Endings.{ending_of}
-use Rattle.keyline.specs.Playing.{SessionReason, ending_after, work}
+use Rattle.keyline.specs.SessionEffects.{SessionReason, ending_after, work}
 
 -- the default: each accepted line is added to the history
 abbrev pub standard_config : Config
@@ -65,18 +66,19 @@ profile_of extended config = record config {
   modal_commands = extended;
   draw_colours = extended;
   draw_tabs = extended;
+  partial_redraw = extended;
   completion_type = if extended then AsList else Circular;
 }
 
 abbrev pub invoked_config : Invocation → Config
 invoked_config invocation = profile_of invocation.extended (config_of invocation.options)
 
-abbrev pub uncoloured : Config → Config
-uncoloured config = record config { draw_colours = false }
+abbrev pub config_without_colours : Config → Config
+config_without_colours config = record config { draw_colours = false }
 
 -- the same settings, or the same without colours
 abbrev pub IsByEnvironment : Config → Config → Type 0
-IsByEnvironment config result = (result ≡ config) ⊎ (result ≡ uncoloured config)
+IsByEnvironment config result = (result ≡ config) ⊎ (result ≡ config_without_colours config)
 
 -- a variable of the environment is set and not empty, by its length
 abbrev pub has_text : Result ℕ FillError → Bool
@@ -96,8 +98,8 @@ word_texts words = option_map (λ ws. map string_bytes ws.items) words
 abbrev pub validator_of : Options → Option MatchingBracketValidator
 validator_of options = if options.brackets then Some (record {}) else None
 
-abbrev pub styled : List Span → Prompted StandardHighlighter
-styled spans = record { spans = spans; others = record { brackets = None } }
+abbrev pub prompt_with_spans : List Span → Prompted StandardHighlighter
+prompt_with_spans spans = record { spans = spans; others = record { brackets = None } }
 
 -- there is none if nothing was requested and no colours are drawn
 abbrev pub helper_of : Config → Options → Option (List (List ℕ)) → Option EditHelper
@@ -105,14 +107,14 @@ helper_of config options words = if options.brackets || is_some words || config.
     then Some (record {
       completer = words;
       hinter = tt;
-      highlighter = styled options.prompt_styles.items;
+      highlighter = prompt_with_spans options.prompt_styles.items;
       validator = validator_of options;
     })
     else None
 
 -- its replies and its styles; it helps with nothing else
 abbrev pub edit_helping : Option EditHelper → Helping
-edit_helping = helping_by (λ helper line pos entries place. gives_at_once None)
+edit_helping = helper_from_hooks (λ helper line pos entries place. gives_at_once None)
     (λ helper text. option_map_or (λ validator. bracket_reply text) helper.validator
     (gives_at_once (Valid None)))
     (λ helper line pos entries place. option_map_or (λ words. word_reply words (take pos line))
@@ -129,7 +131,7 @@ given_to config options desk = given_of config nothing_bound (string_bytes optio
     (screen_of desk.out) (edit_helping desk.helper)
 
 -- a session was opened by these settings, options and words, and run
-pub record EditsBy {F S D L T : Type 0} (loads : F → Feed) (k : Known S D L)
+pub record EditsBy {F S D L T : Type 0} (loads : F → Feed) (k : KnownDevices S D L)
     (held : T → List ℕ) (failed : T → Bool) (config : Config) (options : Options)
     (words : Option (List (List ℕ))) (history : F) (source : S) (display : D) (lines : L) (text : T) (ended : Ended S D L T)
     : Type 0 where
@@ -150,8 +152,8 @@ program_given options words = given_by (config_of options) options words
 
 -- the state before its first line, over this history's text and these keys
 abbrev pub start_by : Config → List ℕ → List ℕ → Last → SessionState
-start_by config old bytes last = state_over (new_ring 60) []
-    (loaded_from config (fresh_feed old End)) config.edit_mode bytes last
+start_by config old bytes last = state_over (new_ring KILL_RING_SIZE) []
+    (history_loaded_from config (fresh_feed old End)) config.edit_mode bytes last
 
 abbrev pub program_start : Options → List ℕ → List ℕ → Last → SessionState
 program_start options old bytes last = start_by (config_of options) old bytes last
@@ -163,7 +165,7 @@ had_by contents writer = unwrap_or (contents writer) []
 -- the session of these settings, options and words, of a history's text, and of all these bytes
 -- followed by this, on a display and a sink of lines that had these bytes. What is drawn, written
 -- and saved are its bytes, its lines and its history, or a prefix of them if a fault cut it
-pub record PlaysBytes {S D L T : Type 0} (known : Known S D L) (held : T → List ℕ)
+pub record PlaysBytes {S D L T : Type 0} (known : KnownDevices S D L) (held : T → List ℕ)
     (failed : T → Bool) (config : Config) (options : Options) (words : Option (List (List ℕ)))
     (shown wrote old bytes : List ℕ) (last : Last) (ended : Ended S D L T) : Type 0 where
   -- the history and the reader of keys as the lines left them, why there was no further line, and
@@ -185,8 +187,8 @@ pub record PlaysBytes {S D L T : Type 0} (known : Known S D L) (held : T → Lis
       × AppendsSome [] (text_to_save kept) (held ended.text)
   pub history_is : ended.history ≡ (if saved then all_saved kept else kept)
   pub source_is : ended.source ≡ source_of reader
-  pub ahead_is : ended.ahead ≡ kept_of reader
-  pub unread_is : unread (coming_in known.feed reader)
+  pub ahead_is : ended.ahead ≡ byte_ahead_of reader
+  pub unread_is : bytes_to_come (coming_in known.feed reader)
       ≡ (with_kept ended.ahead (known.feed ended.source)).coming
   pub ending_is : ended.ending ≡ ending_of (ending_after why saved)
   pub reason : SessionReason (given_by config options words) (known.feed ended.source).failed
@@ -196,15 +198,16 @@ pub record PlaysBytes {S D L T : Type 0} (known : Known S D L) (held : T → Lis
 -- the reads gave agrees with the bytes that were assumed of the reader as it was passed in, the
 -- session is that of these bytes. A writer that hasn't failed got everything that its sink took
 pub record PlaysOver {R K E W T : Type 0}
-    (known : Known (ReadSource R K) (WriteSink E) (WriteSink W)) (held : T → List ℕ)
+    (known : KnownDevices (ReadSource R K) (WriteSink E) (WriteSink W)) (held : T → List ℕ)
     (failed : T → Bool) (config : Config) (options : Options) (words : Option (List (List ℕ)))
     (shown wrote old bytes : List ℕ) (last : Last)
     (ended : Ended (ReadSource R K) (WriteSink E) (WriteSink W) T) : Type 0 where
   pub plays : IsTrue (known.feed ended.source).told
       → PlaysBytes known held failed config options words shown wrote old bytes last ended
   pub drawn : known.show_failed ended.display ≡ false
-      → sent_of ended.display ≡ taken ended.display
-  pub written : known.write_failed ended.lines ≡ false → sent_of ended.lines ≡ taken ended.lines
+      → bytes_sent ended.display ≡ bytes_taken ended.display
+  pub written : known.write_failed ended.lines ≡ false → bytes_sent ended.lines
+      ≡ bytes_taken ended.lines
 
 -- no session was opened, and no call was made of the reader and the writers that were passed in
 pub record UnopensOver {F R K E W T : Type 0} (feed : F → Feed) (shown : E → Option (List ℕ))

@@ -4,17 +4,17 @@ use Rattle.std.specs.Prelude.{◌≡◌, ℕ, map, true, if◌then◌else◌, Li
 use Rattle.std.specs.List.{flat_map}
 use Rattle.line_buffer.specs.Cells.{origin}
 use Rattle.line_editor.specs.LineScripts.{steps_along}
-use Rattle.line_editor.specs.Running.{kept_first}
+use Rattle.line_editor.specs.LineRun.{first_line_state}
 use Rattle.line_editor.specs.Values.{EditStep}
-use Rattle.line_help.specs.History.{Settings, Filed, nothing_filed, ignored, filed_with, newest}
+use Rattle.line_help.specs.History.{Settings, Filed, nothing_filed, ignores_line, history_with_line, newest}
 use Rattle.line_screen.specs.Measure.{measure_of}
-use Rattle.keyline.specs.Events.{Event, Begins, Draws, lines_kept, line_course, played_in, session}
-use Rattle.keyline.specs.Sessions.{Given, LineGiven, SessionState, each, remembered, setting_in, state_over, coming_from}
+use Rattle.keyline.specs.Events.{SessionEvent, Begins, Draws, lines_kept, line_course, line_play_in, session}
+use Rattle.keyline.specs.Sessions.{Given, LineGiven, SessionState, each, history_with_if, setting_in, state_over, coming_from}
 use Rattle.line_config.specs.declared.device.Last.{Last}
 use Rattle.line_config.specs.declared.device.Last.TheVariants.{Failed, End}
 use Rattle.line_config.specs.declared.settings.EditMode.{EditMode}
 use Rattle.line_record.specs.Ring.{Ring}
-use Rattle.line_keys.specs.Coming.{Coming, Pressed, Pasted, CutOff, Ends, Refused, unread}
+use Rattle.line_keys.specs.Coming.{Coming, Pressed, Pasted, CutOff, Ends, Refused, bytes_to_come}
 use Rattle.line_screen.specs.KeyGrammar.{are_whole, EndWithoutEsc, readings}
 use Rattle.line_screen.specs.Input.{chars_of}
 
@@ -27,10 +27,10 @@ abbrev pub prompt_column : Given → ℕ
 prompt_column g = (measure_of g.screen.mode g.screen.tab g.screen.columns g.prompt origin).col
 
 -- events without what depends on columns: the screen, and the bytes of a redraw
-abbrev pub unmeasured : Event → Event
-unmeasured (Begins s) = Begins (record s { columns = 0 })
-unmeasured (Draws marks redraw sent) = Draws marks redraw []
-unmeasured event = event
+abbrev pub event_without_columns : SessionEvent → SessionEvent
+event_without_columns (Begins s) = Begins (record s { columns = 0 })
+event_without_columns (Draws marks redraw sent) = Draws marks redraw []
+event_without_columns event = event
 
 -- two sessions that differ only in their columns are the same, event for event, if the prompt ends
 -- in the same column and tabs aren't drawn as blanks. So they accept the same lines, save the same
@@ -41,34 +41,36 @@ ColumnsAreFree =
     (n : ℕ) (g : Given) (x : SessionState) (columns : ℕ) → let other = at_columns columns g in
     let one = session n other (each other) x in let two = session n g (each g) x in
     g.screen.tab ≡ None → prompt_column other ≡ prompt_column g
-    → (map unmeasured one.events ≡ map unmeasured two.events) × (one.answer ≡ two.answer)
+    → (map event_without_columns one.events ≡ map event_without_columns two.events) ×
+    (one.answer ≡ two.answer)
 
 -- the steps of a line without faults, each with the value that is current until then
 abbrev pub steps_in : ℕ → Given → SessionState → List EditStep
 steps_in n g x = let a = setting_in g x.history.kept.entries in
-    steps_along a (kept_first a x.ring x.query x.coming)
-    (played_in n g x).asks
+    steps_along a (first_line_state a x.ring x.query x.coming)
+    (line_play_in n g x).asks
 
 -- and so is each line, request for request and step for step
 abbrev pub LineColumnsAreFree : Type 0
 LineColumnsAreFree =
     (n : ℕ) (g : Given) (x : SessionState) (columns : ℕ) → let other = at_columns columns g in
     g.screen.tab ≡ None → prompt_column other ≡ prompt_column g
-    → (played_in n other x ≡ played_in n g x) × (steps_in n other x ≡ steps_in n g x)
+    → (line_play_in n other x ≡ line_play_in n g x) × (steps_in n other x ≡ steps_in n g x)
 
 -- the lines that become entries, of these, added one after the other
-abbrev pub taken_of : Filed → List (List ℕ) → List (List ℕ)
-taken_of filed [] = []
-taken_of filed (line ∷ lines) =
-    let rest = taken_of (filed_with filed line) lines in
-    if ignored filed.kept.settings filed.kept.entries line then rest else line ∷ rest
+abbrev pub lines_taken : Filed → List (List ℕ) → List (List ℕ)
+lines_taken filed [] = []
+lines_taken filed (line ∷ lines) =
+    let rest = lines_taken (history_with_line filed line) lines in
+    if ignores_line filed.kept.settings filed.kept.entries line then rest else line ∷ rest
 
 -- a history that began empty holds the last of the accepted lines that weren't ignored, in order
 abbrev pub LastAreKept : Type 0
 LastAreKept =
     (n : ℕ) (g : Given) (at : ℕ → LineGiven) (x : SessionState) (settings : Settings) →
     let lines = flat_map lines_kept (session n g at x).events in let empty = nothing_filed settings in
-    (remembered true lines empty).kept.entries ≡ newest settings.max_len (taken_of empty lines)
+    (history_with_if true lines empty).kept.entries ≡ newest settings.max_len
+    (lines_taken empty lines)
 
 -- the one is a prefix of the other
 abbrev pub IsBeginning : {A : Type 0} → List A → List A → Type 0
@@ -94,9 +96,10 @@ SessionsBegin =
 
 -- the keys and pastes of the one, then what the other has
 abbrev pub coming_then : Coming → Coming → Coming
-coming_then (Pressed bytes k rest) more = Pressed (bytes ++ unread more) k (coming_then rest more)
+coming_then (Pressed bytes k rest) more = Pressed (bytes ++ bytes_to_come more) k
+    (coming_then rest more)
 coming_then (Pasted bytes text rest) more =
-    Pasted (bytes ++ unread more) text (coming_then rest more)
+    Pasted (bytes ++ bytes_to_come more) text (coming_then rest more)
 coming_then (CutOff bytes item left) more = CutOff bytes item left
 coming_then (Ends bytes item left) more = more
 coming_then (Refused bytes why) more = Refused bytes why

@@ -7,13 +7,13 @@ use Rattle.line_config.specs.declared.config.Config.{Config}
 use Rattle.line_config.specs.declared.device.Last.{Last}
 use Rattle.line_config.specs.declared.errors.ReadlineError.{ReadlineError}
 use Rattle.line_config.specs.declared.settings.EditMode.{EditMode}
-use Rattle.line_help.specs.History.{Filed, filed_with_all}
-use Rattle.line_keys.specs.Answers.{Custom}
+use Rattle.line_help.specs.History.{Filed, history_with_lines}
+use Rattle.line_keys.specs.CustomBindings.{Custom}
 use Rattle.line_keys.specs.Coming.{Coming}
 use Rattle.line_record.specs.Ring.{Ring}
-use Rattle.line_editor.specs.Running.{Helping, setting_by}
+use Rattle.line_editor.specs.LineRun.{Helping, setting_by}
 use Rattle.line_editor.specs.Values.{Setting}
-use Rattle.line_screen.specs.Calls.{Screen, ruler_of}
+use Rattle.line_screen.specs.ScreenCalls.{Screen, ruler_of}
 use Rattle.line_screen.specs.Input.{chars_of}
 use Rattle.line_screen.specs.KeyGrammar.{readings, coming_of}
 
@@ -77,11 +77,11 @@ abbrev pub setting_in : Given → List (List ℕ) → Setting
 setting_in g entries = setting_by (ruler_of g.screen) g.prompt g.helping entries g.config
 
 -- accepted lines are added to the history if the settings say so
-abbrev pub remembered : Bool → List (List ℕ) → Filed → Filed
-remembered adds lines history = if adds then filed_with_all history lines else history
+abbrev pub history_with_if : Bool → List (List ℕ) → Filed → Filed
+history_with_if adds lines history = if adds then history_with_lines history lines else history
 
 abbrev pub history_after : Bool → Result (List ℕ) ReadlineError → Filed → Filed
-history_after adds (Ok text) history = remembered adds (text ∷ []) history
+history_after adds (Ok text) history = history_with_if adds (text ∷ []) history
 history_after adds (Err e) history = history
 
 abbrev pub state_after : Bool → Result (List ℕ) ReadlineError → Ring → List ℕ → Coming

@@ -4,26 +4,26 @@ use Rattle.std.specs.List.{filter, flat_map}
 use Rattle.line_buffer.specs.Cells.{origin}
 use Rattle.line_buffer.specs.declared.layout.Layout.{Layout}
 use Rattle.line_buffer.specs.declared.layout.Position.{Position}
-use Rattle.line_editor.specs.Calls.{Marks}
-use Rattle.line_editor.specs.Meeting.{modal_seen}
-use Rattle.line_editor.specs.Redraws.{Asked, Redraw, info_text}
+use Rattle.line_editor.specs.RenderCalls.{Marks}
+use Rattle.line_editor.specs.ModalCommands.{modal_seen}
+use Rattle.line_editor.specs.Redraws.{RedrawCalls, Redraw, info_text}
 use Rattle.line_editor.specs.Redraws.Redraw.{Cleared}
 use Rattle.line_editor.specs.Sights.{Sight, sight, sight_with, sight_drawn, no_sight, sight_of, ended_sight, info_after}
-use Rattle.line_editor.specs.Steps.{asked}
+use Rattle.line_editor.specs.EditSteps.{calls_of_steps}
 use Rattle.line_editor.specs.Values.{EditStep, Value, Setting, shown_marks}
 use Rattle.line_editor.specs.Values.EditStep.{Draws as DrawStep}
-use Rattle.line_screen.specs.Calls.{Screen, bytes_of, ruler_of, styles_of}
+use Rattle.line_screen.specs.ScreenCalls.{Screen, bytes_of, ruler_of, styles_of}
 use Rattle.line_screen.specs.Chain.{View, Good, Picture, Shows, empty_view, finish_of, cursor_of, above}
 use Rattle.line_screen.specs.Display.{Display, Placed, meaning}
 use Rattle.line_screen.specs.Drawing.{row_break}
 use Rattle.line_screen.specs.Laws.{widths}
 use Rattle.line_screen.specs.Measure.{measure_of}
-use Rattle.keyline.specs.Events.{Event, Begins, Draws, Rests, Breaks, all_of, session}
+use Rattle.keyline.specs.Events.{SessionEvent, Begins, Draws, Rests, Breaks, all_of, session}
 use Rattle.keyline.specs.Sessions.{Given, LineGiven, SessionState}
 use Rattle.line_editor.specs.Commands.{Means, effect}
 use Rattle.line_editor.specs.LineScripts.{LineState, made_from, played_from, turn_script}
 use Rattle.line_editor.specs.declared.commands.Status.{Status}
-use Rattle.line_keys.specs.Answers.{Custom}
+use Rattle.line_keys.specs.CustomBindings.{Custom}
 use Rattle.line_keys.specs.declared.command.Cmd.{Cmd}
 use Rattle.line_keys.specs.declared.command.Cmd.TheVariants.{Interrupt}
 
@@ -104,11 +104,11 @@ above_after (r ∷ rs) over = above_after rs (above_by r over)
 
 -- ---- what is sent
 
-abbrev pub drawn_by : Screen → Layout → List EditStep → Asked
-drawn_by s l steps = asked (ruler_of s) l steps
+abbrev pub calls_by_screen : Screen → Layout → List EditStep → RedrawCalls
+calls_by_screen s l steps = calls_of_steps (ruler_of s) l steps
 
 abbrev pub bytes_for : Screen → Layout → List EditStep → List ℕ
-bytes_for s l steps = flat_map (bytes_of s) (drawn_by s l steps).calls
+bytes_for s l steps = flat_map (bytes_of s) (calls_by_screen s l steps).calls
 
 -- ---- the meaning of these bytes
 
@@ -129,14 +129,14 @@ abbrev pub blank : Screen → Face
 blank s = face s [] 0 [] no_sight
 
 -- a redraw for which these bytes were sent
-abbrev pub drawn_on : Face → Option Marks → Redraw → List (List ℕ) → Face
-drawn_on f marks redraw sent =
+abbrev pub face_with_drawing : Face → Option Marks → Redraw → List (List ℕ) → Face
+face_with_drawing f marks redraw sent =
     face f.screen (f.bytes ++ all_of sent) (top_drawn redraw f.top) (above_drawn redraw f.over)
     (sight_drawn f.seen marks redraw)
 
 -- a new row, and the next line below everything
-abbrev pub broken : Face → Face
-broken f = record f { bytes = f.bytes ++ row_break }
+abbrev pub face_on_new_row : Face → Face
+face_on_new_row f = record f { bytes = f.bytes ++ row_break }
 
 abbrev pub below : Face → Display → Face
 below f d = face f.screen f.bytes (next_top f.screen f.top f.seen) d.placed no_sight
@@ -177,16 +177,17 @@ pub record MomentShown (f : Face) (marks : Option Marks) (given : Bool) (prompt 
 -- they have a meaning. This holds as long as everything shown is within the rows that can be
 -- counted. Everything that an ended line left stays above the next one. A line on the same screen
 -- as the one before it continues below it; and each line can be shown from a blank display
-abbrev pub EachShown : Face → List Event → Type 0
+abbrev pub EachShown : Face → List SessionEvent → Type 0
 EachShown f [] = ⊤
 EachShown f (Begins s ∷ later) =
     (s ≡ f.screen → EachShown f later) × (IsScreen s → EachShown (blank s) later)
 EachShown f (Draws marks redraw sent ∷ later) =
-    let g = drawn_on f marks redraw sent in Low g.screen g.seen → HasMeaning g × EachShown g later
+    let g = face_with_drawing f marks redraw sent in Low g.screen g.seen → HasMeaning g
+    × EachShown g later
 EachShown f (Rests marks given prompt text place ∷ later) =
     MomentShown f marks given prompt text place × EachShown f later
 EachShown f (Breaks ∷ later) =
-    let g = broken f in (m : HasMeaning g) × EachShown (below g m.display) later
+    let g = face_on_new_row f in (m : HasMeaning g) × EachShown (below g m.display) later
 EachShown f (event ∷ later) = EachShown f later
 
 -- a session, with a prompt and columns for each line, from any display between two lines
@@ -202,7 +203,7 @@ Lead s x steps y =
     (bytes : List ℕ) (over : List Placed) (top : ℕ) (l : Layout)
     → DisplayHolds s bytes over top l x → LowAll s x steps
     → DisplayHolds s (bytes ++ bytes_for s l steps) (above_after steps over)
-    (top_after steps top) (drawn_by s l steps).layout y
+    (top_after steps top) (calls_by_screen s l steps).layout y
 
 -- an interruption leaves the cursor at the drawing's end
 abbrev pub sight_behind : Cmd → Sight → Sight

@@ -6,18 +6,19 @@ use Rattle.line_config.specs.declared.config.Config.{Config}
 use Rattle.line_config.specs.declared.device.Last.TheVariants.{End}
 use Rattle.line_config.specs.declared.errors.ReadlineError.{ReadlineError}
 use Rattle.line_help.specs.HistoryText.{text_to_save}
-use Rattle.line_keys.specs.Answers.{Custom}
-use Rattle.line_keys.specs.Coming.{unread}
+use Rattle.line_keys.specs.CustomBindings.{Custom}
+use Rattle.line_keys.specs.Coming.{bytes_to_come}
 use Rattle.line_record.specs.Ring.{new_ring}
 use Rattle.keyline.specs.Endings.{ending_of}
-use Rattle.keyline.specs.Plays.{loaded_from}
-use Rattle.keyline.specs.Program.{EditHelper, edit_helping, styled}
-use Rattle.keyline.specs.Events.{Course, bytes_drawn, left_to_come, lines_kept, lines_written, session}
-use Rattle.keyline.specs.Sessions.{Given, SessionState, each, given_of, lines_text, remembered, screen_by, state_over}
+use Rattle.keyline.specs.SessionRuns.{history_loaded_from}
+use Rattle.keyline.specs.Program.{EditHelper, edit_helping, prompt_with_spans}
+use Rattle.keyline.specs.Events.{Course, bytes_drawn, coming_after_events, lines_kept, lines_written, session}
+use Rattle.keyline.specs.Sessions.{Given, SessionState, each, given_of, lines_text, history_with_if, screen_by, state_over}
 use Rattle.keyline.specs.Shows.{EachShown, Face, IsAtRest}
 use Rattle.keyline.specs.declared.ending.Ending.{Ending}
 use Rattle.keyline.specs.declared.ending.Ending.TheVariants.{Eof, Interrupted, NotUtf8, PasteOutOfPlace, Handler}
 use Rattle.keyline.specs.declared.over_memory.Transcript.{Transcript}
+use Rattle.keyline.specs.declared.session.TheConstants.{KILL_RING_SIZE}
 
 -- ---- arguments
 
@@ -26,7 +27,7 @@ word_helper None = None
 word_helper (Some words) = Some (record {
   completer = Some words;
   hinter = tt;
-  highlighter = styled [];
+  highlighter = prompt_with_spans [];
   validator = None;
 })
 
@@ -37,7 +38,8 @@ given_by config words custom prompt columns =
 -- before the first line: the history's text is loaded, and no key is read
 abbrev pub start_by : Config → List ℕ → List ℕ → SessionState
 start_by config history keys =
-    state_over (new_ring 60) [] (loaded_from config (fresh_feed history End)) config.edit_mode keys End
+    state_over (new_ring KILL_RING_SIZE) []
+    (history_loaded_from config (fresh_feed history End)) config.edit_mode keys End
 
 -- ---- result
 
@@ -55,9 +57,9 @@ pub record IsTranscript (g : Given) (start : SessionState) (course : Course Read
   pub lines_are : t.lines.items ≡ lines_text (flat_map lines_written course.events)
   pub display_is : t.display.items ≡ flat_map bytes_drawn course.events
   pub history_is : t.history.items ≡ text_to_save
-      (remembered g.config.auto_add_history (flat_map lines_kept course.events) start.history)
+      (history_with_if g.config.auto_add_history (flat_map lines_kept course.events) start.history)
   pub ending_is : t.ending ≡ ending_of course.answer
-  pub unread_is : t.unread.items ≡ unread (left_to_come start.coming course.events)
+  pub unread_is : t.unread.items ≡ bytes_to_come (coming_after_events start.coming course.events)
 
 -- THE relation of a session over memory: it is the definition's, for more fuel than there are bytes
 -- of keys. On any display between two lines, such as a blank one, each moment is shown

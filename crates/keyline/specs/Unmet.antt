@@ -1,34 +1,34 @@
 -- Lines with the setting `modal_commands` off: nothing becomes of a command before it is done.
 use Rattle.std.specs.Prelude.{◌≡◌, ℕ, false, List}
-use Rattle.line_config.specs.Played.{Played}
-use Rattle.line_config.specs.Scripts.{Ends, Asks}
+use Rattle.script.specs.Played.{Played}
+use Rattle.script.specs.Scripts.{Ends, Asks}
 use Rattle.line_config.specs.declared.errors.ReadlineError.{ReadlineError}
 use Rattle.line_editor.specs.LineScripts.{Meets, LineAsk, LineScript, LineState, line_script, played_from}
 use Rattle.line_editor.specs.Redraws.{fresh}
-use Rattle.line_editor.specs.Running.{kept_first}
-use Rattle.keyline.specs.Events.{Event, asks_events, played_in}
+use Rattle.line_editor.specs.LineRun.{first_line_state}
+use Rattle.keyline.specs.Events.{SessionEvent, asks_events, line_play_in}
 use Rattle.keyline.specs.Sessions.{Given, SessionState, setting_in}
 
 -- the script without the requests that meet a command: each is done as it comes
-abbrev pub unmet : {X : Type 0} → LineScript X → LineScript X
-unmet (Ends x) = Ends x
-unmet (Asks (Meets cmd) later) = unmet (later cmd)
-unmet (Asks ask later) = Asks ask (λ x. unmet (later x))
+abbrev pub script_without_meeting : {X : Type 0} → LineScript X → LineScript X
+script_without_meeting (Ends x) = Ends x
+script_without_meeting (Asks (Meets cmd) later) = script_without_meeting (later cmd)
+script_without_meeting (Asks ask later) = Asks ask (λ x. script_without_meeting (later x))
 
 abbrev pub first_in : Given → SessionState → LineState
 first_in g x =
-    kept_first (setting_in g x.history.kept.entries) x.ring x.query x.coming
+    first_line_state (setting_in g x.history.kept.entries) x.ring x.query x.coming
 
-abbrev pub events_of : Given → SessionState → List LineAsk → List Event
+abbrev pub events_of : Given → SessionState → List LineAsk → List SessionEvent
 events_of g x asks = asks_events g.screen (setting_in g x.history.kept.entries)
     (fresh g.screen.mode) (first_in g x) asks
 
 abbrev pub LinePlayed : Type 0
 LinePlayed = Played LineAsk LineState ReadlineError (List ℕ)
 
-abbrev pub unmet_in : ℕ → Given → SessionState → LinePlayed
-unmet_in n g x = played_from (setting_in g x.history.kept.entries)
-    (unmet (line_script n g.custom)) (first_in g x)
+abbrev pub play_without_meeting : ℕ → Given → SessionState → LinePlayed
+play_without_meeting n g x = played_from (setting_in g x.history.kept.entries)
+    (script_without_meeting (line_script n g.custom)) (first_in g x)
 
 -- two lines have one outcome, one state and the same events, and the last query is as it was
 pub record GoAlike (g : Given) (x : SessionState) (p q : LinePlayed) : Type 0 where
@@ -41,4 +41,5 @@ pub record GoAlike (g : Given) (x : SessionState) (p q : LinePlayed) : Type 0 wh
 abbrev pub OffMeetsNone : Type 0
 OffMeetsNone =
     (n : ℕ) (g : Given) (x : SessionState)
-    → g.config.modal_commands ≡ false → GoAlike g x (played_in n g x) (unmet_in n g x)
+    → g.config.modal_commands ≡ false → GoAlike g x (line_play_in n g x)
+    (play_without_meeting n g x)

@@ -1,12 +1,12 @@
 //! Builds a session from its requested parts, with the program's defaults for the rest.
 
 ghost use Rattle.std.specs.Prelude.{◌≡◌, ◌≤◌, IfErr, IfOk, Some, [], false, true};
-ghost use Rattle.line_config.specs.Adapters.{IsUnread, IsUnused, gave, taken};
+ghost use Rattle.line_config.specs.Adapters.{IsUnread, IsUnused, gave, bytes_taken};
 ghost use Rattle.keyline.specs.Builders.{HasDefaults};
 ghost use Rattle.keyline.specs.Columns.{ColumnsBy};
 ghost use Rattle.keyline.specs.Program.{IsByEnvironment, profile_of, standard_config};
 ghost use Rattle.keyline.specs.Opened.{HasGiven, desk_of};
-ghost use Rattle.keyline.specs.Plays.{Opens, Unopens};
+ghost use Rattle.keyline.specs.SessionRuns.{Opens, Unopens};
 
 use crate::editor::LineEditor;
 use crate::program::{by_environment, with_profile};
@@ -16,7 +16,7 @@ use line_help::Helper;
 use line_keys::{Decides, EventHandler, EventMap};
 use std::alloc::Global;
 use std::env;
-use std::io::{self, Input, Read, Stderr, StdinLock, Write};
+use std::io::{self, Read, Stderr, Stdin, Write};
 use std::marker::Brand;
 
 /// The columns of a row if no other number is set.
@@ -54,8 +54,9 @@ pub type DefaultBuilder<'p, S, D> = SessionBuilder<
     Nowhere,
 >;
 
-/// Keys from standard input, of which `K` says what is assumed.
-pub type StandardKeys<K = Brand> = ReadSource<StdinLock<'static>, K>;
+/// Keys from standard input, of which `K` says what is assumed. They are read from `Stdin` itself:
+/// its lock has a buffer of 8 KB, which a source with its own would leave empty and only move.
+pub type StandardKeys<K = Brand> = ReadSource<Stdin, K>;
 
 /// A builder over the standard streams.
 pub type StandardBuilder<'p, K = Brand> = DefaultBuilder<'p, StandardKeys<K>, WriteSink<Stderr>>;
@@ -150,19 +151,17 @@ pub fn builder_over<'p, K: Foretold<R>, R: Read + Drop, E: Write + Drop>(
 ///
 /// `K` says what is assumed of standard input. A program that does without a proof of its own takes
 /// the default of `StandardEditor`.
-pub fn standard_builder<'p, K: Foretold<StdinLock<'static>>>(
-    rt: &HostRuntime,
-) -> StandardBuilder<'p, K>
+pub fn standard_builder<'p, K: Foretold<Stdin>>(rt: &HostRuntime) -> StandardBuilder<'p, K>
     ensures defaults { HasDefaults ⟦<SliceSource<'static> as Source>⟧.feed
         ⟦<Nowhere as Sink>⟧.has_failed ⟦<Nowhere as Sink>⟧.has_failed result.config result }
     ensures settings { IsByEnvironment (profile_of true standard_config) result.config }
     ensures columns { (2 ≤ result.columns) × (result.columns ≤ 1000) }
     ensures nothing_read { gave result.source ≡ [] }
-    ensures nothing_written { taken result.display ≡ [] }
+    ensures nothing_written { bytes_taken result.display ≡ [] }
     ensures keys { (⟦<StandardKeys<K> as Source>⟧.feed result.source).failed ≡ false }
     ensures display { ⟦<WriteSink<Stderr> as Sink>⟧.has_failed result.display ≡ false }
 {
-    builder_over(rt.alloc(), rt.stdin().reader(), rt.stderr())
+    builder_over(rt.alloc(), rt.stdin(), rt.stderr())
         .columns(environment_columns(rt))
         .config(by_environment(rt, with_profile(standard_config(), true)))
 }

@@ -1,16 +1,16 @@
 //! Reads, draws, stores and writes one line after the other.
 
-ghost use Rattle.std.specs.Prelude.{◌≡◌, ◌++◌, ◌∷◌, ◌&&◌, [], IfErr, IsTrue, OnOk, OnErr, string_bytes, Ok};
-ghost use Rattle.line_config.specs.declared.errors.ReadlineError.TheVariants.{Lines, Memory};
+ghost use Rattle.std.specs.Prelude.{◌≡◌, ◌++◌, ◌∷◌, ◌&&◌, [], IfErr, IfOk, IsTrue, MatchResult, OnOk, OnErr, string_bytes};
+ghost use Rattle.line_config.specs.declared.errors.ReadlineError.TheVariants.{Display, Lines, Memory};
 ghost use Rattle.line_config.specs.Sending.{Sends};
-ghost use Rattle.line_editor.specs.Courses.{breaks_after};
 ghost use Rattle.line_help.specs.History.{takes};
-ghost use Rattle.line_keys.specs.Coming.{made_of};
-ghost use Rattle.line_screen.specs.Calls.{screen_of, sink_of, NothingWaits};
-ghost use Rattle.keyline.specs.Playing.{Closes, work};
-ghost use Rattle.keyline.specs.Sessions.{given_of, line_text, remembered};
+ghost use Rattle.line_keys.specs.Coming.{answer_map};
+ghost use Rattle.line_screen.specs.ScreenCalls.{screen_of, sink_of, NothingWaits};
+ghost use Rattle.keyline.specs.SessionEffects.{Closes, DrawsEnd, RowIsCut, RowIsDrawn, breaks, work};
+ghost use Rattle.keyline.specs.Sessions.{given_of, line_text, history_with_if};
 
 use crate::boxed::Boxed;
+use crate::held::Held;
 use line_config::{Config, DeviceFailed, ReadlineError, Sink, Source};
 use line_editor::{Ran, Renderer, run};
 use line_help::{FileHistory, Helper, History};
@@ -31,24 +31,48 @@ fn send_line<L: Sink>(lines: &mut L, text: &str) -> Result<(), DeviceFailed>
     Ok(())
 }
 
-/// The same, with the error `Lines`.
-fn write_line<L: Sink>(lines: &mut L, text: &str) -> Result<(), ReadlineError>
-    ensures sends { Sends L.held L.has_failed (line_text text.now) lines.old lines.new
+/// Writes an accepted line, and returns it.
+fn hand_out<L: Sink>(lines: &mut L, text: String) -> Result<String, ReadlineError>
+    ensures sends { Sends L.held L.has_failed (line_text (string_bytes text)) lines.old lines.new
         result }
+    ensures same { IfOk result (λ line. string_bytes line ≡ string_bytes text) }
     ensures fault { IfErr result (λ e. e ≡ Lines) }
     ensures passes { NothingWaits L.waits L.has_failed lines.new }
 {
-    match send_line(lines, text) {
-        Ok(()) => Ok(()),
+    match send_line(lines, text.as_str()) {
+        Ok(()) => Ok(text),
         Err(_) => Err(ReadlineError::Lines),
     }
 }
 
 /// Whether the display gets a new row after this ending.
-fn breaks_after(why: ReadlineError) -> bool
-    ensures { result ≡ breaks_after why }
+fn breaks(outcome: &Result<String, ReadlineError>) -> bool
+    ensures { result ≡ breaks (answer_map string_bytes outcome.now) }
 {
-    matches!(why, ReadlineError::Eof | ReadlineError::Interrupted)
+    matches!(
+        outcome,
+        Ok(_) | Err(ReadlineError::Eof | ReadlineError::Interrupted)
+    )
+}
+
+/// Draws a new row, if the display gets one after this ending.
+fn break_row<D: Sink + Drop>(
+    outcome: &Result<String, ReadlineError>,
+    out: &mut ScreenRenderer<D>,
+) -> Result<(), ReadlineError>
+    ensures row { let breaks = breaks (answer_map string_bytes outcome.now) in
+        MatchResult result
+        (λ _. RowIsDrawn D.held D.has_failed breaks (sink_of out.old) (sink_of out.new))
+        (λ e. (e ≡ Display) × RowIsCut D.held D.has_failed breaks (sink_of out.old)
+        (sink_of out.new)) }
+    ensures screen { screen_of out.new ≡ screen_of out.old }
+    ensures passes { NothingWaits D.waits D.has_failed (sink_of out.old)
+        → NothingWaits D.waits D.has_failed (sink_of out.new) }
+{
+    if breaks(outcome) {
+        return out.write_and_flush("\r\n");
+    }
+    Ok(())
 }
 
 /// Adds a line to the history, if the settings say so.
@@ -58,7 +82,7 @@ fn remember(
     text: &str,
     adds: bool,
 ) -> Result<(), ReadlineError>
-    ensures added { OnOk result (history.new ≡ remembered adds (text.now ∷ []) history.old) }
+    ensures added { OnOk result (history.new ≡ history_with_if adds (text.now ∷ []) history.old) }
     ensures kept { OnErr result (history.new ≡ history.old) }
     ensures fault { IfErr result
         (λ e. (e ≡ Memory) × IsTrue (adds && takes history.old text.now)) }
@@ -69,29 +93,24 @@ fn remember(
     Ok(())
 }
 
-/// Draws the end of an accepted line, adds it to the history and writes it.
-fn keep<D: Sink + Drop, L: Sink>(
+/// Draws the end of a line, and adds an accepted line to the history, if the settings say so.
+pub fn end_line<D: Sink + Drop>(
     alloc: Global,
-    text: String,
+    outcome: &Result<String, ReadlineError>,
     adds: bool,
     out: &mut ScreenRenderer<D>,
     history: &mut FileHistory,
-    lines: &mut L,
-) -> Result<String, ReadlineError>
-    ensures closes { Closes D.held D.has_failed L.held L.has_failed adds (Ok (string_bytes text))
-        (work (sink_of out.old) lines.old history.old)
-        (work (sink_of out.new) lines.new history.new) (made_of string_bytes result) }
+) -> Result<(), ReadlineError>
+    ensures ends { DrawsEnd D.held D.has_failed adds (answer_map string_bytes outcome.now)
+        (sink_of out.old) (sink_of out.new) history.old history.new result }
     ensures screen { screen_of out.new ≡ screen_of out.old }
     ensures passes { NothingWaits D.waits D.has_failed (sink_of out.old)
         → NothingWaits D.waits D.has_failed (sink_of out.new) }
-    ensures passes_lines { NothingWaits L.waits L.has_failed lines.old
-        → NothingWaits L.waits L.has_failed lines.new }
 {
-    out.write_and_flush("\r\n")?;
-    remember(alloc, history, text.as_str(), adds)?;
-    match write_line(lines, text.as_str()) {
-        Ok(()) => Ok(text),
-        Err(why) => Err(why),
+    break_row(outcome, out)?;
+    match outcome {
+        Ok(text) => remember(alloc, history, text.as_str(), adds),
+        Err(_) => Ok(()),
     }
 }
 
@@ -105,23 +124,19 @@ fn close<D: Sink + Drop, L: Sink>(
     lines: &mut L,
 ) -> Result<String, ReadlineError>
     ensures closes { Closes D.held D.has_failed L.held L.has_failed adds
-        (made_of string_bytes outcome)
+        (answer_map string_bytes outcome)
         (work (sink_of out.old) lines.old history.old)
-        (work (sink_of out.new) lines.new history.new) (made_of string_bytes result) }
+        (work (sink_of out.new) lines.new history.new) (answer_map string_bytes result) }
     ensures screen { screen_of out.new ≡ screen_of out.old }
     ensures passes { NothingWaits D.waits D.has_failed (sink_of out.old)
         → NothingWaits D.waits D.has_failed (sink_of out.new) }
     ensures passes_lines { NothingWaits L.waits L.has_failed lines.old
         → NothingWaits L.waits L.has_failed lines.new }
 {
+    end_line(alloc, &outcome, adds, out, history)?;
     match outcome {
-        Ok(text) => keep(alloc, text, adds, out, history, lines),
-        Err(why) => {
-            if breaks_after(why) {
-                out.write_and_flush("\r\n")?;
-            }
-            Err(why)
-        }
+        Ok(text) => hand_out(lines, text),
+        Err(why) => Err(why),
     }
 }
 
@@ -131,7 +146,7 @@ pub struct Desk<S: Source, H, D: Sink, L: Sink> {
     /// Reads keys from the source, and stores what was read ahead.
     pub(crate) reader: KeyReader<Boxed<S>>,
     /// Draws on the display.
-    pub(crate) out: ScreenRenderer<Boxed<D>>,
+    pub(crate) out: Held<ScreenRenderer<Boxed<D>>>,
     pub(crate) helper: Option<H>,
     pub(crate) history: FileHistory,
     pub(crate) ring: KillRing,
@@ -141,43 +156,33 @@ pub struct Desk<S: Source, H, D: Sink, L: Sink> {
     pub(crate) lines: Boxed<L>,
 }
 
-/// A desk after a line, and the line's text or why there is none.
-pub(crate) struct DeskAfter<S: Source, H, D: Sink, L: Sink> {
-    pub(crate) desk: Desk<S, H, D, L>,
-    pub(crate) outcome: Result<String, ReadlineError>,
-}
-
 impl<S: Source + Drop, H: Helper + Drop, D: Sink + Drop, L: Sink + Drop> Desk<S, H, D, L> {
-    ghost use Rattle.line_keys.specs.Answers.{custom_of};
-    ghost use Rattle.line_editor.specs.Running.{helping_by};
+    ghost use Rattle.line_keys.specs.CustomBindings.{custom_of};
+    ghost use Rattle.line_editor.specs.LineRun.{helper_from_hooks};
     ghost use Rattle.keyline.specs.Desks.{TakesLine};
-    ghost use Rattle.keyline.specs.Known.{known_by};
+    ghost use Rattle.keyline.specs.KnownDevices.{devices_by};
 
     /// Reads a line and draws it. An accepted line is added to the history and written.
     pub(crate) fn one_line<B: Decides>(
-        self,
+        &mut self,
         alloc: Global,
         config: &Config,
         bindings: &EventMap<B>,
         prompt: &str,
-    ) -> DeskAfter<S, H, D, L>
+    ) -> Result<String, ReadlineError>
         ensures { let custom = custom_of bindings.now B.decides in
-            let helps = helping_by H.hint_of H.verdict_of H.completion_of H.update_of H.marks in
+            let helps = helper_from_hooks H.hint_of H.verdict_of H.completion_of H.update_of
+            H.marks in
             let given = given_of config.now custom prompt.now in
-            let known = known_by S.feed D.held D.waits D.has_failed L.held L.waits L.has_failed in
-            TakesLine known (given (screen_of self.out) (helps self.helper))
-            (given (screen_of result.desk.out) (helps result.desk.helper))
-            self result.desk (made_of string_bytes result.outcome) }
+            let known = devices_by S.feed D.held D.waits D.has_failed L.held L.waits L.has_failed in
+            TakesLine known (given (screen_of self.old.out) (helps self.old.helper))
+            (given (screen_of self.new.out) (helps self.new.helper))
+            self.old self.new (answer_map string_bytes result) }
     {
-        let Desk {
-            mut reader,
-            out,
-            helper,
-            mut history,
-            mut ring,
-            mut last_query,
-            mut lines,
-        } = self;
+        let slot = &mut self.out.value;
+        let Some(out) = slot.take() else {
+            unreachable!();
+        };
         let Ran {
             mut out,
             helper,
@@ -185,27 +190,21 @@ impl<S: Source + Drop, H: Helper + Drop, D: Sink + Drop, L: Sink + Drop> Desk<S,
             ..
         } = run(
             alloc,
-            &mut reader,
+            &mut self.reader,
             out,
             prompt,
-            helper,
-            &history,
+            self.helper.take(),
+            &self.history,
             config,
             bindings,
-            &mut ring,
-            &mut last_query,
+            &mut self.ring,
+            &mut self.last_query,
         );
         let adds = config.auto_add_history();
-        let outcome = close(alloc, outcome, adds, &mut out, &mut history, &mut lines);
-        let desk = Desk {
-            reader,
-            out,
-            helper,
-            history,
-            ring,
-            last_query,
-            lines,
-        };
-        DeskAfter { desk, outcome }
+        let (history, lines) = (&mut self.history, &mut self.lines);
+        let outcome = close(alloc, outcome, adds, &mut out, history, lines);
+        *slot = Some(out);
+        self.helper = helper;
+        outcome
     }
 }

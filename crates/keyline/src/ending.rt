@@ -1,7 +1,7 @@
 //! How a session ends.
 
 ghost use Rattle.std.specs.Prelude.{◌≡◌};
-ghost use Rattle.keyline.specs.Endings.{status_of, ending_text};
+ghost use Rattle.keyline.specs.Endings.{status_of, error_of, ending_text};
 
 use line_config::ReadlineError;
 
@@ -47,22 +47,29 @@ impl Ending {
         }
     }
 
-    /// The message of the ending.
+    /// The message of the ending: that of its error.
     pub fn text(self) -> &'static str
         ensures { result.now ≡ ending_text self }
     {
+        self.error().text()
+    }
+
+    /// The error that has this ending.
+    fn error(self) -> ReadlineError
+        ensures { result ≡ error_of self }
+    {
         match self {
-            Ending::Eof => "EOF",
-            Ending::Interrupted => "Interrupted",
-            Ending::NotUtf8 => "input is not UTF-8",
-            Ending::PasteOutOfPlace => "paste out of place",
-            Ending::Reader => "input failed",
-            Ending::Display => "display failed",
-            Ending::Lines => "line output failed",
-            Ending::HistoryText => "history text failed",
-            Ending::Helper => "helper failed",
-            Ending::Handler => "handler failed",
-            Ending::Memory => "out of memory",
+            Ending::Eof => ReadlineError::Eof,
+            Ending::Interrupted => ReadlineError::Interrupted,
+            Ending::NotUtf8 => ReadlineError::NotUtf8,
+            Ending::PasteOutOfPlace => ReadlineError::PasteOutOfPlace,
+            Ending::Reader => ReadlineError::Reader,
+            Ending::Display => ReadlineError::Display,
+            Ending::Lines => ReadlineError::Lines,
+            Ending::HistoryText => ReadlineError::HistoryText,
+            Ending::Helper => ReadlineError::Helper,
+            Ending::Handler => ReadlineError::Handler,
+            Ending::Memory => ReadlineError::Memory,
         }
     }
 }

@@ -1,7 +1,7 @@
 //! The program's invocation: its options, and whether it has more than the default profile.
 
 ghost use Rattle.std.specs.Prelude.{◌≡◌, true, IfErr, IfOk, IfSome, ◌<◌, ◌++◌, length, map, position, remove};
-ghost use Rattle.keyline.specs.Invocations.{InvokesTo, IsAnswer, IsStyled, decides, extended_among, extended_at, for_options};
+ghost use Rattle.keyline.specs.Invocations.{InvokesTo, IsAnswer, IsStyled, decides, place_of_extended, place_of_extended_in, for_options};
 ghost use Rattle.keyline.specs.Options.{HasColumns};
 
 use crate::options::{Options, Parsed, parse};
@@ -82,7 +82,7 @@ fn styled_if(alloc: Global, extended: bool, options: Options) -> Result<Options,
 
 // The place of `--extended` in a command line.
 fn extended_at<S: AsStr>(words: &[S]) -> Option<usize>
-    ensures value { result ≡ extended_at (map S.text words.now) }
+    ensures value { result ≡ place_of_extended_in (map S.text words.now) }
     ensures bound { IfSome result (λ place. place < length words.now) }
 {
     match words {
@@ -93,7 +93,7 @@ fn extended_at<S: AsStr>(words: &[S]) -> Option<usize>
 
 // Its place in words, if it stands before any `--`.
 fn extended_among<S: AsStr>(words: &[S]) -> Option<usize>
-    ensures value { result ≡ extended_among (map S.text words.now) }
+    ensures value { result ≡ place_of_extended (map S.text words.now) }
     ensures bound { IfSome result (λ place. place < length words.now) }
 {
     let Some(place) = first_that_decides(words) else {

@@ -3,21 +3,21 @@
 
 ghost use Rattle.std.specs.Prelude.{IsTrue};
 ghost use Rattle.line_config.specs.Feed.{AlwaysTold};
-ghost use Rattle.line_editor.specs.Running.{helping_by};
+ghost use Rattle.line_editor.specs.LineRun.{helper_from_hooks};
 ghost use Rattle.keyline.specs.SessionLaws.{CutsAreFree, LinesBegin, SessionsBegin, ColumnsAreFree, LineColumnsAreFree, LastAreKept};
 ghost use Rattle.keyline.specs.Desks.{TakesLines};
 ghost use Rattle.keyline.specs.Fuel.{BytesAreEnough, FuelIsFree};
-ghost use Rattle.keyline.specs.Known.{known_by};
+ghost use Rattle.keyline.specs.KnownDevices.{devices_by};
 ghost use Rattle.keyline.specs.OneByte.{LayoutsTell, OneByte};
 ghost use Rattle.keyline.specs.Pasting.{PastesAreAccepted, PastedLinesAreAccepted};
-ghost use Rattle.keyline.specs.Plays.{RunsSession};
+ghost use Rattle.keyline.specs.SessionRuns.{RunsSession};
 ghost use Rattle.keyline.specs.Events.{LinesInOrder};
 ghost use Rattle.keyline.specs.Opened.{desk_of, given_in, prompt_of, text_sink};
 ghost use Rattle.keyline.specs.Unmet.{OffMeetsNone};
 ghost use Rattle.keyline.specs.Shows.{BlankIsAtRest, SessionsShow, CommandsShow, TurnsShow};
 
 use crate::prompter::Prompter;
-use crate::session::{Ended, LineRead, Session};
+use crate::session::{Ended, Session};
 use line_config::{ReadlineError, Sink, Source};
 use line_help::Helper;
 use line_keys::Decides;
@@ -36,8 +36,8 @@ pub fn always_told<
     requires { AlwaysTold S.feed }
     ensures told { IsTrue (S.feed result.source).told }
     ensures plays { let helps =
-        helping_by H.hint_of H.verdict_of H.completion_of H.update_of H.marks in
-        let known = known_by S.feed D.held D.waits D.has_failed L.held L.waits L.has_failed in
+        helper_from_hooks H.hint_of H.verdict_of H.completion_of H.update_of H.marks in
+        let known = devices_by S.feed D.held D.waits D.has_failed L.held L.waits L.has_failed in
         RunsSession known T.held T.has_failed
         (given_in B.decides helps (prompt_of session) session)
         (desk_of session) (text_sink session) result }
@@ -58,8 +58,8 @@ pub fn lines<
     P: Prompter + Drop,
 >(session: Session<S, H, D, L, T, B>, prompter: P) -> (Session<S, H, D, L, T, B>, ReadlineError)
     ensures { let helps =
-        helping_by H.hint_of H.verdict_of H.completion_of H.update_of H.marks in
-        let known = known_by S.feed D.held D.waits D.has_failed L.held L.waits L.has_failed in
+        helper_from_hooks H.hint_of H.verdict_of H.completion_of H.update_of H.marks in
+        let known = devices_by S.feed D.held D.waits D.has_failed L.held L.waits L.has_failed in
         TakesLines known (given_in B.decides helps (prompt_of session) session) (P.lines prompter)
         (desk_of session) (desk_of result.0) result.1 }
 {
@@ -67,12 +67,7 @@ pub fn lines<
     let mut prompter = prompter;
     loop {
         session.set_columns(prompter.columns());
-        let LineRead {
-            session: next,
-            line,
-        } = session.read_line(prompter.prompt());
-        session = next;
-        match line {
+        match session.read_line(prompter.prompt()) {
             Ok(_) => prompter.advance(),
             Err(why) => return (session, why),
         }

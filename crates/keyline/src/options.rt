@@ -6,7 +6,7 @@ ghost use Rattle.clap.specs.Words.{app_of, first_of, found_of, kind_of, new_app}
 ghost use Rattle.clap.specs.Words.{rows_of, rule_of};
 ghost use Rattle.keyline.specs.Options.{ParsesTo, AreColumns, Chooses, ChoosesNone, TakesOptions};
 ghost use Rattle.keyline.specs.Options.{HasColumns, IsMode};
-ghost use Rattle.keyline.specs.Options.{Says, command_line, defaulted, flag, text_option};
+ghost use Rattle.keyline.specs.Options.{Says, command_line, text_option_with_default, flag, text_option};
 
 use crate::help::keys;
 use clap::error::ErrorKind;
@@ -146,7 +146,7 @@ fn defaulted<'a>(
     text: &'a str,
     help: &'a str,
 ) -> Arg<'a>
-    ensures rule { rule_of result ≡ defaulted id.entry.now text.entry.now }
+    ensures rule { rule_of result ≡ text_option_with_default id.entry.now text.entry.now }
     ensures local { result.global ≡ false }
 {
     Arg::new(alloc, id)

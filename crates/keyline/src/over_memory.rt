@@ -4,10 +4,10 @@ ghost use Rattle.std.specs.Prelude.{◌≡◌, ◌⊎◌, ◌≤◌, [], Err, If
 ghost use Rattle.line_config.specs.Feed.{fresh_feed};
 ghost use Rattle.line_config.specs.declared.device.Last.TheVariants.{End};
 ghost use Rattle.line_config.specs.declared.errors.ReadlineError.TheVariants.{Memory};
-ghost use Rattle.line_keys.specs.Answers.{custom_of};
+ghost use Rattle.line_keys.specs.CustomBindings.{custom_of};
 ghost use Rattle.line_screen.specs.Reading.{with_kept};
 ghost use Rattle.keyline.specs.Program.{word_texts};
-ghost use Rattle.keyline.specs.Plays.{loads};
+ghost use Rattle.keyline.specs.SessionRuns.{loads};
 ghost use Rattle.keyline.specs.Transcripts.{Transcribes, given_by, is_cut, start_by, word_helper};
 
 use crate::edit_helper::EditHelper;

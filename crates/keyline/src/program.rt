@@ -1,9 +1,9 @@
 //! A session with the program's options.
 
 ghost use Rattle.std.specs.Prelude.{◌≡◌, ◌≤◌, IfErr, IfOk, [], false, if◌then◌else◌};
-ghost use Rattle.keyline.specs.Known.{known_by};
-ghost use Rattle.keyline.specs.Program.{EditsBy, PlaysOver, UnopensOver, IsByEnvironment, config_of, had_by, has_text, helper_of, invoked_config, profile_of, uncoloured, word_texts};
-ghost use Rattle.keyline.specs.Plays.{Unopens};
+ghost use Rattle.keyline.specs.KnownDevices.{devices_by};
+ghost use Rattle.keyline.specs.Program.{EditsBy, PlaysOver, UnopensOver, IsByEnvironment, config_of, had_by, has_text, helper_of, invoked_config, profile_of, config_without_colours, word_texts};
+ghost use Rattle.keyline.specs.SessionRuns.{Unopens};
 
 use crate::edit_helper::EditHelper;
 use crate::invocation::Invocation;
@@ -39,7 +39,7 @@ pub fn invoked_config(invocation: &Invocation) -> Config
 }
 
 /// The same settings, and what the default profile leaves out if it is on: the commands that go on
-/// over several keys, colours, and tabs drawn as blanks.
+/// over several keys, colours, tabs drawn as blanks, and drawings in part.
 pub(crate) fn with_profile(config: Config, extended: bool) -> Config
     ensures { result ≡ profile_of extended config }
 {
@@ -47,6 +47,7 @@ pub(crate) fn with_profile(config: Config, extended: bool) -> Config
     config.set_modal_commands(extended);
     config.set_draw_colours(extended);
     config.set_draw_tabs(extended);
+    config.set_partial_redraw(extended);
     config.set_completion_type(if extended {
         CompletionType::List
     } else {
@@ -65,7 +66,7 @@ pub fn by_environment(rt: &HostRuntime, config: Config) -> Config
 
 /// The same settings, but without colours if this is the length of a text.
 fn coloured_by(config: Config, len: Result<usize, FillError>) -> Config
-    ensures { result ≡ if has_text len then uncoloured config else config }
+    ensures { result ≡ if has_text len then config_without_colours config else config }
 {
     let mut config = config;
     if matches!(len, Ok(1..) | Err(FillError::TooLong)) {
@@ -123,7 +124,8 @@ pub fn edit<F: Source + Drop, S: Source + Drop, D: Sink + Drop, L: Sink + Drop, 
     requires lines { L.has_failed lines ≡ false }
     requires text { T.has_failed text ≡ false }
     ensures edits { IfOk result (EditsBy F.feed
-        (known_by S.feed D.held D.waits D.has_failed L.held L.waits L.has_failed) T.held T.has_failed
+        (devices_by S.feed D.held D.waits D.has_failed L.held L.waits L.has_failed) T.held
+        T.has_failed
         (config_of options.now) options.now (word_texts words) history source display lines text) }
     ensures refused { IfErr result (Unopens F.feed (config_of options.now) history source display
         lines text) }
@@ -166,7 +168,8 @@ pub fn edit_with<
     requires lines { L.has_failed lines ≡ false }
     requires text { T.has_failed text ≡ false }
     ensures edits { IfOk result (EditsBy F.feed
-        (known_by S.feed D.held D.waits D.has_failed L.held L.waits L.has_failed) T.held T.has_failed
+        (devices_by S.feed D.held D.waits D.has_failed L.held L.waits L.has_failed) T.held
+        T.has_failed
         config options.now (word_texts words) history source display lines text) }
     ensures refused { IfErr result (Unopens F.feed config history source display lines text) }
 {
@@ -210,7 +213,7 @@ pub fn play<'a, K: Foretold<R>, R: Read + Drop, E: Write + Drop, W: Write + Drop
     Unopened<SliceSource<'a>, ReadSource<R, K>, WriteSink<E>, WriteSink<W>, VecSink>,
 >
     requires { (2 ≤ options.now.columns) × (options.now.columns ≤ 1000) }
-    ensures plays { let known = known_by ⟦<ReadSource<R, K> as Source>⟧.feed
+    ensures plays { let known = devices_by ⟦<ReadSource<R, K> as Source>⟧.feed
         ⟦<WriteSink<E> as Sink>⟧.held ⟦<WriteSink<E> as Sink>⟧.waits
         ⟦<WriteSink<E> as Sink>⟧.has_failed
         ⟦<WriteSink<W> as Sink>⟧.held ⟦<WriteSink<W> as Sink>⟧.waits
@@ -248,7 +251,7 @@ pub fn play_with<'a, K: Foretold<R>, R: Read + Drop, E: Write + Drop, W: Write +
     Unopened<SliceSource<'a>, ReadSource<R, K>, WriteSink<E>, WriteSink<W>, VecSink>,
 >
     requires { (2 ≤ options.now.columns) × (options.now.columns ≤ 1000) }
-    ensures plays { let known = known_by ⟦<ReadSource<R, K> as Source>⟧.feed
+    ensures plays { let known = devices_by ⟦<ReadSource<R, K> as Source>⟧.feed
         ⟦<WriteSink<E> as Sink>⟧.held ⟦<WriteSink<E> as Sink>⟧.waits
         ⟦<WriteSink<E> as Sink>⟧.has_failed
         ⟦<WriteSink<W> as Sink>⟧.held ⟦<WriteSink<W> as Sink>⟧.waits

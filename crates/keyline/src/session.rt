@@ -3,16 +3,17 @@
 ghost use Rattle.std.specs.Prelude.{◌≡◌, ◌≤◌, IfErr, IfOk, IsTrue, OnErr, OnOk, false, string_bytes};
 ghost use Rattle.line_config.specs.declared.errors.ReadlineError.TheVariants.{Memory};
 ghost use Rattle.line_help.specs.History.{takes};
-ghost use Rattle.line_keys.specs.Coming.{made_of};
-ghost use Rattle.line_editor.specs.Running.{helping_by};
-ghost use Rattle.keyline.specs.Known.{known_by};
-ghost use Rattle.keyline.specs.Playing.{Saves, ending_after};
-ghost use Rattle.keyline.specs.Opened.{HasGiven, ReadsNext, SetsColours, SetsColumns, desk_of, given_in, history_of, prompt_of, text_sink, with_entry};
-ghost use Rattle.keyline.specs.Plays.{BeginsSession, Finishes, LoadRefused, Loaded, Opens, Remains, RunsSession, Unopens, text_to_save};
+ghost use Rattle.line_keys.specs.Coming.{answer_map};
+ghost use Rattle.line_editor.specs.LineRun.{helper_from_hooks};
+ghost use Rattle.keyline.specs.KnownDevices.{devices_by};
+ghost use Rattle.keyline.specs.SessionEffects.{Saves, ending_after};
+ghost use Rattle.keyline.specs.Opened.{HasGiven, ReadsNext, SetsColours, SetsColumns, desk_of, given_in, history_of, prompt_of, text_sink, with_entry, with_helper};
+ghost use Rattle.keyline.specs.SessionRuns.{BeginsSession, Finishes, LoadRefused, Loaded, Opens, Remains, RunsSession, Unopens, text_to_save};
 
 use crate::boxed::Devices;
-use crate::desk::{Desk, DeskAfter};
+use crate::desk::Desk;
 use crate::ending::Ending;
+use crate::held::Held;
 use line_config::{Config, ReadlineError, Sink, Source, VecSink};
 use line_help::{FileHistory, Helper, History};
 use line_keys::{Decides, EventHandler, EventMap};
@@ -22,7 +23,7 @@ use std::alloc::Global;
 use std::{fmt, mem};
 
 /// The number of slots of a session's kill ring.
-const KILL_RING_SIZE: usize = 60;
+pub const KILL_RING_SIZE: usize = 60;
 
 /// An open session. It reads keys from a source, draws on a display, writes accepted lines to a
 /// sink, and adds them to a history whose text goes to another sink.
@@ -126,13 +127,6 @@ impl<S, D, L> Ended<S, D, L, VecSink> {
             self.text.bytes()
         }
     }
-}
-
-/// A session after a line, and the line that was accepted, or why there is none.
-#[derive(Drop)]
-pub struct LineRead<S: Source, H, D: Sink, L: Sink, T: Sink, B: Decides = EventHandler> {
-    pub session: Session<S, H, D, L, T, B>,
-    pub line: Result<String, ReadlineError>,
 }
 
 /// A new history, with the text of a source loaded into it.
@@ -272,7 +266,7 @@ where
         out.set_tab_stop(config.drawn_tab_stop());
         let desk = Desk {
             reader: KeyReader::new(source, config.edit_mode()),
-            out,
+            out: Held::new(out),
             helper,
             history: loaded,
             ring,
@@ -296,33 +290,15 @@ where
     /// begins with the same ring, last search and history. After `Eof` it ends again at once, unless
     /// the source has more to give.
     #[inline(never)]
-    pub fn read_line(self, prompt: &str) -> LineRead<S, H, D, L, T, B>
+    pub fn read_line(&mut self, prompt: &str) -> Result<String, ReadlineError>
         ensures { let helps =
-            helping_by H.hint_of H.verdict_of H.completion_of H.update_of H.marks in
-            let known = known_by S.feed D.held D.waits D.has_failed L.held L.waits L.has_failed in
-            ReadsNext known (given_in B.decides helps prompt.now) self result.session
-            (made_of string_bytes result.line) }
+            helper_from_hooks H.hint_of H.verdict_of H.completion_of H.update_of H.marks in
+            let known = devices_by S.feed D.held D.waits D.has_failed L.held L.waits L.has_failed in
+            ReadsNext known (given_in B.decides helps prompt.now) self.old self.new
+            (answer_map string_bytes result) }
     {
-        let Session {
-            alloc,
-            config,
-            bindings,
-            prompt: own,
-            desk,
-            text,
-        } = self;
-        let DeskAfter { desk, outcome } = desk.one_line(alloc, &config, &bindings, prompt);
-        LineRead {
-            session: Session {
-                alloc,
-                config,
-                bindings,
-                prompt: own,
-                desk,
-                text,
-            },
-            line: outcome,
-        }
+        let (config, bindings) = (&self.config, &self.bindings);
+        self.desk.one_line(self.alloc, config, bindings, prompt)
     }
 
     /// Sets the number of columns of the display's rows for further lines. Nothing is drawn.
@@ -330,7 +306,10 @@ where
         requires { (2 ≤ columns) × (columns ≤ 1000) }
         ensures { SetsColumns columns self.old self.new }
     {
-        self.desk.out.set_columns(columns);
+        match &mut self.desk.out.value {
+            Some(out) => out.set_columns(columns),
+            None => unreachable!(),
+        }
     }
 
     /// Sets whether the helper's styles are drawn in further lines. Nothing is drawn. At first they
@@ -338,7 +317,10 @@ where
     pub fn set_colours(&mut self, colours: bool)
         ensures { SetsColours colours self.old self.new }
     {
-        self.desk.out.set_colours(colours);
+        match &mut self.desk.out.value {
+            Some(out) => out.set_colours(colours),
+            None => unreachable!(),
+        }
     }
 
     /// Adds a line to the history, whatever the settings say about accepted lines, and returns
@@ -351,6 +333,13 @@ where
             (λ e. (e ≡ Memory) × IsTrue (takes (history_of self.old) line.now)) }
     {
         self.desk.history.add(self.alloc, line)
+    }
+
+    /// Sets the helper from the next line on.
+    pub fn set_helper(&mut self, helper: Option<H>)
+        ensures { self.new ≡ with_helper helper self.old }
+    {
+        self.desk.helper = helper;
     }
 
     /// The history so far.
@@ -382,7 +371,7 @@ where
             history,
             source: source.into_inner(),
             ahead,
-            display: out.into_sink().into_inner(),
+            display: out.into_inner().into_sink().into_inner(),
             lines: lines.into_inner(),
             text,
         }
@@ -392,8 +381,10 @@ where
     /// once, whatever the ending.
     #[inline(never)]
     pub fn run(self) -> Ended<S, D, L, T>
-        ensures { let known = known_by S.feed D.held D.waits D.has_failed L.held L.waits L.has_failed in
-            let helps = helping_by H.hint_of H.verdict_of H.completion_of H.update_of H.marks in
+        ensures { let known = devices_by S.feed D.held D.waits D.has_failed L.held L.waits
+            L.has_failed in
+            let helps = helper_from_hooks H.hint_of H.verdict_of H.completion_of H.update_of
+            H.marks in
             RunsSession known T.held T.has_failed (given_in B.decides helps (prompt_of self) self)
             (desk_of self) (text_sink self) result }
     {
@@ -401,12 +392,7 @@ where
         let empty = String::new(session.alloc);
         let prompt = mem::replace(&mut session.prompt, empty);
         loop {
-            let LineRead {
-                session: next,
-                line,
-            } = session.read_line(prompt.as_str());
-            session = next;
-            match line {
+            match session.read_line(prompt.as_str()) {
                 Ok(_) => {}
                 Err(why) => return session.finish(why),
             }

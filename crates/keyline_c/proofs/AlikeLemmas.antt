@@ -9,9 +9,9 @@ use Rattle.line_buffer.specs.declared.layout.Position.{Position}
 use Rattle.line_config.specs.declared.memory.VecSink.{VecSink}
 use Rattle.line_editor.specs.Redraws.{info_text}
 use Rattle.line_editor.specs.Sights.{Sight}
-use Rattle.line_screen.specs.Calls.{Screen, styles_of}
+use Rattle.line_screen.specs.ScreenCalls.{Screen, styles_of}
 use Rattle.line_screen.specs.Chain.{Picture, Shows, above, cells_of, cursor_of, down, shown_items, styled_items}
-use Rattle.line_screen.specs.Display.{Cell, Display, Placed, cell_at, meaning, placed_at, right, style_at}
+use Rattle.line_screen.specs.Display.{Cell, Display, Placed, cell_at, meaning, cluster_placed_at, right, style_at}
 use Rattle.line_screen.specs.Display.Cell.{Head, Tail}
 use Rattle.line_screen.specs.Drawing.{DrawnItem, Widths, after_one, blanks, lay_one, lay_run, place_after, text_items}
 use Rattle.line_screen.specs.Drawing.DrawnItem.{Cluster, Letter, NewRow, Tab}
@@ -20,7 +20,7 @@ use Rattle.line_screen.specs.StyledTexts.{StyledItem, lay}
 use Rattle.line_screen.proofs.LawLemmas.{cells_are_shown}
 use Rattle.line_screen.proofs.Leading.{shown_styled}
 use Rattle.keyline.specs.Shows.{picture}
-use Rattle.keyline_c.specs.Laws.{LookAlike, SameLinesLookAlike, StyledAlike, last_drawing, seen_in}
+use Rattle.keyline_c.specs.Laws.{LookAlike, SameLinesLookAlike, StyledAlike, last_drawing, sight_in}
 use Rattle.keyline_c.proofs.LastLemmas.{ShownBy, last_shows, line_shown, place_shown}
 
 -- ---- cells without styles
@@ -35,7 +35,7 @@ bare_lay columns (item ∷ items) at = lay_one columns [] item at ++ bare_lay co
 
 run_bare : (style cs : List ℕ) (at : Position) → map bare (lay_run style cs at) ≡ lay_run [] cs at
 run_bare style [] at = refl
-run_bare style (c ∷ cs) at = ap (λ ps. placed_at [] (c ∷ []) 1 at ∷ ps) (run_bare style cs (right 1 at))
+run_bare style (c ∷ cs) at = ap (λ ps. cluster_placed_at [] (c ∷ []) 1 at ∷ ps) (run_bare style cs (right 1 at))
 
 one_bare : (columns : ℕ) (style : List ℕ) (item : DrawnItem) (at : Position) → map bare (lay_one columns style item at) ≡ lay_one columns [] item at
 one_bare columns style NewRow at = refl
@@ -173,8 +173,8 @@ module _ (held : VecSink → List ℕ) where
   pub same_lines_look_alike : SameLinesLookAlike held
   same_lines_look_alike n g x y left other before over top d e w v same rest dx dy =
       let s = g.screen in
-      let seen : Sight = seen_in n g x in
-      let too : Sight = seen_in n g y in
+      let seen : Sight = sight_in n g x in
+      let too : Sight = sight_in n g y in
       let one = last_shows held n g x left before over top w rest in
       let two = last_shows held n g y other before over top v rest in
       let Alike : Display → Display → Type 0 = λ a b. LookAlike a b × (seen.spans ≡ too.spans → StyledAlike a b) in

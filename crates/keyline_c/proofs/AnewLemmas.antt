@@ -1,6 +1,6 @@
 -- From the last whole drawing on, the bytes of a line's steps show by themselves what all of them show.
 use Rattle.std.proofs.Common.{◌≡◌, ◌⊎◌, inl, inr, ℕ, zero, suc, ◌+◌, ◌-◌, ◌/◌, ◌%◌, ◌<◌, ◌≤◌, ◌==◌, nat_lt, nat_le, Bool, true, false, not, ◌&&◌, ◌||◌, List, [], ◌∷◌, ◌++◌, take, decimal, Option, None, Some, refl, sym, ap, ◌∙◌, subst, append_assoc, append-nil, arith, true≢false, if◌then◌else◌}
-use Rattle.std.specs.Prelude.{⊤, codes}
+use Rattle.std.specs.Prelude.{⊤, codes, encode_utf8}
 use Rattle.std.specs.Fmt.{digits, digit_glyph, digits_onto}
 use Rattle.std.specs.List.{flat_map, list_all}
 use Rattle.std.specs.Option.{option_or}
@@ -15,19 +15,19 @@ use Rattle.line_buffer.specs.declared.layout.Position.{Position}
 use Rattle.line_buffer.specs.declared.layout.TabStops.{TabStops}
 use Rattle.line_config.specs.declared.settings.BellStyle.{BellStyle}
 use Rattle.line_config.specs.declared.settings.BellStyle.TheVariants as Bell
-use Rattle.line_editor.specs.Calls.{Marks}
-use Rattle.line_editor.specs.Redraws.{info_text, fresh, full, nothing_asked, moved_by_call, typed_short, taken_short, may_type, may_take}
-use Rattle.line_editor.specs.Redraws.Redraw.{Drawn, Moved, Typed, Taken, Bared, ToEnd, Beeped, Cleared}
-use Rattle.line_editor.specs.Sights.{Sight, sight_with, sight_as, no_sight, sight, sight_all, spans_by, Fits, FitsAll, TypedFits}
-use Rattle.line_editor.specs.Steps.{one}
+use Rattle.line_editor.specs.RenderCalls.{Marks}
+use Rattle.line_editor.specs.Redraws.{info_text, fresh, full, nothing_asked, move_call, char_call, erase_call, put_in_short, taken_out_short, may_type, may_take, may_put_in, may_take_out}
+use Rattle.line_editor.specs.Redraws.Redraw.{Drawn, Moved, Typed, Taken, PutIn, TakenOut, Bared, ToEnd, Beeped, Cleared}
+use Rattle.line_editor.specs.Sights.{Sight, sight_with, sight_as, no_sight, sight, sight_all, spans_by, Fits, FitsAll, TypedFits, PutInFits}
+use Rattle.line_editor.specs.EditSteps.{one}
 use Rattle.line_editor.specs.Values.{EditStep, Value, shown_marks}
 use Rattle.line_editor.specs.Values.EditStep.{Draws, Helped, Edits, TakesBack, Takes}
-use Rattle.line_screen.specs.Calls.{Screen, bell_bytes, bytes_of, ruler_of, styles_by}
+use Rattle.line_screen.specs.ScreenCalls.{Screen, bell_bytes, bytes_of, ruler_of, styles_by}
 use Rattle.line_screen.specs.Chain.{Good, empty_view}
-use Rattle.line_screen.specs.Colours.{AreStyles, PaintedItem, Styles, all_unpainted, is_style, painted, painted_drawing, painted_one, painted_shown, painted_text, shaded_break, style_bytes, unpainted}
+use Rattle.line_screen.specs.Colours.{AreStyles, PaintedItem, Styles, all_unpainted, is_style, bytes_of_all_painted, painted_drawing, bytes_of_painted, bytes_of_painted_texts, painted_text, shaded_break, style_bytes, items_without_style}
 use Rattle.line_screen.specs.Colours.PaintedItem.{Bare as Plain, Begins, Shaded, Fenced, Padded}
 use Rattle.line_screen.specs.Display.{Placed, is_parameter, is_text}
-use Rattle.line_screen.specs.Drawing.{DrawnItem, Widths, blanks, text_items, no_style, break_if, break_unless, fenced, fitted_col, sent_one, sent, col_after_one, col_after, control_sequence, erase_to_row_end, row_move, col_move, move_bytes, shown_text, drawing}
+use Rattle.line_screen.specs.Drawing.{DrawnItem, Widths, blanks, text_items, no_style, break_if, break_unless, cluster_in_fence, fitted_col, bytes_of_item, bytes_of_items, col_after_one, col_after, control_sequence, erase_to_row_end, open_cell, take_cells_out, row_move, col_move, move_bytes, shown_text, drawing}
 use Rattle.line_screen.specs.Drawing.DrawnItem.{NewRow, Letter, Cluster, Tab}
 use Rattle.line_screen.specs.Laws.{widths}
 use Rattle.line_screen.proofs.Draws.{AllFit, AllPainted, Fits as ItemFits, FitsPainted, list_all_since}
@@ -35,7 +35,7 @@ use Rattle.line_screen.proofs.Fitting.{items_fit}
 use Rattle.line_screen.proofs.LawLemmas.{start_is_empty}
 use Rattle.line_screen.proofs.StyleLemmas.{styles_are}
 use Rattle.line_screen.proofs.StyledTextLemmas.{text_painted}
-use Rattle.keyline.specs.Shows.{DisplayHolds, Low, LowStep, LowAll, bytes_for, drawn_by}
+use Rattle.keyline.specs.Shows.{DisplayHolds, Low, LowStep, LowAll, bytes_for, calls_by_screen}
 use Rattle.keyline.proofs.ShowCourse.{flat_both}
 use Rattle.keyline.proofs.ShowSteps.{drawn_holds, fresh_holds, step}
 use Rattle.keyline_c.specs.Laws.{drawing_start, begins_drawing, last_drawing}
@@ -95,26 +95,26 @@ calm_blanks : (n : ℕ) → calm (blanks n) ≡ true
 calm_blanks zero = refl
 calm_blanks (suc n) = calm_byte 0x20 (blanks n) refl (calm_blanks n)
 
-calm_fenced : (bytes : List ℕ) → list_all is_text bytes ≡ true → calm (fenced bytes) ≡ true
+calm_fenced : (bytes : List ℕ) → list_all is_text bytes ≡ true → calm (cluster_in_fence bytes) ≡ true
 calm_fenced bytes h =
     calm_both (no_style ++ bytes) no_style (calm_both no_style bytes refl (calm_plain bytes (list_all_since is_text (λ b. not (b == 0x0D)) text_plain bytes h))) refl
 
 module _ (columns : ℕ) (wide : List ℕ → Option ℕ) where
-  calm_one : (item : DrawnItem) (col : ℕ) → ItemFits columns wide item → calm (sent_one columns item col) ≡ true
+  calm_one : (item : DrawnItem) (col : ℕ) → ItemFits columns wide item → calm (bytes_of_item columns item col) ≡ true
   calm_one NewRow col h = refl
   calm_one (Letter c) col h = calm_byte c (break_if (col + 1 == columns)) (letter_plain c h) (calm_break (col + 1 == columns))
   calm_one (Cluster bytes width) col h =
       let front = break_unless (nat_le (col + width) columns) in
       let end = break_if (fitted_col columns width col + width == columns) in
-      calm_both (front ++ fenced bytes) end (calm_both front (fenced bytes) (calm_unless (nat_le (col + width) columns)) (calm_fenced bytes h.text)) (calm_break (fitted_col columns width col + width == columns))
+      calm_both (front ++ cluster_in_fence bytes) end (calm_both front (cluster_in_fence bytes) (calm_unless (nat_le (col + width) columns)) (calm_fenced bytes h.text)) (calm_break (fitted_col columns width col + width == columns))
   calm_one (Tab apart) col h =
       let width = tab_width columns apart col in
       calm_both (blanks width) (break_if (col + width == columns)) (calm_blanks width) (calm_break (col + width == columns))
 
-  calm_sent : (items : List DrawnItem) (col : ℕ) → AllFit columns wide items → calm (sent columns items col) ≡ true
+  calm_sent : (items : List DrawnItem) (col : ℕ) → AllFit columns wide items → calm (bytes_of_items columns items col) ≡ true
   calm_sent [] col h = refl
   calm_sent (item ∷ items) col h =
-      calm_both (sent_one columns item col) (sent columns items (col_after_one columns item col)) (calm_one item col h.0) (calm_sent items (col_after_one columns item col) h.1)
+      calm_both (bytes_of_item columns item col) (bytes_of_items columns items (col_after_one columns item col)) (calm_one item col h.0) (calm_sent items (col_after_one columns item col) h.1)
 
 -- ---- the bytes of texts with styles
 
@@ -131,7 +131,7 @@ calm_shaded style true h = calm_style style h
 calm_shaded style false h = refl
 
 module _ (columns : ℕ) (wide : List ℕ → Option ℕ) where
-  calm_painted_one : (item : PaintedItem) (col : ℕ) → FitsPainted columns wide item → calm (painted_one columns item col) ≡ true
+  calm_painted_one : (item : PaintedItem) (col : ℕ) → FitsPainted columns wide item → calm (bytes_of_painted columns item col) ≡ true
   calm_painted_one (Plain item) col h = calm_one columns wide item col h
   calm_painted_one (Begins style) col h = calm_style style h
   calm_painted_one (Shaded style c) col h = calm_byte c (shaded_break style (col + 1 == columns)) (letter_plain c h.1) (calm_shaded style (col + 1 == columns) h.0)
@@ -147,11 +147,11 @@ module _ (columns : ℕ) (wide : List ℕ → Option ℕ) where
       let styled = calm_both (style_bytes style ++ blanks width) no_style (calm_both (style_bytes style) (blanks width) (calm_style style h) (calm_blanks width)) refl in
       calm_both (style_bytes style ++ blanks width ++ no_style) (break_if (col + width == columns)) styled (calm_break (col + width == columns))
 
-  calm_painted : (items : List PaintedItem) (col : ℕ) → AllPainted columns wide items → calm (painted columns items col) ≡ true
+  calm_painted : (items : List PaintedItem) (col : ℕ) → AllPainted columns wide items → calm (bytes_of_all_painted columns items col) ≡ true
   calm_painted [] col h = refl
   calm_painted (item ∷ items) col h =
-      let next = col_after columns (unpainted item) col in
-      calm_both (painted_one columns item col) (painted columns items next) (calm_painted_one item col h.0) (calm_painted items next h.1)
+      let next = col_after columns (items_without_style item) col in
+      calm_both (bytes_of_painted columns item col) (bytes_of_all_painted columns items next) (calm_painted_one item col h.0) (calm_painted items next h.1)
 
 -- three texts, one after another
 calm_three : (xs ys zs : List ℕ) → calm xs ≡ true → calm ys ≡ true → calm zs ≡ true → calm (no_style ++ xs ++ no_style ++ ys ++ no_style ++ zs ++ no_style) ≡ true
@@ -239,6 +239,8 @@ cleared_or (Draws v m (Drawn prompt given text at info)) = inl tt
 cleared_or (Draws v m (Moved text at)) = inl tt
 cleared_or (Draws v m (Typed prompt c text at)) = inl tt
 cleared_or (Draws v m (Taken prompt count text at)) = inl tt
+cleared_or (Draws v m (PutIn prompt c text at)) = inl tt
+cleared_or (Draws v m (TakenOut prompt count text at)) = inl tt
 cleared_or (Draws v m (Bared prompt text at)) = inl tt
 cleared_or (Draws v m ToEnd) = inl tt
 cleared_or (Draws v m Beeped) = inl tt
@@ -265,9 +267,9 @@ module _ (s : Screen) (low : 2 ≤ s.columns) (high : s.columns ≤ 1000) (own :
       let end_a = col_after s.columns a 0 in
       let end_b = col_after s.columns b end_a in
       let fits = items_fit s.mode s.tab s.columns some in
-      calm_three (sent s.columns a 0) (sent s.columns b end_a) (sent s.columns c end_b) (calm_sent s.columns wide.cluster a 0 (fits prompt)) (calm_sent s.columns wide.cluster b end_a (fits line)) (calm_sent s.columns wide.cluster c end_b (fits info))
+      calm_three (bytes_of_items s.columns a 0) (bytes_of_items s.columns b end_a) (bytes_of_items s.columns c end_b) (calm_sent s.columns wide.cluster a 0 (fits prompt)) (calm_sent s.columns wide.cluster b end_a (fits line)) (calm_sent s.columns wide.cluster c end_b (fits info))
 
-  calm_styled : (styles : Styles) (prompt line info : List ℕ) → AreStyles styles → calm (painted_shown s.columns wide styles prompt line info) ≡ true
+  calm_styled : (styles : Styles) (prompt line info : List ℕ) → AreStyles styles → calm (bytes_of_painted_texts s.columns wide styles prompt line info) ≡ true
   calm_styled styles prompt line info are =
       let a = painted_text wide styles.prompt prompt in
       let b = painted_text wide styles.line line in
@@ -275,7 +277,7 @@ module _ (s : Screen) (low : 2 ≤ s.columns) (high : s.columns ≤ 1000) (own :
       let end_a = col_after s.columns (all_unpainted a) 0 in
       let end_b = col_after s.columns (all_unpainted b) end_a in
       let fits = items_fit s.mode s.tab s.columns some in
-      calm_three (painted s.columns a 0) (painted s.columns b end_a) (painted s.columns c end_b)
+      calm_three (bytes_of_all_painted s.columns a 0) (bytes_of_all_painted s.columns b end_a) (bytes_of_all_painted s.columns c end_b)
       (calm_painted s.columns wide.cluster a 0 (text_painted s.columns wide styles.prompt prompt are.prompt (fits prompt)))
       (calm_painted s.columns wide.cluster b end_a (text_painted s.columns wide styles.line line are.line (fits line)))
       (calm_painted s.columns wide.cluster c end_b (text_painted s.columns wide styles.info info are.info (fits info)))
@@ -320,7 +322,7 @@ module _ (s : Screen) (low : 2 ≤ s.columns) (high : s.columns ≤ 1000) (own :
       let styles = styles_by m given prompt text at (info_text info) in
       let are = styles_are (spans_by m given prompt text at (info_text info)) in
       drawn_anew bytes l.cursor.row new (sight_with (Some m) given prompt text at info) (painted_drawing s.columns wide styles prompt text (info_text info) new.end new.cursor) refl
-      (calm_both (painted_shown s.columns wide styles prompt text (info_text info)) (move_bytes new.end new.cursor)
+      (calm_both (bytes_of_painted_texts s.columns wide styles prompt text (info_text info)) (move_bytes new.end new.cursor)
       (calm_styled styles prompt text (info_text info) are)
       (calm_move new.end new.cursor))
       (λ before over top good. (let h = fresh_holds s low high before over top (fresh s.mode) good in drawn_holds s low high before over top (Some m) (fresh s.mode) no_sight prompt given text at info h.good h.cursor rows))
@@ -338,11 +340,11 @@ module _ (s : Screen) (low : 2 ≤ s.columns) (high : s.columns ≤ 1000) (own :
     tabs_are = stops ∙ a.tabs_are;
   }
 
-  calm_moved : (l : Layout) (to : Position) (b : Bool) → calm (flat_map (bytes_of s) (if b then nothing_asked l else moved_by_call l to).calls) ≡ true
+  calm_moved : (l : Layout) (to : Position) (b : Bool) → calm (flat_map (bytes_of s) (if b then nothing_asked l else move_call l to).calls) ≡ true
   calm_moved l to true = refl
   calm_moved l to false = calm_both (move_bytes l.cursor to) [] (calm_move l.cursor to) refl
 
-  moved_tabs : (l : Layout) (to : Position) (b : Bool) → (if b then nothing_asked l else moved_by_call l to).layout.tab_stops ≡ l.tab_stops
+  moved_tabs : (l : Layout) (to : Position) (b : Bool) → (if b then nothing_asked l else move_call l to).layout.tab_stops ≡ l.tab_stops
   moved_tabs l to true = refl
   moved_tabs l to false = refl
 
@@ -350,15 +352,25 @@ module _ (s : Screen) (low : 2 ≤ s.columns) (high : s.columns ≤ 1000) (own :
   calm_bell Bell.Audible = refl
   calm_bell _ = refl
 
-  calm_typed : (l : Layout) (c : ℕ) → is_printable c ≡ true → calm (flat_map (bytes_of s) (typed_short l c).calls) ≡ true
+  calm_typed : (l : Layout) (c : ℕ) → is_printable c ≡ true → calm (flat_map (bytes_of s) (char_call l c).calls) ≡ true
   calm_typed l c h =
       let small : c < 128 = (let k = ltb-true c 0x7F (and_parts (nat_le 0x20 c) (nat_lt c 0x7F) h).1 in omega arith) in
       subst (λ xs. calm (xs ++ []) ≡ true) (sym (encode_ascii c small)) (calm_byte c [] (letter_plain c h) refl)
 
-  calm_taken : (l : Layout) (count : ℕ) → calm (flat_map (bytes_of s) (taken_short l count).calls) ≡ true
+  calm_taken : (l : Layout) (count : ℕ) → calm (flat_map (bytes_of s) (erase_call l count).calls) ≡ true
   calm_taken l count =
-      let to = (taken_short l count).layout.end in
+      let to = (erase_call l count).layout.end in
       calm_both (move_bytes l.cursor to ++ erase_to_row_end) [] (calm_both (move_bytes l.cursor to) erase_to_row_end (calm_move l.cursor to) refl) refl
+
+  calm_put_in : (l : Layout) (c : ℕ) → is_printable c ≡ true → calm (flat_map (bytes_of s) (put_in_short l c).calls) ≡ true
+  calm_put_in l c h =
+      let small : c < 128 = (let k = ltb-true c 0x7F (and_parts (nat_le 0x20 c) (nat_lt c 0x7F) h).1 in omega arith) in
+      let letter : calm (encode_utf8 c) ≡ true = subst (λ xs. calm xs ≡ true) (sym (encode_ascii c small)) (calm_byte c [] (letter_plain c h) refl) in
+      calm_both (open_cell ++ encode_utf8 c) [] (calm_both open_cell (encode_utf8 c) refl letter) refl
+
+  calm_taken_out : (l : Layout) (cell : Position) (count : ℕ) → calm (flat_map (bytes_of s) (taken_out_short l cell count).calls) ≡ true
+  calm_taken_out l cell count =
+      calm_both (move_bytes l.cursor cell ++ take_cells_out count) [] (calm_both (move_bytes l.cursor cell) (take_cells_out count) (calm_move l.cursor cell) (calm_sequence count 0x50 refl)) refl
 
   abbrev After : List ℕ → Layout → EditStep → Sight → Type 0
   After bytes l r x = Anew (bytes ++ flat_map (bytes_of s) (one (ruler_of s) l r).calls) (one (ruler_of s) l r).layout (sight x r)
@@ -369,22 +381,47 @@ module _ (s : Screen) (low : 2 ≤ s.columns) (high : s.columns ≤ 1000) (own :
       let r = Draws v m (Typed prompt c text at) in
       let printable = (and_parts (is_printable c) (at_simple_end true x.line x.place) (let t : TypedFits x prompt c text at = fits.3 in t.typed)).0 in
       kept_on bytes l x (flat_map (bytes_of s) (one (ruler_of s) l r).calls) (one (ruler_of s) l r).layout (sight x r)
-      (subst (λ t. (if t then typed_short l c else full (ruler_of s) (shown_marks v m) l prompt true text at None).layout.tab_stops ≡ l.tab_stops) (sym e) refl) a
-      (subst (λ t. calm (flat_map (bytes_of s) (if t then typed_short l c else full (ruler_of s) (shown_marks v m) l prompt true text at None).calls) ≡ true) (sym e) (calm_typed l c printable))
+      (subst (λ t. (if t then char_call l c else full (ruler_of s) (shown_marks v m) l prompt true text at None).layout.tab_stops ≡ l.tab_stops) (sym e) refl) a
+      (subst (λ t. calm (flat_map (bytes_of s) (if t then char_call l c else full (ruler_of s) (shown_marks v m) l prompt true text at None).calls) ≡ true) (sym e) (calm_typed l c printable))
       (λ before over top h. step s low high own before over top l x r h fits rows)
   typed_by v bytes m l x prompt c text at false e a fits rows =
-      subst (λ t. (let q = if t then typed_short l c else full (ruler_of s) (shown_marks v m) l prompt true text at None in Anew (bytes ++ flat_map (bytes_of s) q.calls) q.layout (sight_as (shown_marks v m) prompt text at None))) (sym e) (whole bytes (shown_marks v m) l prompt true text at None rows)
+      subst (λ t. (let q = if t then char_call l c else full (ruler_of s) (shown_marks v m) l prompt true text at None in Anew (bytes ++ flat_map (bytes_of s) q.calls) q.layout (sight_as (shown_marks v m) prompt text at None))) (sym e) (whole bytes (shown_marks v m) l prompt true text at None rows)
 
   taken_by : (v : Value) (bytes : List ℕ) (m : Option Marks) (l : Layout) (x : Sight) (prompt : List ℕ) (count : ℕ) (text : List ℕ) (at : ℕ) (b : Bool) → may_take l count ≡ b
       → (let r = Draws v m (Taken prompt count text at) in Anew bytes l x → Fits own x r → LowStep s x r → After bytes l r x)
   taken_by v bytes m l x prompt count text at true e a fits rows =
       let r = Draws v m (Taken prompt count text at) in
       kept_on bytes l x (flat_map (bytes_of s) (one (ruler_of s) l r).calls) (one (ruler_of s) l r).layout (sight x r)
-      (subst (λ t. (if t then taken_short l count else full (ruler_of s) (shown_marks v m) l prompt true text at None).layout.tab_stops ≡ l.tab_stops) (sym e) refl) a
-      (subst (λ t. calm (flat_map (bytes_of s) (if t then taken_short l count else full (ruler_of s) (shown_marks v m) l prompt true text at None).calls) ≡ true) (sym e) (calm_taken l count))
+      (subst (λ t. (if t then erase_call l count else full (ruler_of s) (shown_marks v m) l prompt true text at None).layout.tab_stops ≡ l.tab_stops) (sym e) refl) a
+      (subst (λ t. calm (flat_map (bytes_of s) (if t then erase_call l count else full (ruler_of s) (shown_marks v m) l prompt true text at None).calls) ≡ true) (sym e) (calm_taken l count))
       (λ before over top h. step s low high own before over top l x r h fits rows)
   taken_by v bytes m l x prompt count text at false e a fits rows =
-      subst (λ t. (let q = if t then taken_short l count else full (ruler_of s) (shown_marks v m) l prompt true text at None in Anew (bytes ++ flat_map (bytes_of s) q.calls) q.layout (sight_as (shown_marks v m) prompt text at None))) (sym e) (whole bytes (shown_marks v m) l prompt true text at None rows)
+      subst (λ t. (let q = if t then erase_call l count else full (ruler_of s) (shown_marks v m) l prompt true text at None in Anew (bytes ++ flat_map (bytes_of s) q.calls) q.layout (sight_as (shown_marks v m) prompt text at None))) (sym e) (whole bytes (shown_marks v m) l prompt true text at None rows)
+
+  put_in_by : (v : Value) (bytes : List ℕ) (m : Option Marks) (l : Layout) (x : Sight) (prompt : List ℕ) (c : ℕ) (text : List ℕ) (at : ℕ) (b : Bool) → may_put_in (ruler_of s) l ≡ b
+      → (let r = Draws v m (PutIn prompt c text at) in Anew bytes l x → Fits own x r → LowStep s x r → After bytes l r x)
+  put_in_by v bytes m l x prompt c text at true e a fits rows =
+      let r = Draws v m (PutIn prompt c text at) in
+      let printable : is_printable c ≡ true = (let t : PutInFits x prompt c text at = fits.3 in t.printable) in
+      kept_on bytes l x (flat_map (bytes_of s) (one (ruler_of s) l r).calls) (one (ruler_of s) l r).layout (sight x r)
+      (subst (λ t. (if t then put_in_short l c else full (ruler_of s) (shown_marks v m) l prompt true text at None).layout.tab_stops ≡ l.tab_stops) (sym e) refl) a
+      (subst (λ t. calm (flat_map (bytes_of s) (if t then put_in_short l c else full (ruler_of s) (shown_marks v m) l prompt true text at None).calls) ≡ true) (sym e) (calm_put_in l c printable))
+      (λ before over top h. step s low high own before over top l x r h fits rows)
+  put_in_by v bytes m l x prompt c text at false e a fits rows =
+      subst (λ t. (let q = if t then put_in_short l c else full (ruler_of s) (shown_marks v m) l prompt true text at None in Anew (bytes ++ flat_map (bytes_of s) q.calls) q.layout (sight_as (shown_marks v m) prompt text at None))) (sym e) (whole bytes (shown_marks v m) l prompt true text at None rows)
+
+  taken_out_by : (v : Value) (bytes : List ℕ) (m : Option Marks) (l : Layout) (x : Sight) (prompt : List ℕ) (count : ℕ) (text : List ℕ) (at : ℕ) (b : Bool)
+      → (let cell = (ruler_of s).measure (take at text) l.prompt_size in let r = Draws v m (TakenOut prompt count text at) in may_take_out l cell count ≡ b → Anew bytes l x → Fits own x r → LowStep s x r → After bytes l r x)
+  taken_out_by v bytes m l x prompt count text at true e a fits rows =
+      let r = Draws v m (TakenOut prompt count text at) in
+      let cell = (ruler_of s).measure (take at text) l.prompt_size in
+      kept_on bytes l x (flat_map (bytes_of s) (one (ruler_of s) l r).calls) (one (ruler_of s) l r).layout (sight x r)
+      (subst (λ t. (if t then taken_out_short l cell count else full (ruler_of s) (shown_marks v m) l prompt true text at None).layout.tab_stops ≡ l.tab_stops) (sym e) refl) a
+      (subst (λ t. calm (flat_map (bytes_of s) (if t then taken_out_short l cell count else full (ruler_of s) (shown_marks v m) l prompt true text at None).calls) ≡ true) (sym e) (calm_taken_out l cell count))
+      (λ before over top h. step s low high own before over top l x r h fits rows)
+  taken_out_by v bytes m l x prompt count text at false e a fits rows =
+      let cell = (ruler_of s).measure (take at text) l.prompt_size in
+      subst (λ t. (let q = if t then taken_out_short l cell count else full (ruler_of s) (shown_marks v m) l prompt true text at None in Anew (bytes ++ flat_map (bytes_of s) q.calls) q.layout (sight_as (shown_marks v m) prompt text at None))) (sym e) (whole bytes (shown_marks v m) l prompt true text at None rows)
 
   bared_by : (v : Value) (bytes : List ℕ) (m : Option Marks) (l : Layout) (x : Sight) (prompt text : List ℕ) (at : ℕ) (b : Bool) → l.default_prompt ≡ b
       → (let r = Draws v m (Bared prompt text at) in Anew bytes l x → Fits own x r → LowStep s x r → After bytes l r x)
@@ -407,6 +444,9 @@ module _ (s : Screen) (low : 2 ≤ s.columns) (high : s.columns ≤ 1000) (own :
       kept_on bytes l x (flat_map (bytes_of s) (one (ruler_of s) l r).calls) (one (ruler_of s) l r).layout (sight x r) (moved_tabs l to (same_cell l.cursor to)) a (calm_moved l to (same_cell l.cursor to)) (λ before over top h. step s low high own before over top l x r h fits rows)
   step_anew (Draws v m (Typed prompt c text at)) bytes l x a fits rows none = typed_by v bytes m l x prompt c text at (may_type (ruler_of s) l) refl a fits rows
   step_anew (Draws v m (Taken prompt count text at)) bytes l x a fits rows none = taken_by v bytes m l x prompt count text at (may_take l count) refl a fits rows
+  step_anew (Draws v m (PutIn prompt c text at)) bytes l x a fits rows none = put_in_by v bytes m l x prompt c text at (may_put_in (ruler_of s) l) refl a fits rows
+  step_anew (Draws v m (TakenOut prompt count text at)) bytes l x a fits rows none =
+      taken_out_by v bytes m l x prompt count text at (may_take_out l ((ruler_of s).measure (take at text) l.prompt_size) count) refl a fits rows
   step_anew (Draws v m (Bared prompt text at)) bytes l x a fits rows none = bared_by v bytes m l x prompt text at l.default_prompt refl a fits rows
   step_anew (Draws v m ToEnd) bytes l x a fits rows none =
       let r = Draws v m ToEnd in
@@ -434,6 +474,8 @@ module _ (s : Screen) (low : 2 ≤ s.columns) (high : s.columns ≤ 1000) (own :
   step_bare (Draws v m (Moved text at)) bytes l x b fits rows = inr (record { given = b.given; prompt = b.prompt })
   step_bare (Draws v m (Typed prompt c text at)) bytes l x b fits rows = absurd (not_given x b fits.0)
   step_bare (Draws v m (Taken prompt count text at)) bytes l x b fits rows = absurd (not_given x b fits.0)
+  step_bare (Draws v m (PutIn prompt c text at)) bytes l x b fits rows = absurd (not_given x b fits.0)
+  step_bare (Draws v m (TakenOut prompt count text at)) bytes l x b fits rows = absurd (not_given x b fits.0)
   step_bare (Draws v m (Bared prompt text at)) bytes l x b fits rows = absurd (not_given x b fits)
   step_bare (Draws v m ToEnd) bytes l x b fits rows = inr (record { given = b.given; prompt = b.prompt })
   step_bare (Draws v m Beeped) bytes l x b fits rows = inr b
@@ -455,14 +497,14 @@ module _ (s : Screen) (low : 2 ≤ s.columns) (high : s.columns ≤ 1000) (own :
       → (bytes ++ flat_map (bytes_of s) (one (ruler_of s) l r).calls) ++ bytes_for s (one (ruler_of s) l r).layout rs ≡ bytes ++ bytes_for s l (r ∷ rs)
   joined r rs bytes l =
       let q = one (ruler_of s) l r in
-      append_assoc bytes (flat_map (bytes_of s) q.calls) (bytes_for s q.layout rs) ∙ ap (λ b. bytes ++ b) (sym (flat_both (bytes_of s) q.calls (drawn_by s q.layout rs).calls))
+      append_assoc bytes (flat_map (bytes_of s) q.calls) (bytes_for s q.layout rs) ∙ ap (λ b. bytes ++ b) (sym (flat_both (bytes_of s) q.calls (calls_by_screen s q.layout rs).calls))
 
   pub all_either : (rs : List EditStep) (bytes : List ℕ) (l : Layout) (x : Sight) → Either bytes l x → FitsAll own x rs → LowAll s x rs
-      → Either (bytes ++ bytes_for s l rs) (drawn_by s l rs).layout (sight_all x rs)
+      → Either (bytes ++ bytes_for s l rs) (calls_by_screen s l rs).layout (sight_all x rs)
   all_either [] bytes l x h fits rows = subst (λ b. Either b l x) (sym (append-nil bytes)) h
   all_either (r ∷ rs) bytes l x h fits rows =
       let q = one (ruler_of s) l r in
-      subst (λ b. Either b (drawn_by s l (r ∷ rs)).layout (sight_all x (r ∷ rs))) (joined r rs bytes l)
+      subst (λ b. Either b (calls_by_screen s l (r ∷ rs)).layout (sight_all x (r ∷ rs))) (joined r rs bytes l)
       (all_either rs (bytes ++ flat_map (bytes_of s) q.calls) q.layout (sight x r) (step_either r bytes l x h fits.0 rows.0) fits.1 rows.1)
 
   -- none of the steps clears the screen
@@ -471,9 +513,9 @@ module _ (s : Screen) (low : 2 ≤ s.columns) (high : s.columns ≤ 1000) (own :
   NoneCleared (r ∷ rs) = NotCleared r × NoneCleared rs
 
   pub all_anew : (rs : List EditStep) (bytes : List ℕ) (l : Layout) (x : Sight) → Anew bytes l x → FitsAll own x rs → LowAll s x rs → NoneCleared rs
-      → Anew (bytes ++ bytes_for s l rs) (drawn_by s l rs).layout (sight_all x rs)
+      → Anew (bytes ++ bytes_for s l rs) (calls_by_screen s l rs).layout (sight_all x rs)
   all_anew [] bytes l x h fits rows none = subst (λ b. Anew b l x) (sym (append-nil bytes)) h
   all_anew (r ∷ rs) bytes l x h fits rows none =
       let q = one (ruler_of s) l r in
-      subst (λ b. Anew b (drawn_by s l (r ∷ rs)).layout (sight_all x (r ∷ rs))) (joined r rs bytes l)
+      subst (λ b. Anew b (calls_by_screen s l (r ∷ rs)).layout (sight_all x (r ∷ rs))) (joined r rs bytes l)
       (all_anew rs (bytes ++ flat_map (bytes_of s) q.calls) q.layout (sight x r) (step_anew r bytes l x h fits.0 rows.0 none.0) fits.1 rows.1 none.1)

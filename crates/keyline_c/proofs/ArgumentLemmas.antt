@@ -7,11 +7,11 @@ use Rattle.line_config.specs.declared.memory.VecSink.{VecSink}
 use Rattle.line_help.specs.History.{Filed}
 use Rattle.line_keys.specs.declared.events.Event.{Event}
 use Rattle.line_record.specs.Ring.{Ring}
-use Rattle.keyline.specs.Plays.{loaded_from}
+use Rattle.keyline.specs.SessionRuns.{history_loaded_from}
 use Rattle.keyline.specs.Program.{config_of}
 use Rattle.keyline.specs.Sessions.{SessionState, state_over}
 use Rattle.keyline.specs.declared.options.Options.{Options}
-use Rattle.keyline_c.specs.Asks.{AreAsked, asking_by}
+use Rattle.keyline_c.specs.Asks.{AreAsked, custom_by_asking}
 use Rattle.keyline_c.specs.Lines.{ReadsKeys, ReadsLine, given_with, last_of}
 use Rattle.keyline_c.specs.Meant.{AreMeant, AreValid, settings_by, whole, words_in}
 use Rattle.keyline_c.specs.Slots.{IsRingOf}
@@ -30,8 +30,8 @@ adds_lines options chosen = by (options.entries == 0)
 module _ (options : KeylineOptions) (prompt words history kills ends : List ℕ) (valid : AreValid options prompt words history kills ends) where
   -- a line of what words, history and ring are meant
   pub keys_read : (held : VecSink → List ℕ) (keys asks : List ℕ) (left : Left) (chosen : Options) (config : Config) (bindings : List (Event × Asking)) (ring : Ring) (given : Option (List (List ℕ))) (filed : Filed) (shown : List ℕ)
-      → shown ≡ prompt → AreMeant options shown chosen → config ≡ settings_by options (config_of chosen) → IsRingOf kills ends options.place ring → given ≡ words_in words → filed ≡ loaded_from config (whole history) → AreAsked chosen.mode asks bindings
-      → ReadsLine held (given_with config (asking_by bindings) chosen given) (state_over ring [] filed chosen.mode keys (last_of options.ended)) (length keys) left
+      → shown ≡ prompt → AreMeant options shown chosen → config ≡ settings_by options (config_of chosen) → IsRingOf kills ends options.place ring → given ≡ words_in words → filed ≡ history_loaded_from config (whole history) → AreAsked chosen.mode asks bindings
+      → ReadsLine held (given_with config (custom_by_asking bindings) chosen given) (state_over ring [] filed chosen.mode keys (last_of options.ended)) (length keys) left
       → ReadsKeys options prompt words history kills ends held keys asks left
   keys_read held keys asks left chosen config bindings ring given filed shown is_prompt meant is_config held_by is_given is_filed asked reads =
       let state : Filed → SessionState = λ f. state_over ring [] f chosen.mode keys (last_of options.ended) in
@@ -41,7 +41,7 @@ module _ (options : KeylineOptions) (prompt words history kills ends : List ℕ)
         bindings = bindings;
         are_asked = asked;
         meant = subst (λ (x : List ℕ). AreMeant options x chosen) is_prompt meant;
-        reads = subst (λ (c : Config). ReadsLine held (given_with c (asking_by bindings) chosen (words_in words)) (state (loaded_from c (whole history))) (length keys) left) is_config
-            (subst (λ w. ReadsLine held (given_with config (asking_by bindings) chosen w) (state (loaded_from config (whole history))) (length keys) left) is_given
-            (subst (λ (f : Filed). ReadsLine held (given_with config (asking_by bindings) chosen given) (state f) (length keys) left) is_filed reads));
+        reads = subst (λ (c : Config). ReadsLine held (given_with c (custom_by_asking bindings) chosen (words_in words)) (state (history_loaded_from c (whole history))) (length keys) left) is_config
+            (subst (λ w. ReadsLine held (given_with config (custom_by_asking bindings) chosen w) (state (history_loaded_from config (whole history))) (length keys) left) is_given
+            (subst (λ (f : Filed). ReadsLine held (given_with config (custom_by_asking bindings) chosen given) (state f) (length keys) left) is_filed reads));
       }

@@ -6,11 +6,11 @@ use Rattle.std.proofs.lemmas.Bool.{ltb-false}
 use Rattle.std.proofs.lemmas.List.{drop_all, take_all, take_rest}
 use Rattle.line_config.specs.declared.errors.ReadlineError.{ReadlineError}
 use Rattle.line_config.specs.declared.errors.ReadlineError.TheVariants.{PasteOutOfPlace}
-use Rattle.line_config.proofs.ScriptLaws.{ok_not_err}
-use Rattle.line_keys.specs.Bound.{find, put_at, same_event}
+use Rattle.script.proofs.ScriptLaws.{ok_not_err}
+use Rattle.line_keys.specs.Bound.{find, map_with, same_event}
 use Rattle.line_keys.specs.Coming.{Coming, Pressed, Pasted, CutOff, Ends, Refused, key_at, behind_key, refusal_of}
-use Rattle.line_keys.specs.Feeds.{ReadAs}
-use Rattle.line_keys.specs.Feeds.InputItem.{Key}
+use Rattle.line_keys.specs.KeyFeeds.{ReadAs}
+use Rattle.line_keys.specs.KeyFeeds.InputItem.{Key}
 use Rattle.line_keys.specs.Events.{normal_event}
 use Rattle.line_keys.specs.declared.events.Event.{Event}
 use Rattle.line_keys.specs.declared.events.Event.TheVariants.{KeySeq}
@@ -121,7 +121,7 @@ put_one e named asking o = by (same_event named e)
 
 -- the keys of a row are bound
 pub row_bound : (e : Event) (keys : List KeyEvent) (row : Option (List KeyEvent)) (asking : Asking) (old new : List (Event × Asking)) → Some keys ≡ row
-    → find e new ≡ put_at (normal_event (KeySeq keys)) asking (λ o. find o old) e → is_some (find e new) ≡ (is_event e row || is_some (find e old))
+    → find e new ≡ map_with (normal_event (KeySeq keys)) asking (λ o. find o old) e → is_some (find e new) ≡ (is_event e row || is_some (find e old))
 row_bound e keys row asking old new is put =
     subst (λ (r : Option (List KeyEvent)). is_some (find e new) ≡ (is_event e r || is_some (find e old))) is
     (ap (λ (o : Option Asking). is_some o) put ∙ put_one e (normal_event (KeySeq keys)) asking (find e old))

@@ -7,29 +7,29 @@ use Rattle.line_buffer.specs.declared.layout.Layout.{Layout}
 use Rattle.line_config.specs.declared.errors.ReadlineError.{ReadlineError}
 use Rattle.line_config.specs.declared.errors.ReadlineError.TheVariants.{Handler, Reader}
 use Rattle.line_config.specs.declared.memory.VecSink.{VecSink}
-use Rattle.line_editor.specs.Calls.{Marks}
+use Rattle.line_editor.specs.RenderCalls.{Marks}
 use Rattle.line_editor.specs.LineScripts.{LineState, line_script}
 use Rattle.line_editor.specs.Redraws.{fresh, info_text}
-use Rattle.line_editor.specs.Running.{IsOpen, kept_first}
+use Rattle.line_editor.specs.LineRun.{IsOpen, first_line_state}
 use Rattle.line_editor.specs.Sights.{Sight, drawn_spans, no_sight, sight_with}
 use Rattle.line_editor.specs.Values.{Setting, Value}
 use Rattle.line_editor.proofs.LineLeads.{lines_lead}
-use Rattle.line_keys.specs.Coming.{made_of}
+use Rattle.line_keys.specs.Coming.{answer_map}
 use Rattle.line_keys.specs.InputStates.{new_input}
-use Rattle.line_screen.specs.Calls.{Screen}
+use Rattle.line_screen.specs.ScreenCalls.{Screen}
 use Rattle.line_screen.specs.Chain.{Shows, above, cursor_of, finish_of}
 use Rattle.line_screen.specs.Display.{Display, Placed, meaning}
 use Rattle.line_screen.specs.Laws.{widths}
 use Rattle.line_screen.proofs.LawLemmas.{shown_is_meant}
-use Rattle.keyline.specs.Events.{asks_events, bytes_drawn, end_events, line_course, played_in}
+use Rattle.keyline.specs.Events.{asks_events, bytes_drawn, end_events, line_course, line_play_in}
 use Rattle.keyline.specs.SessionLaws.{steps_in}
 use Rattle.keyline.specs.Sessions.{Given, SessionState, setting_in}
 use Rattle.keyline.specs.Shows.{DisplayHolds, IsAtRest, LowAll, bytes_for, face, picture, place_in, view_in}
 use Rattle.keyline.proofs.ShowCourse.{flat_both}
-use Rattle.keyline_c.specs.Laws.{IsOpenAt, LastDrawingsShow, drawing_start, layout_in, last_drawing, marks_in, seen_in}
+use Rattle.keyline_c.specs.Laws.{IsOpenAt, LastDrawingsShow, drawing_start, layout_in, last_drawing, marks_in, sight_in}
 use Rattle.keyline_c.specs.Lines.{line_at_end, value_first}
-use Rattle.keyline_c.specs.Statuses.{ended_as, is_open}
-use Rattle.keyline_c.specs.Steps.{open_place, open_text}
+use Rattle.keyline_c.specs.Statuses.{status_of_ending, is_open}
+use Rattle.keyline_c.specs.CallSteps.{open_place, open_text}
 use Rattle.keyline_c.specs.declared.line.Left.{Left}
 use Rattle.keyline_c.proofs.AnewLemmas.{Anew, anew_last}
 use Rattle.keyline_c.proofs.OpenLemmas.{At, IsOfPhrase, Seen, asks_bytes, in_phrase, line_ends, rest_by, walk}
@@ -41,12 +41,12 @@ pub record CutShort {X : Type 0} (o : Result X ReadlineError) : Type 0 where
   pub of_phrase : IsOfPhrase error
   pub quiet : end_events (Err error) ≡ []
 
-cut_short : {T X : Type 0} (f : T → X) (o : Result T ReadlineError) → is_open (ended_as o) ≡ true → CutShort (made_of f o)
+cut_short : {T X : Type 0} (f : T → X) (o : Result T ReadlineError) → is_open (status_of_ending o) ≡ true → CutShort (answer_map f o)
 cut_short f (Err Reader) is = record { error = Reader; is = refl; of_phrase = tt; quiet = refl }
 cut_short f (Err Handler) is = record { error = Handler; is = refl; of_phrase = tt; quiet = refl }
 cut_short f _ is = cc
 
-open_so : {T : Type 0} (o : Result T ReadlineError) (first v : Value) (it : Option Line) → is_open (ended_as o) ≡ true → IsOpen o first v it → it ≡ Some v.line
+open_so : {T : Type 0} (o : Result T ReadlineError) (first v : Value) (it : Option Line) → is_open (status_of_ending o) ≡ true → IsOpen o first v it → it ≡ Some v.line
 open_so (Err Reader) first v it is h = h
 open_so (Err Handler) first v it is h = h
 open_so _ first v it is h = cc
@@ -59,12 +59,12 @@ module _ (n : ℕ) (g : Given) (x : SessionState) where
   a = setting_in g x.history.kept.entries
 
   abbrev first : LineState
-  first = kept_first a x.ring x.query x.coming
+  first = first_line_state a x.ring x.query x.coming
 
   -- the line's display bytes are those of its steps
-  pub line_bytes : CutShort (played_in n g x).answer → flat_map bytes_drawn (line_course n g x).events ≡ bytes_for s (fresh s.mode) (steps_in n g x)
+  pub line_bytes : CutShort (line_play_in n g x).answer → flat_map bytes_drawn (line_course n g x).events ≡ bytes_for s (fresh s.mode) (steps_in n g x)
   line_bytes cut =
-      let p = played_in n g x in
+      let p = line_play_in n g x in
       let asks = asks_events s a (fresh s.mode) first p.asks in
       flat_both bytes_drawn asks (end_events p.answer)
       ∙ ap (λ q. flat_map bytes_drawn asks ++ flat_map bytes_drawn (end_events q)) cut.is
@@ -107,43 +107,43 @@ drawn_last drawn bytes last is h = ap last_drawing is ∙ h
 
 -- a line that continues shows its value, also by the bytes from its last drawing on
 pub record StandsAnew (n : ℕ) (g : Given) (x : SessionState) (low : 2 ≤ g.screen.columns) (high : g.screen.columns ≤ 1000) : Type 0 where
-  pub anew : Anew g.screen low high g.prompt (bytes_for g.screen (fresh g.screen.mode) (steps_in n g x)) (layout_in n g x) (seen_in n g x)
-  pub seen : Seen (setting_in g x.history.kept.entries) (played_in n g x).rest.value (seen_in n g x)
+  pub anew : Anew g.screen low high g.prompt (bytes_for g.screen (fresh g.screen.mode) (steps_in n g x)) (layout_in n g x) (sight_in n g x)
+  pub seen : Seen (setting_in g x.history.kept.entries) (line_play_in n g x).rest.value (sight_in n g x)
 
-pub stands_anew : (n : ℕ) (g : Given) (x : SessionState) (low : 2 ≤ g.screen.columns) (high : g.screen.columns ≤ 1000) → CutShort (played_in n g x).answer → LowAll g.screen no_sight (steps_in n g x)
+pub stands_anew : (n : ℕ) (g : Given) (x : SessionState) (low : 2 ≤ g.screen.columns) (high : g.screen.columns ≤ 1000) → CutShort (line_play_in n g x).answer → LowAll g.screen no_sight (steps_in n g x)
     → StandsAnew n g x low high
 stands_anew n g x low high cut rows =
     let s = g.screen in
     let a : Setting = setting_in g x.history.kept.entries in
-    let k : LineState = kept_first a x.ring x.query x.coming in
-    let p = played_in n g x in
+    let k : LineState = first_line_state a x.ring x.query x.coming in
+    let p = line_play_in n g x in
     let steps = steps_in n g x in
     let lead = lines_lead n a g.custom (new_input g.config) x.ring g.config x.query x.coming in
     let ends : in_phrase false p.asks ≡ true = line_ends a n g.custom k cut.error cut.is cut.of_phrase in
-    let at : At s low high a (in_phrase false p.asks) ([] ++ bytes_for s (fresh s.mode) steps) (layout_in n g x) (seen_in n g x) _ =
+    let at : At s low high a (in_phrase false p.asks) ([] ++ bytes_for s (fresh s.mode) steps) (layout_in n g x) (sight_in n g x) _ =
     walk s low high a p.answer p.asks k false [] (fresh s.mode) no_sight (record { either = inr (record { given = refl; prompt = refl }); anew = λ e. cc; seen = λ e. cc }) lead rows in
-    record { anew = at.anew ends; seen = subst (λ (j : LineState). Seen a j.value (seen_in n g x)) (rest_by s low high a (line_script n g.custom) k) (at.seen ends) }
+    record { anew = at.anew ends; seen = subst (λ (j : LineState). Seen a j.value (sight_in n g x)) (rest_by s low high a (line_script n g.custom) k) (at.seen ends) }
 
 module _ (held : VecSink → List ℕ) where
-  pub is_cut : (n : ℕ) (g : Given) (x : SessionState) (left : Left) → IsOpenAt held n g x left → CutShort (played_in n g x).answer
+  pub is_cut : (n : ℕ) (g : Given) (x : SessionState) (left : Left) → IsOpenAt held n g x left → CutShort (line_play_in n g x).answer
   is_cut n g x left w = subst CutShort w.reads.outcome_is (cut_short string_bytes left.outcome w.continues)
 
   pub stands_open : (n : ℕ) (g : Given) (x : SessionState) (left : Left) → IsOpenAt held n g x left → left.open_line ≡ Some (line_at_end n g x)
-  stands_open n g x left w = open_so left.outcome (value_first g x) (played_in n g x).rest.value left.open_line w.continues w.reads.line_is
+  stands_open n g x left w = open_so left.outcome (value_first g x) (line_play_in n g x).rest.value left.open_line w.continues w.reads.line_is
 
   -- what is shown is the open line
-  pub line_shown : (n : ℕ) (g : Given) (x : SessionState) (left : Left) → IsOpenAt held n g x left → Seen (setting_in g x.history.kept.entries) (played_in n g x).rest.value (seen_in n g x) → (seen_in n g x).line ≡ open_text left.open_line
+  pub line_shown : (n : ℕ) (g : Given) (x : SessionState) (left : Left) → IsOpenAt held n g x left → Seen (setting_in g x.history.kept.entries) (line_play_in n g x).rest.value (sight_in n g x) → (sight_in n g x).line ≡ open_text left.open_line
   line_shown n g x left w seen = seen.line ∙ sym (text_of left.open_line (line_at_end n g x) (stands_open n g x left w))
 
-  pub place_shown : (n : ℕ) (g : Given) (x : SessionState) (left : Left) → IsOpenAt held n g x left → Seen (setting_in g x.history.kept.entries) (played_in n g x).rest.value (seen_in n g x) → (seen_in n g x).place ≡ open_place left.open_line
+  pub place_shown : (n : ℕ) (g : Given) (x : SessionState) (left : Left) → IsOpenAt held n g x left → Seen (setting_in g x.history.kept.entries) (line_play_in n g x).rest.value (sight_in n g x) → (sight_in n g x).place ≡ open_place left.open_line
   place_shown n g x left w seen = seen.place ∙ sym (place_of left.open_line (line_at_end n g x) (stands_open n g x left w))
 
   -- its last drawing, and that this shows it
   pub record LastShows (n : ℕ) (g : Given) (x : SessionState) (left : Left) (before : List ℕ) (over : List Placed) (top : ℕ) : Type 0 where
     pub bytes : List ℕ
     pub last : last_drawing (held left.display) ≡ Some bytes
-    pub shown : ShownBy g.screen before bytes over top (seen_in n g x)
-    pub seen : Seen (setting_in g x.history.kept.entries) (played_in n g x).rest.value (seen_in n g x)
+    pub shown : ShownBy g.screen before bytes over top (sight_in n g x)
+    pub seen : Seen (setting_in g x.history.kept.entries) (line_play_in n g x).rest.value (sight_in n g x)
 
   pub last_shows : (n : ℕ) (g : Given) (x : SessionState) (left : Left) (before : List ℕ) (over : List Placed) (top : ℕ) → IsOpenAt held n g x left → IsAtRest (face g.screen before top over no_sight)
       → LastShows n g x left before over top
@@ -152,7 +152,7 @@ module _ (held : VecSink → List ℕ) where
       let low = rest.screen.least in
       let high = rest.screen.most in
       let l = layout_in n g x in
-      let y : Sight = seen_in n g x in
+      let y : Sight = sight_in n g x in
       let cut = is_cut n g x left w in
       let stands = stands_anew n g x low high cut w.low in
       let a = stands.anew in
@@ -168,7 +168,7 @@ module _ (held : VecSink → List ℕ) where
   pub last_drawings_show : LastDrawingsShow held
   last_drawings_show n g x left before over top w rest =
       let s = g.screen in
-      let y : Sight = seen_in n g x in
+      let y : Sight = sight_in n g x in
       let h = last_shows n g x left before over top w rest in
       let same = seen_is (marks_in n g x) y (open_text left.open_line) (open_place left.open_line) (line_shown n g x left w h.seen) (place_shown n g x left w h.seen) h.seen.spans in (
         h.bytes,

@@ -4,21 +4,21 @@ use Rattle.line_buffer.specs.Cells.{origin, same_cell}
 use Rattle.line_buffer.specs.declared.layout.Layout.{Layout}
 use Rattle.line_buffer.specs.declared.layout.Position.{Position}
 use Rattle.line_config.specs.declared.memory.VecSink.{VecSink}
-use Rattle.line_editor.specs.Calls.{Marks}
-use Rattle.line_editor.specs.Redraws.{fresh, full, moved_by_call, may_take, may_type, nothing_asked, taken_short, typed_short}
-use Rattle.line_editor.specs.Redraws.Redraw.{Drawn, Moved, Typed, Taken, Bared, ToEnd, Beeped, Cleared}
+use Rattle.line_editor.specs.RenderCalls.{Marks}
+use Rattle.line_editor.specs.Redraws.{fresh, full, move_call, may_take, may_type, may_put_in, may_take_out, nothing_asked, erase_call, char_call, put_in_short, taken_out_short}
+use Rattle.line_editor.specs.Redraws.Redraw.{Drawn, Moved, Typed, Taken, PutIn, TakenOut, Bared, ToEnd, Beeped, Cleared}
 use Rattle.line_editor.specs.Sights.{PartSpans, Sight}
-use Rattle.line_editor.specs.Steps.{one}
+use Rattle.line_editor.specs.EditSteps.{one}
 use Rattle.line_editor.specs.Values.{EditStep, shown_marks}
 use Rattle.line_editor.specs.Values.EditStep.{Draws, Helped, Edits, TakesBack, Takes}
-use Rattle.line_screen.specs.Calls.{Screen, ruler_of}
+use Rattle.line_screen.specs.ScreenCalls.{Screen, ruler_of}
 use Rattle.line_screen.specs.Chain.{finish_of}
 use Rattle.line_screen.specs.Laws.{widths}
 use Rattle.line_screen.specs.Measure.{measure_of}
 use Rattle.line_screen.proofs.LawLemmas.{start_is_empty}
 use Rattle.keyline.specs.SessionLaws.{steps_in}
-use Rattle.keyline.specs.Shows.{DisplayHolds, drawn_by, picture, place_in}
-use Rattle.keyline_c.specs.Laws.{SameLinesGoOnAlike, drawing_start, layout_in, seen_in}
+use Rattle.keyline.specs.Shows.{DisplayHolds, calls_by_screen, picture, place_in}
+use Rattle.keyline_c.specs.Laws.{SameLinesGoOnAlike, drawing_start, layout_in, sight_in}
 use Rattle.keyline_c.proofs.LastLemmas.{StandsAnew, is_cut, line_shown, place_shown, stands_anew}
 
 -- ---- how clusters are counted stays
@@ -27,17 +27,25 @@ module _ (s : Screen) where
   abbrev Counts : Layout → Type 0
   Counts l = l.grapheme_cluster_mode ≡ s.mode
 
-  moved_counts : (l : Layout) (to : Position) (b : Bool) → Counts l → Counts (if b then nothing_asked l else moved_by_call l to).layout
+  moved_counts : (l : Layout) (to : Position) (b : Bool) → Counts l → Counts (if b then nothing_asked l else move_call l to).layout
   moved_counts l to true h = h
   moved_counts l to false h = h
 
-  typed_counts : (l : Layout) (m : Option Marks) (c : ℕ) (prompt text : List ℕ) (at : ℕ) (b : Bool) → Counts l → Counts (if b then typed_short l c else full (ruler_of s) m l prompt true text at None).layout
+  typed_counts : (l : Layout) (m : Option Marks) (c : ℕ) (prompt text : List ℕ) (at : ℕ) (b : Bool) → Counts l → Counts (if b then char_call l c else full (ruler_of s) m l prompt true text at None).layout
   typed_counts l m c prompt text at true h = h
   typed_counts l m c prompt text at false h = refl
 
-  taken_counts : (l : Layout) (m : Option Marks) (count : ℕ) (prompt text : List ℕ) (at : ℕ) (b : Bool) → Counts l → Counts (if b then taken_short l count else full (ruler_of s) m l prompt true text at None).layout
+  taken_counts : (l : Layout) (m : Option Marks) (count : ℕ) (prompt text : List ℕ) (at : ℕ) (b : Bool) → Counts l → Counts (if b then erase_call l count else full (ruler_of s) m l prompt true text at None).layout
   taken_counts l m count prompt text at true h = h
   taken_counts l m count prompt text at false h = refl
+
+  put_in_counts : (l : Layout) (m : Option Marks) (c : ℕ) (prompt text : List ℕ) (at : ℕ) (b : Bool) → Counts l → Counts (if b then put_in_short l c else full (ruler_of s) m l prompt true text at None).layout
+  put_in_counts l m c prompt text at true h = h
+  put_in_counts l m c prompt text at false h = refl
+
+  taken_out_counts : (l : Layout) (m : Option Marks) (cell : Position) (count : ℕ) (prompt text : List ℕ) (at : ℕ) (b : Bool) → Counts l → Counts (if b then taken_out_short l cell count else full (ruler_of s) m l prompt true text at None).layout
+  taken_out_counts l m cell count prompt text at true h = h
+  taken_out_counts l m cell count prompt text at false h = refl
 
   bared_counts : (l : Layout) (m : Option Marks) (prompt text : List ℕ) (at : ℕ) (b : Bool) → Counts l → Counts (if b then nothing_asked l else full (ruler_of s) m l prompt true text at None).layout
   bared_counts l m prompt text at true h = h
@@ -48,6 +56,9 @@ module _ (s : Screen) where
   step_counts (Draws v m (Moved text at)) l h = (let to = (ruler_of s).measure (take at text) l.prompt_size in moved_counts l to (same_cell l.cursor to) h)
   step_counts (Draws v m (Typed prompt c text at)) l h = typed_counts l (shown_marks v m) c prompt text at (may_type (ruler_of s) l) h
   step_counts (Draws v m (Taken prompt count text at)) l h = taken_counts l (shown_marks v m) count prompt text at (may_take l count) h
+  step_counts (Draws v m (PutIn prompt c text at)) l h = put_in_counts l (shown_marks v m) c prompt text at (may_put_in (ruler_of s) l) h
+  step_counts (Draws v m (TakenOut prompt count text at)) l h =
+      (let cell = (ruler_of s).measure (take at text) l.prompt_size in taken_out_counts l (shown_marks v m) cell count prompt text at (may_take_out l cell count) h)
   step_counts (Draws v m (Bared prompt text at)) l h = bared_counts l (shown_marks v m) prompt text at l.default_prompt h
   step_counts (Draws v m ToEnd) l h = moved_counts l l.end (same_cell l.cursor l.end) h
   step_counts (Draws v m Beeped) l h = h
@@ -57,7 +68,7 @@ module _ (s : Screen) where
   step_counts (TakesBack v count) l h = h
   step_counts (Takes v) l h = h
 
-  all_count : (rs : List EditStep) (l : Layout) → Counts l → Counts (drawn_by s l rs).layout
+  all_count : (rs : List EditStep) (l : Layout) → Counts l → Counts (calls_by_screen s l rs).layout
   all_count [] l h = h
   all_count (r ∷ rs) l h = all_count rs (one (ruler_of s) l r).layout (step_counts r l h)
 
@@ -108,8 +119,8 @@ module _ (held : VecSink → List ℕ) where
       let b = two.anew in
       let text = line_shown held n g x left w one.seen ∙ same.text ∙ sym (line_shown held n g y other v two.seen) in
       let place = place_shown held n g x left w one.seen ∙ same.place ∙ sym (place_shown held n g y other v two.seen) in
-      same_layout s ([] ++ (drawing_start ++ a.later)) ([] ++ (drawing_start ++ b.later)) (layout_in n g x) (layout_in n g y) (seen_in n g x) (seen_in n g y)
+      same_layout s ([] ++ (drawing_start ++ a.later)) ([] ++ (drawing_start ++ b.later)) (layout_in n g x) (layout_in n g y) (sight_in n g x) (sight_in n g y)
       (a.holds [] [] 0 (start_is_empty s low high)) (b.holds [] [] 0 (start_is_empty s low high))
-      (sight_by (seen_in n g x) (seen_in n g y) same.prompt text place same.info given (one.seen.rests ∙ sym two.seen.rests))
+      (sight_by (sight_in n g x) (sight_in n g y) same.prompt text place same.info given (one.seen.rests ∙ sym two.seen.rests))
       (all_count s (steps_in n g x) (fresh s.mode) refl) (all_count s (steps_in n g y) (fresh s.mode) refl)
       (a.tabs_are ∙ sym b.tabs_are)

@@ -3,14 +3,14 @@ use Rattle.std.proofs.Common.{◌≡◌, inl, inr, ℕ, zero, suc, ◌≤◌, �
 use Rattle.std.specs.Prelude.{⊤}
 use Rattle.std.specs.List.{flat_map}
 use Rattle.line_buffer.specs.declared.layout.Layout.{Layout}
-use Rattle.line_config.specs.Played.{Played, asked_first, played_on}
-use Rattle.line_config.specs.Scripts.{Ends, Asks, then}
+use Rattle.script.specs.Played.{Played, play_with_first_ask, play_after_answer}
+use Rattle.script.specs.Scripts.{Ends, Asks, then}
 use Rattle.line_config.specs.declared.errors.ReadlineError.{ReadlineError}
 use Rattle.line_config.specs.declared.errors.ReadlineError.TheVariants.{Eof, Interrupted, Memory}
-use Rattle.line_help.specs.declared.search.SearchDirection.{SearchDirection}
-use Rattle.line_help.specs.declared.search.SearchDirection.TheVariants.{Forward, Reverse}
-use Rattle.line_keys.specs.Answers.{Custom}
-use Rattle.line_keys.specs.Phrases.{Answer, Steps, Needs, Shows, Reads, Becomes, Refuses, steps}
+use Rattle.line_help.specs.declared.history.search.SearchDirection.{SearchDirection}
+use Rattle.line_help.specs.declared.history.search.SearchDirection.TheVariants.{Forward, Reverse}
+use Rattle.line_keys.specs.CustomBindings.{Custom}
+use Rattle.line_keys.specs.PhraseScripts.{Answer, KeyScript, Needs, Shows, Reads, Becomes, Refuses, steps}
 use Rattle.line_keys.specs.Refreshing.{Ask}
 use Rattle.line_keys.specs.Refreshing.Ask.{Line, Message, Prompted, DoingInsert, DoneInserting}
 use Rattle.line_keys.specs.Replies.{Reply}
@@ -21,15 +21,15 @@ use Rattle.line_editor.specs.Asks.{ask_effect, shown_in}
 use Rattle.line_editor.specs.Commands.{Means, outcome}
 use Rattle.line_keys.specs.Modes.{is_emacs}
 use Rattle.line_editor.specs.Leads.{BeginShows, LeadsAlong}
-use Rattle.line_editor.specs.LineScripts.{Begins, Keys, Meets, Obeys, Makes, LineAsk, LineScript, LineState, answer_at, effect_at, keyed, left_at, line_plan, line_script, means_at, met_then, obeying, played_from, steps_along, turn_script, turned_on, turns_script}
-use Rattle.line_editor.specs.Meeting.{meeting, modal_seen, seen_by}
+use Rattle.line_editor.specs.LineScripts.{Begins, Keys, Meets, Obeys, Makes, LineAsk, LineScript, LineState, answer_at, effect_at, script_of_keys, left_at, line_plan, line_script, means_at, meet_script, obey_script, played_from, steps_along, turn_script, line_script_after, turns_script}
+use Rattle.line_editor.specs.ModalCommands.{meeting, modal_seen, sight_in_mode}
 use Rattle.line_editor.specs.Modal.{Modal}
 use Rattle.line_editor.specs.NextCommand.{line_phrase}
 use Rattle.line_editor.specs.Redraws.{info_text}
 use Rattle.line_editor.specs.Searching.{heading}
 use Rattle.line_editor.specs.Sights.{Sight, drawn_spans, sight, sight_all, sight_with, FitsAll}
-use Rattle.line_editor.specs.Steps.{one}
-use Rattle.line_editor.specs.Values.{EditStep, Setting, Value, helped, hint_reply, shown_hint, shown_marks}
+use Rattle.line_editor.specs.EditSteps.{one}
+use Rattle.line_editor.specs.Values.{EditStep, Setting, Value, help_steps, hint_reply, shown_hint, shown_marks}
 use Rattle.line_editor.specs.Values.EditStep.{Draws, Helped, Edits, TakesBack, Takes}
 use Rattle.line_editor.specs.declared.commands.Status.{Status}
 use Rattle.line_editor.specs.declared.commands.Status.TheVariants.{Proceed, Submit}
@@ -39,9 +39,9 @@ use Rattle.line_editor.proofs.CommandsLead.{asks_lead}
 use Rattle.line_editor.proofs.LeadLemmas.{sight_both}
 use Rattle.line_editor.proofs.StopsLemmas.{asked_both}
 use Rattle.line_editor.proofs.ToldLemmas.{PlayedOf, follows, joined_on, played_each, played_then}
-use Rattle.line_screen.specs.Calls.{Screen, bytes_of, ruler_of}
+use Rattle.line_screen.specs.ScreenCalls.{Screen, bytes_of, ruler_of}
 use Rattle.keyline.specs.Events.{asks_events, bytes_drawn, own_events, step_event, step_events}
-use Rattle.keyline.specs.Shows.{LowAll, bytes_for, drawn_by}
+use Rattle.keyline.specs.Shows.{LowAll, bytes_for, calls_by_screen}
 use Rattle.keyline.proofs.ShowCourse.{all_of_map, flat_both}
 use Rattle.keyline_c.proofs.AnewLemmas.{Anew, Bare, Either, NoneCleared, all_anew, all_either}
 
@@ -90,18 +90,18 @@ module _ (s : Setting) where
   command_error m Interrupt v e is h = (let same : Interrupted ≡ e = cc in subst IsOfPhrase (sym same) h)
   command_error m cmd v e is h = cc
 
-  abbrev spoken : Steps Cmd → LineScript Status
-  spoken script = (then) (keyed script) met_then
+  abbrev spoken : KeyScript Cmd → LineScript Status
+  spoken script = (then) (script_of_keys script) meet_script
 
-  obeyed : (cmd : Cmd) (k : LineState) → EndsInPhrase false (played_from s (obeying cmd) k)
+  obeyed : (cmd : Cmd) (k : LineState) → EndsInPhrase false (played_from s (obey_script cmd) k)
   obeyed cmd k = by (outcome (means_at s k cmd) cmd s k.value) (command_error (means_at s k cmd) cmd k.value)
     where
       by : (q : Result Status ReadlineError) → error_of q
-          → EndsInPhrase false (played_on (λ status. record { answer = Ok status; asks = []; rest = left_at s k (Obeys cmd) }) (Obeys cmd) (left_at s k (Obeys cmd)) q)
+          → EndsInPhrase false (play_after_answer (λ status. record { answer = Ok status; asks = []; rest = left_at s k (Obeys cmd) }) (Obeys cmd) (left_at s k (Obeys cmd)) q)
       by (Ok status) none e is h = cc
       by (Err d) none e is h = absurd (none e is h)
 
-  phrase_ends : (script : Steps Cmd) (k : LineState) → EndsInPhrase true (played_from s (spoken script) k)
+  phrase_ends : (script : KeyScript Cmd) (k : LineState) → EndsInPhrase true (played_from s (spoken script) k)
   phrase_ends (Ends cmd) k e is h =
       let left = left_at s k (Meets cmd) in
       obeyed (meeting k.modal cmd s k.value).next left e is h
@@ -120,12 +120,12 @@ module _ (s : Setting) where
       let plan = line_plan s in
       let script = steps (line_phrase custom k.input (shown_in k.value)) (suc n) in
       let said = played_from s (spoken script) k in
-      subst (λ p. EndsInPhrase b (asked_first Begins p)) (sym (played_then plan (turned_on (turns_script n custom)) (spoken script) k))
+      subst (λ p. EndsInPhrase b (play_with_first_ask Begins p)) (sym (played_then plan (line_script_after (turns_script n custom)) (spoken script) k))
       (after n custom said (λ j. turns_end n custom (in_phrase true said.asks) j) (phrase_ends script k) said.answer refl) e is h
     where
       after : (n : ℕ) (custom : Custom) (said : PlayedOf s Status) → ((j : LineState) → EndsInPhrase (in_phrase true said.asks) (played_from s (turns_script n custom) j))
           → EndsInPhrase true said → (q : Result Status ReadlineError) → said.answer ≡ q
-          → EndsInPhrase true (joined_on (follows (line_plan s) (turned_on (turns_script n custom))) said.asks said.rest q)
+          → EndsInPhrase true (joined_on (follows (line_plan s) (line_script_after (turns_script n custom))) said.asks said.rest q)
       after n custom said later ends (Ok Proceed) is e answer h = in_both true said.asks _ ∙ later said.rest e answer h
       after n custom said later ends (Ok Submit) is e answer h = cc
       after n custom said later ends (Err d) is e answer h = (let failed : Result Status ReadlineError = Err d in let same : failed ≡ Err e = error_same d e answer in ends e (is ∙ same) h)
@@ -142,7 +142,7 @@ not_prompt Reverse true more h = cc
 not_prompt Forward false more h = cc
 not_prompt Forward true more h = cc
 
-not_bare : (at : Standing) (m : Modal) (a : Setting) (v : Value) (info : Option (List ℕ)) → Bare (seen_by at m a v info) → ⊥
+not_bare : (at : Standing) (m : Modal) (a : Setting) (v : Value) (info : Option (List ℕ)) → Bare (sight_in_mode at m a v info) → ⊥
 not_bare Searches m a v info b = not_prompt m.dir m.fails _ b.prompt
 not_bare _ m a v info b = true≢false b.given
 
@@ -153,14 +153,14 @@ pub record Seen (a : Setting) (v : Value) (x : Sight) : Type 0 where
   pub rests : x.ended ≡ false
   pub spans : x.spans ≡ drawn_spans (shown_marks v a.marks) x.given x.prompt x.line x.place (info_text x.info)
 
-seen_so : (at : Standing) (m : Modal) (a : Setting) (v : Value) (info : Option (List ℕ)) → Seen a v (seen_by at m a v info)
+seen_so : (at : Standing) (m : Modal) (a : Setting) (v : Value) (info : Option (List ℕ)) → Seen a v (sight_in_mode at m a v info)
 seen_so Searches m a v info = record { line = refl; place = refl; rests = refl; spans = refl }
 seen_so _ m a v info = record { line = refl; place = refl; rests = refl; spans = refl }
 
 -- ---- what a phrase asks for
 
 helped_quiet : {A : Type 0} (s : Screen) (low : 2 ≤ s.columns) (high : s.columns ≤ 1000) (own : List ℕ) (v : Value) (reply : Option (Reply A)) (rs : List EditStep) → NoneCleared s low high own rs
-    → NoneCleared s low high own (helped v reply ++ rs)
+    → NoneCleared s low high own (help_steps v reply ++ rs)
 helped_quiet s low high own v None rs h = h
 helped_quiet s low high own v (Some reply) rs h = (tt, h)
 
@@ -192,10 +192,10 @@ low_later : (s : Screen) (x : Sight) (xs ys : List EditStep) → LowAll s x (xs 
 low_later s x [] ys h = h
 low_later s x (r ∷ xs) ys h = low_later s (sight x r) xs ys h.1
 
-bytes_both : (s : Screen) (l : Layout) (xs ys : List EditStep) → bytes_for s l (xs ++ ys) ≡ bytes_for s l xs ++ bytes_for s (drawn_by s l xs).layout ys
+bytes_both : (s : Screen) (l : Layout) (xs ys : List EditStep) → bytes_for s l (xs ++ ys) ≡ bytes_for s l xs ++ bytes_for s (calls_by_screen s l xs).layout ys
 bytes_both s l xs ys =
     ap (λ (q : _). flat_map (bytes_of s) q.calls) (asked_both (ruler_of s) l xs ys)
-    ∙ flat_both (bytes_of s) (drawn_by s l xs).calls (drawn_by s (drawn_by s l xs).layout ys).calls
+    ∙ flat_both (bytes_of s) (calls_by_screen s l xs).calls (calls_by_screen s (calls_by_screen s l xs).layout ys).calls
 
 module _ (s : Screen) (low : 2 ≤ s.columns) (high : s.columns ≤ 1000) (a : Setting) where
   -- within a phrase they show the value by themselves
@@ -206,7 +206,7 @@ module _ (s : Screen) (low : 2 ≤ s.columns) (high : s.columns ≤ 1000) (a : S
 
   abbrev AtAfter : Bool → List ℕ → Layout → Sight → LineState → LineAsk → Type 0
   AtAfter b bytes l x k ask =
-      let rs = (effect_at a k ask).steps in At (in_keys b ask) (bytes ++ bytes_for s l rs) (drawn_by s l rs).layout (sight_all x rs) (left_at a k ask)
+      let rs = (effect_at a k ask).steps in At (in_keys b ask) (bytes ++ bytes_for s l rs) (calls_by_screen s l rs).layout (sight_all x rs) (left_at a k ask)
 
   -- the turn's begin
   begun : (x : Sight) (k : LineState) (bytes : List ℕ) (l : Layout) → Either s low high a.prompt bytes l x → x ≡ modal_seen k.modal a k.value x.info → Anew s low high a.prompt bytes l x × Seen a k.value x
@@ -217,7 +217,7 @@ module _ (s : Screen) (low : 2 ≤ s.columns) (high : s.columns ≤ 1000) (a : S
   outside b bytes l x k h is = record { either = h; anew = λ e. absurd (true≢false (sym e ∙ is)); seen = λ e. absurd (true≢false (sym e ∙ is)) }
 
   inside : (b : Bool) (bytes : List ℕ) (l : Layout) (x : Sight) (k j : LineState) (rs : List EditStep) → At b bytes l x k → FitsAll a.prompt x rs → LowAll s x rs → NoneCleared s low high a.prompt rs
-      → (Seen a k.value x → Seen a j.value (sight_all x rs)) → At b (bytes ++ bytes_for s l rs) (drawn_by s l rs).layout (sight_all x rs) j
+      → (Seen a k.value x → Seen a j.value (sight_all x rs)) → At b (bytes ++ bytes_for s l rs) (calls_by_screen s l rs).layout (sight_all x rs) j
   inside b bytes l x k j rs at fits rows none on = record {
     either = all_either s low high a.prompt rs bytes l x at.either fits rows;
     anew = λ e. all_anew s low high a.prompt rs bytes l x (at.anew e) fits rows none;
@@ -237,11 +237,11 @@ module _ (s : Screen) (low : 2 ≤ s.columns) (high : s.columns ≤ 1000) (a : S
   one_ask (Keys (Becomes input)) k b bytes l x at fits rows begins = inside b bytes l x k (left_at a k (Keys (Becomes input))) [] at fits rows tt (λ h. h)
   one_ask (Keys (Refuses why)) k b bytes l x at fits rows begins = inside b bytes l x k (left_at a k (Keys (Refuses why))) [] at fits rows tt (λ h. h)
   one_ask (Meets cmd) k b bytes l x at fits rows begins =
-      let rs = (effect_at a k (Meets cmd)).steps in outside false (bytes ++ bytes_for s l rs) (drawn_by s l rs).layout (sight_all x rs) (left_at a k (Meets cmd)) (all_either s low high a.prompt rs bytes l x at.either fits rows) refl
+      let rs = (effect_at a k (Meets cmd)).steps in outside false (bytes ++ bytes_for s l rs) (calls_by_screen s l rs).layout (sight_all x rs) (left_at a k (Meets cmd)) (all_either s low high a.prompt rs bytes l x at.either fits rows) refl
   one_ask (Obeys cmd) k b bytes l x at fits rows begins =
-      let rs = (effect_at a k (Obeys cmd)).steps in outside false (bytes ++ bytes_for s l rs) (drawn_by s l rs).layout (sight_all x rs) (left_at a k (Obeys cmd)) (all_either s low high a.prompt rs bytes l x at.either fits rows) refl
+      let rs = (effect_at a k (Obeys cmd)).steps in outside false (bytes ++ bytes_for s l rs) (calls_by_screen s l rs).layout (sight_all x rs) (left_at a k (Obeys cmd)) (all_either s low high a.prompt rs bytes l x at.either fits rows) refl
   one_ask (Makes edit) k b bytes l x at fits rows begins =
-      let rs = (effect_at a k (Makes edit)).steps in outside false (bytes ++ bytes_for s l rs) (drawn_by s l rs).layout (sight_all x rs) (left_at a k (Makes edit)) (all_either s low high a.prompt rs bytes l x at.either fits rows) refl
+      let rs = (effect_at a k (Makes edit)).steps in outside false (bytes ++ bytes_for s l rs) (calls_by_screen s l rs).layout (sight_all x rs) (left_at a k (Makes edit)) (all_either s low high a.prompt rs bytes l x at.either fits rows) refl
 
   abbrev pub left_by : LineState → List LineAsk → LineState
   left_by k [] = k
@@ -254,24 +254,24 @@ module _ (s : Screen) (low : 2 ≤ s.columns) (high : s.columns ≤ 1000) (a : S
       played_each (λ (p : PlayedOf a X). left_by k p.asks ≡ p.rest) (λ x. played_from a (later x) left) ask left (λ x. rest_by (later x) left) (λ e. refl) (answer_at a k ask)
 
   pub walk : (o : Result (List ℕ) ReadlineError) (asks : List LineAsk) (k : LineState) (b : Bool) (bytes : List ℕ) (l : Layout) (x : Sight) → (let rs = steps_along a k asks in
-      At b bytes l x k → LeadsAlong a o k x asks → LowAll s x rs → At (in_phrase b asks) (bytes ++ bytes_for s l rs) (drawn_by s l rs).layout (sight_all x rs) (left_by k asks))
+      At b bytes l x k → LeadsAlong a o k x asks → LowAll s x rs → At (in_phrase b asks) (bytes ++ bytes_for s l rs) (calls_by_screen s l rs).layout (sight_all x rs) (left_by k asks))
   walk o [] k b bytes l x at leads rows = subst (λ z. At b z l x k) (sym (append-nil bytes)) at
   walk o (ask ∷ asks) k b bytes l x at leads rows =
       let first = (effect_at a k ask).steps in
       let left = left_at a k ask in
       let rest = steps_along a left asks in
-      let m = (drawn_by s l first).layout in
+      let m = (calls_by_screen s l first).layout in
       let y = sight_all x first in
       let b' = in_keys b ask in
       let here = one_ask ask k b bytes l x at leads.0 (low_first s x first rest rows) leads.1 in
       let on = walk o asks left b' (bytes ++ bytes_for s l first) m y here leads.2 (low_later s x first rest rows) in
       let end = in_phrase b' asks in
       let j = left_by left asks in
-      let one : At end ((bytes ++ bytes_for s l first) ++ bytes_for s m rest) (drawn_by s m rest).layout (sight_all x (first ++ rest)) j =
-      subst (λ z. At end ((bytes ++ bytes_for s l first) ++ bytes_for s m rest) (drawn_by s m rest).layout z j) (sym (sight_both x first rest)) on in
-      let two : At end ((bytes ++ bytes_for s l first) ++ bytes_for s m rest) (drawn_by s l (first ++ rest)).layout (sight_all x (first ++ rest)) j =
+      let one : At end ((bytes ++ bytes_for s l first) ++ bytes_for s m rest) (calls_by_screen s m rest).layout (sight_all x (first ++ rest)) j =
+      subst (λ z. At end ((bytes ++ bytes_for s l first) ++ bytes_for s m rest) (calls_by_screen s m rest).layout z j) (sym (sight_both x first rest)) on in
+      let two : At end ((bytes ++ bytes_for s l first) ++ bytes_for s m rest) (calls_by_screen s l (first ++ rest)).layout (sight_all x (first ++ rest)) j =
       subst (λ z. At end ((bytes ++ bytes_for s l first) ++ bytes_for s m rest) z (sight_all x (first ++ rest)) j) (sym (ap (λ (q : _). q.layout) (asked_both (ruler_of s) l first rest))) one in
-      subst (λ z. At end z (drawn_by s l (first ++ rest)).layout (sight_all x (first ++ rest)) j)
+      subst (λ z. At end z (calls_by_screen s l (first ++ rest)).layout (sight_all x (first ++ rest)) j)
       (append_assoc bytes (bytes_for s l first) (bytes_for s m rest) ∙ ap (λ z. bytes ++ z) (sym (bytes_both s l first rest))) two
 
 -- ---- the bytes of a line's events
@@ -282,7 +282,7 @@ steps_bytes s l (Draws v m redraw ∷ rs) =
     let q = one (ruler_of s) l (Draws v m redraw) in
     ap (λ z. bytes_drawn (step_event s l (Draws v m redraw)) ++ z) (steps_bytes s q.layout rs)
     ∙ ap (λ z. z ++ bytes_for s q.layout rs) (all_of_map (bytes_of s) q.calls)
-    ∙ sym (flat_both (bytes_of s) q.calls (drawn_by s q.layout rs).calls)
+    ∙ sym (flat_both (bytes_of s) q.calls (calls_by_screen s q.layout rs).calls)
 steps_bytes s l (Helped v fails takes ∷ rs) = steps_bytes s l rs
 steps_bytes s l (Edits v edit ∷ rs) = steps_bytes s l rs
 steps_bytes s l (TakesBack v count ∷ rs) = steps_bytes s l rs
@@ -298,7 +298,7 @@ asks_bytes s a l k [] = refl
 asks_bytes s a l k (ask ∷ asks) =
     let first = (effect_at a k ask).steps in
     let left = left_at a k ask in
-    let m = (drawn_by s l first).layout in
+    let m = (calls_by_screen s l first).layout in
     flat_both bytes_drawn (step_events s l first) (own_events a k ask ++ asks_events s a m left asks)
     ∙ ap (λ z. z ++ flat_map bytes_drawn (own_events a k ask ++ asks_events s a m left asks)) (steps_bytes s l first)
     ∙ ap (λ z. bytes_for s l first ++ z) (flat_both bytes_drawn (own_events a k ask) (asks_events s a m left asks) ∙ ap (λ z. z ++ flat_map bytes_drawn (asks_events s a m left asks)) (own_bytes a k ask) ∙ asks_bytes s a m left asks)

@@ -7,9 +7,10 @@ use Rattle.std.proofs.Math.Seq.{take-add, take-length}
 use Rattle.std.proofs.lemmas.Grind.{flat_map-append}
 use Rattle.std.proofs.lemmas.List.Elements.{All-append}
 use Rattle.std.proofs.lemmas.List.{take_more, map-append, append-nil, length-append, length-take-le, drop_at, take_at}
-use Rattle.line_record.specs.Ring.{Ring}
+use Rattle.line_record.specs.Ring.{Ring, ring_of}
+use Rattle.keyline.specs.declared.session.TheConstants.{KILL_RING_SIZE}
 use Rattle.keyline_c.proofs.RingLemmas.{one_is}
-use Rattle.keyline_c.specs.Slots.{AreLaidOut, HasRing, IsSlot, SlotMeans, IsRingOf, ends_behind, ring_by}
+use Rattle.keyline_c.specs.Slots.{AreLaidOut, HasRing, IsSlot, SlotMeans, IsRingOf, ends_behind}
 
 abbrev own : List ℕ → List ℕ
 own text = text
@@ -127,13 +128,13 @@ pub slot_given : {X : Type 0} (texts : List ℕ) (from to : ℕ) (copied : Optio
 slot_given texts from to copied none (Some x) means slot = refl
 slot_given texts from to copied none None means slot = absurd (subst (SlotMeans texts from to) none means slot.0 slot.1)
 
--- the ring of all of them, turned to a place
-pub ring_stands : (texts ends : List ℕ) (place start i : ℕ) (old new : Ring) → AreLaidOut old.slots (take start texts) (take i ends) → start ≡ length texts → i ≡ length ends
-    → length old.slots ≡ i → All IsUtf8 old.slots → length ends ≤ 60 → place ≤ length ends - 1 → new ≡ ring_by old.slots place → IsRingOf texts ends place new
-ring_stands texts ends place start i old new h all_texts all_ends count utf8 few inside is =
+-- the ring of all of them
+pub ring_stands : (texts ends : List ℕ) (place start i : ℕ) (slots : List (List ℕ)) (ring : Ring) → AreLaidOut slots (take start texts) (take i ends) → start ≡ length texts → i ≡ length ends
+    → length slots ≡ i → All IsUtf8 slots → length ends ≤ KILL_RING_SIZE → place ≤ length ends - 1 → ring ≡ ring_of slots KILL_RING_SIZE place → IsRingOf texts ends place ring
+ring_stands texts ends place start i slots ring h all_texts all_ends count utf8 few inside is =
     subst (IsRingOf texts ends place) (sym is) (record {
-      laid_out = subst (AreLaidOut old.slots texts) (ap (λ n. take n ends) all_ends ∙ take-length ends)
-          (subst (λ (x : List ℕ). AreLaidOut old.slots x (take i ends)) (ap (λ n. take n texts) all_texts ∙ take-length texts) h);
+      laid_out = subst (AreLaidOut slots texts) (ap (λ n. take n ends) all_ends ∙ take-length ends)
+          (subst (λ (x : List ℕ). AreLaidOut slots x (take i ends)) (ap (λ n. take n texts) all_texts ∙ take-length texts) h);
       ring_is = refl;
       few = omega (arith, count, all_ends, few);
       inside = omega (arith, count, all_ends, inside);
@@ -174,9 +175,9 @@ pub no_ring : (texts ends : List ℕ) (place : ℕ) → (HasRing texts ends plac
 no_ring texts ends place none = (λ is. absurd (true≢false (sym is)), λ has. absurd (none has))
 
 -- there is a ring if they end where the texts end
-pub ring_if : (texts ends : List ℕ) (place start i : ℕ) (b : Bool) → Begins texts ends start i → i ≡ length ends → length ends ≤ 60 → place ≤ length ends - 1
+pub ring_if : (texts ends : List ℕ) (place start i : ℕ) (b : Bool) → Begins texts ends start i → i ≡ length ends → length ends ≤ KILL_RING_SIZE → place ≤ length ends - 1
     → (IsTrue b → start ≡ length texts) → (start ≡ length texts → IsTrue b) → IsTrue b ↔ HasRing texts ends place
 ring_if texts ends place start i b h all few inside whole is_whole = (
-  λ is. (ring_by h.slots place, ring_stands texts ends place start i (ring_by h.slots 0) (ring_by h.slots place) h.laid_out (whole is) all h.count h.utf8 few inside refl),
+  λ is. (ring_of h.slots KILL_RING_SIZE place, ring_stands texts ends place start i h.slots (ring_of h.slots KILL_RING_SIZE place) h.laid_out (whole is) all h.count h.utf8 few inside refl),
   λ has. is_whole (h.start_is ∙ (ap (λ n. slice_index_or (0 ∷ ends) n 0) all ∙ slots_end has.0.slots texts ends has.1.laid_out)),
 )

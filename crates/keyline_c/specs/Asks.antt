@@ -5,7 +5,7 @@ use Rattle.line_config.specs.declared.device.Last.TheVariants.{End}
 use Rattle.line_config.specs.declared.errors.ReadlineError.{ReadlineError}
 use Rattle.line_config.specs.declared.errors.ReadlineError.TheVariants.{Eof}
 use Rattle.line_config.specs.declared.settings.EditMode.{EditMode}
-use Rattle.line_keys.specs.Answers.{Custom, custom_of}
+use Rattle.line_keys.specs.CustomBindings.{Custom, custom_of}
 use Rattle.line_keys.specs.Bound.{find, same_event}
 use Rattle.line_keys.specs.Coming.{Coming, Pressed, Ends, Refused, refusal_of}
 use Rattle.line_keys.specs.Events.{normal_event}
@@ -61,5 +61,5 @@ pub record AreAsked (mode : EditMode) (text : List ℕ) (bindings : List (Event 
 abbrev pub stops_at : Asking → Meaning
 stops_at asking showing = record { answer = None; takes = false }
 
-abbrev pub asking_by : List (Event × Asking) → Custom
-asking_by bindings = custom_of bindings stops_at
+abbrev pub custom_by_asking : List (Event × Asking) → Custom
+custom_by_asking bindings = custom_of bindings stops_at

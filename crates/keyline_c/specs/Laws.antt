@@ -3,7 +3,7 @@
 use Rattle.std.specs.Prelude.{◌≡◌, ℕ, suc, nat_eq, Bool, if◌then◌else◌, List, [], ◌∷◌, ◌++◌, true, Option, Some, None, Ok}
 use Rattle.std.specs.List.{starts_with}
 use Rattle.std.specs.Option.{option_or}
-use Rattle.line_buffer.specs.Insertions.{put_at_cursor}
+use Rattle.line_buffer.specs.Insertions.{with_text_at_cursor}
 use Rattle.line_buffer.specs.Line.{Line}
 use Rattle.line_buffer.specs.declared.layout.Layout.{Layout}
 use Rattle.line_config.specs.declared.device.Last.{Last}
@@ -13,26 +13,26 @@ use Rattle.line_editor.specs.LineScripts.{LineState, played_from, turn_script}
 use Rattle.line_editor.specs.Modal.{is_at_rest}
 use Rattle.line_editor.specs.Redraws.{fresh}
 use Rattle.line_editor.specs.Sights.{Sight, no_sight, sight_all}
-use Rattle.line_editor.specs.Calls.{Marks}
+use Rattle.line_editor.specs.RenderCalls.{Marks}
 use Rattle.line_editor.specs.Values.{Setting, shown_marks}
 use Rattle.line_editor.specs.Yanking.{behind_yank}
 use Rattle.line_editor.specs.declared.commands.Status.TheVariants.{Proceed}
-use Rattle.line_keys.specs.Answers.{Custom}
+use Rattle.line_keys.specs.CustomBindings.{Custom}
 use Rattle.line_keys.specs.Events.{single}
 use Rattle.line_keys.specs.declared.events.Event.TheVariants.{Any}
-use Rattle.line_screen.specs.Calls.{Screen}
+use Rattle.line_screen.specs.ScreenCalls.{Screen}
 use Rattle.line_screen.specs.Display.{Display, Placed, cell_at, style_at, meaning}
 use Rattle.line_screen.specs.Drawing.{erase_to_end}
 use Rattle.line_screen.specs.KeyGrammar.{paste_start}
 use Rattle.line_screen.specs.Laws.{widths}
-use Rattle.keyline.specs.Events.{line_course, played_in}
-use Rattle.keyline.specs.Pasting.{IsPasteable, sent_as_paste}
+use Rattle.keyline.specs.Events.{line_course, line_play_in}
+use Rattle.keyline.specs.Pasting.{IsPasteable, paste_bytes}
 use Rattle.keyline.specs.SessionLaws.{steps_in}
 use Rattle.keyline.specs.Sessions.{Given, SessionState, coming_from, setting_in}
-use Rattle.keyline.specs.Shows.{IsAtRest, IsScreen, LowAll, MomentShown, drawn_by, face}
+use Rattle.keyline.specs.Shows.{IsAtRest, IsScreen, LowAll, MomentShown, calls_by_screen, face}
 use Rattle.keyline_c.specs.Lines.{LeftBy, value_first}
-use Rattle.keyline_c.specs.Statuses.{ended_as, is_open}
-use Rattle.keyline_c.specs.Steps.{open_place, open_text}
+use Rattle.keyline_c.specs.Statuses.{status_of_ending, is_open}
+use Rattle.keyline_c.specs.CallSteps.{open_place, open_text}
 use Rattle.keyline_c.specs.declared.line.Left.{Left}
 
 -- ---- whole drawings
@@ -53,22 +53,24 @@ last_drawing (byte ∷ bytes) = option_or (last_drawing bytes)
 -- ---- what they show
 
 -- what the steps of a line show: a prompt, the line with its cursor, and a hint or message
-abbrev pub seen_in : ℕ → Given → SessionState → Sight
-seen_in n g x = sight_all no_sight (steps_in n g x)
+abbrev pub sight_in : ℕ → Given → SessionState → Sight
+sight_in n g x = sight_all no_sight (steps_in n g x)
 
 -- what the highlighter gives for the drawing of the value after them, if there is one
 abbrev pub marks_in : ℕ → Given → SessionState → Option Marks
-marks_in n g x = shown_marks (played_in n g x).rest.value (setting_in g x.history.kept.entries).marks
+marks_in n g x = shown_marks (line_play_in n g x).rest.value
+    (setting_in g x.history.kept.entries).marks
 
 -- what is kept of the drawing, from which the bytes for the next keys follow
 abbrev pub layout_in : ℕ → Given → SessionState → Layout
-layout_in n g x = (drawn_by g.screen (fresh g.screen.mode) (steps_in n g x)).layout
+layout_in n g x = (calls_by_screen g.screen (fresh g.screen.mode) (steps_in n g x)).layout
 
 module _ (held : VecSink → List ℕ) where
   -- a line continues, and everything shown is within the rows that can be counted
   pub record IsOpenAt (n : ℕ) (g : Given) (x : SessionState) (left : Left) : Type 0 where
-    pub reads : LeftBy held (line_course n g x) (value_first g x) (played_in n g x).rest.value left
-    pub continues : is_open (ended_as left.outcome) ≡ true
+    pub reads : LeftBy held (line_course n g x) (value_first g x)
+        (line_play_in n g x).rest.value left
+    pub continues : is_open (status_of_ending left.outcome) ≡ true
     pub low : LowAll g.screen no_sight (steps_in n g x)
 
   -- the bytes from the last whole drawing on show the open line by themselves, on any blank rows
@@ -80,8 +82,8 @@ module _ (held : VecSink → List ℕ) where
       (before : List ℕ) (over : List Placed) (top : ℕ)
       → IsOpenAt n g x left → IsAtRest (face g.screen before top over no_sight)
       → (bytes : List ℕ) × (last_drawing (held left.display) ≡ Some bytes)
-      × MomentShown (face g.screen (before ++ bytes) top over (seen_in n g x)) (marks_in n g x)
-      (seen_in n g x).given (seen_in n g x).prompt (open_text left.open_line)
+      × MomentShown (face g.screen (before ++ bytes) top over (sight_in n g x)) (marks_in n g x)
+      (sight_in n g x).given (sight_in n g x).prompt (open_text left.open_line)
       (open_place left.open_line)
 
 -- the same cells, and the cursor in the same one
@@ -97,8 +99,8 @@ StyledAlike d e = (row col : ℕ) → style_at d.placed row col ≡ style_at e.p
 pub record ShowTheSame (n : ℕ) (g : Given) (x y : SessionState) (left other : Left) : Type 0 where
   pub text : open_text left.open_line ≡ open_text other.open_line
   pub place : open_place left.open_line ≡ open_place other.open_line
-  pub prompt : (seen_in n g x).prompt ≡ (seen_in n g y).prompt
-  pub info : (seen_in n g x).info ≡ (seen_in n g y).info
+  pub prompt : (sight_in n g x).prompt ≡ (sight_in n g y).prompt
+  pub info : (sight_in n g x).info ≡ (sight_in n g y).info
 
 module _ (held : VecSink → List ℕ) where
   -- a display to which bytes were sent, and then those from a line's last whole drawing on
@@ -116,7 +118,7 @@ module _ (held : VecSink → List ℕ) where
       → IsOpenAt held n g x left → IsOpenAt held n g y other → ShowTheSame n g x y left other
       → IsAtRest (face g.screen before top over no_sight)
       → DrawnAnew g.screen before left d → DrawnAnew g.screen before other e
-      → LookAlike d e × ((seen_in n g x).spans ≡ (seen_in n g y).spans → StyledAlike d e)
+      → LookAlike d e × ((sight_in n g x).spans ≡ (sight_in n g y).spans → StyledAlike d e)
 
   -- and the same is kept of both drawings, if each prompt is the session's own, or neither is. So
   -- what follows on the one display may follow on the other
@@ -124,15 +126,15 @@ module _ (held : VecSink → List ℕ) where
   SameLinesGoOnAlike =
       (n : ℕ) (g : Given) (x y : SessionState) (left other : Left)
       → IsOpenAt held n g x left → IsOpenAt held n g y other → ShowTheSame n g x y left other
-      → (seen_in n g x).given ≡ (seen_in n g y).given → IsScreen g.screen
+      → (sight_in n g x).given ≡ (sight_in n g y).given → IsScreen g.screen
       → layout_in n g x ≡ layout_in n g y
 
 -- ---- a paste
 
 -- a text goes to the cursor, and the cursor after it; in Vi's command mode onto its last cluster
-abbrev pub pasted_in : Bool → List ℕ → Line → Line
-pasted_in vi [] l = l
-pasted_in vi (byte ∷ bytes) l = behind_yank vi (put_at_cursor (byte ∷ bytes) l)
+abbrev pub line_with_paste : Bool → List ℕ → Line → Line
+line_with_paste vi [] l = l
+line_with_paste vi (byte ∷ bytes) l = behind_yank vi (with_text_at_cursor (byte ∷ bytes) l)
 
 -- no binding is for the key that announces a paste
 pub record LetsPastesIn (custom : Custom) : Type 0 where
@@ -146,8 +148,8 @@ PastesGoIn =
     (n : ℕ) (s : Setting) (custom : Custom) (k : LineState) (text more : List ℕ)
     (last : Last)
     → LetsPastesIn custom → k.value.line.growth ≡ true → is_at_rest k.modal.standing ≡ true
-    → IsPasteable text → k.coming ≡ coming_from k.input.mode (sent_as_paste text ++ more) last
+    → IsPasteable text → k.coming ≡ coming_from k.input.mode (paste_bytes text ++ more) last
     → let p = played_from s (turn_script (suc (suc n)) custom) k in
     let vi = in_vi_command (means_of k.input k.ring) in
     (p.answer ≡ Ok Proceed) × (p.rest.coming ≡ coming_from k.input.mode more last)
-    × (p.rest.value.line ≡ pasted_in vi text k.value.line)
+    × (p.rest.value.line ≡ line_with_paste vi text k.value.line)

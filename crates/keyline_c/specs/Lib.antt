@@ -3,7 +3,7 @@ pub mod Call
 pub mod Laws
 pub mod Lines
 pub mod Meant
-pub mod Rooms
+pub mod Buffers
 pub mod Slots
 pub mod Statuses
-pub mod Steps
+pub mod CallSteps

@@ -1,5 +1,5 @@
 -- A line of the keys so far: its arguments and its result.
-use Rattle.std.specs.Prelude.{◌≡◌, ◌⊎◌, ℕ, ◌<◌, ◌++◌, Bool, true, if◌then◌else◌, List, [], Option, Result, Ok, Err, IsErrAnd, length, string_bytes}
+use Rattle.std.specs.Prelude.{◌≡◌, ◌⊎◌, ℕ, ◌<◌, Bool, if◌then◌else◌, List, [], Option, Result, IsErrAnd, length, string_bytes}
 use Rattle.std.specs.List.{flat_map}
 use Rattle.line_buffer.specs.Line.{Line}
 use Rattle.line_config.specs.declared.config.Config.{Config}
@@ -8,26 +8,23 @@ use Rattle.line_config.specs.declared.device.Last.TheVariants.{End, Failed}
 use Rattle.line_config.specs.declared.errors.ReadlineError.{ReadlineError}
 use Rattle.line_config.specs.declared.errors.ReadlineError.TheVariants.{Display, Helper, Memory}
 use Rattle.line_config.specs.declared.memory.VecSink.{VecSink}
-use Rattle.line_editor.specs.Courses.{breaks_after}
-use Rattle.line_editor.specs.Running.{IsOpen}
+use Rattle.line_editor.specs.LineRun.{IsOpen}
 use Rattle.line_editor.specs.Values.{Value, first_value}
-use Rattle.line_help.specs.History.{Filed}
-use Rattle.line_keys.specs.Answers.{Custom}
-use Rattle.line_keys.specs.Coming.{made_of, unread}
+use Rattle.line_keys.specs.CustomBindings.{Custom}
+use Rattle.line_keys.specs.Coming.{answer_map, bytes_to_come}
 use Rattle.line_keys.specs.declared.events.Event.{Event}
-use Rattle.line_screen.specs.Drawing.{break_if}
 use Rattle.keyline.specs.Program.{config_of, edit_helping, helper_of}
-use Rattle.keyline.specs.Plays.{loaded_from}
-use Rattle.keyline.specs.Events.{Course, bytes_drawn, line_course, played_in}
-use Rattle.keyline.specs.Sessions.{Given, SessionState, given_of, history_after, screen_by, setting_in, state_over}
+use Rattle.keyline.specs.SessionRuns.{history_loaded_from}
+use Rattle.keyline.specs.Events.{Course, bytes_drawn, line_course, line_play_in}
+use Rattle.keyline.specs.Sessions.{Given, SessionState, given_of, screen_by, setting_in, state_over}
 use Rattle.keyline.specs.declared.options.Options.{Options}
-use Rattle.keyline_c.specs.Asks.{AreAsked, asking_by}
+use Rattle.keyline_c.specs.Asks.{AreAsked, custom_by_asking}
 use Rattle.keyline_c.specs.Meant.{AreMeant, AreValid, settings_by, whole, words_in}
 use Rattle.keyline_c.specs.declared.asking.Asking.{Asking}
 use Rattle.keyline_c.specs.declared.export.KeylineOptions.{KeylineOptions}
 use Rattle.keyline_c.specs.declared.line.Left.{Left}
-use Rattle.keyline_c.specs.declared.status.Status.{Status}
-use Rattle.keyline_c.specs.declared.status.Status.TheVariants as Refusal
+use Rattle.keyline_c.specs.declared.status.CallStatus.{CallStatus}
+use Rattle.keyline_c.specs.declared.status.CallStatus.TheVariants as Refusal
 
 -- what follows the keys: their end, or a failure if more keys may follow
 abbrev pub last_of : Bool → Last
@@ -44,7 +41,7 @@ given_with config custom options words = given_of config custom (string_bytes op
 
 -- the line as it stands at its end, or where the keys end
 abbrev pub line_at_end : ℕ → Given → SessionState → Line
-line_at_end n g x = (played_in n g x).rest.value.line
+line_at_end n g x = (line_play_in n g x).rest.value.line
 
 -- the value at which it begins
 abbrev pub value_first : Given → SessionState → Value
@@ -55,30 +52,19 @@ value_first g x = first_value (setting_in g x.history.kept.entries)
 pub record LeftBy (held : VecSink → List ℕ)
     (line : Course (Result (List ℕ) ReadlineError × SessionState)) (first standing : Value)
     (left : Left) : Type 0 where
-  pub outcome_is : made_of string_bytes left.outcome ≡ line.answer.0
+  pub outcome_is : answer_map string_bytes left.outcome ≡ line.answer.0
   pub line_is : IsOpen left.outcome first standing left.open_line
   pub drawn : held left.display ≡ flat_map bytes_drawn line.events
   pub ring_is : left.ring ≡ line.answer.1.ring
   pub history_is : left.history ≡ line.answer.1.history
-  pub rest_is : left.rest ≡ length (unread line.answer.1.coming)
+  pub rest_is : left.rest ≡ length (bytes_to_come line.answer.1.coming)
 
 -- the relation of a line. More fuel than the source has bytes is enough
 pub record ReadsLine (held : VecSink → List ℕ) (g : Given) (x : SessionState) (bound : ℕ)
     (left : Left) : Type 0 where
   pub goes : (n : ℕ) → bound < n →
-      LeftBy held (line_course n g x) (value_first g x) (played_in n g x).rest.value left
+      LeftBy held (line_course n g x) (value_first g x) (line_play_in n g x).rest.value left
       ⊎ IsErrAnd left.outcome IsWant
-
--- after an accepted line, and after the endings that say so, the display gets a new row
-abbrev pub breaks : Result (List ℕ) ReadlineError → Bool
-breaks (Ok text) = true
-breaks (Err e) = breaks_after e
-
--- the end of a line: a new row if its ending asks for one, and an accepted one in the history
-pub record Ends (held : VecSink → List ℕ) (outcome : Result (List ℕ) ReadlineError)
-    (old new : VecSink) (history history' : Filed) : Type 0 where
-  pub drawn : held new ≡ held old ++ break_if (breaks outcome)
-  pub kept : history' ≡ history_after true outcome history
 
 module _ (options : KeylineOptions) (prompt words history kills ends : List ℕ) where
   -- the relation of a line and its arguments: they are valid, and it is the line of these keys,
@@ -91,12 +77,12 @@ module _ (options : KeylineOptions) (prompt words history kills ends : List ℕ)
     pub bindings : List (Event × Asking)
     pub are_asked : AreAsked chosen.mode asks bindings
     pub reads : let config = settings_by options (config_of chosen) in
-        ReadsLine held (given_with config (asking_by bindings) chosen (words_in words))
-        (state_over valid.ring_is.0 [] (loaded_from config (whole history)) chosen.mode keys
+        ReadsLine held (given_with config (custom_by_asking bindings) chosen (words_in words))
+        (state_over valid.ring_is.0 [] (history_loaded_from config (whole history)) chosen.mode keys
         (last_of options.ended)) (length keys) left
 
   -- why a line isn't read: an argument is invalid, or all are valid and memory ran out
-  abbrev pub IsRefused : Status → Type 0
+  abbrev pub IsRefused : CallStatus → Type 0
   IsRefused Refusal.Argument = AreValid options prompt words history kills ends → ⊥
   IsRefused Refusal.Memory = AreValid options prompt words history kills ends
   IsRefused why = ⊥

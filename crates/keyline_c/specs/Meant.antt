@@ -18,14 +18,14 @@ abbrev pub mode_numbered : ℕ → Option EditMode
 mode_numbered code = if code == 0 then Some Emacs else if code == 1 then Some Vi else None
 
 -- the most entries of a history, equal neighbours too; 0 changes nothing
-abbrev pub keeping : ℕ → Config → Config
-keeping entries config = if entries == 0 then config
+abbrev pub config_with_entries : ℕ → Config → Config
+config_with_entries entries config = if entries == 0 then config
     else record config { max_history_size = entries; history_duplicates = AlwaysAdd }
 
 -- the settings of a line and of its history
 abbrev pub settings_by : KeylineOptions → Config → Config
 settings_by options config =
-    record (keeping options.entries config) { modal_commands = options.modal }
+    record (config_with_entries options.entries config) { modal_commands = options.modal }
 
 -- these are the options of a line after this prompt
 pub record AreMeant (options : KeylineOptions) (prompt : List ℕ) (o : Options) : Type 0 where

@@ -1,9 +1,9 @@
 -- A kill ring as one text for all slots, with the place at which each slot ends.
-use Rattle.std.specs.Prelude.{◌≡◌, ◌≤◌, ◌+◌, ◌-◌, ℕ, false, List, [], ◌∷◌, Option, Some, None, length}
+use Rattle.std.specs.Prelude.{◌≡◌, ◌≤◌, ◌+◌, ◌-◌, ℕ, List, [], ◌∷◌, Option, Some, None, length}
 use Rattle.std.specs.List.{All, flat_map, slice_range}
 use Rattle.std.specs.Str.{IsUtf8}
-use Rattle.line_record.specs.Ring.{Ring}
-use Rattle.line_record.specs.declared.kill_ring.Action.TheVariants.{Other}
+use Rattle.line_record.specs.Ring.{Ring, ring_of}
+use Rattle.keyline.specs.declared.session.TheConstants.{KILL_RING_SIZE}
 use Rattle.keyline_c.specs.declared.ring.Slots.{Slots}
 
 -- where each of these texts ends, if the first one begins after so many bytes
@@ -34,21 +34,11 @@ abbrev pub SlotMeans : List ℕ → ℕ → ℕ → Option (List ℕ) → Type 0
 SlotMeans texts from to (Some slot) = IsSlot texts from to slot
 SlotMeans texts from to None = (slot : List ℕ) → IsSlot texts from to slot → ⊥
 
--- a ring of these slots, without a preceding kill
-abbrev pub ring_by : List (List ℕ) → ℕ → Ring
-ring_by slots place = record {
-  slots = slots;
-  size = 60;
-  place = place;
-  last = Other;
-  killing = false;
-}
-
 -- it is the ring of these texts, with that slot current; 0 if there is none
 pub record IsRingOf (texts ends : List ℕ) (place : ℕ) (ring : Ring) : Type 0 where
   pub laid_out : AreLaidOut ring.slots texts ends
-  pub ring_is : ring ≡ ring_by ring.slots place
-  pub few : length ring.slots ≤ 60
+  pub ring_is : ring ≡ ring_of ring.slots KILL_RING_SIZE place
+  pub few : length ring.slots ≤ KILL_RING_SIZE
   pub inside : place ≤ length ring.slots - 1
   pub utf8 : All IsUtf8 ring.slots
 

@@ -2,11 +2,11 @@
 use Rattle.std.specs.Prelude.{ℕ, Bool, true, false, Result, Ok, Err}
 use Rattle.line_config.specs.declared.errors.ReadlineError.{ReadlineError}
 use Rattle.line_config.specs.declared.errors.ReadlineError.TheVariants as Refusal
-use Rattle.keyline_c.specs.declared.status.Status.{Status}
-use Rattle.keyline_c.specs.declared.status.Status.TheVariants.{Line, More, End, Interrupted, NotUtf8, PasteOutOfPlace, Argument, Room, Memory, Asked}
+use Rattle.keyline_c.specs.declared.status.CallStatus.{CallStatus}
+use Rattle.keyline_c.specs.declared.status.CallStatus.TheVariants.{Line, More, End, Interrupted, NotUtf8, PasteOutOfPlace, Argument, Room, Memory, Asked}
 
 -- as `keyline.h` numbers them
-abbrev pub code_of : Status → ℕ
+abbrev pub code_of : CallStatus → ℕ
 code_of Line = 0
 code_of More = 1
 code_of End = 2
@@ -19,19 +19,19 @@ code_of Memory = 8
 code_of Asked = 9
 
 -- whether the line continues
-abbrev pub is_open : Status → Bool
+abbrev pub is_open : CallStatus → Bool
 is_open More = true
 is_open Asked = true
 is_open status = false
 
 -- a line's ending: if the source fails, more keys are wanted; if a binding does, it is that of a key
 -- of the caller's own; and since devices are in memory, any other failure is a failed allocation
-abbrev pub ended_as : {T : Type 0} → Result T ReadlineError → Status
-ended_as (Ok text) = Line
-ended_as (Err Refusal.Reader) = More
-ended_as (Err Refusal.Handler) = Asked
-ended_as (Err Refusal.Eof) = End
-ended_as (Err Refusal.Interrupted) = Interrupted
-ended_as (Err Refusal.NotUtf8) = NotUtf8
-ended_as (Err Refusal.PasteOutOfPlace) = PasteOutOfPlace
-ended_as (Err why) = Memory
+abbrev pub status_of_ending : {T : Type 0} → Result T ReadlineError → CallStatus
+status_of_ending (Ok text) = Line
+status_of_ending (Err Refusal.Reader) = More
+status_of_ending (Err Refusal.Handler) = Asked
+status_of_ending (Err Refusal.Eof) = End
+status_of_ending (Err Refusal.Interrupted) = Interrupted
+status_of_ending (Err Refusal.NotUtf8) = NotUtf8
+status_of_ending (Err Refusal.PasteOutOfPlace) = PasteOutOfPlace
+status_of_ending (Err why) = Memory

@@ -4,9 +4,9 @@ ghost use Rattle.std.specs.Prelude.{[], ◌∷◌, ◌++◌, ◌≡◌, ◌≢�
 ghost use Rattle.line_keys.specs.Bound.{find};
 ghost use Rattle.line_keys.specs.declared.events.Event.{Event};
 ghost use Rattle.keyline_c.specs.Asks.{AreAsked, is_zero, keys_in, names, none_more, rows_of};
-ghost use Rattle.keyline_c.specs.declared.status.Status.TheVariants.{Memory};
+ghost use Rattle.keyline_c.specs.declared.status.CallStatus.TheVariants.{Memory};
 
-use crate::status::Status;
+use crate::status::CallStatus;
 use keyline::{EditMode, ReadlineError, SliceSource};
 use line_buffer::RepeatCount;
 use line_keys::{Cmd, Decides, Event, EventContext, EventMap, KeyEvent, Keys, RawReader};
@@ -46,7 +46,7 @@ fn ended(why: ReadlineError, keys: Vec<KeyEvent>) -> Option<Vec<KeyEvent>>
 }
 
 /// The keys of a row; `None` if it isn't keys alone.
-fn keys_in(alloc: Global, mode: EditMode, row: &[u8]) -> Result<Option<Vec<KeyEvent>>, Status>
+fn keys_in(alloc: Global, mode: EditMode, row: &[u8]) -> Result<Option<Vec<KeyEvent>>, CallStatus>
     ensures { MatchResult result (λ keys. option_map (λ v. v.items) keys ≡ keys_in mode row.now)
         (λ e. e ≡ Memory) }
 {
@@ -66,7 +66,7 @@ fn bind_row(
     mode: EditMode,
     row: &[u8],
     bindings: &mut EventMap<Asking>,
-) -> Result<(), Status>
+) -> Result<(), CallStatus>
     ensures { MatchResult result (λ _. (e : Event) → is_some (find e bindings.new)
         ≡ (names mode e row.now || is_some (find e bindings.old))) (λ e. e ≡ Memory) }
 {
@@ -102,7 +102,7 @@ pub(crate) fn bindings_of(
     alloc: Global,
     mode: EditMode,
     text: &[u8],
-) -> Result<EventMap<Asking>, Status>
+) -> Result<EventMap<Asking>, CallStatus>
     ensures { MatchResult result (AreAsked mode text.now) (λ e. e ≡ Memory) }
 {
     let mut bindings = EventMap::new(alloc)?;

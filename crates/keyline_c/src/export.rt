@@ -4,21 +4,21 @@ ghost use Rattle.std.specs.Prelude.{[], ◌≡◌, ◌≢◌, ◌≤◌, ◌↔�
 ghost use Rattle.std.specs.Result.{result_unwrap_or};
 ghost use Rattle.std.specs.Str.{IsUtf8};
 ghost use Rattle.line_help.specs.HistoryText.{text_to_save};
-ghost use Rattle.line_keys.specs.Coming.{made_of};
-ghost use Rattle.keyline_c.specs.declared.status.Status.TheVariants.{Memory};
+ghost use Rattle.line_keys.specs.Coming.{answer_map};
+ghost use Rattle.keyline_c.specs.declared.status.CallStatus.TheVariants.{Memory};
 ghost use Rattle.keyline_c.specs.Call.{Answers, Calls, status_in};
 ghost use Rattle.keyline_c.specs.Lines.{IsRefused, ReadsKeys};
-ghost use Rattle.keyline.specs.Plays.{loaded_from};
+ghost use Rattle.keyline.specs.SessionRuns.{history_loaded_from};
 ghost use Rattle.keyline.specs.Program.{config_of, word_texts};
 ghost use Rattle.keyline_c.specs.Meant.{AreMeant, AreValid, mode_numbered, settings_by, whole, words_in};
-ghost use Rattle.keyline_c.specs.Rooms.{FitsRooms, GivesTexts, SameRooms, if_wanted, room_texts, texts_in, texts_of, wanted_of, with_lengths};
-ghost use Rattle.keyline_c.specs.Steps.{Gives, GivesEnd, GivesOpen, open_place, open_text};
+ghost use Rattle.keyline_c.specs.Buffers.{FitsBuffers, GivesTexts, SameBuffers, if_wanted, buffer_texts, texts_in, texts_of, texts_wanted, with_lengths};
+ghost use Rattle.keyline_c.specs.CallSteps.{Gives, GivesEnd, GivesOpen, open_place, open_text};
 
 use crate::asking::bindings_of;
+use crate::buffer::put;
 use crate::line::{Left, read_line};
 use crate::ring::{is_ring, ring_of, slots_of};
-use crate::room::put;
-use crate::status::{Status, status_of};
+use crate::status::{CallStatus, status_of};
 use keyline::{
     Config, Configurer, EditMode, FileHistory, Options, ReadlineError, Sink, SliceSource, VecSink,
     config_of, load_words,
@@ -110,7 +110,7 @@ struct Texts<'t> {
 
 /// The caller's buffers.
 #[derive(Drop)]
-struct Rooms<'r> {
+struct Buffers<'r> {
     display: &'r mut [u8],
     line: &'r mut [u8],
     history: &'r mut [u8],
@@ -161,7 +161,7 @@ fn options_of(
     options: &KeylineOptions,
     mode: EditMode,
     prompt: &str,
-) -> Result<Options, Status>
+) -> Result<Options, CallStatus>
     requires mode { mode_numbered options.now.mode ≡ Some mode }
     requires columns { (2 ≤ options.now.columns) × (options.now.columns ≤ 1000) }
     ensures { MatchResult result (AreMeant options.now prompt.now) (λ e. e ≡ Memory) }
@@ -178,7 +178,7 @@ fn options_of(
 }
 
 /// The words of a text, one per row; `None` for an empty text.
-fn words_of(alloc: Global, text: &[u8]) -> Result<Option<Vec<String>>, Status>
+fn words_of(alloc: Global, text: &[u8]) -> Result<Option<Vec<String>>, CallStatus>
     ensures { MatchResult result (λ words. word_texts words ≡ words_in text.now)
         (λ e. (e ≡ Memory) × (text.now ≢ [])) }
 {
@@ -202,8 +202,9 @@ fn settings_by(options: &KeylineOptions, chosen: &Options) -> Config
 }
 
 /// The history of a text.
-fn history_of(alloc: Global, config: &Config, text: &[u8]) -> Result<FileHistory, Status>
-    ensures { MatchResult result (λ history. history ≡ loaded_from config.now (whole text.now))
+fn history_of(alloc: Global, config: &Config, text: &[u8]) -> Result<FileHistory, CallStatus>
+    ensures { MatchResult result
+        (λ history. history ≡ history_loaded_from config.now (whole text.now))
         (λ e. (e ≡ Memory) × (text.now ≢ [])) }
 {
     let mut history = FileHistory::with_config(alloc, config);
@@ -214,7 +215,11 @@ fn history_of(alloc: Global, config: &Config, text: &[u8]) -> Result<FileHistory
 }
 
 /// Reads the line of these keys.
-fn play<'k>(alloc: Global, options: &KeylineOptions, handed: &Handed<'k>) -> Result<Left, Status>
+fn play<'k>(
+    alloc: Global,
+    options: &KeylineOptions,
+    handed: &Handed<'k>,
+) -> Result<Left, CallStatus>
     ensures { let reads = ReadsKeys options.now handed.now.prompt.now handed.now.words.now
         handed.now.history.now handed.now.kills.now handed.now.ends.now in
         MatchResult result (reads ⟦<VecSink as Sink>⟧.held handed.now.keys.now handed.now.asks.now)
@@ -222,7 +227,7 @@ fn play<'k>(alloc: Global, options: &KeylineOptions, handed: &Handed<'k>) -> Res
         handed.now.kills.now handed.now.ends.now) }
 {
     let Some((mode, prompt)) = meant(options, handed) else {
-        return Err(Status::Argument);
+        return Err(CallStatus::Argument);
     };
     let chosen = options_of(alloc, options, mode, prompt)?;
     let words = words_of(alloc, handed.words)?;
@@ -248,30 +253,30 @@ fn tell_lengths(texts: &Texts<'_>, step: &mut KeylineStep)
 }
 
 /// Whether each text fits into its buffer.
-fn fit(texts: &Texts<'_>, rooms: &Rooms<'_>) -> bool
-    ensures { FitsRooms (texts_of texts.now) (texts_in rooms.now) result }
+fn fit(texts: &Texts<'_>, buffers: &Buffers<'_>) -> bool
+    ensures { FitsBuffers (texts_of texts.now) (texts_in buffers.now) result }
 {
-    texts.display.len() <= rooms.display.len()
-        && texts.line.len() <= rooms.line.len()
-        && texts.history.len() <= rooms.history.len()
-        && texts.kills.len() <= rooms.kills.len()
-        && texts.ends.len() <= rooms.ends.len()
+    texts.display.len() <= buffers.display.len()
+        && texts.line.len() <= buffers.line.len()
+        && texts.history.len() <= buffers.history.len()
+        && texts.kills.len() <= buffers.kills.len()
+        && texts.ends.len() <= buffers.ends.len()
 }
 
 /// Copies each text into its buffer, or none of them if one doesn't fit.
-fn put_all(texts: &Texts<'_>, rooms: &mut Rooms<'_>) -> Result<(), Status>
+fn put_all(texts: &Texts<'_>, buffers: &mut Buffers<'_>) -> Result<(), CallStatus>
     ensures gives { GivesTexts (texts_of texts.now)
-        (texts_in rooms.old) (texts_in rooms.new) result }
-    ensures same { SameRooms rooms.old rooms.new }
+        (texts_in buffers.old) (texts_in buffers.new) result }
+    ensures same { SameBuffers buffers.old buffers.new }
 {
-    if !fit(texts, rooms) {
-        return Err(Status::Room);
+    if !fit(texts, buffers) {
+        return Err(CallStatus::Room);
     }
-    put(texts.display, rooms.display);
-    put(texts.line, rooms.line);
-    put(texts.history, rooms.history);
-    put(texts.kills, rooms.kills);
-    put(texts.ends, rooms.ends);
+    put(texts.display, buffers.display);
+    put(texts.line, buffers.line);
+    put(texts.history, buffers.history);
+    put(texts.kills, buffers.kills);
+    put(texts.ends, buffers.ends);
     Ok(())
 }
 
@@ -283,10 +288,14 @@ fn if_wanted<T>(wants: bool, text: &[T]) -> &[T]
 }
 
 /// Copies each text that is wanted into its buffer, or none of them if one doesn't fit.
-fn put_wanted(texts: &Texts<'_>, wants: &KeylineWants, rooms: &mut Rooms<'_>) -> Result<(), Status>
-    ensures gives { GivesTexts (wanted_of wants.now (texts_of texts.now))
-        (texts_in rooms.old) (texts_in rooms.new) result }
-    ensures same { SameRooms rooms.old rooms.new }
+fn put_wanted(
+    texts: &Texts<'_>,
+    wants: &KeylineWants,
+    buffers: &mut Buffers<'_>,
+) -> Result<(), CallStatus>
+    ensures gives { GivesTexts (texts_wanted wants.now (texts_of texts.now))
+        (texts_in buffers.old) (texts_in buffers.new) result }
+    ensures same { SameBuffers buffers.old buffers.new }
 {
     let wanted = Texts {
         display: if_wanted(wants.display, texts.display),
@@ -295,7 +304,7 @@ fn put_wanted(texts: &Texts<'_>, wants: &KeylineWants, rooms: &mut Rooms<'_>) ->
         kills: if_wanted(wants.kills, texts.kills),
         ends: if_wanted(wants.ends, texts.ends),
     };
-    put_all(&wanted, rooms)
+    put_all(&wanted, buffers)
 }
 
 /// The text of an open line, and the cursor's place in it.
@@ -315,13 +324,13 @@ fn give_open(
     keys: usize,
     left: &Left,
     wants: &KeylineWants,
-    rooms: &mut Rooms<'_>,
+    buffers: &mut Buffers<'_>,
     step: &mut KeylineStep,
-) -> Result<(), Status>
+) -> Result<(), CallStatus>
     requires { sent ≤ length (⟦<VecSink as Sink>⟧.held left.now.display) }
     ensures gives { GivesOpen ⟦<VecSink as Sink>⟧.held sent keys wants.now left.now
-        (texts_in rooms.old) (texts_in rooms.new) step.old step.new result }
-    ensures same { SameRooms rooms.old rooms.new }
+        (texts_in buffers.old) (texts_in buffers.new) step.old step.new result }
+    ensures same { SameBuffers buffers.old buffers.new }
 {
     let bytes = left.display.bytes();
     let (line, cursor) = open_parts(&left.open_line);
@@ -336,12 +345,12 @@ fn give_open(
     step.keys = keys.saturating_sub(left.rest);
     step.cursor = cursor;
     tell_lengths(&texts, step);
-    put_wanted(&texts, wants, rooms)
+    put_wanted(&texts, wants, buffers)
 }
 
 /// The text of a line; empty if there is none.
 fn text_of(outcome: &Result<String, ReadlineError>) -> &str
-    ensures { result.now ≡ result_unwrap_or (made_of string_bytes outcome.now) [] }
+    ensures { result.now ≡ result_unwrap_or (answer_map string_bytes outcome.now) [] }
 {
     match outcome {
         Ok(text) => text.as_str(),
@@ -350,7 +359,7 @@ fn text_of(outcome: &Result<String, ReadlineError>) -> &str
 }
 
 /// The text of a history, if an entry is new.
-fn saved(alloc: Global, history: FileHistory) -> Result<Vec<u8>, Status>
+fn saved(alloc: Global, history: FileHistory) -> Result<Vec<u8>, CallStatus>
     ensures { MatchResult result (λ text. text.items ≡ text_to_save history)
         (λ e. (e ≡ Memory) × (history.unsaved ≢ 0)) }
 {
@@ -358,7 +367,7 @@ fn saved(alloc: Global, history: FileHistory) -> Result<Vec<u8>, Status>
     let mut text = VecSink::new(alloc);
     match history.save_to(&mut text) {
         Ok(()) => Ok(text.into_bytes()),
-        Err(_) => Err(Status::Memory),
+        Err(_) => Err(CallStatus::Memory),
     }
 }
 
@@ -369,13 +378,13 @@ fn give_end(
     keys: usize,
     left: Left,
     wants: &KeylineWants,
-    rooms: &mut Rooms<'_>,
+    buffers: &mut Buffers<'_>,
     step: &mut KeylineStep,
-) -> Result<(), Status>
+) -> Result<(), CallStatus>
     requires { sent ≤ length (⟦<VecSink as Sink>⟧.held left.display) }
     ensures gives { GivesEnd ⟦<VecSink as Sink>⟧.held sent keys wants.now left
-        (texts_in rooms.old) (texts_in rooms.new) step.old step.new result }
-    ensures same { SameRooms rooms.old rooms.new }
+        (texts_in buffers.old) (texts_in buffers.new) step.old step.new result }
+    ensures same { SameBuffers buffers.old buffers.new }
 {
     let Left {
         outcome,
@@ -398,7 +407,7 @@ fn give_end(
     step.keys = keys.saturating_sub(rest);
     step.place = slots.place;
     tell_lengths(&texts, step);
-    put_wanted(&texts, wants, rooms)
+    put_wanted(&texts, wants, buffers)
 }
 
 /// Returns the texts of a line, and how it ended.
@@ -408,25 +417,25 @@ fn give(
     keys: usize,
     left: Left,
     wants: &KeylineWants,
-    rooms: &mut Rooms<'_>,
+    buffers: &mut Buffers<'_>,
     step: &mut KeylineStep,
-) -> Result<Status, Status>
+) -> Result<CallStatus, CallStatus>
     ensures gives { Gives ⟦<VecSink as Sink>⟧.held options.now.sent keys wants.now left
-        (texts_in rooms.old) (texts_in rooms.new) step.old step.new result }
-    ensures same { SameRooms rooms.old rooms.new }
+        (texts_in buffers.old) (texts_in buffers.new) step.old step.new result }
+    ensures same { SameBuffers buffers.old buffers.new }
 {
     let status = status_of(&left.outcome);
-    if status == Status::Memory {
+    if status == CallStatus::Memory {
         return Err(status);
     }
     if left.display.bytes().len() < options.sent {
-        return Err(Status::Argument);
+        return Err(CallStatus::Argument);
     }
     if status.is_open() {
-        give_open(options.sent, keys, &left, wants, rooms, step)?;
+        give_open(options.sent, keys, &left, wants, buffers, step)?;
         return Ok(status);
     }
-    give_end(alloc, options.sent, keys, left, wants, rooms, step)?;
+    give_end(alloc, options.sent, keys, left, wants, buffers, step)?;
     Ok(status)
 }
 
@@ -436,21 +445,29 @@ fn answer<'k>(
     options: &KeylineOptions,
     handed: &Handed<'k>,
     wants: &KeylineWants,
-    rooms: &mut Rooms<'_>,
+    buffers: &mut Buffers<'_>,
     step: &mut KeylineStep,
-) -> Result<Status, Status>
+) -> Result<CallStatus, CallStatus>
     ensures answers { Answers ⟦<VecSink as Sink>⟧.held options.now handed.now.keys.now
         handed.now.prompt.now handed.now.words.now handed.now.asks.now handed.now.history.now
         handed.now.kills.now handed.now.ends.now wants.now
-        (texts_in rooms.old) (texts_in rooms.new) step.old step.new result }
-    ensures same { SameRooms rooms.old rooms.new }
+        (texts_in buffers.old) (texts_in buffers.new) step.old step.new result }
+    ensures same { SameBuffers buffers.old buffers.new }
 {
     let left = play(alloc, options, handed)?;
-    give(alloc, options, handed.keys.len(), left, wants, rooms, step)
+    give(
+        alloc,
+        options,
+        handed.keys.len(),
+        left,
+        wants,
+        buffers,
+        step,
+    )
 }
 
 /// How a call ended, whether it succeeded or failed.
-fn status_in(ended: Result<Status, Status>) -> Status
+fn status_in(ended: Result<CallStatus, CallStatus>) -> CallStatus
     ensures { result ≡ status_in ended }
 {
     match ended {
@@ -492,8 +509,8 @@ pub extern "C" fn keyline_line_checked<'k>(
 )
     ensures { Calls ⟦<VecSink as Sink>⟧.held options.now keys.entry.now prompt.entry.now
         words.entry.now asks.entry.now history.entry.now kills.entry.now ends.entry.now wants.now
-        (room_texts display_room.old line_room.old history_room.old kills_room.old ends_room.old)
-        (room_texts display_room.new line_room.new history_room.new kills_room.new ends_room.new)
+        (buffer_texts display_room.old line_room.old history_room.old kills_room.old ends_room.old)
+        (buffer_texts display_room.new line_room.new history_room.new kills_room.new ends_room.new)
         step.new }
 {
     *step = KeylineStep {
@@ -517,13 +534,13 @@ pub extern "C" fn keyline_line_checked<'k>(
         kills,
         ends,
     };
-    let mut rooms = Rooms {
+    let mut buffers = Buffers {
         display: display_room,
         line: line_room,
         history: history_room,
         kills: kills_room,
         ends: ends_room,
     };
-    let status = status_in(answer(alloc, options, &handed, wants, &mut rooms, step));
+    let status = status_in(answer(alloc, options, &handed, wants, &mut buffers, step));
     step.status = status.code();
 }

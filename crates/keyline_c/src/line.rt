@@ -1,24 +1,21 @@
 //! Reads a line from memory.
 
-ghost use Rattle.std.specs.Prelude.{[], ◌≡◌, ◌≤◌, MatchResult, length, string_bytes, true};
+ghost use Rattle.std.specs.Prelude.{[], ◌≡◌, ◌≤◌, MatchResult, length, true};
 ghost use Rattle.line_config.specs.Feed.{fresh_feed};
-ghost use Rattle.line_config.specs.Sending.{Takes};
-ghost use Rattle.line_keys.specs.Coming.{made_of};
-ghost use Rattle.line_screen.specs.Calls.{screen_of, sink_of};
-ghost use Rattle.line_screen.specs.Reader.{left_in};
-ghost use Rattle.line_screen.specs.Drawing.{row_break};
+ghost use Rattle.line_screen.specs.ScreenCalls.{screen_of, sink_of};
+ghost use Rattle.line_screen.specs.Reader.{bytes_left_in};
 ghost use Rattle.keyline.specs.Program.{word_texts};
-ghost use Rattle.keyline.specs.Sessions.{history_after, screen_by, state_over};
-ghost use Rattle.keyline_c.specs.Asks.{asking_by};
-ghost use Rattle.keyline_c.specs.Lines.{Ends, IsWant, ReadsLine, breaks, given_with, last_of};
+ghost use Rattle.keyline.specs.Sessions.{screen_by, state_over};
+ghost use Rattle.keyline_c.specs.Asks.{custom_by_asking};
+ghost use Rattle.keyline_c.specs.Lines.{IsWant, ReadsLine, given_with, last_of};
 
 use crate::asking::Asking;
 use keyline::{
-    Config, FileHistory, History, Options, ReadlineError, Sink, SliceSource, Source, VecSink,
+    Config, FileHistory, Options, ReadlineError, Sink, SliceSource, Source, VecSink, end_line,
     helper_of,
 };
 use line_buffer::LineBuffer;
-use line_editor::{Ran, Renderer, run};
+use line_editor::{Ran, run};
 use line_keys::EventMap;
 use line_record::KillRing;
 use line_screen::{KeyReader, ScreenRenderer};
@@ -69,7 +66,7 @@ fn screen(alloc: Global, options: &Options, config: &Config) -> ScreenRenderer<V
 
 /// The number of bytes that a reader has left: those of its source, and the one read ahead.
 fn count_rest<'k>(reader: KeyReader<SliceSource<'k>>) -> usize
-    ensures { result ≡ length (left_in ⟦<SliceSource<'k> as Source>⟧.feed reader.entry) }
+    ensures { result ≡ length (bytes_left_in ⟦<SliceSource<'k> as Source>⟧.feed reader.entry) }
 {
     let (source, ahead) = reader.into_parts();
     let rest = source.buffer().len();
@@ -77,56 +74,6 @@ fn count_rest<'k>(reader: KeyReader<SliceSource<'k>>) -> usize
         Some(_) => rest + 1,
         None => rest,
     }
-}
-
-/// Whether the display gets a new row after this ending.
-fn breaks(outcome: &Result<String, ReadlineError>) -> bool
-    ensures { result ≡ breaks (made_of string_bytes outcome.now) }
-{
-    matches!(
-        outcome,
-        Ok(_) | Err(ReadlineError::Eof | ReadlineError::Interrupted)
-    )
-}
-
-/// Draws a new row.
-fn break_row(out: &mut ScreenRenderer<VecSink>) -> Result<(), ReadlineError>
-    ensures { MatchResult result (λ _. Takes ⟦<VecSink as Sink>⟧.held
-        (sink_of out.old) (sink_of out.new) row_break) IsWant }
-{
-    out.write_and_flush("\r\n")
-}
-
-/// Adds an accepted line to the history.
-fn keep(
-    alloc: Global,
-    outcome: &Result<String, ReadlineError>,
-    history: &mut FileHistory,
-) -> Result<(), ReadlineError>
-    ensures { MatchResult result (λ _. history.new
-        ≡ history_after true (made_of string_bytes outcome.now) history.old) IsWant }
-{
-    if let Ok(text) = outcome {
-        history.add(alloc, text.as_str())?;
-    }
-    Ok(())
-}
-
-/// Draws the end of a line, and adds it to the history if it is accepted.
-fn close(
-    alloc: Global,
-    outcome: &Result<String, ReadlineError>,
-    out: &mut ScreenRenderer<VecSink>,
-    history: &mut FileHistory,
-) -> Result<(), ReadlineError>
-    ensures { MatchResult result (λ _. Ends ⟦<VecSink as Sink>⟧.held
-        (made_of string_bytes outcome.now)
-        (sink_of out.old) (sink_of out.new) history.old history.new) IsWant }
-{
-    if breaks(outcome) {
-        break_row(out)?;
-    }
-    keep(alloc, outcome, history)
 }
 
 /// Reads a line, draws it, and adds it to the history if it is accepted. Fails if memory runs out
@@ -144,7 +91,7 @@ pub(crate) fn read_line<'k>(
 ) -> Result<Left, ReadlineError>
     requires columns { (2 ≤ options.now.columns) × (options.now.columns ≤ 1000) }
     requires adds { config.now.auto_add_history ≡ true }
-    ensures { let given = given_with config.now (asking_by bindings.now) options.now
+    ensures { let given = given_with config.now (custom_by_asking bindings.now) options.now
         (word_texts words) in
         let state = state_over ring [] history options.now.mode keys.entry.now (last_of ended) in
         MatchResult result (ReadsLine ⟦<VecSink as Sink>⟧.held given state
@@ -174,7 +121,7 @@ pub(crate) fn read_line<'k>(
         &mut ring,
         &mut last_query,
     );
-    close(alloc, &outcome, &mut out, &mut history)?;
+    end_line(alloc, &outcome, true, &mut out, &mut history)?;
     Ok(Left {
         outcome,
         open_line,

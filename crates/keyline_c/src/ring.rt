@@ -1,17 +1,14 @@
 //! A kill ring as one text for all slots, with the place at which each slot ends.
 
-ghost use Rattle.std.specs.Prelude.{[], ◌∷◌, ◌++◌, ◌≡◌, ◌≢◌, ◌<◌, ◌≤◌, ◌-◌, ◌↔◌, IsTrue, IfOk, MatchResult, OnOk, length, option_copied};
-ghost use Rattle.line_record.specs.Ring.{Ring};
-ghost use Rattle.keyline_c.specs.Slots.{AreSlots, HasRing, IsRingOf, SlotMeans, ring_by};
-ghost use Rattle.keyline_c.specs.declared.status.Status.TheVariants.{Memory};
+ghost use Rattle.std.specs.Prelude.{[], ◌≡◌, ◌≢◌, ◌↔◌, IsTrue, IfOk, MatchResult, option_copied};
+ghost use Rattle.keyline_c.specs.Slots.{AreSlots, HasRing, IsRingOf, SlotMeans};
+ghost use Rattle.keyline_c.specs.declared.status.CallStatus.TheVariants.{Memory};
 
-use crate::status::Status;
-use line_buffer::{Mode, OutOfMemory};
+use crate::status::CallStatus;
+use keyline::KILL_RING_SIZE;
+use line_buffer::OutOfMemory;
 use line_record::KillRing;
 use std::alloc::Global;
-
-/// The number of slots of a ring.
-const SLOTS: usize = 60;
 
 /// A ring's texts, the ends of its slots in them, and the current slot.
 #[derive(Drop)]
@@ -22,7 +19,7 @@ pub(crate) struct Slots {
 }
 
 /// The slots of a ring.
-pub(crate) fn slots_of(alloc: Global, ring: &KillRing) -> Result<Slots, Status>
+pub(crate) fn slots_of(alloc: Global, ring: &KillRing) -> Result<Slots, CallStatus>
     ensures { MatchResult result (AreSlots ring.now)
         (λ e. (e ≡ Memory) × (ring.now.slots ≢ [])) }
 {
@@ -47,42 +44,11 @@ fn slot_text<'t>(texts: &'t [u8], start: usize, end: usize) -> Option<&'t str>
     str::from_utf8(texts.get(start..end)?).ok()
 }
 
-/// Adds a slot after the last one. It becomes the current one.
-fn add_slot(alloc: Global, ring: &mut KillRing, text: &str) -> Result<(), OutOfMemory>
-    requires last { ring.old ≡ ring_by ring.old.slots (length ring.old.slots - 1) }
-    requires few { length ring.old.slots < 60 }
-    ensures { OnOk result (ring.new
-        ≡ ring_by (ring.old.slots ++ text.now ∷ []) (length ring.old.slots)) }
-{
-    ring.kill(alloc, text, Mode::Append)?;
-    ring.reset();
-    Ok(())
-}
-
-/// Turns a ring of `count` slots from the last slot to a place.
-fn turn_to(ring: &mut KillRing, place: usize, count: usize)
-    requires count { count ≡ length ring.old.slots }
-    requires last { ring.old ≡ ring_by ring.old.slots (count - 1) }
-    requires inside { place ≤ count - 1 }
-    ensures { ring.new ≡ ring_by ring.old.slots place }
-{
-    if count == 0 {
-        return;
-    }
-    let _ = ring.yank();
-    let mut at = count - 1;
-    while at > place {
-        let _ = ring.yank_pop();
-        at -= 1;
-    }
-    ring.reset();
-}
-
 /// Whether a ring has these slots, and one of them at this place. Allocates nothing.
 pub(crate) fn is_ring(texts: &[u8], ends: &[usize], place: usize) -> bool
     ensures { IsTrue result ↔ HasRing texts.now ends.now place }
 {
-    if ends.len() > SLOTS {
+    if ends.len() > KILL_RING_SIZE {
         return false;
     }
     if place > ends.len().saturating_sub(1) {
@@ -108,13 +74,12 @@ pub(crate) fn ring_of(
     requires { HasRing texts.now ends.now place }
     ensures { IfOk result (IsRingOf texts.now ends.now place) }
 {
-    let mut ring = KillRing::new(alloc, SLOTS)?;
+    let mut slots = Vec::with_capacity(alloc, KILL_RING_SIZE)?;
     let mut start = 0;
     for &end in ends {
         let text = slot_text(texts, start, end).unwrap();
-        add_slot(alloc, &mut ring, text)?;
+        slots.push(String::from_str(alloc, text)?)?;
         start = end;
     }
-    turn_to(&mut ring, place, ends.len());
-    Ok(ring)
+    Ok(KillRing::from_slots(slots, KILL_RING_SIZE, place))
 }

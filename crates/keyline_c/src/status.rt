@@ -1,8 +1,8 @@
 //! How a call ends.
 
 ghost use Rattle.std.specs.Prelude.{◌≡◌};
-ghost use Rattle.keyline_c.specs.Statuses.{code_of, ended_as, is_open};
-ghost use Rattle.keyline_c.specs.declared.status.Status.TheVariants.{Memory};
+ghost use Rattle.keyline_c.specs.Statuses.{code_of, status_of_ending, is_open};
+ghost use Rattle.keyline_c.specs.declared.status.CallStatus.TheVariants.{Memory};
 
 use keyline::ReadlineError;
 use line_buffer::OutOfMemory;
@@ -10,7 +10,7 @@ use std::alloc::{AllocError, AllocFailed};
 
 /// The status of a call. `keyline.h` has the numbers.
 #[derive(Clone, Copy, PartialEq, Eq)]
-pub(crate) enum Status {
+pub(crate) enum CallStatus {
     /// The line is complete.
     Line,
     /// More keys are wanted.
@@ -33,21 +33,21 @@ pub(crate) enum Status {
     Asked,
 }
 
-impl Status {
+impl CallStatus {
     pub(crate) fn code(self) -> u8
         ensures { result ≡ code_of self }
     {
         match self {
-            Status::Line => 0,
-            Status::More => 1,
-            Status::End => 2,
-            Status::Interrupted => 3,
-            Status::NotUtf8 => 4,
-            Status::PasteOutOfPlace => 5,
-            Status::Argument => 6,
-            Status::Room => 7,
-            Status::Memory => 8,
-            Status::Asked => 9,
+            CallStatus::Line => 0,
+            CallStatus::More => 1,
+            CallStatus::End => 2,
+            CallStatus::Interrupted => 3,
+            CallStatus::NotUtf8 => 4,
+            CallStatus::PasteOutOfPlace => 5,
+            CallStatus::Argument => 6,
+            CallStatus::Room => 7,
+            CallStatus::Memory => 8,
+            CallStatus::Asked => 9,
         }
     }
 
@@ -55,56 +55,56 @@ impl Status {
     pub(crate) fn is_open(self) -> bool
         ensures { result ≡ is_open self }
     {
-        matches!(self, Status::More | Status::Asked)
+        matches!(self, CallStatus::More | CallStatus::Asked)
     }
 }
 
 /// How a line ends. The devices are in memory and no key is bound except those of the caller's own,
 /// so any other failure is a failed allocation.
-pub(crate) fn status_of<T>(outcome: &Result<T, ReadlineError>) -> Status
-    ensures { result ≡ ended_as outcome.now }
+pub(crate) fn status_of<T>(outcome: &Result<T, ReadlineError>) -> CallStatus
+    ensures { result ≡ status_of_ending outcome.now }
 {
     match outcome {
-        Ok(_) => Status::Line,
-        Err(ReadlineError::Reader) => Status::More,
-        Err(ReadlineError::Handler) => Status::Asked,
-        Err(ReadlineError::Eof) => Status::End,
-        Err(ReadlineError::Interrupted) => Status::Interrupted,
-        Err(ReadlineError::NotUtf8) => Status::NotUtf8,
-        Err(ReadlineError::PasteOutOfPlace) => Status::PasteOutOfPlace,
-        Err(_) => Status::Memory,
+        Ok(_) => CallStatus::Line,
+        Err(ReadlineError::Reader) => CallStatus::More,
+        Err(ReadlineError::Handler) => CallStatus::Asked,
+        Err(ReadlineError::Eof) => CallStatus::End,
+        Err(ReadlineError::Interrupted) => CallStatus::Interrupted,
+        Err(ReadlineError::NotUtf8) => CallStatus::NotUtf8,
+        Err(ReadlineError::PasteOutOfPlace) => CallStatus::PasteOutOfPlace,
+        Err(_) => CallStatus::Memory,
     }
 }
 
 /// The texts are UTF-8 and all devices are in memory, so only an allocation fails.
-impl From<ReadlineError> for Status {
+impl From<ReadlineError> for CallStatus {
     ghost from_gives = { λ _ status. status ≡ Memory };
 
-    fn from(_: ReadlineError) -> Status {
-        Status::Memory
+    fn from(_: ReadlineError) -> CallStatus {
+        CallStatus::Memory
     }
 }
 
-impl From<AllocError> for Status {
+impl From<AllocError> for CallStatus {
     ghost from_gives = { λ _ status. status ≡ Memory };
 
-    fn from(_: AllocError) -> Status {
-        Status::Memory
+    fn from(_: AllocError) -> CallStatus {
+        CallStatus::Memory
     }
 }
 
-impl<T: Drop> From<AllocFailed<T>> for Status {
+impl<T: Drop> From<AllocFailed<T>> for CallStatus {
     ghost from_gives = { λ _ status. status ≡ Memory };
 
-    fn from(_: AllocFailed<T>) -> Status {
-        Status::Memory
+    fn from(_: AllocFailed<T>) -> CallStatus {
+        CallStatus::Memory
     }
 }
 
-impl From<OutOfMemory> for Status {
+impl From<OutOfMemory> for CallStatus {
     ghost from_gives = { λ _ status. status ≡ Memory };
 
-    fn from(_: OutOfMemory) -> Status {
-        Status::Memory
+    fn from(_: OutOfMemory) -> CallStatus {
+        CallStatus::Memory
     }
 }

@@ -3,11 +3,11 @@
 #![tactic(auto)]
 
 ghost use Rattle.std.specs.Prelude.{◌≤◌, [], IfErr, IfOk};
-ghost use Rattle.std.specs.declared.io.stdio.LockedStdin.{LockedStdin};
+ghost use Rattle.std.specs.declared.io.Stdin.{Stdin};
 ghost use Rattle.line_config.specs.Feed.{fresh_feed};
 ghost use Rattle.line_config.specs.declared.device.Last.TheVariants.{End};
-ghost use Rattle.keyline.specs.Known.{known_by};
-ghost use Rattle.keyline.specs.Plays.{LoadRefused};
+ghost use Rattle.keyline.specs.KnownDevices.{devices_by};
+ghost use Rattle.keyline.specs.SessionRuns.{LoadRefused};
 ghost use Rattle.line_config.specs.declared.config.Config.{Config};
 ghost use Rattle.keyline.specs.Program.{IsByEnvironment, PlaysOver, invoked_config, word_texts};
 
@@ -18,7 +18,7 @@ use keyline::{
 };
 use keyline_files::{load_history, read_file, save_history};
 use std::env;
-use std::io::{ErrorKind, IsTerminal, Stderr, StdinLock, Stdout};
+use std::io::{ErrorKind, IsTerminal, Stderr, Stdin, Stdout};
 use std::marker::Brand;
 use std::process::ExitCode;
 
@@ -116,7 +116,7 @@ type NotPlayed<'a, K> = Unopened<
 /// The session. For all bytes that `K` may say of standard input and that agree with what its reads
 /// gave, the writes of standard output and standard error took the lines and the display bytes of
 /// the session of these bytes, by the invocation's settings, or by the same without colours.
-fn play<'a, K: Foretold<StdinLock<'static>>>(
+fn play<'a, K: Foretold<Stdin>>(
     rt: &HostRuntime,
     invocation: &Invocation,
     words: Option<Vec<String>>,
@@ -124,15 +124,16 @@ fn play<'a, K: Foretold<StdinLock<'static>>>(
 ) -> Result<Played<K>, NotPlayed<'a, K>>
     requires { let options = invocation.now.options in
         (2 ≤ options.columns) × (options.columns ≤ 1000) }
-    ensures plays { let known = known_by ⟦<StandardKeys<K> as Source>⟧.feed
+    ensures plays { let known = devices_by ⟦<StandardKeys<K> as Source>⟧.feed
         ⟦<WriteSink<Stderr> as Sink>⟧.held ⟦<WriteSink<Stderr> as Sink>⟧.waits
         ⟦<WriteSink<Stderr> as Sink>⟧.has_failed
         ⟦<WriteSink<Stdout> as Sink>⟧.held ⟦<WriteSink<Stdout> as Sink>⟧.waits
         ⟦<WriteSink<Stdout> as Sink>⟧.has_failed in
-        IfOk result (λ played. (keys : LockedStdin) × (config : Config)
+        IfOk result (λ played. (keys : Stdin) × (config : Config)
         × IsByEnvironment (invoked_config invocation.now) config × PlaysOver known
         ⟦<VecSink as Sink>⟧.held ⟦<VecSink as Sink>⟧.has_failed config
-        invocation.now.options (word_texts words) [] [] old.entry.now (K.left keys []) K.last played) }
+        invocation.now.options (word_texts words) [] [] old.entry.now (K.left keys []) K.last
+        played) }
     ensures refused { IfErr result (λ unopened. LoadRefused (invoked_config invocation.now)
         (fresh_feed old.entry.now End) (⟦<SliceSource<'a> as Source>⟧.feed unopened.history)
         unopened.why) }
@@ -143,18 +144,14 @@ fn play<'a, K: Foretold<StdinLock<'static>>>(
         &invocation.options,
         words,
         old,
-        rt.reader(),
+        rt.stdin(),
         rt.stderr(),
         rt.stdout(),
     )
 }
 
 /// Saves the history in its file, and answers what the session ends with then.
-fn kept<K: Foretold<StdinLock<'static>>>(
-    rt: &HostRuntime,
-    options: &Options,
-    played: &Played<K>,
-) -> Ending {
+fn kept<K: Foretold<Stdin>>(rt: &HostRuntime, options: &Options, played: &Played<K>) -> Ending {
     let Some(path) = &options.history else {
         return played.ending;
     };

@@ -1,10 +1,10 @@
 -- The laws of the edits.
 use Rattle.std.proofs.Common.{◌≡◌, Bool, true, false, [], ◌∷◌, ◌++◌, Option, None, Some, refl, sym, ap, ◌∙◌}
 use Rattle.std.specs.Prelude.{IsTrue, is_some, option_map, option_to_list, if◌then◌else◌}
-use Rattle.line_buffer.specs.declared.range.Span.{Span}
+use Rattle.line_buffer.specs.declared.range.TextSpan.{TextSpan}
 use Rattle.line_buffer.specs.declared.types.Movement.{Movement}
 use Rattle.line_buffer.specs.declared.types.Movement.TheVariants.{WholeLine, BeginningOfLine, EndOfLine, BackwardWord, ForwardWord, ViCharSearch, ViFirstPrint, BackwardChar, ForwardChar, LineUp, LineDown, WholeBuffer, BeginningOfBuffer, EndOfBuffer}
-use Rattle.line_buffer.specs.Event.Event.{StartKilling, StopKilling}
+use Rattle.line_buffer.specs.Event.ChangeEvent.{StartKilling, StopKilling}
 use Rattle.line_buffer.specs.Laws.{leaves_rows_whole, deleted_texts, KillsWhatIsCopied}
 use Rattle.line_buffer.specs.Line.{Line}
 use Rattle.line_buffer.specs.Range.{range_of, copied_range, span_text, deletion_events, goes_by_clusters}
@@ -25,11 +25,11 @@ same_range WholeBuffer l h = refl
 same_range BeginningOfBuffer l h = refl
 same_range EndOfBuffer l h = refl
 
-still_some : (o : Option Span) (l : Line) → is_some o ≡ is_some (option_map (λ span. span_text span l) o)
+still_some : (o : Option TextSpan) (l : Line) → is_some o ≡ is_some (option_map (λ span. span_text span l) o)
 still_some None l = refl
 still_some (Some span) l = refl
 
-told_text : (o : Option Span) (plain : Bool) (l : Line)
+told_text : (o : Option TextSpan) (plain : Bool) (l : Line)
     → deleted_texts (if plain then deletion_events o l else StartKilling ∷ (deletion_events o l ++ (StopKilling ∷ []))) ≡ option_to_list (option_map (λ span. span_text span l) o)
 told_text None true l = refl
 told_text None false l = refl

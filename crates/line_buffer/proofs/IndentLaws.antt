@@ -6,9 +6,9 @@ use Rattle.std.specs.Char.{is_whitespace}
 use Rattle.std.specs.List.{prefix_len}
 use Rattle.std.proofs.lemmas.List.{length-drop, drop-append-le}
 use Rattle.std.proofs.lemmas.Str.{encodes-chars}
-use Rattle.line_buffer.specs.Indent.{leading, row_event, row_len, row_events}
-use Rattle.line_buffer.specs.Laws.{row_text, moved_row, RowsGetTheirMargin}
-use Rattle.line_buffer.specs.Replay.{replayed, replayed_all}
+use Rattle.line_buffer.specs.Indent.{front_whitespace, row_event, row_len, row_events}
+use Rattle.line_buffer.specs.Laws.{row_text, row_after_indent, RowsGetTheirMargin}
+use Rattle.line_buffer.specs.Replay.{text_after_event, text_after_events}
 
 encoded-append : (xs ys : List ℕ) → encode_utf8_all (xs ++ ys) ≡ encode_utf8_all xs ++ encode_utf8_all ys
 encoded-append [] ys = refl
@@ -20,7 +20,7 @@ beginning_short row front back u e =
     let whole : row ≡ encode_utf8_all front ++ encode_utf8_all back = sym (encodes-chars row u) ∙ ap encode_utf8_all e ∙ encoded-append front back in
     omega (arith, ap length whole, length-append (encode_utf8_all front) (encode_utf8_all back))
 
-leading_short : (count : ℕ) (row : List ℕ) → IsUtf8 row → length (leading count row) ≤ length row
+leading_short : (count : ℕ) (row : List ℕ) → IsUtf8 row → length (front_whitespace count row) ≤ length row
 leading_short count row u =
     let n = prefix_len is_whitespace (chars row) in
     let white = take_while is_whitespace (chars row) in
@@ -30,9 +30,9 @@ leading_short count row u =
 
 -- one row that stands in a text
 one_row : (margin : List ℕ) (dedent : Bool) (before rest row : List ℕ) → IsUtf8 row
-    → replayed (row_event margin dedent (length before) row) (before ++ (row ++ rest)) ≡ before ++ (moved_row margin dedent row ++ rest)
+    → text_after_event (row_event margin dedent (length before) row) (before ++ (row ++ rest)) ≡ before ++ (row_after_indent margin dedent row ++ rest)
 one_row margin true before rest row u =
-    let lead = length (leading (length margin) row) in
+    let lead = length (front_whitespace (length margin) row) in
     ap (λ xs. (xs ++ []) ++ drop (length before + lead) (before ++ (row ++ rest))) (take-append_seam before (row ++ rest))
     ∙ ap (λ xs. xs ++ drop (length before + lead) (before ++ (row ++ rest))) (append-nil before)
     ∙ ap (λ xs. before ++ xs) (drop-append-add before (row ++ rest) lead ∙ drop-append-le lead row rest (leading_short (length margin) row u))
@@ -41,21 +41,21 @@ one_row margin false before rest row u =
     ∙ ap (λ xs. (before ++ margin) ++ xs) (drop-append-add before (row ++ rest) 0)
     ∙ append_assoc before margin (row ++ rest) ∙ ap (λ xs. before ++ xs) (sym (append_assoc margin row rest))
 
-moved_len : (margin : List ℕ) (dedent : Bool) (row : List ℕ) → row_len margin dedent row ≡ length (moved_row margin dedent row)
-moved_len margin true row = sym (length-drop (length (leading (length margin) row)) row)
+moved_len : (margin : List ℕ) (dedent : Bool) (row : List ℕ) → row_len margin dedent row ≡ length (row_after_indent margin dedent row)
+moved_len margin true row = sym (length-drop (length (front_whitespace (length margin) row)) row)
 moved_len margin false row = let long = length-append margin row in omega (arith, long)
 
-row_events_one : (margin : List ℕ) (dedent : Bool) (at : ℕ) (row text : List ℕ) → replayed_all (row_events margin dedent at (row ∷ [])) text ≡ replayed (row_event margin dedent at row) text
-unfolding row_events replayed_all
+row_events_one : (margin : List ℕ) (dedent : Bool) (at : ℕ) (row text : List ℕ) → text_after_events (row_events margin dedent at (row ∷ [])) text ≡ text_after_event (row_event margin dedent at row) text
+unfolding row_events text_after_events
 row_events_one margin dedent at row text = refl
 
-row_events_more : (margin : List ℕ) (dedent : Bool) (at : ℕ) (row text : List ℕ) (rows : List (List ℕ)) → replayed_all (row_events margin dedent at (row ∷ rows)) text
-    ≡ replayed_all (row_events margin dedent (at + row_len margin dedent row + 1) rows) (replayed (row_event margin dedent at row) text)
-unfolding row_events replayed_all
+row_events_more : (margin : List ℕ) (dedent : Bool) (at : ℕ) (row text : List ℕ) (rows : List (List ℕ)) → text_after_events (row_events margin dedent at (row ∷ rows)) text
+    ≡ text_after_events (row_events margin dedent (at + row_len margin dedent row + 1) rows) (text_after_event (row_event margin dedent at row) text)
+unfolding row_events text_after_events
 row_events_more margin dedent at row text rows = refl
 
-row_events_none : (margin : List ℕ) (dedent : Bool) (at : ℕ) (text : List ℕ) → replayed_all (row_events margin dedent at []) text ≡ text
-unfolding row_events replayed_all
+row_events_none : (margin : List ℕ) (dedent : Bool) (at : ℕ) (text : List ℕ) → text_after_events (row_events margin dedent at []) text ≡ text
+unfolding row_events text_after_events
 row_events_none margin dedent at text = refl
 
 row_text_one : (row : List ℕ) → row_text (row ∷ []) ≡ row
@@ -66,34 +66,30 @@ row_text_more : (row next : List ℕ) (rows : List (List ℕ)) → row_text (row
 unfolding row_text
 row_text_more row next rows = refl
 
-row_text_none : row_text [] ≡ []
-unfolding row_text
-row_text_none = refl
-
 pub rows_get_their_margin : RowsGetTheirMargin
 rows_get_their_margin margin dedent before after [] u =
     row_events_none margin dedent (length before) (before ++ (row_text [] ++ after))
 rows_get_their_margin margin dedent before after (row ∷ []) u =
     row_events_one margin dedent (length before) row (before ++ (row_text (row ∷ []) ++ after))
-    ∙ ap (λ xs. replayed (row_event margin dedent (length before) row) (before ++ (xs ++ after))) (row_text_one row)
+    ∙ ap (λ xs. text_after_event (row_event margin dedent (length before) row) (before ++ (xs ++ after))) (row_text_one row)
     ∙ one_row margin dedent before after row (u 0 row (omega arith))
-    ∙ ap (λ xs. before ++ (xs ++ after)) (sym (row_text_one (moved_row margin dedent row)))
+    ∙ ap (λ xs. before ++ (xs ++ after)) (sym (row_text_one (row_after_indent margin dedent row)))
 rows_get_their_margin margin dedent before after (row ∷ (next ∷ rows)) u =
-    let moved = moved_row margin dedent row in
+    let moved = row_after_indent margin dedent row in
     let later = row_text (next ∷ rows) in
-    let later_moved = row_text (map (moved_row margin dedent) (next ∷ rows)) in
+    let later_moved = row_text (map (row_after_indent margin dedent) (next ∷ rows)) in
     let onward = before ++ (moved ++ 10 ∷ []) in
     let behind : (xs : List ℕ) → before ++ (moved ++ 10 ∷ xs) ≡ onward ++ xs =
     λ xs. ap (λ ys. before ++ ys) (sym (append_assoc moved (10 ∷ []) xs)) ∙ sym (append_assoc before (moved ++ 10 ∷ []) xs) in
     let place : length before + row_len margin dedent row + 1 ≡ length onward =
     omega (arith, moved_len margin dedent row, length-append before (moved ++ 10 ∷ []), length-append moved (10 ∷ [])) in
     row_events_more margin dedent (length before) row (before ++ (row_text (row ∷ (next ∷ rows)) ++ after)) (next ∷ rows)
-    ∙ ap (λ xs. replayed_all (row_events margin dedent (length before + row_len margin dedent row + 1) (next ∷ rows)) (replayed (row_event margin dedent (length before) row) (before ++ xs)))
+    ∙ ap (λ xs. text_after_events (row_events margin dedent (length before + row_len margin dedent row + 1) (next ∷ rows)) (text_after_event (row_event margin dedent (length before) row) (before ++ xs)))
     (ap (λ xs. xs ++ after) (row_text_more row next rows) ∙ append_assoc row (10 ∷ later) after)
-    ∙ ap (replayed_all (row_events margin dedent (length before + row_len margin dedent row + 1) (next ∷ rows)))
+    ∙ ap (text_after_events (row_events margin dedent (length before + row_len margin dedent row + 1) (next ∷ rows)))
     (one_row margin dedent before (10 ∷ (later ++ after)) row (u 0 row (omega arith)) ∙ behind (later ++ after))
-    ∙ ap (λ n. replayed_all (row_events margin dedent n (next ∷ rows)) (onward ++ (later ++ after))) place
+    ∙ ap (λ n. text_after_events (row_events margin dedent n (next ∷ rows)) (onward ++ (later ++ after))) place
     ∙ rows_get_their_margin margin dedent onward after (next ∷ rows) (λ k d l. u (suc k) d (omega (arith, l)))
     ∙ sym (behind (later_moved ++ after))
     ∙ ap (λ xs. before ++ xs) (sym (append_assoc moved (10 ∷ later_moved) after))
-    ∙ ap (λ xs. before ++ (xs ++ after)) (sym (row_text_more moved (moved_row margin dedent next) (map (moved_row margin dedent) rows)))
+    ∙ ap (λ xs. before ++ (xs ++ after)) (sym (row_text_more moved (row_after_indent margin dedent next) (map (row_after_indent margin dedent) rows)))

@@ -6,11 +6,11 @@ use Rattle.std.specs.List.{prefix_len, onto_first}
 use Rattle.std.proofs.lemmas.List.{append-nil, length-drop, drop-drop, length-append}
 use Rattle.std.proofs.lemmas.Str.{chars_past_char, chars-nil, IsCharBoundary-from_drop, IsUtf8-past_char}
 use Rattle.std.proofs.Math.Seq.{take-add, take-append_seam, drop-append_seam}
-use Rattle.line_buffer.specs.Indent.{leading, rows_of}
+use Rattle.line_buffer.specs.Indent.{front_whitespace, rows_of}
 use Rattle.line_buffer.specs.Rows.{is_in_row}
 
-leading_empty : (n : ℕ) (bs : List ℕ) → bs ≡ [] → leading n bs ≡ []
-leading_empty n bs e = ap (leading n) e ∙ ap (λ cs. encode_utf8_all (take n (take_while is_whitespace cs))) chars-nil ∙ by_count n
+leading_empty : (n : ℕ) (bs : List ℕ) → bs ≡ [] → front_whitespace n bs ≡ []
+leading_empty n bs e = ap (front_whitespace n) e ∙ ap (λ cs. encode_utf8_all (take n (take_while is_whitespace cs))) chars-nil ∙ by_count n
   where
     by_count : (n : ℕ) → encode_utf8_all (take n []) ≡ []
     by_count zero = refl
@@ -21,17 +21,17 @@ take_while_first c cs true e = ap (λ b. take (cond b (1 + prefix_len is_whitesp
 take_while_first c cs false e = ap (λ b. take (cond b (1 + prefix_len is_whitespace cs) 0) (c ∷ cs)) e
 
 leading_first : (n c : ℕ) (bs rest : List ℕ) → IsUtf8 bs → bs ≡ encode_utf8 c ++ rest
-    → leading n bs ≡ encode_utf8_all (take n (cond (is_whitespace c) (c ∷ take_while is_whitespace (chars rest)) []))
+    → front_whitespace n bs ≡ encode_utf8_all (take n (cond (is_whitespace c) (c ∷ take_while is_whitespace (chars rest)) []))
 leading_first n c bs rest u e = ap (λ cs. encode_utf8_all (take n (take_while is_whitespace cs))) (chars_past_char bs rest c u e)
     ∙ ap (λ cs. encode_utf8_all (take n cs)) (take_while_first c (chars rest) (is_whitespace c) refl)
 
-leading_more : (n c : ℕ) (bs rest : List ℕ) → IsUtf8 bs → bs ≡ encode_utf8 c ++ rest → is_whitespace c ≡ true → 0 < n → leading n bs ≡ encode_utf8 c ++ leading (n - 1) rest
+leading_more : (n c : ℕ) (bs rest : List ℕ) → IsUtf8 bs → bs ≡ encode_utf8 c ++ rest → is_whitespace c ≡ true → 0 < n → front_whitespace n bs ≡ encode_utf8 c ++ front_whitespace (n - 1) rest
 leading_more zero c bs rest u e w some = absurd (omega arith)
 leading_more (suc n) c bs rest u e w some =
     leading_first (suc n) c bs rest u e ∙ ap (λ b. encode_utf8_all (take (suc n) (cond b (c ∷ take_while is_whitespace (chars rest)) []))) w
-    ∙ ap (λ k. encode_utf8 c ++ leading k rest) (let k : n ≡ suc n - 1 = omega arith in k)
+    ∙ ap (λ k. encode_utf8 c ++ front_whitespace k rest) (let k : n ≡ suc n - 1 = omega arith in k)
 
-leading_none : (n c : ℕ) (bs rest : List ℕ) → IsUtf8 bs → bs ≡ encode_utf8 c ++ rest → is_whitespace c ≡ false → leading n bs ≡ []
+leading_none : (n c : ℕ) (bs rest : List ℕ) → IsUtf8 bs → bs ≡ encode_utf8 c ++ rest → is_whitespace c ≡ false → front_whitespace n bs ≡ []
 leading_none n c bs rest u e w =
     leading_first n c bs rest u e ∙ ap (λ b. encode_utf8_all (take n (cond b (c ∷ take_while is_whitespace (chars rest)) []))) w ∙ by_count n
   where
@@ -44,15 +44,7 @@ pub record Walks (row : List ℕ) (count at : ℕ) (rest : List ℕ) (missing : 
   pub utf8 : IsUtf8 rest
   pub inside : at ≤ length row
   pub behind : drop at row ≡ rest
-  pub so_far : leading count row ≡ take at row ++ leading missing rest
-
-pub walks_init : (row : List ℕ) (count at : ℕ) (rest : List ℕ) → IsUtf8 row → at ≡ 0 → rest ≡ row → Walks row count at rest count
-walks_init row count at rest u e r = record {
-  utf8 = subst IsUtf8 (sym r) u;
-  inside = omega (arith, e);
-  behind = rw e (sym r);
-  so_far = rw e (ap (leading count) (sym r));
-}
+  pub so_far : front_whitespace count row ≡ take at row ++ front_whitespace missing rest
 
 module _ (row : List ℕ) (count at : ℕ) (rest : List ℕ) (missing : ℕ) (w : Walks row count at rest missing) where
   pub walks_more : (i onward c : ℕ) (later : List ℕ) → (i ≡ at) × (rest ≡ encode_utf8 c ++ later) × (onward ≡ at + length (encode_utf8 c)) → is_whitespace c ≡ true → 0 < missing
@@ -61,8 +53,8 @@ module _ (row : List ℕ) (count at : ℕ) (rest : List ℕ) (missing : ℕ) (w 
     utf8 = IsUtf8-past_char rest later c w.utf8 h.1;
     inside = omega (arith, h.2, w.inside, long, longer);
     behind = ap (λ k. drop k row) h.2 ∙ passed;
-    so_far = w.so_far ∙ ap (λ xs. take at row ++ xs) (leading_more missing c rest later w.utf8 h.1 white some) ∙ sym (append_assoc (take at row) (encode_utf8 c) (leading (missing - 1) later))
-        ∙ ap (λ xs. xs ++ leading (missing - 1) later) (sym taken) ∙ ap (λ k. take k row ++ leading (missing - 1) later) (sym h.2);
+    so_far = w.so_far ∙ ap (λ xs. take at row ++ xs) (leading_more missing c rest later w.utf8 h.1 white some) ∙ sym (append_assoc (take at row) (encode_utf8 c) (front_whitespace (missing - 1) later))
+        ∙ ap (λ xs. xs ++ front_whitespace (missing - 1) later) (sym taken) ∙ ap (λ k. take k row ++ front_whitespace (missing - 1) later) (sym h.2);
   }
     where
       whole : drop at row ≡ encode_utf8 c ++ later
@@ -80,16 +72,16 @@ module _ (row : List ℕ) (count at : ℕ) (rest : List ℕ) (missing : ℕ) (w 
       taken : take (at + length (encode_utf8 c)) row ≡ take at row ++ encode_utf8 c
       taken = take-add at (length (encode_utf8 c)) row ∙ ap (λ xs. take at row ++ take (length (encode_utf8 c)) xs) whole ∙ ap (λ xs. take at row ++ xs) (take-append_seam (encode_utf8 c) later)
 
-  ended : leading missing rest ≡ [] → take at row ≡ leading count row
+  ended : front_whitespace missing rest ≡ [] → take at row ≡ front_whitespace count row
   ended e = sym (w.so_far ∙ ap (λ xs. take at row ++ xs) e ∙ append-nil (take at row))
 
-  pub walks_spent : (i : ℕ) → i ≡ at → missing ≡ 0 → take i row ≡ leading count row
-  walks_spent i e none = ap (λ k. take k row) e ∙ ended (ap (λ n. leading n rest) none)
+  pub walks_spent : (i : ℕ) → i ≡ at → missing ≡ 0 → take i row ≡ front_whitespace count row
+  walks_spent i e none = ap (λ k. take k row) e ∙ ended (ap (λ n. front_whitespace n rest) none)
 
-  pub walks_stopped : (i c : ℕ) (later : List ℕ) → i ≡ at → rest ≡ encode_utf8 c ++ later → is_whitespace c ≡ false → take i row ≡ leading count row
+  pub walks_stopped : (i c : ℕ) (later : List ℕ) → i ≡ at → rest ≡ encode_utf8 c ++ later → is_whitespace c ≡ false → take i row ≡ front_whitespace count row
   walks_stopped i c later e came white = ap (λ k. take k row) e ∙ ended (leading_none missing c rest later w.utf8 came white)
 
-  pub walks_ended : rest ≡ [] → take (length row) row ≡ leading count row
+  pub walks_ended : rest ≡ [] → take (length row) row ≡ front_whitespace count row
   walks_ended none = ap (λ k. take k row) same ∙ ended (leading_empty missing rest none)
     where
       same : length row ≡ at

@@ -1,14 +1,13 @@
 -- Where a text may be cut, and texts of several copies.
-use Rattle.std.proofs.Common.{◌≡◌, ℕ, zero, suc, ◌+◌, ◌-◌, ◌*◌, ◌^◌, ◌<◌, ◌≤◌, Bool, true, false, List, [], ◌∷◌, length, take, refl, sym, ap, ◌∙◌, subst, arith}
-use Rattle.std.specs.Prelude.{IsTrue, ◌↔◌, IsUtf8, IsCharBoundary, min, if◌then◌else◌, Some, ◌==◌, encode_utf8}
+use Rattle.std.proofs.Common.{◌≡◌, ℕ, zero, suc, ◌+◌, ◌-◌, ◌*◌, ◌^◌, ◌<◌, ◌≤◌, Bool, true, false, List, [], ◌∷◌, length, refl, sym, ap, ◌∙◌, subst, arith}
+use Rattle.std.specs.Prelude.{IsTrue, ◌↔◌, IsUtf8, IsCharBoundary, if◌then◌else◌, Some, ◌==◌, encode_utf8}
 use Rattle.std.specs.List.{replace_range, repeat}
-use Rattle.std.proofs.lemmas.List.{length-append, length-take-le, get_or-take, append-nil, drop_all}
-use native.Mathlib.Decide.{dec_le}
+use Rattle.std.proofs.lemmas.List.{length-append, append-nil, drop_all}
 use Rattle.std.proofs.lemmas.Bool.Decides.{nat_tests}
-use Rattle.std.proofs.lemmas.Str.{IsCharBoundary-start, IsCharBoundary-end}
-use Rattle.line_buffer.specs.Event.{Event}
-use Rattle.line_buffer.specs.Event.Event.{InsertChar}
-use Rattle.line_buffer.specs.Insertions.{last_cut, is_inside_char, has_room, put_at_cursor, no_insertion, insertion_by, insertion_of, insert}
+use Rattle.std.proofs.lemmas.Str.{IsCharBoundary-start}
+use Rattle.line_buffer.specs.Event.{ChangeEvent}
+use Rattle.line_buffer.specs.Event.ChangeEvent.{InsertChar}
+use Rattle.line_buffer.specs.Insertions.{last_cut, is_inside_char, has_room, with_text_at_cursor, no_insertion, insertion_by, insertion_of, insert}
 use Rattle.line_buffer.specs.Line.{Line}
 use Rattle.line_buffer.specs.Replay.{insertion}
 
@@ -35,20 +34,6 @@ not_cut text n r test is u le = last_cut_back text n u le (λ b. cc ((subst (λ 
 pub is_cut : (text : List ℕ) (n : ℕ) (r : Bool) → (IsTrue r ↔ IsCharBoundary text n) → r ≡ true → last_cut text n ≡ n
 is_cut text n r test is = last_cut_here text n ((subst (λ v. IsTrue v ↔ IsCharBoundary text n) is test).0 refl)
 
--- a cursor of the text, or the end of what is kept of it
-pub cursor_of_part : (text : List ℕ) (n pos : ℕ) → IsCharBoundary text n → IsCharBoundary text pos → IsCharBoundary (take n text) (min pos (length (take n text)))
-cursor_of_part text n pos b p = elim (dec_le pos n) [
-  | yes le ↦ subst (IsCharBoundary (take n text)) (let e : pos ≡ min pos (length (take n text)) = omega (arith, le, long) in e)
-      (omega (arith, le, long), λ l h. let here = get_or-take n text pos 0 (omega (arith, l, long)) in omega (arith, here, h, p.1 (omega (arith, l, long, b.0)) (omega (arith, here, h))))
-  | no more ↦ subst (IsCharBoundary (take n text)) (let e : length (take n text) ≡ min pos (length (take n text)) = omega (arith, more, long) in e) (IsCharBoundary-end (take n text))
-]
-  where
-    long : length (take n text) ≡ n
-    long = length-take-le n text b.0
-
-pub cursor_of_whole : (text : List ℕ) (pos : ℕ) → IsCharBoundary text pos → IsCharBoundary text (min pos (length text))
-cursor_of_whole text pos p = subst (IsCharBoundary text) (let e : pos ≡ min pos (length text) = omega (arith, p.0) in e) p
-
 -- the text without all of it
 pub emptied : (text : List ℕ) (n : ℕ) → n ≡ length text → replace_range text 0 n [] ≡ []
 emptied text n e = drop_all n text (omega (arith, e))
@@ -71,8 +56,8 @@ one_insertion text n l e =
     ap (λ added. insertion_by (insertion l.place added) added l) (let same : text ≡ repeat n text = rw e (sym (append-nil text)) in same)
 
 -- what is told if there is space
-pub told_where_room : (told : Event) (added : List ℕ) (l : Line) → true ≡ has_room (length added) l → (insertion_by told added l).events ≡ told ∷ []
-told_where_room told added l e = ap (λ b. (if b then record { answer = Some (l.place == length l.text); events = told ∷ []; line = put_at_cursor added l } else no_insertion l).events) (sym e)
+pub told_where_room : (told : ChangeEvent) (added : List ℕ) (l : Line) → true ≡ has_room (length added) l → (insertion_by told added l).events ≡ told ∷ []
+told_where_room told added l e = ap (λ b. (if b then record { answer = Some (l.place == length l.text); events = told ∷ []; line = with_text_at_cursor added l } else no_insertion l).events) (sym e)
 
 pub told_of_one : (c n size : ℕ) (l : Line) → n ≡ 1 → size ≡ length (encode_utf8 c) → true ≡ has_room size l → (insert c n l).events ≡ InsertChar l.place c ∷ []
 told_of_one c n size l one len e =

@@ -2,32 +2,29 @@
 use Rattle.std.specs.Prelude.{Bool, true, false, if◌then◌else◌, Option, Some, None, encode_utf8}
 use Rattle.std.specs.List.{repeat}
 use Rattle.std.proofs.Common.{◌≡◌, ◌≤◌, ℕ, ◌==◌, List, [], ◌∷◌, ◌++◌, length, refl, ap, subst, ◌∙◌, arith, length-append}
-use Rattle.line_buffer.specs.declared.range.Span.{Span}
+use Rattle.line_buffer.specs.declared.range.TextSpan.{TextSpan}
 use Rattle.line_buffer.specs.declared.types.Movement.{Movement}
-use Rattle.line_buffer.specs.declared.types.WordAction.{WordAction}
 use Rattle.line_buffer.specs.Edit.{StopsAt}
-use Rattle.line_buffer.specs.Event.{Event}
-use Rattle.line_buffer.specs.Event.Event.{StartKilling, StopKilling, InsertChar}
-use Rattle.line_buffer.specs.Insertions.{Insertion, has_room, put_at_cursor, no_insertion, insertion_by, insertion_of, insert, yank}
-use Rattle.line_buffer.specs.LetterCase.{recase_events}
+use Rattle.line_buffer.specs.Event.{ChangeEvent}
+use Rattle.line_buffer.specs.Event.ChangeEvent.{StartKilling, StopKilling, InsertChar}
+use Rattle.line_buffer.specs.Insertions.{Insertion, has_room, with_text_at_cursor, no_insertion, insertion_by, insertion_of, insert, yank}
 use Rattle.line_buffer.specs.Line.{Line}
 use Rattle.line_buffer.specs.Range.{range_of, goes_by_clusters, deletion_events, kill_events, kill_closing}
-use Rattle.line_buffer.specs.Replay.{TellsOfChange, deletion, insertion, replacement, carried_all}
-use Rattle.line_buffer.specs.Transpositions.{between_clusters, clusters_at, later_first, transposes_chars, transpose_chars_events}
+use Rattle.line_buffer.specs.Replay.{TellsOfChange, deletion, insertion, line_after_events}
 use Rattle.line_buffer.proofs.LeftLemmas.{carried_all-none, carried_all-one}
 
 -- an edit of one event at most leaves the line as it was if it fails
-pub kept_alone : {S : Type 0} {takes stops : S → Event → S → Type 0} {closing events : List Event} {s t : S} {l m : Line} → length events ≤ 1
+pub kept_alone : {S : Type 0} {takes stops : S → ChangeEvent → S → Type 0} {closing events : List ChangeEvent} {s t : S} {l m : Line} → length events ≤ 1
     → StopsAt takes stops closing events s t l m → m ≡ l
 kept_alone {S} {takes} {stops} {closing} {events} {s} {t} {l} {m} few x = by x.stops.done x.stops.split x.line
   where
-    by : (done : List Event) → events ≡ done ++ x.stops.refused ∷ x.stops.never → m ≡ carried_all done l → m ≡ l
+    by : (done : List ChangeEvent) → events ≡ done ++ x.stops.refused ∷ x.stops.never → m ≡ line_after_events done l → m ≡ l
     by [] split line = line ∙ carried_all-none l
     by (e ∷ es) split line = absurd (omega (arith, few, ap length split, length-append es (x.stops.refused ∷ x.stops.never)))
 
-insertion_few : (told : Event) (added : List ℕ) (l : Line) → length (insertion_by told added l).events ≤ 1
+insertion_few : (told : ChangeEvent) (added : List ℕ) (l : Line) → length (insertion_by told added l).events ≤ 1
 insertion_few told added l =
-    let put : Bool → Insertion = λ b. if b then record { answer = Some (l.place == length l.text); events = told ∷ []; line = put_at_cursor added l } else no_insertion l in
+    let put : Bool → Insertion = λ b. if b then record { answer = Some (l.place == length l.text); events = told ∷ []; line = with_text_at_cursor added l } else no_insertion l in
     elim (has_room (length added) l) as (λ b. length (put b).events ≤ 1) [ true ↦ omega arith | false ↦ omega arith ]
 
 pub insert_few : (c n : ℕ) (l : Line) → length (insert c n l).events ≤ 1
@@ -43,40 +40,31 @@ yank_few text n l =
     let put : Bool → Insertion = λ b. if b then no_insertion l else insertion_of text n l in
     elim (length text == 0) as (λ b. length (put b).events ≤ 1) [ true ↦ omega arith | false ↦ insertion_few (insertion l.place (repeat n text)) (repeat n text) l ]
 
-pub deletion_few : (o : Option Span) (l : Line) → length (deletion_events o l) ≤ 1
+pub deletion_few : (o : Option TextSpan) (l : Line) → length (deletion_events o l) ≤ 1
 deletion_few None l = omega arith
 deletion_few (Some span) l = omega arith
-
-pub recase_few : (action : WordAction) (o : Option (ℕ × ℕ)) (l : Line) → length (recase_events action o l) ≤ 1
-recase_few action None l = omega arith
-recase_few action (Some word) l = omega arith
-
-pub transpose_chars_few : (l : Line) → length (transpose_chars_events l) ≤ 1
-transpose_chars_few l =
-    let parts = clusters_at (between_clusters l) in
-    elim (transposes_chars l) as (λ b. length (if b then replacement parts.0 parts.2 (later_first parts l.text) l.text ∷ [] else []) ≤ 1) [ true ↦ omega arith | false ↦ omega arith ]
 
 -- ---- kills
 
 -- no change is among none, or among marks
-pub no_split : {P : Type 0} (done never : List Event) (refused : Event) → [] ≡ done ++ refused ∷ never → P
+pub no_split : {P : Type 0} (done never : List ChangeEvent) (refused : ChangeEvent) → [] ≡ done ++ refused ∷ never → P
 no_split [] never refused is = absurd (cc)
 no_split (x ∷ done) never refused is = absurd (cc)
 
-pub no_change : {P : Type 0} (done never : List Event) (refused : Event) → StartKilling ∷ StopKilling ∷ [] ≡ done ++ refused ∷ never → TellsOfChange refused → P
+pub no_change : {P : Type 0} (done never : List ChangeEvent) (refused : ChangeEvent) → StartKilling ∷ StopKilling ∷ [] ≡ done ++ refused ∷ never → TellsOfChange refused → P
 no_change [] never refused is tells = let mark : refused ≡ StartKilling = cc in absurd (subst TellsOfChange mark tells)
 no_change (x ∷ []) never refused is tells = let mark : refused ≡ StopKilling = cc in absurd (subst TellsOfChange mark tells)
 no_change (x ∷ y ∷ []) never refused is tells = absurd (cc)
 no_change (x ∷ y ∷ z ∷ done) never refused is tells = absurd (cc)
 
 -- the one change of a kill
-module _ (change : Event) where
-  pub split_alone : {P : Type 0} (done never : List Event) (refused : Event) → change ∷ [] ≡ done ++ refused ∷ never → (done ≡ [] → refused ≡ change → P) → P
+module _ (change : ChangeEvent) where
+  pub split_alone : {P : Type 0} (done never : List ChangeEvent) (refused : ChangeEvent) → change ∷ [] ≡ done ++ refused ∷ never → (done ≡ [] → refused ≡ change → P) → P
   split_alone [] never refused is go = go refl (cc)
   split_alone (x ∷ []) never refused is go = absurd (cc)
   split_alone (x ∷ y ∷ done) never refused is go = absurd (cc)
 
-  pub split_between : {P : Type 0} (done never : List Event) (refused : Event) → StartKilling ∷ change ∷ StopKilling ∷ [] ≡ done ++ refused ∷ never → TellsOfChange refused
+  pub split_between : {P : Type 0} (done never : List ChangeEvent) (refused : ChangeEvent) → StartKilling ∷ change ∷ StopKilling ∷ [] ≡ done ++ refused ∷ never → TellsOfChange refused
       → (done ≡ StartKilling ∷ [] → refused ≡ change → P) → P
   split_between [] never refused is tells go = let mark : refused ≡ StartKilling = cc in absurd (subst TellsOfChange mark tells)
   split_between (x ∷ []) never refused is tells go = go (cc) (cc)
@@ -85,14 +73,14 @@ module _ (change : Event) where
   split_between (x ∷ y ∷ z ∷ w ∷ done) never refused is tells go = absurd (cc)
 
 -- no change is made before that of a kill
-kill_kept_by : {S : Type 0} {takes stops : S → Event → S → Type 0} (plain : Bool) (range : Option Span) {s t : S} {l m : Line}
+kill_kept_by : {S : Type 0} {takes stops : S → ChangeEvent → S → Type 0} (plain : Bool) (range : Option TextSpan) {s t : S} {l m : Line}
     → StopsAt takes stops (if plain then [] else StopKilling ∷ []) (if plain then deletion_events range l else StartKilling ∷ (deletion_events range l ++ (StopKilling ∷ []))) s t l m → m ≡ l
 kill_kept_by true range {s} {t} {l} {m} call = kept_alone (deletion_few range l) call
 kill_kept_by false None {s} {t} {l} {m} call = no_change call.stops.done call.stops.never call.stops.refused call.stops.split call.stops.change
 kill_kept_by false (Some span) {s} {t} {l} {m} call =
     split_between (deletion span.from span.upto span.direction l.text) call.stops.done call.stops.never call.stops.refused call.stops.split call.stops.change
-    (λ one is. call.line ∙ ap (λ es. carried_all es l) one ∙ carried_all-one StartKilling l)
+    (λ one is. call.line ∙ ap (λ es. line_after_events es l) one ∙ carried_all-one StartKilling l)
 
-pub kill_kept : {S : Type 0} {takes stops : S → Event → S → Type 0} (movement : Movement) {s t : S} {l m : Line}
+pub kill_kept : {S : Type 0} {takes stops : S → ChangeEvent → S → Type 0} (movement : Movement) {s t : S} {l m : Line}
     → StopsAt takes stops (kill_closing movement) (kill_events movement l) s t l m → m ≡ l
 kill_kept movement {s} {t} {l} {m} call = kill_kept_by (goes_by_clusters movement) (range_of movement l) call

@@ -8,32 +8,32 @@ use Rattle.std.proofs.lemmas.List.Edits.{length-between}
 use Rattle.std.proofs.lemmas.Result.{on_err_weaker}
 use Rattle.line_buffer.specs.declared.types.Direction.TheVariants.{Forward}
 use Rattle.line_buffer.specs.Edit.{Edit, StopsAt, EditsLine, CutsLine, SameSettings}
-use Rattle.line_buffer.specs.Event.{Event}
-use Rattle.line_buffer.specs.Event.Event.{StartKilling, StopKilling}
-use Rattle.line_buffer.specs.Line.{Line, replaced, cut_out}
-use Rattle.line_buffer.specs.Replay.{Replays, TellsOfChange, Reports, StopsAmong, wants_or, deletion, replacement, carried_line, carried_all}
+use Rattle.line_buffer.specs.Event.{ChangeEvent}
+use Rattle.line_buffer.specs.Event.ChangeEvent.{StartKilling, StopKilling}
+use Rattle.line_buffer.specs.Line.{Line, with_replacement, without_range}
+use Rattle.line_buffer.specs.Replay.{Replays, TellsOfChange, Reports, StopsAmong, wants_or, deletion, replacement, line_after_event, line_after_events}
 use Rattle.line_buffer.proofs.ReplayedLemmas.{replayed_deletion, replayed_replacement}
 use Rattle.line_buffer.proofs.ReplayLemmas.{reports_nothing, reports_one, reports_then, stops_wanting}
 
-pub carried_all-none : (l : Line) → carried_all [] l ≡ l
-unfolding carried_all
+pub carried_all-none : (l : Line) → line_after_events [] l ≡ l
+unfolding line_after_events
 carried_all-none l = refl
 
-pub carried_all-one : (e : Event) (l : Line) → carried_all (e ∷ []) l ≡ carried_line e l
-unfolding carried_all
+pub carried_all-one : (e : ChangeEvent) (l : Line) → line_after_events (e ∷ []) l ≡ line_after_event e l
+unfolding line_after_events
 carried_all-one e l = refl
 
-pub carried_all-first : (e : Event) (es : List Event) (l : Line) → carried_all (e ∷ es) l ≡ carried_all es (carried_line e l)
-unfolding carried_all
+pub carried_all-first : (e : ChangeEvent) (es : List ChangeEvent) (l : Line) → line_after_events (e ∷ es) l ≡ line_after_events es (line_after_event e l)
+unfolding line_after_events
 carried_all-first e es l = refl
 
-pub carried_all-append : (es fs : List Event) (l : Line) → carried_all (es ++ fs) l ≡ carried_all fs (carried_all es l)
-unfolding carried_all
+pub carried_all-append : (es fs : List ChangeEvent) (l : Line) → line_after_events (es ++ fs) l ≡ line_after_events fs (line_after_events es l)
+unfolding line_after_events
 carried_all-append [] fs l = refl
-carried_all-append (e ∷ es) fs l = carried_all-append es fs (carried_line e l)
+carried_all-append (e ∷ es) fs l = carried_all-append es fs (line_after_event e l)
 
 -- the first event was stopped
-pub stopped_first : {S : Type 0} (takes stops : S → Event → S → Type 0) (events never : List Event) (e : Event) (s t : S) (l m : Line)
+pub stopped_first : {S : Type 0} (takes stops : S → ChangeEvent → S → Type 0) (events never : List ChangeEvent) (e : ChangeEvent) (s t : S) (l m : Line)
     → events ≡ e ∷ never → TellsOfChange e → stops s e t → m ≡ l → StopsAt takes stops [] events s t l m
 stopped_first takes stops events never e s t l m split change h same = record {
   stops = record {
@@ -52,12 +52,12 @@ stopped_first takes stops events never e s t l m split change h same = record {
 }
 
 -- no memory was found before anything was told
-pub stopped_for_memory : {S : Type 0} (takes refuses : S → Event → S → Type 0) (events never : List Event) (e : Event) (s : S) (l m : Line)
+pub stopped_for_memory : {S : Type 0} (takes refuses : S → ChangeEvent → S → Type 0) (events never : List ChangeEvent) (e : ChangeEvent) (s : S) (l m : Line)
     → events ≡ e ∷ never → TellsOfChange e → m ≡ l → StopsAt takes (wants_or refuses) [] events s s l m
 stopped_for_memory takes refuses events never e s l m split change same = stopped_first takes (wants_or refuses) events never e s s l m split change (inl refl) same
 
 -- a call failed after others were made
-pub stopped_later : {S : Type 0} {takes stops : S → Event → S → Type 0} {closing es fs : List Event} {s t u : S} {l k m : Line} → Reports takes es s t l.text k.text → k ≡ carried_all es l
+pub stopped_later : {S : Type 0} {takes stops : S → ChangeEvent → S → Type 0} {closing es fs : List ChangeEvent} {s t u : S} {l k m : Line} → Reports takes es s t l.text k.text → k ≡ line_after_events es l
     → StopsAt takes stops closing fs t u k m → StopsAt takes stops closing (es ++ fs) s u l m
 stopped_later {S} {takes} {stops} {closing} {es} {fs} {s} {t} {u} {l} {k} {m} told line x = record {
   stops = record {
@@ -72,28 +72,28 @@ stopped_later {S} {takes} {stops} {closing} {es} {fs} {s} {t} {u} {l} {k} {m} to
     stopped = x.stops.stopped;
     closed = x.stops.closed;
   };
-  line = x.line ∙ ap (carried_all x.stops.done) line ∙ sym (carried_all-append es x.stops.done l);
+  line = x.line ∙ ap (line_after_events x.stops.done) line ∙ sym (carried_all-append es x.stops.done l);
 }
 
-pub stopped_after_one : {S : Type 0} {takes stops : S → Event → S → Type 0} {closing fs : List Event} (e : Event) {s t u : S} {l k m : Line} → takes s e t → Replays e l.text k.text → k ≡ carried_line e l
+pub stopped_after_one : {S : Type 0} {takes stops : S → ChangeEvent → S → Type 0} {closing fs : List ChangeEvent} (e : ChangeEvent) {s t u : S} {l k m : Line} → takes s e t → Replays e l.text k.text → k ≡ line_after_event e l
     → StopsAt takes stops closing fs t u k m → StopsAt takes stops closing (e ∷ fs) s u l m
 stopped_after_one {S} {takes} {stops} {closing} {fs} e {s} {t} {u} {l} {k} {m} told replays line x =
     stopped_later (reports_one takes e s t l.text k.text told replays) (line ∙ sym (carried_all-one e l)) x
 
 -- a call that takes memory too
-pub stopped_wanting : {S : Type 0} {takes refuses : S → Event → S → Type 0} {closing es : List Event} {s t : S} {l m : Line} → StopsAt takes refuses closing es s t l m
+pub stopped_wanting : {S : Type 0} {takes refuses : S → ChangeEvent → S → Type 0} {closing es : List ChangeEvent} {s t : S} {l m : Line} → StopsAt takes refuses closing es s t l m
     → StopsAt takes (wants_or refuses) closing es s t l m
 unfolding stops_wanting
 stopped_wanting x = record { stops = stops_wanting x.stops; line = x.line }
 
 -- the same, as other equations have the events and the line
-pub stopped_as : {S : Type 0} {takes stops : S → Event → S → Type 0} {closing es fs : List Event} {s t : S} {l k m : Line} → es ≡ fs → l ≡ k
+pub stopped_as : {S : Type 0} {takes stops : S → ChangeEvent → S → Type 0} {closing es fs : List ChangeEvent} {s t : S} {l k m : Line} → es ≡ fs → l ≡ k
     → StopsAt takes stops closing es s t l m → StopsAt takes stops closing fs s t k m
 stopped_as {S} {takes} {stops} {closing} {es} {fs} {s} {t} {l} {k} {m} e g h =
     subst (λ x. StopsAt takes stops closing fs s t x m) g (subst (λ x. StopsAt takes stops closing x s t l m) e h)
 
 -- a failed kill is closed as one that was made
-killing_stopped : {S : Type 0} {takes stops : S → Event → S → Type 0} {es : List Event} {s begun left t : S} {l m : Line} → takes s StartKilling begun → takes left StopKilling t
+killing_stopped : {S : Type 0} {takes stops : S → ChangeEvent → S → Type 0} {es : List ChangeEvent} {s begun left t : S} {l m : Line} → takes s StartKilling begun → takes left StopKilling t
     → StopsAt takes stops [] es begun left l m → StopsAt takes stops (StopKilling ∷ []) (StartKilling ∷ (es ++ (StopKilling ∷ []))) s t l m
 killing_stopped {S} {takes} {stops} {es} {s} {begun} {left} {t} {l} {m} start stop x = record {
   stops = record {
@@ -112,7 +112,7 @@ killing_stopped {S} {takes} {stops} {es} {s} {begun} {left} {t} {l} {m} start st
   line = x.line ∙ sym (carried_all-first StartKilling x.stops.done l);
 }
 
-pub stopped_killing : {S T E : Type 0} (r : Result T E) (takes stops : S → Event → S → Type 0) (es : List Event) (plain : Bool) (s begun left t : S) (l m : Line) → plain ≡ false
+pub stopped_killing : {S T E : Type 0} (r : Result T E) (takes stops : S → ChangeEvent → S → Type 0) (es : List ChangeEvent) (plain : Bool) (s begun left t : S) (l m : Line) → plain ≡ false
     → takes s StartKilling begun → OnErr r (StopsAt takes stops [] es begun left l m) → takes left StopKilling t
     → OnErr r (StopsAt takes stops (if plain then [] else StopKilling ∷ []) (if plain then es else StartKilling ∷ (es ++ (StopKilling ∷ []))) s t l m)
 stopped_killing {S} {T} {E} r takes stops es plain s begun left t l m e start stopped stop =
@@ -120,55 +120,55 @@ stopped_killing {S} {T} {E} r takes stops es plain s begun left t l m e start st
     (on_err_weaker r (killing_stopped start stop) stopped)
 
 -- a deletion by clusters stands between no marks
-pub stopped_unmarked : {S T E : Type 0} (r : Result T E) (takes stops : S → Event → S → Type 0) (es : List Event) (plain : Bool) (s t : S) (l m : Line) → plain ≡ true
+pub stopped_unmarked : {S T E : Type 0} (r : Result T E) (takes stops : S → ChangeEvent → S → Type 0) (es : List ChangeEvent) (plain : Bool) (s t : S) (l m : Line) → plain ≡ true
     → OnErr r (StopsAt takes stops [] es s t l m)
     → OnErr r (StopsAt takes stops (if plain then [] else StopKilling ∷ []) (if plain then es else StartKilling ∷ (es ++ (StopKilling ∷ []))) s t l m)
 stopped_unmarked r takes stops es plain s t l m e stopped =
     subst (λ v. OnErr r (StopsAt takes stops (if v then [] else StopKilling ∷ []) (if v then es else StartKilling ∷ (es ++ (StopKilling ∷ []))) s t l m)) (sym e) stopped
 
-carried_settings : (es : List Event) (l : Line) → SameSettings l (carried_all es l)
-unfolding carried_all
+carried_settings : (es : List ChangeEvent) (l : Line) → SameSettings l (line_after_events es l)
+unfolding line_after_events
 carried_settings [] l = record { growth = refl; limit = refl }
-carried_settings (e ∷ es) l = let rest = carried_settings es (carried_line e l) in record { growth = rest.growth; limit = rest.limit }
+carried_settings (e ∷ es) l = let rest = carried_settings es (line_after_event e l) in record { growth = rest.growth; limit = rest.limit }
 
-stopped_settings : {S : Type 0} {takes stops : S → Event → S → Type 0} {closing events : List Event} {s t : S} {l m : Line} → StopsAt takes stops closing events s t l m → SameSettings l m
+stopped_settings : {S : Type 0} {takes stops : S → ChangeEvent → S → Type 0} {closing events : List ChangeEvent} {s t : S} {l m : Line} → StopsAt takes stops closing events s t l m → SameSettings l m
 stopped_settings {S} {takes} {stops} {closing} {events} {s} {t} {l} {m} x = subst (SameSettings l) (sym x.line) (carried_settings x.stops.done l)
 
 -- a failed call has made no edit: it owes where it stopped
-pub edits_refused : {S A E : Type 0} {takes stops : S → Event → S → Type 0} {closing : List Event} {edit : Edit A} {s t : S} {l m : Line} (P : E → Type 0) (r : Result A E)
+pub edits_refused : {S A E : Type 0} {takes stops : S → ChangeEvent → S → Type 0} {closing : List ChangeEvent} {edit : Edit A} {s t : S} {l m : Line} (P : E → Type 0) (r : Result A E)
     → IsErrAnd r P → StopsAt takes stops closing edit.events s t l m → EditsLine takes stops closing edit s t l m r
 edits_refused P (Ok a) is left = absurd is
 edits_refused P (Err x) is left = record { answer = tt; told = tt; line = tt; left = left; settings = stopped_settings left }
 
-pub cuts_refused : {S A E : Type 0} {takes stops : S → Event → S → Type 0} {closing : List Event} {edit : Edit A} {s t : S} {l m : Line} (P : E → Type 0) (r : Result A E)
+pub cuts_refused : {S A E : Type 0} {takes stops : S → ChangeEvent → S → Type 0} {closing : List ChangeEvent} {edit : Edit A} {s t : S} {l m : Line} (P : E → Type 0) (r : Result A E)
     → IsErrAnd r P → StopsAt takes stops closing edit.events s t l m → length m.text ≤ length l.text → CutsLine takes stops closing edit s t l m r
 cuts_refused P r is left shrinks = record { edits = edits_refused P r is left; shrinks = shrinks }
 
 -- the same, seen in another way where it is answered
-pub cuts_refused_seen : {S A B E : Type 0} {takes stops : S → Event → S → Type 0} {closing : List Event} {edit : Edit B} {s t : S} {l m : Line} (f : A → B) (P : E → Type 0) (r : Result A E)
+pub cuts_refused_seen : {S A B E : Type 0} {takes stops : S → ChangeEvent → S → Type 0} {closing : List ChangeEvent} {edit : Edit B} {s t : S} {l m : Line} (f : A → B) (P : E → Type 0) (r : Result A E)
     → IsErrAnd r P → StopsAt takes stops closing edit.events s t l m → length m.text ≤ length l.text → CutsLine takes stops closing edit s t l m (result_map_both f (λ (x : E). x) r)
 cuts_refused_seen f P (Ok a) is left shrinks = absurd is
 cuts_refused_seen f P (Err x) is left shrinks = cuts_refused P (Err x) is left shrinks
 
 -- what failed has an event
-pub some_event : {S : Type 0} {takes refuses : S → Event → S → Type 0} {closing events : List Event} {s t : S} {a b : List ℕ} → StopsAmong takes refuses closing events s t a b
-    → (next : Event) × (others : List Event) × (events ≡ next ∷ others)
+pub some_event : {S : Type 0} {takes refuses : S → ChangeEvent → S → Type 0} {closing events : List ChangeEvent} {s t : S} {a b : List ℕ} → StopsAmong takes refuses closing events s t a b
+    → (next : ChangeEvent) × (others : List ChangeEvent) × (events ≡ next ∷ others)
 some_event {S} {takes} {refuses} {closing} {events} {s} {t} {a} {b} x = by x.done x.split
   where
-    by : (done : List Event) → events ≡ done ++ x.refused ∷ x.never → (next : Event) × (others : List Event) × (events ≡ next ∷ others)
+    by : (done : List ChangeEvent) → events ≡ done ++ x.refused ∷ x.never → (next : ChangeEvent) × (others : List ChangeEvent) × (events ≡ next ∷ others)
     by [] split = (x.refused, x.never, split)
     by (e ∷ es) split = (e, es ++ x.refused ∷ x.never, split)
 
 -- ---- an event as its call makes it
 
-pub carried_deletion : (l : Line) (from : ℕ) → from ≤ l.place → l.place ≤ length l.text → carried_line (deletion from l.place Forward l.text) l ≡ cut_out from l.place l
+pub carried_deletion : (l : Line) (from : ℕ) → from ≤ l.place → l.place ≤ length l.text → line_after_event (deletion from l.place Forward l.text) l ≡ without_range from l.place l
 carried_deletion l from le fits =
     let place : ℕ = l.place - min (length (slice_range l.text from l.place)) (l.place - from) in
     ap (λ t. record l { text = t; place = place }) (replayed_deletion l.text from l.place Forward le fits)
     ∙ ap (λ p. record l { text = replace_range l.text from l.place []; place = p })
     (let k : place ≡ from = omega (arith, length-between l.text from l.place fits, le) in k)
 
-pub carried_deletion_of_all : (l : Line) → l.place ≤ length l.text → carried_line (deletion 0 (length l.text) Forward l.text) l ≡ record l { text = []; place = 0 }
+pub carried_deletion_of_all : (l : Line) → l.place ≤ length l.text → line_after_event (deletion 0 (length l.text) Forward l.text) l ≡ record l { text = []; place = 0 }
 carried_deletion_of_all l fits =
     let place : ℕ = l.place - min (length (slice_range l.text 0 (length l.text))) (l.place - 0) in
     ap (λ t. record l { text = t; place = place }) (replayed_deletion l.text 0 (length l.text) Forward (omega arith) (omega arith) ∙ drop_all (length l.text) l.text (omega arith))
@@ -176,6 +176,6 @@ carried_deletion_of_all l fits =
     (let k : place ≡ 0 = omega (arith, length-between l.text 0 (length l.text) (omega arith), fits) in k)
 
 pub carried_replacement : (l : Line) (from upto : ℕ) (added : List ℕ) → from ≤ upto → upto ≤ length l.text
-    → carried_line (replacement from upto added l.text) l ≡ replaced from upto added l
+    → line_after_event (replacement from upto added l.text) l ≡ with_replacement from upto added l
 carried_replacement l from upto added le fits =
     ap (λ t. record l { text = t; place = from + length added }) (replayed_replacement l.text from upto added le fits)

@@ -18,11 +18,9 @@ pub mod LetterCaseLemmas
 pub mod LetterLemmas
 pub mod ListedRanges
 mod MotionRows
-pub mod NewlineLemmas
 pub mod NextRunLemmas
 pub mod PartLemmas
 pub mod PartingLemmas
-pub mod PlainLemmas
 pub mod RangeLemmas
 pub mod ReplayLemmas
 pub mod ReplayedLemmas
@@ -31,6 +29,7 @@ pub mod RowLemmas
 pub mod RowStartLemmas
 pub mod RowStepLemmas
 pub mod RowWalkLemmas
+pub mod RunLemmas
 pub mod SeamLemmas
 pub mod SpanLemmas
 pub mod StopLemmas

@@ -1,17 +1,15 @@
 -- The first clusters of a text that are of one kind: a run of letters of ASCII, or the first cluster alone.
-use Rattle.std.proofs.Common.{◌≡◌, ℕ, suc, ◌+◌, ◌-◌, ◌<◌, ◌≤◌, Bool, true, ◌&&◌, List, [], ◌∷◌, ◌++◌, length, take, drop, None, Some, refl, sym, ap, ap₂, ◌∙◌, subst, arith}
-use Rattle.std.specs.Prelude.{IsUtf8, IsCharBoundary, encode_utf8, option_to_list, slice_range}
+use Rattle.std.proofs.Common.{◌≡◌, ℕ, suc, ◌+◌, ◌-◌, ◌<◌, ◌≤◌, true, ◌&&◌, List, [], ◌∷◌, ◌++◌, length, take, drop, None, Some, refl, sym, ap, ap₂, ◌∙◌, subst, arith}
+use Rattle.std.specs.Prelude.{IsUtf8, IsCharBoundary, encode_utf8, option_to_list}
 use Rattle.std.specs.Char.{is_ascii_alphanumeric}
 use Rattle.std.specs.List.{last_or, list_all, concat}
-use Rattle.std.proofs.lemmas.Bool.{and_from, and_parts}
+use Rattle.std.proofs.lemmas.Bool.{and_parts}
 use Rattle.std.proofs.lemmas.Bool.Decides.{nat_tests}
 use Rattle.std.proofs.lemmas.List.{take-append-drop, length-take-le, drop-drop}
-use Rattle.std.proofs.lemmas.List.Folds.{list_all-append}
 use Rattle.std.proofs.lemmas.Str.{encode_ascii, IsUtf8-past_char, IsCharBoundary-from_rest}
 use Rattle.unicode_segmentation.specs.Grapheme.{is_grapheme_break, graphemes}
 use Rattle.unicode_segmentation.specs.Segments.{with_offsets}
 use Rattle.unicode_segmentation.proofs.SegmentsLemmas.{AllPieces, segments_nonempty, concat-segments, nil_from-with_offsets}
-use Rattle.unicode_segmentation.proofs.TextLemmas.{take_split}
 use Rattle.line_buffer.specs.Clusters.{clusters}
 use Rattle.line_buffer.specs.Printable.{is_printable}
 use Rattle.line_buffer.specs.Words.{BeginsInRun, clusters_at, kind_of, kinds, edges_of, edge_between}
@@ -25,10 +23,6 @@ use Rattle.line_buffer.proofs.RestLemmas.{graphemes_rest}
 use Rattle.line_buffer.proofs.StopLemmas.{clusters-empty}
 use Rattle.line_buffer.proofs.WordLemmas.{edges_of-cons}
 use Rattle.line_buffer.proofs.WordRunLemmas.{kind_of_letter, letter_ascii}
-
--- ---- bytes that are all letters
-pub block_before : (p : ℕ → Bool) (xs : List ℕ) (i j : ℕ) → i ≤ j → list_all p (slice_range xs i j) ≡ true → list_all p (take i xs) ≡ true → list_all p (take j xs) ≡ true
-block_before p xs i j le h k = ap (list_all p) (take_split xs i j le) ∙ list_all-append p (take i xs) (slice_range xs i j) ∙ and_from _ _ k h
 
 -- ---- the first cluster alone
 no_edge : (at : At) (kind : ClusterKind) (i j : ℕ) → edge_between at (i, kind) (j, kind) ≡ None

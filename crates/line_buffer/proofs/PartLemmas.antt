@@ -2,7 +2,7 @@
 use Rattle.std.proofs.Common.{◌≡◌, ℕ, ◌+◌, ◌-◌, ◌≤◌, true, ◌<◌, ◌⊎◌, inl, inr, get_or, List, length, map, reverse, take, drop, Option, None, Some, refl, sym, ap, ◌∙◌, subst, arith, add_assoc}
 use Rattle.std.specs.Prelude.{option_map, IfSome, All, IsUtf8, IsCharBoundary, slice_range}
 use Rattle.std.specs.List.{last_or}
-use Rattle.std.proofs.lemmas.List.{take_all, length-drop, length-take-le, get_or-take}
+use Rattle.std.proofs.lemmas.List.{length-take-le, get_or-take}
 use Rattle.std.proofs.lemmas.List.Elements.{All-take}
 use Rattle.std.proofs.lemmas.Str.{IsCharBoundary-from_rest}
 use denote.Ref.{Bor}
@@ -14,9 +14,6 @@ use Rattle.line_buffer.proofs.ChainLemmas.{All-last_or, All-reverse, nth_or_last
 
 pub slice_range-front : (xs : List ℕ) (n : ℕ) → slice_range xs 0 n ≡ take n xs
 slice_range-front xs n = ap (λ k. take k xs) (let e : n - 0 ≡ n = omega arith in e)
-
-pub slice_range-back : (xs : List ℕ) (n : ℕ) → slice_range xs n (length xs) ≡ drop n xs
-slice_range-back xs n = take_all (length xs - n) (drop n xs) (omega (arith, length-drop n xs))
 
 abbrev pub IsPartAt : List ℕ → ℕ × List ℕ → Type 0
 IsPartAt text x = IsPart text x.0 (length x.1)

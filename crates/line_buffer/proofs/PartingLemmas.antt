@@ -39,7 +39,7 @@ use Rattle.unicode_width.proofs.Rules.{str_width-append_simple}
 use Rattle.line_buffer.specs.declared.layout.GraphemeClusterMode.{GraphemeClusterMode}
 use Rattle.line_buffer.specs.declared.layout.GraphemeClusterMode.TheVariants.{Unicode, WcWidth, NoZwj}
 use Rattle.line_buffer.specs.Parting.{looks_ahead, is_solid, takes_marks, is_tone, is_bare, parts, first, is_flag_letter}
-use Rattle.line_buffer.specs.Width.{char_columns_of, unjoined, columns_of}
+use Rattle.line_buffer.specs.Width.{char_columns_of, parts_between_joiners, columns_of}
 use Rattle.line_buffer.proofs.ListedRanges.{apart}
 use Rattle.line_buffer.proofs.SeamLemmas.{read-append, read_letters, letters_simple}
 
@@ -651,10 +651,10 @@ both_first c x cs ts us xs ys (later first more less e) = later (x ∷ first) mo
 -- what is so of the parts that begin with the letter
 abbrev PartsBalanced : ℕ → List ℕ → List ℕ → Type 0
 PartsBalanced c ds es =
-    (cs p q : List ℕ) (ps qs : List (List ℕ)) → unjoined (c ∷ ds) ≡ (c ∷ p) ∷ ps → unjoined (c ∷ es) ≡ (c ∷ q) ∷ qs → Balanced (str_width false) cs (c ∷ p) (c ∷ q)
+    (cs p q : List ℕ) (ps qs : List (List ℕ)) → parts_between_joiners (c ∷ ds) ≡ (c ∷ p) ∷ ps → parts_between_joiners (c ∷ es) ≡ (c ∷ q) ∷ qs → Balanced (str_width false) cs (c ∷ p) (c ∷ q)
 
 module _ (c : ℕ) (ds es : List ℕ) (no_joiner : (c == 0x200D) ≡ false) (parts : PartsBalanced c ds es) where
-  both_sum : (cs : List ℕ) (xs ys : List (List ℕ)) → Both c cs (unjoined (c ∷ ds)) (unjoined (c ∷ es)) xs ys → Sums xs ys (unjoined (c ∷ ds)) (unjoined (c ∷ es))
+  both_sum : (cs : List ℕ) (xs ys : List (List ℕ)) → Both c cs (parts_between_joiners (c ∷ ds)) (parts_between_joiners (c ∷ es)) xs ys → Sums xs ys (parts_between_joiners (c ∷ ds)) (parts_between_joiners (c ∷ es))
   both_sum cs xs ys (open_part p q ps qs d e) =
       omega (
         arith,
@@ -672,36 +672,36 @@ module _ (c : ℕ) (ds es : List ℕ) (no_joiner : (c == 0x200D) ≡ false) (par
   first_part [] = ([], ([], refl))
   first_part (q ∷ qs) = (q, (qs, refl))
 
-  begun : (fs : List ℕ) → (q : List ℕ) × ((qs : List (List ℕ)) × (unjoined (c ∷ fs) ≡ (c ∷ q) ∷ qs))
+  begun : (fs : List ℕ) → (q : List ℕ) × ((qs : List (List ℕ)) × (parts_between_joiners (c ∷ fs) ≡ (c ∷ q) ∷ qs))
   begun fs =
-      let k = first_part (unjoined fs) in
-      (k.0, (k.1.0, ap (λ b. cond b ([] ∷ unjoined fs) (onto_first c (unjoined fs))) no_joiner ∙ k.1.1))
+      let k = first_part (parts_between_joiners fs) in
+      (k.0, (k.1.0, ap (λ b. cond b ([] ∷ parts_between_joiners fs) (onto_first c (parts_between_joiners fs))) no_joiner ∙ k.1.1))
 
-  both_parts : (cs : List ℕ) → Both c cs (unjoined (c ∷ ds)) (unjoined (c ∷ es)) (unjoined (cs ++ c ∷ ds)) (unjoined (cs ++ c ∷ es))
+  both_parts : (cs : List ℕ) → Both c cs (parts_between_joiners (c ∷ ds)) (parts_between_joiners (c ∷ es)) (parts_between_joiners (cs ++ c ∷ ds)) (parts_between_joiners (cs ++ c ∷ es))
   both_parts [] =
       let a = begun ds in
       let b = begun es in
-      subst (λ xs. Both c [] (unjoined (c ∷ ds)) (unjoined (c ∷ es)) xs (unjoined (c ∷ es))) (sym a.1.1)
-      (subst (λ ys. Both c [] (unjoined (c ∷ ds)) (unjoined (c ∷ es)) ((c ∷ a.0) ∷ a.1.0) ys) (sym b.1.1) (open_part a.0 b.0 a.1.0 b.1.0 a.1.1 b.1.1))
-  both_parts (x ∷ cs) = by (x == 0x200D) (unjoined (cs ++ c ∷ ds)) (unjoined (cs ++ c ∷ es)) (both_parts cs)
+      subst (λ xs. Both c [] (parts_between_joiners (c ∷ ds)) (parts_between_joiners (c ∷ es)) xs (parts_between_joiners (c ∷ es))) (sym a.1.1)
+      (subst (λ ys. Both c [] (parts_between_joiners (c ∷ ds)) (parts_between_joiners (c ∷ es)) ((c ∷ a.0) ∷ a.1.0) ys) (sym b.1.1) (open_part a.0 b.0 a.1.0 b.1.0 a.1.1 b.1.1))
+  both_parts (x ∷ cs) = by (x == 0x200D) (parts_between_joiners (cs ++ c ∷ ds)) (parts_between_joiners (cs ++ c ∷ es)) (both_parts cs)
     where
-      by : (b : Bool) (xs ys : List (List ℕ)) → Both c cs (unjoined (c ∷ ds)) (unjoined (c ∷ es)) xs ys
-          → Both c (x ∷ cs) (unjoined (c ∷ ds)) (unjoined (c ∷ es)) (cond b ([] ∷ xs) (onto_first x xs)) (cond b ([] ∷ ys) (onto_first x ys))
+      by : (b : Bool) (xs ys : List (List ℕ)) → Both c cs (parts_between_joiners (c ∷ ds)) (parts_between_joiners (c ∷ es)) xs ys
+          → Both c (x ∷ cs) (parts_between_joiners (c ∷ ds)) (parts_between_joiners (c ∷ es)) (cond b ([] ∷ xs) (onto_first x xs)) (cond b ([] ∷ ys) (onto_first x ys))
       by true xs ys k = later [] xs ys (both_sum cs xs ys k)
-      by false xs ys k = both_first c x cs (unjoined (c ∷ ds)) (unjoined (c ∷ es)) xs ys k
+      by false xs ys k = both_first c x cs (parts_between_joiners (c ∷ ds)) (parts_between_joiners (c ∷ es)) xs ys k
 
   -- in each mode
   pub columns_balanced : (mode : GraphemeClusterMode) (cs : List ℕ) → Balanced (str_width false) cs (c ∷ ds) (c ∷ es) → Balanced (columns_of mode) cs (c ∷ ds) (c ∷ es)
   columns_balanced Unicode cs whole = whole
   columns_balanced WcWidth cs whole = omega (arith, sum_by-append char_columns_of cs (c ∷ ds), sum_by-append char_columns_of cs (c ∷ es))
-  columns_balanced NoZwj cs whole = both_sum cs (unjoined (cs ++ c ∷ ds)) (unjoined (cs ++ c ∷ es)) (both_parts cs)
+  columns_balanced NoZwj cs whole = both_sum cs (parts_between_joiners (cs ++ c ∷ ds)) (parts_between_joiners (cs ++ c ∷ es)) (both_parts cs)
 
 -- ---- a text that is parted before a character
 
 -- the text leaves the state, and so does its part up to the first joiner
 record Parts (s : State) (c : ℕ) (ds : List ℕ) : Type 0 where
   whole : Leaves s (c ∷ ds)
-  part : (p : List ℕ) (ps : List (List ℕ)) → unjoined (c ∷ ds) ≡ (c ∷ p) ∷ ps → Leaves s (c ∷ p)
+  part : (p : List ℕ) (ps : List (List ℕ)) → parts_between_joiners (c ∷ ds) ≡ (c ∷ p) ∷ ps → Leaves s (c ∷ p)
 
 columns_alike : (s : State) (c : ℕ) (ds es : List ℕ) → (c == 0x200D) ≡ false → Parts s c ds → Parts s c es → (mode : GraphemeClusterMode) (cs : List ℕ) → Balanced (columns_of mode) cs (c ∷ ds) (c ∷ es)
 columns_alike s c ds es joiner h k mode cs =
@@ -716,8 +716,8 @@ data Begins (ds : List ℕ) : List ℕ → Type 0 where
   none : stops (first ds) ≡ true → Begins ds []
   same : (d : ℕ) (p : List ℕ) → first ds ≡ Some d → (d == 0x200D) ≡ false → Begins ds (d ∷ p)
 
-begun_part : (c : ℕ) (ds p : List ℕ) (ps : List (List ℕ)) → (c == 0x200D) ≡ false → unjoined (c ∷ ds) ≡ (c ∷ p) ∷ ps → Begins ds p
-begun_part c ds p ps joiner e = by ds (sym (ap (λ b. cond b ([] ∷ unjoined ds) (onto_first c (unjoined ds))) joiner) ∙ e)
+begun_part : (c : ℕ) (ds p : List ℕ) (ps : List (List ℕ)) → (c == 0x200D) ≡ false → parts_between_joiners (c ∷ ds) ≡ (c ∷ p) ∷ ps → Begins ds p
+begun_part c ds p ps joiner e = by ds (sym (ap (λ b. cond b ([] ∷ parts_between_joiners ds) (onto_first c (parts_between_joiners ds))) joiner) ∙ e)
   where
     tail_is : {x y : List ℕ} {xs ys : List (List ℕ)} → (c ∷ x) ∷ xs ≡ (c ∷ y) ∷ ys → x ≡ y
     tail_is e = cc
@@ -730,9 +730,9 @@ begun_part c ds p ps joiner e = by ds (sym (ap (λ b. cond b ([] ∷ unjoined ds
     at true d ds us h e = subst (Begins (d ∷ ds)) (tail_is e) (none h)
     at false d ds us h e = onto d ds us h e
 
-    by : (ds : List ℕ) → onto_first c (unjoined ds) ≡ (c ∷ p) ∷ ps → Begins ds p
+    by : (ds : List ℕ) → onto_first c (parts_between_joiners ds) ≡ (c ∷ p) ∷ ps → Begins ds p
     by [] e = subst (Begins []) (tail_is e) (none refl)
-    by (d ∷ ds) e = at (d == 0x200D) d ds (unjoined ds) refl e
+    by (d ∷ ds) e = at (d == 0x200D) d ds (parts_between_joiners ds) refl e
 
 pub parts_bare : (c : ℕ) (next : Option ℕ) → parts c next ≡ true → parts c None ≡ true
 parts_bare c next h =
@@ -872,12 +872,12 @@ read_flags n (c ∷ d ∷ f ∷ cs) h =
     let e : n + length (d ∷ f ∷ cs) + 1 ≡ n + length (c ∷ d ∷ f ∷ cs) = omega arith in
     ap (step false c) (read_flags n (d ∷ f ∷ cs) parts.1) ∙ later_flag c (n + length (d ∷ f ∷ cs)) parts.0 ∙ ap (λ m. (m, before after.RegionalIndicators)) e
 
-flags_unjoined : (cs : List ℕ) → list_all is_flag_letter cs ≡ true → unjoined cs ≡ cs ∷ []
+flags_unjoined : (cs : List ℕ) → list_all is_flag_letter cs ≡ true → parts_between_joiners cs ≡ cs ∷ []
 flags_unjoined [] h = refl
 flags_unjoined (c ∷ cs) h =
     let parts = and_parts (is_flag_letter c) (list_all is_flag_letter cs) h in
     let other : (c == 0x200D) ≡ false = no_joiner c parts.0 in
-    ap (λ b. cond b ([] ∷ unjoined cs) (onto_first c (unjoined cs))) other ∙ ap (onto_first c) (flags_unjoined cs parts.1)
+    ap (λ b. cond b ([] ∷ parts_between_joiners cs) (onto_first c (parts_between_joiners cs))) other ∙ ap (onto_first c) (flags_unjoined cs parts.1)
   where
     no_joiner : (c : ℕ) → is_flag_letter c ≡ true → (c == 0x200D) ≡ false
     no_joiner c h = apart is_flag_letter c 0x200D h refl

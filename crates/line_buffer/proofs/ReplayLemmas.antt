@@ -2,27 +2,27 @@
 use Rattle.std.proofs.Common.{◌≡◌, Bool, true, ℕ, ◌+◌, ◌-◌, arith, take, drop, List, [], ◌∷◌, ◌++◌, inr, refl, subst, ap, ◌∙◌}
 use Rattle.std.specs.Prelude.{if◌then◌else◌, Result, Ok, Err, OnErr, IsUtf8, IsCharBoundary}
 use Rattle.std.specs.List.{replace_range, insert_slice}
-use Rattle.line_buffer.specs.Event.{Event}
+use Rattle.line_buffer.specs.Event.{ChangeEvent}
 use Rattle.line_buffer.specs.Replay.{Swaps, Replays, ReplaysAll, TakesAll, Reports, StopsAmong, wants_or}
 
-module _ {S : Type 0} (takes : S → Event → S → Type 0) where
-  TakesAll-append : (es fs : List Event) (s t u : S) → TakesAll takes s es t → TakesAll takes t fs u → TakesAll takes s (es ++ fs) u
+module _ {S : Type 0} (takes : S → ChangeEvent → S → Type 0) where
+  TakesAll-append : (es fs : List ChangeEvent) (s t u : S) → TakesAll takes s es t → TakesAll takes t fs u → TakesAll takes s (es ++ fs) u
   TakesAll-append [] fs s t u e h = subst (λ x. TakesAll takes x fs u) e h
   TakesAll-append (e ∷ es) fs s t u h k = (h.0, h.1, TakesAll-append es fs h.0 t u h.2 k)
 
-ReplaysAll-append : (es fs : List Event) (a b c : List ℕ) → ReplaysAll es a b → ReplaysAll fs b c → ReplaysAll (es ++ fs) a c
+ReplaysAll-append : (es fs : List ChangeEvent) (a b c : List ℕ) → ReplaysAll es a b → ReplaysAll fs b c → ReplaysAll (es ++ fs) a c
 ReplaysAll-append [] fs a b c e h = subst (λ x. ReplaysAll fs x c) e h
 ReplaysAll-append (e ∷ es) fs a b c h k = (h.0, h.1, ReplaysAll-append es fs h.0 b c h.2 k)
 
 -- nothing told, nothing changed
-pub reports_nothing : {S : Type 0} (takes : S → Event → S → Type 0) (s : S) (a : List ℕ) → Reports takes [] s s a a
+pub reports_nothing : {S : Type 0} (takes : S → ChangeEvent → S → Type 0) (s : S) (a : List ℕ) → Reports takes [] s s a a
 reports_nothing takes s a = record { told = refl; replays = refl }
 
-pub reports_one : {S : Type 0} (takes : S → Event → S → Type 0) (e : Event) (s t : S) (a b : List ℕ) → takes s e t → Replays e a b → Reports takes (e ∷ []) s t a b
+pub reports_one : {S : Type 0} (takes : S → ChangeEvent → S → Type 0) (e : ChangeEvent) (s t : S) (a b : List ℕ) → takes s e t → Replays e a b → Reports takes (e ∷ []) s t a b
 reports_one takes e s t a b h k = record { told = (t, h, refl); replays = (b, k, refl) }
 
 -- one call after the other
-pub reports_then : {S : Type 0} {takes : S → Event → S → Type 0} {es fs : List Event} {s t u : S} {a b c : List ℕ} → Reports takes es s t a b → Reports takes fs t u b c
+pub reports_then : {S : Type 0} {takes : S → ChangeEvent → S → Type 0} {es fs : List ChangeEvent} {s t u : S} {a b c : List ℕ} → Reports takes es s t a b → Reports takes fs t u b c
     → Reports takes (es ++ fs) s u a c
 reports_then {S} {takes} {es} {fs} {s} {t} {u} {a} {b} {c} x y = record {
   told = TakesAll-append takes es fs s t u x.told y.told;
@@ -34,7 +34,7 @@ pub on_refusal : {T E : Type 0} (r : Result T E) {P : Type 0} → P → OnErr r 
 on_refusal {T} {E} r {P} h = elim r as (λ r. OnErr r P) [ Ok x ↦ tt | Err x ↦ h ]
 
 -- the failed event, as another equation has it
-pub refused_as : {S : Type 0} (refuses : S → Event → S → Type 0) {e f : Event} {s t : S} → e ≡ f → wants_or refuses s e t → wants_or refuses s f t
+pub refused_as : {S : Type 0} (refuses : S → ChangeEvent → S → Type 0) {e f : ChangeEvent} {s t : S} → e ≡ f → wants_or refuses s e t → wants_or refuses s f t
 refused_as refuses {e} {f} {s} {t} same h = subst (λ x. wants_or refuses s x t) same h
 
 -- events under a test that holds
@@ -42,7 +42,7 @@ pub if_true : {A : Type 0} (b : Bool) (x y : A) → b ≡ true → (if b then x 
 if_true b x y e = ap (λ v. if v then x else y) e
 
 -- a call that takes memory too
-unfoldable pub stops_wanting : {S : Type 0} {takes refuses : S → Event → S → Type 0} {closing es : List Event} {s t : S} {a b : List ℕ} → StopsAmong takes refuses closing es s t a b
+unfoldable pub stops_wanting : {S : Type 0} {takes refuses : S → ChangeEvent → S → Type 0} {closing es : List ChangeEvent} {s t : S} {a b : List ℕ} → StopsAmong takes refuses closing es s t a b
     → StopsAmong takes (wants_or refuses) closing es s t a b
 stops_wanting {S} {takes} {refuses} {closing} {es} {s} {t} {a} {b} x = record {
   done = x.done;

@@ -4,19 +4,19 @@ use Rattle.std.specs.Prelude.{IfSome, slice_range, if◌then◌else◌, encode_u
 use Rattle.std.specs.List.{replace_range, insert_slice, repeat}
 use Rattle.std.proofs.lemmas.List.{append-nil, drop_all}
 use Rattle.std.proofs.lemmas.List.Edits.{length-between}
-use Rattle.line_buffer.specs.declared.range.Span.{Span}
+use Rattle.line_buffer.specs.declared.range.TextSpan.{TextSpan}
 use Rattle.line_buffer.specs.declared.types.Direction.{Direction}
 use Rattle.line_buffer.specs.declared.types.Direction.TheVariants.{Forward}
 use Rattle.line_buffer.specs.declared.types.Movement.{Movement}
-use Rattle.line_buffer.specs.Event.{Event}
-use Rattle.line_buffer.specs.Event.Event.{StartKilling, StopKilling, Delete, InsertChar, InsertStr, Replace}
+use Rattle.line_buffer.specs.Event.{ChangeEvent}
+use Rattle.line_buffer.specs.Event.ChangeEvent.{StartKilling, StopKilling, Delete, InsertChar, InsertStr, Replace}
 use Rattle.line_buffer.specs.Indent.{indent_events, indent_line}
-use Rattle.line_buffer.specs.Insertions.{Insertion, has_room, kept_text, update_events, put_at_cursor, no_insertion, insertion_by, insertion_of, insert, yank, without_before, yank_pop}
+use Rattle.line_buffer.specs.Insertions.{Insertion, has_room, text_that_fits, update_events, with_text_at_cursor, no_insertion, insertion_by, insertion_of, insert, yank, without_before, yank_pop}
 use Rattle.line_buffer.specs.Line.{Line}
 use Rattle.line_buffer.specs.Range.{IsSpanOf, range_of, deletion_events, deletion_line, kill_events, kill_line, goes_by_clusters}
-use Rattle.line_buffer.specs.Replay.{Replays, ReplaysAll, deletion, insertion, replacement, replayed, replayed_all, carried_line, carried_all}
+use Rattle.line_buffer.specs.Replay.{Replays, deletion, insertion, replacement, text_after_event, text_after_events, line_after_event, line_after_events}
 
-pub replayed_is : (e : Event) (a b : List ℕ) → Replays e a b → b ≡ replayed e a
+pub replayed_is : (e : ChangeEvent) (a b : List ℕ) → Replays e a b → b ≡ text_after_event e a
 replayed_is StartKilling a b h = h
 replayed_is StopKilling a b h = h
 replayed_is (Delete at text direction) a b h = h.becomes
@@ -24,93 +24,88 @@ replayed_is (InsertChar at c) a b h = h.becomes
 replayed_is (InsertStr at text) a b h = h.becomes
 replayed_is (Replace at removed added) a b h = h.becomes
 
-pub replayed_all_is : (es : List Event) (a b : List ℕ) → ReplaysAll es a b → b ≡ replayed_all es a
-unfolding replayed_all
-replayed_all_is [] a b h = h
-replayed_all_is (e ∷ es) a b h = replayed_all_is es h.0 b h.2 ∙ ap (replayed_all es) (replayed_is e a h.0 h.1)
-
-pub replayed_all-append : (es fs : List Event) (a : List ℕ) → replayed_all (es ++ fs) a ≡ replayed_all fs (replayed_all es a)
-unfolding replayed_all
+pub replayed_all-append : (es fs : List ChangeEvent) (a : List ℕ) → text_after_events (es ++ fs) a ≡ text_after_events fs (text_after_events es a)
+unfolding text_after_events
 replayed_all-append [] fs a = refl
-replayed_all-append (e ∷ es) fs a = replayed_all-append es fs (replayed e a)
+replayed_all-append (e ∷ es) fs a = replayed_all-append es fs (text_after_event e a)
 
-pub replayed_all-none : (a : List ℕ) → replayed_all [] a ≡ a
-unfolding replayed_all
+pub replayed_all-none : (a : List ℕ) → text_after_events [] a ≡ a
+unfolding text_after_events
 replayed_all-none a = refl
 
-pub replayed_all-one : (e : Event) (a : List ℕ) → replayed_all (e ∷ []) a ≡ replayed e a
-unfolding replayed_all
+pub replayed_all-one : (e : ChangeEvent) (a : List ℕ) → text_after_events (e ∷ []) a ≡ text_after_event e a
+unfolding text_after_events
 replayed_all-one e a = refl
 
-pub replayed_all-first : (e : Event) (es : List Event) (a : List ℕ) → replayed_all (e ∷ es) a ≡ replayed_all es (replayed e a)
-unfolding replayed_all
+pub replayed_all-first : (e : ChangeEvent) (es : List ChangeEvent) (a : List ℕ) → text_after_events (e ∷ es) a ≡ text_after_events es (text_after_event e a)
+unfolding text_after_events
 replayed_all-first e es a = refl
 
-pub replayed_deletion : (text : List ℕ) (from upto : ℕ) (direction : Direction) → from ≤ upto → upto ≤ length text → replayed (deletion from upto direction text) text ≡ replace_range text from upto []
+pub replayed_deletion : (text : List ℕ) (from upto : ℕ) (direction : Direction) → from ≤ upto → upto ≤ length text → text_after_event (deletion from upto direction text) text ≡ replace_range text from upto []
 replayed_deletion text from upto direction le fits =
     ap (λ n. replace_range text from n []) (let k : from + length (slice_range text from upto) ≡ upto = omega (arith, length-between text from upto fits, le) in k)
 
-pub replayed_insertion : (text : List ℕ) (at : ℕ) (added : List ℕ) → replayed (insertion at added) text ≡ insert_slice text at added
+pub replayed_insertion : (text : List ℕ) (at : ℕ) (added : List ℕ) → text_after_event (insertion at added) text ≡ insert_slice text at added
 replayed_insertion text at added = ap (λ n. replace_range text at n added) (let k : at + 0 ≡ at = omega arith in k)
 
-pub replayed_replacement : (text : List ℕ) (from upto : ℕ) (added : List ℕ) → from ≤ upto → upto ≤ length text → replayed (replacement from upto added text) text ≡ replace_range text from upto added
+pub replayed_replacement : (text : List ℕ) (from upto : ℕ) (added : List ℕ) → from ≤ upto → upto ≤ length text → text_after_event (replacement from upto added text) text ≡ replace_range text from upto added
 replayed_replacement text from upto added le fits =
     ap (λ n. replace_range text from n added) (let k : from + length (slice_range text from upto) ≡ upto = omega (arith, length-between text from upto fits, le) in k)
 
 -- the new text of an update is what is kept of it
-pub update_replayed : (text : List ℕ) (l : Line) → replayed_all (update_events text l) l.text ≡ kept_text text l
+pub update_replayed : (text : List ℕ) (l : Line) → text_after_events (update_events text l) l.text ≡ text_that_fits text l
 update_replayed text l =
     replayed_all-first _ _ l.text ∙ replayed_all-one _ _
-    ∙ ap (λ t. replayed (insertion 0 (kept_text text l)) t) (replayed_deletion l.text 0 (length l.text) Forward (omega arith) (omega arith) ∙ drop_all (length l.text) l.text (omega arith))
-    ∙ append-nil (kept_text text l)
+    ∙ ap (λ t. text_after_event (insertion 0 (text_that_fits text l)) t) (replayed_deletion l.text 0 (length l.text) Forward (omega arith) (omega arith) ∙ drop_all (length l.text) l.text (omega arith))
+    ∙ append-nil (text_that_fits text l)
 
-insertion_by_replayed : (e : Event) (added : List ℕ) (l : Line) → replayed e l.text ≡ insert_slice l.text l.place added
-    → replayed_all (insertion_by e added l).events l.text ≡ (insertion_by e added l).line.text
+insertion_by_replayed : (e : ChangeEvent) (added : List ℕ) (l : Line) → text_after_event e l.text ≡ insert_slice l.text l.place added
+    → text_after_events (insertion_by e added l).events l.text ≡ (insertion_by e added l).line.text
 insertion_by_replayed e added l h =
-    let put : Bool → Insertion = λ b. if b then record { answer = Some (l.place == length l.text); events = e ∷ []; line = put_at_cursor added l } else no_insertion l in
-    elim (has_room (length added) l) as (λ b. replayed_all (put b).events l.text ≡ (put b).line.text) [ true ↦ replayed_all-one e l.text ∙ h | false ↦ replayed_all-none l.text ]
+    let put : Bool → Insertion = λ b. if b then record { answer = Some (l.place == length l.text); events = e ∷ []; line = with_text_at_cursor added l } else no_insertion l in
+    elim (has_room (length added) l) as (λ b. text_after_events (put b).events l.text ≡ (put b).line.text) [ true ↦ replayed_all-one e l.text ∙ h | false ↦ replayed_all-none l.text ]
 
-insertion_of_replayed : (text : List ℕ) (n : ℕ) (l : Line) → replayed_all (insertion_of text n l).events l.text ≡ (insertion_of text n l).line.text
+insertion_of_replayed : (text : List ℕ) (n : ℕ) (l : Line) → text_after_events (insertion_of text n l).events l.text ≡ (insertion_of text n l).line.text
 insertion_of_replayed text n l = insertion_by_replayed (insertion l.place (repeat n text)) (repeat n text) l (replayed_insertion l.text l.place (repeat n text))
 
-pub insert_replayed : (c n : ℕ) (l : Line) → replayed_all (insert c n l).events l.text ≡ (insert c n l).line.text
+pub insert_replayed : (c n : ℕ) (l : Line) → text_after_events (insert c n l).events l.text ≡ (insert c n l).line.text
 insert_replayed c n l =
     let put : Bool → Insertion = λ b. if b then insertion_by (InsertChar l.place c) (encode_utf8 c) l else insertion_of (encode_utf8 c) n l in
-    elim (n == 1) as (λ b. replayed_all (put b).events l.text ≡ (put b).line.text) [
+    elim (n == 1) as (λ b. text_after_events (put b).events l.text ≡ (put b).line.text) [
       | true ↦ insertion_by_replayed (InsertChar l.place c) (encode_utf8 c) l (replayed_insertion l.text l.place (encode_utf8 c))
       | false ↦ insertion_of_replayed (encode_utf8 c) n l
     ]
 
-pub yank_replayed : (text : List ℕ) (n : ℕ) (l : Line) → replayed_all (yank text n l).events l.text ≡ (yank text n l).line.text
+pub yank_replayed : (text : List ℕ) (n : ℕ) (l : Line) → text_after_events (yank text n l).events l.text ≡ (yank text n l).line.text
 yank_replayed text n l =
     let put : Bool → Insertion = λ b. if b then no_insertion l else insertion_of text n l in
-    elim (length text == 0) as (λ b. replayed_all (put b).events l.text ≡ (put b).line.text) [ true ↦ replayed_all-none l.text | false ↦ insertion_of_replayed text n l ]
+    elim (length text == 0) as (λ b. text_after_events (put b).events l.text ≡ (put b).line.text) [ true ↦ replayed_all-none l.text | false ↦ insertion_of_replayed text n l ]
 
-pub yank_pop_replayed : (size : ℕ) (text : List ℕ) (l : Line) → l.place ≤ length l.text → replayed_all (yank_pop size text l).events l.text ≡ (yank_pop size text l).line.text
+pub yank_pop_replayed : (size : ℕ) (text : List ℕ) (l : Line) → l.place ≤ length l.text → text_after_events (yank_pop size text l).events l.text ≡ (yank_pop size text l).line.text
 yank_pop_replayed size text l fits =
-    replayed_all-first _ _ l.text ∙ ap (replayed_all (yank text 1 (without_before size l)).events) (replayed_deletion l.text (l.place - size) l.place Forward (omega arith) fits)
+    replayed_all-first _ _ l.text ∙ ap (text_after_events (yank text 1 (without_before size l)).events) (replayed_deletion l.text (l.place - size) l.place Forward (omega arith) fits)
     ∙ yank_replayed text 1 (without_before size l)
 
 -- a part taken out
-pub deletion_replayed : (o : Option Span) (l : Line) → IfSome o (IsSpanOf l.text) → replayed_all (deletion_events o l) l.text ≡ (deletion_line o l).text
+pub deletion_replayed : (o : Option TextSpan) (l : Line) → IfSome o (IsSpanOf l.text) → text_after_events (deletion_events o l) l.text ≡ (deletion_line o l).text
 deletion_replayed None l h = replayed_all-none l.text
 deletion_replayed (Some span) l h = replayed_all-one _ l.text ∙ replayed_deletion l.text span.from span.upto span.direction h.order h.end.0
 
-pub kill_replayed : (movement : Movement) (l : Line) → IfSome (range_of movement l) (IsSpanOf l.text) → replayed_all (kill_events movement l) l.text ≡ (kill_line movement l).text
+pub kill_replayed : (movement : Movement) (l : Line) → IfSome (range_of movement l) (IsSpanOf l.text) → text_after_events (kill_events movement l) l.text ≡ (kill_line movement l).text
 kill_replayed movement l h =
-    let events : List Event = deletion_events (range_of movement l) l in
-    elim (goes_by_clusters movement) as (λ b. replayed_all (if b then events else StartKilling ∷ (events ++ (StopKilling ∷ []))) l.text ≡ (kill_line movement l).text) [
+    let events : List ChangeEvent = deletion_events (range_of movement l) l in
+    elim (goes_by_clusters movement) as (λ b. text_after_events (if b then events else StartKilling ∷ (events ++ (StopKilling ∷ []))) l.text ≡ (kill_line movement l).text) [
       | true ↦ deletion_replayed (range_of movement l) l h
       | false ↦
           replayed_all-first StartKilling (events ++ (StopKilling ∷ [])) l.text ∙ replayed_all-append events (StopKilling ∷ []) l.text
-          ∙ replayed_all-one StopKilling (replayed_all events l.text) ∙ deletion_replayed (range_of movement l) l h
+          ∙ replayed_all-one StopKilling (text_after_events events l.text) ∙ deletion_replayed (range_of movement l) l h
     ]
 
-pub carried_text : (es : List Event) (l : Line) → (carried_all es l).text ≡ replayed_all es l.text
-unfolding carried_all replayed_all
+pub carried_text : (es : List ChangeEvent) (l : Line) → (line_after_events es l).text ≡ text_after_events es l.text
+unfolding line_after_events text_after_events
 carried_text [] l = refl
-carried_text (e ∷ es) l = carried_text es (carried_line e l)
+carried_text (e ∷ es) l = carried_text es (line_after_event e l)
 
 -- the rows that are moved
-pub indent_replayed : (movement : Movement) (amount : ℕ) (dedent : Bool) (l : Line) → replayed_all (indent_events movement amount dedent l) l.text ≡ (indent_line movement amount dedent l).text
+pub indent_replayed : (movement : Movement) (amount : ℕ) (dedent : Bool) (l : Line) → text_after_events (indent_events movement amount dedent l) l.text ≡ (indent_line movement amount dedent l).text
 indent_replayed movement amount dedent l = sym (carried_text (indent_events movement amount dedent l) l)

@@ -31,7 +31,7 @@ row_start_is bs start h =
 not_newline : (b : ℕ) → is_in_row b ≡ true → b ≢ 10
 not_newline b h e = grind (arith)
 
-is_newline : (b : ℕ) → is_in_row b ≡ false → b ≡ 10
+pub is_newline : (b : ℕ) → is_in_row b ≡ false → b ≡ 10
 is_newline b h = grind (arith)
 
 -- a row by the bytes that are none of a newline

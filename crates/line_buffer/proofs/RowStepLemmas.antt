@@ -7,10 +7,10 @@ use Rattle.std.proofs.lemmas.List.Edits.{length-between}
 use Rattle.std.proofs.lemmas.Str.{IsCharBoundary-from_drop, IsCharBoundary-after_ascii, IsUtf8-drop}
 use Rattle.line_buffer.specs.declared.types.Movement.{Movement}
 use Rattle.line_buffer.specs.Edit.{StopsAt, SameSettings}
-use Rattle.line_buffer.specs.Event.{Event}
+use Rattle.line_buffer.specs.Event.{ChangeEvent}
 use Rattle.line_buffer.specs.Indent.{rows_covered, spaces, indent_events, rows_of, row_event, row_len, row_events}
 use Rattle.line_buffer.specs.Line.{Line}
-use Rattle.line_buffer.specs.Replay.{Replays, Reports, TellsOfChange, wants_or, carried_line, carried_all}
+use Rattle.line_buffer.specs.Replay.{Replays, Reports, TellsOfChange, wants_or, line_after_event, line_after_events}
 use Rattle.line_buffer.specs.Rows.{is_in_row, row_start, row_end}
 use Rattle.line_buffer.proofs.IndentLemmas.{rows_last, rows_more}
 use Rattle.line_buffer.proofs.LeftLemmas.{carried_all-one, carried_all-append, stopped_as, stopped_first, stopped_later}
@@ -28,7 +28,7 @@ row_events-none margin dedent at = refl
 
 -- there is a first row in any text
 pub row_events-some : (margin : List ℕ) (dedent : Bool) (at : ℕ) (text : List ℕ)
-    → (never : List Event) × (row_events margin dedent at (rows_of text) ≡ row_event margin dedent at (take (prefix_len is_in_row text) text) ∷ never)
+    → (never : List ChangeEvent) × (row_events margin dedent at (rows_of text) ≡ row_event margin dedent at (take (prefix_len is_in_row text) text) ∷ never)
 row_events-some margin dedent at text = elim (prefix_len-stops text) [
   | inl e ↦ (
     [],
@@ -48,9 +48,9 @@ row_event_tells margin true at row = tt
 row_event_tells margin false at row = tt
 
 -- events, the first of which tells of a change
-pub record SomeChange (all : List Event) : Type 0 where
-  pub first : Event
-  pub never : List Event
+pub record SomeChange (all : List ChangeEvent) : Type 0 where
+  pub first : ChangeEvent
+  pub never : List ChangeEvent
   pub tells : TellsOfChange first
   pub events : all ≡ first ∷ never
 
@@ -67,19 +67,19 @@ indent_events-some movement amount dedent l =
     }
 
 -- of the events `all` those before the row at a place were told, and led from one line to the other
-pub record RowsTold {S : Type 0} (takes : S → Event → S → Type 0) (margin : List ℕ) (dedent : Bool) (all : List Event) (s t : S) (l m : Line) (at last : ℕ) : Type 0 where
-  pub done : List Event
+pub record RowsTold {S : Type 0} (takes : S → ChangeEvent → S → Type 0) (margin : List ℕ) (dedent : Bool) (all : List ChangeEvent) (s t : S) (l m : Line) (at last : ℕ) : Type 0 where
+  pub done : List ChangeEvent
   pub split : all ≡ done ++ row_events margin dedent at (rows_of (slice_range m.text at last))
   pub reported : Reports takes done s t l.text m.text
-  pub line : m ≡ carried_all done l
+  pub line : m ≡ line_after_events done l
   pub order : at ≤ last
   pub start : IsCharBoundary m.text at
   pub end : IsCharBoundary m.text last
   pub settings : SameSettings l m
 
-pub rows_told_init : {S : Type 0} (takes : S → Event → S → Type 0) (margin : List ℕ) (dedent : Bool) (s : S) (l : Line) (at last : ℕ) → at ≤ last → IsCharBoundary l.text at → IsCharBoundary l.text last
+pub rows_told_init : {S : Type 0} (takes : S → ChangeEvent → S → Type 0) (margin : List ℕ) (dedent : Bool) (s : S) (l : Line) (at last : ℕ) → at ≤ last → IsCharBoundary l.text at → IsCharBoundary l.text last
     → RowsTold takes margin dedent (row_events margin dedent at (rows_of (slice_range l.text at last))) s s l l at last
-unfolding carried_all
+unfolding line_after_events
 rows_told_init takes margin dedent s l at last o b e = record {
   done = [];
   split = refl;
@@ -91,7 +91,7 @@ rows_told_init takes margin dedent s l at last o b e = record {
   settings = record { growth = refl; limit = refl };
 }
 
-module _ {S : Type 0} (takes refuses : S → Event → S → Type 0) (margin : List ℕ) (dedent : Bool) (all : List Event) (s t : S) (l m : Line) (at last : ℕ)
+module _ {S : Type 0} (takes refuses : S → ChangeEvent → S → Type 0) (margin : List ℕ) (dedent : Bool) (all : List ChangeEvent) (s t : S) (l m : Line) (at last : ℕ)
     (w : RowsTold takes margin dedent all s t l m at last) (end : ℕ) (ends : end ≡ at + prefix_len is_in_row (slice_range m.text at last)) where
   abbrev rows : List ℕ
   rows = slice_range m.text at last
@@ -120,24 +120,24 @@ module _ {S : Type 0} (takes refuses : S → Event → S → Type 0) (margin : L
       (stopped_later w.reported w.line (stopped_first takes (wants_or refuses) _ first.0 (row_event margin dedent at row) t u m n here (row_event_tells margin dedent at row) h same))
 
   module _ (u : S) (n : Line) (changed : ℕ) (told : takes t (row_event margin dedent at row) u) (replays : Replays (row_event margin dedent at row) m.text n.text)
-      (line : n ≡ carried_line (row_event margin dedent at row) m) (answer : changed ≡ at + row_len margin dedent row) where
-    abbrev more : List Event
+      (line : n ≡ line_after_event (row_event margin dedent at row) m) (answer : changed ≡ at + row_len margin dedent row) where
+    abbrev more : List ChangeEvent
     more = w.done ++ (row_event margin dedent at row ∷ [])
 
     reports_more : Reports takes more s u l.text n.text
     reports_more = reports_then w.reported (reports_one takes (row_event margin dedent at row) t u m.text n.text told replays)
 
-    line_more : n ≡ carried_all more l
+    line_more : n ≡ line_after_events more l
     line_more =
-        line ∙ ap (carried_line (row_event margin dedent at row)) w.line ∙ sym (carried_all-one (row_event margin dedent at row) (carried_all w.done l))
+        line ∙ ap (line_after_event (row_event margin dedent at row)) w.line ∙ sym (carried_all-one (row_event margin dedent at row) (line_after_events w.done l))
         ∙ sym (carried_all-append w.done (row_event margin dedent at row ∷ []) l)
 
     pub settings_more : SameSettings l n
     settings_more = record { growth = ap (λ x. x.growth) line ∙ w.settings.growth; limit = ap (λ x. x.limit) line ∙ w.settings.limit }
 
     -- it was the last one
-    pub rows_told_all : end ≡ last → Reports takes all s u l.text n.text × (n ≡ carried_all all l)
-    rows_told_all e = (subst (λ es. Reports takes es s u l.text n.text) (sym whole) reports_more, line_more ∙ ap (λ es. carried_all es l) (sym whole))
+    pub rows_told_all : end ≡ last → Reports takes all s u l.text n.text × (n ≡ line_after_events all l)
+    rows_told_all e = (subst (λ es. Reports takes es s u l.text n.text) (sym whole) reports_more, line_more ∙ ap (λ es. line_after_events es l) (sym whole))
       where
         none_after : width ≡ length rows
         none_after = omega (arith, e, ends, size, w.order)

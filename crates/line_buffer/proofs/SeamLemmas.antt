@@ -1,17 +1,17 @@
 -- Columns of a text that is cut before a character: they add up where the reading of what follows says nothing of the end of
 -- what stands before.
-use Rattle.std.proofs.Common.{◌≡◌, ◌≢◌, ℕ, zero, suc, ◌+◌, ◌==◌, Bool, true, false, cond, List, [], ◌∷◌, ◌++◌, None, Some, refl, sym, ap, ◌∙◌, arith, add-zero, zero-add}
+use Rattle.std.proofs.Common.{◌≡◌, ◌≢◌, ℕ, zero, suc, ◌+◌, ◌==◌, Bool, true, false, cond, List, [], ◌∷◌, ◌++◌, None, Some, refl, ap, ◌∙◌, arith}
 use Rattle.std.proofs.Math.ListN.{replicate}
 use Rattle.std.specs.Prelude.{sum_by}
 use Rattle.std.specs.List.{last_or, list_all, onto_first}
 use Rattle.std.proofs.lemmas.List.Sums.{sum_by-cons, sum_by-append}
 use Rattle.unicode_width.specs.declared.state.State.{State}
-use Rattle.unicode_width.specs.Width.{plain, alone, Reading, added, step, read_before, str_width}
+use Rattle.unicode_width.specs.Width.{plain, Reading, step, read_before, str_width}
 use Rattle.unicode_width.proofs.Computing.{unicode_width}
-use Rattle.unicode_width.proofs.Rules.{is_simple, str_width-append_simple}
+use Rattle.unicode_width.proofs.Rules.{is_simple}
 use Rattle.line_buffer.specs.declared.layout.GraphemeClusterMode.{GraphemeClusterMode}
 use Rattle.line_buffer.specs.declared.layout.GraphemeClusterMode.TheVariants.{Unicode, WcWidth, NoZwj}
-use Rattle.line_buffer.specs.Width.{char_columns_of, unjoined, columns_of}
+use Rattle.line_buffer.specs.Width.{char_columns_of, parts_between_joiners, columns_of}
 
 pub read-append : (xs ys : List ℕ) (r : Reading) → read_before false (xs ++ ys) r ≡ read_before false xs (read_before false ys r)
 read-append [] ys r = refl
@@ -33,40 +33,11 @@ no_columns = refl
 
 -- ---- the selectors by themselves
 
-pub emoji_selector : (n : ℕ) → added n (alone false 0xFE0F) ≡ (n, record plain { emoji = true })
-unfolding unicode_width
-emoji_selector n = ap (λ m. (m, record plain { emoji = true })) (add-zero n)
-
-pub quote_selector : (n : ℕ) → added n (alone false 0xFE01) ≡ (n, record plain { quote = true })
-unfolding unicode_width
-quote_selector n = ap (λ m. (m, record plain { quote = true })) (add-zero n)
-
-pub text_selector : (n : ℕ) → added n (alone false 0xFE0E) ≡ (n, record plain { text = true })
-unfolding unicode_width
-text_selector n = ap (λ m. (m, record plain { text = true })) (add-zero n)
-
 -- ---- a cut
 
 -- before a state that all characters but one read as they read nothing
 unfoldable pub IsOpen : ℕ → State → Type 0
 IsOpen stop s = (c n : ℕ) → c ≢ stop → step false c (n, s) ≡ step false c (n, plain)
-
-read_open : (stop : ℕ) (s : State) → IsOpen stop s → (c : ℕ) (cs : List ℕ) (n : ℕ) → last_or (Some c) cs ≢ Some stop → read_before false (c ∷ cs) (n, s) ≡ read_before false (c ∷ cs) (n, plain)
-unfolding IsOpen
-read_open stop s reads c [] n other = reads c n (λ e. other (ap Some e))
-read_open stop s reads c (d ∷ cs) n other = ap (step false c) (read_open stop s reads d cs n other)
-
-pub str_width-open : (stop : ℕ) (s : State) → IsOpen stop s → (f : ℕ) (cs ds : List ℕ) → (read_before false (f ∷ ds) (0, plain)).1 ≡ s → last_or None cs ≢ Some stop
-    → str_width false (cs ++ f ∷ ds) ≡ str_width false cs + str_width false (f ∷ ds)
-unfolding str_width
-str_width-open stop s reads f [] ds left other = sym (zero-add _)
-str_width-open stop s reads f (c ∷ cs) ds left other =
-    let n = str_width false (f ∷ ds) in
-    let whole : str_width false ((c ∷ cs) ++ replicate n 97) ≡ str_width false (c ∷ cs) + n =
-    str_width-append_simple false (c ∷ cs) (replicate n 97) (letters_simple n) ∙ ap (λ m. str_width false (c ∷ cs) + m) (ap (λ r. r.0) (read_letters n)) in
-    ap (λ r. r.0) (read-append (c ∷ cs) (f ∷ ds) (0, plain) ∙ ap (λ u. read_before false (c ∷ cs) (n, u)) left
-    ∙ read_open stop s reads c cs n other ∙ ap (read_before false (c ∷ cs)) (sym (read_letters n)) ∙ sym (read-append (c ∷ cs) (replicate n 97) (0, plain)))
-    ∙ whole
 
 -- ---- the parts between joiners
 
@@ -85,12 +56,12 @@ after_first stop x (d ∷ cs) other e = other e
 
 -- before the first part of what follows
 abbrev pub PartsAdd : ℕ → ℕ → List ℕ → Type 0
-PartsAdd stop f ds = (cs part : List ℕ) (parts : List (List ℕ)) → unjoined (f ∷ ds) ≡ (f ∷ part) ∷ parts → last_or None cs ≢ Some stop
+PartsAdd stop f ds = (cs part : List ℕ) (parts : List (List ℕ)) → parts_between_joiners (f ∷ ds) ≡ (f ∷ part) ∷ parts → last_or None cs ≢ Some stop
     → str_width false (cs ++ f ∷ part) ≡ str_width false cs + str_width false (f ∷ part)
 
 module _ (stop f : ℕ) (ds : List ℕ) (joiner : (f == 0x200D) ≡ false) (adds : PartsAdd stop f ds) where
-  joined_sum : (cs : List ℕ) (xs ys : List (List ℕ)) → last_or None cs ≢ Some stop → Joined f cs (unjoined (f ∷ ds)) xs ys
-      → sum_by (str_width false) ys ≡ sum_by (str_width false) xs + sum_by (str_width false) (unjoined (f ∷ ds))
+  joined_sum : (cs : List ℕ) (xs ys : List (List ℕ)) → last_or None cs ≢ Some stop → Joined f cs (parts_between_joiners (f ∷ ds)) xs ys
+      → sum_by (str_width false) ys ≡ sum_by (str_width false) xs + sum_by (str_width false) (parts_between_joiners (f ∷ ds))
   joined_sum cs xs ys other (only part parts e) =
       omega (
         arith,
@@ -102,22 +73,22 @@ module _ (stop f : ℕ) (ds : List ℕ) (joiner : (f == 0x200D) ≡ false) (adds
       )
   joined_sum cs xs ys other (later first rest more e) = omega (arith, sum_by-cons (str_width false) first rest, sum_by-cons (str_width false) first more, e)
 
-  joined_parts : (cs : List ℕ) → last_or None cs ≢ Some stop → Joined f cs (unjoined (f ∷ ds)) (unjoined cs) (unjoined (cs ++ f ∷ ds))
-  joined_parts [] other = by (f == 0x200D) joiner (unjoined ds)
+  joined_parts : (cs : List ℕ) → last_or None cs ≢ Some stop → Joined f cs (parts_between_joiners (f ∷ ds)) (parts_between_joiners cs) (parts_between_joiners (cs ++ f ∷ ds))
+  joined_parts [] other = by (f == 0x200D) joiner (parts_between_joiners ds)
     where
       by : (b : Bool) → b ≡ false → (us : List (List ℕ)) → Joined f [] (cond b ([] ∷ us) (onto_first f us)) ([] ∷ []) (cond b ([] ∷ us) (onto_first f us))
       by true e us = cc
       by false e [] = only [] [] refl
       by false e (u ∷ us) = only u us refl
-  joined_parts (x ∷ cs) other = by (x == 0x200D) (unjoined cs) (unjoined (cs ++ f ∷ ds)) (joined_parts cs (after_first stop x cs other))
+  joined_parts (x ∷ cs) other = by (x == 0x200D) (parts_between_joiners cs) (parts_between_joiners (cs ++ f ∷ ds)) (joined_parts cs (after_first stop x cs other))
     where
-      by : (b : Bool) (xs ys : List (List ℕ)) → Joined f cs (unjoined (f ∷ ds)) xs ys → Joined f (x ∷ cs) (unjoined (f ∷ ds)) (cond b ([] ∷ xs) (onto_first x xs)) (cond b ([] ∷ ys) (onto_first x ys))
+      by : (b : Bool) (xs ys : List (List ℕ)) → Joined f cs (parts_between_joiners (f ∷ ds)) xs ys → Joined f (x ∷ cs) (parts_between_joiners (f ∷ ds)) (cond b ([] ∷ xs) (onto_first x xs)) (cond b ([] ∷ ys) (onto_first x ys))
       by true xs ys k = later [] xs ys (joined_sum cs xs ys (after_first stop x cs other) k)
-      by false xs ys k = joined_first f x cs (unjoined (f ∷ ds)) xs ys k
+      by false xs ys k = joined_first f x cs (parts_between_joiners (f ∷ ds)) xs ys k
 
   -- in each mode
   pub columns-open : (mode : GraphemeClusterMode) (cs : List ℕ) → ((cs : List ℕ) → last_or None cs ≢ Some stop → str_width false (cs ++ f ∷ ds) ≡ str_width false cs + str_width false (f ∷ ds))
       → last_or None cs ≢ Some stop → columns_of mode (cs ++ f ∷ ds) ≡ columns_of mode cs + columns_of mode (f ∷ ds)
   columns-open Unicode cs whole other = whole cs other
   columns-open WcWidth cs whole other = sum_by-append char_columns_of cs (f ∷ ds)
-  columns-open NoZwj cs whole other = joined_sum cs (unjoined cs) (unjoined (cs ++ f ∷ ds)) other (joined_parts cs other)
+  columns-open NoZwj cs whole other = joined_sum cs (parts_between_joiners cs) (parts_between_joiners (cs ++ f ∷ ds)) other (joined_parts cs other)

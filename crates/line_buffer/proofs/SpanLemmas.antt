@@ -6,7 +6,7 @@ use Rattle.std.proofs.lemmas.Bool.Decides.{nat_tests}
 use Rattle.std.proofs.lemmas.List.{length-drop, length-take-le, length-reverse, drop-drop, get_or-drop, get_or-take, get_or-reverse}
 use Rattle.std.proofs.lemmas.List.Elements.{All-take, All-map, All-cons, All-drop}
 use Rattle.std.proofs.lemmas.Str.{IsUtf8-take, IsUtf8-drop, IsCharBoundary-start, IsCharBoundary-end, IsCharBoundary-from_rest, IsCharBoundary-after_ascii, IsCharBoundary-before_ascii}
-use Rattle.line_buffer.specs.declared.range.Span.{Span}
+use Rattle.line_buffer.specs.declared.range.TextSpan.{TextSpan}
 use Rattle.line_buffer.specs.declared.types.CharSearch.{CharSearch}
 use Rattle.line_buffer.specs.declared.types.Direction.TheVariants.{Forward}
 use Rattle.line_buffer.specs.declared.types.CharSearch.TheVariants.{Forward as Onto, ForwardBefore, Backward as BackOnto, BackwardAfter}
@@ -16,8 +16,8 @@ use Rattle.line_buffer.specs.declared.types.Movement.{Movement}
 use Rattle.line_buffer.specs.declared.types.Movement.TheVariants.{WholeLine, BeginningOfLine, EndOfLine, BackwardWord, ForwardWord, ViCharSearch, ViFirstPrint, BackwardChar, ForwardChar, LineUp, LineDown, WholeBuffer, BeginningOfBuffer, EndOfBuffer}
 use Rattle.line_buffer.specs.Clusters.{clusters, cluster_ends, cluster_starts_back, nth_or_last, place_forward, place_backward, IsPart}
 use Rattle.line_buffer.specs.Hits.{hit_forward, hit_backward, past_cluster, hits}
-use Rattle.line_buffer.specs.Line.{Line, text_before, text_after, moved_to, replaced}
-use Rattle.line_buffer.specs.Replay.{replacement, replayed_all}
+use Rattle.line_buffer.specs.Line.{Line, text_before, text_after, with_cursor_at, with_replacement}
+use Rattle.line_buffer.specs.Replay.{replacement, text_after_events}
 use Rattle.line_buffer.specs.Transpositions.{between_clusters, clusters_at, transposes_chars, later_first, transpose_chars_events, transpose_chars_line}
 use Rattle.line_buffer.specs.Range.{deletion_events, deletion_line, kill_events, kill_line, IsSpanOf, up_to_cursor, from_cursor, around_cursor, to_row_end, from_row_start, search_range, range_of}
 use Rattle.line_buffer.specs.Rows.{is_in_row, row_start, row_end, behind_newlines, row_starts, starts_above, starts_below, row_close}
@@ -207,7 +207,7 @@ module _ (l : Line) (u : IsUtf8 l.text) (b : IsCharBoundary l.text l.place) wher
       by_start (Some start) h = around_span (row_start l.text l.place) (row_close l.text start) (omega (arith, h.1, h.0.0)) (row_start-boundary l.text l.place u b) (row_close-boundary l u b start h.0)
 
   -- a part of a text as a whole, if there is a text
-  unless_empty : (t : Bool) (span : Span) → IsSpanOf l.text span → IfSome (if t then None else Some span) (IsSpanOf l.text)
+  unless_empty : (t : Bool) (span : TextSpan) → IsSpanOf l.text span → IfSome (if t then None else Some span) (IsSpanOf l.text)
   unless_empty true span h = tt
   unless_empty false span h = h
 
@@ -228,17 +228,17 @@ module _ (l : Line) (u : IsUtf8 l.text) (b : IsCharBoundary l.text l.place) wher
   range_spans EndOfBuffer = unless_empty (l.place == length l.text) _ (record { order = b.0; start = b; end = IsCharBoundary-end l.text })
 
   -- what the kills, and the deletions that aren't kills, tell leads to the text that they leave
-  pub kill_replays : (movement : Movement) → replayed_all (kill_events movement l) l.text ≡ (kill_line movement l).text
+  pub kill_replays : (movement : Movement) → text_after_events (kill_events movement l) l.text ≡ (kill_line movement l).text
   kill_replays movement = kill_replayed movement l (range_spans movement)
 
-  pub deletion_replays : (movement : Movement) → replayed_all (deletion_events (range_of movement l) l) l.text ≡ (deletion_line (range_of movement l) l).text
+  pub deletion_replays : (movement : Movement) → text_after_events (deletion_events (range_of movement l) l) l.text ≡ (deletion_line (range_of movement l) l).text
   deletion_replays movement = deletion_replayed (range_of movement l) l (range_spans movement)
 
-  moved_back : (o : Option ℕ) → IfSome o (IsEarlier l) → IsEarlier l (moved_to o l).place
+  moved_back : (o : Option ℕ) → IfSome o (IsEarlier l) → IsEarlier l (with_cursor_at o l).place
   moved_back None h = (b, omega arith)
   moved_back (Some i) h = h
 
-  moved_on : (o : Option ℕ) → IfSome o (IsLater l) → IsLater l (moved_to o l).place
+  moved_on : (o : Option ℕ) → IfSome o (IsLater l) → IsLater l (with_cursor_at o l).place
   moved_on None h = (b, omega arith)
   moved_on (Some i) h = h
 
@@ -250,18 +250,18 @@ module _ (l : Line) (u : IsUtf8 l.text) (b : IsCharBoundary l.text l.place) wher
       (omega (arith, first.1, last.1), last.0.0)
 
 module _ (l : Line) (u : IsUtf8 l.text) (b : IsCharBoundary l.text l.place) where
-  between_span : (t : Bool) → let m : Line = if t then moved_to (place_backward 1 l) l else l in ((clusters_at m).0 ≤ (clusters_at m).2) × ((clusters_at m).2 ≤ length l.text)
+  between_span : (t : Bool) → let m : Line = if t then with_cursor_at (place_backward 1 l) l else l in ((clusters_at m).0 ≤ (clusters_at m).2) × ((clusters_at m).2 ≤ length l.text)
   between_span true =
-      let m : Line = moved_to (place_backward 1 l) l in
+      let m : Line = with_cursor_at (place_backward 1 l) l in
       let s = clusters_span m u (moved_back l u b (place_backward 1 l) (place_backward-earlier l u b 1)).0 in
       s
   between_span false = clusters_span l u b
 
-  pub transpose_chars_replays : replayed_all (transpose_chars_events l) l.text ≡ (transpose_chars_line l).text
+  pub transpose_chars_replays : text_after_events (transpose_chars_events l) l.text ≡ (transpose_chars_line l).text
   transpose_chars_replays = by_test (transposes_chars l)
     where
-      by_test : (t : Bool) → replayed_all (if t then replacement (clusters_at (between_clusters l)).0 (clusters_at (between_clusters l)).2 (later_first (clusters_at (between_clusters l)) l.text) l.text ∷ [] else []) l.text
-          ≡ (if t then replaced (clusters_at (between_clusters l)).0 (clusters_at (between_clusters l)).2 (later_first (clusters_at (between_clusters l)) l.text) l else l).text
+      by_test : (t : Bool) → text_after_events (if t then replacement (clusters_at (between_clusters l)).0 (clusters_at (between_clusters l)).2 (later_first (clusters_at (between_clusters l)) l.text) l.text ∷ [] else []) l.text
+          ≡ (if t then with_replacement (clusters_at (between_clusters l)).0 (clusters_at (between_clusters l)).2 (later_first (clusters_at (between_clusters l)) l.text) l else l).text
       by_test true =
           let s = between_span (l.place == length l.text) in
           replayed_all-one _ l.text ∙ replayed_replacement l.text _ _ _ s.0 s.1

@@ -1,26 +1,19 @@
 -- Sums of columns that stop at the most that a number of columns can be, and the parts of a text between joiners.
-use Rattle.std.proofs.Common.{lit<, ◌≡◌, ℕ, zero, suc, ◌+◌, ◌<◌, ◌≤◌, ◌==◌, min, Bool, true, false, cond, ◌&&◌, List, [], ◌∷◌, ◌++◌, length, take, drop, Option, None, Some, refl, sym, ap, ◌∙◌, subst, arith, append_assoc, take-append-drop}
+use Rattle.std.proofs.Common.{◌≡◌, ℕ, ◌+◌, ◌<◌, ◌≤◌, ◌==◌, min, Bool, true, false, cond, ◌&&◌, List, [], ◌∷◌, ◌++◌, length, take, drop, Option, None, Some, refl, sym, ap, ◌∙◌, subst, arith, append_assoc, take-append-drop}
 use Rattle.std.specs.Prelude.{chars, encode_utf8, encode_utf8_all, sum_by, IsUtf8, MatchOption, All}
-use Rattle.std.specs.Int.{is_in_range}
-use Rattle.std.specs.List.{fold, slice_split, list_all}
-use Rattle.std.specs.Str.{IsAscii, NonePass, NoCharPasses}
+use Rattle.std.specs.List.{fold, slice_split}
+use Rattle.std.specs.Str.{NonePass, NoCharPasses}
 use Rattle.std.specs.Str.Pattern.{FindsChar}
 use Rattle.std.specs.Str.Iter.{split_steps, split_text, split_has_more, split_pattern}
 use Rattle.std.proofs.lemmas.Bool.{and_parts}
-use Rattle.std.proofs.lemmas.Bool.Decides.{nat_tests}
 use Rattle.std.proofs.lemmas.Iterator.{YieldsList}
 use Rattle.std.proofs.lemmas.Iterator.Splits.{YieldsList-from_shown_while}
 use Rattle.std.proofs.lemmas.List.Elements.{All-nil, All-cons}
 use Rattle.std.proofs.lemmas.List.Splits.{slice_split_none, slice_split_at}
 use Rattle.std.proofs.lemmas.List.Sums.{sum_by-cons}
-use Rattle.std.proofs.lemmas.Str.{chars-encodes, chars_from_encodes, encodes-chars, scalars-chars, cons_from_encodes, len_utf8_bounds, chars-IsAscii}
+use Rattle.std.proofs.lemmas.Str.{chars-encodes, chars_from_encodes, encodes-chars, scalars-chars, cons_from_encodes, len_utf8_bounds}
 use lib.Utf8.{scalar, scalars}
 use borrow.Author.Tests.{eq-eqb}
-use Rattle.unicode_width.specs.Width.{str_width, char_width}
-use Rattle.unicode_width.proofs.Rules.{str_width-printable}
-use Rattle.line_buffer.specs.declared.layout.GraphemeClusterMode.{GraphemeClusterMode}
-use Rattle.line_buffer.specs.declared.layout.GraphemeClusterMode.TheVariants.{Unicode, WcWidth, NoZwj}
-use Rattle.line_buffer.specs.Width.{char_columns_of, columns_of, width_of}
 
 -- ---- sums that stop
 
@@ -114,55 +107,3 @@ YieldsList-from_split_char {s} c bs u text more pattern =
       ap (λ b. cond b (parts (split_text t)) []) (sym k.0) ∙ off.0,
     ))
     s (pattern, λ _. subst IsUtf8 (sym text) u))
-
--- ---- a text of printable ASCII has as many columns as characters
-
-printable_alone : (c : ℕ) → is_in_range 0x20 0x7E c ≡ true → char_columns_of c ≡ 1
-unfolding char_width
-printable_alone c h = grind (arith, nat_tests)
-
-abbrev pub is_printable_text : List ℕ → Bool
-is_printable_text text = list_all (is_in_range 0x20 0x7E) text
-
-printable_ascii : (text : List ℕ) → is_printable_text text ≡ true → IsAscii text
-printable_ascii [] h i = lit< tt
-printable_ascii (b ∷ bs) h zero = let k = (and_parts (is_in_range 0x20 0x7E b) (is_printable_text bs) h).0 in low b k
-  where
-    low : (b : ℕ) → is_in_range 0x20 0x7E b ≡ true → b < 128
-    low b h = grind (arith, nat_tests)
-printable_ascii (b ∷ bs) h (suc i) = printable_ascii bs (and_parts (is_in_range 0x20 0x7E b) (is_printable_text bs) h).1 i
-
-all_alone : (text : List ℕ) → is_printable_text text ≡ true → sum_by char_columns_of text ≡ length text
-all_alone [] h = refl
-all_alone (b ∷ bs) h =
-    let parts = and_parts (is_in_range 0x20 0x7E b) (is_printable_text bs) h in
-    omega (arith, sum_by-cons char_columns_of b bs, printable_alone b parts.0, all_alone bs parts.1)
-
-not_joiners : (text : List ℕ) → is_printable_text text ≡ true → All (λ d. (d == 0x200D) ≡ false) text
-not_joiners [] h = All-nil (λ d. (d == 0x200D) ≡ false)
-not_joiners (b ∷ bs) h =
-    let parts = and_parts (is_in_range 0x20 0x7E b) (is_printable_text bs) h in
-    All-cons (λ d. (d == 0x200D) ≡ false) b bs (other b parts.0) (not_joiners bs parts.1)
-  where
-    other : (b : ℕ) → is_in_range 0x20 0x7E b ≡ true → (b == 0x200D) ≡ false
-    other b h = grind (arith, nat_tests)
-
-columns-printable : (mode : GraphemeClusterMode) (text : List ℕ) → is_printable_text text ≡ true → columns_of mode text ≡ length text
-columns-printable Unicode text h = str_width-printable false text h
-columns-printable WcWidth text h = all_alone text h
-columns-printable NoZwj text h =
-    ap (sum_by (str_width false)) (slice_split_none (λ d. d == 0x200D) text (not_joiners text h))
-    ∙ omega (arith, sum_by-cons (str_width false) text [], str_width-printable false text h)
-
-pub width-printable : (mode : GraphemeClusterMode) (text : List ℕ) → is_printable_text text ≡ true → width_of mode text ≡ min (length text) 65535
-width-printable mode text h = ap (λ n. min n 65535) (ap (columns_of mode) (chars-IsAscii text (printable_ascii text h)) ∙ columns-printable mode text h)
-
-pub width-plain : (mode : GraphemeClusterMode) (text : List ℕ) → All (λ c. (32 ≤ c) × (c < 127)) text → width_of mode text ≡ min (length text) 65535
-width-plain mode text h = width-printable mode text (by text h)
-  where
-    one : (c : ℕ) → (32 ≤ c) × (c < 127) → is_in_range 0x20 0x7E c ≡ true
-    one c h = let low = h.0 in let high = h.1 in grind (arith, nat_tests)
-
-    by : (text : List ℕ) → All (λ c. (32 ≤ c) × (c < 127)) text → is_printable_text text ≡ true
-    by [] h = refl
-    by (c ∷ cs) h = ap (λ b. b && is_printable_text cs) (one c (h 0 c (omega arith))) ∙ by cs (λ k d l. h (suc k) d (omega (arith, l)))

@@ -1,19 +1,20 @@
 -- The last clusters of a text that are of one kind: a run of letters of ASCII, or the last cluster alone.
 use Rattle.std.proofs.Common.{◌≡◌, ℕ, zero, suc, ◌+◌, ◌<◌, ◌≤◌, ◌⊎◌, inl, inr, Bool, true, false, not, ◌&&◌, ◌||◌, if◌then◌else◌, List, [], ◌∷◌, ◌++◌, length, map, take, drop, reverse, get_or, Option, None, Some, refl, sym, ap, ap₂, ◌∙◌, subst, arith, append_assoc}
-use Rattle.std.specs.Prelude.{IsUtf8, chars, option_to_list, slice_range, bytes_eq}
+use Rattle.std.specs.Prelude.{IsUtf8, chars, option_to_list, bytes_eq}
 use Rattle.std.specs.Char.{IsScalar, is_ascii_alphanumeric, is_whitespace}
 use Rattle.std.specs.List.{last_or, list_all, concat}
 use Rattle.std.proofs.Math.Seq.{get_or-append_seam}
 use Rattle.std.proofs.lemmas.Bool.{and_from, and_parts}
 use Rattle.std.proofs.lemmas.Bool.Decides.{nat_tests}
-use Rattle.std.proofs.lemmas.List.{reverse-append, reverse-reverse, length-append, length-take-le, length-drop, map-append, append-nil, take_at, take_all, take-take, length-take, take-append-drop, drop_more}
-use Rattle.std.proofs.lemmas.List.Folds.{drop_split, list_all-append}
+use Rattle.std.proofs.lemmas.List.{reverse-append, reverse-reverse, length-append, length-take-le, length-drop, map-append, append-nil, take_at, take_all, take-take, length-take, take-append-drop}
+use Rattle.std.proofs.lemmas.List.Folds.{list_all-append}
 use Rattle.std.proofs.lemmas.Str.{chars-IsAscii, encode_ascii, IsCharBoundary-after_ascii}
 use Rattle.unicode_segmentation.specs.Grapheme.{is_grapheme_break, graphemes}
 use Rattle.unicode_segmentation.specs.Segments.{is_alphanumeric}
 use Rattle.unicode_segmentation.proofs.AsciiLemmas.{is_alphanumeric_ascii}
 use Rattle.unicode_segmentation.proofs.SegmentsLemmas.{concat-segments, nil_from-with_offsets}
-use Rattle.line_buffer.specs.Clusters.{IsPlain, clusters}
+use Rattle.line_buffer.specs.Clusters.{clusters}
+use Rattle.line_buffer.specs.Printable.{is_printable}
 use Rattle.line_buffer.specs.Words.{EndsInRun, kind_of, kinds, starts_of, edges_of, edge_between}
 use Rattle.line_buffer.specs.declared.types.At.TheVariants.{Start}
 use Rattle.line_buffer.specs.declared.types.Word.{Word}
@@ -25,13 +26,6 @@ use Rattle.line_buffer.proofs.JoinLemmas.{clusters-letters}
 use Rattle.line_buffer.proofs.PartingLemmas.{chars_last}
 use Rattle.line_buffer.proofs.WordLemmas.{edges_of-nil, edges_of-one, edges_of-snoc}
 
--- ---- bytes that are all letters
-pub block_more : (p : ℕ → Bool) (xs : List ℕ) (i j : ℕ) → i ≤ j → list_all p (slice_range xs i j) ≡ true → list_all p (drop j xs) ≡ true → list_all p (drop i xs) ≡ true
-block_more p xs i j le h k = ap (list_all p) (drop_split xs i j le) ∙ list_all-append p (slice_range xs i j) (drop j xs) ∙ and_from _ _ h k
-
-pub byte_more : (p : ℕ → Bool) (xs : List ℕ) (i : ℕ) → i < length xs → p (get_or xs i 0) ≡ true → list_all p (drop (i + 1) xs) ≡ true → list_all p (drop i xs) ≡ true
-byte_more p xs i l h k = ap (list_all p) (drop_more xs i 0 l) ∙ and_from (p (get_or xs i 0)) (list_all p (drop (i + 1) xs)) h k
-
 reversed_all : (p : ℕ → Bool) (xs : List ℕ) → list_all p xs ≡ true → list_all p (reverse xs) ≡ true
 reversed_all p [] h = refl
 reversed_all p (x ∷ xs) h =
@@ -41,14 +35,17 @@ reversed_all p (x ∷ xs) h =
 
 -- ---- letters
 
-letter_plain : (c : ℕ) → is_ascii_alphanumeric c ≡ true → IsPlain c
-letter_plain c h = grind (arith, nat_tests, h)
+letter_bounds : (c : ℕ) → is_ascii_alphanumeric c ≡ true → (32 ≤ c) × (c < 127)
+letter_bounds c h = grind (arith, nat_tests, h)
+
+letter_printable : (c : ℕ) → is_ascii_alphanumeric c ≡ true → is_printable c ≡ true
+letter_printable c h = let bounds = letter_bounds c h in grind (arith, nat_tests, bounds.0, bounds.1)
 
 letter_scalar : (c : ℕ) → is_ascii_alphanumeric c ≡ true → IsScalar c
-letter_scalar c h = let plain = letter_plain c h in grind (arith, nat_tests, plain.1)
+letter_scalar c h = let bounds = letter_bounds c h in grind (arith, nat_tests, bounds.1)
 
 pub letter_ascii : (c : ℕ) → is_ascii_alphanumeric c ≡ true → c < 128
-letter_ascii c h = let plain = letter_plain c h in omega (arith, plain.1)
+letter_ascii c h = let bounds = letter_bounds c h in omega (arith, bounds.1)
 
 one_char : (c : ℕ) → c < 128 → chars (c ∷ []) ≡ c ∷ []
 one_char c l = chars-IsAscii (c ∷ []) ascii
@@ -58,7 +55,7 @@ one_char c l = chars-IsAscii (c ∷ []) ascii
     ascii (suc i) = omega arith
 
 no_space : (c : ℕ) → is_ascii_alphanumeric c ≡ true → is_whitespace c ≡ false
-no_space c h = let plain = letter_plain c h in let low : 33 ≤ c = grind (arith, nat_tests, h) in grind (arith, nat_tests, plain.1, low)
+no_space c h = let bounds = letter_bounds c h in let low : 33 ≤ c = grind (arith, nat_tests, h) in grind (arith, nat_tests, bounds.1, low)
 
 pub kind_of_letter : (word : Word) (c : ℕ) → is_ascii_alphanumeric c ≡ true → kind_of word (c ∷ []) ≡ InWord
 kind_of_letter word c h = by word
@@ -81,7 +78,7 @@ letter_off text most front last previous u came earlier p q =
     let first = chars_last text most last u (letter_scalar last q) (came ∙ ap (λ bs. most ++ bs) (sym (encode_ascii last (letter_ascii last q)))) in
     let second = chars_last most front previous first.0 (letter_scalar previous p) (earlier ∙ ap (λ bs. front ++ bs) (sym (encode_ascii previous (letter_ascii previous p)))) in
     let all : chars text ≡ chars front ++ previous ∷ last ∷ [] = first.1 ∙ ap (λ cs. cs ++ last ∷ []) second.1 ∙ append_assoc (chars front) (previous ∷ []) (last ∷ []) in
-    (first.0, clusters-letters text most front last previous first.0 all second.1 (letter_plain previous p) (letter_plain last q))
+    (first.0, clusters-letters text most front last previous first.0 all second.1 (letter_printable previous p) (letter_printable last q))
 
 -- the clusters behind the first letter, the letters after it in the other order
 abbrev Run : Word → List ℕ → ℕ → List ℕ → Type 0

@@ -1,6 +1,6 @@
 -- The extended grapheme clusters of a text (UAX #29), and the places to which motions by clusters
 -- lead.
-use Rattle.std.specs.Prelude.{ℕ, ◌+◌, ◌<◌, ◌≤◌, true, All, IsCharBoundary, List, length, map, reverse, take, Option, None, option_map}
+use Rattle.std.specs.Prelude.{ℕ, ◌+◌, true, IsCharBoundary, List, length, map, reverse, take, Option, None, option_map}
 use Rattle.std.specs.List.{last_or}
 use Rattle.unicode_segmentation.specs.Grapheme.{graphemes}
 use Rattle.unicode_segmentation.specs.Segments.{with_offsets}
@@ -33,10 +33,3 @@ place_backward n l = nth_or_last n (cluster_starts_back (text_before l))
 pub record IsPart (text : List ℕ) (at len : ℕ) : Type 0 where
   pub start : IsCharBoundary text at
   pub end : IsCharBoundary text (at + len)
-
--- printable ASCII
-abbrev pub IsPlain : ℕ → Type 0
-IsPlain c = (32 ≤ c) × (c < 127)
-
-abbrev pub IsPlainText : List ℕ → Type 0
-IsPlainText text = All IsPlain text

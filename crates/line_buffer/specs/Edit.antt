@@ -1,8 +1,8 @@
 -- What a call that edits a line must do: its answer, its events, and the line that it leaves.
 use Rattle.std.specs.Prelude.{◌≡◌, List, length, Result, IfOk, OnOk, OnErr, ◌≤◌}
-use Rattle.line_buffer.specs.Event.{Event}
+use Rattle.line_buffer.specs.Event.{ChangeEvent}
 use Rattle.line_buffer.specs.Line.{Line}
-use Rattle.line_buffer.specs.Replay.{Replays, Reports, StopsAmong, carried_all}
+use Rattle.line_buffer.specs.Replay.{Replays, Reports, StopsAmong, line_after_events}
 
 pub record SameSettings (l m : Line) : Type 0 where
   pub growth : m.growth ≡ l.growth
@@ -10,22 +10,24 @@ pub record SameSettings (l m : Line) : Type 0 where
 
 pub record Edit (A : Type 0) : Type 0 where
   pub answer : A
-  pub events : List Event
+  pub events : List ChangeEvent
   pub line : Line
 
 -- an edit whose events describe all its changes
-abbrev pub carrying : {A : Type 0} → A → List Event → Line → Edit A
-carrying answer events l = record { answer = answer; events = events; line = carried_all events l }
+abbrev pub edit_of_events : {A : Type 0} → A → List ChangeEvent → Line → Edit A
+edit_of_events answer events l = record
+    { answer = answer; events = events; line = line_after_events events l }
 
 -- a failed call: the line at which its events began, changed by the events that were taken
-pub record StopsAt {S : Type 0} (takes refuses : S → Event → S → Type 0)
-    (closing events : List Event) (s t : S) (start after : Line) : Type 0 where
+pub record StopsAt {S : Type 0} (takes refuses : S → ChangeEvent → S → Type 0)
+    (closing events : List ChangeEvent) (s t : S) (start after : Line) : Type 0 where
   pub stops : StopsAmong takes refuses closing events s t start.text after.text
-  pub line : after ≡ carried_all stops.done start
+  pub line : after ≡ line_after_events stops.done start
 
 -- a call that succeeded has made the edit; one that failed stopped at one of the edit's events
-pub record EditsLine {S A E : Type 0} (takes refuses : S → Event → S → Type 0)
-    (closing : List Event) (edit : Edit A) (s t : S) (start after : Line) (result : Result A E)
+pub record EditsLine {S A E : Type 0} (takes refuses : S → ChangeEvent → S → Type 0)
+    (closing : List ChangeEvent) (edit : Edit A) (s t : S) (start after : Line)
+    (result : Result A E)
     : Type 0 where
   pub answer : IfOk result (λ a. a ≡ edit.answer)
   pub told : OnOk result (Reports takes edit.events s t start.text after.text)
@@ -34,14 +36,16 @@ pub record EditsLine {S A E : Type 0} (takes refuses : S → Event → S → Typ
   pub settings : SameSettings start after
 
 -- the same, and the text doesn't get longer
-pub record CutsLine {S A E : Type 0} (takes refuses : S → Event → S → Type 0)
-    (closing : List Event) (edit : Edit A) (s t : S) (start after : Line) (result : Result A E)
+pub record CutsLine {S A E : Type 0} (takes refuses : S → ChangeEvent → S → Type 0)
+    (closing : List ChangeEvent) (edit : Edit A) (s t : S) (start after : Line)
+    (result : Result A E)
     : Type 0 where
   pub edits : EditsLine takes refuses closing edit s t start after result
   pub shrinks : length after.text ≤ length start.text
 
 -- one change is reported and then made; if it fails, the line stays as it was
-pub record ChangesLine {S A E : Type 0} (takes refuses : S → Event → S → Type 0) (event : Event)
+pub record ChangesLine {S A E : Type 0} (takes refuses : S → ChangeEvent → S → Type 0)
+    (event : ChangeEvent)
     (made : Line) (s t : S) (before after : Line) (result : Result A E) : Type 0 where
   pub told : OnOk result (takes s event t)
   pub replays : OnOk result (Replays event before.text after.text)

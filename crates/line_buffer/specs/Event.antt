@@ -2,10 +2,10 @@
 use Rattle.std.specs.Prelude.{ℕ, List}
 use Rattle.line_buffer.specs.declared.types.Direction.{Direction}
 
-pub data Event : Type 0 where
-  StartKilling : Event
-  StopKilling : Event
-  Delete : (at : ℕ) (text : List ℕ) (direction : Direction) → Event
-  InsertChar : (at : ℕ) (c : ℕ) → Event
-  InsertStr : (at : ℕ) (text : List ℕ) → Event
-  Replace : (at : ℕ) (removed added : List ℕ) → Event
+pub data ChangeEvent : Type 0 where
+  StartKilling : ChangeEvent
+  StopKilling : ChangeEvent
+  Delete : (at : ℕ) (text : List ℕ) (direction : Direction) → ChangeEvent
+  InsertChar : (at : ℕ) (c : ℕ) → ChangeEvent
+  InsertStr : (at : ℕ) (text : List ℕ) → ChangeEvent
+  Replace : (at : ℕ) (removed added : List ℕ) → ChangeEvent

@@ -6,11 +6,11 @@ use Rattle.line_buffer.specs.declared.types.Direction.TheVariants.{Forward}
 use Rattle.line_buffer.specs.declared.types.Movement.{Movement}
 use Rattle.line_buffer.specs.declared.types.Movement.TheVariants.{BackwardWord, ForwardWord, LineUp, LineDown, WholeBuffer, BeginningOfBuffer, EndOfBuffer}
 use Rattle.line_buffer.specs.Clusters.{nth_or_last}
-use Rattle.line_buffer.specs.Edit.{Edit, carrying}
-use Rattle.line_buffer.specs.Event.{Event}
-use Rattle.line_buffer.specs.Event.Event.{Delete}
+use Rattle.line_buffer.specs.Edit.{Edit, edit_of_events}
+use Rattle.line_buffer.specs.Event.{ChangeEvent}
+use Rattle.line_buffer.specs.Event.ChangeEvent.{Delete}
 use Rattle.line_buffer.specs.Line.{Line}
-use Rattle.line_buffer.specs.Replay.{insertion, carried_all}
+use Rattle.line_buffer.specs.Replay.{insertion, line_after_events}
 use Rattle.line_buffer.specs.Rows.{row_start, row_end, starts_above, starts_below}
 use Rattle.line_buffer.specs.Words.{prev_word, next_word}
 
@@ -30,22 +30,23 @@ abbrev pub rows_of : List ℕ → List (List ℕ)
 rows_of text = slice_split (λ byte. byte == 10) text
 
 -- the whitespace at the front of a row, at most `count` characters of it
-abbrev pub leading : ℕ → List ℕ → List ℕ
-leading count row = encode_utf8_all (take count (take_while is_whitespace (chars row)))
+abbrev pub front_whitespace : ℕ → List ℕ → List ℕ
+front_whitespace count row = encode_utf8_all (take count (take_while is_whitespace (chars row)))
 
 -- the event of the row that starts at a place: it gets the margin, or loses at most as many
 -- characters
-abbrev pub row_event : List ℕ → Bool → ℕ → List ℕ → Event
+abbrev pub row_event : List ℕ → Bool → ℕ → List ℕ → ChangeEvent
 row_event margin dedent at row =
-    if dedent then Delete at (leading (length margin) row) Forward else insertion at margin
+    if dedent then Delete at (front_whitespace (length margin) row) Forward else insertion at margin
 
 -- how long the row is afterwards
 abbrev pub row_len : List ℕ → Bool → List ℕ → ℕ
 row_len margin dedent row =
-    if dedent then length row - length (leading (length margin) row) else length row + length margin
+    if dedent then length row - length (front_whitespace (length margin) row)
+    else length row + length margin
 
 -- one event for each row, the first row first, which starts at the given place
-unfoldable pub row_events : List ℕ → Bool → ℕ → List (List ℕ) → List Event
+unfoldable pub row_events : List ℕ → Bool → ℕ → List (List ℕ) → List ChangeEvent
 row_events margin dedent at [] = []
 row_events margin dedent at (row ∷ rows) =
     row_event margin dedent at row
@@ -54,19 +55,19 @@ row_events margin dedent at (row ∷ rows) =
 -- the rows between two places, indented or dedented
 abbrev pub change_rows : List ℕ → Bool → ℕ → ℕ → Line → Edit ⊤
 change_rows margin dedent from upto l =
-    carrying tt (row_events margin dedent from (rows_of (slice_range l.text from upto))) l
+    edit_of_events tt (row_events margin dedent from (rows_of (slice_range l.text from upto))) l
 
 abbrev pub spaces : ℕ → List ℕ
 spaces amount = repeat amount (32 ∷ [])
 
-abbrev pub indent_events : Movement → ℕ → Bool → Line → List Event
+abbrev pub indent_events : Movement → ℕ → Bool → Line → List ChangeEvent
 indent_events movement amount dedent l =
     let first = row_start l.text (rows_covered movement l).0 in
     let last = row_end l.text (rows_covered movement l).1 in
     row_events (spaces amount) dedent first (rows_of (slice_range l.text first last))
 
 abbrev pub indent_line : Movement → ℕ → Bool → Line → Line
-indent_line movement amount dedent l = carried_all (indent_events movement amount dedent l) l
+indent_line movement amount dedent l = line_after_events (indent_events movement amount dedent l) l
 
 abbrev pub indent : Movement → ℕ → Bool → Line → Edit Bool
-indent movement amount dedent l = carrying true (indent_events movement amount dedent l) l
+indent movement amount dedent l = edit_of_events true (indent_events movement amount dedent l) l

@@ -3,9 +3,9 @@ use Rattle.std.specs.Prelude.{⊤, ℕ, zero, suc, ◌+◌, ◌-◌, ◌==◌, B
 use Rattle.std.specs.List.{insert_slice, repeat}
 use Rattle.line_buffer.specs.declared.types.Direction.TheVariants.{Forward}
 use Rattle.line_buffer.specs.Edit.{Edit}
-use Rattle.line_buffer.specs.Event.{Event}
-use Rattle.line_buffer.specs.Event.Event.{InsertChar}
-use Rattle.line_buffer.specs.Line.{Line, cut_out}
+use Rattle.line_buffer.specs.Event.{ChangeEvent}
+use Rattle.line_buffer.specs.Event.ChangeEvent.{InsertChar}
+use Rattle.line_buffer.specs.Line.{Line, without_range}
 use Rattle.line_buffer.specs.Replay.{deletion, insertion}
 
 -- the byte at a place continues the character before it
@@ -23,17 +23,17 @@ abbrev pub has_room : ℕ → Line → Bool
 has_room count l = l.growth || nat_le (length l.text + count) l.limit
 
 -- the whole text, or its longest prefix in whole characters that fits the limit
-abbrev pub kept_text : List ℕ → Line → List ℕ
-kept_text text l =
+abbrev pub text_that_fits : List ℕ → Line → List ℕ
+text_that_fits text l =
     if l.growth || nat_le (length text) l.limit then text else take (last_cut text l.limit) text
 
-abbrev pub update_events : List ℕ → Line → List Event
+abbrev pub update_events : List ℕ → Line → List ChangeEvent
 update_events text l =
-    deletion 0 (length l.text) Forward l.text ∷ (insertion 0 (kept_text text l) ∷ [])
+    deletion 0 (length l.text) Forward l.text ∷ (insertion 0 (text_that_fits text l) ∷ [])
 
 abbrev pub update_line : List ℕ → ℕ → Line → Line
 update_line text pos l =
-    record l { text = kept_text text l; place = min pos (length (kept_text text l)) }
+    record l { text = text_that_fits text l; place = min pos (length (text_that_fits text l)) }
 
 abbrev pub update : List ℕ → ℕ → Line → Edit ⊤
 update text pos l =
@@ -48,17 +48,17 @@ abbrev pub no_insertion : Line → Insertion
 no_insertion l = record { answer = None; events = []; line = l }
 
 -- a text inserted at the cursor, the cursor after it
-abbrev pub put_at_cursor : List ℕ → Line → Line
-put_at_cursor added l =
+abbrev pub with_text_at_cursor : List ℕ → Line → Line
+with_text_at_cursor added l =
     record l { text = insert_slice l.text l.place added; place = l.place + length added }
 
 -- the text is inserted if it fits; the answer is whether that is at the text's end
-abbrev pub insertion_by : Event → List ℕ → Line → Insertion
+abbrev pub insertion_by : ChangeEvent → List ℕ → Line → Insertion
 insertion_by told added l =
     if has_room (length added) l then record {
       answer = Some (l.place == length l.text);
       events = told ∷ [];
-      line = put_at_cursor added l;
+      line = with_text_at_cursor added l;
     }
     else no_insertion l
 
@@ -82,7 +82,7 @@ can_take_before count l = nat_le count l.place && not (is_inside_char l.text (l.
 
 -- the line without the `size` bytes before the cursor
 abbrev pub without_before : ℕ → Line → Line
-without_before size l = cut_out (l.place - size) l.place l
+without_before size l = without_range (l.place - size) l.place l
 
 -- a text in place of the `size` bytes before the cursor
 abbrev pub yank_pop : ℕ → List ℕ → Line → Insertion

@@ -2,13 +2,13 @@
 use Rattle.std.specs.Prelude.{◌≡◌, ◌≤◌, ℕ, Bool, true, false, IsTrue, IsUtf8, All, List, [], ◌∷◌, ◌++◌, length, drop, map, if◌then◌else◌, is_some, Option, option_map, option_to_list}
 use Rattle.line_buffer.specs.declared.types.Movement.{Movement}
 use Rattle.line_buffer.specs.declared.types.Movement.TheVariants.{WholeLine, BeginningOfLine, EndOfLine}
-use Rattle.line_buffer.specs.Event.{Event}
-use Rattle.line_buffer.specs.Event.Event.{Delete}
-use Rattle.line_buffer.specs.Indent.{leading, row_events}
-use Rattle.line_buffer.specs.Insertions.{kept_text}
+use Rattle.line_buffer.specs.Event.{ChangeEvent}
+use Rattle.line_buffer.specs.Event.ChangeEvent.{Delete}
+use Rattle.line_buffer.specs.Indent.{front_whitespace, row_events}
+use Rattle.line_buffer.specs.Insertions.{text_that_fits}
 use Rattle.line_buffer.specs.Line.{Line}
 use Rattle.line_buffer.specs.Range.{range_of, copied_range, span_text, kill_events}
-use Rattle.line_buffer.specs.Replay.{replayed_all}
+use Rattle.line_buffer.specs.Replay.{text_after_events}
 
 -- neither a row nor an end of a row: there a kill takes the newline and a copy doesn't
 abbrev pub leaves_rows_whole : Movement → Bool
@@ -21,7 +21,7 @@ abbrev pub copied_text : Movement → Line → Option (List ℕ)
 copied_text movement l = option_map (λ span. span_text span l) (copied_range movement l)
 
 -- the texts of the events that delete
-abbrev pub deleted_texts : List Event → List (List ℕ)
+abbrev pub deleted_texts : List ChangeEvent → List (List ℕ)
 deleted_texts [] = []
 deleted_texts (Delete at text direction ∷ es) = text ∷ deleted_texts es
 deleted_texts (e ∷ es) = deleted_texts es
@@ -47,7 +47,7 @@ pub record IsLongestThatFits (text kept : List ℕ) (limit : ℕ) : Type 0 where
 abbrev pub KeepsTheLongestThatFits : Type 0
 KeepsTheLongestThatFits =
     (text : List ℕ) (l : Line) → IsUtf8 text → l.growth ≡ false
-    → IsLongestThatFits text (kept_text text l) l.limit
+    → IsLongestThatFits text (text_that_fits text l) l.limit
 
 -- rows with their newlines between
 unfoldable pub row_text : List (List ℕ) → List ℕ
@@ -56,9 +56,9 @@ row_text (row ∷ []) = row
 row_text (row ∷ (next ∷ rows)) = row ++ 10 ∷ row_text (next ∷ rows)
 
 -- the margin before a row, or the row without as much whitespace at its front
-abbrev pub moved_row : List ℕ → Bool → List ℕ → List ℕ
-moved_row margin dedent row =
-    if dedent then drop (length (leading (length margin) row)) row else margin ++ row
+abbrev pub row_after_indent : List ℕ → Bool → List ℕ → List ℕ
+row_after_indent margin dedent row =
+    if dedent then drop (length (front_whitespace (length margin) row)) row else margin ++ row
 
 -- the events of rows in a text give each its margin, or remove it, and change nothing before or
 -- after
@@ -66,6 +66,6 @@ abbrev pub RowsGetTheirMargin : Type 0
 RowsGetTheirMargin =
     (margin : List ℕ) (dedent : Bool) (before after : List ℕ) (rows : List (List ℕ))
     → All IsUtf8 rows
-    → replayed_all (row_events margin dedent (length before) rows)
+    → text_after_events (row_events margin dedent (length before) rows)
     (before ++ (row_text rows ++ after))
-    ≡ before ++ (row_text (map (moved_row margin dedent) rows) ++ after)
+    ≡ before ++ (row_text (map (row_after_indent margin dedent) rows) ++ after)

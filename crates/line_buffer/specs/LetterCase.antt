@@ -8,8 +8,8 @@ use Rattle.line_buffer.specs.declared.types.WordAction.{WordAction}
 use Rattle.line_buffer.specs.declared.types.WordAction.TheVariants.{Capitalize, Lowercase, Uppercase}
 use Rattle.line_buffer.specs.Clusters.{clusters}
 use Rattle.line_buffer.specs.Edit.{Edit}
-use Rattle.line_buffer.specs.Event.{Event}
-use Rattle.line_buffer.specs.Line.{Line, text_after, replaced}
+use Rattle.line_buffer.specs.Event.{ChangeEvent}
+use Rattle.line_buffer.specs.Line.{Line, text_after, with_replacement}
 use Rattle.line_buffer.specs.Replay.{replacement}
 use Rattle.line_buffer.specs.Words.{is_alphanumeric_cluster, next_word}
 
@@ -33,28 +33,28 @@ first_cluster_len word =
     unwrap_or (option_map (λ x. x.0 + length x.1) (last_or None (take 1 (clusters word)))) 0
 
 -- how many bytes at the front of a word become uppercase; the others become lowercase
-abbrev pub raised_len : WordAction → List ℕ → ℕ
-raised_len Capitalize word = first_cluster_len word
-raised_len Lowercase word = 0
-raised_len Uppercase word = length word
+abbrev pub uppercase_len : WordAction → List ℕ → ℕ
+uppercase_len Capitalize word = first_cluster_len word
+uppercase_len Lowercase word = 0
+uppercase_len Uppercase word = length word
 
 -- only ASCII letters change
-abbrev pub recased : WordAction → List ℕ → List ℕ
-recased action word =
-    str_to_ascii_uppercase (take (raised_len action word) word)
-    ++ str_to_ascii_lowercase (drop (raised_len action word) word)
+abbrev pub word_in_case : WordAction → List ℕ → List ℕ
+word_in_case action word =
+    str_to_ascii_uppercase (take (uppercase_len action word) word)
+    ++ str_to_ascii_lowercase (drop (uppercase_len action word) word)
 
-abbrev pub recase_events : WordAction → Option (ℕ × ℕ) → Line → List Event
+abbrev pub recase_events : WordAction → Option (ℕ × ℕ) → Line → List ChangeEvent
 recase_events action None l = []
 recase_events action (Some word) l =
-    replacement word.0 word.1 (recased action (slice_range l.text word.0 word.1)) l.text ∷ []
+    replacement word.0 word.1 (word_in_case action (slice_range l.text word.0 word.1)) l.text ∷ []
 
 abbrev pub recase_line : WordAction → Option (ℕ × ℕ) → Line → Line
 recase_line action None l = l
 recase_line action (Some word) l =
-    replaced word.0 word.1 (recased action (slice_range l.text word.0 word.1)) l
+    with_replacement word.0 word.1 (word_in_case action (slice_range l.text word.0 word.1)) l
 
-abbrev pub edit_word_events : WordAction → Line → List Event
+abbrev pub edit_word_events : WordAction → Line → List ChangeEvent
 edit_word_events action l = recase_events action (word_to_edit l) l
 
 abbrev pub edit_word_line : WordAction → Line → Line

@@ -15,18 +15,18 @@ abbrev pub text_after : Line → List ℕ
 text_after l = drop l.place l.text
 
 -- the cursor at the place that a motion found; it stays if there is none
-abbrev pub moved_to : Option ℕ → Line → Line
-moved_to found l = record l { place = unwrap_or found l.place }
+abbrev pub with_cursor_at : Option ℕ → Line → Line
+with_cursor_at found l = record l { place = unwrap_or found l.place }
 
 -- new text in place of a range, the cursor after it
-abbrev pub replaced : ℕ → ℕ → List ℕ → Line → Line
-replaced from upto added l =
+abbrev pub with_replacement : ℕ → ℕ → List ℕ → Line → Line
+with_replacement from upto added l =
     record l { text = replace_range l.text from upto added; place = from + length added }
 
 -- a range deleted, the cursor at its start
-abbrev pub cut_out : ℕ → ℕ → Line → Line
-cut_out from upto l = record l { text = replace_range l.text from upto []; place = from }
+abbrev pub without_range : ℕ → ℕ → Line → Line
+without_range from upto l = record l { text = replace_range l.text from upto []; place = from }
 
 -- a text inserted, the cursor's place kept
-abbrev pub put_in : ℕ → List ℕ → Line → Line
-put_in at added l = record l { text = insert_slice l.text at added }
+abbrev pub with_text_at : ℕ → List ℕ → Line → Line
+with_text_at at added l = record l { text = insert_slice l.text at added }

@@ -31,5 +31,5 @@ at_simple_end tabs text place =
     (place == length text) && (if tabs then is_simple text else is_plain text)
 
 -- a printable character typed there: its byte alone can show it
-abbrev pub typed_at_end : Bool → ℕ → List ℕ → ℕ → Bool
-typed_at_end tabs c text place = is_printable c && at_simple_end tabs text place
+abbrev pub is_typed_at_end : Bool → ℕ → List ℕ → ℕ → Bool
+is_typed_at_end tabs c text place = is_printable c && at_simple_end tabs text place

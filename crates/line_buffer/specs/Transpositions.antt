@@ -6,19 +6,22 @@ use Rattle.line_buffer.specs.declared.types.At.TheVariants.{AfterEnd}
 use Rattle.line_buffer.specs.declared.types.Word.TheVariants.{Emacs}
 use Rattle.line_buffer.specs.Clusters.{place_forward, place_backward}
 use Rattle.line_buffer.specs.Edit.{Edit}
-use Rattle.line_buffer.specs.Event.{Event}
-use Rattle.line_buffer.specs.Line.{Line, text_before, text_after, moved_to, replaced}
+use Rattle.line_buffer.specs.Event.{ChangeEvent}
+use Rattle.line_buffer.specs.Line.{Line, text_before, text_after, with_cursor_at, with_replacement}
 use Rattle.line_buffer.specs.Replay.{replacement}
 use Rattle.line_buffer.specs.Words.{prev_word, next_word}
 
 -- the cursor between the two clusters to transpose: one cluster back at the text's end
 abbrev pub between_clusters : Line → Line
-between_clusters l = if l.place == length l.text then moved_to (place_backward 1 l) l else l
+between_clusters l = if l.place == length l.text then with_cursor_at (place_backward 1 l) l else l
 
 -- where the cluster before a place starts, the place, and where the cluster after it ends
 abbrev pub clusters_at : Line → ℕ × ℕ × ℕ
-clusters_at l =
-    ((moved_to (place_backward 1 l) l).place, l.place, (moved_to (place_forward 1 l) l).place)
+clusters_at l = (
+  (with_cursor_at (place_backward 1 l) l).place,
+  l.place,
+  (with_cursor_at (place_forward 1 l) l).place,
+)
 
 -- how many clusters are before the cursor and after it, each text split by itself
 abbrev pub clusters_around : Line → ℕ
@@ -32,7 +35,7 @@ transposes_chars l = not (l.place == 0) && nat_lt 1 (clusters_around l)
 abbrev pub later_first : ℕ × ℕ × ℕ → List ℕ → List ℕ
 later_first parts text = slice_range text parts.1 parts.2 ++ slice_range text parts.0 parts.1
 
-abbrev pub transpose_chars_events : Line → List Event
+abbrev pub transpose_chars_events : Line → List ChangeEvent
 transpose_chars_events l =
     let parts = clusters_at (between_clusters l) in
     if transposes_chars l then replacement parts.0 parts.2 (later_first parts l.text) l.text ∷ []
@@ -41,7 +44,7 @@ transpose_chars_events l =
 abbrev pub transpose_chars_line : Line → Line
 transpose_chars_line l =
     let parts = clusters_at (between_clusters l) in
-    if transposes_chars l then replaced parts.0 parts.2 (later_first parts l.text) l else l
+    if transposes_chars l then with_replacement parts.0 parts.2 (later_first parts l.text) l else l
 
 abbrev pub transpose_chars : Line → Edit Bool
 transpose_chars l = record {
@@ -52,13 +55,13 @@ transpose_chars l = record {
 
 -- the cursor after the n-th later end of a word, and at the n-th earlier start of one
 unfoldable pub after_words : ℕ → Line → Line
-after_words n l = moved_to (next_word AfterEnd Emacs n l) l
+after_words n l = with_cursor_at (next_word AfterEnd Emacs n l) l
 
 unfoldable pub before_words : ℕ → Line → Line
-before_words n l = moved_to (prev_word Emacs n l) l
+before_words n l = with_cursor_at (prev_word Emacs n l) l
 
 -- two parts of a text, each by its start and its end
-pub record Pair : Type 0 where
+pub record WordPair : Type 0 where
   pub first : ℕ × ℕ
   pub second : ℕ × ℕ
 
@@ -69,14 +72,14 @@ abbrev pub first_word : ℕ → Line → Line
 first_word n l = before_words n (second_word n l)
 
 -- the word at or after the cursor, the n-th by its end, and the one n words before it
-abbrev pub words_around : ℕ → Line → Pair
+abbrev pub words_around : ℕ → Line → WordPair
 words_around n l = record {
   first = ((first_word n l).place, (after_words 1 (first_word n l)).place);
   second = ((second_word n l).place, (after_words n l).place);
 }
 
 -- the later part is replaced first, so that the earlier one is still at its place
-abbrev pub swap_events : Pair → List ℕ → List Event
+abbrev pub swap_events : WordPair → List ℕ → List ChangeEvent
 swap_events p text =
     let first = slice_range text p.first.0 p.first.1 in
     let second = slice_range text p.second.0 p.second.1 in
@@ -85,7 +88,7 @@ swap_events p text =
     (replace_range text p.second.0 p.second.1 first) ∷ [])
 
 -- the cursor after both
-abbrev pub swap_line : Pair → Line → Line
+abbrev pub swap_line : WordPair → Line → Line
 swap_line p l =
     let first = slice_range l.text p.first.0 p.first.1 in
     let second = slice_range l.text p.second.0 p.second.1 in
@@ -95,16 +98,16 @@ swap_line p l =
       place = p.second.1;
     }
 
-abbrev pub swap : Pair → Line → Edit ⊤
+abbrev pub swap : WordPair → Line → Edit ⊤
 swap p l = record { answer = tt; events = swap_events p l.text; line = swap_line p l }
 
-abbrev pub are_apart : Pair → Bool
+abbrev pub are_apart : WordPair → Bool
 are_apart p = not (p.first.0 == p.second.0) && nat_le p.first.1 p.second.0
 
 abbrev pub transposes_words : ℕ → Line → Bool
 transposes_words n l = are_apart (words_around n l)
 
-abbrev pub transpose_words_events : ℕ → Line → List Event
+abbrev pub transpose_words_events : ℕ → Line → List ChangeEvent
 transpose_words_events n l =
     if transposes_words n l then swap_events (words_around n l) l.text else []
 

@@ -5,7 +5,7 @@ ghost use Rattle.std.specs.Char.{IsScalar};
 ghost use Rattle.std.specs.Prelude.{◌≡◌, ◌<◌, ◌≤◌, ◌+◌, ◌&&◌, ◌||◌, min, take, drop, slice_range, chars, Some, None, is_some, IfSome, IsCharBoundary};
 ghost use Rattle.std.specs.List.{list_all};
 ghost use Rattle.line_buffer.specs.Width.{columns_of};
-ghost use Rattle.line_buffer.specs.Line.{moved_to};
+ghost use Rattle.line_buffer.specs.Line.{with_cursor_at};
 ghost use Rattle.line_buffer.specs.Parting.{looks_ahead, is_solid, takes_marks, first, is_bare, parts, is_selected, is_flag_letter};
 ghost use Rattle.line_buffer.specs.Columns.{place_at_column, first_column, cursor_column, place_in_row, line_up, line_down};
 
@@ -260,7 +260,7 @@ impl LineBuffer {
     pub fn move_to_line_up(&mut self, n: RepeatCount, layout: &Layout) -> bool
         ensures answer { result ≡ is_some (line_up layout.now.grapheme_cluster_mode
             layout.now.tab_stops layout.now.prompt_size.col n self.old) }
-        ensures line { self.new ≡ moved_to (line_up layout.now.grapheme_cluster_mode
+        ensures line { self.new ≡ with_cursor_at (line_up layout.now.grapheme_cluster_mode
             layout.now.tab_stops layout.now.prompt_size.col n self.old) self.old }
     {
         let Some(pos) = self.line_up_pos(n, layout) else {
@@ -275,7 +275,7 @@ impl LineBuffer {
     pub fn move_to_line_down(&mut self, n: RepeatCount, layout: &Layout) -> bool
         ensures answer { result ≡ is_some (line_down layout.now.grapheme_cluster_mode
             layout.now.tab_stops layout.now.prompt_size.col n self.old) }
-        ensures line { self.new ≡ moved_to (line_down layout.now.grapheme_cluster_mode
+        ensures line { self.new ≡ with_cursor_at (line_down layout.now.grapheme_cluster_mode
             layout.now.tab_stops layout.now.prompt_size.col n self.old) self.old }
     {
         let Some(pos) = self.line_down_pos(n, layout) else {

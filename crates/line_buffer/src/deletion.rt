@@ -5,7 +5,7 @@ ghost use Rattle.line_buffer.specs.Range as Range;
 
 use crate::line_buffer::{LineBuffer, OutOfMemory};
 use crate::listener::DeleteListener;
-use crate::range::Span;
+use crate::range::TextSpan;
 use crate::types::{At, CharSearch, Movement, RepeatCount, Word};
 use std::alloc::Global;
 
@@ -24,14 +24,14 @@ impl LineBuffer {
     ghost use Rattle.std.specs.Result.{result_map_both};
     ghost use Rattle.line_buffer.specs.declared.types.Movement.TheVariants.{BeginningOfLine, EndOfLine, BackwardWord, ForwardWord, ViCharSearch, BackwardChar, BeginningOfBuffer, EndOfBuffer};
     ghost use Rattle.line_buffer.specs.Edit.{CutsLine};
-    ghost use Rattle.line_buffer.specs.Range.{IsSpanOf, copied_range, span_text, deletion_of, deletion_by, delete, kill, kill_closing};
+    ghost use Rattle.line_buffer.specs.Range.{IsSpanOf, FindsSpan, range_of, copied_range, span_text, deletion_of, deletion_by, delete, kill, kill_closing};
     ghost use Rattle.line_buffer.specs.Replay.{wants_or};
 
     /// Deletes a range, if there is one.
     fn delete_span<D: DeleteListener>(
         &mut self,
         alloc: Global,
-        span: Option<Span>,
+        span: Option<TextSpan>,
         dl: &mut D,
     ) -> Result<bool, OutOfMemory>
         requires { IfSome span (λ s. IsSpanOf self.old.text s) }
@@ -43,6 +43,21 @@ impl LineBuffer {
         };
         self.delete_directed(alloc, span.from..span.upto, span.direction, dl)?;
         Ok(true)
+    }
+
+    /// Deletes the range that a movement names, and doesn't report a kill.
+    fn delete_named<D: DeleteListener>(
+        &mut self,
+        alloc: Global,
+        movement: &Movement,
+        span: Option<TextSpan>,
+        dl: &mut D,
+    ) -> Result<bool, OutOfMemory>
+        requires { FindsSpan (range_of movement.now self.old) self.old.text span }
+        ensures { CutsLine D.takes D.refuses [] (deletion_by movement.now self.old)
+            dl.old dl.new self.old self.new result }
+    {
+        self.delete_span(alloc, span, dl)
     }
 
     /// Deletes what a movement names, and doesn't report a kill.
@@ -196,11 +211,28 @@ impl LineBuffer {
             (kill_closing movement.now) (kill movement.now self.old)
             dl.old dl.new self.old self.new result }
     {
+        let span = self.range_of(movement);
+        self.kill_range(alloc, movement, span, dl)
+    }
+
+    /// `kill` of the range that the movement names, if it is known already.
+    pub fn kill_range<D: DeleteListener>(
+        &mut self,
+        alloc: Global,
+        movement: &Movement,
+        span: Option<TextSpan>,
+        dl: &mut D,
+    ) -> Result<bool, OutOfMemory>
+        requires { FindsSpan (range_of movement.now self.old) self.old.text span }
+        ensures { CutsLine D.takes D.refuses
+            (kill_closing movement.now) (kill movement.now self.old)
+            dl.old dl.new self.old self.new result }
+    {
         if goes_by_clusters(movement) {
-            return self.delete_by(alloc, movement, dl);
+            return self.delete_named(alloc, movement, span, dl);
         }
         dl.start_killing();
-        let killed = self.delete_by(alloc, movement, dl);
+        let killed = self.delete_named(alloc, movement, span, dl);
         dl.stop_killing();
         killed
     }
@@ -217,7 +249,11 @@ impl LineBuffer {
     }
 
     /// A copy of a range, if there is one.
-    fn copy_span(&self, alloc: Global, span: Option<Span>) -> Result<Option<String>, OutOfMemory>
+    fn copy_span(
+        &self,
+        alloc: Global,
+        span: Option<TextSpan>,
+    ) -> Result<Option<String>, OutOfMemory>
         requires { IfSome span (λ s. IsSpanOf self.now.text s) }
         ensures text { IfOk result (λ t. option_map string_bytes t ≡ option_map
             (λ s. span_text s self.now) span) }

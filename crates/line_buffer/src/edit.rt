@@ -28,7 +28,7 @@ impl LineBuffer {
     ghost use Rattle.std.specs.Prelude.{◌≡◌, ◌==◌, ◌≤◌, length, IfOk, IsCharBoundary};
     ghost use Rattle.std.specs.List.{insert_slice};
     ghost use Rattle.line_buffer.specs.Edit.{ChangesLine};
-    ghost use Rattle.line_buffer.specs.Line.{replaced, cut_out, put_in};
+    ghost use Rattle.line_buffer.specs.Line.{with_replacement, without_range, with_text_at};
     ghost use Rattle.line_buffer.specs.Replay.{deletion, insertion, replacement, wants_or};
     ghost use Rattle.line_buffer.specs.declared.types.Direction.TheVariants.{Forward};
 
@@ -46,7 +46,7 @@ impl LineBuffer {
         requires end { IsCharBoundary self.old.text range.end }
         ensures { ChangesLine C.takes (wants_or C.refuses)
             (replacement range.start range.end text.now self.old.text)
-            (replaced range.start range.end text.now self.old)
+            (with_replacement range.start range.end text.now self.old)
             cl.old cl.new self.old self.new result }
     {
         self.buf.reserve(text.len())?;
@@ -69,7 +69,7 @@ impl LineBuffer {
         requires cursor { IsCharBoundary (insert_slice self.old.text idx text.now) self.old.place }
         ensures answer { IfOk result (λ at_end. at_end ≡ (idx == length self.old.text)) }
         ensures edits { ChangesLine C.takes (wants_or C.refuses) (insertion idx text.now)
-            (put_in idx text.now self.old) cl.old cl.new self.old self.new result }
+            (with_text_at idx text.now self.old) cl.old cl.new self.old self.new result }
     {
         let at_end = idx == self.buf.len();
         self.buf.reserve(text.len())?;
@@ -91,7 +91,7 @@ impl LineBuffer {
         requires end { IsCharBoundary self.old.text range.end }
         ensures { ChangesLine D.takes D.refuses
             (deletion range.start range.end Forward self.old.text)
-            (cut_out range.start range.end self.old) dl.old dl.new self.old self.new result }
+            (without_range range.start range.end self.old) dl.old dl.new self.old self.new result }
     {
         self.delete_directed(alloc, range, Direction::Forward, dl)
     }
@@ -109,7 +109,7 @@ impl LineBuffer {
         requires end { IsCharBoundary self.old.text range.end }
         ensures { ChangesLine D.takes D.refuses
             (deletion range.start range.end direction self.old.text)
-            (cut_out range.start range.end self.old) dl.old dl.new self.old self.new result }
+            (without_range range.start range.end self.old) dl.old dl.new self.old self.new result }
     {
         dl.delete(
             alloc,

@@ -41,7 +41,7 @@ impl<'a> Model for GapBuffer<'a> {
 impl<'a> GapBuffer<'a> {
     ghost use Rattle.std.specs.Prelude.{◌≡◌, ◌+◌, ◌≤◌, length, drop, IfOk, OnOk, OnErr, IsUtf8, IsCharBoundary};
     ghost use Rattle.line_buffer.specs.declared.types.Direction.TheVariants.{Forward};
-    ghost use Rattle.line_buffer.specs.Replay.{Replays, deletion, insertion, wants_or, carried_line};
+    ghost use Rattle.line_buffer.specs.Replay.{Replays, deletion, insertion, wants_or, line_after_event};
 
     /// The gap before a whole line.
     pub(crate) fn new(alloc: Global, line: &'a LineBuffer) -> Result<Self, OutOfMemory>
@@ -122,7 +122,7 @@ impl<'a> GapBuffer<'a> {
         ensures replays { OnOk result (Replays (insertion self.old.1 text.now) self.old.0.text
             self.new.0.text) }
         ensures value { OnOk result (self.new ≡ (
-          carried_line (insertion self.old.1 text.now)
+          line_after_event (insertion self.old.1 text.now)
               self.old.0,
           self.old.1 + length text.now,
         )) }
@@ -158,7 +158,7 @@ impl<'a> GapBuffer<'a> {
         ensures replays { OnOk result (Replays (deletion self.old.1 upto Forward self.old.0.text)
             self.old.0.text self.new.0.text) }
         ensures value { OnOk result (self.new ≡ (
-          carried_line (deletion self.old.1 upto Forward
+          line_after_event (deletion self.old.1 upto Forward
               self.old.0.text) self.old.0,
           self.old.1,
         )) }

@@ -1,7 +1,7 @@
 //! Indents and dedents rows with spaces.
 
 ghost use Rattle.std.specs.Prelude.{◌≡◌, take, IsCharBoundary};
-ghost use Rattle.line_buffer.specs.Indent.{leading};
+ghost use Rattle.line_buffer.specs.Indent.{front_whitespace};
 
 use crate::gap_buffer::GapBuffer;
 use crate::line_buffer::{LineBuffer, OutOfMemory};
@@ -13,7 +13,7 @@ use std::ops::Range;
 
 /// The length in bytes of the whitespace at the front of a row, at most `count` characters of it.
 fn leading_len(row: &str, count: usize) -> usize
-    ensures value { take result row.now ≡ leading count row.now }
+    ensures value { take result row.now ≡ front_whitespace count row.now }
     ensures boundary { IsCharBoundary row.now result }
 {
     let mut missing = count;
@@ -30,8 +30,8 @@ impl<'a> GapBuffer<'a> {
     ghost use Rattle.std.specs.Prelude.{◌≡◌, ◌+◌, ◌≤◌, [], length, slice_range, drop, IfOk, OnErr, IsCharBoundary};
     ghost use Rattle.std.specs.List.{prefix_len};
     ghost use Rattle.line_buffer.specs.Edit.{EditsLine, ChangesLine};
-    ghost use Rattle.line_buffer.specs.Indent.{leading, row_event, row_len, change_rows};
-    ghost use Rattle.line_buffer.specs.Replay.{wants_or, carried_line};
+    ghost use Rattle.line_buffer.specs.Indent.{front_whitespace, row_event, row_len, change_rows};
+    ghost use Rattle.line_buffer.specs.Replay.{wants_or, line_after_event};
     ghost use Rattle.line_buffer.specs.Rows.{is_in_row};
 
     /// Indents the row between the gap and a place, or dedents it, and returns where the row ends
@@ -53,7 +53,7 @@ impl<'a> GapBuffer<'a> {
         ensures rest { IfOk result (λ e. drop e self.new.0.text ≡ drop end self.old.0.text) }
         ensures edits { ChangesLine C.takes (wants_or C.refuses)
             (row_event margin.now dedent self.old.1 (slice_range self.old.0.text self.old.1 end))
-            (carried_line (row_event margin.now dedent self.old.1
+            (line_after_event (row_event margin.now dedent self.old.1
             (slice_range self.old.0.text self.old.1 end)) self.old.0)
             cl.old cl.new self.old.0 self.new.0 result }
         ensures stays { OnErr result (self.new.1 ≡ self.old.1) }
@@ -74,7 +74,8 @@ impl<'a> GapBuffer<'a> {
     fn margin_len(&self, end: usize, count: usize) -> usize
         requires order { self.now.1 ≤ end }
         requires end { IsCharBoundary self.now.0.text end }
-        ensures value { slice_range self.now.0.text self.now.1 (self.now.1 + result) ≡ leading
+        ensures value { slice_range self.now.0.text self.now.1 (self.now.1 + result)
+            ≡ front_whitespace
             count (slice_range self.now.0.text self.now.1 end) }
         ensures boundary { IsCharBoundary self.now.0.text (self.now.1 + result) }
         ensures bound { self.now.1 + result ≤ end }

@@ -41,8 +41,8 @@ impl LineBuffer {
     ghost use Rattle.std.specs.List.{repeat};
     ghost use Rattle.line_buffer.specs.declared.types.Direction.TheVariants.{Forward};
     ghost use Rattle.line_buffer.specs.Edit.{EditsLine, ChangesLine};
-    ghost use Rattle.line_buffer.specs.Event.Event.{InsertChar};
-    ghost use Rattle.line_buffer.specs.Insertions.{has_room, kept_text, update, put_at_cursor, insertion_by, insertion_of, can_take_before, without_before, insert, yank, yank_pop};
+    ghost use Rattle.line_buffer.specs.Event.ChangeEvent.{InsertChar};
+    ghost use Rattle.line_buffer.specs.Insertions.{has_room, text_that_fits, update, with_text_at_cursor, insertion_by, insertion_of, can_take_before, without_before, insert, yank, yank_pop};
     ghost use Rattle.line_buffer.specs.Replay.{deletion, insertion, wants_or};
 
     /// Whether `count` more bytes fit, for the calls that respect the limit.
@@ -69,7 +69,7 @@ impl LineBuffer {
 
     /// The part of `text` that fits into an empty line.
     fn kept<'t>(&self, text: &'t str) -> &'t str
-        ensures value { result.now ≡ kept_text text.now self.now }
+        ensures value { result.now ≡ text_that_fits text.now self.now }
         ensures utf8 { IsUtf8 result.now }
         ensures cursor { (pos : ℕ) → IsCharBoundary text.now pos → IsCharBoundary result.now
             (min pos (length result.now)) }
@@ -144,7 +144,7 @@ impl LineBuffer {
     ) -> Result<bool, OutOfMemory>
         ensures answer { IfOk result (λ at_end. at_end ≡ (self.old.place == length self.old.text)) }
         ensures edits { ChangesLine C.takes (wants_or C.refuses)
-            (insertion self.old.place text.now) (put_at_cursor text.now self.old)
+            (insertion self.old.place text.now) (with_text_at_cursor text.now self.old)
             cl.old cl.new self.old self.new result }
     {
         // Its contract says that the text is UTF-8.
@@ -165,7 +165,7 @@ impl LineBuffer {
         cl: &mut C,
     ) -> Result<(), OutOfMemory>
         ensures { ChangesLine C.takes (wants_or C.refuses) (InsertChar self.old.place ch)
-            (put_at_cursor (encode_utf8 ch) self.old) cl.old cl.new self.old self.new result }
+            (with_text_at_cursor (encode_utf8 ch) self.old) cl.old cl.new self.old self.new result }
     {
         self.buf.reserve(ch.len_utf8())?;
         cl.insert_char(alloc, self.pos, ch)?;

@@ -29,7 +29,7 @@ fn first_alphanumeric(text: &str) -> Option<usize>
 
 /// The length in bytes of the front of a word that becomes uppercase.
 fn raised_len(action: WordAction, word: &str) -> usize
-    ensures value { result ≡ LetterCase.raised_len action word.now }
+    ensures value { result ≡ LetterCase.uppercase_len action word.now }
     ensures boundary { IsCharBoundary word.now result }
 {
     match action {
@@ -44,7 +44,7 @@ fn raised_len(action: WordAction, word: &str) -> usize
 
 /// The word with its letters in the new case.
 fn recased(alloc: Global, action: WordAction, word: &str) -> Result<String, OutOfMemory>
-    ensures { IfOk result (λ t. string_bytes t ≡ LetterCase.recased action word.now) }
+    ensures { IfOk result (λ t. string_bytes t ≡ LetterCase.word_in_case action word.now) }
 {
     let raised = raised_len(action, word);
     let mut made = String::from_str(alloc, &word[..raised])?;

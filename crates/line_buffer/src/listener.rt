@@ -10,12 +10,12 @@ use std::alloc::Global;
 /// its allocation for an event fails.
 pub trait DeleteListener {
     ghost use Rattle.std.specs.Prelude.{OnOk, OnErr};
-    ghost use Rattle.line_buffer.specs.Event.{Event};
-    ghost use Rattle.line_buffer.specs.Event.Event.{StartKilling, StopKilling, Delete};
+    ghost use Rattle.line_buffer.specs.Event.{ChangeEvent};
+    ghost use Rattle.line_buffer.specs.Event.ChangeEvent.{StartKilling, StopKilling, Delete};
 
-    ghost takes: { Self → Event → Self → Type 0 };
+    ghost takes: { Self → ChangeEvent → Self → Type 0 };
 
-    ghost refuses: { Self → Event → Self → Type 0 };
+    ghost refuses: { Self → ChangeEvent → Self → Type 0 };
 
     /// Text deleted from now on is killed.
     fn start_killing(&mut self)
@@ -40,7 +40,7 @@ pub trait DeleteListener {
 /// Is notified of every change of a text, before it is made. Places are in bytes.
 pub trait ChangeListener: DeleteListener {
     ghost use Rattle.std.specs.Prelude.{OnOk, OnErr};
-    ghost use Rattle.line_buffer.specs.Event.Event.{InsertChar, InsertStr, Replace};
+    ghost use Rattle.line_buffer.specs.Event.ChangeEvent.{InsertChar, InsertStr, Replace};
 
     /// The character `c` is about to be inserted at `idx`.
     fn insert_char(&mut self, alloc: Global, idx: usize, c: char) -> Result<(), OutOfMemory>

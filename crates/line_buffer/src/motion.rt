@@ -7,7 +7,7 @@ ghost use Rattle.std.specs.Prelude.{◌≡◌, ◌+◌, ◌<◌, ◌≤◌, ◌=
 ghost use Rattle.std.specs.List.{last_or, list_all};
 ghost use Rattle.std.specs.Char.{is_whitespace};
 ghost use Rattle.line_buffer.specs.Clusters.{clusters, place_forward, place_backward, IsPart};
-ghost use Rattle.line_buffer.specs.Line.{moved_to, text_after};
+ghost use Rattle.line_buffer.specs.Line.{with_cursor_at, text_after};
 ghost use Rattle.line_buffer.specs.Rows.{row_start, row_end};
 
 use crate::line_buffer::LineBuffer;
@@ -107,7 +107,7 @@ impl LineBuffer {
     pub(crate) fn move_to_found(&mut self, found: Option<usize>) -> bool
         requires { IfSome found (λ p. IsCharBoundary self.old.text p) }
         ensures answer { result ≡ is_some found }
-        ensures line { self.new ≡ moved_to found self.old }
+        ensures line { self.new ≡ with_cursor_at found self.old }
     {
         match found {
             Some(pos) => {
@@ -121,7 +121,7 @@ impl LineBuffer {
     /// Moves the cursor over n clusters, or to the text's end. Returns false if it doesn't move.
     pub fn move_forward(&mut self, n: RepeatCount) -> bool
         ensures answer { result ≡ is_some (place_forward n self.old) }
-        ensures line { self.new ≡ moved_to (place_forward n self.old) self.old }
+        ensures line { self.new ≡ with_cursor_at (place_forward n self.old) self.old }
     {
         let found = self.next_pos(n);
         self.move_to_found(found)
@@ -131,7 +131,7 @@ impl LineBuffer {
     /// move.
     pub fn move_backward(&mut self, n: RepeatCount) -> bool
         ensures answer { result ≡ is_some (place_backward n self.old) }
-        ensures line { self.new ≡ moved_to (place_backward n self.old) self.old }
+        ensures line { self.new ≡ with_cursor_at (place_backward n self.old) self.old }
     {
         let found = self.prev_pos(n);
         self.move_to_found(found)

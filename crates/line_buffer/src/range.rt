@@ -1,12 +1,13 @@
 //! The part of the text that a movement names.
 
 use crate::line_buffer::LineBuffer;
-use crate::printable::are_printable;
+use crate::printable::Printable;
+use crate::runs::are_all;
 use crate::types::{CharSearch, Direction, Movement, RepeatCount};
 
 /// A range of the text to delete, in bytes, with its direction.
 #[derive(Clone, Copy, Debug, PartialEq, Eq)]
-pub struct Span {
+pub struct TextSpan {
     pub from: usize,
     pub upto: usize,
     pub direction: Direction,
@@ -15,17 +16,17 @@ pub struct Span {
 impl LineBuffer {
     ghost use Rattle.std.specs.Prelude.{◌≡◌, ◌≤◌, length, drop, IfSome, IsCharBoundary, option_map};
     ghost use Rattle.std.specs.List.{list_all};
-    ghost use Rattle.line_buffer.specs.Range.{FindsSpan, up_to_cursor, from_cursor, around_cursor, to_row_end, from_row_start, search_range, range_of, copied_range, kill_line};
+    ghost use Rattle.line_buffer.specs.Range.{IsSpanOf, FindsSpan, deletion_line, up_to_cursor, from_cursor, around_cursor, to_row_end, from_row_start, search_range, range_of, copied_range};
     ghost use Rattle.line_buffer.specs.Printable.{is_printable};
 
     /// The range from an earlier place to the cursor.
-    fn back_to(&self, found: Option<usize>) -> Option<Span>
+    fn back_to(&self, found: Option<usize>) -> Option<TextSpan>
         requires earlier { IfSome found (λ i. i ≤ self.now.place) }
         requires boundary { IfSome found (λ i. IsCharBoundary self.now.text i) }
         ensures { FindsSpan (option_map (λ i. up_to_cursor i self.now) found) self.now.text result }
     {
         match found {
-            Some(from) => Some(Span {
+            Some(from) => Some(TextSpan {
                 from,
                 upto: self.pos,
                 direction: Direction::Backward,
@@ -35,13 +36,13 @@ impl LineBuffer {
     }
 
     /// The range from the cursor to a later place.
-    fn on_to(&self, found: Option<usize>) -> Option<Span>
+    fn on_to(&self, found: Option<usize>) -> Option<TextSpan>
         requires later { IfSome found (λ i. self.now.place ≤ i) }
         requires boundary { IfSome found (λ i. IsCharBoundary self.now.text i) }
         ensures { FindsSpan (option_map (λ i. from_cursor i self.now) found) self.now.text result }
     {
         match found {
-            Some(upto) => Some(Span {
+            Some(upto) => Some(TextSpan {
                 from: self.pos,
                 upto,
                 direction: Direction::Forward,
@@ -51,7 +52,7 @@ impl LineBuffer {
     }
 
     /// The range between two places. Its direction is backward if it ends at the cursor.
-    fn around(&self, found: Option<(usize, usize)>) -> Option<Span>
+    fn around(&self, found: Option<(usize, usize)>) -> Option<TextSpan>
         requires order { IfSome found (λ r. r.0 ≤ r.1) }
         requires start { IfSome found (λ r. IsCharBoundary self.now.text r.0) }
         requires end { IfSome found (λ r. IsCharBoundary self.now.text r.1) }
@@ -59,7 +60,7 @@ impl LineBuffer {
             self.now.text result }
     {
         match found {
-            Some((from, upto)) => Some(Span {
+            Some((from, upto)) => Some(TextSpan {
                 from,
                 upto,
                 direction: if upto == self.pos {
@@ -74,7 +75,7 @@ impl LineBuffer {
 
     /// From a place in the cursor's row to the row's end. At the row's end this is the newline, if
     /// there is one.
-    fn to_row_end(&self, from: usize) -> Option<Span>
+    fn to_row_end(&self, from: usize) -> Option<TextSpan>
         requires earlier { from ≤ self.now.place }
         requires boundary { IsCharBoundary self.now.text from }
         ensures { FindsSpan (to_row_end from self.now) self.now.text result }
@@ -89,7 +90,7 @@ impl LineBuffer {
         } else {
             return None;
         };
-        Some(Span {
+        Some(TextSpan {
             from,
             upto,
             direction: Direction::Forward,
@@ -98,7 +99,7 @@ impl LineBuffer {
 
     /// From the row's start to the cursor. At the row's start this is the newline before it, if
     /// there is one.
-    fn from_row_start(&self) -> Option<Span>
+    fn from_row_start(&self) -> Option<TextSpan>
         ensures { FindsSpan (from_row_start self.now) self.now.text result }
     {
         let start = self.row_start();
@@ -112,7 +113,7 @@ impl LineBuffer {
     }
 
     /// Up to the character that the search finds, including it or not.
-    fn search_range(&self, search: CharSearch, n: RepeatCount) -> Option<Span>
+    fn search_range(&self, search: CharSearch, n: RepeatCount) -> Option<TextSpan>
         ensures { FindsSpan (search_range search n self.now) self.now.text result }
     {
         // Its contract says that the length fits.
@@ -132,7 +133,7 @@ impl LineBuffer {
     }
 
     /// The range that a kill by the movement deletes.
-    pub(crate) fn range_of(&self, movement: &Movement) -> Option<Span>
+    pub fn range_of(&self, movement: &Movement) -> Option<TextSpan>
         ensures { FindsSpan (range_of movement.now self.now) self.now.text result }
     {
         // Its contract says that the text is UTF-8.
@@ -159,30 +160,30 @@ impl LineBuffer {
         }
     }
 
-    /// Whether the last bytes of the text, as many as a kill by the movement deletes, are printable
-    /// ASCII.
-    pub fn has_printable_end(&self, movement: &Movement) -> bool
+    /// Whether the last bytes of the text, as many as the range has, are printable ASCII.
+    pub fn has_printable_end(&self, span: Option<TextSpan>) -> bool
+        requires { IfSome span (λ s. IsSpanOf self.now.text s) }
         ensures { result ≡ list_all is_printable
-            (drop (length (kill_line movement.now self.now).text) self.now.text) }
+            (drop (length (deletion_line span self.now).text) self.now.text) }
     {
-        match self.range_of(movement) {
+        match span {
             Some(span) => {
                 let kept = self.len() - (span.upto - span.from);
-                are_printable(&self.buf.as_bytes()[kept..])
+                are_all::<Printable>(&self.buf.as_bytes()[kept..])
             }
             None => true,
         }
     }
 
     /// The range that a movement copies.
-    pub(crate) fn copied_range(&self, movement: &Movement) -> Option<Span>
+    pub(crate) fn copied_range(&self, movement: &Movement) -> Option<TextSpan>
         ensures { FindsSpan (copied_range movement.now self.now) self.now.text result }
     {
         let start = self.row_start();
         let end = self.row_end();
         match movement {
             Movement::WholeLine if start == end => None,
-            Movement::WholeLine => Some(Span {
+            Movement::WholeLine => Some(TextSpan {
                 from: start,
                 upto: end,
                 direction: Direction::Forward,

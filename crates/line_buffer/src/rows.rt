@@ -7,74 +7,32 @@ ghost use Rattle.line_buffer.specs.Clusters.{nth_or_last};
 ghost use Rattle.line_buffer.specs.Rows.{FindsPlace, is_in_row, row_start, row_end, behind_newlines, row_starts, starts_above, starts_below, row_close, FindsRows, rows_up, rows_down};
 
 use crate::line_buffer::LineBuffer;
+use crate::runs::{ByteClass, run_from, run_upto};
 use crate::types::RepeatCount;
 
-/// Whether no byte is a newline.
-fn are_in_row(bytes: &[u8]) -> bool
-    ensures { result ≡ list_all is_in_row bytes.now }
-{
-    let mut all = true;
-    for byte in bytes {
-        all &= *byte != b'\n';
-    }
-    all
-}
+/// The bytes that are no newline.
+struct InRow;
 
-/// How many bytes are tested at once for newlines.
-const BLOCK: usize = 32;
+impl ByteClass for InRow {
+    ghost class = { is_in_row };
 
-/// Where whole blocks without a newline at the end of the bytes begin.
-fn blocks_from(bytes: &[u8]) -> usize
-    ensures bound { result ≤ length bytes.now }
-    ensures in_row { list_all is_in_row (drop result bytes.now) ≡ true }
-{
-    let mut start = bytes.len();
-    while start >= BLOCK && are_in_row(&bytes[start - BLOCK..start]) {
-        start -= BLOCK;
+    fn has(byte: u8) -> bool {
+        byte != b'\n'
     }
-    start
-}
-
-/// How far whole blocks without a newline at the front of the bytes reach.
-fn blocks_upto(bytes: &[u8]) -> usize
-    ensures bound { result ≤ length bytes.now }
-    ensures in_row { list_all is_in_row (take result bytes.now) ≡ true }
-{
-    let mut end = 0;
-    while bytes.len() - end >= BLOCK && are_in_row(&bytes[end..end + BLOCK]) {
-        end += BLOCK;
-    }
-    end
 }
 
 /// Where the last row of a text starts.
 pub(crate) fn last_row_start(text: &str) -> usize
     ensures { FindsPlace (row_start text.now (length text.now)) text.now result }
 {
-    let bytes = text.as_bytes();
-    let mut start = blocks_from(bytes);
-    while start > 0 {
-        if bytes[start - 1] == b'\n' {
-            return start;
-        }
-        start -= 1;
-    }
-    0
+    run_from::<InRow>(text.as_bytes())
 }
 
 /// Where the first row of a text ends, before its newline.
 pub(crate) fn first_row_end(text: &str) -> usize
     ensures { FindsPlace (row_end text.now 0) text.now result }
 {
-    let bytes = text.as_bytes();
-    let mut end = blocks_upto(bytes);
-    while end < bytes.len() {
-        if bytes[end] == b'\n' {
-            return end;
-        }
-        end += 1;
-    }
-    bytes.len()
+    run_upto::<InRow>(text.as_bytes())
 }
 
 /// Where the first row of a text ends, after its newline if it has one.

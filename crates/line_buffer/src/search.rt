@@ -6,7 +6,7 @@ ghost use Rattle.std.specs.Prelude.{◌≡◌, ◌==◌, ◌+◌, ◌≤◌, len
 ghost use Rattle.std.specs.Char.{IsScalar};
 ghost use Rattle.line_buffer.specs.Clusters.{nth_or_last, IsPart};
 ghost use Rattle.line_buffer.specs.Hits as Hits;
-ghost use Rattle.line_buffer.specs.Line.{moved_to};
+ghost use Rattle.line_buffer.specs.Line.{with_cursor_at};
 
 use crate::line_buffer::LineBuffer;
 use crate::types::{CharSearch, RepeatCount};
@@ -128,7 +128,7 @@ impl LineBuffer {
     /// Returns false if there is none.
     pub fn move_to(&mut self, search: CharSearch, n: RepeatCount) -> bool
         ensures answer { result ≡ is_some (Hits.search_place search n self.old) }
-        ensures line { self.new ≡ moved_to (Hits.search_place search n self.old) self.old }
+        ensures line { self.new ≡ with_cursor_at (Hits.search_place search n self.old) self.old }
     {
         let found = self.search_pos(search, n);
         self.move_to_found(found)

@@ -8,18 +8,19 @@ ghost use Rattle.std.specs.Char.{is_ascii_alphanumeric};
 ghost use Rattle.std.specs.List.{last_or, list_all};
 ghost use Rattle.unicode_segmentation.specs.Segments as Segments;
 ghost use Rattle.line_buffer.specs.Clusters.{clusters, nth_or_last};
-ghost use Rattle.line_buffer.specs.Line.{moved_to};
+ghost use Rattle.line_buffer.specs.Line.{with_cursor_at};
 ghost use Rattle.line_buffer.specs.Words as Words;
 
 use crate::line_buffer::LineBuffer;
 use crate::motion::{nth_cluster, nth_cluster_back};
+use crate::runs::{ByteClass, run_from, run_upto};
 use crate::types::{At, RepeatCount, Word};
 use unicode::properties::{GeneralCategory, is_alphabetic};
 use unicode_segmentation::UnicodeSegmentation;
 
 /// How a cluster relates to the words around it.
 #[derive(Clone, Copy, Debug, PartialEq, Eq)]
-pub enum ClusterKind {
+enum ClusterKind {
     Blank,
     InWord,
     Other,
@@ -87,42 +88,15 @@ fn edge_between(at: At, left: (usize, ClusterKind), right: (usize, ClusterKind))
     }
 }
 
-/// Whether each byte is a letter or a digit of ASCII.
-fn are_letters(bytes: &[u8]) -> bool
-    ensures { result ≡ list_all is_ascii_alphanumeric bytes.now }
-{
-    let mut all = true;
-    for byte in bytes {
-        all &= byte.is_ascii_alphanumeric();
-    }
-    all
-}
+/// The letters and digits of ASCII.
+struct Letters;
 
-/// How many bytes are tested at once for letters.
-const BLOCK: usize = 32;
+impl ByteClass for Letters {
+    ghost class = { is_ascii_alphanumeric };
 
-/// Where whole blocks of letters at the end of the bytes begin.
-fn blocks_from(bytes: &[u8]) -> usize
-    ensures bound { result ≤ length bytes.now }
-    ensures letters { list_all is_ascii_alphanumeric (drop result bytes.now) ≡ true }
-{
-    let mut start = bytes.len();
-    while start >= BLOCK && are_letters(&bytes[start - BLOCK..start]) {
-        start -= BLOCK;
+    fn has(byte: u8) -> bool {
+        byte.is_ascii_alphanumeric()
     }
-    start
-}
-
-/// Where the letters and digits of ASCII at the end of the bytes begin.
-fn letters_from(bytes: &[u8]) -> usize
-    ensures bound { result ≤ length bytes.now }
-    ensures letters { list_all is_ascii_alphanumeric (drop result bytes.now) ≡ true }
-{
-    let mut start = blocks_from(bytes);
-    while start > 0 && bytes[start - 1].is_ascii_alphanumeric() {
-        start -= 1;
-    }
-    start
 }
 
 /// The last clusters of a text, of one kind: where they start, and the kind. Letters of ASCII are
@@ -131,7 +105,7 @@ fn last_run(text: &str, word: Word) -> Option<(usize, ClusterKind)>
     ensures { MatchOption result (length text.now ≡ 0)
         (λ run. Words.EndsInRun word text.now run.0 run.1) }
 {
-    let start = letters_from(text.as_bytes());
+    let start = run_from::<Letters>(text.as_bytes());
     if start + 1 < text.len() {
         return Some((start + 1, ClusterKind::InWord));
     }
@@ -161,37 +135,13 @@ fn nth_start_back(text: &str, word: Word, n: RepeatCount) -> Option<usize>
     None
 }
 
-/// How far whole blocks of letters at the front of the bytes reach.
-fn blocks_upto(bytes: &[u8]) -> usize
-    ensures bound { result ≤ length bytes.now }
-    ensures letters { list_all is_ascii_alphanumeric (take result bytes.now) ≡ true }
-{
-    let mut end = 0;
-    while bytes.len() - end >= BLOCK && are_letters(&bytes[end..end + BLOCK]) {
-        end += BLOCK;
-    }
-    end
-}
-
-/// How far the letters and digits of ASCII at the front of the bytes reach.
-fn letters_upto(bytes: &[u8]) -> usize
-    ensures bound { result ≤ length bytes.now }
-    ensures letters { list_all is_ascii_alphanumeric (take result bytes.now) ≡ true }
-{
-    let mut end = blocks_upto(bytes);
-    while end < bytes.len() && bytes[end].is_ascii_alphanumeric() {
-        end += 1;
-    }
-    end
-}
-
 /// The first clusters of a text, of one kind: where the last of them starts and ends, and the kind.
 /// Letters of ASCII are clusters each, except the last, to which what follows may be joined.
 fn first_run(text: &str, word: Word) -> Option<(usize, usize, ClusterKind)>
     ensures { MatchOption result (length text.now ≡ 0)
         (λ run. Words.BeginsInRun word text.now run.0 run.1 run.2) }
 {
-    let count = letters_upto(text.as_bytes());
+    let count = run_upto::<Letters>(text.as_bytes());
     if count > 1 {
         return Some((count - 2, count - 1, ClusterKind::InWord));
     }
@@ -319,7 +269,7 @@ impl LineBuffer {
     /// false if it doesn't move.
     pub fn move_to_prev_word(&mut self, word: Word, n: RepeatCount) -> bool
         ensures answer { result ≡ is_some (Words.prev_word word n self.old) }
-        ensures line { self.new ≡ moved_to (Words.prev_word word n self.old) self.old }
+        ensures line { self.new ≡ with_cursor_at (Words.prev_word word n self.old) self.old }
     {
         let found = self.prev_word_pos(word, n);
         self.move_to_found(found)
@@ -329,7 +279,7 @@ impl LineBuffer {
     /// doesn't move.
     pub fn move_to_next_word(&mut self, at: At, word: Word, n: RepeatCount) -> bool
         ensures answer { result ≡ is_some (Words.next_word at word n self.old) }
-        ensures line { self.new ≡ moved_to (Words.next_word at word n self.old) self.old }
+        ensures line { self.new ≡ with_cursor_at (Words.next_word at word n self.old) self.old }
     {
         let found = self.next_word_pos(at, word, n);
         self.move_to_found(found)

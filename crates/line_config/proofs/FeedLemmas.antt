@@ -7,7 +7,7 @@ use Rattle.line_config.specs.declared.device.DeviceFailed.{DeviceFailed}
 use Rattle.line_config.specs.declared.device.Last.{Last}
 use Rattle.line_config.specs.Adapters.{feed_of, to_come}
 use Rattle.line_config.specs.Feed.{Feed, Fills, Gives, GivesByte, GivesBytes}
-use Rattle.line_config.specs.Foretold.{Foretells, Held, Meets}
+use Rattle.line_config.specs.Foretold.{Foretells, HeldBefore, Meets}
 
 -- what two calls gave is given in order
 pub Gives-then : (a b c : Feed) (xs ys : List ℕ) → Gives a b xs → Gives b c ys → Gives a c (xs ++ ys)
@@ -37,13 +37,13 @@ nothing_left a b given is gave t =
 
 -- what remains after a read: nothing if it met the end or a failure, otherwise what follows its bytes
 comes : {R : Type 0} (told : R → List ℕ → Option Last → Bool) (left : R → List ℕ → List ℕ) (last : Last) (old new : R) (given bytes now : List ℕ)
-    (later : Option Last) → now ≡ given ++ bytes → Held told left last old new given bytes later → bytes ++ to_come later (left new now) ≡ left old given
+    (later : Option Last) → now ≡ given ++ bytes → HeldBefore told left last old new given bytes later → bytes ++ to_come later (left new now) ≡ left old given
 comes told left last old new given bytes now None noted held = rw noted (sym held.coming)
 comes told left last old new given bytes now (Some x) noted held =
     ap (λ zs. bytes ++ zs) (sym (held.spent x refl).0) ∙ sym held.coming
 
 ends : {R : Type 0} (told : R → List ℕ → Option Last → Bool) (left : R → List ℕ → List ℕ) (last : Last) (old new : R) (given bytes now : List ℕ)
-    (later : Option Last) → bytes ≡ [] → (x : Last) × (later ≡ Some x) → Held told left last old new given bytes later
+    (later : Option Last) → bytes ≡ [] → (x : Last) × (later ≡ Some x) → HeldBefore told left last old new given bytes later
     → (bytes ++ to_come later (left new now) ≡ []) × (later ≡ Some last)
 ends told left last old new given bytes now later none some held =
     let is = some.1 in (rw (is, none) refl, is ∙ ap Some (held.spent some.0 is).1)
@@ -70,7 +70,7 @@ pub fills_by : {R : Type 0} (remaining : R → Option (List ℕ)) (told : R → 
     → (bytes ≡ [] → (x : Last) × (later ≡ Some x)) → 2 ^ 63 - more + length bytes ≤ 2 ^ 63 - count
     → Fills (feed_of told left last old given unread met count) (feed_of told left last new now bytes later more) bytes later
 fills_by remaining told left last foretells old new given unread bytes now met later count more empty unmet noted consumed meets some bound =
-    let held : IsTrue (told new now later) → Held told left last old new given bytes later =
+    let held : IsTrue (told new now later) → HeldBefore told left last old new given bytes later =
     λ t. foretells old new given bytes later consumed meets (let u : IsTrue (told new (given ++ bytes) later) = rw noted at t in u) in
     rw (empty, unmet) (record {
       told = λ t. (held t).told_before;

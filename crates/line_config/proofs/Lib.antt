@@ -4,7 +4,5 @@ pub mod ForetoldLemmas
 pub mod KnownLemmas
 pub mod Lent
 pub mod NotesLemmas
-pub mod PlayedLaws
-pub mod ScriptLaws
 pub mod Taking
 pub mod TryLemmas

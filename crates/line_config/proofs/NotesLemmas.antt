@@ -3,7 +3,7 @@ use Rattle.std.proofs.Common.{◌≡◌, ℕ, List, [], ◌∷◌, ◌++◌, tak
 use Rattle.std.proofs.lemmas.List.{append_cancel_left}
 use Rattle.std.specs.Io.KnownBytes.{Keeps, Appends, WriteAppends}
 use Rattle.std.specs.declared.io.Error.{Error}
-use Rattle.line_config.specs.Calls.{Call}
+use Rattle.line_config.specs.DeviceCalls.{DeviceCall}
 use Rattle.line_config.specs.Recorded.{Notes, calls_of, took, inner_of}
 use Rattle.line_config.proofs.TryLemmas.{since_same, since_then}
 use Rattle.line_config.specs.declared.recorded.Recorded.{Recorded}
@@ -27,7 +27,7 @@ module _ {W : Type 0} (contents : W → Option (List ℕ)) where
   pub notes_same : (a : Recorded W) → Notes contents a a
   notes_same a = record { more = []; noted = sym (append-nil (took a)); writer = appends_same (contents (inner_of a)); calls = since_same (calls_of a) }
 
-  pub notes_none : (a b : Recorded W) (call : Call) → took b ≡ took a → Keeps (contents (inner_of a)) (contents (inner_of b)) → calls_of b ≡ call ∷ calls_of a
+  pub notes_none : (a b : Recorded W) (call : DeviceCall) → took b ≡ took a → Keeps (contents (inner_of a)) (contents (inner_of b)) → calls_of b ≡ call ∷ calls_of a
       → Notes contents a b
   notes_none a b call same kept noted = record {
     more = [];
@@ -36,7 +36,7 @@ module _ {W : Type 0} (contents : W → Option (List ℕ)) where
     calls = record { others = call ∷ []; noted = noted };
   }
 
-  pub notes_some : (a b : Recorded W) (bytes : List ℕ) (call : Call) → took b ≡ took a ++ bytes → Appends (contents (inner_of a)) (contents (inner_of b)) bytes
+  pub notes_some : (a b : Recorded W) (bytes : List ℕ) (call : DeviceCall) → took b ≡ took a ++ bytes → Appends (contents (inner_of a)) (contents (inner_of b)) bytes
       → calls_of b ≡ call ∷ calls_of a → Notes contents a b
   notes_some a b bytes call took-more got noted = record {
     more = bytes;
@@ -45,7 +45,7 @@ module _ {W : Type 0} (contents : W → Option (List ℕ)) where
     calls = record { others = call ∷ []; noted = noted };
   }
 
-  pub notes_written : (a b : Recorded W) (result : Result ℕ Error) (n : ℕ) (bytes : List ℕ) (call : Call) → result ≡ Ok n
+  pub notes_written : (a b : Recorded W) (result : Result ℕ Error) (n : ℕ) (bytes : List ℕ) (call : DeviceCall) → result ≡ Ok n
       → WriteAppends (Some (took a)) (Some (took b)) result bytes → WriteAppends (contents (inner_of a)) (contents (inner_of b)) result bytes
       → calls_of b ≡ call ∷ calls_of a → Notes contents a b
   notes_written a b result n bytes call is took-more got noted =

@@ -5,19 +5,19 @@ use Rattle.std.specs.IoError.{error_kind}
 use Rattle.std.specs.declared.io.Error.{Error}
 use Rattle.std.specs.declared.io.ErrorKind.{ErrorKind}
 use Rattle.std.specs.declared.io.ErrorKind.TheVariants.{Interrupted}
-use Rattle.line_config.specs.Calls.{AnswersFlush, AnswersWrite, Call, Moves, Flushes, Ends, IsReadFailure, IsWriteFailure, IsFlush, Since, Tries, again, flush_interrupted, flushes, move_interrupted, moved, moves}
+use Rattle.line_config.specs.DeviceCalls.{AnswersFlush, AnswersWrite, DeviceCall, Moves, Flushes, EndsWithCall, IsReadFailure, IsWriteFailure, IsFlush, Since, Tries, again, flush_interrupted, flushes, move_interrupted, bytes_moved, moves}
 
-pub again_none : (call : Call) (before : List Call) → before ≡ again 0 call before
+pub again_none : (call : DeviceCall) (before : List DeviceCall) → before ≡ again 0 call before
 unfolding again
 again_none call before = refl
 
-pub again_more : (n : ℕ) (call c : Call) (before calls now : List Call) → calls ≡ again n call before → now ≡ c ∷ calls → c ≡ call
+pub again_more : (n : ℕ) (call c : DeviceCall) (before calls now : List DeviceCall) → calls ≡ again n call before → now ≡ c ∷ calls → c ≡ call
     → now ≡ again (n + 1) call before
 unfolding again
 again_more n call c before calls now so_far noted same = rw (add-one n, noted, so_far, same) refl
 
 -- a call that isn't repeated ends the tries
-pub tries_to : (interrupted c : Call) (IsLast : Call → Type 0) (n : ℕ) (old calls now : List Call) → calls ≡ again n interrupted old
+pub tries_to : (interrupted c : DeviceCall) (IsLast : DeviceCall → Type 0) (n : ℕ) (old calls now : List DeviceCall) → calls ≡ again n interrupted old
     → now ≡ c ∷ calls → IsLast c → (c ≡ interrupted → ⊥) → Tries interrupted old now IsLast
 tries_to interrupted c IsLast n old calls now so_far noted last other = record {
   tries = n;
@@ -27,12 +27,12 @@ tries_to interrupted c IsLast n old calls now so_far noted last other = record {
   given_up = λ same. absurd (other same);
 }
 
-again_less : (n m : ℕ) (call : Call) (before : List Call) → n ≡ m + 1 → again n call before ≡ call ∷ again m call before
+again_less : (n m : ℕ) (call : DeviceCall) (before : List DeviceCall) → n ≡ m + 1 → again n call before ≡ call ∷ again m call before
 unfolding again
 again_less n m call before is = rw (is, add-one m) refl
 
 -- as does the last one that may be made
-pub tries_out : (interrupted : Call) (IsLast : Call → Type 0) (n : ℕ) (old calls : List Call) → calls ≡ again n interrupted old
+pub tries_out : (interrupted : DeviceCall) (IsLast : DeviceCall → Type 0) (n : ℕ) (old calls : List DeviceCall) → calls ≡ again n interrupted old
     → n ≡ 2 ^ 64 - 1 → IsLast interrupted → Tries interrupted old calls IsLast
 tries_out interrupted IsLast n old calls so_far all last = record {
   tries = 2 ^ 64 - 2;
@@ -51,32 +51,32 @@ pub interrupted_flush : (result : Result ⊤ Error) (e : Error) → result ≡ E
 interrupted_flush result e is kind = rw is (ap (λ (k : ErrorKind). Flushes (Err k)) kind)
 
 -- and it moves nothing
-pub moved_none : (result : Result ℕ Error) (e : Error) (bytes before after : List ℕ) → result ≡ Err e → after ≡ before ++ moved result bytes → after ≡ before
+pub moved_none : (result : Result ℕ Error) (e : Error) (bytes before after : List ℕ) → result ≡ Err e → after ≡ before ++ bytes_moved result bytes → after ≡ before
 moved_none result e bytes before after is took = let none : after ≡ before ++ [] = rw is at took in none ∙ append-nil before
 
 -- ---- what the last call shows
 
 -- tries are calls
-again_parts : (n : ℕ) (call : Call) (before : List Call) → (others : List Call) × (again n call before ≡ others ++ before)
+again_parts : (n : ℕ) (call : DeviceCall) (before : List DeviceCall) → (others : List DeviceCall) × (again n call before ≡ others ++ before)
 unfolding again
 again_parts zero call before = ([], refl)
 again_parts (suc n) call before = let rest = again_parts n call before in (call ∷ rest.0, ap (λ cs. call ∷ cs) rest.1)
 
-pub since_same : (a : List Call) → Since a a
+pub since_same : (a : List DeviceCall) → Since a a
 since_same a = record { others = []; noted = refl }
 
-pub since_then : {a b c : List Call} → Since a b → Since b c → Since a c
+pub since_then : {a b c : List DeviceCall} → Since a b → Since b c → Since a c
 since_then {a} {b} {c} first second = record {
   others = second.others ++ first.others;
   noted = second.noted ∙ ap (λ cs. second.others ++ cs) first.noted ∙ sym (append_assoc second.others first.others a);
 }
 
 -- if this holds of the last call, so does what follows from it
-pub tries_as : {interrupted : Call} {a b : List Call} (P Q : Call → Type 0) → Tries interrupted a b P → ((call : Call) → P call → Q call)
+pub tries_as : {interrupted : DeviceCall} {a b : List DeviceCall} (P Q : DeviceCall → Type 0) → Tries interrupted a b P → ((call : DeviceCall) → P call → Q call)
     → Tries interrupted a b Q
 tries_as P Q t so = record { tries = t.tries; call = t.call; noted = t.noted; last = so t.call t.last; given_up = t.given_up }
 
-pub since_tries : (interrupted : Call) (a b c : List Call) (IsLast : Call → Type 0) → Since a b → Tries interrupted b c IsLast → Since a c
+pub since_tries : (interrupted : DeviceCall) (a b c : List DeviceCall) (IsLast : DeviceCall → Type 0) → Since a b → Tries interrupted b c IsLast → Since a c
 since_tries interrupted a b c IsLast first t =
     let parts = again_parts t.tries interrupted b in
     record {
@@ -84,8 +84,8 @@ since_tries interrupted a b c IsLast first t =
       noted = t.noted ∙ ap (λ cs. t.call ∷ cs) (parts.1 ∙ ap (λ cs. parts.0 ++ cs) first.noted ∙ sym (append_assoc parts.0 first.others a));
     }
 
-pub ends_tries : (interrupted : Call) (a b c : List Call) (IsLast Is : Call → Type 0) → Since a b → Tries interrupted b c IsLast
-    → ((call : Call) → IsLast call → Is call) → Ends Is a c
+pub ends_tries : (interrupted : DeviceCall) (a b c : List DeviceCall) (IsLast Is : DeviceCall → Type 0) → Since a b → Tries interrupted b c IsLast
+    → ((call : DeviceCall) → IsLast call → Is call) → EndsWithCall Is a c
 ends_tries interrupted a b c IsLast Is first t so =
     let parts = again_parts t.tries interrupted b in
     record {
@@ -95,7 +95,7 @@ ends_tries interrupted a b c IsLast Is first t so =
       last = so t.call t.last;
     }
 
-pub ends_since : (Is : Call → Type 0) (a b c : List Call) → Since a b → Ends Is b c → Ends Is a c
+pub ends_since : (Is : DeviceCall → Type 0) (a b c : List DeviceCall) → Since a b → EndsWithCall Is b c → EndsWithCall Is a c
 ends_since Is a b c first second = record {
   call = second.call;
   others = second.others ++ first.others;
@@ -104,15 +104,15 @@ ends_since Is a b c first second = record {
 }
 
 -- a write that failed has failed its writer
-pub write_fails : {A : Type 0} (bytes : List ℕ) (result : Result ℕ A) (e : A) → result ≡ Err e → (c : Call) → AnswersWrite bytes result c → IsWriteFailure c
+pub write_fails : {A : Type 0} (bytes : List ℕ) (result : Result ℕ A) (e : A) → result ≡ Err e → (c : DeviceCall) → AnswersWrite bytes result c → IsWriteFailure c
 write_fails bytes result e is c answers = rw is at answers
 
 -- a flush after other calls
-pub flush_ends : {E : Type 0} (result : Result ⊤ E) (a b c : List Call) → Since a b → Tries flush_interrupted b c (AnswersFlush result) → OnOk result (Ends IsFlush a c)
+pub flush_ends : {E : Type 0} (result : Result ⊤ E) (a b c : List DeviceCall) → Since a b → Tries flush_interrupted b c (AnswersFlush result) → OnOk result (EndsWithCall IsFlush a c)
 flush_ends (Ok x) a b c first t = ends_tries flush_interrupted a b c IsFlush IsFlush first t (λ call is. is)
 flush_ends (Err e) a b c first t = tt
 
-pub flush_fails : {E : Type 0} (result : Result ⊤ E) (a b c : List Call) → Since a b → Tries flush_interrupted b c (AnswersFlush result)
-    → OnErr result (Ends IsWriteFailure a c)
+pub flush_fails : {E : Type 0} (result : Result ⊤ E) (a b c : List DeviceCall) → Since a b → Tries flush_interrupted b c (AnswersFlush result)
+    → OnErr result (EndsWithCall IsWriteFailure a c)
 flush_fails (Ok x) a b c first t = tt
 flush_fails (Err e) a b c first t = ends_tries flush_interrupted a b c IsWriteFailure IsWriteFailure first t (λ call is. is)

@@ -4,7 +4,7 @@ use Rattle.std.specs.Prelude.{◌≡◌, ◌⊎◌, ◌∷◌, ℕ, ◌+◌, ◌
 use Rattle.std.specs.Io.KnownBytes.{Consumes, IsAtEnd}
 use Rattle.line_config.specs.Buffer.{bytes_in, piece_in, room_in}
 use Rattle.line_config.specs.Feed.{Feed}
-use Rattle.line_config.specs.Calls.{Call, Ends, IsReadFailure, Moves, Tries, move_interrupted}
+use Rattle.line_config.specs.DeviceCalls.{DeviceCall, EndsWithCall, IsReadFailure, Moves, Tries, move_interrupted}
 use Rattle.line_config.specs.Foretold.{is_failed}
 use Rattle.line_config.specs.Recorded.{calls_of, took, inner_of}
 use Rattle.line_config.specs.declared.adapters.ReadSource.{ReadSource}
@@ -15,15 +15,15 @@ use Rattle.line_config.specs.declared.device.Last.TheVariants.{End, Failed}
 use Rattle.line_config.specs.declared.recorded.Recorded.{Recorded}
 
 -- the reader with the log of its calls
-abbrev pub recorded_reader : {R K : Type 0} → ReadSource R K → Recorded R
-recorded_reader s = s.reader
+abbrev pub reader_with_log : {R K : Type 0} → ReadSource R K → Recorded R
+reader_with_log s = s.reader
 
 abbrev pub reader_of : {R K : Type 0} → ReadSource R K → R
 reader_of s = inner_of s.reader
 
 -- what was read and not given yet
-abbrev pub unread_of : {R K : Type 0} → ReadSource R K → List ℕ
-unread_of s = bytes_in s.unread
+abbrev pub bytes_not_given : {R K : Type 0} → ReadSource R K → List ℕ
+bytes_not_given s = bytes_in s.unread
 
 -- what its last read gave
 abbrev pub piece_of : {R K : Type 0} → ReadSource R K → List ℕ
@@ -34,8 +34,8 @@ abbrev pub gave : {R K : Type 0} → ReadSource R K → List ℕ
 gave s = took s.reader
 
 -- the end or the failure that a read met
-abbrev pub met : {R K : Type 0} → ReadSource R K → Option Last
-met s = s.met
+abbrev pub end_met : {R K : Type 0} → ReadSource R K → Option Last
+end_met s = s.met
 
 -- after an end or a failure nothing remains
 abbrev pub to_come : Option Last → List ℕ → List ℕ
@@ -62,76 +62,78 @@ source_feed told left last s =
 -- a source over this reader, from which nothing was read yet
 pub record IsUnread {R K : Type 0} (reader : R) (s : ReadSource R K) : Type 0 where
   pub reader_is : reader_of s ≡ reader
-  pub unread : unread_of s ≡ []
+  pub unread : bytes_not_given s ≡ []
   pub none_given : gave s ≡ []
-  pub not_called : calls_of (recorded_reader s) ≡ []
-  pub none_met : met s ≡ None
+  pub not_called : calls_of (reader_with_log s) ≡ []
+  pub none_met : end_met s ≡ None
 
 -- the byte of a call of a source
-abbrev pub given_by : Result (Option ℕ) DeviceFailed → List ℕ
-given_by (Ok byte) = option_to_list byte
-given_by (Err e) = []
+abbrev pub byte_given_by : Result (Option ℕ) DeviceFailed → List ℕ
+byte_given_by (Ok byte) = option_to_list byte
+byte_given_by (Err e) = []
 
 -- the end or the failure that a read met
-abbrev pub met_by : Call → Option Last
-met_by (Moves (Ok [])) = Some End
-met_by (Moves (Ok (byte ∷ bytes))) = None
-met_by (Moves (Err kind)) = Some Failed
-met_by call = None
+abbrev pub end_met_by : DeviceCall → Option Last
+end_met_by (Moves (Ok [])) = Some End
+end_met_by (Moves (Ok (byte ∷ bytes))) = None
+end_met_by (Moves (Err kind)) = Some Failed
+end_met_by call = None
 
 -- a source reads once, if nothing is unread and nothing was met; or not at all, and then it fails
 -- anew only after so many bytes
 abbrev pub ReadsOnce : {R K : Type 0} → ReadSource R K → ReadSource R K → Type 0
 ReadsOnce old new =
-    ((unread_of old ≡ []) × (met old ≡ None)
-    × Tries move_interrupted (calls_of (recorded_reader old)) (calls_of (recorded_reader new))
-    (λ call. met new ≡ met_by call))
-    ⊎ ((recorded_reader new ≡ recorded_reader old)
-    × ((met new ≡ met old) ⊎ ((met new ≡ Some Failed) × (2 ^ 63 - 4096 < length (gave old)))))
+    ((bytes_not_given old ≡ []) × (end_met old ≡ None)
+    × Tries move_interrupted (calls_of (reader_with_log old)) (calls_of (reader_with_log new))
+    (λ call. end_met new ≡ end_met_by call))
+    ⊎ ((reader_with_log new ≡ reader_with_log old)
+    × ((end_met new ≡ end_met old) ⊎
+    ((end_met new ≡ Some Failed) × (2 ^ 63 - 4096 < length (gave old)))))
 
 -- a source gave these bytes, from the front of what its reads gave. What is noted more is what the
 -- reader gave more, if the reader reports its bytes; at the end nothing of them was left. While
 -- something is unread the reader isn't called, nor after the end or a failure; otherwise it gives
 -- one piece
-pub record Asks {R K : Type 0} (remaining : R → Option (List ℕ)) (bytes : List ℕ)
+pub record AsksReader {R K : Type 0} (remaining : R → Option (List ℕ)) (bytes : List ℕ)
     (old new : ReadSource R K) : Type 0 where
   pub more : List ℕ
   pub noted : gave new ≡ gave old ++ more
-  pub passed : unread_of old ++ more ≡ bytes ++ unread_of new
+  pub passed : bytes_not_given old ++ more ≡ bytes ++ bytes_not_given new
   pub reader : Consumes (remaining (reader_of old)) (remaining (reader_of new)) more
-  pub lazy : 0 < length (unread_of old) → (more ≡ []) × (recorded_reader new ≡ recorded_reader old)
+  pub lazy : 0 < length (bytes_not_given old) → (more ≡ []) ×
+      (reader_with_log new ≡ reader_with_log old)
   pub once : 0 < length more → more ≡ piece_of new
-  pub end : met old ≡ None → met new ≡ Some End → IsAtEnd (remaining (reader_of new))
-  pub stays : (last : Last) → met old ≡ Some last
-      → (met new ≡ Some last) × (recorded_reader new ≡ recorded_reader old)
+  pub end : end_met old ≡ None → end_met new ≡ Some End → IsAtEnd (remaining (reader_of new))
+  pub stays : (last : Last) → end_met old ≡ Some last
+      → (end_met new ≡ Some last) × (reader_with_log new ≡ reader_with_log old)
 
 -- the writer with the log of what its writes took
-abbrev pub recorded_of : {W : Type 0} → WriteSink W → Recorded W
-recorded_of s = s.writer
+abbrev pub writer_with_log : {W : Type 0} → WriteSink W → Recorded W
+writer_with_log s = s.writer
 
 abbrev pub writer_of : {W : Type 0} → WriteSink W → W
 writer_of s = inner_of s.writer
 
 -- what the writer had before, if that is known, and what its writes took
-abbrev pub sent_of : {W : Type 0} → WriteSink W → List ℕ
-sent_of s = took s.writer
+abbrev pub bytes_sent : {W : Type 0} → WriteSink W → List ℕ
+bytes_sent s = took s.writer
 
 -- what was taken and not sent yet
-abbrev pub unsent_of : {W : Type 0} → WriteSink W → List ℕ
-unsent_of s = bytes_in s.unsent
+abbrev pub bytes_not_sent : {W : Type 0} → WriteSink W → List ℕ
+bytes_not_sent s = bytes_in s.unsent
 
 -- how many more bytes fit before any are sent
 abbrev pub room_of : {W : Type 0} → WriteSink W → ℕ
 room_of s = room_in s.unsent
 
 -- the same and what was not sent yet: all that the sink took
-abbrev pub taken : {W : Type 0} → WriteSink W → List ℕ
-taken s = sent_of s ++ unsent_of s
+abbrev pub bytes_taken : {W : Type 0} → WriteSink W → List ℕ
+bytes_taken s = bytes_sent s ++ bytes_not_sent s
 
 -- a sink over this writer that took nothing yet, so it has what the writer had
 pub record IsUnused {W : Type 0} (contents : W → Option (List ℕ)) (writer : W)
     (s : WriteSink W) : Type 0 where
   pub writer_is : writer_of s ≡ writer
-  pub sent : sent_of s ≡ unwrap_or (contents writer) []
-  pub unsent : unsent_of s ≡ []
-  pub not_called : calls_of (recorded_of s) ≡ []
+  pub sent : bytes_sent s ≡ unwrap_or (contents writer) []
+  pub unsent : bytes_not_sent s ≡ []
+  pub not_called : calls_of (writer_with_log s) ≡ []

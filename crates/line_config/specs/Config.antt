@@ -37,6 +37,7 @@ default_config = record {
   modal_commands = false;
   draw_colours = false;
   draw_tabs = false;
+  partial_redraw = false;
 }
 
 -- how many columns apart the stops are, if tabs are drawn
@@ -49,8 +50,8 @@ abbrev pub Sets : {H : Type 0} → (H → Config) → (H → Config → H) → (
 Sets settings with_settings change old new = new ≡ with_settings old (change (settings old))
 
 -- a builder of these settings
-abbrev pub built : Config → Builder
-built config = record { config = config }
+abbrev pub builder_of : Config → Builder
+builder_of config = record { config = config }
 
 -- which lines are left out if repeated ones are ignored, or not
 abbrev pub duplicates_of : Bool → HistoryDuplicates

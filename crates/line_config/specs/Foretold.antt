@@ -5,10 +5,11 @@ use Rattle.line_config.specs.declared.device.Last.{Last}
 use Rattle.line_config.specs.declared.device.Last.TheVariants.{End, Failed}
 
 -- what of all these bytes follows the given ones; nothing if those are no prefix of them
-unfoldable pub left_of : List ℕ → List ℕ → Option (List ℕ)
-left_of all [] = Some all
-left_of [] (byte ∷ given) = None
-left_of (next ∷ all) (byte ∷ given) = if next == byte then left_of all given else None
+unfoldable pub rest_after_given : List ℕ → List ℕ → Option (List ℕ)
+rest_after_given all [] = Some all
+rest_after_given [] (byte ∷ given) = None
+rest_after_given (next ∷ all) (byte ∷ given) = if next == byte then rest_after_given all given
+    else None
 
 -- whether reads that left this, and met this after them, agree with the assumption. An end or a
 -- failure that was met must be the assumed one, with nothing left before it
@@ -27,7 +28,7 @@ last_met (Some last) = last
 -- what reads gave, and the end or failure that they met, agree with themselves
 abbrev pub EachRunAgrees : Type 0
 EachRunAgrees = (given : List ℕ) (met : Option Last)
-    → IsTrue (agrees (left_of given given) (last_met met) met)
+    → IsTrue (agrees (rest_after_given given given) (last_met met) met)
 
 -- ---- what is said
 
@@ -48,7 +49,7 @@ pub record Meets {R : Type 0} (remaining : R → Option (List ℕ)) (r : R) (mor
 
 -- what is said held before such a read. Its bytes were the first of the remaining ones. After an end
 -- or a failure nothing remains, and it is the one that was said
-pub record Held {R : Type 0} (told : R → List ℕ → Option Last → Bool)
+pub record HeldBefore {R : Type 0} (told : R → List ℕ → Option Last → Bool)
     (left : R → List ℕ → List ℕ) (last : Last) (old new : R) (given more : List ℕ)
     (met : Option Last) : Type 0 where
   pub told_before : IsTrue (told old given None)
@@ -61,7 +62,7 @@ abbrev pub Foretells : {R : Type 0} → (R → Option (List ℕ)) → (R → Lis
 Foretells {R} remaining told left last =
     (old new : R) (given more : List ℕ) (met : Option Last)
     → Consumes (remaining old) (remaining new) more → Meets remaining new more met
-    → IsTrue (told new (given ++ more) met) → Held told left last old new given more met
+    → IsTrue (told new (given ++ more) met) → HeldBefore told left last old new given more met
 
 -- an end or a failure that was met is the one that was said
 abbrev pub EndsAsSaid : {R : Type 0} → (R → List ℕ → Option Last → Bool) → Last → Type 0
@@ -69,11 +70,11 @@ EndsAsSaid {R} told last = (r : R) (given : List ℕ) (met : Last)
     → IsTrue (told r given (Some met)) → met ≡ last
 
 -- said of any reader: it gives these bytes, and then this
-abbrev pub said_told : {R : Type 0} → List ℕ → Last → R → List ℕ → Option Last → Bool
-said_told all last r given met = agrees (left_of all given) last met
+abbrev pub agrees_as_said : {R : Type 0} → List ℕ → Last → R → List ℕ → Option Last → Bool
+agrees_as_said all last r given met = agrees (rest_after_given all given) last met
 
-abbrev pub said_left : {R : Type 0} → List ℕ → R → List ℕ → List ℕ
-said_left all r given = unwrap_or (left_of all given) []
+abbrev pub rest_as_said : {R : Type 0} → List ℕ → R → List ℕ → List ℕ
+rest_as_said all r given = unwrap_or (rest_after_given all given) []
 
 -- said of a reader that reports its bytes: it gives these, and doesn't fail
 abbrev pub own_told : {R : Type 0} → R → List ℕ → Option Last → Bool
@@ -85,7 +86,7 @@ own_left bytes r given = bytes r
 -- any bytes can be said of any reader
 abbrev pub AnyCanBeSaid : {R : Type 0} → (R → Option (List ℕ)) → Type 0
 AnyCanBeSaid {R} remaining = (all : List ℕ) (last : Last)
-    → Foretells remaining (said_told {R = R} all last) (said_left {R = R} all) last
+    → Foretells remaining (agrees_as_said {R = R} all last) (rest_as_said {R = R} all) last
 
 -- and of a reader that reports its bytes, these
 abbrev pub OwnBytesCanBeSaid : {R : Type 0} → (R → Option (List ℕ)) → (R → List ℕ) → Type 0

@@ -1,12 +1,10 @@
 pub mod Adapters
 pub mod Buffer
-pub mod Calls
+pub mod DeviceCalls
 pub mod Config
 pub mod Feed
 pub mod Foretold
-pub mod Played
 pub mod Recorded
 pub mod Refusals
 pub mod Said
-pub mod Scripts
 pub mod Sending

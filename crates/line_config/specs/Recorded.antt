@@ -1,7 +1,7 @@
 -- What contracts read of a reader or a writer whose calls are noted.
 use Rattle.std.specs.Prelude.{◌≡◌, ℕ, List, ◌++◌, Option}
 use Rattle.std.specs.Io.KnownBytes.{Appends}
-use Rattle.line_config.specs.Calls.{Call, Since}
+use Rattle.line_config.specs.DeviceCalls.{DeviceCall, Since}
 use Rattle.line_config.specs.declared.recorded.Recorded.{Recorded}
 
 -- what its reads gave; or what a writer had before, if that is known, and then what its writes took
@@ -9,7 +9,7 @@ abbrev pub took : {D : Type 0} → Recorded D → List ℕ
 took s = s.log.bytes
 
 -- its calls, the newest first
-abbrev pub calls_of : {D : Type 0} → Recorded D → List Call
+abbrev pub calls_of : {D : Type 0} → Recorded D → List DeviceCall
 calls_of s = s.log.calls
 
 abbrev pub inner_of : {D : Type 0} → Recorded D → D

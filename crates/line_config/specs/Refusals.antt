@@ -3,7 +3,7 @@ use Rattle.std.specs.Prelude.{◌≡◌, ℕ, List, Bool, true, false, IsFalse, 
 use Rattle.line_config.specs.declared.errors.ReadlineError.{ReadlineError}
 use Rattle.line_config.specs.declared.errors.ReadlineError.TheVariants.{Eof, Interrupted, NotUtf8, PasteOutOfPlace, Reader, Display, Lines, HistoryText, Helper, Handler, Memory}
 
--- what an error's Display writes
+-- an error's message, which its Display writes
 abbrev pub refusal_text : ReadlineError → List ℕ
 refusal_text Eof = codes "EOF"
 refusal_text Interrupted = codes "Interrupted"

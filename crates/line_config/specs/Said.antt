@@ -2,20 +2,22 @@
 use Rattle.std.specs.Prelude.{◌≡◌, ℕ, IsTrue, List, [], ◌∷◌, ◌++◌, Option, Some, None, refl, unwrap_or}
 use Rattle.std.proofs.Common.{ap, sym, ◌∙◌, arith}
 use Rattle.std.specs.Io.KnownBytes.{Consumes, IsAtEnd}
-use Rattle.line_config.specs.Foretold.{left_of, agrees, works, AnyCanBeSaid, OwnBytesCanBeSaid, EndsAsSaid, Meets, own_told, said_told}
+use Rattle.line_config.specs.Foretold.{rest_after_given, agrees, works, AnyCanBeSaid, OwnBytesCanBeSaid, EndsAsSaid, Meets, own_told, agrees_as_said}
 use Rattle.line_config.specs.declared.device.Last.{Last}
 use Rattle.line_config.specs.declared.device.Last.TheVariants.{End, Failed}
 
 -- what is left after some more bytes was left before them, after these
-left_front : (all bytes left : List ℕ) → left_of all bytes ≡ Some left → all ≡ bytes ++ left
-unfolding left_of
+left_front : (all bytes left : List ℕ) → rest_after_given all bytes ≡ Some left → all ≡ bytes
+    ++ left
+unfolding rest_after_given
 left_front all [] left is = cc
 left_front [] (b ∷ bytes) left is = absurd (cc)
 left_front (a ∷ all) (b ∷ bytes) left is = grind (arith, left_front all bytes left)
 
-pub left_before : (all given bytes left : List ℕ) → left_of all (given ++ bytes) ≡ Some left
-    → left_of all given ≡ Some (bytes ++ left)
-unfolding left_of
+pub left_before : (all given bytes left : List ℕ) → rest_after_given all (given ++ bytes)
+    ≡ Some left
+    → rest_after_given all given ≡ Some (bytes ++ left)
+unfolding rest_after_given
 left_before all [] bytes left is = ap Some (left_front all bytes left is)
 left_before [] (b ∷ given) bytes left is = absurd (cc)
 left_before (a ∷ all) (b ∷ given) bytes left is = grind (arith, left_before all given bytes left)
@@ -40,15 +42,17 @@ so_met left l last met x is-left is-met t =
     none_where l last x (let u : IsTrue (agrees (Some l) last (Some x)) = rw (is-left, is-met) at t in u)
 
 -- what agrees after some more bytes agreed before them, and these were the next ones
-said_before : (all given more l : List ℕ) (last : Last) → left_of all (given ++ more) ≡ Some l
-    → IsTrue (agrees (left_of all given) last None)
-    × (unwrap_or (left_of all given) [] ≡ more ++ unwrap_or (left_of all (given ++ more)) [])
+said_before : (all given more l : List ℕ) (last : Last) → rest_after_given all (given ++ more)
+    ≡ Some l
+    → IsTrue (agrees (rest_after_given all given) last None)
+    × (unwrap_or (rest_after_given all given) [] ≡ more ++ unwrap_or
+    (rest_after_given all (given ++ more)) [])
 said_before all given more l last is =
     let before = left_before all given more l is in (rw before refl, rw (before, is) refl)
 
 pub any_said : {R : Type 0} (remaining : R → Option (List ℕ)) → AnyCanBeSaid remaining
 any_said remaining all last old new given more met consumed meets t =
-    let l = left_where (left_of all (given ++ more)) last met t in
+    let l = left_where (rest_after_given all (given ++ more)) last met t in
     let before = said_before all given more l.0 last l.1 in
     record {
       told_before = before.0;
@@ -64,9 +68,9 @@ at_end met End is t = refl
 at_end met Failed is t = let u : IsTrue (works (Some Failed)) = rw is at t in absurd (cc)
 
 pub said_ends : {R : Type 0} (all : List ℕ) (last : Last)
-    → EndsAsSaid (said_told {R = R} all last) last
+    → EndsAsSaid (agrees_as_said {R = R} all last) last
 said_ends all last r given met t =
-    let l = left_where (left_of all given) last (Some met) t in
+    let l = left_where (rest_after_given all given) last (Some met) t in
     (so_met _ l.0 last (Some met) met l.1 refl t).1
 
 pub own_ends : {R : Type 0} → EndsAsSaid (own_told {R = R}) End

@@ -3,7 +3,7 @@ ghost use Rattle.std.specs.Prelude.{◌≡◌, ◌++◌, ◌+◌, ◌^◌, ◌�
 ghost use Rattle.std.specs.Io.KnownBytes.{Appends};
 ghost use Rattle.line_config.specs.Sending.{AppendsSome, Takes};
 ghost use Rattle.line_config.specs.Buffer.{bytes_in};
-ghost use Rattle.line_config.specs.Calls.{Ends, IsFlush, IsWriteFailure};
+ghost use Rattle.line_config.specs.DeviceCalls.{EndsWithCall, IsFlush, IsWriteFailure};
 ghost use Rattle.line_config.specs.Feed.{Fills, GivesByte, GivesBytes};
 ghost use Rattle.line_config.specs.Recorded.{Notes, took};
 ghost use Rattle.line_config.specs.declared.device.Last.TheVariants.{End, Failed};
@@ -54,7 +54,7 @@ impl<R: Read> ReadSource<R, Brand> {
 }
 
 impl<R: Read, K: Foretold<R>> ReadSource<R, K> {
-    ghost use Rattle.line_config.specs.Adapters.{Asks, ReadsOnce, IsUnread, reader_of, unread_of, met, source_feed};
+    ghost use Rattle.line_config.specs.Adapters.{AsksReader, ReadsOnce, IsUnread, reader_of, bytes_not_given, end_met, source_feed};
 
     /// A source that gives the bytes of the reader, of which `K` says what is assumed.
     pub fn foretold(reader: R) -> Self
@@ -74,19 +74,20 @@ impl<R: Read, K: Foretold<R>> ReadSource<R, K> {
     /// The reader, and the bytes that were read from it but not given yet.
     pub fn into_parts(self) -> (R, Buffer<READ_SIZE>)
         ensures reader { result.0 ≡ reader_of self }
-        ensures unread { bytes_in result.1 ≡ unread_of self }
+        ensures unread { bytes_in result.1 ≡ bytes_not_given self }
     {
         (self.reader.into_inner(), self.unread)
     }
 
     // Reads once, unless the end or a failure was met.
     fn fill(&mut self)
-        requires { unread_of self.old ≡ [] }
-        ensures reader { Asks R.remaining [] self.old self.new }
+        requires { bytes_not_given self.old ≡ [] }
+        ensures reader { AsksReader R.remaining [] self.old self.new }
         ensures told { Fills (source_feed K.told K.left K.last self.old)
-            (source_feed K.told K.left K.last self.new) (unread_of self.new) (met self.new) }
+            (source_feed K.told K.left K.last self.new) (bytes_not_given self.new)
+            (end_met self.new) }
         ensures once { ReadsOnce self.old self.new }
-        ensures met { unread_of self.new ≡ [] → IsTrue (is_some (met self.new)) }
+        ensures met { bytes_not_given self.new ≡ [] → IsTrue (is_some (end_met self.new)) }
     {
         if self.met.is_some() {
             return;
@@ -107,11 +108,12 @@ impl<R: Read, K: Foretold<R>> ReadSource<R, K> {
     }
 
     fn get_ready(&mut self)
-        ensures reader { Asks R.remaining [] self.old self.new }
+        ensures reader { AsksReader R.remaining [] self.old self.new }
         ensures told { Fills (source_feed K.told K.left K.last self.old)
-            (source_feed K.told K.left K.last self.new) (unread_of self.new) (met self.new) }
+            (source_feed K.told K.left K.last self.new) (bytes_not_given self.new)
+            (end_met self.new) }
         ensures once { ReadsOnce self.old self.new }
-        ensures met { unread_of self.new ≡ [] → IsTrue (is_some (met self.new)) }
+        ensures met { bytes_not_given self.new ≡ [] → IsTrue (is_some (end_met self.new)) }
     {
         if self.unread.is_empty() {
             self.fill();
@@ -120,11 +122,11 @@ impl<R: Read, K: Foretold<R>> ReadSource<R, K> {
 }
 
 impl<R: Read, K: Foretold<R>> Source for ReadSource<R, K> {
-    ghost use Rattle.line_config.specs.Adapters.{Asks, ReadsOnce, recorded_reader, gave, given_by, met, source_feed, unread_of};
+    ghost use Rattle.line_config.specs.Adapters.{AsksReader, ReadsOnce, reader_with_log, gave, byte_given_by, end_met, source_feed, bytes_not_given};
 
     ghost feed = { λ s. source_feed K.told K.left K.last s };
 
-    ghost buffered = { unread_of };
+    ghost buffered = { bytes_not_given };
 
     fn next_byte(&mut self) -> Result<Option<u8>, DeviceFailed>
         ensures byte { GivesByte (source_feed K.told K.left K.last self.old)
@@ -132,9 +134,11 @@ impl<R: Read, K: Foretold<R>> Source for ReadSource<R, K> {
 
         // The byte is the next one that was read. The end or a failure that a read met is returned
         // once no byte is left.
-        ensures reader { Asks R.remaining (given_by result) self.old self.new }
-        ensures end { result ≡ Ok None → (unread_of self.new ≡ []) × (met self.new ≡ Some End) }
-        ensures fault { OnErr result ((unread_of self.new ≡ []) × (met self.new ≡ Some Failed)) }
+        ensures reader { AsksReader R.remaining (byte_given_by result) self.old self.new }
+        ensures end { result ≡ Ok None → (bytes_not_given self.new ≡ []) ×
+            (end_met self.new ≡ Some End) }
+        ensures fault { OnErr result
+            ((bytes_not_given self.new ≡ []) × (end_met self.new ≡ Some Failed)) }
         ensures once { ReadsOnce self.old self.new }
     {
         self.get_ready();
@@ -150,15 +154,15 @@ impl<R: Read, K: Foretold<R>> Source for ReadSource<R, K> {
     }
 
     fn consume(&mut self, amount: usize)
-        requires { amount ≤ length (unread_of self.old) }
+        requires { amount ≤ length (bytes_not_given self.old) }
         ensures bytes { GivesBytes (source_feed K.told K.left K.last self.old)
-            (source_feed K.told K.left K.last self.new) (take amount (unread_of self.old)) }
+            (source_feed K.told K.left K.last self.new) (take amount (bytes_not_given self.old)) }
 
         // No read is made.
-        ensures unread { unread_of self.new ≡ drop amount (unread_of self.old) }
+        ensures unread { bytes_not_given self.new ≡ drop amount (bytes_not_given self.old) }
         ensures gave { gave self.new ≡ gave self.old }
-        ensures met { met self.new ≡ met self.old }
-        ensures reader { recorded_reader self.new ≡ recorded_reader self.old }
+        ensures met { end_met self.new ≡ end_met self.old }
+        ensures reader { reader_with_log self.new ≡ reader_with_log self.old }
     {
         self.unread.consume(amount);
     }
@@ -181,7 +185,7 @@ pub struct WriteSink<W> {
 }
 
 impl<W: Write> WriteSink<W> {
-    ghost use Rattle.line_config.specs.Adapters.{IsUnused, recorded_of, writer_of, unsent_of, room_of, taken};
+    ghost use Rattle.line_config.specs.Adapters.{IsUnused, writer_with_log, writer_of, bytes_not_sent, room_of, bytes_taken};
     ghost use Rattle.line_config.specs.Recorded.{calls_of};
 
     /// A sink that sends to the writer.
@@ -199,7 +203,7 @@ impl<W: Write> WriteSink<W> {
     /// The writer, and the bytes that were taken but not sent to it yet.
     pub fn into_parts(self) -> (W, Buffer<WRITE_SIZE>)
         ensures writer { result.0 ≡ writer_of self }
-        ensures unsent { bytes_in result.1 ≡ unsent_of self }
+        ensures unsent { bytes_in result.1 ≡ bytes_not_sent self }
     {
         (self.writer.into_inner(), self.unsent)
     }
@@ -207,16 +211,18 @@ impl<W: Write> WriteSink<W> {
     // Buffers as many of the bytes as fit, and returns their number. If the buffer is full, it is
     // sent first.
     fn gather(&mut self, bytes: &[u8]) -> Result<usize, DeviceFailed>
-        ensures ok { IfOk result (λ n. Takes taken self.old self.new (take n bytes.now)) }
-        ensures err { OnErr result (taken self.new ≡ taken self.old) }
-        ensures writer { Notes W.contents (recorded_of self.old) (recorded_of self.new) }
+        ensures ok { IfOk result (λ n. Takes bytes_taken self.old self.new (take n bytes.now)) }
+        ensures err { OnErr result (bytes_taken self.new ≡ bytes_taken self.old) }
+        ensures writer { Notes W.contents (writer_with_log self.old) (writer_with_log self.new) }
         ensures bound { IfOk result (λ n. n ≤ length bytes.now) }
         ensures some { IfOk result (λ n. 0 < length bytes.now → 0 < n) }
         ensures room { IfOk result (λ n. room_of self.old ≤ room_of self.new + n) }
         ensures refused { OnErr result (room_of self.old ≡ 0) }
-        ensures cause { OnErr result (Ends IsWriteFailure (calls_of (recorded_of self.old))
-            (calls_of (recorded_of self.new))) }
-        ensures waiting { 0 < room_of self.old → recorded_of self.new ≡ recorded_of self.old }
+        ensures cause { OnErr result
+            (EndsWithCall IsWriteFailure (calls_of (writer_with_log self.old))
+            (calls_of (writer_with_log self.new))) }
+        ensures waiting { 0 < room_of self.old → writer_with_log self.new
+            ≡ writer_with_log self.old }
     {
         if self.unsent.is_full() {
             self.unsent.send_to(&mut self.writer)?;
@@ -224,15 +230,17 @@ impl<W: Write> WriteSink<W> {
         Ok(self.unsent.append(bytes))
     }
 
-    fn gather_all(&mut self, bytes: &[u8]) -> Result<(), DeviceFailed>
-        ensures ok { OnOk result (Takes taken self.old self.new bytes.now) }
-        ensures begins { AppendsSome (taken self.old) bytes.now (taken self.new) }
-        ensures writer { Notes W.contents (recorded_of self.old) (recorded_of self.new) }
+    #[inline(never)]
+    fn gather_pieces(&mut self, bytes: &[u8]) -> Result<(), DeviceFailed>
+        ensures ok { OnOk result (Takes bytes_taken self.old self.new bytes.now) }
+        ensures begins { AppendsSome (bytes_taken self.old) bytes.now (bytes_taken self.new) }
+        ensures writer { Notes W.contents (writer_with_log self.old) (writer_with_log self.new) }
         ensures refused { OnErr result (room_of self.old < length bytes.now) }
-        ensures cause { OnErr result (Ends IsWriteFailure (calls_of (recorded_of self.old))
-            (calls_of (recorded_of self.new))) }
+        ensures cause { OnErr result
+            (EndsWithCall IsWriteFailure (calls_of (writer_with_log self.old))
+            (calls_of (writer_with_log self.new))) }
         ensures waiting { length bytes.now ≤ room_of self.old
-            → recorded_of self.new ≡ recorded_of self.old }
+            → writer_with_log self.new ≡ writer_with_log self.old }
     {
         let mut rest = bytes;
         while !rest.is_empty() {
@@ -242,16 +250,37 @@ impl<W: Write> WriteSink<W> {
         Ok(())
     }
 
+    // Buffers all bytes. Those that fit, as most do, are one copy.
+    fn gather_all(&mut self, bytes: &[u8]) -> Result<(), DeviceFailed>
+        ensures ok { OnOk result (Takes bytes_taken self.old self.new bytes.now) }
+        ensures begins { AppendsSome (bytes_taken self.old) bytes.now (bytes_taken self.new) }
+        ensures writer { Notes W.contents (writer_with_log self.old) (writer_with_log self.new) }
+        ensures refused { OnErr result (room_of self.old < length bytes.now) }
+        ensures cause { OnErr result
+            (EndsWithCall IsWriteFailure (calls_of (writer_with_log self.old))
+            (calls_of (writer_with_log self.new))) }
+        ensures waiting { length bytes.now ≤ room_of self.old
+            → writer_with_log self.new ≡ writer_with_log self.old }
+    {
+        if bytes.len() <= self.unsent.room() {
+            self.unsent.append(bytes);
+            return Ok(());
+        }
+        self.gather_pieces(bytes)
+    }
+
     // Sends the buffered bytes, and flushes the writer.
     #[tactic(auto, using(crate::proofs::NotesLemmas::on_notes))]
     fn send(&mut self) -> Result<(), DeviceFailed>
-        ensures takes { taken self.new ≡ taken self.old }
-        ensures sent { OnOk result (unsent_of self.new ≡ []) }
-        ensures writer { Notes W.contents (recorded_of self.old) (recorded_of self.new) }
+        ensures takes { bytes_taken self.new ≡ bytes_taken self.old }
+        ensures sent { OnOk result (bytes_not_sent self.new ≡ []) }
+        ensures writer { Notes W.contents (writer_with_log self.old) (writer_with_log self.new) }
         ensures flushed { OnOk result
-            (Ends IsFlush (calls_of (recorded_of self.old)) (calls_of (recorded_of self.new))) }
-        ensures cause { OnErr result (Ends IsWriteFailure (calls_of (recorded_of self.old))
-            (calls_of (recorded_of self.new))) }
+            (EndsWithCall IsFlush (calls_of (writer_with_log self.old))
+            (calls_of (writer_with_log self.new))) }
+        ensures cause { OnErr result
+            (EndsWithCall IsWriteFailure (calls_of (writer_with_log self.old))
+            (calls_of (writer_with_log self.new))) }
     {
         self.unsent.send_to(&mut self.writer)?;
         flush_retrying(&mut self.writer)
@@ -259,34 +288,34 @@ impl<W: Write> WriteSink<W> {
 }
 
 impl<W: Write> Sink for WriteSink<W> {
-    ghost use Rattle.line_config.specs.Adapters.{recorded_of, writer_of, sent_of, unsent_of, room_of, taken};
+    ghost use Rattle.line_config.specs.Adapters.{writer_with_log, writer_of, bytes_sent, bytes_not_sent, room_of, bytes_taken};
     ghost use Rattle.line_config.specs.Recorded.{calls_of};
 
-    ghost held = { taken };
+    ghost held = { bytes_taken };
 
-    ghost waits = { unsent_of };
+    ghost waits = { bytes_not_sent };
 
     ghost has_failed = { λ s. s.failed };
 
     fn write(&mut self, bytes: &[u8]) -> Result<(), DeviceFailed>
-        ensures ok { OnOk result (taken self.new ≡ taken self.old ++ bytes.now) }
-        ensures begins { AppendsSome (taken self.old) bytes.now (taken self.new) }
+        ensures ok { OnOk result (bytes_taken self.new ≡ bytes_taken self.old ++ bytes.now) }
+        ensures begins { AppendsSome (bytes_taken self.old) bytes.now (bytes_taken self.new) }
         ensures failure { self.new.failed ≡ is_err result }
         ensures for_good { IsTrue self.old.failed → IsErr result }
 
         // If the writer reports its bytes, it has taken what its writes are noted to have taken.
-        ensures writer { Notes W.contents (recorded_of self.old) (recorded_of self.new) }
+        ensures writer { Notes W.contents (writer_with_log self.old) (writer_with_log self.new) }
 
         // Bytes that fit into the array are buffered: the writer isn't called, so nothing can fail.
         ensures refused { OnErr result (self.old.failed ≡ false
             → room_of self.old < length bytes.now) }
         ensures waiting { length bytes.now ≤ room_of self.old
-            → recorded_of self.new ≡ recorded_of self.old }
+            → writer_with_log self.new ≡ writer_with_log self.old }
 
         // It fails if the writer's last call failed, and then for good: it makes no more calls.
         ensures cause { OnErr result (self.old.failed ≡ false
-            → Ends IsWriteFailure (calls_of (recorded_of self.old))
-            (calls_of (recorded_of self.new))) }
+            → EndsWithCall IsWriteFailure (calls_of (writer_with_log self.old))
+            (calls_of (writer_with_log self.new))) }
         ensures rests { IsTrue self.old.failed → self.new ≡ self.old }
     {
         if self.failed {
@@ -300,23 +329,24 @@ impl<W: Write> Sink for WriteSink<W> {
 
     #[tactic(auto, using(crate::proofs::NotesLemmas::on_notes))]
     fn flush(&mut self) -> Result<(), DeviceFailed>
-        ensures held { taken self.new ≡ taken self.old }
+        ensures held { bytes_taken self.new ≡ bytes_taken self.old }
         ensures failure { self.new.failed ≡ is_err result }
         ensures for_good { IsTrue self.old.failed → IsErr result }
-        ensures writer { Notes W.contents (recorded_of self.old) (recorded_of self.new) }
+        ensures writer { Notes W.contents (writer_with_log self.old) (writer_with_log self.new) }
 
         // Then the writer itself has all bytes, and the array none.
-        ensures waits { OnOk result (unsent_of self.new ≡ []) }
-        ensures passed_on { OnOk result (sent_of self.new ≡ taken self.old) }
+        ensures waits { OnOk result (bytes_not_sent self.new ≡ []) }
+        ensures passed_on { OnOk result (bytes_sent self.new ≡ bytes_taken self.old) }
         ensures told { OnOk result (Appends (W.contents (writer_of self.old))
-            (W.contents (writer_of self.new)) (unsent_of self.old)) }
+            (W.contents (writer_of self.new)) (bytes_not_sent self.old)) }
         ensures flushed { OnOk result
-            (Ends IsFlush (calls_of (recorded_of self.old)) (calls_of (recorded_of self.new))) }
+            (EndsWithCall IsFlush (calls_of (writer_with_log self.old))
+            (calls_of (writer_with_log self.new))) }
 
         // It fails if the writer's last call failed, and then for good: it makes no more calls.
         ensures cause { OnErr result (self.old.failed ≡ false
-            → Ends IsWriteFailure (calls_of (recorded_of self.old))
-            (calls_of (recorded_of self.new))) }
+            → EndsWithCall IsWriteFailure (calls_of (writer_with_log self.old))
+            (calls_of (writer_with_log self.new))) }
         ensures rests { IsTrue self.old.failed → self.new ≡ self.old }
     {
         if self.failed {

@@ -1,7 +1,7 @@
 //! The fixed array of an adapter: its content is between two places of the array.
 ghost use Rattle.std.specs.Prelude.{◌≡◌, IsTrue, ◌+◌, ◌-◌, ◌≤◌, ◌<◌, [], ◌++◌, length, take, drop, min, option_to_list, OnOk, OnErr, IsNone, ◌↔◌};
 ghost use Rattle.std.specs.Io.KnownBytes.{Consumes, IsAtEnd};
-ghost use Rattle.line_config.specs.Calls.{Ends, FillsBy, IsWriteFailure, Tries, move_interrupted};
+ghost use Rattle.line_config.specs.DeviceCalls.{EndsWithCall, FillsBy, IsWriteFailure, Tries, move_interrupted};
 ghost use Rattle.line_config.specs.Recorded.{Notes, calls_of, inner_of, took};
 
 use crate::device::DeviceFailed;
@@ -52,6 +52,13 @@ impl<const N: usize> Buffer<N> {
         ensures { IsTrue result ↔ (room_in self.now ≡ 0) }
     {
         self.end == N
+    }
+
+    /// How many more bytes fit.
+    pub(crate) fn room(&self) -> usize
+        ensures { result ≡ room_in self.now }
+    {
+        N - self.end
     }
 
     /// Removes and returns the first byte.
@@ -118,7 +125,7 @@ impl<const N: usize> Buffer<N> {
         ensures sent { OnOk result (bytes_in self.new ≡ []) }
         ensures room { OnOk result (room_in self.new ≡ N) }
         ensures cause { OnErr result
-            (Ends IsWriteFailure (calls_of writer.old) (calls_of writer.new)) }
+            (EndsWithCall IsWriteFailure (calls_of writer.old) (calls_of writer.new)) }
     {
         while self.start < self.end {
             let count = write_retrying(writer, self.as_slice())?;

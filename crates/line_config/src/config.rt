@@ -34,6 +34,7 @@ pub struct Config {
     pub(crate) modal_commands: bool,
     pub(crate) draw_colours: bool,
     pub(crate) draw_tabs: bool,
+    pub(crate) partial_redraw: bool,
 }
 
 impl Config {
@@ -200,6 +201,13 @@ impl Config {
         self.draw_tabs
     }
 
+    /// Whether a change of a line may be shown by a part of its drawing.
+    pub fn partial_redraw(&self) -> bool
+        ensures { result ≡ self.now.partial_redraw }
+    {
+        self.partial_redraw
+    }
+
     /// How many columns apart the stops are, if tabs are drawn.
     pub fn drawn_tab_stop(&self) -> Option<u8>
         ensures { result ≡ drawn_tab_stop self.now }
@@ -239,6 +247,7 @@ impl Default for Config {
             modal_commands: false,
             draw_colours: false,
             draw_tabs: false,
+            partial_redraw: false,
         }
     }
 }

@@ -204,6 +204,14 @@ pub trait Configurer {
         self.config_mut().draw_tabs = yes;
     }
 
+    /// Sets whether a change of a line may be shown by a part of its drawing.
+    fn set_partial_redraw(&mut self, yes: bool)
+        ensures { Sets settings with_settings (λ c. record c { partial_redraw = yes })
+            self.old self.new }
+    {
+        self.config_mut().partial_redraw = yes;
+    }
+
     // Settings are read as they were set.
     ghost settings_as_set: { (holder : Self) (config : Config)
         → settings (with_settings holder config) ≡ config };

@@ -41,11 +41,12 @@ pub enum ReadlineError {
     Memory,
 }
 
-impl fmt::Display for ReadlineError {
-    ghost output = { λ refusal. Some (refusal_text refusal) };
-
-    fn fmt<W: fmt::Write>(&self, f: &mut fmt::Formatter<W>) -> fmt::Result {
-        f.write_str(match self {
+impl ReadlineError {
+    /// The message of the error.
+    pub fn text(self) -> &'static str
+        ensures { result.now ≡ refusal_text self }
+    {
+        match self {
             ReadlineError::Eof => "EOF",
             ReadlineError::Interrupted => "Interrupted",
             ReadlineError::NotUtf8 => "input is not UTF-8",
@@ -57,7 +58,15 @@ impl fmt::Display for ReadlineError {
             ReadlineError::Helper => "helper failed",
             ReadlineError::Handler => "handler failed",
             ReadlineError::Memory => "out of memory",
-        })
+        }
+    }
+}
+
+impl fmt::Display for ReadlineError {
+    ghost output = { λ refusal. Some (refusal_text refusal) };
+
+    fn fmt<W: fmt::Write>(&self, f: &mut fmt::Formatter<W>) -> fmt::Result {
+        f.write_str(self.text())
     }
 }
 

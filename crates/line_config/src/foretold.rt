@@ -2,7 +2,7 @@
 ghost use Rattle.std.specs.Prelude.{◌≡◌, ℕ, List, [], Bool, Option, Some, refl};
 ghost use Rattle.line_config.specs.declared.device.Last.{Last};
 ghost use Rattle.line_config.specs.declared.device.Last.TheVariants.{End};
-ghost use Rattle.line_config.specs.Foretold.{EndsAsSaid, Foretells, own_left, own_told, said_left, said_told};
+ghost use Rattle.line_config.specs.Foretold.{EndsAsSaid, Foretells, own_left, own_told, rest_as_said, agrees_as_said};
 ghost use Rattle.line_config.specs.Said.{any_said, own_ends, own_said, said_ends};
 
 use std::io::Read;
@@ -29,9 +29,9 @@ pub trait Foretold<R: Read> {
 
 /// Of any reader: it gives these bytes. A proof may say others, and another end.
 impl<R: Read> Foretold<R> for Brand {
-    ghost told = { said_told [] End };
+    ghost told = { agrees_as_said [] End };
 
-    ghost left = { said_left [] };
+    ghost left = { rest_as_said [] };
 
     ghost last = { End };
 

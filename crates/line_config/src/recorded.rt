@@ -2,7 +2,7 @@
 ghost use Rattle.std.specs.Prelude.{◌≡◌, ◌∷◌, ◌++◌, [], Some, unwrap_or};
 ghost use Rattle.std.specs.Io.{ReadsAtMost, WritesAtMost};
 ghost use Rattle.std.specs.Io.KnownBytes.{Keeps, ReadConsumes, WriteAppends};
-ghost use Rattle.line_config.specs.Calls.{flushes, moved, moves};
+ghost use Rattle.line_config.specs.DeviceCalls.{flushes, bytes_moved, moves};
 
 use crate::log::Log;
 use std::io::{Read, Result, Write};
@@ -66,7 +66,7 @@ impl<R: Read> Read for Recorded<R> {
         // If the reader below reports its bytes, it has given these and no others.
         ensures bytes { ReadConsumes (R.remaining (inner_of self.old))
             (R.remaining (inner_of self.new)) result buf.new }
-        ensures took { took self.new ≡ took self.old ++ moved result buf.new }
+        ensures took { took self.new ≡ took self.old ++ bytes_moved result buf.new }
         ensures noted { calls_of self.new ≡ moves result buf.new ∷ calls_of self.old }
     {
         let given = self.device.read(buf);

@@ -6,8 +6,8 @@
 ghost use Rattle.std.specs.Prelude.{◌≡◌, ◌++◌, ◌<◌, ◌≤◌, length, take, Ok, Err, OnErr, IfOk, IsTrue, ◌↔◌};
 ghost use Rattle.std.specs.Io.KnownBytes.{ReadConsumes};
 ghost use Rattle.std.specs.IoError.{error_kind};
-ghost use Rattle.line_config.specs.Calls.{Tries, flush_interrupted, move_interrupted, moved};
-ghost use Rattle.line_config.specs.Calls.{AnswersFlush, AnswersRead, AnswersWrite};
+ghost use Rattle.line_config.specs.DeviceCalls.{Tries, flush_interrupted, move_interrupted, bytes_moved};
+ghost use Rattle.line_config.specs.DeviceCalls.{AnswersFlush, AnswersRead, AnswersWrite};
 ghost use Rattle.line_config.specs.Recorded.{Notes, calls_of, inner_of, took};
 
 use crate::device::DeviceFailed;
@@ -32,7 +32,7 @@ pub(crate) fn read_retrying<R: Read>(
     ensures bound { IfOk result (λ n. n ≤ length buf.new) }
     ensures reader { ReadConsumes (R.remaining (inner_of reader.old))
         (R.remaining (inner_of reader.new)) result buf.new }
-    ensures took { took reader.new ≡ took reader.old ++ moved result buf.new }
+    ensures took { took reader.new ≡ took reader.old ++ bytes_moved result buf.new }
     ensures tries { Tries move_interrupted (calls_of reader.old) (calls_of reader.new)
         (AnswersRead buf.new result) }
 {

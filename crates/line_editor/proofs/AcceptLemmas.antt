@@ -4,11 +4,11 @@ use Rattle.std.specs.Prelude.{Result, Ok, Err, IsErrAnd}
 use Rattle.line_buffer.specs.Line.{Line}
 use Rattle.line_config.specs.declared.errors.ReadlineError.{ReadlineError}
 use Rattle.line_help.specs.declared.completion as completions
-use Rattle.line_help.specs.declared.hint as hints
-use Rattle.line_help.specs.declared.highlight as highlights
-use Rattle.line_help.specs.declared.validate as verdicts
+use Rattle.line_help.specs.declared.helpers.hint as hints
+use Rattle.line_help.specs.declared.helpers.highlight as highlights
+use Rattle.line_help.specs.declared.helpers.validate as verdicts
 use Rattle.line_help.specs.declared.history as histories
-use Rattle.line_help.specs.declared.validate.ValidationResult.{ValidationResult}
+use Rattle.line_help.specs.declared.helpers.validate.ValidationResult.{ValidationResult}
 use Rattle.line_editor.specs.Accepting.{accept, verdict, accepts, accepts_found, newline_if, accept_or_insert}
 use Rattle.line_editor.specs.States.{value_of, setting_of, Does}
 use Rattle.line_editor.specs.Values.{Value, Setting, Transition, then_do}

@@ -5,19 +5,19 @@ use Rattle.std.proofs.lemmas.List.{append_assoc, map_more, flat_map_more}
 use Rattle.line_config.specs.declared.errors.ReadlineError.{ReadlineError}
 use Rattle.line_help.specs.Completion.{Offered, Completion}
 use Rattle.line_help.specs.declared.completion as completions
-use Rattle.line_help.specs.declared.hint as hints
-use Rattle.line_help.specs.declared.highlight as highlights
-use Rattle.line_help.specs.declared.validate as verdicts
+use Rattle.line_help.specs.declared.helpers.hint as hints
+use Rattle.line_help.specs.declared.helpers.highlight as highlights
+use Rattle.line_help.specs.declared.helpers.validate as verdicts
 use Rattle.line_help.specs.declared.history as histories
 use Rattle.line_keys.specs.declared.command.Cmd.{Cmd}
 use Rattle.line_keys.specs.declared.command.CmdKind.TheVariants.{Other}
 use Rattle.line_editor.specs.Candidates.{rows_of, list_text, list_shown}
 use Rattle.line_editor.specs.Completing.{candidates_given, candidates_asked}
-use Rattle.line_editor.specs.Drawing.{told}
-use Rattle.line_editor.specs.Meeting.{then_meets}
+use Rattle.line_editor.specs.Drawing.{message_effect}
+use Rattle.line_editor.specs.ModalCommands.{then_meets}
 use Rattle.line_editor.specs.Modal.{Modal, Meeting, next_of}
 use Rattle.line_editor.specs.States.{value_of, setting_of, fails_by, IsHelpFault, Does}
-use Rattle.line_editor.specs.Turning.{MeetsAs}
+use Rattle.line_editor.specs.Turn.{MeetsAs}
 use Rattle.line_editor.specs.Values.{Value, Setting, Transition, then_do, completion_reply}
 use Rattle.line_editor.specs.declared.modal_state.Next.{Next}
 use Rattle.line_editor.specs.declared.renderer as renderers
@@ -56,9 +56,9 @@ module _ {Out H Hi K T : Type 0} {renderer : renderers.Renderer.Ghosts Out} {com
 
   -- a list is drawn
   pub list_drawn : {A : Type 0} (limit : ℕ) (candidates : List Offered) (text : List ℕ) (s t : State Out H Hi K T renderer completer candidate hinter hint highlighter validator history) (result : Result A ReadlineError)
-      → text ≡ list_text limit candidates → Does (told (Some text) Other) s t result → Does (list_shown limit candidates) s t result
+      → text ≡ list_text limit candidates → Does (message_effect (Some text) Other) s t result → Does (list_shown limit candidates) s t result
   list_drawn {A} limit candidates text s t result is h =
-      taken_then (told (Some (list_text limit candidates)) Other) s t result (subst (λ x. Does {A = A} (told (Some x) Other) s t result) is h)
+      taken_then (message_effect (Some (list_text limit candidates)) Other) s t result (subst (λ x. Does {A = A} (message_effect (Some x) Other) s t result) is h)
 
   -- an edit, and then what is made of a command
   met_same : {B : Type 0} (first : Transition) (met : Setting → Value → Meeting) (s m : State Out H Hi K T renderer completer candidate hinter hint highlighter validator history) (y : B) → Does first s m (Ok y)

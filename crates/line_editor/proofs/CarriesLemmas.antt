@@ -2,29 +2,29 @@
 use Rattle.std.proofs.Common.{◌≡◌, inl, inr, ℕ, zero, suc, ◌<◌, ◌≤◌, List, refl, sym, ap, subst, ◌∙◌, IsTrue, arith, le_refl}
 use Rattle.std.specs.Prelude.{Result, Ok, Err, IfErr, OnOk, IsErrAnd}
 use Rattle.line_config.specs.declared.errors.ReadlineError.{ReadlineError}
-use Rattle.line_config.specs.Scripts.{Ends, Asks, World, Goes}
-use Rattle.line_config.proofs.ScriptLaws.{then_goes, then_cut}
+use Rattle.script.specs.Scripts.{Ends, Asks, World, Goes}
+use Rattle.script.proofs.ScriptLaws.{then_goes, then_cut}
 use Rattle.line_help.specs.declared.completion as completions
-use Rattle.line_help.specs.declared.hint as hints
-use Rattle.line_help.specs.declared.highlight as highlights
-use Rattle.line_help.specs.declared.validate as verdicts
+use Rattle.line_help.specs.declared.helpers.hint as hints
+use Rattle.line_help.specs.declared.helpers.highlight as highlights
+use Rattle.line_help.specs.declared.helpers.validate as verdicts
 use Rattle.line_help.specs.declared.history as histories
-use Rattle.line_keys.specs.Answers.{Custom, custom_of}
+use Rattle.line_keys.specs.CustomBindings.{Custom, custom_of}
 use Rattle.line_keys.specs.Handling.{Meaning}
 use Rattle.line_keys.specs.InputStates.{custom_in}
 use Rattle.line_keys.specs.declared.keymap.InputState.{InputState}
 use Rattle.line_keys.specs.Coming.{Coming}
-use Rattle.line_keys.specs.Feeds.{KeyFeed}
-use Rattle.line_keys.specs.Phrases.{Input}
+use Rattle.line_keys.specs.KeyFeeds.{KeyFeed}
+use Rattle.line_keys.specs.PhraseScripts.{Input}
 use Rattle.line_record.specs.Ring.{Ring}
-use Rattle.line_editor.specs.Accepting.{submitted}
-use Rattle.line_editor.specs.Drawing.{refreshed}
-use Rattle.line_editor.specs.LineScripts.{line_begun, LineAsk, LineAnswer, LineScript, Makes, LineStage, kept, turned_on, turn_script, turns_script, line_script}
-use Rattle.line_editor.specs.Running.{text_or}
+use Rattle.line_editor.specs.Accepting.{submit_effect}
+use Rattle.line_editor.specs.Drawing.{refresh_effect}
+use Rattle.line_editor.specs.LineScripts.{line_begun, LineAsk, LineAnswer, LineScript, Makes, LineStage, line_state, line_script_after, turn_script, turns_script, line_script}
+use Rattle.line_editor.specs.LineRun.{text_or}
 use Rattle.line_editor.specs.Modal.{Modal}
 use Rattle.line_editor.specs.States.{value_of, Reason, Stays, Does}
-use Rattle.line_editor.specs.Turning.{Cause, Takes, stage_of, world_of}
-use Rattle.line_editor.specs.Values.{Value, Transition, taking_memory}
+use Rattle.line_editor.specs.Turn.{Cause, Takes, stage_of, world_of}
+use Rattle.line_editor.specs.Values.{Value, Transition, memory_effect}
 use Rattle.line_editor.specs.declared.commands.Status.{Status}
 use Rattle.line_editor.specs.declared.commands.Status.TheVariants.{Proceed, Submit}
 use Rattle.line_editor.specs.declared.renderer as renderers
@@ -63,13 +63,13 @@ on_ok (Err e) text h = tt
 
 module _ {R : Type 0} (w : World LineAsk LineAnswer (LineStage R) ReadlineError) (n : ℕ) (custom : Custom) where
   pub turns_on : (status : Status) (result : Result (List ℕ) ReadlineError) (x y z : LineStage R) → Goes w (turn_script (suc n) custom) x (Ok status) y
-      → Goes w (turned_on (turns_script n custom) status) y result z → Goes w (turns_script (suc n) custom) x result z
+      → Goes w (line_script_after (turns_script n custom) status) y result z → Goes w (turns_script (suc n) custom) x result z
   unfolding turns_script
-  turns_on status result x y z first rest = then_goes w (turn_script (suc n) custom) (turned_on (turns_script n custom)) status result x y z first rest
+  turns_on status result x y z first rest = then_goes w (turn_script (suc n) custom) (line_script_after (turns_script n custom)) status result x y z first rest
 
   pub turns_ended : (e : ReadlineError) (x y : LineStage R) → Goes w (turn_script (suc n) custom) x (Err e) y → Goes w (turns_script (suc n) custom) x (Err e) y
   unfolding turns_script
-  turns_ended e x y first = then_cut w (turn_script (suc n) custom) (turned_on (turns_script n custom)) e x y first
+  turns_ended e x y first = then_cut w (turn_script (suc n) custom) (line_script_after (turns_script n custom)) e x y first
 
 module _ {Out H Hi K T : Type 0} {renderer : renderers.Renderer.Ghosts Out} {completer : completions.Completer.Ghosts H K} {candidate : completions.Candidate.Ghosts K}
     {hinter : hints.Hinter.Ghosts H T} {hint : hints.Hint.Ghosts T} {highlighter : highlights.Highlighter.Ghosts H} {validator : verdicts.Validator.Ghosts H} {history : histories.History.Ghosts Hi} where
@@ -79,7 +79,7 @@ module _ {Out H Hi K T : Type 0} {renderer : renderers.Renderer.Ghosts Out} {com
   caused custom t feed (Err e) text why = edit_cause custom t feed e why
 
   -- memory was taken
-  taken : (s : State Out H Hi K T renderer completer candidate hinter hint highlighter validator history) → Does {A = Unit {0}} taking_memory s s (Ok (tt {0}))
+  taken : (s : State Out H Hi K T renderer completer candidate hinter hint highlighter validator history) → Does {A = Unit {0}} memory_effect s s (Ok (tt {0}))
   taken s = record { value = refl; calls = refl; layout = refl; stays = stays_same s; reason = tt; stops = tt }
 
   -- an edit alone, whatever follows it
@@ -88,16 +88,16 @@ module _ {Out H Hi K T : Type 0} {renderer : renderers.Renderer.Ghosts Out} {com
         → Goes (world_of s) (later (value_of t)) (stage_of t i r q c) result z → Goes (world_of s) (Asks (Makes edit) later) (stage_of m i r q c) result z
     makes x result z h goes =
         let value = edit_value s m t stays edit x h in
-        inl (value_of t, stage_of t i r q c, (ap Ok (sym value), ap (λ v. kept v i r q c) value, edit_drawn s m t stays edit x h), goes)
+        inl (value_of t, stage_of t i r q c, (ap Ok (sym value), ap (λ v. line_state v i r q c) value, edit_drawn s m t stays edit x h), goes)
 
     pub unmade : {A : Type 0} (e : ReadlineError) → Does {A = A} edit m t (Err e) → Goes (world_of s) (Asks (Makes edit) later) (stage_of m i r q c) (Err e) (stage_of t i r q c)
     unmade e h = inr (e, inr (inl (edit_stops s m t stays edit e h, refl)), refl)
 
   -- the line's close, with its text
-  closes : {A : Type 0} (s m t : State Out H Hi K T renderer completer candidate hinter hint highlighter validator history) (i : Input) (r : Ring) (q : Modal) (c : Coming) (result : Result A ReadlineError) → Stays s m → Does submitted m t result
-      → Goes (world_of s) (Asks (Makes submitted) (λ v. Ends v.line.text)) (stage_of m i r q c) (text_or result t.recorded.line.text) (stage_of t i r q c)
-  closes s m t i r q c (Ok x) stays h = makes s m t stays submitted i r q c (λ v. Ends v.line.text) x (Ok t.recorded.line.text) (stage_of t i r q c) h (refl, refl)
-  closes {A} s m t i r q c (Err e) stays h = unmade s m t stays submitted i r q c (λ v. Ends v.line.text) {A = A} e h
+  closes : {A : Type 0} (s m t : State Out H Hi K T renderer completer candidate hinter hint highlighter validator history) (i : Input) (r : Ring) (q : Modal) (c : Coming) (result : Result A ReadlineError) → Stays s m → Does submit_effect m t result
+      → Goes (world_of s) (Asks (Makes submit_effect) (λ v. Ends v.line.text)) (stage_of m i r q c) (text_or result t.recorded.line.text) (stage_of t i r q c)
+  closes s m t i r q c (Ok x) stays h = makes s m t stays submit_effect i r q c (λ v. Ends v.line.text) x (Ok t.recorded.line.text) (stage_of t i r q c) h (refl, refl)
+  closes {A} s m t i r q c (Err e) stays h = unmade s m t stays submit_effect i r q c (λ v. Ends v.line.text) {A = A} e h
 
   -- ---- the loop
 
@@ -141,7 +141,7 @@ module _ {Out H Hi K T : Type 0} {renderer : renderers.Renderer.Ghosts Out} {com
         -- after an answer, and what follows it
         turned : (n : ℕ) → Carried n m i1 r1 q1 feed1 → (status : Status) (result : Result (List ℕ) ReadlineError) (y : LineStage Out)
             → ((k : ℕ) → feed1.bound < k → Goes (world_of m) (turn_script k kept) (stage_of m i1 r1 q1 feed1.coming) (Ok status) (stage_of t i2 r2 q2 feed2.coming))
-            → ((k : ℕ) → feed1.bound < suc k → Goes (world_of s) (turned_on (turns_script k custom) status) (stage_of t i2 r2 q2 feed2.coming) result y)
+            → ((k : ℕ) → feed1.bound < suc k → Goes (world_of s) (line_script_after (turns_script k custom) status) (stage_of t i2 r2 q2 feed2.coming) result y)
             → Goes (world_of s) (turns_script n custom) (stage_of s i r q feed.coming) result y
         turned n at status result y took rest =
             let f = some_fuel at.fuel feed1.bound at.enough in
@@ -198,7 +198,7 @@ module _ {Out H Hi K T : Type 0} {renderer : renderers.Renderer.Ghosts Out} {com
 
       -- a turn that accepts the line, and the line's close
       pub carries_closed : {A : Type 0} (m2 t : State Out H Hi K T renderer completer candidate hinter hint highlighter validator history) (i2 : Input) (r2 : Ring) (q2 : Modal) (feed2 : KeyFeed) (result : Result A ReadlineError)
-          → TakesTurn m2 i2 r2 q2 feed2 (Ok Submit) → Does submitted m2 t result → Takes turns_script custom s i r q feed t i2 r2 q2 feed2 (text_or result t.recorded.line.text)
+          → TakesTurn m2 i2 r2 q2 feed2 (Ok Submit) → Does submit_effect m2 t result → Takes turns_script custom s i r q feed t i2 r2 q2 feed2 (text_or result t.recorded.line.text)
       carries_closed m2 t i2 r2 q2 feed2 result turn close = record {
         goes = λ told n h. turned m2 i2 r2 q2 feed2 (turn.told told) n (so_far.goes (turn.told told) n h) Submit (text_or result t.recorded.line.text) (stage_of t i2 r2 q2 feed2.coming) (turn.goes told)
             (λ k enough. closes s m2 t i2 r2 q2 feed2.coming result (stays_both s m m2 (so_far.stays (turn.told told)) (turn.stays told)) close);
@@ -213,8 +213,8 @@ module _ {Out H Hi K T : Type 0} {renderer : renderers.Renderer.Ghosts Out} {com
   -- ---- the first drawing
 
   -- memory was taken before it
-  begun : {A : Type 0} (s t : State Out H Hi K T renderer completer candidate hinter hint highlighter validator history) (result : Result A ReadlineError) → Does refreshed s t result → Does line_begun s t result
-  begun s t result h = does_both taking_memory refreshed s s t (tt {0}) result (taken s) h
+  begun : {A : Type 0} (s t : State Out H Hi K T renderer completer candidate hinter hint highlighter validator history) (result : Result A ReadlineError) → Does refresh_effect s t result → Does line_begun s t result
+  begun s t result h = does_both memory_effect refresh_effect s s t (tt {0}) result (taken s) h
 
   module _ (custom : Custom) (i : Input) (r : Ring) (q : Modal) (s : State Out H Hi K T renderer completer candidate hinter hint highlighter validator history) (feed : KeyFeed) where
     drawn_on : {B : Type 0} (n : ℕ) (x : B) (m : State Out H Hi K T renderer completer candidate hinter hint highlighter validator history) (result : Result (List ℕ) ReadlineError) (y : LineStage Out) → Does line_begun s m (Ok x)
@@ -229,7 +229,7 @@ module _ {Out H Hi K T : Type 0} {renderer : renderers.Renderer.Ghosts Out} {com
     not_drawn {B} n t e refused = unmade s s t (stays_same s) line_begun i r q feed.coming (λ v. turns_script n custom) {A = B} e refused
 
     pub draws : {A B : Type 0} (x : B) (m t : State Out H Hi K T renderer completer candidate hinter hint highlighter validator history) (i2 : Input) (r2 : Ring) (q2 : Modal) (feed2 : KeyFeed) (result : Result A ReadlineError)
-        → Does refreshed s m (Ok x) → Takes turns_script custom m i r q feed t i2 r2 q2 feed2 (text_or result t.recorded.line.text)
+        → Does refresh_effect s m (Ok x) → Takes turns_script custom m i r q feed t i2 r2 q2 feed2 (text_or result t.recorded.line.text)
         → Takes line_script custom s i r q feed t i2 r2 q2 feed2 (text_or result t.recorded.line.text)
     draws x m t i2 r2 q2 feed2 result drawn read = record {
       goes = λ told n h. drawn_on n x m (text_or result t.recorded.line.text) (stage_of t i2 r2 q2 feed2.coming) (begun s m (Ok x) drawn) (read.goes told n h);
@@ -242,7 +242,7 @@ module _ {Out H Hi K T : Type 0} {renderer : renderers.Renderer.Ghosts Out} {com
     }
 
     pub undrawn : {A B : Type 0} (t : State Out H Hi K T renderer completer candidate hinter hint highlighter validator history) (e : ReadlineError) (result : Result A ReadlineError)
-        → IsErrAnd result (λ x. x ≡ e) → Does {A = B} refreshed s t (Err e) → Takes line_script custom s i r q feed t i r q feed (text_or result t.recorded.line.text)
+        → IsErrAnd result (λ x. x ≡ e) → Does {A = B} refresh_effect s t (Err e) → Takes line_script custom s i r q feed t i r q feed (text_or result t.recorded.line.text)
     undrawn {A} {B} t e result is refused = subst (λ x. Takes line_script custom s i r q feed t i r q feed (text_or x t.recorded.line.text)) (sym (is_err e result is)) (record {
       goes = λ told n h. not_drawn {B = B} n t e (begun {A = B} s t (Err e) refused);
       stays = λ told. refused.stays;

@@ -3,31 +3,31 @@ use Rattle.std.proofs.Common.{◌≡◌, inl, inr, ℕ, suc, ◌<◌, le_refl, B
 use Rattle.std.specs.Prelude.{Result, Ok, Err, IfErr, OnOk, IsErrAnd, length, ◌==◌}
 use Rattle.line_config.specs.declared.errors.ReadlineError.{ReadlineError}
 use Rattle.line_config.specs.declared.errors.ReadlineError.TheVariants.{Eof, Interrupted, NotUtf8, PasteOutOfPlace, Reader, Display, Lines, HistoryText, Helper, Handler, Memory}
-use Rattle.line_config.specs.Scripts.{Goes, then}
-use Rattle.line_config.proofs.ScriptLaws.{then_goes, then_cut}
+use Rattle.script.specs.Scripts.{Goes, then}
+use Rattle.script.proofs.ScriptLaws.{then_goes, then_cut}
 use Rattle.line_help.specs.declared.completion as completions
-use Rattle.line_help.specs.declared.hint as hints
-use Rattle.line_help.specs.declared.highlight as highlights
-use Rattle.line_help.specs.declared.validate as verdicts
+use Rattle.line_help.specs.declared.helpers.hint as hints
+use Rattle.line_help.specs.declared.helpers.highlight as highlights
+use Rattle.line_help.specs.declared.helpers.validate as verdicts
 use Rattle.line_help.specs.declared.history as histories
-use Rattle.line_keys.specs.Answers.{Custom}
+use Rattle.line_keys.specs.CustomBindings.{Custom}
 use Rattle.line_keys.specs.Coming.{Coming}
-use Rattle.line_keys.specs.Feeds.{KeyFeed}
+use Rattle.line_keys.specs.KeyFeeds.{KeyFeed}
 use Rattle.line_keys.specs.Follows.{Follows, Because, Happens, stage as key_stage}
 use Rattle.line_keys.specs.Modes.{is_emacs}
-use Rattle.line_keys.specs.Phrases.{Input, steps}
+use Rattle.line_keys.specs.PhraseScripts.{Input, steps}
 use Rattle.line_keys.specs.declared.command.Cmd.{Cmd}
 use Rattle.line_keys.specs.declared.command.Cmd.TheVariants.{EndOfFile, AcceptOrInsertLine}
 use Rattle.line_record.specs.Ring.{Ring}
 use Rattle.line_editor.specs.Accepting.{accepts}
 use Rattle.line_editor.specs.Asks.{shown_in}
 use Rattle.line_editor.specs.Commands.{Means, means_of, effect, outcome}
-use Rattle.line_editor.specs.LineScripts.{Obeys, Answered, LineStage, kept, keyed, obeying, met_then, turn_script}
-use Rattle.line_editor.specs.NextCommand.{line_phrase, reset_by}
-use Rattle.line_editor.specs.Meeting.{meeting, meeting_effect}
+use Rattle.line_editor.specs.LineScripts.{Obeys, Answered, LineStage, line_state, script_of_keys, obey_script, meet_script, turn_script}
+use Rattle.line_editor.specs.NextCommand.{line_phrase, ring_after_reset}
+use Rattle.line_editor.specs.ModalCommands.{meeting, meeting_effect}
 use Rattle.line_editor.specs.Modal.{Modal}
 use Rattle.line_editor.specs.States.{value_of, setting_of, display_of, Stays, Reason}
-use Rattle.line_editor.specs.Turning.{Executes, Meets, Cause, Takes, stage_of, world_of}
+use Rattle.line_editor.specs.Turn.{Executes, Meets, Cause, Takes, stage_of, world_of}
 use Rattle.line_editor.specs.Values.{Value, Setting}
 use Rattle.line_editor.specs.declared.commands.Status.{Status}
 use Rattle.line_editor.specs.declared.commands.Status.TheVariants.{Proceed, Submit}
@@ -83,25 +83,25 @@ module _ {Out H Hi K T : Type 0} {renderer : renderers.Renderer.Ghosts Out} {com
     Turns result y = Goes (world_of s) (turn_script n custom) (stage_of s i r modal c) result y
 
     turn_begun : (result : Result Status ReadlineError) (y : LineStage Out)
-        → Goes (world_of s) ((then) (keyed (steps (line_phrase custom i (shown_in (value_of s))) n)) met_then) (stage_of s i r modal c) result y → Turns result y
+        → Goes (world_of s) ((then) (script_of_keys (steps (line_phrase custom i (shown_in (value_of s))) n)) meet_script) (stage_of s i r modal c) result y → Turns result y
     unfolding turn_script
     turn_begun result y goes = inl (record { input = i; shown = shown_in (value_of s) }, stage_of s i r modal c, (refl, refl, (refl, refl)), goes)
 
     module _ (b : ℕ) (enough : b < n) (m : State Out H Hi K T renderer completer candidate hinter hint highlighter validator history) (i1 : Input) (c1 : Coming) where
       -- the phrase
       phrased : (q : Result Cmd ReadlineError) → Happens display_of b (line_phrase custom i (shown_in (value_of s))) (key_stage s i c) q (key_stage m i1 c1)
-          → Goes (world_of s) (keyed (steps (line_phrase custom i (shown_in (value_of s))) n)) (stage_of s i r modal c) q (stage_of m i1 r modal c1) × Stays s m
+          → Goes (world_of s) (script_of_keys (steps (line_phrase custom i (shown_in (value_of s))) n)) (stage_of s i r modal c) q (stage_of m i1 r modal c1) × Stays s m
       unfolding Happens
       phrased q h = phrase_goes_on s r modal (steps (line_phrase custom i (shown_in (value_of s))) n) (key_stage s i c) (key_stage m i1 c1) q (stays_same s) (h n enough)
 
       phrase_stopped : (e : ReadlineError) → Happens display_of b (line_phrase custom i (shown_in (value_of s))) (key_stage s i c) (Err e) (key_stage m i1 c1) → Turns (Err e) (stage_of m i1 r modal c1)
       phrase_stopped e h = turn_begun (Err e) (stage_of m i1 r modal c1)
-          (then_cut (world_of s) (keyed (steps (line_phrase custom i (shown_in (value_of s))) n)) met_then e (stage_of s i r modal c) (stage_of m i1 r modal c1) (phrased (Err e) h).0)
+          (then_cut (world_of s) (script_of_keys (steps (line_phrase custom i (shown_in (value_of s))) n)) meet_script e (stage_of s i r modal c) (stage_of m i1 r modal c1) (phrased (Err e) h).0)
 
       -- what a search makes of the command
       module _ (cmd : Cmd) (w : State Out H Hi K T renderer completer candidate hinter hint highlighter validator history) (modal' : Modal) (stays : Stays s m) where
         met : (next : Cmd) (result : Result Status ReadlineError) (y : LineStage Out) → Meets cmd m modal w modal' (Ok next)
-            → Goes (world_of s) (obeying next) (stage_of w i1 r modal' c1) result y → Goes (world_of s) (met_then cmd) (stage_of m i1 r modal c1) result y
+            → Goes (world_of s) (obey_script next) (stage_of w i1 r modal' c1) result y → Goes (world_of s) (meet_script cmd) (stage_of m i1 r modal c1) result y
         met next result y meets goes =
             let value = edit_value s m w stays (meeting_effect modal cmd) next meets.does in
             let same = setting_stays s m stays in
@@ -110,44 +110,44 @@ module _ {Out H Hi K T : Type 0} {renderer : renderers.Renderer.Ghosts Out} {com
               stage_of w i1 r modal' c1,
               (
                 ap (λ x. Ok x) (sym (meets.next ∙ ap (λ a. (meeting modal cmd a (value_of m)).next) same)),
-                ap (λ v. kept v i1 r modal' c1) value
-                    ∙ ap (λ x. kept (meeting_effect modal cmd (setting_of s) (value_of m)).value i1 r x c1) (meets.modal_is ∙ ap (λ a. (meeting modal cmd a (value_of m)).modal) same),
+                ap (λ v. line_state v i1 r modal' c1) value
+                    ∙ ap (λ x. line_state (meeting_effect modal cmd (setting_of s) (value_of m)).value i1 r x c1) (meets.modal_is ∙ ap (λ a. (meeting modal cmd a (value_of m)).modal) same),
                 edit_drawn s m w stays (meeting_effect modal cmd) next meets.does,
               ),
               goes,
             )
 
-        unmet : (e : ReadlineError) → Meets cmd m modal w modal' (Err e) → Goes (world_of s) (met_then cmd) (stage_of m i1 r modal c1) (Err e) (stage_of w i1 r modal' c1)
+        unmet : (e : ReadlineError) → Meets cmd m modal w modal' (Err e) → Goes (world_of s) (meet_script cmd) (stage_of m i1 r modal c1) (Err e) (stage_of w i1 r modal' c1)
         unmet e meets = inr (e, inr (inl (edit_stops s m w stays (meeting_effect modal cmd) e meets.does, refl)), refl)
 
       module _ (cmd : Cmd) (w t : State Out H Hi K T renderer completer candidate hinter hint highlighter validator history) (modal' : Modal) (ring' : Ring) (stays : Stays s w) where
         abbrev means_here : Means
-        means_here = means_of i1 (reset_by cmd r)
+        means_here = means_of i1 (ring_after_reset cmd r)
 
-        commanded : (result : Result Status ReadlineError) → Executes cmd i1 w (reset_by cmd r) t ring' result
-            → Goes (world_of s) (obeying cmd) (stage_of w i1 r modal' c1) result (stage_of t i1 ring' modal' c1)
+        commanded : (result : Result Status ReadlineError) → Executes cmd i1 w (ring_after_reset cmd r) t ring' result
+            → Goes (world_of s) (obey_script cmd) (stage_of w i1 r modal' c1) result (stage_of t i1 ring' modal' c1)
         commanded result (inl (does, outcome_is, ring_is)) = ended result (
           sym (outcome_is ∙ ap (λ a. outcome means_here cmd a (value_of w)) (setting_stays s w stays)),
-          ap (λ v. kept v i1 ring' modal' c1) (edit_value s w t stays (effect means_here cmd) (tt {0}) does)
-              ∙ ap (λ k. kept (effect means_here cmd (setting_of s) (value_of w)).value i1 k modal' c1) ring_is,
+          ap (λ v. line_state v i1 ring' modal' c1) (edit_value s w t stays (effect means_here cmd) (tt {0}) does)
+              ∙ ap (λ k. line_state (effect means_here cmd (setting_of s) (value_of w)).value i1 k modal' c1) ring_is,
           edit_drawn s w t stays (effect means_here cmd) (tt {0}) does,
         )
           where
             ended : (result : Result Status ReadlineError) → Answered renderer.canvas (renderer.canvas.ruler s.out) (setting_of s) (stage_of w i1 r modal' c1) (Obeys cmd) result (stage_of t i1 ring' modal' c1)
-                → Goes (world_of s) (obeying cmd) (stage_of w i1 r modal' c1) result (stage_of t i1 ring' modal' c1)
+                → Goes (world_of s) (obey_script cmd) (stage_of w i1 r modal' c1) result (stage_of t i1 ring' modal' c1)
             ended (Ok status) made = inl (status, stage_of t i1 ring' modal' c1, made, (refl, refl))
             ended (Err e) made = inr (e, inl made, refl)
         commanded result (inr (e, is, refused, ring)) = inr (e, inr (inl (edit_stops s w t stays (effect means_here cmd) e refused, (refl, ring))), is)
 
       -- the phrase, and what follows it
       spoken : (cmd : Cmd) (result : Result Status ReadlineError) (y : LineStage Out) → Happens display_of b (line_phrase custom i (shown_in (value_of s))) (key_stage s i c) (Ok cmd) (key_stage m i1 c1)
-          → Goes (world_of s) (met_then cmd) (stage_of m i1 r modal c1) result y → Turns result y
+          → Goes (world_of s) (meet_script cmd) (stage_of m i1 r modal c1) result y → Turns result y
       spoken cmd result y h goes = turn_begun result y
-          (then_goes (world_of s) (keyed (steps (line_phrase custom i (shown_in (value_of s))) n)) met_then cmd result (stage_of s i r modal c) (stage_of m i1 r modal c1) y (phrased (Ok cmd) h).0 goes)
+          (then_goes (world_of s) (script_of_keys (steps (line_phrase custom i (shown_in (value_of s))) n)) meet_script cmd result (stage_of s i r modal c) (stage_of m i1 r modal c1) y (phrased (Ok cmd) h).0 goes)
 
       turn_goes : (cmd next : Cmd) (w t : State Out H Hi K T renderer completer candidate hinter hint highlighter validator history) (modal' : Modal) (ring' : Ring) (result : Result Status ReadlineError)
           → Happens display_of b (line_phrase custom i (shown_in (value_of s))) (key_stage s i c) (Ok cmd) (key_stage m i1 c1)
-          → Meets cmd m modal w modal' (Ok next) → Executes next i1 w (reset_by next r) t ring' result → Turns result (stage_of t i1 ring' modal' c1)
+          → Meets cmd m modal w modal' (Ok next) → Executes next i1 w (ring_after_reset next r) t ring' result → Turns result (stage_of t i1 ring' modal' c1)
       turn_goes cmd next w t modal' ring' result h meets k =
           let stays = (phrased (Ok cmd) h).1 in
           spoken cmd result (stage_of t i1 ring' modal' c1) h
@@ -205,7 +205,7 @@ module _ {Out H Hi K T : Type 0} {renderer : renderers.Renderer.Ghosts Out} {com
 
   -- a command came
   pub turn_commanded : (custom : Custom) (s m w t : State Out H Hi K T renderer completer candidate hinter hint highlighter validator history) (i i1 : Input) (r q ring' : Ring) (modal modal' : Modal) (f f1 : KeyFeed) (cmd next : Cmd) (result : Result Status ReadlineError)
-      → Follows display_of custom (line_phrase custom i (shown_in (value_of s))) s i m i1 f f1 (Ok cmd) → f1.bound < f.bound → Meets cmd m modal w modal' (Ok next) → q ≡ reset_by next r
+      → Follows display_of custom (line_phrase custom i (shown_in (value_of s))) s i m i1 f f1 (Ok cmd) → f1.bound < f.bound → Meets cmd m modal w modal' (Ok next) → q ≡ ring_after_reset next r
       → Executes next i1 w q t ring' result → Takes turn_script custom s i r modal f t i1 ring' modal' f1 result
   turn_commanded custom s m w t i i1 r q ring' modal modal' f f1 cmd next result h falls meets reset k =
       let done = subst (λ x. Executes next i1 w x t ring' result) reset k in

@@ -6,7 +6,7 @@ use Rattle.line_buffer.specs.Clusters.{place_forward}
 use Rattle.line_buffer.specs.Columns.{line_up, line_down}
 use Rattle.line_buffer.specs.Insertions.{no_insertion, insertion_of, can_take_before, yank as yanked_in}
 use Rattle.line_buffer.specs.LetterCase.{word_to_edit, recase_line}
-use Rattle.line_buffer.specs.Line.{Line, moved_to}
+use Rattle.line_buffer.specs.Line.{Line, with_cursor_at}
 use Rattle.line_buffer.specs.Range.{copied_range}
 use Rattle.line_buffer.specs.Transpositions.{transposes_chars, transposes_words, transpose_words_line, after_words, before_words, first_word, swap_line, words_around}
 use Rattle.line_buffer.specs.declared.types.Anchor.{Anchor}
@@ -14,40 +14,40 @@ use Rattle.line_buffer.specs.declared.types.Anchor.TheVariants.{After, Before}
 use Rattle.line_buffer.specs.declared.types.Movement.{Movement}
 use Rattle.line_buffer.specs.declared.types.WordAction.{WordAction}
 use Rattle.line_buffer.specs.declared.types.WordAction.TheVariants.{Capitalize, Lowercase, Uppercase}
-use Rattle.line_edits.specs.Edits.{yanking, popping_in_group, updating, updating_in_group, overwriting, replacing, replacing_if_any, indenting, transposing_chars_in_group, transposing_words_in_group, editing_word_in_group, undone, by, writing_over}
-use Rattle.line_edits.specs.Steps.{WriteSteps, made, answering, doing_nothing}
+use Rattle.line_edits.specs.Edits.{yank_steps, pop_group, update_steps, update_group, overwrite_steps, replace_group, replace_group_if_any, indent_steps, transpose_chars_group, transpose_words_group, word_group, after_undo, by, overwrite_steps_to}
+use Rattle.line_edits.specs.WriteSteps.{WriteSteps, effect_of_edit, with_answer, no_steps}
 use Rattle.line_edits.specs.Written.{Written, group_opened, group_closed}
 use Rattle.line_help.specs.Completion.{Completion}
 use Rattle.line_help.specs.Hints.{Hinted}
 use Rattle.line_keys.specs.Replies.{Reply}
 use Rattle.line_help.specs.Search.{Hit, entry_at}
 use Rattle.line_help.specs.Validation.{is_valid, has_message}
-use Rattle.line_help.specs.declared.search.SearchDirection.{SearchDirection}
-use Rattle.line_help.specs.declared.search.SearchDirection.TheVariants.{Forward, Reverse}
-use Rattle.line_help.specs.declared.validate.ValidationResult.{ValidationResult}
-use Rattle.line_help.specs.declared.validate.ValidationResult.TheVariants.{Incomplete, Invalid, Valid}
+use Rattle.line_help.specs.declared.history.search.SearchDirection.{SearchDirection}
+use Rattle.line_help.specs.declared.history.search.SearchDirection.TheVariants.{Forward, Reverse}
+use Rattle.line_help.specs.declared.helpers.validate.ValidationResult.{ValidationResult}
+use Rattle.line_help.specs.declared.helpers.validate.ValidationResult.TheVariants.{Incomplete, Invalid, Valid}
 use Rattle.line_keys.specs.Refreshing.Ask.{Line as LineAsked, Message, Prompted, DoingInsert, DoneInserting}
 use Rattle.line_keys.specs.declared.command.Cmd.TheVariants.{Abort, AcceptLine, BeginningOfHistory, CapitalizeWord, ClearScreen, Complete, CompleteBackward, CompleteHint, Dedent, DowncaseWord, EndOfFile, EndOfHistory, ForwardSearchHistory, HistorySearchBackward, HistorySearchForward, Indent, Insert, Interrupt, Kill, Move, NextHistory, Noop, Repaint, Overwrite, PreviousHistory, QuotedInsert, ReplaceChar, Replace, ReverseSearchHistory, SearchAgain, SelfInsert, Suspend, TransposeChars, TransposeWords, Undo, Unknown, UpcaseWord, ViYankTo, Yank, YankPop, LineUpOrPreviousHistory, LineDownOrNextHistory, Newline, AcceptOrInsertLine}
 use Rattle.line_keys.specs.declared.command.CmdKind.{CmdKind}
 use Rattle.line_keys.specs.declared.command.CmdKind.TheVariants.{ForcedRefresh, Other}
 use Rattle.line_record.specs.Held.{has_step, closes}
-use Rattle.line_record.specs.Ring.{exchanged}
-use Rattle.line_editor.specs.Accepting.{bared, bare, verdict, told_if, verdict_told, closed_and_told, verdict_given, verdict_asked, opened_and_asked, validate_by, validate, newline, accept, accepts, newline_if, accept_or_insert}
+use Rattle.line_record.specs.Ring.{yank_exchange}
+use Rattle.line_editor.specs.Accepting.{bare_value, bare, verdict, message_effect_if, verdict_told, verdict_effect, verdict_given, verdict_asked, group_and_verdict_effect, validate_by, validate, newline, accept, accepts, newline_if, accept_or_insert}
 use Rattle.line_editor.specs.Commands.{in_vi_command, line_up_or_previous, line_down_or_next}
-use Rattle.line_editor.specs.Completing.{elected, word_replaced, updates, completed_with, completed, candidates_given, candidates_asked, complete_if}
-use Rattle.line_editor.specs.Drawing.{drawn_behind, repainted, asked_anew, refreshed, moved_to_end}
-use Rattle.line_editor.specs.Hinting.{at_row_end, completed_by, complete_by}
+use Rattle.line_editor.specs.Completing.{common_text, word_replaced, updates, complete_effect_with, complete_effect, candidates_given, candidates_asked, complete_if}
+use Rattle.line_editor.specs.Drawing.{draw_effect_behind, repaint_effect, ask_anew_effect, refresh_effect, cursor_end_effect}
+use Rattle.line_editor.specs.Hinting.{at_row_end, complete_hint_effect, complete_by}
 use Rattle.line_editor.specs.Inserting.{insert_char}
 use Rattle.line_editor.specs.Killing.{copy_effect}
 use Rattle.line_editor.specs.Leads.{Leads, CommandsLead, SubmittingLeads, AsksLead}
 use Rattle.line_editor.specs.Moving.{move_buffer_end}
 use Rattle.line_editor.specs.Redraws.Redraw.{Drawn, Bared, Beeped}
-use Rattle.line_editor.specs.Remembering.{saved_now, at_place, saved_on_leaving, saving_on_leaving, recall, recalled_earlier, history_step, history_end, hit_shown, history_search}
-use Rattle.line_editor.specs.Rewording.{transpose_chars_effect, transpose_words_effect, edit_word_effect, unmarked, undo}
+use Rattle.line_editor.specs.History.{with_saved_line, at_place, value_on_leaving, leave_effect, recall, recall_earlier_effect, history_step, history_end, hit_effect, history_search}
+use Rattle.line_editor.specs.Transforms.{transpose_chars_effect, transpose_words_effect, edit_word_effect, value_without_marks, undo}
 use Rattle.line_editor.specs.Sights.{sight_with, sight_of, ended_sight, Turns, info_after}
-use Rattle.line_editor.specs.Values.{Value, Setting, Effect, hint_reply, verdict_reply, completion_reply, update_reply, shown_hint, shown_marks, unchanged, rewritten, written_of, at_line}
+use Rattle.line_editor.specs.Values.{Value, Setting, Effect, hint_reply, verdict_reply, completion_reply, update_reply, shown_hint, shown_marks, no_effect, value_with_edit, line_and_record_of, at_line}
 use Rattle.line_editor.specs.Values.EditStep.{Draws, Takes}
-use Rattle.line_editor.specs.Yanking.{anchored, steps_over, behind_yank, yanked_by, yank_text, yank_lent, pop_lent}
+use Rattle.line_editor.specs.Yanking.{line_at_anchor, steps_over, behind_yank, value_after_yank, yank_text, yank_lent, pop_lent}
 use Rattle.line_editor.proofs.LeadLemmas.{turns_both, info_both, both_lead, either, help_turns, Alike, alike_sight, or_none, asking_leads, edit_leads, back_leads, take_leads, redraw_leads, redrawn_leads, refresh_leads, told_leads, rest_leads, beep_leads, clear_leads, refresh_if_leads, step_leads, motion_leads, none_if, insertion_leads, kill_leads, replace_leads}
 
 not_none : (b : Bool) → not b ≡ false → b ≡ true
@@ -58,7 +58,7 @@ if_none : {A : Type 0} (b : Bool) (x y : A) → b ≡ false → (if b then x els
 if_none true x y h = cc
 if_none false x y h = refl
 
-found_none : (o : Option ℕ) (l : Line) → is_some o ≡ false → moved_to o l ≡ l
+found_none : (o : Option ℕ) (l : Line) → is_some o ≡ false → with_cursor_at o l ≡ l
 found_none None l h = refl
 found_none (Some place) l h = cc
 
@@ -69,23 +69,23 @@ no_yank : (text : List ℕ) (n : ℕ) (l : Line) (b : Bool)
 no_yank text n l true h = refl
 no_yank text n l false h = none_if _ _ l _ h
 
-not_anchored : (anchor : Anchor) (l : Line) → steps_over anchor l ≡ false → anchored anchor l ≡ l
+not_anchored : (anchor : Anchor) (l : Line) → steps_over anchor l ≡ false → line_at_anchor anchor l ≡ l
 not_anchored After l h = found_none (place_forward 1 l) l h
 not_anchored Before l h = refl
 
-yank_rests : (vi : Bool) (text : List ℕ) (n : ℕ) (v : Value) → is_some (yanked_in text n v.line).answer ≡ false → Alike v (yanked_by vi text n v)
+yank_rests : (vi : Bool) (text : List ℕ) (n : ℕ) (v : Value) → is_some (yanked_in text n v.line).answer ≡ false → Alike v (value_after_yank vi text n v)
 yank_rests vi text n v h =
-    let w = rewritten (by (yanking text n)) v in
-    let is : yanked_by vi text n v ≡ w = if_none (is_some (yanked_in text n v.line).answer) (at_line (behind_yank vi w.line) w) w h in
+    let w = value_with_edit (by (yank_steps text n)) v in
+    let is : value_after_yank vi text n v ≡ w = if_none (is_some (yanked_in text n v.line).answer) (at_line (behind_yank vi w.line) w) w h in
     subst (Alike v) (sym is) (no_yank text n v.line (length text == 0) h, refl, refl)
 
 yank_leads : (vi : Bool) (text : List ℕ) (anchor : Anchor) (n : ℕ) (s : Setting) (v : Value) → Leads s v (yank_text vi text anchor n s v)
 yank_leads vi text anchor n s v =
-    let before = at_line (anchored anchor v.line) v in
-    either s v (is_some (yanked_in text n before.line).answer || steps_over anchor v.line) _ _ (λ e. edit_leads (answering tt (yanking text n before.line)) s v before (refreshed s (yanked_by vi text n before)) (refresh_leads s v (yanked_by vi text n before))) (λ e.
+    let before = at_line (line_at_anchor anchor v.line) v in
+    either s v (is_some (yanked_in text n before.line).answer || steps_over anchor v.line) _ _ (λ e. edit_leads (with_answer tt (yank_steps text n before.line)) s v before (refresh_effect s (value_after_yank vi text n before)) (refresh_leads s v (value_after_yank vi text n before))) (λ e.
     let parts = or_none _ _ e in
     let rests = yank_rests vi text n before parts.0 in
-    rest_leads s v (yanked_by vi text n before) (rests.0 ∙ not_anchored anchor v.line parts.1, rests.1, rests.2))
+    rest_leads s v (value_after_yank vi text n before) (rests.0 ∙ not_anchored anchor v.line parts.1, rests.1, rests.2))
 
 lent_leads : (vi : Bool) (anchor : Anchor) (n : ℕ) (o : Option (List ℕ)) (s : Setting) (v : Value) → Leads s v (yank_lent vi anchor n o s v)
 lent_leads vi anchor n None s v = rest_leads s v v (refl, refl, refl)
@@ -93,12 +93,12 @@ lent_leads vi anchor n (Some text) s v = yank_leads vi text anchor n s v
 
 pop_leads : (o : Option (ℕ × List ℕ)) (s : Setting) (v : Value) → Leads s v (pop_lent o s v)
 pop_leads None s v = rest_leads s v v (refl, refl, refl)
-pop_leads (Some lent) s v = either s v (can_take_before lent.0 v.line) _ _ (λ e. redraw_leads (popping_in_group lent.0 lent.1) s v v) (λ e. rest_leads s v v (refl, refl, refl))
+pop_leads (Some lent) s v = either s v (can_take_before lent.0 v.line) _ _ (λ e. redraw_leads (pop_group lent.0 lent.1) s v v) (λ e. rest_leads s v v (refl, refl, refl))
 
 -- ---- words
 
 chars_lead : (s : Setting) (v : Value) → Leads s v (transpose_chars_effect s v)
-chars_lead s v = refresh_if_leads transposing_chars_in_group s v (transposes_chars v.line) (λ e. if_none (transposes_chars v.line) _ v.line e)
+chars_lead s v = refresh_if_leads transpose_chars_group s v (transposes_chars v.line) (λ e. if_none (transposes_chars v.line) _ v.line e)
 
 words_rest : (n : ℕ) (l : Line) → transposes_words n l ≡ false → (transpose_words_line n l).place ≡ l.place → transpose_words_line n l ≡ l
 unfolding after_words before_words
@@ -108,8 +108,8 @@ words_rest n l h k =
 
 words_lead : (n : ℕ) (s : Setting) (v : Value) → Leads s v (transpose_words_effect n s v)
 words_lead n s v =
-    let w = rewritten (by (transposing_words_in_group n)) v in
-    refresh_if_leads (transposing_words_in_group n) s v (transposes_words n v.line || not (w.line.place == v.line.place)) (λ e.
+    let w = value_with_edit (by (transpose_words_group n)) v in
+    refresh_if_leads (transpose_words_group n) s v (transposes_words n v.line || not (w.line.place == v.line.place)) (λ e.
     let parts = or_none (transposes_words n v.line) _ e in
     words_rest n v.line parts.0 (eqb-true w.line.place v.line.place (not_none _ parts.1)))
 
@@ -118,49 +118,49 @@ recase_rests action None l h = refl
 recase_rests action (Some word) l h = cc
 
 word_leads : (action : WordAction) (s : Setting) (v : Value) → Leads s v (edit_word_effect action s v)
-word_leads action s v = refresh_if_leads (editing_word_in_group action) s v (is_some (word_to_edit v.line)) (recase_rests action (word_to_edit v.line) v.line)
+word_leads action s v = refresh_if_leads (word_group action) s v (is_some (word_to_edit v.line)) (recase_rests action (word_to_edit v.line) v.line)
 
-over_rests : (c : ℕ) (o : Option ℕ) (w : Written) → is_some o ≡ false → (by (writing_over c o) w).line ≡ w.line
+over_rests : (c : ℕ) (o : Option ℕ) (w : Written) → is_some o ≡ false → (by (overwrite_steps_to c o) w).line ≡ w.line
 over_rests c None w h = refl
 over_rests c (Some end) w h = cc
 
 -- ---- undo
 
 undo_leads : (n : ℕ) (s : Setting) (v : Value) → Leads s v (undo n s v)
-undo_leads n s v = either s v (has_step (max n 1) v.held) _ _ (λ e. back_leads s v v (max n 1) (refreshed s (rewritten (undone n) v)) (refresh_leads s v (rewritten (undone n) v))) (λ e. back_leads s v v (max n 1) (unchanged s (unmarked n v)) (rest_leads s v (unmarked n v) (refl, refl, refl)))
+undo_leads n s v = either s v (has_step (max n 1) v.held) _ _ (λ e. back_leads s v v (max n 1) (refresh_effect s (value_with_edit (after_undo n) v)) (refresh_leads s v (value_with_edit (after_undo n) v))) (λ e. back_leads s v v (max n 1) (no_effect s (value_without_marks n v)) (rest_leads s v (value_without_marks n v) (refl, refl, refl)))
 
 -- ---- history
 
 recall_leads : (place : ℕ) (o : Option Hit) (s : Setting) (v w : Value) → Alike v w → Leads s v (recall place o s w)
 recall_leads place None s v w h = rest_leads s v w h
-recall_leads place (Some hit) s v w h = redraw_leads (updating_in_group hit.entry (length hit.entry)) s v (at_place place w)
+recall_leads place (Some hit) s v w h = redraw_leads (update_group hit.entry (length hit.entry)) s v (at_place place w)
 
-leaving_leads : (s : Setting) (v : Value) → Leads s v (saving_on_leaving s v)
+leaving_leads : (s : Setting) (v : Value) → Leads s v (leave_effect s v)
 leaving_leads s v = by_test (v.history == length s.entries)
   where
-    by_test : (b : Bool) → Leads s v (record { value = if b then saved_now v else v; steps = if b then Takes v ∷ [] else [] })
+    by_test : (b : Bool) → Leads s v (record { value = if b then with_saved_line v else v; steps = if b then Takes v ∷ [] else [] })
     by_test true info = record { fits = (tt, tt); leads = refl }
     by_test false info = record { fits = tt; leads = refl }
 
-recall_left : (place : ℕ) (s : Setting) (v : Value) → Leads s v (recalled_earlier place s v)
+recall_left : (place : ℕ) (s : Setting) (v : Value) → Leads s v (recall_earlier_effect place s v)
 recall_left place s v =
-    let w = saved_on_leaving s v in
-    both_lead s v saving_on_leaving (recall place (entry_at place s.entries)) (leaving_leads s v) (recall_leads place (entry_at place s.entries) s w w (refl, refl, refl))
+    let w = value_on_leaving s v in
+    both_lead s v leave_effect (recall place (entry_at place s.entries)) (leaving_leads s v) (recall_leads place (entry_at place s.entries) s w w (refl, refl, refl))
 
 step_back_leads : (back : Bool) (s : Setting) (v : Value) → Leads s v (history_step back s v)
 step_back_leads true s v = either s v (v.history == 0) _ _ (λ e. rest_leads s v v (refl, refl, refl)) (λ e. recall_left (v.history - 1) s v)
 step_back_leads false s v =
     either s v (v.history == length s.entries) _ _ (λ e. rest_leads s v v (refl, refl, refl)) (λ e.
-    either s v (v.history + 1 == length s.entries) _ _ (λ e. redraw_leads (updating v.saved.text v.saved.place) s v (at_place (length s.entries) v)) (λ e. recall_leads (v.history + 1) _ s v v (refl, refl, refl)))
+    either s v (v.history + 1 == length s.entries) _ _ (λ e. redraw_leads (update_steps v.saved.text v.saved.place) s v (at_place (length s.entries) v)) (λ e. recall_leads (v.history + 1) _ s v v (refl, refl, refl)))
 
 end_leads : (first : Bool) (s : Setting) (v : Value) → Leads s v (history_end first s v)
 end_leads true s v = either s v (v.history == 0) _ _ (λ e. rest_leads s v v (refl, refl, refl)) (λ e. recall_left 0 s v)
 end_leads false s v =
-    either s v (v.history == length s.entries) _ _ (λ e. rest_leads s v v (refl, refl, refl)) (λ e. redraw_leads (updating v.saved.text v.saved.place) s v (at_place (length s.entries) v))
+    either s v (v.history == length s.entries) _ _ (λ e. rest_leads s v v (refl, refl, refl)) (λ e. redraw_leads (update_steps v.saved.text v.saved.place) s v (at_place (length s.entries) v))
 
-found_leads : (o : Option Hit) (s : Setting) (v w : Value) → Alike v w → Leads s v (hit_shown o s w)
+found_leads : (o : Option Hit) (s : Setting) (v w : Value) → Alike v w → Leads s v (hit_effect o s w)
 found_leads None s v w h = beep_leads s v w h
-found_leads (Some hit) s v w h = redraw_leads (updating_in_group hit.entry hit.pos) s v (at_place hit.idx w)
+found_leads (Some hit) s v w h = redraw_leads (update_group hit.entry hit.pos) s v (at_place hit.idx w)
 
 search_leads : (dir : SearchDirection) (s : Setting) (v : Value) → Leads s v (history_search dir s v)
 search_leads Reverse s v = either s v (v.history == 0) _ _ (λ e. beep_leads s v v (refl, refl, refl)) (λ e. found_leads _ s v (at_place (v.history - 1) v) (refl, refl, refl))
@@ -177,9 +177,9 @@ bared_by s v w false e h none info =
     record { fits = (refl, tt); leads = alike_sight s v w info (h, marks.1 ∙ sym marks.0, none ∙ sym hint.0) }
 
 bare_leads : (s : Setting) (v : Value) → Leads s v (bare s v)
-bare_leads s v = bared_by s v (bared v s) (is_some v.hint || (v.marked || (bared v s).marked)) refl refl refl
+bare_leads s v = bared_by s v (bare_value v s) (is_some v.hint || (v.marked || (bare_value v s).marked)) refl refl refl
 
-told_if_leads : (draws : Bool) (text : Option (List ℕ)) (kind : CmdKind) (s : Setting) (v w : Value) → Alike v w → Leads s v (told_if draws text kind s w)
+told_if_leads : (draws : Bool) (text : Option (List ℕ)) (kind : CmdKind) (s : Setting) (v w : Value) → Alike v w → Leads s v (message_effect_if draws text kind s w)
 told_if_leads draws text kind s v w h = either s v (draws || is_some text) _ _ (λ e. told_leads text kind s v w) (λ e. rest_leads s v w h)
 
 verdict_leads : (found : ValidationResult) (draws : Bool) (s : Setting) (v w : Value) → Alike v w → Leads s v (verdict_told found draws s w)
@@ -191,10 +191,10 @@ validate_leads : (reply : Option (Reply ValidationResult)) (s : Setting) (v : Va
 validate_leads None s v = rest_leads s v v (refl, refl, refl)
 validate_leads (Some reply) s v =
     let found = verdict_given reply.answer in
-    let w = rewritten group_opened v in
+    let w = value_with_edit group_opened v in
     let draws = closes w.held || is_some w.hint in
-    both_lead s v opened_and_asked (closed_and_told found) (take_leads s v v (verdict_asked s w) (asking_leads w (verdict_reply s w) s v w (refl, refl, refl)))
-    (verdict_leads found draws s w (rewritten group_closed w) (refl, refl, refl))
+    both_lead s v group_and_verdict_effect (verdict_effect found) (take_leads s v v (verdict_asked s w) (asking_leads w (verdict_reply s w) s v w (refl, refl, refl)))
+    (verdict_leads found draws s w (value_with_edit group_closed w) (refl, refl, refl))
 
 accept_leads : (s : Setting) (v : Value) → Leads s v (accept s v)
 accept_leads s v = both_lead s v bare validate (bare_leads s v) (validate_leads (verdict_reply s (bare s v).value) s (bare s v).value)
@@ -213,11 +213,11 @@ accept_or_insert_leads middle s v =
 
 -- ---- hints
 
-completion_leads : (o : Option (List ℕ)) (s : Setting) (v w : Value) → Leads s v (completed_by o s w)
-completion_leads None s v w = redrawn_leads Beeped w (hint_reply s w) s v (asked_anew s w).value (λ y. tt)
+completion_leads : (o : Option (List ℕ)) (s : Setting) (v w : Value) → Leads s v (complete_hint_effect o s w)
+completion_leads None s v w = redrawn_leads Beeped w (hint_reply s w) s v (ask_anew_effect s w).value (λ y. tt)
 completion_leads (Some text) s v w =
-    let u = rewritten (by (yanking text 1)) w in
-    either s v (is_some (yanked_in text 1 w.line).answer) _ _ (λ e. redraw_leads (yanking text 1) s v w) (λ e. redrawn_leads Beeped u (hint_reply s u) s v (asked_anew s u).value (λ y. tt))
+    let u = value_with_edit (by (yank_steps text 1)) w in
+    either s v (is_some (yanked_in text 1 w.line).answer) _ _ (λ e. redraw_leads (yank_steps text 1) s v w) (λ e. redrawn_leads Beeped u (hint_reply s u) s v (ask_anew_effect s u).value (λ y. tt))
 
 hint_leads : (o : Option Hinted) (s : Setting) (v : Value) → Leads s v (complete_by o s v)
 hint_leads None s v = rest_leads s v v (refl, refl, refl)
@@ -229,17 +229,17 @@ updating_leads : (reply : Option (Reply ⊤)) (s : Setting) (v : Value) (e : Eff
 updating_leads None s v e h = h
 updating_leads (Some reply) s v e h = λ info. record { fits = (tt, (tt, (h info).fits)); leads = (h info).leads }
 
-elected_leads : (start : ℕ) (o : Option (List ℕ)) (s : Setting) (v : Value) → Leads s v (completed_with start o s v)
+elected_leads : (start : ℕ) (o : Option (List ℕ)) (s : Setting) (v : Value) → Leads s v (complete_effect_with start o s v)
 elected_leads start None s v = beep_leads s v v (refl, refl, refl)
 elected_leads start (Some text) s v =
-    let w = rewritten (word_replaced start text) v in
-    updating_leads (update_reply start text s v) s v (refreshed s w) (refresh_leads s v w)
+    let w = value_with_edit (word_replaced start text) v in
+    updating_leads (update_reply start text s v) s v (refresh_effect s w) (refresh_leads s v w)
 
 complete_leads : (reply : Option (Reply Completion)) (s : Setting) (v : Value) → Leads s v (complete_if reply s v)
 complete_leads None s v = rest_leads s v v (refl, refl, refl)
 complete_leads (Some reply) s v =
     let found = candidates_given (Some reply) in
-    both_lead s v candidates_asked (completed found) (asking_leads v (completion_reply s v) s v v (refl, refl, refl)) (elected_leads found.start (elected found v.line) s v)
+    both_lead s v candidates_asked (complete_effect found) (asking_leads v (completion_reply s v) s v v (refl, refl, refl)) (elected_leads found.start (common_text found v.line) s v)
 
 -- ---- rows, or the history
 
@@ -252,7 +252,7 @@ down_leads n s v = either s v (is_some (line_down s.mode s.tabs s.column n v.lin
 -- ---- a copy
 
 copy_leads : (movement : Movement) (s : Setting) (v : Value) → Leads s v (copy_effect movement s v)
-copy_leads movement s v = either s v (is_some (copied_range movement v.line)) _ _ (λ e. take_leads s v v (unchanged s v) (rest_leads s v v (refl, refl, refl))) (λ e. rest_leads s v v (refl, refl, refl))
+copy_leads movement s v = either s v (is_some (copied_range movement v.line)) _ _ (λ e. take_leads s v v (no_effect s v) (rest_leads s v v (refl, refl, refl))) (λ e. rest_leads s v v (refl, refl, refl))
 
 -- ---- the laws
 
@@ -265,14 +265,14 @@ commands_lead m ClearScreen s v = clear_leads s v
 commands_lead m Complete s v = complete_leads (completion_reply s v) s v
 commands_lead m CompleteBackward s v = rest_leads s v v (refl, refl, refl)
 commands_lead m CompleteHint s v = hint_leads v.hint s v
-commands_lead m (Dedent movement) s v = redraw_leads (indenting movement s.config.indent_size true) s v v
+commands_lead m (Dedent movement) s v = redraw_leads (indent_steps movement s.config.indent_size true) s v v
 commands_lead m DowncaseWord s v = word_leads Lowercase s v
 commands_lead m EndOfFile s v = bare_leads s v
 commands_lead m EndOfHistory s v = end_leads false s v
 commands_lead m ForwardSearchHistory s v = rest_leads s v v (refl, refl, refl)
 commands_lead m HistorySearchBackward s v = search_leads Reverse s v
 commands_lead m HistorySearchForward s v = search_leads Forward s v
-commands_lead m (Indent movement) s v = redraw_leads (indenting movement s.config.indent_size false) s v v
+commands_lead m (Indent movement) s v = redraw_leads (indent_steps movement s.config.indent_size false) s v v
 commands_lead m (Insert n text) s v = yank_leads (in_vi_command m) text Before n s v
 commands_lead m Interrupt s v = λ info. record { fits = (tt, tt); leads = refl }
 commands_lead m (Kill movement) s v = kill_leads movement s v
@@ -280,11 +280,11 @@ commands_lead m (Move movement) s v = motion_leads movement s v
 commands_lead m NextHistory s v = step_back_leads false s v
 commands_lead m Noop s v = rest_leads s v v (refl, refl, refl)
 commands_lead m Repaint s v = refresh_leads s v v
-commands_lead m (Overwrite c) s v = refresh_if_leads (overwriting c) s v (is_some (place_forward 1 v.line)) (over_rests c (place_forward 1 v.line) (written_of v))
+commands_lead m (Overwrite c) s v = refresh_if_leads (overwrite_steps c) s v (is_some (place_forward 1 v.line)) (over_rests c (place_forward 1 v.line) (line_and_record_of v))
 commands_lead m PreviousHistory s v = step_back_leads true s v
 commands_lead m QuotedInsert s v = rest_leads s v v (refl, refl, refl)
-commands_lead m (ReplaceChar n c) s v = refresh_if_leads (replacing_if_any c n) s v (is_some (place_forward n v.line))
-    (λ e. ap (λ (steps : WriteSteps Bool). (made steps (written_of v)).line) (if_none (is_some (place_forward n v.line)) (answering true (replacing c n v.line)) (doing_nothing false) e))
+commands_lead m (ReplaceChar n c) s v = refresh_if_leads (replace_group_if_any c n) s v (is_some (place_forward n v.line))
+    (λ e. ap (λ (steps : WriteSteps Bool). (effect_of_edit steps (line_and_record_of v)).line) (if_none (is_some (place_forward n v.line)) (with_answer true (replace_group c n v.line)) (no_steps false) e))
 commands_lead m (Replace movement text) s v = replace_leads movement text s v
 commands_lead m ReverseSearchHistory s v = rest_leads s v v (refl, refl, refl)
 commands_lead m (SearchAgain way) s v = rest_leads s v v (refl, refl, refl)
@@ -297,7 +297,7 @@ commands_lead m Unknown s v = rest_leads s v v (refl, refl, refl)
 commands_lead m UpcaseWord s v = word_leads Uppercase s v
 commands_lead m (ViYankTo movement) s v = copy_leads movement s v
 commands_lead m (Yank n anchor) s v = lent_leads (in_vi_command m) anchor n (slice_get m.ring.slots m.ring.place) s v
-commands_lead m YankPop s v = pop_leads (exchanged m.ring) s v
+commands_lead m YankPop s v = pop_leads (yank_exchange m.ring) s v
 commands_lead m (LineUpOrPreviousHistory n) s v = up_leads n s v
 commands_lead m (LineDownOrNextHistory n) s v = down_leads n s v
 commands_lead m Newline s v = newline_leads s v
@@ -308,19 +308,19 @@ submitting_leads s v info =
     let e = move_buffer_end ForcedRefresh s v in
     let there = info_after e.steps info in
     let y = sight_of s e.value there in
-    let last = (moved_to_end s e.value).steps in
+    let last = (cursor_end_effect s e.value).steps in
     let end : Turns s.prompt y last (ended_sight y) = record { fits = (tt, tt); leads = refl } in
     subst (λ i. Turns s.prompt (sight_of s v info) (e.steps ++ last) (ended_sight (sight_of s e.value i))) (sym (info_both e.steps last info))
     (turns_both s.prompt (sight_of s v info) y (ended_sight y) e.steps last (step_leads ForcedRefresh _ _ s v refl info) end)
 
 pub asks_lead : AsksLead
 asks_lead LineAsked s v x =
-    let w = (asked_anew s v).value in
-    help_turns v (hint_reply s v) s.prompt x (sight_of s w (shown_hint w)) (repainted s w).steps (record { fits = ((λ e. refl), tt); leads = refl })
+    let w = (ask_anew_effect s v).value in
+    help_turns v (hint_reply s v) s.prompt x (sight_of s w (shown_hint w)) (repaint_effect s w).steps (record { fits = ((λ e. refl), tt); leads = refl })
 asks_lead (Message text kind) s v x = record { fits = ((λ e. refl), tt); leads = refl }
 asks_lead (Prompted prompt) s v x =
-    let w = (asked_anew s v).value in
-    help_turns v (hint_reply s v) s.prompt x (sight_with (shown_marks w s.marks) false prompt w.line.text w.line.place (shown_hint w)) (drawn_behind prompt false s w).steps
+    let w = (ask_anew_effect s v).value in
+    help_turns v (hint_reply s v) s.prompt x (sight_with (shown_marks w s.marks) false prompt w.line.text w.line.place (shown_hint w)) (draw_effect_behind prompt false s w).steps
     (record { fits = ((λ e. cc), tt); leads = refl })
 asks_lead DoingInsert s v x = refl
 asks_lead DoneInserting s v x = refl

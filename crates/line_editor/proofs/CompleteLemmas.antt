@@ -5,27 +5,27 @@ use Rattle.std.proofs.lemmas.Simd.{map-map}
 use Rattle.line_buffer.specs.Line.{Line}
 use Rattle.line_buffer.specs.Replay.{replacement}
 use Rattle.line_config.specs.declared.errors.ReadlineError.{ReadlineError}
-use Rattle.line_config.specs.declared.errors.ReadlineError.TheVariants.{Helper, Memory}
+use Rattle.line_config.specs.declared.errors.ReadlineError.TheVariants.{Memory}
 use Rattle.line_config.specs.declared.errors.HookFault.{HookFault}
-use Rattle.line_config.specs.declared.errors.HookFault.TheVariants.{Failed as HookFailed, Memory as HookMemory}
-use Rattle.line_edits.specs.Written.{Written, Writes, group_opened, written, written_in}
+use Rattle.line_config.specs.declared.errors.HookFault.TheVariants.{Memory as HookMemory}
+use Rattle.line_edits.specs.Written.{Written, Writes, group_opened, line_and_record, line_and_record_in}
 use Rattle.line_edits.proofs.WrittenLemmas.{recorded_one}
 use Rattle.line_help.specs.Completion.{Offered, Completion, Updates}
 use Rattle.line_help.specs.declared.completion as completions
-use Rattle.line_help.specs.declared.hint as hints
-use Rattle.line_help.specs.declared.highlight as highlights
-use Rattle.line_help.specs.declared.validate as verdicts
+use Rattle.line_help.specs.declared.helpers.hint as hints
+use Rattle.line_help.specs.declared.helpers.highlight as highlights
+use Rattle.line_help.specs.declared.helpers.validate as verdicts
 use Rattle.line_help.specs.declared.history as histories
 use Rattle.line_keys.specs.Replies.{Reply, IsFaultOf}
-use Rattle.line_record.specs.Items.{Items, ItemsStand, RecordedIn, record_refuses, held_on, opened}
-use Rattle.line_editor.specs.Completing.{elected, word_put, LeavesWord, word_updated, completed_with, completed, candidates_given, candidates_asked, complete_if, complete}
-use Rattle.line_editor.specs.States.{hooks_of, value_of, setting_of, fails_by, IsHelpFault, surface_of, Stays, Does}
+use Rattle.line_record.specs.Items.{Items, ItemsStand, RecordsEventIn, record_refuses, record_on, items_with_mark}
+use Rattle.line_editor.specs.Completing.{common_text, word_put, CutWord, word_updated, complete_effect_with, complete_effect, candidates_given, candidates_asked, complete_if, complete}
+use Rattle.line_editor.specs.States.{hooks_of, value_of, setting_of, fails_by, IsHelpFault, error_of, surface_of, Stays, Does}
 use Rattle.line_editor.specs.Values.{Value, Setting, Hooks, then_do, completion_reply, update_reply}
 use Rattle.line_editor.specs.declared.renderer as renderers
 use Rattle.line_editor.specs.declared.state.State.{State}
 use Rattle.line_editor.proofs.StopsLemmas.{help_made, help_layout, stops_asking, stops_marking, stops_updating}
 use Rattle.line_editor.proofs.DoesLemmas.{does_as, does_both, does_cut_by, does_refused, stays_same}
-use Rattle.line_editor.proofs.HelpedLemmas.{completion_reason, update_reason}
+use Rattle.line_editor.proofs.HelpedLemmas.{completion_reason, update_reason, fault_told}
 
 -- the texts that candidates put in
 pub replacements : {A : Type 0} (offers : A → Offered) (candidates : List A) → map (λ (o : Offered). o.replacement) (map offers candidates) ≡ map (λ c. (offers c).replacement) candidates
@@ -36,13 +36,13 @@ stays_by old new (inl same) = same
 stays_by old new (inr refused) = refused.0
 
 pub put_writes : {E : Type 0} (start : ℕ) (text : List ℕ) (before after : Line) (old new : Items) (result : Result ⊤ E) → IsUtf8 before.text → ItemsStand old before.text
-    → Updates RecordedIn record_refuses start text old new before after result → Writes (word_put start text) (tt {0}) before after old new result
+    → Updates RecordsEventIn record_refuses start text old new before after result → Writes (word_put start text) (tt {0}) before after old new result
 put_writes start text before after old new (Ok a) utf8 stand u =
     let told = u.told.on _ _ stand utf8 u.replays in
     record {
       answers = refl;
       line = u.becomes;
-      held = told.held ∙ recorded_one (replacement start before.place text before.text) before.text (held_on old before.text);
+      held = told.held ∙ recorded_one (replacement start before.place text before.text) before.text (record_on old before.text);
       stand = told.stand;
     }
 put_writes start text before after old new (Err e) utf8 stand u = record {
@@ -54,22 +54,22 @@ put_writes start text before after old new (Err e) utf8 stand u = record {
 
 -- what failed left line and record
 pub put_left : {E : Type 0} (start : ℕ) (text : List ℕ) (before after : Line) (old new : Items) (result : Result ⊤ E)
-    → Updates RecordedIn record_refuses start text old new before after result → OnErr result ((after ≡ before) × (new ≡ old))
+    → Updates RecordsEventIn record_refuses start text old new before after result → OnErr result ((after ≡ before) × (new ≡ old))
 put_left start text before after old new (Ok a) u = tt
 put_left start text before after old new (Err e) u = (u.stays, stays_by old new u.refused)
 
 -- memory ran out for the mark
 pub mark_wanting : {A : Type 0} (reply : Reply ⊤) (line : Line) (old new : Items) (result : Result A HookFault) → IsErrAnd result (λ e. e ≡ HookMemory) → new ≡ old
-    → IfErr result (LeavesWord reply (written line old) (written line new))
+    → IfErr result (CutWord reply (line_and_record line old) (line_and_record line new))
 mark_wanting reply line old new (Ok x) is same = tt
-mark_wanting reply line old new (Err e) is same = inl (is, ap (written line) same)
+mark_wanting reply line old new (Err e) is same = inl (is, ap (line_and_record line) same)
 
 -- the completer failed
 pub put_refused : {A : Type 0} (reply : Reply ⊤) (before after : Line) (old marked new : Items) (fault : HookFault) (result : Result A HookFault) → IsErrAnd result (λ e. e ≡ fault) → IsFaultOf reply fault
-    → marked ≡ opened old → (after ≡ before) × (new ≡ marked) → IfErr result (LeavesWord reply (written before old) (written after new))
+    → marked ≡ items_with_mark old → (after ≡ before) × (new ≡ marked) → IfErr result (CutWord reply (line_and_record before old) (line_and_record after new))
 put_refused reply before after old marked new fault (Ok x) is why mark left = tt
 put_refused reply before after old marked new fault (Err e) is why mark left =
-    inr (subst (IsFaultOf reply) (sym is) why, ap (λ (l : Line). written l new) left.0 ∙ ap (written before) (left.1 ∙ mark))
+    inr (subst (IsFaultOf reply) (sym is) why, ap (λ (l : Line). line_and_record l new) left.0 ∙ ap (line_and_record before) (left.1 ∙ mark))
 
 -- ---- with a helper
 
@@ -77,12 +77,12 @@ pub some_mapped : {A B C : Type 0} (f : B → C) (g : A → B) (o : Option A) �
 some_mapped f g None = refl
 some_mapped f g (Some x) = refl
 
-completed_by_reply : (reply : Option (Reply Completion)) (s : Setting) (v : Value) → is_some reply ≡ true → then_do candidates_asked (completed (candidates_given reply)) s v ≡ complete_if reply s v
+completed_by_reply : (reply : Option (Reply Completion)) (s : Setting) (v : Value) → is_some reply ≡ true → then_do candidates_asked (complete_effect (candidates_given reply)) s v ≡ complete_if reply s v
 completed_by_reply None s v some = absurd (true≢false (sym some))
 completed_by_reply (Some reply) s v some = refl
 
-completed_is : (found given : Completion) (o : Option (List ℕ)) (s : Setting) (v : Value) → found ≡ given → elected found v.line ≡ o → completed_with found.start o s v ≡ completed given s v
-completed_is found given o s v same is = ap (λ x. completed_with found.start x s v) (sym is) ∙ ap (λ f. completed f s v) same
+completed_is : (found given : Completion) (o : Option (List ℕ)) (s : Setting) (v : Value) → found ≡ given → common_text found v.line ≡ o → complete_effect_with found.start o s v ≡ complete_effect given s v
+completed_is found given o s v same is = ap (λ x. complete_effect_with found.start x s v) (sym is) ∙ ap (λ f. complete_effect f s v) same
 
 module _ {Out H Hi K T : Type 0} {renderer : renderers.Renderer.Ghosts Out} {completer : completions.Completer.Ghosts H K} {candidate : completions.Candidate.Ghosts K}
     {hinter : hints.Hinter.Ghosts H T} {hint : hints.Hint.Ghosts T} {highlighter : highlights.Highlighter.Ghosts H} {validator : verdicts.Validator.Ghosts H} {history : histories.History.Ghosts Hi} where
@@ -96,46 +96,40 @@ module _ {Out H Hi K T : Type 0} {renderer : renderers.Renderer.Ghosts Out} {com
   -- line and record alone are another
   abbrev Touches : (State Out H Hi K T renderer completer candidate hinter hint highlighter validator history)
       → (State Out H Hi K T renderer completer candidate hinter hint highlighter validator history) → Type 0
-  Touches s t = value_of t ≡ record (value_of s) { line = t.recorded.line; held = held_on t.recorded.changes t.recorded.line.text }
+  Touches s t = value_of t ≡ record (value_of s) { line = t.recorded.line; held = record_on t.recorded.changes t.recorded.line.text }
 
-  touched : (s t : State Out H Hi K T renderer completer candidate hinter hint highlighter validator history) (w : Written) → Touches s t → written_in t.recorded ≡ w
+  touched : (s t : State Out H Hi K T renderer completer candidate hinter hint highlighter validator history) (w : Written) → Touches s t → line_and_record_in t.recorded ≡ w
       → value_of t ≡ record (value_of s) { line = w.line; held = w.held }
   touched s t w touches is = touches ∙ ap (λ (x : Written). record (value_of s) { line = x.line; held = x.held }) is
 
   -- the completer failed, after the mark
   refused_behind : {A : Type 0} (start : ℕ) (text : List ℕ) (s t : State Out H Hi K T renderer completer candidate hinter hint highlighter validator history) (h : H) (e : ReadlineError) → s.helper ≡ Some h
-      → IsHelpFault (Some (completer.update_of h s.recorded.line start text)) e → written_in t.recorded ≡ group_opened (written_in s.recorded) → surface_of t ≡ surface_of s → Stays s t → Touches s t
+      → IsHelpFault (Some (completer.update_of h s.recorded.line start text)) e → line_and_record_in t.recorded ≡ group_opened (line_and_record_in s.recorded) → surface_of t ≡ surface_of s → Stays s t → Touches s t
       → Does {A = A} (word_updated start text) s t (Err e)
   refused_behind start text s t h e is why marked same stays touches =
       let reply = update_reply start text (setting_of s) (value_of s) in
       let fault : IsHelpFault reply e = update_faults s h start text e is why in
       does_refused (word_updated start text) s t e stays (update_reason (setting_of s).hooks s.recorded.line start text (renderer.canvas.failed t.out) e fault)
       (stops_updating renderer.canvas (renderer.canvas.ruler s.out) (value_of s) reply (surface_of s) (surface_of t) e (value_of t) fault same
-      (touched s t (group_opened (written_in s.recorded)) touches marked))
+      (touched s t (group_opened (line_and_record_in s.recorded)) touches marked))
 
   -- memory ran out for the mark
   unmarked : {A : Type 0} (start : ℕ) (text : List ℕ) (s t : State Out H Hi K T renderer completer candidate hinter hint highlighter validator history) (h : H) → s.helper ≡ Some h
-      → written_in t.recorded ≡ written_in s.recorded → surface_of t ≡ surface_of s → Stays s t → Touches s t → Does {A = A} (word_updated start text) s t (Err Memory)
+      → line_and_record_in t.recorded ≡ line_and_record_in s.recorded → surface_of t ≡ surface_of s → Stays s t → Touches s t → Does {A = A} (word_updated start text) s t (Err Memory)
   unmarked start text s t h is stood same stays touches =
       let reply = update_reply start text (setting_of s) (value_of s) in
       does_refused (word_updated start text) s t Memory stays tt
       (stops_marking renderer.canvas (renderer.canvas.ruler s.out) (value_of s) reply (surface_of s) (surface_of t) Memory (value_of t)
-      (some_mapped (λ (k : Hooks). k.updates s.recorded.line start text) (hooks_of completer hinter validator) s.helper ∙ ap is_some is) refl same (touched s t (written_in s.recorded) touches stood))
+      (some_mapped (λ (k : Hooks). k.updates s.recorded.line start text) (hooks_of completer hinter validator) s.helper ∙ ap is_some is) refl same (touched s t (line_and_record_in s.recorded) touches stood))
 
   -- the same of what the call has told
-  pub updating_failed : {A : Type 0} (start : ℕ) (text : List ℕ) (s t : State Out H Hi K T renderer completer candidate hinter hint highlighter validator history) (h : H) (fault : HookFault) → s.helper ≡ Some h
-      → fault ≡ HookFailed → LeavesWord (completer.update_of h s.recorded.line start text) (written_in s.recorded) (written_in t.recorded) fault → surface_of t ≡ surface_of s → Stays s t → Touches s t
-      → Does {A = A} (word_updated start text) s t (Err Helper)
-  updating_failed start text s t h fault is failed (inl memory) same stays touches = let never : HookFailed ≡ HookMemory = sym failed ∙ memory.0 in absurd (cc)
-  updating_failed start text s t h fault is failed (inr left) same stays touches =
-      refused_behind start text s t h Helper is (subst (IsFaultOf (completer.update_of h s.recorded.line start text)) failed left.0) left.1 same stays touches
-
-  pub updating_wants : {A : Type 0} (start : ℕ) (text : List ℕ) (s t : State Out H Hi K T renderer completer candidate hinter hint highlighter validator history) (h : H) (fault : HookFault) → s.helper ≡ Some h
-      → fault ≡ HookMemory → LeavesWord (completer.update_of h s.recorded.line start text) (written_in s.recorded) (written_in t.recorded) fault → surface_of t ≡ surface_of s → Stays s t → Touches s t
-      → Does {A = A} (word_updated start text) s t (Err Memory)
-  updating_wants start text s t h fault is memory (inl left) same stays touches = unmarked start text s t h is left.1 same stays touches
-  updating_wants start text s t h fault is memory (inr left) same stays touches =
-      refused_behind start text s t h Memory is (subst (IsFaultOf (completer.update_of h s.recorded.line start text)) memory left.0) left.1 same stays touches
+  pub updating_cut : {A : Type 0} (start : ℕ) (text : List ℕ) (s t : State Out H Hi K T renderer completer candidate hinter hint highlighter validator history) (h : H) (fault : HookFault) → s.helper ≡ Some h
+      → CutWord (completer.update_of h s.recorded.line start text) (line_and_record_in s.recorded) (line_and_record_in t.recorded) fault → surface_of t ≡ surface_of s → Stays s t → Touches s t
+      → Does {A = A} (word_updated start text) s t (Err (error_of fault))
+  updating_cut {A} start text s t h fault is (inl left) same stays touches =
+      subst (λ f. Does {A = A} (word_updated start text) s t (Err (error_of f))) (sym left.0) (unmarked start text s t h is left.1 same stays touches)
+  updating_cut start text s t h fault is (inr left) same stays touches =
+      refused_behind start text s t h (error_of fault) is (fault_told (completer.update_of h s.recorded.line start text) fault left.0) left.1 same stays touches
 
   -- ---- the candidates
 
@@ -159,23 +153,23 @@ module _ {Out H Hi K T : Type 0} {renderer : renderers.Renderer.Ghosts Out} {com
       (stops_asking renderer.canvas (renderer.canvas.ruler s.out) (value_of s) (completion_reply (setting_of s) (value_of s)) (surface_of s) (surface_of s) e (value_of s) why refl refl)
 
   complete_is : (s : State Out H Hi K T renderer completer candidate hinter hint highlighter validator history) → is_some s.helper ≡ true
-      → then_do candidates_asked (completed (candidates_given (completion_reply (setting_of s) (value_of s)))) (setting_of s) (value_of s) ≡ complete (setting_of s) (value_of s)
+      → then_do candidates_asked (complete_effect (candidates_given (completion_reply (setting_of s) (value_of s)))) (setting_of s) (value_of s) ≡ complete (setting_of s) (value_of s)
   complete_is s some = completed_by_reply (completion_reply (setting_of s) (value_of s)) (setting_of s) (value_of s)
       (some_mapped (λ (h : Hooks). h.completes s.recorded.line.text s.recorded.line.place (setting_of s).entries (value_of s).history) (hooks_of completer hinter validator) s.helper ∙ some)
 
   pub complete_refused : {A : Type 0} (s : State Out H Hi K T renderer completer candidate hinter hint highlighter validator history) (e : ReadlineError) (result : Result A ReadlineError) → is_some s.helper ≡ true
       → IsErrAnd result (λ x. x ≡ e) → IsHelpFault (completion_reply (setting_of s) (value_of s)) e → Does complete s s result
   complete_refused s e result some is why =
-      let done = completed (candidates_given (completion_reply (setting_of s) (value_of s))) in
+      let done = complete_effect (candidates_given (completion_reply (setting_of s) (value_of s))) in
       does_as (then_do candidates_asked done) complete s s result (complete_is s some) (does_cut_by candidates_asked done s s e result is (asked_refused s e why))
 
   pub complete_made : {A : Type 0} (start : ℕ) (items : List K) (o : Option (List ℕ)) (s t : State Out H Hi K T renderer completer candidate hinter hint highlighter validator history) (result : Result A ReadlineError)
       → is_some s.helper ≡ true → (let found : Completion = record { start = start; candidates = map candidate.offers items } in
-      found ≡ candidates_given (completion_reply (setting_of s) (value_of s)) → elected found s.recorded.line ≡ o → IsFalse (fails_by (completion_reply (setting_of s) (value_of s)))
-      → Does (completed_with start o) s t result → Does complete s t result)
+      found ≡ candidates_given (completion_reply (setting_of s) (value_of s)) → common_text found s.recorded.line ≡ o → IsFalse (fails_by (completion_reply (setting_of s) (value_of s)))
+      → Does (complete_effect_with start o) s t result → Does complete s t result)
   complete_made {A} start items o s t result some same is works does =
       let found : Completion = record { start = start; candidates = map candidate.offers items } in
       let given : Completion = candidates_given (completion_reply (setting_of s) (value_of s)) in
-      does_as (then_do candidates_asked (completed given)) complete s t result (complete_is s some)
-      (does_both {A = ⊤} candidates_asked (completed given) s s t (tt {0}) result (asked_made s (tt {0}) works)
-      (does_as (completed_with start o) (completed given) s t result (completed_is found given o (setting_of s) (value_of s) same is) does))
+      does_as (then_do candidates_asked (complete_effect given)) complete s t result (complete_is s some)
+      (does_both {A = ⊤} candidates_asked (complete_effect given) s s t (tt {0}) result (asked_made s (tt {0}) works)
+      (does_as (complete_effect_with start o) (complete_effect given) s t result (completed_is found given o (setting_of s) (value_of s) same is) does))

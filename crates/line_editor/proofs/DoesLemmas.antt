@@ -9,15 +9,15 @@ use Rattle.std.specs.List.{FoldsTo}
 use Rattle.line_config.specs.declared.errors.ReadlineError.{ReadlineError}
 use Rattle.line_config.specs.declared.errors.ReadlineError.TheVariants.{Display}
 use Rattle.line_help.specs.declared.completion as completions
-use Rattle.line_help.specs.declared.hint as hints
-use Rattle.line_help.specs.declared.highlight as highlights
-use Rattle.line_help.specs.declared.validate as verdicts
+use Rattle.line_help.specs.declared.helpers.hint as hints
+use Rattle.line_help.specs.declared.helpers.highlight as highlights
+use Rattle.line_help.specs.declared.helpers.validate as verdicts
 use Rattle.line_help.specs.declared.history as histories
-use Rattle.line_edits.specs.Steps.{WriteSteps}
-use Rattle.line_editor.specs.Calls.{Marks, Ruler, MadeIn}
-use Rattle.line_editor.specs.Redraws.{Asked, then_asked}
-use Rattle.line_editor.specs.Steps.{asked, Surface, surface, Stops}
-use Rattle.line_editor.specs.Rewording.{indent_effect, indent_by_setting}
+use Rattle.line_edits.specs.WriteSteps.{WriteSteps}
+use Rattle.line_editor.specs.RenderCalls.{Marks, Ruler, MadeIn}
+use Rattle.line_editor.specs.Redraws.{RedrawCalls, then_asked}
+use Rattle.line_editor.specs.EditSteps.{calls_of_steps, Surface, surface, CutEditSteps}
+use Rattle.line_editor.specs.Transforms.{indent_effect, indent_by_setting}
 use Rattle.line_editor.specs.States.{hooks_of, value_of, setting_of, reason_of, surface_of, Stays, Does, Renders}
 use Rattle.line_editor.specs.Values.{Value, Setting, Hooks, Effect, Transition, IsFailing, then_do}
 use Rattle.line_editor.specs.Values.EditStep.{Edits}
@@ -82,13 +82,13 @@ module _ {Out H Hi K T : Type 0} {renderer : renderers.Renderer.Ghosts Out} {com
   second_is first second s m x h = ap (λ a. second a (value_of m)) (setting_stays s m h.stays) ∙ ap (second (setting_of s)) h.value
 
   asked_is : {A : Type 0} (first second : Transition) (s m : State Out H Hi K T renderer completer candidate hinter hint highlighter validator history) (x : A) → Does first s m (Ok x)
-      → asked (renderer.canvas.ruler m.out) m.layout (second (setting_of m) (value_of m)).steps
-      ≡ asked (renderer.canvas.ruler s.out) (asked (renderer.canvas.ruler s.out) s.layout (first (setting_of s) (value_of s)).steps).layout
+      → calls_of_steps (renderer.canvas.ruler m.out) m.layout (second (setting_of m) (value_of m)).steps
+      ≡ calls_of_steps (renderer.canvas.ruler s.out) (calls_of_steps (renderer.canvas.ruler s.out) s.layout (first (setting_of s) (value_of s)).steps).layout
       (second (setting_of s) (first (setting_of s) (value_of s)).value).steps
   asked_is first second s m x h =
-      ap (λ e. asked (renderer.canvas.ruler m.out) m.layout e.steps) (second_is first second s m x h)
-      ∙ ap (λ r. asked r m.layout (second (setting_of s) (first (setting_of s) (value_of s)).value).steps) h.stays.ruler
-      ∙ ap (λ l. asked (renderer.canvas.ruler s.out) l (second (setting_of s) (first (setting_of s) (value_of s)).value).steps) h.layout
+      ap (λ e. calls_of_steps (renderer.canvas.ruler m.out) m.layout e.steps) (second_is first second s m x h)
+      ∙ ap (λ r. calls_of_steps r m.layout (second (setting_of s) (first (setting_of s) (value_of s)).value).steps) h.stays.ruler
+      ∙ ap (λ l. calls_of_steps (renderer.canvas.ruler s.out) l (second (setting_of s) (first (setting_of s) (value_of s)).value).steps) h.layout
 
   -- an error says nothing of the answer that would have been
   pub refused_as : {A B : Type 0} (edit : Transition) (s t : State Out H Hi K T renderer completer candidate hinter hint highlighter validator history) (e : ReadlineError) → Does {A = A} edit s t (Err e) → Does {A = B} edit s t (Err e)
@@ -97,7 +97,7 @@ module _ {Out H Hi K T : Type 0} {renderer : renderers.Renderer.Ghosts Out} {com
   -- failed for a reason that the arguments give, and the place where its steps stop
   pub does_refused : {A : Type 0} (edit : Transition) (s t : State Out H Hi K T renderer completer candidate hinter hint highlighter validator history) (e : ReadlineError)
       → Stays s t → reason_of (renderer.canvas.failed t.out) (IsFailing (setting_of s).hooks) e
-      → Stops renderer.canvas (renderer.canvas.ruler s.out) (edit (setting_of s) (value_of s)).steps (surface_of s) e (value_of t) (surface_of t) → Does {A = A} edit s t (Err e)
+      → CutEditSteps renderer.canvas (renderer.canvas.ruler s.out) (edit (setting_of s) (value_of s)).steps (surface_of s) e (value_of t) (surface_of t) → Does {A = A} edit s t (Err e)
   does_refused edit s t e stays why stops = record {
     value = tt;
     calls = tt;
@@ -114,11 +114,11 @@ module _ {Out H Hi K T : Type 0} {renderer : renderers.Renderer.Ghosts Out} {com
       let u : Ruler = renderer.canvas.ruler s.out in
       let e : Effect = first (setting_of s) (value_of s) in
       let f : Effect = second (setting_of s) e.value in
-      let a : Asked = asked u s.layout e.steps in
-      let b : Asked = asked u a.layout f.steps in
-      let whole : asked u s.layout (e.steps ++ f.steps) ≡ then_asked a b = asked_both u s.layout e.steps f.steps in
+      let a : RedrawCalls = calls_of_steps u s.layout e.steps in
+      let b : RedrawCalls = calls_of_steps u a.layout f.steps in
+      let whole : calls_of_steps u s.layout (e.steps ++ f.steps) ≡ then_asked a b = asked_both u s.layout e.steps f.steps in
       let same : second (setting_of m) (value_of m) ≡ f = second_is first second s m x h in
-      let is : asked (renderer.canvas.ruler m.out) m.layout (second (setting_of m) (value_of m)).steps ≡ b = asked_is first second s m x h in
+      let is : calls_of_steps (renderer.canvas.ruler m.out) m.layout (second (setting_of m) (value_of m)).steps ≡ b = asked_is first second s m x h in
       record {
         value = subst (λ y. OnOk result (value_of t ≡ y.value)) same k.value;
         calls = on_ok_weaker result (λ c. subst (λ y. FoldsTo (MadeIn renderer.canvas) s.out y.calls t.out) (sym whole)
@@ -127,9 +127,9 @@ module _ {Out H Hi K T : Type 0} {renderer : renderers.Renderer.Ghosts Out} {com
         stays = stays_both s m t h.stays k.stays;
         reason = k.reason;
         stops = if_refused result (λ fault c. stops_behind renderer.canvas u e.steps f.steps s.layout s.out m.out (surface_of t) fault (value_of t) h.calls
-            (subst (λ l. Stops renderer.canvas u f.steps (surface m.out l) fault (value_of t) (surface_of t)) h.layout
-            (subst (λ (y : Effect). Stops renderer.canvas u y.steps (surface_of m) fault (value_of t) (surface_of t)) same
-            (subst (λ r. Stops renderer.canvas r (second (setting_of m) (value_of m)).steps (surface_of m) fault (value_of t) (surface_of t)) h.stays.ruler c)))) k.stops;
+            (subst (λ l. CutEditSteps renderer.canvas u f.steps (surface m.out l) fault (value_of t) (surface_of t)) h.layout
+            (subst (λ (y : Effect). CutEditSteps renderer.canvas u y.steps (surface_of m) fault (value_of t) (surface_of t)) same
+            (subst (λ r. CutEditSteps renderer.canvas r (second (setting_of m) (value_of m)).steps (surface_of m) fault (value_of t) (surface_of t)) h.stays.ruler c)))) k.stops;
       }
 
   -- the first one failed
@@ -171,11 +171,11 @@ module _ {Out H Hi K T : Type 0} {renderer : renderers.Renderer.Ghosts Out} {com
       → edit (setting_of s) (value_of s) ≡ other (setting_of s) (value_of s) → Does edit s t result → Does other s t result
   does_as edit other s t result is h = record {
     value = subst (λ (x : Effect). OnOk result (value_of t ≡ x.value)) is h.value;
-    calls = subst (λ (x : Effect). OnOk result (FoldsTo (MadeIn renderer.canvas) s.out (asked (renderer.canvas.ruler s.out) s.layout x.steps).calls t.out)) is h.calls;
-    layout = subst (λ (x : Effect). OnOk result (t.layout ≡ (asked (renderer.canvas.ruler s.out) s.layout x.steps).layout)) is h.layout;
+    calls = subst (λ (x : Effect). OnOk result (FoldsTo (MadeIn renderer.canvas) s.out (calls_of_steps (renderer.canvas.ruler s.out) s.layout x.steps).calls t.out)) is h.calls;
+    layout = subst (λ (x : Effect). OnOk result (t.layout ≡ (calls_of_steps (renderer.canvas.ruler s.out) s.layout x.steps).layout)) is h.layout;
     stays = h.stays;
     reason = h.reason;
-    stops = subst (λ (x : Effect). IfErr result (λ fault. Stops renderer.canvas (renderer.canvas.ruler s.out) x.steps (surface_of s) fault (value_of t) (surface_of t))) is h.stops;
+    stops = subst (λ (x : Effect). IfErr result (λ fault. CutEditSteps renderer.canvas (renderer.canvas.ruler s.out) x.steps (surface_of s) fault (value_of t) (surface_of t))) is h.stops;
   }
 
   -- an edit of the line was made, and nothing is drawn
@@ -183,8 +183,8 @@ module _ {Out H Hi K T : Type 0} {renderer : renderers.Renderer.Ghosts Out} {com
       → edit (setting_of s) (value_of s) ≡ record { value = value_of m; steps = Edits stands steps ∷ [] } → surface_of m ≡ surface_of s → Stays s m → Does edit s m (Ok x)
   edit_made edit stands steps s m x is same stays = record {
     value = sym (ap (λ (e : Effect). e.value) is);
-    calls = subst (λ (e : Effect). FoldsTo (MadeIn renderer.canvas) s.out (asked (renderer.canvas.ruler s.out) s.layout e.steps).calls m.out) (sym is) (sym (ap (λ (u : Surface Out). u.out) same));
-    layout = ap (λ (u : Surface Out). u.layout) same ∙ ap (λ (e : Effect). (asked (renderer.canvas.ruler s.out) s.layout e.steps).layout) (sym is);
+    calls = subst (λ (e : Effect). FoldsTo (MadeIn renderer.canvas) s.out (calls_of_steps (renderer.canvas.ruler s.out) s.layout e.steps).calls m.out) (sym is) (sym (ap (λ (u : Surface Out). u.out) same));
+    layout = ap (λ (u : Surface Out). u.layout) same ∙ ap (λ (e : Effect). (calls_of_steps (renderer.canvas.ruler s.out) s.layout e.steps).layout) (sym is);
     stays = stays;
     reason = tt;
     stops = tt;
@@ -197,14 +197,14 @@ module _ {Out H Hi K T : Type 0} {renderer : renderers.Renderer.Ghosts Out} {com
       let e : Effect = edit (setting_of m) (value_of m) in
       record {
         value = subst (λ (x : Effect). OnOk result (value_of t ≡ x.value)) is h.value;
-        calls = subst (λ (x : Effect). OnOk result (FoldsTo (MadeIn renderer.canvas) s.out (asked (renderer.canvas.ruler s.out) s.layout x.steps).calls t.out)) is
-            (subst (λ (x : Surface Out). OnOk result (FoldsTo (MadeIn renderer.canvas) x.out (asked (renderer.canvas.ruler x.out) x.layout e.steps).calls t.out)) same h.calls);
-        layout = subst (λ (x : Effect). OnOk result (t.layout ≡ (asked (renderer.canvas.ruler s.out) s.layout x.steps).layout)) is
-            (subst (λ (x : Surface Out). OnOk result (t.layout ≡ (asked (renderer.canvas.ruler x.out) x.layout e.steps).layout)) same h.layout);
+        calls = subst (λ (x : Effect). OnOk result (FoldsTo (MadeIn renderer.canvas) s.out (calls_of_steps (renderer.canvas.ruler s.out) s.layout x.steps).calls t.out)) is
+            (subst (λ (x : Surface Out). OnOk result (FoldsTo (MadeIn renderer.canvas) x.out (calls_of_steps (renderer.canvas.ruler x.out) x.layout e.steps).calls t.out)) same h.calls);
+        layout = subst (λ (x : Effect). OnOk result (t.layout ≡ (calls_of_steps (renderer.canvas.ruler s.out) s.layout x.steps).layout)) is
+            (subst (λ (x : Surface Out). OnOk result (t.layout ≡ (calls_of_steps (renderer.canvas.ruler x.out) x.layout e.steps).layout)) same h.layout);
         stays = stays_both s m t stays h.stays;
         reason = h.reason;
-        stops = subst (λ (x : Effect). IfErr result (λ fault. Stops renderer.canvas (renderer.canvas.ruler s.out) x.steps (surface_of s) fault (value_of t) (surface_of t))) is
-            (subst (λ (x : Surface Out). IfErr result (λ fault. Stops renderer.canvas (renderer.canvas.ruler x.out) e.steps x fault (value_of t) (surface_of t))) same h.stops);
+        stops = subst (λ (x : Effect). IfErr result (λ fault. CutEditSteps renderer.canvas (renderer.canvas.ruler s.out) x.steps (surface_of s) fault (value_of t) (surface_of t))) is
+            (subst (λ (x : Surface Out). IfErr result (λ fault. CutEditSteps renderer.canvas (renderer.canvas.ruler x.out) e.steps x fault (value_of t) (surface_of t))) same h.stops);
       }
 
   -- indented by as many spaces as the setting says

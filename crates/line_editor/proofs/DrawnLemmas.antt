@@ -1,5 +1,5 @@
 -- One redraw in place of another that asks the same.
-use Rattle.std.proofs.Common.{◌≡◌, ℕ, true, false, [], refl, sym, ap, subst, ◌∙◌, if◌then◌else◌}
+use Rattle.std.proofs.Common.{◌≡◌, ℕ, take, true, false, [], refl, sym, ap, subst, ◌∙◌, if◌then◌else◌}
 use Rattle.std.specs.Prelude.{None, Result, Ok, Err, OnOk, IsErrAnd, IsTrue}
 use Rattle.std.specs.List.{FoldsTo}
 use Rattle.line_buffer.specs.Cells.{same_cell}
@@ -7,36 +7,36 @@ use Rattle.line_buffer.specs.declared.layout.Position.{Position}
 use Rattle.line_config.specs.declared.errors.ReadlineError.{ReadlineError}
 use Rattle.line_config.specs.declared.errors.ReadlineError.TheVariants.{Display}
 use Rattle.line_help.specs.declared.completion as completions
-use Rattle.line_help.specs.declared.hint as hints
-use Rattle.line_help.specs.declared.highlight as highlights
-use Rattle.line_help.specs.declared.validate as verdicts
+use Rattle.line_help.specs.declared.helpers.hint as hints
+use Rattle.line_help.specs.declared.helpers.highlight as highlights
+use Rattle.line_help.specs.declared.helpers.validate as verdicts
 use Rattle.line_help.specs.declared.history as histories
-use Rattle.line_editor.specs.Calls.{Ruler, MadeIn, BrokenOff}
-use Rattle.line_editor.specs.Calls.Call.{Move}
-use Rattle.line_editor.specs.Drawing.{drawn_with}
-use Rattle.line_editor.specs.Redraws.{Redraw, Asked, asked_by, nothing_asked, moved, moved_by_call, then_asked, full, typed_short, taken_short, may_type, may_take}
-use Rattle.line_editor.specs.Redraws.Redraw.{Drawn, Typed, Taken, Bared}
+use Rattle.line_editor.specs.RenderCalls.{Ruler, MadeIn, CutCalls}
+use Rattle.line_editor.specs.RenderCalls.Call.{Move}
+use Rattle.line_editor.specs.Drawing.{draw_effect_with}
+use Rattle.line_editor.specs.Redraws.{Redraw, RedrawCalls, calls_of_redraw, nothing_asked, move_calls, move_call, then_asked, full, char_call, erase_call, put_in_short, taken_out_short, may_type, may_take, may_put_in, may_take_out}
+use Rattle.line_editor.specs.Redraws.Redraw.{Drawn, Typed, Taken, PutIn, TakenOut, Bared}
 use Rattle.line_editor.specs.States.{value_of, setting_of, surface_of, Stays, Does, Renders}
-use Rattle.line_editor.specs.Steps.{Surface}
-use Rattle.line_editor.specs.Values.{Setting, Value, Transition, redrawn, shown_marks}
+use Rattle.line_editor.specs.EditSteps.{Surface}
+use Rattle.line_editor.specs.Values.{Setting, Value, Transition, draw_effect, shown_marks}
 use Rattle.line_editor.specs.declared.renderer as renderers
 use Rattle.line_editor.specs.declared.state.State.{State}
 use Rattle.line_editor.proofs.DoesLemmas.{does_refused, if_refused, is_err}
 use Rattle.line_editor.proofs.StopsLemmas.{broken_refused, stops_drawing, stops_drawn_as}
 
 -- the calls and the layout of one redraw
-abbrev asks : Asked → Asked
+abbrev asks : RedrawCalls → RedrawCalls
 asks a = then_asked a (nothing_asked a.layout)
 
 module _ {Out H Hi K T : Type 0} {renderer : renderers.Renderer.Ghosts Out} {completer : completions.Completer.Ghosts H K} {candidate : completions.Candidate.Ghosts K}
     {hinter : hints.Hinter.Ghosts H T} {hint : hints.Hint.Ghosts T} {highlighter : highlights.Highlighter.Ghosts H} {validator : verdicts.Validator.Ghosts H} {history : histories.History.Ghosts Hi} where
   drawn_as : {A : Type 0} (x y : Setting → Value → Redraw) (s t : State Out H Hi K T renderer completer candidate hinter hint highlighter validator history) (result : Result A ReadlineError)
-      → (let r : Ruler = renderer.canvas.ruler s.out in asked_by r (shown_marks (value_of s) (setting_of s).marks) s.layout (x (setting_of s) (value_of s)) ≡ asked_by r (shown_marks (value_of s) (setting_of s).marks) s.layout (y (setting_of s) (value_of s)))
-      → Does (λ a v. redrawn (x a v) a v) s t result → Does (λ a v. redrawn (y a v) a v) s t result
+      → (let r : Ruler = renderer.canvas.ruler s.out in calls_of_redraw r (shown_marks (value_of s) (setting_of s).marks) s.layout (x (setting_of s) (value_of s)) ≡ calls_of_redraw r (shown_marks (value_of s) (setting_of s).marks) s.layout (y (setting_of s) (value_of s)))
+      → Does (λ a v. draw_effect (x a v) a v) s t result → Does (λ a v. draw_effect (y a v) a v) s t result
   drawn_as x y s t result same h = record {
     value = h.value;
-    calls = subst (λ (a : Asked). OnOk result (FoldsTo (MadeIn renderer.canvas) s.out (asks a).calls t.out)) same h.calls;
-    layout = subst (λ (a : Asked). OnOk result (t.layout ≡ (asks a).layout)) same h.layout;
+    calls = subst (λ (a : RedrawCalls). OnOk result (FoldsTo (MadeIn renderer.canvas) s.out (asks a).calls t.out)) same h.calls;
+    layout = subst (λ (a : RedrawCalls). OnOk result (t.layout ≡ (asks a).layout)) same h.layout;
     stays = h.stays;
     reason = h.reason;
     stops = if_refused result (λ fault c. stops_drawn_as renderer.canvas (renderer.canvas.ruler s.out) (value_of s) (setting_of s).marks (x (setting_of s) (value_of s)) (y (setting_of s) (value_of s))
@@ -44,17 +44,31 @@ module _ {Out H Hi K T : Type 0} {renderer : renderers.Renderer.Ghosts Out} {com
   }
 
   pub typed_drawn : {A : Type 0} (c : ℕ) (s t : State Out H Hi K T renderer completer candidate hinter hint highlighter validator history) (result : Result A ReadlineError)
-      → may_type (renderer.canvas.ruler s.out) s.layout ≡ false → Does (drawn_with None) s t result → Does (λ a v. redrawn (Typed a.prompt c v.line.text v.line.place) a v) s t result
+      → may_type (renderer.canvas.ruler s.out) s.layout ≡ false → Does (draw_effect_with None) s t result → Does (λ a v. draw_effect (Typed a.prompt c v.line.text v.line.place) a v) s t result
   typed_drawn c s t result is h = drawn_as (λ a v. Drawn a.prompt true v.line.text v.line.place None) (λ a v. Typed a.prompt c v.line.text v.line.place) s t result
-      (ap (λ b. if b then typed_short s.layout c else full (renderer.canvas.ruler s.out) (shown_marks (value_of s) (setting_of s).marks) s.layout s.prompt.now true s.recorded.line.text s.recorded.line.place None) (sym is)) h
+      (ap (λ b. if b then char_call s.layout c else full (renderer.canvas.ruler s.out) (shown_marks (value_of s) (setting_of s).marks) s.layout s.prompt.now true s.recorded.line.text s.recorded.line.place None) (sym is)) h
 
   pub taken_drawn : {A : Type 0} (count : ℕ) (s t : State Out H Hi K T renderer completer candidate hinter hint highlighter validator history) (result : Result A ReadlineError)
-      → may_take s.layout count ≡ false → Does (drawn_with None) s t result → Does (λ a v. redrawn (Taken a.prompt count v.line.text v.line.place) a v) s t result
+      → may_take s.layout count ≡ false → Does (draw_effect_with None) s t result → Does (λ a v. draw_effect (Taken a.prompt count v.line.text v.line.place) a v) s t result
   taken_drawn count s t result is h = drawn_as (λ a v. Drawn a.prompt true v.line.text v.line.place None) (λ a v. Taken a.prompt count v.line.text v.line.place) s t result
-      (ap (λ b. if b then taken_short s.layout count else full (renderer.canvas.ruler s.out) (shown_marks (value_of s) (setting_of s).marks) s.layout s.prompt.now true s.recorded.line.text s.recorded.line.place None) (sym is)) h
+      (ap (λ b. if b then erase_call s.layout count else full (renderer.canvas.ruler s.out) (shown_marks (value_of s) (setting_of s).marks) s.layout s.prompt.now true s.recorded.line.text s.recorded.line.place None) (sym is)) h
+
+  pub put_in_drawn : {A : Type 0} (c : ℕ) (s t : State Out H Hi K T renderer completer candidate hinter hint highlighter validator history) (result : Result A ReadlineError)
+      → may_put_in (renderer.canvas.ruler s.out) s.layout ≡ false → Does (draw_effect_with None) s t result → Does (λ a v. draw_effect (PutIn a.prompt c v.line.text v.line.place) a v) s t result
+  put_in_drawn c s t result is h = drawn_as (λ a v. Drawn a.prompt true v.line.text v.line.place None) (λ a v. PutIn a.prompt c v.line.text v.line.place) s t result
+      (ap (λ b. if b then put_in_short s.layout c else full (renderer.canvas.ruler s.out) (shown_marks (value_of s) (setting_of s).marks) s.layout s.prompt.now true s.recorded.line.text s.recorded.line.place None) (sym is)) h
+
+  pub taken_out_drawn : {A : Type 0} (count : ℕ) (at : Position) (s t : State Out H Hi K T renderer completer candidate hinter hint highlighter validator history) (result : Result A ReadlineError)
+      → at ≡ (renderer.canvas.ruler s.out).measure (take s.recorded.line.place s.recorded.line.text) s.layout.prompt_size → may_take_out s.layout at count ≡ false
+      → Does (draw_effect_with None) s t result → Does (λ a v. draw_effect (TakenOut a.prompt count v.line.text v.line.place) a v) s t result
+  taken_out_drawn count at s t result cell is h =
+      let there = (renderer.canvas.ruler s.out).measure (take s.recorded.line.place s.recorded.line.text) s.layout.prompt_size in
+      drawn_as (λ a v. Drawn a.prompt true v.line.text v.line.place None) (λ a v. TakenOut a.prompt count v.line.text v.line.place) s t result
+      (ap (λ b. if b then taken_out_short s.layout there count else full (renderer.canvas.ruler s.out) (shown_marks (value_of s) (setting_of s).marks) s.layout s.prompt.now true s.recorded.line.text s.recorded.line.place None)
+      (sym (ap (λ p. may_take_out s.layout p count) (sym cell) ∙ is))) h
 
   pub bared_drawn : {A : Type 0} (s t : State Out H Hi K T renderer completer candidate hinter hint highlighter validator history) (result : Result A ReadlineError)
-      → s.layout.default_prompt ≡ false → Does (drawn_with None) s t result → Does (λ a v. redrawn (Bared a.prompt v.line.text v.line.place) a v) s t result
+      → s.layout.default_prompt ≡ false → Does (draw_effect_with None) s t result → Does (λ a v. draw_effect (Bared a.prompt v.line.text v.line.place) a v) s t result
   bared_drawn s t result is h = drawn_as (λ a v. Drawn a.prompt true v.line.text v.line.place None) (λ a v. Bared a.prompt v.line.text v.line.place) s t result
       (ap (λ b. if b then nothing_asked s.layout else full (renderer.canvas.ruler s.out) (shown_marks (value_of s) (setting_of s).marks) s.layout s.prompt.now true s.recorded.line.text s.recorded.line.place None) (sym is)) h
 
@@ -62,15 +76,15 @@ module _ {Out H Hi K T : Type 0} {renderer : renderers.Renderer.Ghosts Out} {com
 
   -- it stands there
   pub cursor_rests : {A : Type 0} (x : Setting → Value → Redraw) (p : Position) (s t : State Out H Hi K T renderer completer candidate hinter hint highlighter validator history) (y : A)
-      → moved s.layout p ≡ asked_by (renderer.canvas.ruler s.out) (shown_marks (value_of s) (setting_of s).marks) s.layout (x (setting_of s) (value_of s)) → same_cell s.layout.cursor p ≡ true
-      → value_of t ≡ value_of s → surface_of t ≡ surface_of s → Stays s t → Renders (λ a v. redrawn (x a v) a v) s t (Ok y)
+      → move_calls s.layout p ≡ calls_of_redraw (renderer.canvas.ruler s.out) (shown_marks (value_of s) (setting_of s).marks) s.layout (x (setting_of s) (value_of s)) → same_cell s.layout.cursor p ≡ true
+      → value_of t ≡ value_of s → surface_of t ≡ surface_of s → Stays s t → Renders (λ a v. draw_effect (x a v) a v) s t (Ok y)
   cursor_rests x p s t y is same value surface stays =
-      let asked = ap (λ b. if b then nothing_asked s.layout else moved_by_call s.layout p) (sym same) ∙ is in
+      let asked = ap (λ b. if b then nothing_asked s.layout else move_call s.layout p) (sym same) ∙ is in
       record {
         does = record {
           value = value;
-          calls = subst (λ (a : Asked). FoldsTo (MadeIn renderer.canvas) s.out (asks a).calls t.out) asked (sym (ap (λ (u : Surface Out). u.out) surface));
-          layout = subst (λ (a : Asked). t.layout ≡ (asks a).layout) asked (ap (λ (u : Surface Out). u.layout) surface);
+          calls = subst (λ (a : RedrawCalls). FoldsTo (MadeIn renderer.canvas) s.out (asks a).calls t.out) asked (sym (ap (λ (u : Surface Out). u.out) surface));
+          layout = subst (λ (a : RedrawCalls). t.layout ≡ (asks a).layout) asked (ap (λ (u : Surface Out). u.layout) surface);
           stays = stays;
           reason = tt;
           stops = tt;
@@ -80,15 +94,15 @@ module _ {Out H Hi K T : Type 0} {renderer : renderers.Renderer.Ghosts Out} {com
 
   -- it was moved
   pub cursor_goes : {A : Type 0} (x : Setting → Value → Redraw) (p : Position) (s t : State Out H Hi K T renderer completer candidate hinter hint highlighter validator history) (y : A)
-      → moved s.layout p ≡ asked_by (renderer.canvas.ruler s.out) (shown_marks (value_of s) (setting_of s).marks) s.layout (x (setting_of s) (value_of s)) → same_cell s.layout.cursor p ≡ false
-      → value_of t ≡ value_of s → renderer.canvas.made s.out (Move s.layout.cursor p) t.out → t.layout ≡ record s.layout { cursor = p } → Stays s t → Renders (λ a v. redrawn (x a v) a v) s t (Ok y)
+      → move_calls s.layout p ≡ calls_of_redraw (renderer.canvas.ruler s.out) (shown_marks (value_of s) (setting_of s).marks) s.layout (x (setting_of s) (value_of s)) → same_cell s.layout.cursor p ≡ false
+      → value_of t ≡ value_of s → renderer.canvas.made s.out (Move s.layout.cursor p) t.out → t.layout ≡ record s.layout { cursor = p } → Stays s t → Renders (λ a v. draw_effect (x a v) a v) s t (Ok y)
   cursor_goes x p s t y is same value made layout stays =
-      let asked = ap (λ b. if b then nothing_asked s.layout else moved_by_call s.layout p) (sym same) ∙ is in
+      let asked = ap (λ b. if b then nothing_asked s.layout else move_call s.layout p) (sym same) ∙ is in
       record {
         does = record {
           value = value;
-          calls = subst (λ (a : Asked). FoldsTo (MadeIn renderer.canvas) s.out (asks a).calls t.out) asked (t.out, made, refl);
-          layout = subst (λ (a : Asked). t.layout ≡ (asks a).layout) asked layout;
+          calls = subst (λ (a : RedrawCalls). FoldsTo (MadeIn renderer.canvas) s.out (asks a).calls t.out) asked (t.out, made, refl);
+          layout = subst (λ (a : RedrawCalls). t.layout ≡ (asks a).layout) asked layout;
           stays = stays;
           reason = tt;
           stops = tt;
@@ -99,15 +113,15 @@ module _ {Out H Hi K T : Type 0} {renderer : renderers.Renderer.Ghosts Out} {com
   -- it failed
   pub cursor_refused : {A : Type 0} (x : Setting → Value → Redraw) (p : Position) (s t : State Out H Hi K T renderer completer candidate hinter hint highlighter validator history)
       (e : ReadlineError) (result : Result A ReadlineError) → IsErrAnd result (λ y. y ≡ e) → e ≡ Display
-      → moved s.layout p ≡ asked_by (renderer.canvas.ruler s.out) (shown_marks (value_of s) (setting_of s).marks) s.layout (x (setting_of s) (value_of s)) → same_cell s.layout.cursor p ≡ false
+      → move_calls s.layout p ≡ calls_of_redraw (renderer.canvas.ruler s.out) (shown_marks (value_of s) (setting_of s).marks) s.layout (x (setting_of s) (value_of s)) → same_cell s.layout.cursor p ≡ false
       → value_of t ≡ value_of s → renderer.canvas.refused s.out (Move s.layout.cursor p) t.out → IsTrue (renderer.canvas.failed t.out) → t.layout ≡ s.layout → Stays s t
-      → Renders (λ a v. redrawn (x a v) a v) s t result
+      → Renders (λ a v. draw_effect (x a v) a v) s t result
   cursor_refused {A} x p s t e result failed fault is same value refused why layout stays =
-      let asked = ap (λ b. if b then nothing_asked s.layout else moved_by_call s.layout p) (sym same) ∙ is in
-      let edit : Transition = λ a v. redrawn (x a v) a v in
+      let asked = ap (λ b. if b then nothing_asked s.layout else move_call s.layout p) (sym same) ∙ is in
+      let edit : Transition = λ a v. draw_effect (x a v) a v in
       subst (λ (r : Result A ReadlineError). Renders edit s t r) (sym (is_err e result failed ∙ ap Err fault)) (record {
         does = does_refused edit s t Display stays why
             (stops_drawing renderer.canvas (renderer.canvas.ruler s.out) (value_of s) (setting_of s).marks (x (setting_of s) (value_of s)) [] (surface_of s) (surface_of t) Display (value_of t) refl
-            (subst (λ (a : Asked). BrokenOff renderer.canvas a.calls s.out t.out) asked (broken_refused renderer.canvas (Move s.layout.cursor p) [] s.out t.out refl refused)) layout value);
+            (subst (λ (a : RedrawCalls). CutCalls renderer.canvas a.calls s.out t.out) asked (broken_refused renderer.canvas (Move s.layout.cursor p) [] s.out t.out refl refused)) layout value);
         fault = refl;
       })

@@ -2,47 +2,47 @@
 use Rattle.std.proofs.Common.{◌≡◌, ℕ, ◌==◌, ◌||◌, Bool, true, false, List, [], ◌∷◌, ◌++◌, length, drop, Option, Some, None, is_some, slice_get, ◌&&◌, refl, sym, ap, ◌∙◌, subst, arith, if◌then◌else◌}
 use Rattle.std.proofs.lemmas.Bool.Decides.{nat_tests}
 use Rattle.std.specs.Prelude.{◌≢◌, slice_range}
-use Rattle.line_buffer.specs.Event.{Event}
-use Rattle.line_buffer.specs.Event.Event.{Delete, InsertStr, Replace}
-use Rattle.line_buffer.specs.Insertions.{kept_text}
+use Rattle.line_buffer.specs.Event.{ChangeEvent}
+use Rattle.line_buffer.specs.Event.ChangeEvent.{Delete, InsertStr, Replace}
+use Rattle.line_buffer.specs.Insertions.{text_that_fits}
 use Rattle.line_buffer.specs.Line.{Line}
-use Rattle.line_buffer.specs.Replay.{replayed}
+use Rattle.line_buffer.specs.Replay.{text_after_event}
 use Rattle.line_buffer.specs.declared.types.Direction.TheVariants.{Forward}
-use Rattle.line_edits.specs.Edits.{by, updating_in_group}
+use Rattle.line_edits.specs.Edits.{by, update_group}
 use Rattle.line_help.specs.Completion.{Offered, Completion, unless_empty}
 use Rattle.line_help.specs.Search.{Hit, TermAt}
-use Rattle.line_help.specs.declared.search.SearchDirection.{SearchDirection}
+use Rattle.line_help.specs.declared.history.search.SearchDirection.{SearchDirection}
 use Rattle.line_help.proofs.FoundLemmas.{nearest_is_found}
 use Rattle.line_keys.specs.Replies.{Reply}
 use Rattle.line_keys.specs.declared.command.Cmd.TheVariants.{Complete}
 use Rattle.line_record.specs.Change.{Change, undo_place}
 use Rattle.line_record.specs.Change.Change.{Inserted, Replaced}
-use Rattle.line_record.specs.Course.{recorded_all}
-use Rattle.line_record.specs.Held.{Held, change_of, stepped_if, recorded_in, has_mark, closes, grouped, ended, line_back}
-use Rattle.line_record.specs.Held.Held.{Opened, Stepped}
+use Rattle.line_record.specs.RecordCourse.{record_after_events}
+use Rattle.line_record.specs.Held.{HeldItem, change_of, steps_with_change_if, record_after_event, has_mark, closes, group_with_change, record_after_close, line_back}
+use Rattle.line_record.specs.Held.HeldItem.{Opened, Stepped}
 use Rattle.line_record.proofs.GroupLaws.{unchanged}
 use Rattle.line_record.proofs.RecordLaws.{no_mark}
-use Rattle.line_editor.specs.Candidates.{text_at, candidate_at, turned_with, turned, cycle_at, cycle_back, cycle_by}
+use Rattle.line_editor.specs.Candidates.{text_at, candidate_at, turn_effect_with, turn_effect, cycle_at, cycle_back, cycle_by}
 use Rattle.line_editor.specs.Completing.{begins_word, word_replaced, candidates_given}
-use Rattle.line_editor.specs.Returns.{GivesBack, is_onward, AllOnward, Between, sought_first, sought_on, sought_all, GivesWordBack, cycled_first, cycled_on, cycled_all}
+use Rattle.line_editor.specs.Returns.{GivesBack, is_onward, AllOnward, Between, search_start, search_after_act, search_after_acts, GivesWordBack, cycle_start, cycle_after_turn, cycle_after_turns}
 use Rattle.line_editor.specs.Modal.{Modal}
-use Rattle.line_editor.specs.Searching.{hit_back, found_put, sought, looked, looks, looks_again, search_drawn, onward, queried, erased, typed_in, is_place, placed}
-use Rattle.line_editor.specs.Values.{Value, Setting, rewritten, completion_reply}
+use Rattle.line_editor.specs.Searching.{hit_undo_effect, put_hit_effect, search_for, modal_after_look, looks, looks_again, search_drawn, onward, modal_with_query, modal_after_erase, modal_with_char, is_place, line_at_place}
+use Rattle.line_editor.specs.Values.{Value, Setting, value_with_edit, completion_reply}
 use Rattle.line_editor.specs.declared.modal_state.Act.{Act}
 use Rattle.line_editor.specs.declared.modal_state.Act.TheVariants.{Types, Erases, Goes, Leaves, Ends}
 
 -- ---- an entry put in place of a line is one step
 
 -- a step on a text, and what was held before it
-record OneStep (text : List ℕ) (older held : List Held) : Type 0 where
+record OneStep (text : List ℕ) (older held : List HeldItem) : Type 0 where
   place : ℕ
   newest : Change
   joinable : Bool
   are : held ≡ Stepped text place newest joinable ∷ older
 
 -- of a group of a deletion, if there is one, and an insertion
-closed_steps : (at : ℕ) (added removed text between : List ℕ) (first : Option Change) (c : Change) (older : List Held) → has_mark older ≡ false → (first ≡ None → between ≡ text)
-    → OneStep text older (ended (stepped_if (InsertStr at added) (Some c) between (stepped_if (Delete at removed Forward) first text (Opened text ∷ older))))
+closed_steps : (at : ℕ) (added removed text between : List ℕ) (first : Option Change) (c : Change) (older : List HeldItem) → has_mark older ≡ false → (first ≡ None → between ≡ text)
+    → OneStep text older (record_after_close (steps_with_change_if (InsertStr at added) (Some c) between (steps_with_change_if (Delete at removed Forward) first text (Opened text ∷ older))))
 closed_steps at added removed text between None c older none same =
     let m = no_mark older none in
     record { place = undo_place c; newest = c; joinable = false; are = rw (m.1, m.0) (ap (λ t. Stepped t (undo_place c) c false ∷ older) (same refl)) }
@@ -69,18 +69,18 @@ whole_text false c text other h = cc
 
 -- an entry that isn't empty, in a line that may grow
 put_step : (entry : List ℕ) (pos : ℕ) (v : Value) → v.line.growth ≡ true → has_mark v.held ≡ false → (length entry == 0) ≡ false
-    → OneStep v.line.text v.held (rewritten (by (updating_in_group entry pos)) v).held
-unfolding recorded_all
+    → OneStep v.line.text v.held (value_with_edit (by (update_group entry pos)) v).held
+unfolding record_after_events
 put_step entry pos v grows none some =
     let l = v.line in
     let removed = slice_range l.text 0 (length l.text) in
     let d = Delete 0 removed Forward in
-    let added = kept_text entry l in
+    let added = text_that_fits entry l in
     let whole : added ≡ entry = whole_text l.growth _ entry _ grows in
     let c = Inserted 0 added in
     let change : change_of (InsertStr 0 added) ≡ Some c = put_change (length added == 0) added c (ap (λ t. length t == 0) whole ∙ some) in
-    subst (λ o. OneStep l.text v.held (ended (stepped_if (InsertStr 0 added) o (replayed d l.text) (recorded_in d l.text (Opened l.text ∷ v.held))))) (sym change)
-    (closed_steps 0 added removed l.text (replayed d l.text) (change_of d) c v.held none (λ nothing. unchanged d l.text nothing))
+    subst (λ o. OneStep l.text v.held (record_after_close (steps_with_change_if (InsertStr 0 added) o (text_after_event d l.text) (record_after_event d l.text (Opened l.text ∷ v.held))))) (sym change)
+    (closed_steps 0 added removed l.text (text_after_event d l.text) (change_of d) c v.held none (λ nothing. unchanged d l.text nothing))
 
 -- ---- what stands of a search
 
@@ -92,8 +92,8 @@ record SameText (l m : Line) : Type 0 where
 
 -- nothing stands in the line's place, or one step does
 abbrev Standing : Value → Bool → Value → Type 0
-Standing v false u = (u.line ≡ v.line) × (u.held ≡ ended v.held)
-Standing v true u = OneStep v.line.text (ended v.held) u.held × (u.line.growth ≡ v.line.growth) × (u.line.limit ≡ v.line.limit)
+Standing v false u = (u.line ≡ v.line) × (u.held ≡ record_after_close v.held)
+Standing v true u = OneStep v.line.text (record_after_close v.held) u.held × (u.line.growth ≡ v.line.growth) × (u.line.limit ≡ v.line.limit)
 
 record Inside (v : Value) (x : Between) : Type 0 where
   place : x.modal.place ≡ v.line.place
@@ -102,9 +102,9 @@ record Inside (v : Value) (x : Between) : Type 0 where
 -- it is undone
 record Back (v w : Value) : Type 0 where
   line : SameText v.line w.line
-  held : w.held ≡ ended v.held
+  held : w.held ≡ record_after_close v.held
 
-taken_back : (put : Bool) (s : Setting) (v u : Value) → Standing v put u → Back v (hit_back put s u).value
+taken_back : (put : Bool) (s : Setting) (v u : Value) → Standing v put u → Back v (hit_undo_effect put s u).value
 taken_back false s v u h = record { line = record { text = ap (λ (l : Line). l.text) h.0; growth = ap (λ (l : Line). l.growth) h.0; limit = ap (λ (l : Line). l.limit) h.0 }; held = h.1 }
 taken_back true s v u h =
     let step = h.0 in
@@ -114,36 +114,36 @@ taken_back true s v u h =
       held = ap (λ held. drop 1 held) step.are;
     }
 
-grouped_marks : (c : Change) (held : List Held) → has_mark (grouped c held) ≡ has_mark held
+grouped_marks : (c : Change) (held : List HeldItem) → has_mark (group_with_change c held) ≡ has_mark held
 grouped_marks c [] = refl
 grouped_marks c (Opened text ∷ held) = refl
 grouped_marks c (Stepped text place newest joinable ∷ held) = refl
 
-step_unmarked : (a b : Bool) (text : List ℕ) (place : ℕ) (newest : Change) (joinable : Bool) (held : List Held) → has_mark held ≡ b → has_mark (ended held) ≡ false
-    → has_mark (if a then grouped newest (ended held) else if b then Stepped text place newest false ∷ ended held else Stepped text place newest joinable ∷ held) ≡ false
-step_unmarked true b text place newest joinable held is below = grouped_marks newest (ended held) ∙ below
+step_unmarked : (a b : Bool) (text : List ℕ) (place : ℕ) (newest : Change) (joinable : Bool) (held : List HeldItem) → has_mark held ≡ b → has_mark (record_after_close held) ≡ false
+    → has_mark (if a then group_with_change newest (record_after_close held) else if b then Stepped text place newest false ∷ record_after_close held else Stepped text place newest joinable ∷ held) ≡ false
+step_unmarked true b text place newest joinable held is below = grouped_marks newest (record_after_close held) ∙ below
 step_unmarked false true text place newest joinable held is below = below
 step_unmarked false false text place newest joinable held is below = is
 
-ended_unmarked : (held : List Held) → has_mark (ended held) ≡ false
+ended_unmarked : (held : List HeldItem) → has_mark (record_after_close held) ≡ false
 ended_unmarked [] = refl
 ended_unmarked (Opened text ∷ held) = ended_unmarked held
 ended_unmarked (Stepped text place newest joinable ∷ held) = step_unmarked (closes held) (has_mark held) text place newest joinable held refl (ended_unmarked held)
 
 -- another one is put there
-put_stands : (put : Bool) (hit : Hit) (s : Setting) (v u : Value) → v.line.growth ≡ true → (length hit.entry == 0) ≡ false → Standing v put u → Standing v true (found_put put (Some hit) s u).value
+put_stands : (put : Bool) (hit : Hit) (s : Setting) (v u : Value) → v.line.growth ≡ true → (length hit.entry == 0) ≡ false → Standing v put u → Standing v true (put_hit_effect put (Some hit) s u).value
 put_stands put hit s v u grows some h =
-    let w = (hit_back put s u).value in
+    let w = (hit_undo_effect put s u).value in
     let b = taken_back put s v u h in
     let step = put_step hit.entry hit.pos w (b.line.growth ∙ grows) (ap has_mark b.held ∙ ended_unmarked v.held) some in (
-      subst (λ text. OneStep text (ended v.held) (rewritten (by (updating_in_group hit.entry hit.pos)) w).held) b.line.text
-          (subst (λ older. OneStep w.line.text older (rewritten (by (updating_in_group hit.entry hit.pos)) w).held) b.held step),
+      subst (λ text. OneStep text (record_after_close v.held) (value_with_edit (by (update_group hit.entry hit.pos)) w).held) b.line.text
+          (subst (λ older. OneStep w.line.text older (value_with_edit (by (update_group hit.entry hit.pos)) w).held) b.held step),
       b.line.growth,
       b.line.limit,
     )
 
 -- what was found isn't empty
-found_some : (query : List ℕ) (dir : SearchDirection) (from : Option ℕ) (entries : List (List ℕ)) (hit : Hit) → sought query dir from entries ≡ Some hit → (length hit.entry == 0) ≡ false
+found_some : (query : List ℕ) (dir : SearchDirection) (from : Option ℕ) (entries : List (List ℕ)) (hit : Hit) → search_for query dir from entries ≡ Some hit → (length hit.entry == 0) ≡ false
 found_some query dir None entries hit is = cc
 found_some query dir (Some from) entries hit is =
     let n = (nearest_is_found false query from dir entries hit).0 is in
@@ -151,19 +151,19 @@ found_some query dir (Some from) entries hit is =
     ap (λ t. length t == 0) at.2 ∙ not_none at.0 query at.1 n.some
 
 looked_inside : (dir : SearchDirection) (hit : Option Hit) (q : Modal) (s : Setting) (v u : Value) → v.line.growth ≡ true → ((found : Hit) → hit ≡ Some found → (length found.entry == 0) ≡ false)
-    → q.place ≡ v.line.place → Standing v q.put u → (let y = looked dir hit q in (y.place ≡ v.line.place) × Standing v y.put (found_put q.put hit s u).value)
+    → q.place ≡ v.line.place → Standing v q.put u → (let y = modal_after_look dir hit q in (y.place ≡ v.line.place) × Standing v y.put (put_hit_effect q.put hit s u).value)
 looked_inside dir None q s v u grows some place h = (place, h)
 looked_inside dir (Some hit) q s v u grows some place h = (place, put_stands q.put hit s v u grows (some hit refl) h)
 
 looks_inside : (dir : SearchDirection) (from : Option ℕ) (q : Modal) (s : Setting) (v u : Value) → v.line.growth ≡ true → q.place ≡ v.line.place → Standing v q.put u
     → Inside v (let m = looks dir from q s u in record { modal = m.modal; value = m.effect.value })
 looks_inside dir from q s v u grows place h =
-    let hit = sought q.query dir from s.entries in
+    let hit = search_for q.query dir from s.entries in
     let k = looked_inside dir hit q s v u grows (λ found is. found_some q.query dir from s.entries found is) place h in
-    record { place = k.0; stands = drawn (looked dir hit q).put (found_put q.put hit s u).value k.1 }
+    record { place = k.0; stands = drawn (modal_after_look dir hit q).put (put_hit_effect q.put hit s u).value k.1 }
   where
     -- drawing changes neither line nor record
-    drawn : (put : Bool) (w : Value) → Standing v put w → (let e = search_drawn (looked dir (sought q.query dir from s.entries) q) s w in Standing v put e.value)
+    drawn : (put : Bool) (w : Value) → Standing v put w → (let e = search_drawn (modal_after_look dir (search_for q.query dir from s.entries) q) s w in Standing v put e.value)
     drawn true w g = g
     drawn false w g = g
 
@@ -173,7 +173,7 @@ same_line : (l m : Line) → SameText l m → record m { place = l.place } ≡ l
 same_line l m h = ap (λ t. record m { text = t; place = l.place }) h.text ∙ ap (λ g. record m { text = l.text; place = l.place; growth = g }) h.growth
     ∙ ap (λ n. record { text = l.text; place = l.place; growth = l.growth; limit = n }) h.limit
 
-placed_back : (place : ℕ) (l m : Line) → SameText l m → place ≡ l.place → is_place l.place l ≡ true → placed place m ≡ l
+placed_back : (place : ℕ) (l m : Line) → SameText l m → place ≡ l.place → is_place l.place l ≡ true → line_at_place place m ≡ l
 placed_back place l m h at stands =
     let test : is_place place m ≡ true = ap (λ p. is_place p m) at ∙ ap (λ t. is_place l.place (record m { text = t })) h.text ∙ stands in
     ap (λ b. if b then record m { place = place } else m) test ∙ ap (λ p. record m { place = p }) at ∙ same_line l m h
@@ -182,33 +182,33 @@ again_inside : (empty : Bool) (q : Modal) (s : Setting) (v u : Value) → v.line
     → Inside v (let m = looks_again empty q s u in record { modal = m.modal; value = m.effect.value })
 again_inside true q s v u grows stands place h =
     let b = taken_back q.put s v u h in
-    record { place = place; stands = (placed_back q.place v.line (hit_back q.put s u).value.line b.line place stands, b.held) }
+    record { place = place; stands = (placed_back q.place v.line (hit_undo_effect q.put s u).value.line b.line place stands, b.held) }
 again_inside false q s v u grows stands place h = looks_inside q.dir (Some q.start) q s v u grows place h
 
-goes_on : (act : Act) (s : Setting) (v : Value) (x : Between) → v.line.growth ≡ true → is_place v.line.place v.line ≡ true → is_onward act ≡ true → Inside v x → Inside v (sought_on s act x)
-goes_on (Types c) s v x grows stands on h = looks_inside x.modal.dir (Some x.modal.at) (typed_in c x.modal) s v x.value grows h.place h.stands
-goes_on Erases s v x grows stands on h = again_inside (length (erased x.modal).query == 0) (erased x.modal) s v x.value grows stands h.place h.stands
-goes_on (Goes dir) s v x grows stands on h = looks_inside dir (onward dir x.modal (length s.entries)) (queried x.modal.query x.modal) s v x.value grows h.place h.stands
+goes_on : (act : Act) (s : Setting) (v : Value) (x : Between) → v.line.growth ≡ true → is_place v.line.place v.line ≡ true → is_onward act ≡ true → Inside v x → Inside v (search_after_act s act x)
+goes_on (Types c) s v x grows stands on h = looks_inside x.modal.dir (Some x.modal.at) (modal_with_char c x.modal) s v x.value grows h.place h.stands
+goes_on Erases s v x grows stands on h = again_inside (length (modal_after_erase x.modal).query == 0) (modal_after_erase x.modal) s v x.value grows stands h.place h.stands
+goes_on (Goes dir) s v x grows stands on h = looks_inside dir (onward dir x.modal (length s.entries)) (modal_with_query x.modal.query x.modal) s v x.value grows h.place h.stands
 goes_on Leaves s v x grows stands on h = cc
 goes_on Ends s v x grows stands on h = cc
 
-all_go_on : (acts : List Act) (s : Setting) (v : Value) (x : Between) → v.line.growth ≡ true → is_place v.line.place v.line ≡ true → AllOnward acts → Inside v x → Inside v (sought_all s acts x)
+all_go_on : (acts : List Act) (s : Setting) (v : Value) (x : Between) → v.line.growth ≡ true → is_place v.line.place v.line ≡ true → AllOnward acts → Inside v x → Inside v (search_after_acts s acts x)
 all_go_on [] s v x grows stands on h = h
-all_go_on (act ∷ acts) s v x grows stands on h = all_go_on acts s v (sought_on s act x) grows stands on.1 (goes_on act s v x grows stands on.0 h)
+all_go_on (act ∷ acts) s v x grows stands on h = all_go_on acts s v (search_after_act s act x) grows stands on.1 (goes_on act s v x grows stands on.0 h)
 
 -- ---- given up
 
 pub gives_back : GivesBack
 gives_back s dir q v acts grows stands on =
-    let first = sought_first s dir q v in
-    let x = sought_all s acts first in
+    let first = search_start s dir q v in
+    let x = search_after_acts s acts first in
     let h = all_go_on acts s v first grows stands on (record { place = refl; stands = (refl, refl) }) in
     let b = taken_back x.modal.put s v x.value h.stands in
-    (placed_back x.modal.place v.line (hit_back x.modal.put s x.value).value.line b.line h.place stands, b.held)
+    (placed_back x.modal.place v.line (hit_undo_effect x.modal.put s x.value).value.line b.line h.place stands, b.held)
 
 -- ---- a candidate put in place of a word is one step
 
-word_closed : (e : Event) (c : Change) (text : List ℕ) (older : List Held) → has_mark older ≡ false → OneStep text older (ended (stepped_if e (Some c) text (Opened text ∷ older)))
+word_closed : (e : ChangeEvent) (c : Change) (text : List ℕ) (older : List HeldItem) → has_mark older ≡ false → OneStep text older (record_after_close (steps_with_change_if e (Some c) text (Opened text ∷ older)))
 word_closed e c text older none = let m = no_mark older none in record { place = undo_place c; newest = c; joinable = false; are = rw (m.1, m.0) refl }
 
 replaced_change : (a b : Bool) (c : Change) → b ≡ false → (if a && b then None else Some c) ≡ Some c
@@ -216,14 +216,14 @@ replaced_change true true c h = cc
 replaced_change true false c h = refl
 replaced_change false b c h = refl
 
-word_step : (start : ℕ) (text : List ℕ) (v : Value) → has_mark v.held ≡ false → (length text == 0) ≡ false → OneStep v.line.text v.held (rewritten (word_replaced start text) v).held
-unfolding recorded_all
+word_step : (start : ℕ) (text : List ℕ) (v : Value) → has_mark v.held ≡ false → (length text == 0) ≡ false → OneStep v.line.text v.held (value_with_edit (word_replaced start text) v).held
+unfolding record_after_events
 word_step start text v none some =
     let l = v.line in
     let before = slice_range l.text start l.place in
     let e = Replace start before text in
     let c = Replaced start before text in
-    subst (λ o. OneStep l.text v.held (ended (stepped_if e o l.text (Opened l.text ∷ v.held)))) (sym (replaced_change (length before == 0) (length text == 0) c some)) (word_closed e c l.text v.held none)
+    subst (λ o. OneStep l.text v.held (record_after_close (steps_with_change_if e o l.text (Opened l.text ∷ v.held)))) (sym (replaced_change (length before == 0) (length text == 0) c some)) (word_closed e c l.text v.held none)
 
 -- a text that is put isn't empty
 some_text : (t text : List ℕ) → unless_empty t ≡ Some text → (length text == 0) ≡ false
@@ -240,17 +240,17 @@ begun_some true (Some o) text is = some_text o.replacement text is
 begun_some false o text is = cc
 
 turned_stands : (start : ℕ) (o : Option (List ℕ)) (s : Setting) (v w : Value) → ((text : List ℕ) → o ≡ Some text → (length text == 0) ≡ false) → Standing v false w
-    → Standing v (is_some o) (turned_with start o s w).value
+    → Standing v (is_some o) (turn_effect_with start o s w).value
 turned_stands start None s v w some h = h
 turned_stands start (Some text) s v w some h =
-    let held = (rewritten (word_replaced start text) w).held in
+    let held = (value_with_edit (word_replaced start text) w).held in
     let step = word_step start text w (ap has_mark h.1 ∙ ended_unmarked v.held) (some text refl) in (
-      subst (λ t. OneStep t (ended v.held) held) (ap (λ (l : Line). l.text) h.0) (subst (λ older. OneStep w.line.text older held) h.1 step),
+      subst (λ t. OneStep t (record_after_close v.held) held) (ap (λ (l : Line). l.text) h.0) (subst (λ older. OneStep w.line.text older held) h.1 step),
       ap (λ (l : Line). l.growth) h.0,
       ap (λ (l : Line). l.limit) h.0,
     )
 
-candidate_stands : (at : ℕ) (found : Completion) (s : Setting) (v w : Value) → Standing v false w → Standing v (is_some (candidate_at at found w.line)) (turned at found s w).value
+candidate_stands : (at : ℕ) (found : Completion) (s : Setting) (v w : Value) → Standing v false w → Standing v (is_some (candidate_at at found w.line)) (turn_effect at found s w).value
 candidate_stands at found s v w h =
     turned_stands found.start (candidate_at at found w.line) s v w (begun_some (begins_word found.start w.line) (slice_get found.candidates at)) h
 
@@ -266,18 +266,18 @@ cycles_on (Some reply) dir s v x stands h =
     record {
       place = h.place;
       stands = candidate_stands (cycle_at dir x.modal.candidate (length found.candidates)) found s v w
-          (placed_back x.modal.place v.line (hit_back x.modal.put s x.value).value.line b.line h.place stands, b.held);
+          (placed_back x.modal.place v.line (hit_undo_effect x.modal.put s x.value).value.line b.line h.place stands, b.held);
     }
 
-all_cycle : (dirs : List SearchDirection) (s : Setting) (v : Value) (x : Between) → is_place v.line.place v.line ≡ true → Inside v x → Inside v (cycled_all s dirs x)
+all_cycle : (dirs : List SearchDirection) (s : Setting) (v : Value) (x : Between) → is_place v.line.place v.line ≡ true → Inside v x → Inside v (cycle_after_turns s dirs x)
 all_cycle [] s v x stands h = h
-all_cycle (dir ∷ dirs) s v x stands h = all_cycle dirs s v (cycled_on s dir x) stands (cycles_on (completion_reply s x.value) dir s v x stands h)
+all_cycle (dir ∷ dirs) s v x stands h = all_cycle dirs s v (cycle_after_turn s dir x) stands (cycles_on (completion_reply s x.value) dir s v x stands h)
 
 pub gives_word_back : GivesWordBack
 gives_word_back s found q v dirs stands =
-    let first = cycled_first s found q v in
-    let x = cycled_all s dirs first in
-    let begun : Value = record v { held = ended v.held } in
+    let first = cycle_start s found q v in
+    let x = cycle_after_turns s dirs first in
+    let begun : Value = record v { held = record_after_close v.held } in
     let h = all_cycle dirs s v first stands (record { place = refl; stands = candidate_stands 0 found s v begun (refl, refl) }) in
     let b = taken_back x.modal.put s v x.value h.stands in
-    (placed_back x.modal.place v.line (hit_back x.modal.put s x.value).value.line b.line h.place stands, b.held)
+    (placed_back x.modal.place v.line (hit_undo_effect x.modal.put s x.value).value.line b.line h.place stands, b.held)

@@ -2,20 +2,20 @@
 use Rattle.std.proofs.Common.{◌≡◌, ℕ, zero, suc, ◌==◌, Bool, true, false, List, [], ◌∷◌, length, Option, Some, None, refl, ◌∙◌, if◌then◌else◌}
 use Rattle.std.specs.Prelude.{encode_utf8}
 use Rattle.std.specs.List.{repeat}
-use Rattle.line_buffer.specs.Event.{Event}
+use Rattle.line_buffer.specs.Event.{ChangeEvent}
 use Rattle.line_buffer.specs.Indent.{indent_line, indent_events}
 use Rattle.line_buffer.specs.Insertions.{Insertion, insertion_by, insertion_of, insert, no_insertion, yank, yank_pop, without_before, has_room}
 use Rattle.line_buffer.specs.LetterCase.{word_to_edit, recase_line, edit_word_line}
 use Rattle.line_buffer.specs.Line.{Line}
 use Rattle.line_buffer.specs.Range.{range_of, deletion_line, kill_line}
-use Rattle.line_buffer.specs.Replay.{carried_line, carried_all}
+use Rattle.line_buffer.specs.Replay.{line_after_event, line_after_events}
 use Rattle.line_buffer.specs.Transpositions.{transposes_chars, transpose_chars_line, transposes_words, transpose_words_line, after_words, before_words, first_word}
-use Rattle.line_buffer.specs.declared.range.Span.{Span}
+use Rattle.line_buffer.specs.declared.range.TextSpan.{TextSpan}
 use Rattle.line_buffer.specs.declared.types.Movement.{Movement}
 use Rattle.line_buffer.specs.declared.types.WordAction.{WordAction}
-use Rattle.line_record.specs.Held.{Held, line_back, undone_line}
-use Rattle.line_record.specs.Held.Held.{Opened, Stepped}
-use Rattle.line_edits.specs.Edits.{by, writing_over}
+use Rattle.line_record.specs.Held.{HeldItem, line_back, line_before_item}
+use Rattle.line_record.specs.Held.HeldItem.{Opened, Stepped}
+use Rattle.line_edits.specs.Edits.{by, overwrite_steps_to}
 use Rattle.line_edits.specs.Written.{Written}
 
 either_line : (g b : Bool) (l m : Line) → l.growth ≡ g → m.growth ≡ g → (if b then l else m).growth ≡ g
@@ -26,7 +26,7 @@ either_put : (g b : Bool) (x y : Insertion) → x.line.growth ≡ g → y.line.g
 either_put g true x y h k = h
 either_put g false x y h k = k
 
-put_grows : (told : Event) (added : List ℕ) (l : Line) → (insertion_by told added l).line.growth ≡ l.growth
+put_grows : (told : ChangeEvent) (added : List ℕ) (l : Line) → (insertion_by told added l).line.growth ≡ l.growth
 put_grows told added l = either_put l.growth (has_room (length added) l) _ _ refl refl
 
 of_grows : (text : List ℕ) (n : ℕ) (l : Line) → (insertion_of text n l).line.growth ≡ l.growth
@@ -41,17 +41,17 @@ yank_grows text n l = either_put l.growth (length text == 0) (no_insertion l) (i
 pub pop_grows : (size : ℕ) (text : List ℕ) (l : Line) → (yank_pop size text l).line.growth ≡ l.growth
 pop_grows size text l = yank_grows text 1 (without_before size l)
 
-pub deletion_grows : (o : Option Span) (l : Line) → (deletion_line o l).growth ≡ l.growth
+pub deletion_grows : (o : Option TextSpan) (l : Line) → (deletion_line o l).growth ≡ l.growth
 deletion_grows None l = refl
 deletion_grows (Some span) l = refl
 
 pub kill_grows : (m : Movement) (l : Line) → (kill_line m l).growth ≡ l.growth
 kill_grows m l = deletion_grows (range_of m l) l
 
-carried_grows : (events : List Event) (l : Line) → (carried_all events l).growth ≡ l.growth
-unfolding carried_all
+carried_grows : (events : List ChangeEvent) (l : Line) → (line_after_events events l).growth ≡ l.growth
+unfolding line_after_events
 carried_grows [] l = refl
-carried_grows (e ∷ events) l = carried_grows events (carried_line e l)
+carried_grows (e ∷ events) l = carried_grows events (line_after_event e l)
 
 pub indent_grows : (m : Movement) (amount : ℕ) (dedent : Bool) (l : Line) → (indent_line m amount dedent l).growth ≡ l.growth
 indent_grows m amount dedent l = carried_grows (indent_events m amount dedent l) l
@@ -73,15 +73,15 @@ between_grows n l = refl
 pub words_grow : (n : ℕ) (l : Line) → (transpose_words_line n l).growth ≡ l.growth
 words_grow n l = either_line l.growth (transposes_words n l) _ _ refl (between_grows n l)
 
-pub over_grows : (c : ℕ) (o : Option ℕ) (w : Written) → (by (writing_over c o) w).line.growth ≡ w.line.growth
+pub over_grows : (c : ℕ) (o : Option ℕ) (w : Written) → (by (overwrite_steps_to c o) w).line.growth ≡ w.line.growth
 over_grows c None w = refl
 over_grows c (Some end) w = refl
 
-undone_grows : (h : Held) (l : Line) → (undone_line h l).growth ≡ l.growth
+undone_grows : (h : HeldItem) (l : Line) → (line_before_item h l).growth ≡ l.growth
 undone_grows (Opened text) l = refl
 undone_grows (Stepped text place newest joinable) l = refl
 
-pub back_grows : (n : ℕ) (held : List Held) (l : Line) → (line_back n held l).growth ≡ l.growth
+pub back_grows : (n : ℕ) (held : List HeldItem) (l : Line) → (line_back n held l).growth ≡ l.growth
 back_grows zero held l = refl
 back_grows (suc n) [] l = refl
-back_grows (suc n) (h ∷ held) l = back_grows n held (undone_line h l) ∙ undone_grows h l
+back_grows (suc n) (h ∷ held) l = back_grows n held (line_before_item h l) ∙ undone_grows h l

@@ -8,23 +8,26 @@ use Rattle.line_buffer.specs.Printable.{at_plain_end}
 use Rattle.line_config.specs.declared.errors.ReadlineError.{ReadlineError}
 use Rattle.line_config.specs.declared.errors.ReadlineError.TheVariants.{Helper, Memory}
 use Rattle.line_edits.specs.Written.{group_opened}
-use Rattle.line_keys.specs.Replies.{Reply, fails}
+use Rattle.line_config.specs.declared.errors.HookFault.{HookFault}
+use Rattle.line_config.specs.declared.errors.HookFault.TheVariants.{Failed as HookFailed, Memory as HookMemory}
+use Rattle.line_keys.specs.Replies.{Reply, fails, IsFaultOf}
 use Rattle.line_help.specs.declared.completion as completions
-use Rattle.line_help.specs.declared.hint as hints
-use Rattle.line_help.specs.declared.highlight as highlights
-use Rattle.line_help.specs.declared.validate as verdicts
-use Rattle.line_help.specs.declared.validate.ValidationResult.{ValidationResult}
+use Rattle.line_help.specs.declared.helpers.hint as hints
+use Rattle.line_help.specs.declared.helpers.highlight as highlights
+use Rattle.line_help.specs.declared.helpers.validate as verdicts
+use Rattle.line_help.specs.declared.helpers.validate.ValidationResult.{ValidationResult}
 use Rattle.line_help.specs.declared.history as histories
 use Rattle.line_keys.specs.declared.command.CmdKind.TheVariants.{Other}
-use Rattle.line_editor.specs.Accepting.{verdict, verdict_by, opened_and_asked, closed_and_told, validate_by, validate}
-use Rattle.line_editor.specs.Calls.{MadeIn}
-use Rattle.line_editor.specs.Drawing.{drawn, drawn_behind, repainted, hint_asked, asked_anew, refreshed}
-use Rattle.line_editor.specs.Inserting.{is_bare, put_shown, inserted_shown}
-use Rattle.line_editor.specs.Killing.{taken_shown, killed_shown}
-use Rattle.line_editor.specs.Steps.{asked}
-use Rattle.line_editor.specs.Redraws.Redraw.{Typed, Taken}
-use Rattle.line_editor.specs.States.{hooks_of, value_of, setting_of, fails_by, IsHelpFault, reason_of, surface_of, Stays, Does}
-use Rattle.line_editor.specs.Values.{Value, Setting, Hooks, Effect, redrawn, then_do, hint_reply, verdict_reply, helped, IsFailing, with_hint, with_mark, rewritten}
+use Rattle.line_editor.specs.Accepting.{verdict, verdict_by, group_and_verdict_effect, verdict_effect, validate_by, validate}
+use Rattle.line_editor.specs.RenderCalls.{MadeIn}
+use Rattle.line_editor.specs.Drawing.{redraw_of, draw_effect_behind, repaint_effect, hint_asked, ask_anew_effect, refresh_effect}
+use Rattle.line_editor.specs.Inserting.{way_if_bare, put_redraw, show_char_effect, show_inserted_effect}
+use Rattle.line_editor.specs.Killing.{taken_redraw, show_taken_effect, show_killed_effect}
+use Rattle.line_editor.specs.EditSteps.{calls_of_steps}
+use Rattle.line_editor.specs.declared.way.Way.{Way}
+use Rattle.line_editor.specs.declared.way.Way.TheVariants.{Whole}
+use Rattle.line_editor.specs.States.{hooks_of, value_of, setting_of, fails_by, IsHelpFault, error_of, reason_of, surface_of, Stays, Does}
+use Rattle.line_editor.specs.Values.{Value, Setting, Hooks, Effect, draw_effect, then_do, hint_reply, verdict_reply, help_steps, IsFailing, with_hint, with_mark, value_with_edit}
 use Rattle.line_editor.specs.Values.EditStep.{Takes}
 use Rattle.line_editor.specs.declared.renderer as renderers
 use Rattle.line_editor.specs.declared.state.State.{State}
@@ -62,16 +65,11 @@ update_reason hooks line start text failed e why = hook_reason (λ h. h.updates 
 
 -- ---- one of two drawings
 
-abbrev put : ℕ → Bool → Setting → Value → Effect
-put c b s v = redrawn (if b then Typed s.prompt c v.line.text v.line.place else drawn s v) s v
+abbrev put : ℕ → Way → Setting → Value → Effect
+put c way s v = draw_effect (put_redraw way c s v) s v
 
-abbrev taken : ℕ → Bool → Setting → Value → Effect
-taken count b s v = redrawn (if b then Taken s.prompt count v.line.text v.line.place else drawn s v) s v
-
--- one of the two isn't so
-pub neither : (a b : Bool) → (a ≡ false) ⊎ (b ≡ false) → (a && b) ≡ false
-neither a b (inl h) = ap (λ x. x && b) h
-neither a b (inr h) = ap (λ x. a && x) h ∙ and-false a
+abbrev taken : ℕ → Way → Setting → Value → Effect
+taken count way s v = draw_effect (taken_redraw way count s v) s v
 
 -- ---- with a helper
 
@@ -79,9 +77,14 @@ some_mapped : {A B C : Type 0} (f : B → C) (g : A → B) (o : Option A) → is
 some_mapped f g None = refl
 some_mapped f g (Some x) = refl
 
-validated_by : (reply : Option (Reply ValidationResult)) (s : Setting) (v : Value) → is_some reply ≡ true → then_do opened_and_asked (closed_and_told (verdict_by reply)) s v ≡ validate_by reply s v
+validated_by : (reply : Option (Reply ValidationResult)) (s : Setting) (v : Value) → is_some reply ≡ true → then_do group_and_verdict_effect (verdict_effect (verdict_by reply)) s v ≡ validate_by reply s v
 validated_by None s v some = absurd (true≢false (sym some))
 validated_by (Some reply) s v some = refl
+
+-- a hook's fault, told as an error
+pub fault_told : {A : Type 0} (reply : Reply A) (fault : HookFault) → IsFaultOf reply fault → IsHelpFault (Some reply) (error_of fault)
+fault_told reply HookFailed why = why
+fault_told reply HookMemory why = why
 
 module _ {Out H Hi K T : Type 0} {renderer : renderers.Renderer.Ghosts Out} {completer : completions.Completer.Ghosts H K} {candidate : completions.Candidate.Ghosts K}
     {hinter : hints.Hinter.Ghosts H T} {hint : hints.Hint.Ghosts T} {highlighter : highlights.Highlighter.Ghosts H} {validator : verdicts.Validator.Ghosts H} {history : histories.History.Ghosts Hi} where
@@ -108,10 +111,10 @@ module _ {Out H Hi K T : Type 0} {renderer : renderers.Renderer.Ghosts Out} {com
 
   -- and highlighted characters
   pub anew_made : {A B : Type 0} (s m t : State Out H Hi K T renderer completer candidate hinter hint highlighter validator history) (x : A) (y : B) → Does hint_asked s m (Ok x)
-      → value_of t ≡ with_mark Other (setting_of m) (value_of m) → t.out ≡ m.out → t.layout ≡ m.layout → Stays m t → Does asked_anew s t (Ok y)
+      → value_of t ≡ with_mark Other (setting_of m) (value_of m) → t.out ≡ m.out → t.layout ≡ m.layout → Stays m t → Does ask_anew_effect s t (Ok y)
   anew_made s m t x y h value out layout stays = record {
     value = value ∙ ap (λ a. with_mark Other a (value_of m)) (setting_stays s m h.stays) ∙ ap (with_mark Other (setting_of s)) h.value;
-    calls = subst (λ o. FoldsTo (MadeIn renderer.canvas) s.out (asked (renderer.canvas.ruler s.out) s.layout (helped (value_of s) (hint_reply (setting_of s) (value_of s)))).calls o) (sym out) h.calls;
+    calls = subst (λ o. FoldsTo (MadeIn renderer.canvas) s.out (calls_of_steps (renderer.canvas.ruler s.out) s.layout (help_steps (value_of s) (hint_reply (setting_of s) (value_of s)))).calls o) (sym out) h.calls;
     layout = layout ∙ h.layout;
     stays = stays_both s m t h.stays stays;
     reason = tt;
@@ -119,56 +122,53 @@ module _ {Out H Hi K T : Type 0} {renderer : renderers.Renderer.Ghosts Out} {com
   }
 
   pub anew_refused : {A B : Type 0} (s t : State Out H Hi K T renderer completer candidate hinter hint highlighter validator history) (e : ReadlineError) (result : Result B ReadlineError)
-      → IsErrAnd result (λ x. x ≡ e) → Does {A = A} hint_asked s t (Err e) → Does asked_anew s t result
-  anew_refused {A} {B} s t e result is h = subst (λ (r : Result B ReadlineError). Does {A = B} asked_anew s t r) (sym (is_err e result is))
+      → IsErrAnd result (λ x. x ≡ e) → Does {A = A} hint_asked s t (Err e) → Does ask_anew_effect s t result
+  anew_refused {A} {B} s t e result is h = subst (λ (r : Result B ReadlineError). Does {A = B} ask_anew_effect s t r) (sym (is_err e result is))
       (record { value = tt; calls = tt; layout = tt; stays = h.stays; reason = h.reason; stops = h.stops })
 
   -- ---- what is drawn then
 
   pub refresh_made : {A B : Type 0} (prompt : List ℕ) (s m t : State Out H Hi K T renderer completer candidate hinter hint highlighter validator history) (x : A) (result : Result B ReadlineError)
-      → prompt ≡ m.prompt.now → Does asked_anew s m (Ok x) → Does (drawn_behind prompt true) m t result → Does refreshed s t result
+      → prompt ≡ m.prompt.now → Does ask_anew_effect s m (Ok x) → Does (draw_effect_behind prompt true) m t result → Does refresh_effect s t result
   refresh_made prompt s m t x result is h k =
-      does_both asked_anew repainted s m t x result h (does_as (drawn_behind prompt true) repainted m t result (ap (λ p. drawn_behind p true (setting_of m) (value_of m)) is) k)
+      does_both ask_anew_effect repaint_effect s m t x result h (does_as (draw_effect_behind prompt true) repaint_effect m t result (ap (λ p. draw_effect_behind p true (setting_of m) (value_of m)) is) k)
 
-  module _ (c : ℕ) (alone : Bool) where
-    pub typed_made : {A B : Type 0} (s m t : State Out H Hi K T renderer completer candidate hinter hint highlighter validator history) (x : A) (result : Result B ReadlineError)
-        → (alone && is_bare (value_of m)) ≡ true → Does asked_anew s m (Ok x)
-        → Does (λ a v. redrawn (Typed a.prompt c v.line.text v.line.place) a v) m t result → Does (inserted_shown c alone) s t result
-    typed_made s m t x result is h k =
-        does_both asked_anew (put_shown c alone) s m t x result h
-        (does_as (λ a v. redrawn (Typed a.prompt c v.line.text v.line.place) a v) (put_shown c alone) m t result (ap (λ b. put c b (setting_of m) (value_of m)) (sym is)) k)
+  module _ (c : ℕ) (way : Way) where
+    -- in one of the ways, or by a whole drawing
+    pub put_made : {A B : Type 0} (shown : Way) (s m t : State Out H Hi K T renderer completer candidate hinter hint highlighter validator history) (x : A) (result : Result B ReadlineError)
+        → way_if_bare way (value_of m) ≡ shown → Does ask_anew_effect s m (Ok x) → Does (put c shown) m t result → Does (show_inserted_effect c way) s t result
+    put_made shown s m t x result is h k =
+        does_both ask_anew_effect (show_char_effect c way) s m t x result h
+        (does_as (put c shown) (show_char_effect c way) m t result (ap (λ w. put c w (setting_of m) (value_of m)) (sym is)) k)
 
     pub put_drawn : {A B : Type 0} (prompt : List ℕ) (s m t : State Out H Hi K T renderer completer candidate hinter hint highlighter validator history) (x : A) (result : Result B ReadlineError)
-        → prompt ≡ m.prompt.now → (alone && is_bare (value_of m)) ≡ false → Does asked_anew s m (Ok x)
-        → Does (drawn_behind prompt true) m t result → Does (inserted_shown c alone) s t result
+        → prompt ≡ m.prompt.now → way_if_bare way (value_of m) ≡ Whole → Does ask_anew_effect s m (Ok x)
+        → Does (draw_effect_behind prompt true) m t result → Does (show_inserted_effect c way) s t result
     put_drawn prompt s m t x result own is h k =
-        does_both asked_anew (put_shown c alone) s m t x result h
-        (does_as (drawn_behind prompt true) (put_shown c alone) m t result
-        (ap (λ p. drawn_behind p true (setting_of m) (value_of m)) own ∙ ap (λ b. put c b (setting_of m) (value_of m)) (sym is)) k)
+        put_made Whole s m t x result is h
+        (does_as (draw_effect_behind prompt true) (put c Whole) m t result (ap (λ p. draw_effect_behind p true (setting_of m) (value_of m)) own) k)
 
-  module _ (count : ℕ) (alone : Bool) where
-    pub taken_made : {A B : Type 0} (s m t : State Out H Hi K T renderer completer candidate hinter hint highlighter validator history) (x : A) (result : Result B ReadlineError)
-        → (alone && (is_bare (value_of m) && at_plain_end m.recorded.line.text m.recorded.line.place)) ≡ true → Does asked_anew s m (Ok x)
-        → Does (λ a v. redrawn (Taken a.prompt count v.line.text v.line.place) a v) m t result → Does (killed_shown count alone) s t result
-    taken_made s m t x result is h k =
-        does_both asked_anew (taken_shown count alone) s m t x result h
-        (does_as (λ a v. redrawn (Taken a.prompt count v.line.text v.line.place) a v) (taken_shown count alone) m t result (ap (λ b. taken count b (setting_of m) (value_of m)) (sym is)) k)
+  module _ (count : ℕ) (way : Way) where
+    pub taken_made : {A B : Type 0} (shown : Way) (s m t : State Out H Hi K T renderer completer candidate hinter hint highlighter validator history) (x : A) (result : Result B ReadlineError)
+        → way_if_bare way (value_of m) ≡ shown → Does ask_anew_effect s m (Ok x) → Does (taken count shown) m t result → Does (show_killed_effect count way) s t result
+    taken_made shown s m t x result is h k =
+        does_both ask_anew_effect (show_taken_effect count way) s m t x result h
+        (does_as (taken count shown) (show_taken_effect count way) m t result (ap (λ w. taken count w (setting_of m) (value_of m)) (sym is)) k)
 
     pub killed_drawn : {A B : Type 0} (prompt : List ℕ) (s m t : State Out H Hi K T renderer completer candidate hinter hint highlighter validator history) (x : A) (result : Result B ReadlineError)
-        → prompt ≡ m.prompt.now → (alone && (is_bare (value_of m) && at_plain_end m.recorded.line.text m.recorded.line.place)) ≡ false → Does asked_anew s m (Ok x)
-        → Does (drawn_behind prompt true) m t result → Does (killed_shown count alone) s t result
+        → prompt ≡ m.prompt.now → way_if_bare way (value_of m) ≡ Whole → Does ask_anew_effect s m (Ok x)
+        → Does (draw_effect_behind prompt true) m t result → Does (show_killed_effect count way) s t result
     killed_drawn prompt s m t x result own is h k =
-        does_both asked_anew (taken_shown count alone) s m t x result h
-        (does_as (drawn_behind prompt true) (taken_shown count alone) m t result
-        (ap (λ p. drawn_behind p true (setting_of m) (value_of m)) own ∙ ap (λ b. taken count b (setting_of m) (value_of m)) (sym is)) k)
+        taken_made Whole s m t x result is h
+        (does_as (draw_effect_behind prompt true) (taken count Whole) m t result (ap (λ p. draw_effect_behind p true (setting_of m) (value_of m)) own) k)
 
   -- ---- a verdict
 
   pub judging_made : {A : Type 0} (s t : State Out H Hi K T renderer completer candidate hinter hint highlighter validator history) (x : A)
-      → value_of t ≡ rewritten group_opened (value_of s) → IsFalse (fails_by (verdict_reply (setting_of s) (value_of s))) → t.out ≡ s.out → t.layout ≡ s.layout → Stays s t → Does opened_and_asked s t (Ok x)
+      → value_of t ≡ value_with_edit group_opened (value_of s) → IsFalse (fails_by (verdict_reply (setting_of s) (value_of s))) → t.out ≡ s.out → t.layout ≡ s.layout → Stays s t → Does group_and_verdict_effect s t (Ok x)
   judging_made s t x value works out layout stays =
       let reply = verdict_reply (setting_of s) (value_of s) in
-      let opened : Value = rewritten group_opened (value_of s) in
+      let opened : Value = value_with_edit group_opened (value_of s) in
       record {
         value = value;
         calls = help_made renderer.canvas (renderer.canvas.ruler s.out) s.layout opened reply s.out t.out works out;
@@ -179,39 +179,39 @@ module _ {Out H Hi K T : Type 0} {renderer : renderers.Renderer.Ghosts Out} {com
       }
 
   pub judging_refused : {A : Type 0} (s t : State Out H Hi K T renderer completer candidate hinter hint highlighter validator history) (e : ReadlineError) (result : Result A ReadlineError)
-      → IsErrAnd result (λ x. x ≡ e) → IsHelpFault (verdict_reply (setting_of s) (value_of s)) e → value_of t ≡ rewritten group_opened (value_of s) → surface_of t ≡ surface_of s → Stays s t → Does opened_and_asked s t result
-  judging_refused {A} s t e result is why value same stays = subst (λ (r : Result A ReadlineError). Does {A = A} opened_and_asked s t r) (sym (is_err e result is)) (
-      let opened : Value = rewritten group_opened (value_of s) in
+      → IsErrAnd result (λ x. x ≡ e) → IsHelpFault (verdict_reply (setting_of s) (value_of s)) e → value_of t ≡ value_with_edit group_opened (value_of s) → surface_of t ≡ surface_of s → Stays s t → Does group_and_verdict_effect s t result
+  judging_refused {A} s t e result is why value same stays = subst (λ (r : Result A ReadlineError). Does {A = A} group_and_verdict_effect s t r) (sym (is_err e result is)) (
+      let opened : Value = value_with_edit group_opened (value_of s) in
       let reply = verdict_reply (setting_of s) (value_of s) in
       let ruler = renderer.canvas.ruler s.out in
-      does_refused opened_and_asked s t e stays (verdict_reason (setting_of s).hooks s.recorded.line (renderer.canvas.failed t.out) e why)
-      (stops_after renderer.canvas ruler (Takes (value_of s)) (helped opened reply) (surface_of s) (surface_of s) (surface_of t) e (value_of t) (refl, refl)
+      does_refused group_and_verdict_effect s t e stays (verdict_reason (setting_of s).hooks s.recorded.line (renderer.canvas.failed t.out) e why)
+      (stops_after renderer.canvas ruler (Takes (value_of s)) (help_steps opened reply) (surface_of s) (surface_of s) (surface_of t) e (value_of t) (refl, refl)
       (stops_asking renderer.canvas ruler opened reply (surface_of s) (surface_of t) e (value_of t) why same value)))
 
   pub validated : (s : State Out H Hi K T renderer completer candidate hinter hint highlighter validator history) → is_some s.helper ≡ true
-      → then_do opened_and_asked (closed_and_told (verdict (setting_of s) (value_of s))) (setting_of s) (value_of s) ≡ validate (setting_of s) (value_of s)
+      → then_do group_and_verdict_effect (verdict_effect (verdict (setting_of s) (value_of s))) (setting_of s) (value_of s) ≡ validate (setting_of s) (value_of s)
   validated s some = validated_by (verdict_reply (setting_of s) (value_of s)) (setting_of s) (value_of s) (some_mapped (λ (h : Hooks). h.judge s.recorded.line.text) (hooks_of completer hinter validator) s.helper ∙ some)
 
   pub validate_unasked : {A B : Type 0} (s t : State Out H Hi K T renderer completer candidate hinter hint highlighter validator history) (e : ReadlineError) (result : Result B ReadlineError)
-      → is_some s.helper ≡ true → IsErrAnd result (λ x. x ≡ e) → Does {A = A} opened_and_asked s t (Err e) → Does validate s t result
+      → is_some s.helper ≡ true → IsErrAnd result (λ x. x ≡ e) → Does {A = A} group_and_verdict_effect s t (Err e) → Does validate s t result
   validate_unasked s t e result some is h =
-      let told = closed_and_told (verdict (setting_of s) (value_of s)) in
-      does_as (then_do opened_and_asked told) validate s t result (validated s some) (does_cut_by opened_and_asked told s t e result is h)
+      let told = verdict_effect (verdict (setting_of s) (value_of s)) in
+      does_as (then_do group_and_verdict_effect told) validate s t result (validated s some) (does_cut_by group_and_verdict_effect told s t e result is h)
 
   pub validate_untold : {A B C : Type 0} (found : ValidationResult) (s m t : State Out H Hi K T renderer completer candidate hinter hint highlighter validator history) (x : A) (e : ReadlineError) (result : Result C ReadlineError)
-      → is_some s.helper ≡ true → IsErrAnd result (λ y. y ≡ e) → found ≡ verdict (setting_of s) (value_of s) → Does opened_and_asked s m (Ok x)
-      → Does {A = B} (closed_and_told found) m t (Err e) → Does validate s t result
+      → is_some s.helper ≡ true → IsErrAnd result (λ y. y ≡ e) → found ≡ verdict (setting_of s) (value_of s) → Does group_and_verdict_effect s m (Ok x)
+      → Does {A = B} (verdict_effect found) m t (Err e) → Does validate s t result
   validate_untold {A} {B} found s m t x e result some is found_is h k =
-      let told = closed_and_told (verdict (setting_of s) (value_of s)) in
-      does_as (then_do opened_and_asked told) validate s t result (validated s some)
-      (let second : Does {A = B} told m t (Err e) = subst (λ (f : ValidationResult). Does {A = B} (closed_and_told f) m t (Err e)) found_is k in
-      does_both_by {B = B} opened_and_asked told s m t x e result is h second)
+      let told = verdict_effect (verdict (setting_of s) (value_of s)) in
+      does_as (then_do group_and_verdict_effect told) validate s t result (validated s some)
+      (let second : Does {A = B} told m t (Err e) = subst (λ (f : ValidationResult). Does {A = B} (verdict_effect f) m t (Err e)) found_is k in
+      does_both_by {B = B} group_and_verdict_effect told s m t x e result is h second)
 
   pub validate_made : {A B C : Type 0} (found : ValidationResult) (s m t : State Out H Hi K T renderer completer candidate hinter hint highlighter validator history) (x : A) (y : B) (z : C)
-      → is_some s.helper ≡ true → found ≡ verdict (setting_of s) (value_of s) → Does opened_and_asked s m (Ok x)
-      → Does (closed_and_told found) m t (Ok y) → Does validate s t (Ok z)
+      → is_some s.helper ≡ true → found ≡ verdict (setting_of s) (value_of s) → Does group_and_verdict_effect s m (Ok x)
+      → Does (verdict_effect found) m t (Ok y) → Does validate s t (Ok z)
   validate_made {A} {B} {C} found s m t x y z some found_is h k =
-      let told = closed_and_told (verdict (setting_of s) (value_of s)) in
-      let second : Does {A = B} told m t (Ok y) = subst (λ (f : ValidationResult). Does {A = B} (closed_and_told f) m t (Ok y)) found_is k in
-      does_as (then_do opened_and_asked told) validate s t (Ok z) (validated s some)
-      (does_both {B = C} opened_and_asked told s m t x (Ok z) h (record { value = second.value; calls = second.calls; layout = second.layout; stays = second.stays; reason = tt; stops = tt }))
+      let told = verdict_effect (verdict (setting_of s) (value_of s)) in
+      let second : Does {A = B} told m t (Ok y) = subst (λ (f : ValidationResult). Does {A = B} (verdict_effect f) m t (Ok y)) found_is k in
+      does_as (then_do group_and_verdict_effect told) validate s t (Ok z) (validated s some)
+      (does_both {B = C} group_and_verdict_effect told s m t x (Ok z) h (record { value = second.value; calls = second.calls; layout = second.layout; stays = second.stays; reason = tt; stops = tt }))

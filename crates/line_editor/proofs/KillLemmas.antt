@@ -12,7 +12,7 @@ use Rattle.line_buffer.specs.Hits.{past_cluster}
 use Rattle.line_buffer.specs.Line.{Line, text_after}
 use Rattle.line_buffer.specs.Range.{IsSpanOf, up_to_cursor, from_cursor, around_cursor, to_row_end, from_row_start, search_range, range_of}
 use Rattle.line_buffer.specs.Rows.{behind_newlines, row_close, row_start, row_end}
-use Rattle.line_buffer.specs.declared.range.Span.{Span}
+use Rattle.line_buffer.specs.declared.range.TextSpan.{TextSpan}
 use Rattle.line_buffer.specs.declared.types.CharSearch.{CharSearch}
 use Rattle.line_buffer.specs.declared.types.CharSearch.TheVariants.{Forward as Onto, ForwardBefore, Backward as BackOnto, BackwardAfter}
 use Rattle.line_buffer.specs.declared.types.Direction.TheVariants.{Forward}
@@ -68,14 +68,14 @@ cut_text text from upto end plain low =
 
 -- ---- what a movement names, with the cursor after the text
 
-abbrev IsLow : Line → Option Span → Type 0
+abbrev IsLow : Line → Option TextSpan → Type 0
 IsLow l o = IfSome o (λ span. Low l.text span.from span.upto)
 
-found_low : (l : Line) (o : Option ℕ) (make : ℕ → Span) → ((i : ℕ) → length l.text ≤ (make i).upto) → IsLow l (option_map make o)
+found_low : (l : Line) (o : Option ℕ) (make : ℕ → TextSpan) → ((i : ℕ) → length l.text ≤ (make i).upto) → IsLow l (option_map make o)
 found_low l None make h = tt
 found_low l (Some i) make h = inr (h i)
 
-behind_low : (l : Line) (o : Option ℕ) (inner : ℕ → ℕ) (make : ℕ → Span) → ((i : ℕ) → length l.text ≤ (make (inner i)).upto) → IsLow l (option_map make (option_map inner o))
+behind_low : (l : Line) (o : Option ℕ) (inner : ℕ → ℕ) (make : ℕ → TextSpan) → ((i : ℕ) → length l.text ≤ (make (inner i)).upto) → IsLow l (option_map make (option_map inner o))
 behind_low l None inner make h = tt
 behind_low l (Some i) inner make h = inr (h i)
 
@@ -113,7 +113,7 @@ module _ (l : Line) (far : length l.text < l.place) where
   search_far n (BackOnto c) = found_low l _ (λ i. up_to_cursor i l) (λ i. omega (arith, far))
   search_far n (BackwardAfter c) = found_low l _ (λ i. up_to_cursor (i + length (encode_utf8 c)) l) (λ i. omega (arith, far))
 
-  unless_far : (t : Bool) (span : Span) → length l.text ≤ span.upto → IsLow l (if t then None else Some span)
+  unless_far : (t : Bool) (span : TextSpan) → length l.text ≤ span.upto → IsLow l (if t then None else Some span)
   unless_far true span h = tt
   unless_far false span h = inr h
 
@@ -154,7 +154,7 @@ plain_low [] h (suc i) = omega arith
 plain_low (x ∷ text) h zero = byte_low x (and_parts (is_plain_byte x) (is_plain text) h).0
 plain_low (x ∷ text) h (suc i) = plain_low text (and_parts (is_plain_byte x) (is_plain text) h).1 i
 
-spans_low : (text : List ℕ) (o : Option Span) → IfSome o (IsSpanOf text) → IfSome o (λ span. Low text span.from span.upto)
+spans_low : (text : List ℕ) (o : Option TextSpan) → IfSome o (IsSpanOf text) → IfSome o (λ span. Low text span.from span.upto)
 spans_low text None h = tt
 spans_low text (Some span) h = let b = h.start in inl b.0
 

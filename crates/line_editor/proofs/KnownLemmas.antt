@@ -11,13 +11,13 @@ use Rattle.std.proofs.lemmas.List.Sums.{AllPass-from_list_all}
 use Rattle.std.proofs.lemmas.Str.{IsCharBoundary-from_ascii}
 use Rattle.std.proofs.lemmas.Str.Ascii.{IsAscii-from_all}
 use Rattle.line_buffer.specs.declared.layout.Position.{Position}
-use Rattle.line_buffer.specs.Event.{Event}
-use Rattle.line_buffer.specs.Event.Event.{InsertChar}
-use Rattle.line_buffer.specs.Insertions.{no_insertion, has_room, put_at_cursor, insertion_by, insert as insertion}
+use Rattle.line_buffer.specs.Event.{ChangeEvent}
+use Rattle.line_buffer.specs.Event.ChangeEvent.{InsertChar}
+use Rattle.line_buffer.specs.Insertions.{no_insertion, has_room, with_text_at_cursor, insertion_by, insert as insertion}
 use Rattle.line_buffer.specs.Line.{Line}
 use Rattle.line_buffer.specs.Replay.{insertion as told_insertion}
 use Rattle.line_buffer.specs.Printable.{is_plain_byte, is_plain}
-use Rattle.line_editor.specs.Known.{IsKnown, known_within}
+use Rattle.line_editor.specs.KnownPlaces.{IsKnown, known_within}
 
 -- a prefix of a text is one of a longer text
 pub record Begins (k : ℕ) (before after : List ℕ) : Type 0 where
@@ -39,12 +39,12 @@ behind k at upto text added near low =
 
 -- ---- what is typed
 
-put_room : (k : ℕ) (room : Bool) (told : Event) (added : List ℕ) (l : Line) → k ≤ l.place → k ≤ length l.text
-    → Begins k l.text (if room then record { answer = Some (l.place == length l.text); events = told ∷ []; line = put_at_cursor added l } else no_insertion l).line.text
+put_room : (k : ℕ) (room : Bool) (told : ChangeEvent) (added : List ℕ) (l : Line) → k ≤ l.place → k ≤ length l.text
+    → Begins k l.text (if room then record { answer = Some (l.place == length l.text); events = told ∷ []; line = with_text_at_cursor added l } else no_insertion l).line.text
 put_room k true told added l near low = behind k l.place l.place l.text added near low
 put_room k false told added l near low = record { low = low; same = refl }
 
-put_by : (k : ℕ) (told : Event) (added : List ℕ) (l : Line) → k ≤ l.place → k ≤ length l.text → Begins k l.text (insertion_by told added l).line.text
+put_by : (k : ℕ) (told : ChangeEvent) (added : List ℕ) (l : Line) → k ≤ l.place → k ≤ length l.text → Begins k l.text (insertion_by told added l).line.text
 put_by k told added l near low = put_room k (has_room (length added) l) told added l near low
 
 typed_by : (c n k : ℕ) (one : Bool) (l : Line) → k ≤ l.place → k ≤ length l.text

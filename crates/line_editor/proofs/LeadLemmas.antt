@@ -1,43 +1,45 @@
 -- What commands want to be seen leads from what is to be seen of the value before to the same of the value after.
-use Rattle.std.proofs.Common.{◌≡◌, ℕ, ◌+◌, ◌-◌, ◌==◌, ◌||◌, ◌&&◌, not, ◌<◌, nat_le, nat_lt, Bool, true, false, List, [], ◌∷◌, ◌++◌, take, drop, length, take_all, Option, Some, None, IfSome, is_some, encode_utf8, refl, sym, ap, ◌∙◌, subst, append_assoc, append-nil, arith, if◌then◌else◌}
+use Rattle.std.proofs.Common.{◌≡◌, ℕ, ◌+◌, ◌-◌, ◌==◌, ◌||◌, ◌&&◌, not, ◌<◌, nat_le, nat_lt, Bool, true, false, List, [], ◌∷◌, ◌++◌, take, drop, length, length-append, take_all, Option, Some, None, IfSome, is_some, encode_utf8, refl, sym, ap, ◌∙◌, subst, append_assoc, append-nil, arith, if◌then◌else◌}
 use Rattle.std.specs.Prelude.{⊤}
 use Rattle.std.specs.List.{list_all, insert_slice, replace_range}
 use Rattle.std.proofs.lemmas.Bool.{and_parts, eqb-true, ltb-true}
-use Rattle.std.proofs.lemmas.List.{drop_all, take-append-drop, length-drop}
+use Rattle.std.proofs.lemmas.List.{drop_all, take-append-drop, length-drop, length-take, length-take-le, drop-drop}
 use Rattle.std.proofs.lemmas.Str.{encode_ascii}
 use Rattle.line_buffer.specs.Clusters.{place_forward, place_backward}
 use Rattle.line_buffer.specs.Columns.{line_up, line_down}
-use Rattle.line_buffer.specs.Event.{Event}
-use Rattle.line_buffer.specs.Event.Event.{InsertChar}
+use Rattle.line_buffer.specs.Event.{ChangeEvent}
+use Rattle.line_buffer.specs.Event.ChangeEvent.{InsertChar}
 use Rattle.line_buffer.specs.Hits.{search_place}
-use Rattle.line_buffer.specs.Insertions.{Insertion, insertion_by, insertion_of, no_insertion, put_at_cursor, insert as insertion}
-use Rattle.line_buffer.specs.Line.{Line, moved_to, cut_out}
+use Rattle.line_buffer.specs.Insertions.{Insertion, insertion_by, insertion_of, no_insertion, with_text_at_cursor, insert as insertion}
+use Rattle.line_buffer.specs.Line.{Line, with_cursor_at, without_range}
 use Rattle.line_buffer.specs.Range.{range_of, deletion_line}
 use Rattle.line_buffer.specs.Rows.{row_start, row_end}
 use Rattle.line_buffer.specs.Printable.{is_printable, is_plain, at_plain_end}
 use Rattle.line_buffer.specs.Words.{prev_word, next_word}
-use Rattle.line_buffer.specs.declared.range.Span.{Span}
+use Rattle.line_buffer.specs.declared.range.TextSpan.{TextSpan}
 use Rattle.line_buffer.specs.declared.types.At.TheVariants.{Start}
 use Rattle.line_buffer.specs.declared.types.Movement.{Movement}
 use Rattle.line_buffer.specs.declared.types.Movement.TheVariants.{WholeLine, BeginningOfLine, EndOfLine, BackwardWord, ForwardWord, ViCharSearch, ViFirstPrint, BackwardChar, ForwardChar, LineUp, LineDown, WholeBuffer, BeginningOfBuffer, EndOfBuffer}
 use Rattle.line_buffer.specs.declared.types.Word.TheVariants.{Big}
-use Rattle.line_edits.specs.Edits.{by, typing, putting_behind, killing}
-use Rattle.line_edits.specs.Steps.{answering, WriteSteps}
+use Rattle.line_edits.specs.Edits.{by, char_steps, text_steps, kill_steps}
+use Rattle.line_edits.specs.WriteSteps.{with_answer, WriteSteps}
 use Rattle.line_help.specs.History.{begins_with_space}
 use Rattle.line_keys.specs.Replies.{Reply}
 use Rattle.line_keys.specs.declared.command.CmdKind.{CmdKind}
 use Rattle.line_keys.specs.declared.command.CmdKind.TheVariants.{MoveCursor}
-use Rattle.line_record.specs.Held.{Held}
-use Rattle.line_editor.specs.Drawing.{drawn, repainted, asked_anew, refreshed, refreshed_if, told, cursor_moved, beeped, cleared_and_drawn}
-use Rattle.line_editor.specs.Inserting.{is_bare, may_be_typed, put_shown, inserted_shown, insert_char, insert_text}
-use Rattle.line_editor.specs.Killing.{may_be_taken, taken_shown, show_taken, kill_effect, insert_text_if, replace}
+use Rattle.line_record.specs.Held.{HeldItem}
+use Rattle.line_editor.specs.Drawing.{redraw_of, repaint_effect, ask_anew_effect, refresh_effect, refresh_effect_if, message_effect, cursor_moved, beep_effect, clear_and_draw_effect}
+use Rattle.line_editor.specs.Inserting.{is_bare, may_be_typed, may_be_put_in, insertion_way, way_if_bare, put_redraw, show_char_effect, show_inserted_effect, insert_char, insert_text}
+use Rattle.line_editor.specs.declared.way.Way.{Way}
+use Rattle.line_editor.specs.declared.way.Way.TheVariants.{AtEnd, InRow, Whole}
+use Rattle.line_editor.specs.Killing.{may_be_taken, may_be_taken_out, is_cut_inside, kill_way, taken_redraw, show_taken_effect, show_taken, kill_effect, insert_text_if, replace}
 use Rattle.line_editor.specs.Leads.{Leads}
 use Rattle.line_editor.specs.Moving.{cursor_moved_if, to_found, to_place, move_home, move_to_next_word, move_to_first_print, move_by}
-use Rattle.line_editor.specs.Calls.{Marks}
+use Rattle.line_editor.specs.RenderCalls.{Marks}
 use Rattle.line_editor.specs.Redraws.{Redraw, info_text}
-use Rattle.line_editor.specs.Redraws.Redraw.{Drawn, Moved, Typed, Taken, Cleared}
+use Rattle.line_editor.specs.Redraws.Redraw.{Drawn, Moved, Typed, Taken, PutIn, TakenOut, Cleared}
 use Rattle.line_editor.specs.Sights.{PartSpans, drawn_spans, Sight, SameStyles, sight_as, sight, sight_all, Fits, FitsAll, Turns, info_one, info_after, sight_of}
-use Rattle.line_editor.specs.Values.{Value, Setting, EditStep, Effect, Transition, unchanged, then_do, hint_reply, helped, rewritten, rewriting, at_line, with_mark, seen, shown_marks}
+use Rattle.line_editor.specs.Values.{Value, Setting, EditStep, Effect, Transition, no_effect, then_do, hint_reply, help_steps, value_with_edit, edit_effect, at_line, with_mark, marks_seen, shown_marks}
 use Rattle.line_editor.specs.Values.EditStep.{Draws, Edits, TakesBack, Takes}
 use Rattle.line_editor.proofs.KillLemmas.{Low, cut_text, range_low}
 use Rattle.line_editor.proofs.SimpleLemmas.{typed_at_any}
@@ -77,7 +79,7 @@ abbrev pub Alike : Value → Value → Type 0
 Alike v w = (w.line ≡ v.line) × (w.marked ≡ v.marked) × (is_some w.hint ≡ is_some v.hint)
 
 abbrev sight_by : Setting → Option (List ℕ) → Line → Bool → Bool → Sight
-sight_by s info l marked hinted = sight_as (seen marked (not hinted) s.marks) s.prompt l.text l.place info
+sight_by s info l marked hinted = sight_as (marks_seen marked (not hinted) s.marks) s.prompt l.text l.place info
 
 pub alike_sight : (s : Setting) (v w : Value) (info : Option (List ℕ)) → Alike v w → sight_of s v info ≡ sight_of s w info
 alike_sight s v w info h =
@@ -86,11 +88,11 @@ alike_sight s v w info h =
     ∙ ap (λ b. sight_by s info w.line w.marked b) (sym h.2)
 
 -- an unmarked line has no spans, whatever its text and its place
-unmarked_spans : (marks : Option Marks) (told : Bool) (prompt text other : List ℕ) (place at : ℕ) (info : List ℕ) → drawn_spans (seen false told marks) true prompt text place info ≡ drawn_spans (seen false told marks) true prompt other at info
+unmarked_spans : (marks : Option Marks) (told : Bool) (prompt text other : List ℕ) (place at : ℕ) (info : List ℕ) → drawn_spans (marks_seen false told marks) true prompt text place info ≡ drawn_spans (marks_seen false told marks) true prompt other at info
 unmarked_spans None told prompt text other place at info = refl
 unmarked_spans (Some m) told prompt text other place at info = refl
 
-unmarked_line : (marks : Option Marks) (told : Bool) (prompt text : List ℕ) (place : ℕ) (info : List ℕ) → (drawn_spans (seen false told marks) true prompt text place info).line ≡ []
+unmarked_line : (marks : Option Marks) (told : Bool) (prompt text : List ℕ) (place : ℕ) (info : List ℕ) → (drawn_spans (marks_seen false told marks) true prompt text place info).line ≡ []
 unmarked_line None told prompt text place info = refl
 unmarked_line (Some m) told prompt text place info = refl
 
@@ -98,7 +100,7 @@ unmarked_line (Some m) told prompt text place info = refl
 still_spans : (s : Setting) (v w : Value) (info : List ℕ) → v.marked ≡ false → w.marked ≡ false → is_some w.hint ≡ is_some v.hint
     → drawn_spans (shown_marks v s.marks) true s.prompt v.line.text v.line.place info ≡ drawn_spans (shown_marks w s.marks) true s.prompt w.line.text w.line.place info
 still_spans s v w info a b c =
-    let of : Line → Bool → Bool → PartSpans = λ l marked hinted. drawn_spans (seen marked (not hinted) s.marks) true s.prompt l.text l.place info in
+    let of : Line → Bool → Bool → PartSpans = λ l marked hinted. drawn_spans (marks_seen marked (not hinted) s.marks) true s.prompt l.text l.place info in
     ap (λ x. of v.line x (is_some v.hint)) a
     ∙ unmarked_spans s.marks (not (is_some v.hint)) s.prompt v.line.text w.line.text v.line.place w.line.place info
     ∙ ap (λ x. of w.line false x) (sym c)
@@ -112,7 +114,7 @@ bare_styles s v w info a b =
     let before = not_true v.marked first.1 in
     let after = not_true w.marked later.1 in
     record {
-      unstyled = ap (λ x. (drawn_spans (seen x (not (is_some v.hint)) s.marks) true s.prompt v.line.text v.line.place (info_text info)).line) before
+      unstyled = ap (λ x. (drawn_spans (marks_seen x (not (is_some v.hint)) s.marks) true s.prompt v.line.text v.line.place (info_text info)).line) before
           ∙ unmarked_line s.marks (not (is_some v.hint)) s.prompt v.line.text v.line.place (info_text info);
       same = λ none.
           sym (still_spans s v w [] before after (not_true (is_some w.hint) later.0 ∙ sym (not_true (is_some v.hint) first.0)))
@@ -147,13 +149,13 @@ pub take_leads : (s : Setting) (v w : Value) (e : Effect) → Leads s v e → Le
 take_leads s v w e h info = record { fits = (tt, (h info).fits); leads = (h info).leads }
 
 abbrev behind_help : {A : Type 0} → Value → Option (Reply A) → Effect → Effect
-behind_help w reply e = record { value = e.value; steps = helped w reply ++ e.steps }
+behind_help w reply e = record { value = e.value; steps = help_steps w reply ++ e.steps }
 
-pub help_turns : {A : Type 0} (w : Value) (reply : Option (Reply A)) (own : List ℕ) (x y : Sight) (rs : List EditStep) → Turns own x rs y → Turns own x (helped w reply ++ rs) y
+pub help_turns : {A : Type 0} (w : Value) (reply : Option (Reply A)) (own : List ℕ) (x y : Sight) (rs : List EditStep) → Turns own x rs y → Turns own x (help_steps w reply ++ rs) y
 help_turns w None own x y rs h = h
 help_turns w (Some reply) own x y rs h = record { fits = (tt, h.fits); leads = h.leads }
 
-pub help_info : {A : Type 0} (w : Value) (reply : Option (Reply A)) (rs : List EditStep) (info : Option (List ℕ)) → info_after (helped w reply ++ rs) info ≡ info_after rs info
+pub help_info : {A : Type 0} (w : Value) (reply : Option (Reply A)) (rs : List EditStep) (info : Option (List ℕ)) → info_after (help_steps w reply ++ rs) info ≡ info_after rs info
 help_info w None rs info = refl
 help_info w (Some reply) rs info = refl
 
@@ -161,41 +163,41 @@ pub help_leads : {A : Type 0} (w : Value) (reply : Option (Reply A)) (s : Settin
 help_leads w None s v e h = h
 help_leads w (Some reply) s v e h = λ info. record { fits = (tt, (h info).fits); leads = (h info).leads }
 
-pub asking_leads : {A : Type 0} (u : Value) (reply : Option (Reply A)) (s : Setting) (v w : Value) → Alike v w → Leads s v (record { value = w; steps = helped u reply })
+pub asking_leads : {A : Type 0} (u : Value) (reply : Option (Reply A)) (s : Setting) (v w : Value) → Alike v w → Leads s v (record { value = w; steps = help_steps u reply })
 asking_leads u None s v w h info = record { fits = tt; leads = alike_sight s v w info h }
 asking_leads u (Some reply) s v w h info = record { fits = (tt, tt); leads = alike_sight s v w info h }
 
 -- what is drawn in full hides what was asked before
 pub redrawn_leads : {A : Type 0} (x : Redraw) (u : Value) (reply : Option (Reply A)) (s : Setting) (v w : Value) → ((y : Sight) → Fits s.prompt y (Draws u s.marks x))
-    → Leads s v (record { value = w; steps = Draws u s.marks x ∷ (helped u reply ++ (Draws w s.marks (drawn s w) ∷ [])) })
+    → Leads s v (record { value = w; steps = Draws u s.marks x ∷ (help_steps u reply ++ (Draws w s.marks (redraw_of s w) ∷ [])) })
 redrawn_leads x u None s v w h info = record { fits = (h (sight_of s v info), ((λ e. refl), tt)); leads = refl }
 redrawn_leads x u (Some reply) s v w h info = record { fits = (h (sight_of s v info), (tt, ((λ e. refl), tt))); leads = refl }
 
 -- ---- drawn in full, or left as it stands
 
-pub refresh_leads : (s : Setting) (v w : Value) → Leads s v (refreshed s w)
-refresh_leads s v w = help_leads w (hint_reply s w) s v (repainted s (asked_anew s w).value) (λ info. record { fits = ((λ e. refl), tt); leads = refl })
+pub refresh_leads : (s : Setting) (v w : Value) → Leads s v (refresh_effect s w)
+refresh_leads s v w = help_leads w (hint_reply s w) s v (repaint_effect s (ask_anew_effect s w).value) (λ info. record { fits = ((λ e. refl), tt); leads = refl })
 
 -- behind an edit of the line
-pub redraw_leads : {A : Type 0} (edit : Line → WriteSteps A) (s : Setting) (v w : Value) → Leads s v (then_do (rewriting edit) refreshed s w)
-redraw_leads edit s v w = edit_leads (answering tt (edit w.line)) s v w (refreshed s (rewritten (by edit) w)) (refresh_leads s v (rewritten (by edit) w))
+pub redraw_leads : {A : Type 0} (edit : Line → WriteSteps A) (s : Setting) (v w : Value) → Leads s v (then_do (edit_effect edit) refresh_effect s w)
+redraw_leads edit s v w = edit_leads (with_answer tt (edit w.line)) s v w (refresh_effect s (value_with_edit (by edit) w)) (refresh_leads s v (value_with_edit (by edit) w))
 
-pub told_leads : (text : Option (List ℕ)) (kind : CmdKind) (s : Setting) (v w : Value) → Leads s v (told text kind s w)
+pub told_leads : (text : Option (List ℕ)) (kind : CmdKind) (s : Setting) (v w : Value) → Leads s v (message_effect text kind s w)
 told_leads text kind s v w info = record { fits = ((λ e. refl), tt); leads = refl }
 
-pub rest_leads : (s : Setting) (v w : Value) → Alike v w → Leads s v (unchanged s w)
+pub rest_leads : (s : Setting) (v w : Value) → Alike v w → Leads s v (no_effect s w)
 rest_leads s v w h info = record { fits = tt; leads = alike_sight s v w info h }
 
-pub beep_leads : (s : Setting) (v w : Value) → Alike v w → Leads s v (beeped s w)
+pub beep_leads : (s : Setting) (v w : Value) → Alike v w → Leads s v (beep_effect s w)
 beep_leads s v w h info = record { fits = (tt, tt); leads = alike_sight s v w info h }
 
-pub clear_leads : (s : Setting) (v : Value) → Leads s v (cleared_and_drawn s v)
-clear_leads s v = redrawn_leads Cleared v (hint_reply s v) s v (asked_anew s v).value (λ y. tt)
+pub clear_leads : (s : Setting) (v : Value) → Leads s v (clear_and_draw_effect s v)
+clear_leads s v = redrawn_leads Cleared v (hint_reply s v) s v (ask_anew_effect s v).value (λ y. tt)
 
-pub refresh_if_leads : {A : Type 0} (edit : Line → WriteSteps A) (s : Setting) (v : Value) (b : Bool) → (b ≡ false → (rewritten (by edit) v).line ≡ v.line) → Leads s v (then_do (rewriting edit) (refreshed_if b) s v)
+pub refresh_if_leads : {A : Type 0} (edit : Line → WriteSteps A) (s : Setting) (v : Value) (b : Bool) → (b ≡ false → (value_with_edit (by edit) v).line ≡ v.line) → Leads s v (then_do (edit_effect edit) (refresh_effect_if b) s v)
 refresh_if_leads edit s v b h =
-    let w = rewritten (by edit) v in
-    edit_leads (answering tt (edit v.line)) s v v (refreshed_if b s w) (either s v b (refreshed s w) (unchanged s w) (λ e. refresh_leads s v w) (λ e. rest_leads s v w (h e, refl, refl)))
+    let w = value_with_edit (by edit) v in
+    edit_leads (with_answer tt (edit v.line)) s v v (refresh_effect_if b s w) (either s v b (refresh_effect s w) (no_effect s w) (λ e. refresh_leads s v w) (λ e. rest_leads s v w (h e, refl, refl)))
 
 -- ---- the cursor
 
@@ -215,10 +217,10 @@ pub move_leads : (kind : CmdKind) (l : Line) (s : Setting) (v : Value) → l.tex
 move_leads kind l s v h = shown_or_drawn s v (with_mark kind s (at_line l v)) (v.marked || (with_mark kind s (at_line l v)).marked) refl refl h
 
 pub step_leads : (kind : CmdKind) (moves : Bool) (l : Line) (s : Setting) (v : Value) → l.text ≡ v.line.text → Leads s v (cursor_moved_if kind moves l s v)
-step_leads kind moves l s v h = either s v moves (cursor_moved kind s (at_line l v)) (unchanged s v) (λ e. move_leads kind l s v h) (λ e. rest_leads s v v (refl, refl, refl))
+step_leads kind moves l s v h = either s v moves (cursor_moved kind s (at_line l v)) (no_effect s v) (λ e. move_leads kind l s v h) (λ e. rest_leads s v v (refl, refl, refl))
 
 found_leads : (o : Option ℕ) (s : Setting) (v : Value) → Leads s v (to_found o s v)
-found_leads o s v = step_leads MoveCursor (is_some o) (moved_to o v.line) s v refl
+found_leads o s v = step_leads MoveCursor (is_some o) (with_cursor_at o v.line) s v refl
 
 place_leads : (kind : CmdKind) (place : ℕ) (s : Setting) (v : Value) → Leads s v (to_place kind place s v)
 place_leads kind place s v = step_leads kind (not (place == v.line.place)) (record v.line { place = place }) s v refl
@@ -261,47 +263,109 @@ put_at_end text place added e =
     ∙ ap (λ xs. text ++ (added ++ xs)) (drop_all place text (omega arith))
     ∙ ap (λ xs. text ++ xs) (append-nil added)
 
-abbrev typed_alone : Bool → ℕ → ℕ → Value → Value → Bool
-typed_alone tabs c n v w = may_be_typed tabs c n v && is_bare w
+-- drawn in full
+whole_leads : (s : Setting) (v w : Value) → Leads s v (record { value = w; steps = Draws w s.marks (redraw_of s w) ∷ [] })
+whole_leads s v w info = record { fits = ((λ x. refl), tt); leads = refl }
 
-typed_by : (s : Setting) (c n : ℕ) (v w : Value) (b : Bool) → typed_alone (is_some s.tabs) c n v w ≡ b → (typed_alone (is_some s.tabs) c n v w ≡ true → w.line ≡ put_at_cursor (encode_utf8 c) v.line)
-    → Leads s v (record { value = w; steps = Draws w s.marks (if b then Typed s.prompt c w.line.text w.line.place else drawn s w) ∷ [] })
-typed_by s c n v w false e put info = record { fits = ((λ x. refl), tt); leads = refl }
-typed_by s c n v w true e put info =
-    let a = and_parts (may_be_typed (is_some s.tabs) c n v) (is_bare w) e in
-    let b = and_parts (n == 1) _ a.0 in
-    let typed = (and_parts (is_bare v) _ b.1).1 in
-    let d = and_parts (is_printable c) _ typed in
-    let one : encode_utf8 c ≡ c ∷ [] = encode_ascii c (small c d.0) in
-    let end = eqb-true v.line.place (length v.line.text) (and_parts (v.line.place == length v.line.text) _ d.1).0 in
-    let text : w.line.text ≡ insert_slice v.line.text v.line.place (encode_utf8 c) = ap (λ (l : Line). l.text) (put e) in
-    let place : w.line.place ≡ v.line.place + length (encode_utf8 c) = ap (λ (l : Line). l.place) (put e) in
-    record {
-      fits = (
-        (
-          refl,
-          refl,
-          refl,
-          record {
-            typed = typed_at_any (is_some s.tabs) c v.line.text v.line.place typed;
-            prompt_is = refl;
-            text_is = text ∙ put_at_end v.line.text v.line.place (encode_utf8 c) end ∙ ap (λ x. v.line.text ++ x) one;
-            behind = place ∙ ap (λ x. v.line.place + length x) one;
-          },
-          bare_styles s v w info (and_parts (is_bare v) _ b.1).0 a.1,
-        ),
-        tt,
-      );
-      leads = refl;
-    }
+-- the way that was chosen, if the line is bare
+abbrev chosen : Bool → Bool → Bool → Way
+chosen bare first second = if bare then (if first then AtEnd else if second then InRow else Whole) else Whole
 
-pub none_if : (told : Event) (added : List ℕ) (l : Line) (b : Bool)
-    → (let i : Insertion = if b then record { answer = Some (l.place == length l.text); events = told ∷ []; line = put_at_cursor added l } else no_insertion l in is_some i.answer ≡ false → i.line ≡ l)
+at_end_if : (bare first second : Bool) → chosen bare first second ≡ AtEnd → (bare ≡ true) × (first ≡ true)
+at_end_if false first second h = cc
+at_end_if true false false h = cc
+at_end_if true false true h = cc
+at_end_if true true second h = (refl, refl)
+
+in_row_if : (bare first second : Bool) → chosen bare first second ≡ InRow → (bare ≡ true) × (second ≡ true)
+in_row_if false first second h = cc
+in_row_if true true second h = cc
+in_row_if true false false h = cc
+in_row_if true false true h = (refl, refl)
+
+module _ (s : Setting) (c n : ℕ) (v w : Value) (put : (n == 1) ≡ true → w.line ≡ with_text_at_cursor (encode_utf8 c) v.line) where
+  typed_leads : is_bare w ≡ true → may_be_typed (is_some s.tabs) c n v ≡ true → Leads s v (record { value = w; steps = Draws w s.marks (Typed s.prompt c w.line.text w.line.place) ∷ [] })
+  typed_leads bare typing info =
+      let b = and_parts (n == 1) _ typing in
+      let typed = (and_parts (is_bare v) _ b.1).1 in
+      let d = and_parts (is_printable c) _ typed in
+      let one : encode_utf8 c ≡ c ∷ [] = encode_ascii c (small c d.0) in
+      let end = eqb-true v.line.place (length v.line.text) (and_parts (v.line.place == length v.line.text) _ d.1).0 in
+      let text : w.line.text ≡ insert_slice v.line.text v.line.place (encode_utf8 c) = ap (λ (l : Line). l.text) (put b.0) in
+      let place : w.line.place ≡ v.line.place + length (encode_utf8 c) = ap (λ (l : Line). l.place) (put b.0) in
+      record {
+        fits = (
+          (
+            refl,
+            refl,
+            refl,
+            record {
+              typed = typed_at_any (is_some s.tabs) c v.line.text v.line.place typed;
+              prompt_is = refl;
+              text_is = text ∙ put_at_end v.line.text v.line.place (encode_utf8 c) end ∙ ap (λ x. v.line.text ++ x) one;
+              behind = place ∙ ap (λ x. v.line.place + length x) one;
+            },
+            bare_styles s v w info (and_parts (is_bare v) _ b.1).0 bare,
+          ),
+          tt,
+        );
+        leads = refl;
+      }
+
+  put_in_leads : is_bare w ≡ true → may_be_put_in s.config.partial_redraw c n v ≡ true → Leads s v (record { value = w; steps = Draws w s.marks (PutIn s.prompt c w.line.text w.line.place) ∷ [] })
+  put_in_leads bare fits info =
+      let text = v.line.text in
+      let at = v.line.place in
+      let a = and_parts s.config.partial_redraw _ fits in
+      let b = and_parts (n == 1) _ a.1 in
+      let d = and_parts (is_bare v) _ b.1 in
+      let e = and_parts (is_printable c) _ d.1 in
+      let f = and_parts (nat_lt at (length text)) (is_plain text) e.1 in
+      let one : encode_utf8 c ≡ c ∷ [] = encode_ascii c (small c e.0) in
+      let low : at < length text = ltb-true at (length text) f.0 in
+      let size : length (take at text) ≡ at = length-take-le at text (omega arith) in
+      let new : w.line.text ≡ insert_slice text at (encode_utf8 c) = ap (λ (l : Line). l.text) (put b.0) in
+      let place : w.line.place ≡ at + length (encode_utf8 c) = ap (λ (l : Line). l.place) (put b.0) in
+      record {
+        fits = (
+          (
+            refl,
+            refl,
+            refl,
+            record {
+              before = take at text;
+              rest = drop at text;
+              whole = sym (take-append-drop at text);
+              text_is = new ∙ append_assoc (take at text) (encode_utf8 c) (drop at text) ∙ ap (λ x. take at text ++ (x ++ drop at text)) one;
+              at = sym size;
+              behind = place ∙ ap (λ x. at + length x) one ∙ ap (λ n. n + 1) (sym size);
+              plain = f.1;
+              printable = e.0;
+              prompt_is = refl;
+            },
+            bare_styles s v w info d.0 bare,
+          ),
+          tt,
+        );
+        leads = refl;
+      }
+
+  put_by : (way : Way) → way_if_bare (insertion_way s c n v) w ≡ way → Leads s v (record { value = w; steps = Draws w s.marks (put_redraw way c s w) ∷ [] })
+  put_by AtEnd is =
+      let parts = at_end_if (is_bare w) (may_be_typed (is_some s.tabs) c n v) (may_be_put_in s.config.partial_redraw c n v) is in
+      typed_leads parts.0 parts.1
+  put_by InRow is =
+      let parts = in_row_if (is_bare w) (may_be_typed (is_some s.tabs) c n v) (may_be_put_in s.config.partial_redraw c n v) is in
+      put_in_leads parts.0 parts.1
+  put_by Whole is = whole_leads s v w
+
+pub none_if : (told : ChangeEvent) (added : List ℕ) (l : Line) (b : Bool)
+    → (let i : Insertion = if b then record { answer = Some (l.place == length l.text); events = told ∷ []; line = with_text_at_cursor added l } else no_insertion l in is_some i.answer ≡ false → i.line ≡ l)
 none_if told added l true h = cc
 none_if told added l false h = refl
 
-some_if : (told : Event) (added : List ℕ) (l : Line) (b : Bool)
-    → (let i : Insertion = if b then record { answer = Some (l.place == length l.text); events = told ∷ []; line = put_at_cursor added l } else no_insertion l in is_some i.answer ≡ true → i.line ≡ put_at_cursor added l)
+some_if : (told : ChangeEvent) (added : List ℕ) (l : Line) (b : Bool)
+    → (let i : Insertion = if b then record { answer = Some (l.place == length l.text); events = told ∷ []; line = with_text_at_cursor added l } else no_insertion l in is_some i.answer ≡ true → i.line ≡ with_text_at_cursor added l)
 some_if told added l true h = refl
 some_if told added l false h = cc
 
@@ -311,76 +375,133 @@ no_typing c n l true h = none_if _ _ l _ h
 no_typing c n l false h = none_if _ _ l _ h
 
 one_typed : (c n : ℕ) (l : Line) (b : Bool) → b ≡ true
-    → (let i : Insertion = if b then insertion_by (InsertChar l.place c) (encode_utf8 c) l else insertion_of (encode_utf8 c) n l in is_some i.answer ≡ true → i.line ≡ put_at_cursor (encode_utf8 c) l)
+    → (let i : Insertion = if b then insertion_by (InsertChar l.place c) (encode_utf8 c) l else insertion_of (encode_utf8 c) n l in is_some i.answer ≡ true → i.line ≡ with_text_at_cursor (encode_utf8 c) l)
 one_typed c n l true one h = some_if _ _ l _ h
 one_typed c n l false one h = cc
 
 pub insertion_leads : (c n : ℕ) (s : Setting) (v : Value) → Leads s v (insert_char c n s v)
 insertion_leads c n s v =
-    let w = rewritten (by (typing c n)) v in
-    either s v (is_some (insertion c n v.line).answer) (then_do (rewriting (typing c n)) (inserted_shown c (may_be_typed (is_some s.tabs) c n v)) s v) (unchanged s w)
-    (λ some. let asked = (asked_anew s w).value in
-    edit_leads (answering tt (typing c n v.line)) s v v (inserted_shown c (may_be_typed (is_some s.tabs) c n v) s w)
-    (help_leads w (hint_reply s w) s v (put_shown c (may_be_typed (is_some s.tabs) c n v) s asked) (typed_by s c n v asked (typed_alone (is_some s.tabs) c n v asked) refl (λ h. one_typed c n v.line (n == 1) (and_parts (n == 1) _ (and_parts (may_be_typed (is_some s.tabs) c n v) (is_bare asked) h).0).0 some))))
+    let w = value_with_edit (by (char_steps c n)) v in
+    let way = insertion_way s c n v in
+    either s v (is_some (insertion c n v.line).answer) (then_do (edit_effect (char_steps c n)) (show_inserted_effect c way) s v) (no_effect s w)
+    (λ some. let asked = (ask_anew_effect s w).value in
+    edit_leads (with_answer tt (char_steps c n v.line)) s v v (show_inserted_effect c way s w)
+    (help_leads w (hint_reply s w) s v (show_char_effect c way s asked) (put_by s c n v asked (λ one. one_typed c n v.line (n == 1) one some) (way_if_bare way asked) refl)))
     (λ none. rest_leads s v w (no_typing c n v.line (n == 1) none, refl, refl))
 
 pub text_leads : (text : List ℕ) (s : Setting) (v : Value) → Leads s v (insert_text text s v)
-text_leads text s v = either s v (length text == 0) _ _ (λ e. rest_leads s v v (refl, refl, refl)) (λ e. redraw_leads (putting_behind text) s v v)
+text_leads text s v = either s v (length text == 0) _ _ (λ e. rest_leads s v v (refl, refl, refl)) (λ e. redraw_leads (text_steps text) s v v)
 
 -- ---- a kill
 
-abbrev taken_alone : Value → Value → Bool
-taken_alone v w = may_be_taken (drop (length w.line.text) v.line.text) v && (is_bare w && at_plain_end w.line.text w.line.place)
+module _ (s : Setting) (v w : Value) (from upto : ℕ) (text : w.line.text ≡ replace_range v.line.text from upto []) (place : w.line.place ≡ from) where
+  abbrev count : ℕ
+  count = length v.line.text - length w.line.text
 
-taken_by : (s : Setting) (v w : Value) (from upto : ℕ) (b : Bool) → taken_alone v w ≡ b → (is_plain v.line.text ≡ true → Low v.line.text from upto)
-    → w.line.text ≡ replace_range v.line.text from upto [] → w.line.place ≡ from
-    → Leads s v (record { value = w; steps = Draws w s.marks (if b then Taken s.prompt (length v.line.text - length w.line.text) w.line.text w.line.place else drawn s w) ∷ [] })
-taken_by s v w from upto false e low text place info = record { fits = ((λ x. refl), tt); leads = refl }
-taken_by s v w from upto true e low text place info =
-    let before = v.line.text in
-    let now = w.line.text in
-    let a = and_parts (may_be_taken (drop (length now) before) v) _ e in
-    let b = and_parts (is_bare v) (list_all is_printable (drop (length now) before)) a.0 in
-    let stands = (and_parts (is_bare w) _ a.1).1 in
-    let d = and_parts (w.line.place == length now) (is_plain now) stands in
-    let end = eqb-true w.line.place (length now) d.0 in
-    let at : from ≡ length now = sym place ∙ end in
-    let front : now ≡ take from before = text ∙ cut_text before from upto (at ∙ ap length text) (ap is_plain (sym text) ∙ d.1) low in
-    let whole : before ≡ now ++ drop (length now) before =
-    sym (take-append-drop (length now) before) ∙ ap (λ n. take n before ++ drop (length now) before) (sym at) ∙ ap (λ xs. xs ++ drop (length now) before) (sym front) in
-    record {
-      fits = (
-        (
-          refl,
-          refl,
-          record {
-            killed = drop (length now) before;
-            whole = whole;
-            count_is = sym (length-drop (length now) before);
-            end = stands;
-            printable = b.1;
-            prompt_is = refl;
-          },
-          bare_styles s v w info b.0 (and_parts (is_bare w) _ a.1).0,
-        ),
-        tt,
-      );
-      leads = refl;
-    }
+  taken_leads : is_bare w ≡ true → (may_be_taken (drop (length w.line.text) v.line.text) v && at_plain_end w.line.text w.line.place) ≡ true → (is_plain v.line.text ≡ true → Low v.line.text from upto)
+      → Leads s v (record { value = w; steps = Draws w s.marks (Taken s.prompt count w.line.text w.line.place) ∷ [] })
+  taken_leads bare e low info =
+      let before = v.line.text in
+      let now = w.line.text in
+      let a = and_parts (may_be_taken (drop (length now) before) v) _ e in
+      let b = and_parts (is_bare v) (list_all is_printable (drop (length now) before)) a.0 in
+      let stands = a.1 in
+      let d = and_parts (w.line.place == length now) (is_plain now) stands in
+      let end = eqb-true w.line.place (length now) d.0 in
+      let at : from ≡ length now = sym place ∙ end in
+      let front : now ≡ take from before = text ∙ cut_text before from upto (at ∙ ap length text) (ap is_plain (sym text) ∙ d.1) low in
+      let whole : before ≡ now ++ drop (length now) before =
+      sym (take-append-drop (length now) before) ∙ ap (λ n. take n before ++ drop (length now) before) (sym at) ∙ ap (λ xs. xs ++ drop (length now) before) (sym front) in
+      record {
+        fits = (
+          (
+            refl,
+            refl,
+            record {
+              killed = drop (length now) before;
+              whole = whole;
+              count_is = sym (length-drop (length now) before);
+              end = stands;
+              printable = b.1;
+              prompt_is = refl;
+            },
+            bare_styles s v w info b.0 bare,
+          ),
+          tt,
+        );
+        leads = refl;
+      }
 
-killed_by : (edit : WriteSteps ⊤) (s : Setting) (v : Value) (held : List Held) (o : Option Span) → (is_plain v.line.text ≡ true → IfSome o (λ span. Low v.line.text span.from span.upto))
+  taken_out_leads : is_bare w ≡ true → (may_be_taken_out s.config.partial_redraw v && is_cut_inside v.line w.line) ≡ true
+      → Leads s v (record { value = w; steps = Draws w s.marks (TakenOut s.prompt count w.line.text w.line.place) ∷ [] })
+  taken_out_leads bare e info =
+      let before = v.line.text in
+      let now = w.line.text in
+      let a = and_parts (may_be_taken_out s.config.partial_redraw v) _ e in
+      let b = and_parts s.config.partial_redraw _ a.0 in
+      let d = and_parts (is_bare v) (is_plain before) b.1 in
+      let f = and_parts (nat_lt (length now) (length before)) (nat_lt w.line.place (length now)) a.1 in
+      let less = ltb-true (length now) (length before) f.0 in
+      let inside = ltb-true w.line.place (length now) f.1 in
+      let whole : now ≡ take from before ++ drop upto before = text ∙ append_assoc (take from before) [] (drop upto before) in
+      let size : length now ≡ length (take from before) + length (drop upto before) = ap length whole ∙ length-append (take from before) (drop upto before) in
+      let first = length-take from before in
+      let last = length-drop upto before in
+      let killed = take (upto - from) (drop from before) in
+      let gone = length-take (upto - from) (drop from before) in
+      let left = length-drop from before in
+      let up : from + (upto - from) ≡ upto = omega arith in
+      let count_is : count ≡ length killed = omega arith in
+      let at : w.line.place ≡ length (take from before) = omega arith in
+      record {
+        fits = (
+          (
+            refl,
+            refl,
+            record {
+              before = take from before;
+              killed = killed;
+              rest = drop upto before;
+              whole = sym (take-append-drop from before)
+                  ∙ ap (λ xs. take from before ++ xs) (sym (take-append-drop (upto - from) (drop from before))
+                  ∙ ap (λ xs. killed ++ xs) (drop-drop (upto - from) from before ∙ ap (λ n. drop n before) up));
+              text_is = whole;
+              count_is = count_is;
+              at = at;
+              plain = d.1;
+              prompt_is = refl;
+            },
+            bare_styles s v w info d.0 bare,
+          ),
+          tt,
+        );
+        leads = refl;
+      }
+
+  taken_by : (way : Way) → way_if_bare (kill_way s v w.line) w ≡ way → (is_plain v.line.text ≡ true → Low v.line.text from upto)
+      → Leads s v (record { value = w; steps = Draws w s.marks (taken_redraw way count s w) ∷ [] })
+  taken_by AtEnd is low =
+      let parts = at_end_if (is_bare w) (may_be_taken (drop (length w.line.text) v.line.text) v && at_plain_end w.line.text w.line.place) (may_be_taken_out s.config.partial_redraw v && is_cut_inside v.line w.line) is in
+      taken_leads parts.0 parts.1 low
+  taken_by InRow is low =
+      let parts = in_row_if (is_bare w) (may_be_taken (drop (length w.line.text) v.line.text) v && at_plain_end w.line.text w.line.place) (may_be_taken_out s.config.partial_redraw v && is_cut_inside v.line w.line) is in
+      taken_out_leads parts.0 parts.1
+  taken_by Whole is low = whole_leads s v w
+
+killed_by : (edit : WriteSteps ⊤) (s : Setting) (v : Value) (held : List HeldItem) (o : Option TextSpan) → (is_plain v.line.text ≡ true → IfSome o (λ span. Low v.line.text span.from span.upto))
     → (let w : Value = record v { line = deletion_line o v.line; held = held } in
-    Leads s v (if is_some o then record { value = (show_taken v s w).value; steps = Edits v edit ∷ (show_taken v s w).steps } else unchanged s w))
+    Leads s v (if is_some o then record { value = (show_taken v s w).value; steps = Edits v edit ∷ (show_taken v s w).steps } else no_effect s w))
 killed_by edit s v held None h = rest_leads s v (record v { held = held }) (refl, refl, refl)
 killed_by edit s v held (Some span) h =
-    let w : Value = record v { line = cut_out span.from span.upto v.line; held = held } in
-    let asked = (asked_anew s w).value in
+    let w : Value = record v { line = without_range span.from span.upto v.line; held = held } in
+    let asked = (ask_anew_effect s w).value in
+    let way = kill_way s v w.line in
     edit_leads edit s v v (show_taken v s w) (help_leads w (hint_reply s w) s v
-    (taken_shown (length v.line.text - length w.line.text) (may_be_taken (drop (length w.line.text) v.line.text) v) s asked)
-    (taken_by s v asked span.from span.upto (taken_alone v asked) refl h refl refl))
+    (show_taken_effect (length v.line.text - length w.line.text) way s asked)
+    (taken_by s v asked span.from span.upto refl refl (way_if_bare way asked) refl h))
 
 pub kill_leads : (m : Movement) (s : Setting) (v : Value) → Leads s v (kill_effect m s v)
-kill_leads m s v = killed_by (answering tt (killing m v.line)) s v (rewritten (by (killing m)) v).held (range_of m v.line) (λ plain. range_low v.line plain m)
+kill_leads m s v = killed_by (with_answer tt (kill_steps m v.line)) s v (value_with_edit (by (kill_steps m)) v).held (range_of m v.line) (λ plain. range_low v.line plain m)
 
 text_if_leads : (text : Option (List ℕ)) (s : Setting) (v : Value) → Leads s v (insert_text_if text s v)
 text_if_leads None s v = rest_leads s v v (refl, refl, refl)

@@ -1,28 +1,28 @@
 -- What a line wants to be seen leads from turn to turn.
 use Rattle.std.proofs.Common.{◌≡◌, ◌⊎◌, inl, inr, ℕ, zero, suc, Bool, true, false, List, [], ◌∷◌, ◌++◌, append-nil, Option, None, Result, Ok, Err, refl, sym, ap, ◌∙◌, subst, true≢false, if◌then◌else◌}
 use Rattle.line_config.specs.declared.errors.ReadlineError.{ReadlineError}
-use Rattle.line_keys.specs.Answers.{Custom}
-use Rattle.line_config.specs.Scripts.{Ends, Asks, then}
-use Rattle.line_config.specs.Played.{played_on}
-use Rattle.line_keys.specs.Feeds.{item_at}
-use Rattle.line_keys.specs.Phrase.{phrase}
-use Rattle.line_keys.specs.Phrases.{Answer, Steps, steps, answered, asking, Needs, Shows, Reads, Becomes, Refuses, and_then}
+use Rattle.line_keys.specs.CustomBindings.{Custom}
+use Rattle.script.specs.Scripts.{Ends, Asks, then}
+use Rattle.script.specs.Played.{play_after_answer}
+use Rattle.line_keys.specs.KeyFeeds.{item_at}
+use Rattle.line_keys.specs.NextPhrase.{phrase}
+use Rattle.line_keys.specs.PhraseScripts.{Answer, KeyScript, steps, answer_part, show_then, Needs, Shows, Reads, Becomes, Refuses, and_then}
 use Rattle.line_keys.specs.Refreshing.{Ask}
 use Rattle.line_keys.specs.Refreshing.Ask.{Line, Message, Prompted, DoingInsert, DoneInserting}
 use Rattle.line_keys.specs.Settled.{own_by, Settles}
 use Rattle.line_keys.specs.declared.command.Cmd.{Cmd}
 use Rattle.line_keys.specs.declared.command.Cmd.TheVariants.{Interrupt, Unknown}
 use Rattle.line_keys.proofs.Settling.{phrase_settles, then_settles}
-use Rattle.line_editor.specs.Accepting.{submitted}
+use Rattle.line_editor.specs.Accepting.{submit_effect}
 use Rattle.line_editor.specs.Asks.{shown_in, ask_effect}
 use Rattle.line_editor.specs.Commands.{Means, effect, outcome}
 use Rattle.line_editor.specs.Leads.{Leads, CommandLeads, EachTurnLeads, LeadsAlong, LinesLead}
 use Rattle.line_editor.specs.NextCommand.{begins_group, with_group_begun, line_phrase}
-use Rattle.line_editor.specs.LineScripts.{line_begun, LineAsk, LineScript, Keys, Meets, Obeys, Makes, LineState, kept, keyed, obeying, met_then, turn_script, turned_on, turns_script, line_script, means_at, effect_at, answer_at, left_at, line_plan, steps_along, played_from}
-use Rattle.line_editor.specs.Meeting.{meeting, modal_seen}
+use Rattle.line_editor.specs.LineScripts.{line_begun, LineAsk, LineScript, Keys, Meets, Obeys, Makes, LineState, line_state, script_of_keys, obey_script, meet_script, turn_script, line_script_after, turns_script, line_script, means_at, effect_at, answer_at, left_at, line_plan, steps_along, played_from}
+use Rattle.line_editor.specs.ModalCommands.{meeting, modal_seen}
 use Rattle.line_editor.specs.Modal.{Modal, Meeting, modal_first, shows_own}
 use Rattle.line_editor.specs.Sights.{Sight, no_sight, sight_with, sight_of, sight, sight_all, FitsAll, info_after}
-use Rattle.line_editor.specs.Values.{Value, Setting, EditStep, Effect, first_value, shown_marks, taking_memory}
+use Rattle.line_editor.specs.Values.{Value, Setting, EditStep, Effect, first_value, shown_marks, memory_effect}
 use Rattle.line_editor.specs.declared.commands.Status.{Status}
 use Rattle.line_editor.specs.declared.commands.Status.TheVariants.{Proceed, Submit}
 use Rattle.line_editor.proofs.CommandsLead.{asks_lead, commands_lead, submitting_leads}
@@ -65,8 +65,8 @@ settled_sight : (s : Setting) (v : Value) (info : Option (List ℕ)) (x : Sight)
 settled_sight s v info x h = h.is ∙ ap (λ p. sight_with (shown_marks v s.marks) true p v.line.text v.line.place info) (h.ours refl)
 
 -- a change-to begins a group, which draws nothing
-begun_settles : (cmd : Cmd) (b : Bool) (n : ℕ) → Settles true (steps (if b then asking DoingInsert (λ seen. answered cmd) else answered cmd) n)
-unfolding asking answered
+begun_settles : (cmd : Cmd) (b : Bool) (n : ℕ) → Settles true (steps (if b then show_then DoingInsert (λ seen. answer_part cmd) else answer_part cmd) n)
+unfolding show_then answer_part
 begun_settles cmd true n = λ shown. refl
 begun_settles cmd false n = refl
 
@@ -105,7 +105,7 @@ module _ (s : Setting) where
   abbrev on_command : LineState → Cmd → Status → PlayedOf s Status
   on_command k cmd status = record { answer = Ok status; asks = []; rest = left_at s k (Obeys cmd) }
 
-  command_leads : (cmd : Cmd) (k : LineState) (info : Option (List ℕ)) → shows_own k.modal.standing ≡ true → PlayLeads info (sight_of s k.value info) k (played_from s (obeying cmd) k)
+  command_leads : (cmd : Cmd) (k : LineState) (info : Option (List ℕ)) → shows_own k.modal.standing ≡ true → PlayLeads info (sight_of s k.value info) k (played_from s (obey_script cmd) k)
   command_leads cmd k info rests =
       let m = means_at s k cmd in
       let v = k.value in
@@ -118,40 +118,40 @@ module _ (s : Setting) where
       }))
     where
       by : (q : Result Status ReadlineError) → (let e = effect (means_at s k cmd) cmd s k.value in LeadOn s info (sight_of s k.value info) q k.modal (record { value = e.value; steps = e.steps ++ [] }))
-          → PlayLeads info (sight_of s k.value info) k (played_on (on_command k cmd) (Obeys cmd) (left_at s k (Obeys cmd)) q)
+          → PlayLeads info (sight_of s k.value info) k (play_after_answer (on_command k cmd) (Obeys cmd) (left_at s k (Obeys cmd)) q)
       by (Ok status) h = record { fits = h.fits; leads = h.leads; closes = h.closes }
       by (Err e) h = record { fits = h.fits; leads = h.leads; closes = h.closes }
 
   -- nothing is left to do
-  nothing_leads : (k : LineState) (info : Option (List ℕ)) → PlayLeads info (modal_seen k.modal s k.value info) k (played_from s (obeying Unknown) k)
+  nothing_leads : (k : LineState) (info : Option (List ℕ)) → PlayLeads info (modal_seen k.modal s k.value info) k (played_from s (obey_script Unknown) k)
   nothing_leads k info = record { fits = tt; leads = λ status is. refl; closes = λ is. cc }
 
   -- what is left to do of a command that was met
-  left_leads : (next : Cmd) (k : LineState) (info : Option (List ℕ)) → (next ≡ Unknown) ⊎ (shows_own k.modal.standing ≡ true) → PlayLeads info (modal_seen k.modal s k.value info) k (played_from s (obeying next) k)
-  left_leads next k info (inl is) = subst (λ c. PlayLeads info (modal_seen k.modal s k.value info) k (played_from s (obeying c) k)) (sym is) (nothing_leads k info)
+  left_leads : (next : Cmd) (k : LineState) (info : Option (List ℕ)) → (next ≡ Unknown) ⊎ (shows_own k.modal.standing ≡ true) → PlayLeads info (modal_seen k.modal s k.value info) k (played_from s (obey_script next) k)
+  left_leads next k info (inl is) = subst (λ c. PlayLeads info (modal_seen k.modal s k.value info) k (played_from s (obey_script c) k)) (sym is) (nothing_leads k info)
   left_leads next k info (inr rests) =
-      subst (λ x. PlayLeads info x k (played_from s (obeying next) k)) (sym (seen_resting k.modal.standing k.modal s k.value info rests)) (command_leads next k info rests)
+      subst (λ x. PlayLeads info x k (played_from s (obey_script next) k)) (sym (seen_resting k.modal.standing k.modal s k.value info rests)) (command_leads next k info rests)
 
-  met_leads : (cmd : Cmd) (k : LineState) (info : Option (List ℕ)) (x : Sight) → (shows_own k.modal.standing ≡ true → x ≡ sight_of s k.value info) → PlayLeads info x k (played_from s (met_then cmd) k)
+  met_leads : (cmd : Cmd) (k : LineState) (info : Option (List ℕ)) (x : Sight) → (shows_own k.modal.standing ≡ true → x ≡ sight_of s k.value info) → PlayLeads info x k (played_from s (meet_script cmd) k)
   met_leads cmd k info x from =
       let q : Meeting = meeting k.modal cmd s k.value in
       let met = meeting_leads k.modal.standing k.modal refl cmd s k.value info x from in
       let left = left_at s k (Meets cmd) in
-      let p = played_from s (obeying q.next) left in
+      let p = played_from s (obey_script q.next) left in
       lead_behind s info x q.effect.steps p.answer p.rest.modal (made_of_play left p) met.fits
       (subst (λ y. PlayLeads (info_after q.effect.steps info) y left p) (sym met.leads) (left_leads q.next left (info_after q.effect.steps info) met.next))
 
   -- a phrase, and the command that it gives
-  abbrev spoken : Steps Cmd → LineScript Status
-  spoken script = (then) (keyed script) met_then
+  abbrev spoken : KeyScript Cmd → LineScript Status
+  spoken script = (then) (script_of_keys script) meet_script
 
-  phrase_leads : (own : Bool) (script : Steps Cmd) (k : LineState) (info : Option (List ℕ)) (x : Sight) → (shows_own k.modal.standing ≡ true → Settles own script)
+  phrase_leads : (own : Bool) (script : KeyScript Cmd) (k : LineState) (info : Option (List ℕ)) (x : Sight) → (shows_own k.modal.standing ≡ true → Settles own script)
       → (shows_own k.modal.standing ≡ true → Behind s k.value info own x) → PlayLeads info x k (played_from s (spoken script) k)
   phrase_leads true (Ends cmd) k info x settles h = met_leads cmd k info x (λ rests. settled_sight s k.value info x (h rests))
   phrase_leads false (Ends cmd) k info x settles h = met_leads cmd k info x (λ rests. absurd (true≢false (sym (settles rests))))
   phrase_leads own (Asks Needs later) k info x settles h =
       let p = played_from s (spoken (later tt)) k in
-      lead_behind s info x (taking_memory s k.value).steps p.answer p.rest.modal (made_of_play k p) (tt, tt) (phrase_leads own (later tt) k info x (λ rests. settles rests tt) h)
+      lead_behind s info x (memory_effect s k.value).steps p.answer p.rest.modal (made_of_play k p) (tt, tt) (phrase_leads own (later tt) k info x (λ rests. settles rests tt) h)
   phrase_leads own (Asks (Shows ask) later) k info x settles h =
       let e = ask_effect ask s k.value in
       let shown = shown_in e.value in
@@ -168,7 +168,7 @@ module _ (s : Setting) where
       let g = phrase_leads own (later tt) (record k { input = input }) info x (λ rests. settles rests tt) h in record { fits = g.fits; leads = g.leads; closes = g.closes }
   phrase_leads own (Asks (Refuses why) later) k info x settles h = record { fits = tt; leads = λ status is. cc; closes = λ is. cc }
 
-  abbrev turn_phrase : ℕ → Custom → LineState → Steps Cmd
+  abbrev turn_phrase : ℕ → Custom → LineState → KeyScript Cmd
   turn_phrase n custom k = steps (line_phrase custom k.input (shown_in k.value)) n
 
   said_leads : (n : ℕ) (custom : Custom) (k : LineState) (info : Option (List ℕ)) → PlayLeads info (modal_seen k.modal s k.value info) k (played_from s (spoken (turn_phrase n custom k)) k)
@@ -207,19 +207,19 @@ module _ (s : Setting) where
       → FitsAll s.prompt x rs × LeadsAlong s o k (sight_all x rs) more
   alone k x o more rs fits leads = (subst (FitsAll s.prompt x) (append-nil rs) fits, subst (λ zs. LeadsAlong s o k (sight_all x zs) more) (append-nil rs) leads)
 
-  command_along : (cmd : Cmd) (k : LineState) (x : Sight) (o : Result (List ℕ) ReadlineError) (more : List LineAsk) → Along k x o more (played_from s (obeying cmd) k)
+  command_along : (cmd : Cmd) (k : LineState) (x : Sight) (o : Result (List ℕ) ReadlineError) (more : List LineAsk) → Along k x o more (played_from s (obey_script cmd) k)
   command_along cmd k x o more =
       let left = left_at s k (Obeys cmd) in
       let steps = (effect_at s k (Obeys cmd)).steps in
       played_each (Along k x o more) (on_command s k cmd) (Obeys cmd) left
       (λ status fits leads. let h = alone left x o more steps fits leads in (h.0, tt, h.1)) (λ e fits leads. let h = alone left x o more steps fits leads in (h.0, tt, h.1)) (answer_at s k (Obeys cmd))
 
-  phrase_along : (script : Steps Cmd) (k : LineState) (x : Sight) (o : Result (List ℕ) ReadlineError) (more : List LineAsk) → Along k x o more (played_from s (spoken s script) k)
+  phrase_along : (script : KeyScript Cmd) (k : LineState) (x : Sight) (o : Result (List ℕ) ReadlineError) (more : List LineAsk) → Along k x o more (played_from s (spoken s script) k)
   phrase_along (Ends cmd) k x o more = λ fits leads.
       let left = left_at s k (Meets cmd) in
       let made = (effect_at s k (Meets cmd)).steps in
       let next = (meeting k.modal cmd s k.value).next in
-      let p = played_from s (obeying next) left in
+      let p = played_from s (obey_script next) left in
       let rest = steps_along s left p.asks in (
         fits_first s.prompt x made rest fits,
         tt,
@@ -248,7 +248,7 @@ module _ (s : Setting) where
   seen_as : (k : LineState) (x : Sight) (info : Option (List ℕ)) → x ≡ modal_seen k.modal s k.value info → SeenAs k x
   seen_as k x info is = is ∙ ap (modal_seen k.modal s k.value) (sym (ap (λ (y : Sight). y.info) is ∙ seen_info k.modal.standing k.modal s k.value info))
 
-  module _ (n : ℕ) (custom : Custom) (so : (k : LineState) (x : Sight) → SeenAs k x → LedFrom k x (played_from s (turns_script n custom) k)) (k : LineState) (info : Option (List ℕ)) (script : Steps Cmd) where
+  module _ (n : ℕ) (custom : Custom) (so : (k : LineState) (x : Sight) → SeenAs k x → LedFrom k x (played_from s (turns_script n custom) k)) (k : LineState) (info : Option (List ℕ)) (script : KeyScript Cmd) where
     abbrev said : PlayedOf s Status
     said = played_from s (spoken s script) k
 
@@ -260,19 +260,19 @@ module _ (s : Setting) where
 
     -- what follows on a turn, by its outcome
     after_leads : PlayLeads s info seen k said → (q : Result Status ReadlineError) → said.answer ≡ q
-        → LedFrom k seen (joined_on (follows (line_plan s) (turned_on (turns_script n custom))) said.asks said.rest q)
+        → LedFrom k seen (joined_on (follows (line_plan s) (line_script_after (turns_script n custom))) said.asks said.rest q)
     after_leads h (Ok Proceed) is =
         let later = played_from s (turns_script n custom) said.rest in
         let y = sight_all seen said_steps in
         phrase_along script k seen later.answer later.asks h.fits (so said.rest y (seen_as said.rest y (info_after said_steps info) (h.leads Proceed is)))
     after_leads h (Ok Submit) is =
         let w = said.rest.value in
-        let close = submitted s w in
+        let close = submit_effect s w in
         let stands = info_after said_steps info in
         let t = submitting_leads s w stands in
         let there = h.leads Submit is ∙ seen_resting said.rest.modal.standing said.rest.modal s w stands (h.closes is) in
-        let P : Sight → Type 0 = λ y. LeadsAlong s (Ok close.value.line.text) said.rest y (Makes submitted ∷ []) in
-        phrase_along script k seen (Ok close.value.line.text) (Makes submitted ∷ []) h.fits (subst P (sym there) (t.fits, tt, ap (λ (y : Sight). y.ended) t.leads))
+        let P : Sight → Type 0 = λ y. LeadsAlong s (Ok close.value.line.text) said.rest y (Makes submit_effect ∷ []) in
+        phrase_along script k seen (Ok close.value.line.text) (Makes submit_effect ∷ []) h.fits (subst P (sym there) (t.fits, tt, ap (λ (y : Sight). y.ended) t.leads))
     after_leads h (Err e) is =
         let answer : Result (List ℕ) ReadlineError = Err e in
         subst (λ asks. LeadsAlong s answer k seen asks) (append-nil said.asks) (phrase_along script k seen answer [] h.fits tt)
@@ -283,8 +283,8 @@ module _ (s : Setting) where
   line_leads (suc n) custom k x h =
       let script = turn_phrase s (suc n) custom k in
       let led = after_leads n custom (line_leads n custom) k x.info script (said_leads s (suc n) custom k x.info) _ refl in
-      let rest = subst (LedFrom k (modal_seen k.modal s k.value x.info)) (sym (played_then (line_plan s) (turned_on (turns_script n custom)) (spoken s script) k)) led in
-      let p = played_from s ((then) (spoken s script) (turned_on (turns_script n custom))) k in
+      let rest = subst (LedFrom k (modal_seen k.modal s k.value x.info)) (sym (played_then (line_plan s) (line_script_after (turns_script n custom)) (spoken s script) k)) led in
+      let p = played_from s ((then) (spoken s script) (line_script_after (turns_script n custom))) k in
       (tt, h, subst (λ y. LedFrom k y p) (sym h) rest)
 
 pub lines_lead : LinesLead
@@ -293,5 +293,5 @@ lines_lead n s custom input r config query c =
     let e = line_begun s (first_value s) in
     let first = asks_lead Line s (first_value s) no_sight in
     let seen = first.leads ∙ ap (sight_of s e.value) (sym (hint_stands s (first_value s) true s.prompt None)) ∙ sym (first_seen config query s e.value (info_after e.steps None)) in
-    let k = kept e.value input r (modal_first config query) c in
+    let k = line_state e.value input r (modal_first config query) c in
     ((tt, first.fits), tt, line_leads s n custom k (sight_all no_sight e.steps) (seen_as s k _ _ seen))

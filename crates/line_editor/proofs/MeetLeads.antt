@@ -6,24 +6,24 @@ use Rattle.line_config.specs.declared.settings.CompletionType.{CompletionType}
 use Rattle.line_config.specs.declared.settings.CompletionType.TheVariants as completion_type
 use Rattle.line_help.specs.Completion.{Completion}
 use Rattle.line_help.specs.Search.{Hit}
-use Rattle.line_help.specs.declared.search.SearchDirection.{SearchDirection}
-use Rattle.line_help.specs.declared.search.SearchDirection.TheVariants.{Forward, Reverse}
+use Rattle.line_help.specs.declared.history.search.SearchDirection.{SearchDirection}
+use Rattle.line_help.specs.declared.history.search.SearchDirection.TheVariants.{Forward, Reverse}
 use Rattle.line_keys.specs.Refreshing.Ask.{Line, Prompted}
 use Rattle.line_keys.specs.Replies.{Reply}
 use Rattle.line_keys.specs.declared.command.Cmd.{Cmd}
 use Rattle.line_keys.specs.declared.command.Cmd.TheVariants.{EndOfHistory, HistorySearchBackward, HistorySearchForward, Unknown}
-use Rattle.line_editor.specs.Candidates.{only_put, listed_with, list_standing, candidate_at, turned_with, cycle_begun, cycle_first, cycle_back, cycle_at, cycled, asked_turned, asked_modal, several, several_modal, offered, offered_modal, offered_if, offered_modal_if, is_ambiguous, tab_by, cycle_by}
-use Rattle.line_editor.specs.Completing.{elected, updates, word_updated, word_completed, completed_with, candidates_given}
-use Rattle.line_edits.specs.Edits.{updating_in_group}
-use Rattle.line_editor.specs.Drawing.{drawn_behind, asked_anew, refreshed, refreshed_behind, beeped}
+use Rattle.line_editor.specs.Candidates.{only_put, list_effect_with, list_standing, candidate_at, turn_effect_with, cycle_begun, cycle_first, cycle_back, cycle_at, cycle_effect, ask_and_turn_effect, modal_after_ask, several, several_modal, offer_effect, modal_after_offer, offer_effect_if, modal_after_offer_if, is_ambiguous, tab_by, cycle_by}
+use Rattle.line_editor.specs.Completing.{common_text, updates, word_updated, word_completed, complete_effect_with, candidates_given}
+use Rattle.line_edits.specs.Edits.{update_group}
+use Rattle.line_editor.specs.Drawing.{draw_effect_behind, ask_anew_effect, refresh_effect, refresh_effect_behind, beep_effect}
 use Rattle.line_editor.specs.Leads.{redraws_of}
-use Rattle.line_editor.specs.Meeting.{met_resting, met_prefixes, met_tabbed, met_anew, met_lists, met_cycles, met_by, seen_by, modal_seen, acted}
-use Rattle.line_editor.specs.Modal.{Modal, Meeting, modal_first, standing_first, rested, shows_own, takes, wish_of}
-use Rattle.line_editor.specs.Prefixes.{is_prefix, is_own, earlier, later, risen, rises_if, fallen}
-use Rattle.line_editor.specs.Remembering.{saved_now}
-use Rattle.line_editor.specs.Searching.{search_prompt, queried, erased, sought, looked, onward, hit_back, found_put, search_drawn, typed_in, looks, looks_typed, looks_again, emptied, emptied_effect, placing, begun_at, begin_search, begun_if, hit_again, found_again, act_of}
+use Rattle.line_editor.specs.ModalCommands.{meeting_at_rest, meeting_in_prefixes, meeting_after_tab, meeting_anew, meeting_in_list, meeting_in_cycle, meeting_in, sight_in_mode, modal_seen, meeting_in_search}
+use Rattle.line_editor.specs.Modal.{Modal, Meeting, modal_first, first_standing, modal_at_rest, shows_own, takes, wish_of}
+use Rattle.line_editor.specs.Prefixes.{is_prefix, is_own, earlier, later, rise_meeting, rises_if, fall_meeting}
+use Rattle.line_editor.specs.History.{with_saved_line}
+use Rattle.line_editor.specs.Searching.{search_prompt, modal_with_query, modal_after_erase, search_for, modal_after_look, onward, hit_undo_effect, put_hit_effect, search_drawn, modal_with_char, looks, looks_typed, looks_again, modal_with_empty_query, empty_query_effect, place_effect, modal_at_search_start, begin_search, search_start_if, hit_again, search_again_meeting, act_of}
 use Rattle.line_editor.specs.Sights.{Sight, sight_with, sight_of, sight_all, FitsAll, info_after}
-use Rattle.line_editor.specs.Values.{Value, Setting, EditStep, then_do, hint_reply, helped, shown_hint, shown_marks, completion_reply, update_reply, rewriting, close_groups}
+use Rattle.line_editor.specs.Values.{Value, Setting, EditStep, then_do, hint_reply, help_steps, shown_hint, shown_marks, completion_reply, update_reply, edit_effect, close_groups}
 use Rattle.line_editor.specs.Values.EditStep.{Draws, Helped, Edits, TakesBack, Takes}
 use Rattle.line_editor.specs.declared.modal_state.Act.{Act}
 use Rattle.line_editor.specs.declared.modal_state.Act.TheVariants.{Types, Erases, Goes, Leaves, Ends}
@@ -35,15 +35,15 @@ use Rattle.line_editor.proofs.CommandsLead.{asks_lead}
 use Rattle.line_editor.proofs.LeadLemmas.{fits_both, sight_both, info_both, help_info}
 
 -- with the hint that was asked for
-pub hint_stands : (s : Setting) (v : Value) (given : Bool) (prompt : List ℕ) (info : Option (List ℕ)) → (let w = (asked_anew s v).value in
-    info_after (helped v (hint_reply s v) ++ (drawn_behind prompt given s w).steps) info ≡ shown_hint w)
+pub hint_stands : (s : Setting) (v : Value) (given : Bool) (prompt : List ℕ) (info : Option (List ℕ)) → (let w = (ask_anew_effect s v).value in
+    info_after (help_steps v (hint_reply s v) ++ (draw_effect_behind prompt given s w).steps) info ≡ shown_hint w)
 hint_stands s v given prompt info =
-    let w = (asked_anew s v).value in
-    help_info v (hint_reply s v) (drawn_behind prompt given s w).steps info
+    let w = (ask_anew_effect s v).value in
+    help_info v (hint_reply s v) (draw_effect_behind prompt given s w).steps info
 
 -- ---- what is to be seen if none stands
 
-pub seen_resting : (at : Standing) (x : Modal) (s : Setting) (v : Value) (info : Option (List ℕ)) → shows_own at ≡ true → seen_by at x s v info ≡ sight_of s v info
+pub seen_resting : (at : Standing) (x : Modal) (s : Setting) (v : Value) (info : Option (List ℕ)) → shows_own at ≡ true → sight_in_mode at x s v info ≡ sight_of s v info
 seen_resting Off x s v info h = refl
 seen_resting Rests x s v info h = refl
 seen_resting Prefixes x s v info h = refl
@@ -52,7 +52,7 @@ seen_resting Tabbed x s v info h = refl
 seen_resting Lists x s v info h = refl
 seen_resting Cycles x s v info h = refl
 
-pub seen_info : (at : Standing) (x : Modal) (s : Setting) (v : Value) (info : Option (List ℕ)) → (seen_by at x s v info).info ≡ info
+pub seen_info : (at : Standing) (x : Modal) (s : Setting) (v : Value) (info : Option (List ℕ)) → (sight_in_mode at x s v info).info ≡ info
 seen_info Off x s v info = refl
 seen_info Rests x s v info = refl
 seen_info Prefixes x s v info = refl
@@ -61,12 +61,12 @@ seen_info Tabbed x s v info = refl
 seen_info Lists x s v info = refl
 seen_info Cycles x s v info = refl
 
-first_own : (on : Bool) → shows_own (standing_first on) ≡ true
+first_own : (on : Bool) → shows_own (first_standing on) ≡ true
 first_own true = refl
 first_own false = refl
 
 pub first_seen : (config : Config) (query : List ℕ) (s : Setting) (v : Value) (info : Option (List ℕ)) → modal_seen (modal_first config query) s v info ≡ sight_of s v info
-first_seen config query s v info = seen_resting (standing_first config.modal_commands) (modal_first config query) s v info (first_own config.modal_commands)
+first_seen config query s v info = seen_resting (first_standing config.modal_commands) (modal_first config query) s v info (first_own config.modal_commands)
 
 -- ---- steps that draw nothing, and a drawing after them
 
@@ -84,7 +84,7 @@ after_step (Edits v edit) own info x steps y shown none h = record { fits = (tt,
 after_step (TakesBack v count) own info x steps y shown none h = record { fits = (tt, h.fits); leads = h.leads; info_is = h.info_is }
 after_step (Takes v) own info x steps y shown none h = record { fits = (tt, h.fits); leads = h.leads; info_is = h.info_is }
 
-behind_drawn : (prompt : List ℕ) (s : Setting) (v : Value) (info : Option (List ℕ)) (x : Sight) → (let e = refreshed_behind prompt s v in
+behind_drawn : (prompt : List ℕ) (s : Setting) (v : Value) (info : Option (List ℕ)) (x : Sight) → (let e = refresh_effect_behind prompt s v in
     Drawn s.prompt info x e.steps (sight_with (shown_marks e.value s.marks) false prompt e.value.line.text e.value.line.place (shown_hint e.value)) (shown_hint e.value))
 behind_drawn prompt s v info x = record {
   fits = (asks_lead (Prompted prompt) s v x).fits;
@@ -92,7 +92,7 @@ behind_drawn prompt s v info x = record {
   info_is = hint_stands s v false prompt info;
 }
 
-own_drawn : (s : Setting) (v : Value) (info : Option (List ℕ)) (x : Sight) → (let e = refreshed s v in
+own_drawn : (s : Setting) (v : Value) (info : Option (List ℕ)) (x : Sight) → (let e = refresh_effect s v in
     Drawn s.prompt info x e.steps (sight_of s e.value (shown_hint e.value)) (shown_hint e.value))
 own_drawn s v info x = record {
   fits = (asks_lead Line s v x).fits;
@@ -123,20 +123,20 @@ search_met : (s : Setting) (v : Value) (info : Option (List ℕ)) (x : Sight) (q
 search_met s v info x q = after_step (Takes v) s.prompt info x _ _ _ refl (behind_drawn (search_prompt q) s v info x)
 
 -- an entry in place of the line, and that prompt
-found_met : (put : Bool) (hit : Option Hit) (q : Modal) (s : Setting) (v : Value) (info : Option (List ℕ)) (x : Sight) → (let e = then_do (found_put put hit) (search_drawn q) s v in
+found_met : (put : Bool) (hit : Option Hit) (q : Modal) (s : Setting) (v : Value) (info : Option (List ℕ)) (x : Sight) → (let e = then_do (put_hit_effect put hit) (search_drawn q) s v in
     Drawn s.prompt info x e.steps (sight_with (shown_marks e.value s.marks) false (search_prompt q) e.value.line.text e.value.line.place (shown_hint e.value)) (shown_hint e.value))
 found_met put None q s v info x = search_met s v info x q
 found_met true (Some hit) q s v info x =
-    let w = (found_put true (Some hit) s v).value in
+    let w = (put_hit_effect true (Some hit) s v).value in
     after_step (TakesBack v 1) s.prompt info x _ _ _ refl (after_step (Edits _ _) s.prompt info x _ _ _ refl (search_met s w info x q))
 found_met false (Some hit) q s v info x =
-    let w = (found_put false (Some hit) s v).value in
+    let w = (put_hit_effect false (Some hit) s v).value in
     after_step (Edits _ _) s.prompt info x _ _ _ refl (search_met s w info x q)
 
-seen_standing : (at : Standing) (q : Modal) (s : Setting) (v : Value) (info : Option (List ℕ)) → at ≡ Searches → sight_with (shown_marks v s.marks) false (search_prompt q) v.line.text v.line.place info ≡ seen_by at q s v info
-seen_standing at q s v info is = subst (λ a. sight_with (shown_marks v s.marks) false (search_prompt q) v.line.text v.line.place info ≡ seen_by a q s v info) (sym is) refl
+seen_standing : (at : Standing) (q : Modal) (s : Setting) (v : Value) (info : Option (List ℕ)) → at ≡ Searches → sight_with (shown_marks v s.marks) false (search_prompt q) v.line.text v.line.place info ≡ sight_in_mode at q s v info
+seen_standing at q s v info is = subst (λ a. sight_with (shown_marks v s.marks) false (search_prompt q) v.line.text v.line.place info ≡ sight_in_mode a q s v info) (sym is) refl
 
-looked_stands : (dir : SearchDirection) (hit : Option Hit) (q : Modal) → q.standing ≡ Searches → (looked dir hit q).standing ≡ Searches
+looked_stands : (dir : SearchDirection) (hit : Option Hit) (q : Modal) → q.standing ≡ Searches → (modal_after_look dir hit q).standing ≡ Searches
 looked_stands dir None q is = is
 looked_stands dir (Some hit) q is = is
 
@@ -144,8 +144,8 @@ looked_stands dir (Some hit) q is = is
 looks_drawn : (dir : SearchDirection) (from : Option ℕ) (q : Modal) (s : Setting) (v : Value) (info : Option (List ℕ)) (x : Sight) → q.standing ≡ Searches → (let m = looks dir from q s v in let w = m.effect.value in
     Drawn s.prompt info x m.effect.steps (modal_seen m.modal s w (shown_hint w)) (shown_hint w))
 looks_drawn dir from q s v info x is =
-    let hit = sought q.query dir from s.entries in
-    let y = looked dir hit q in
+    let hit = search_for q.query dir from s.entries in
+    let y = modal_after_look dir hit q in
     let w = (looks dir from q s v).effect.value in
     subst (λ z. Drawn s.prompt info x (looks dir from q s v).effect.steps z (shown_hint w)) (seen_standing y.standing y s w (shown_hint w) (looked_stands dir hit q is)) (found_met q.put hit y s v info x)
 
@@ -153,25 +153,25 @@ looks_met : (dir : SearchDirection) (from : Option ℕ) (q : Modal) (s : Setting
 looks_met dir from q s v info x is = met_drawn s info x _ (looks dir from q s v) _ (looks_drawn dir from q s v info x is) refl (inl refl)
 
 -- the line as it was
-left_drawn : (put : Bool) (place : ℕ) (s : Setting) (v : Value) (info : Option (List ℕ)) (x : Sight) → (let e = then_do (hit_back put) (then_do (placing place) refreshed) s v in
+left_drawn : (put : Bool) (place : ℕ) (s : Setting) (v : Value) (info : Option (List ℕ)) (x : Sight) → (let e = then_do (hit_undo_effect put) (then_do (place_effect place) refresh_effect) s v in
     Drawn s.prompt info x e.steps (sight_of s e.value (shown_hint e.value)) (shown_hint e.value))
 left_drawn true place s v info x =
-    let w = (then_do (hit_back true) (placing place) s v).value in
+    let w = (then_do (hit_undo_effect true) (place_effect place) s v).value in
     after_step (TakesBack v 1) s.prompt info x _ _ _ refl (own_drawn s w info x)
-left_drawn false place s v info x = own_drawn s (placing place s v).value info x
+left_drawn false place s v info x = own_drawn s (place_effect place s v).value info x
 
 -- an entry that is undone, and the line as it was behind the search's prompt
-emptied_drawn : (put : Bool) (q : Modal) (s : Setting) (v : Value) (info : Option (List ℕ)) (x : Sight) → (let e = then_do (hit_back put) (then_do (placing q.place) (search_drawn (emptied q))) s v in
-    Drawn s.prompt info x e.steps (sight_with (shown_marks e.value s.marks) false (search_prompt (emptied q)) e.value.line.text e.value.line.place (shown_hint e.value)) (shown_hint e.value))
+emptied_drawn : (put : Bool) (q : Modal) (s : Setting) (v : Value) (info : Option (List ℕ)) (x : Sight) → (let e = then_do (hit_undo_effect put) (then_do (place_effect q.place) (search_drawn (modal_with_empty_query q))) s v in
+    Drawn s.prompt info x e.steps (sight_with (shown_marks e.value s.marks) false (search_prompt (modal_with_empty_query q)) e.value.line.text e.value.line.place (shown_hint e.value)) (shown_hint e.value))
 emptied_drawn true q s v info x =
-    let w = (then_do (hit_back true) (placing q.place) s v).value in
-    after_step (TakesBack v 1) s.prompt info x _ _ _ refl (search_met s w info x (emptied q))
-emptied_drawn false q s v info x = search_met s (placing q.place s v).value info x (emptied q)
+    let w = (then_do (hit_undo_effect true) (place_effect q.place) s v).value in
+    after_step (TakesBack v 1) s.prompt info x _ _ _ refl (search_met s w info x (modal_with_empty_query q))
+emptied_drawn false q s v info x = search_met s (place_effect q.place s v).value info x (modal_with_empty_query q)
 
 again_met : (empty : Bool) (q : Modal) (s : Setting) (v : Value) (info : Option (List ℕ)) (x : Sight) → q.standing ≡ Searches → Met s info x (looks_again empty q s v)
 again_met true q s v info x is =
-    let w = (emptied_effect q s v).value in
-    met_drawn s info x _ (looks_again true q s v) _ (emptied_drawn q.put q s v info x) (seen_standing q.standing (emptied q) s w (shown_hint w) is) (inl refl)
+    let w = (empty_query_effect q s v).value in
+    met_drawn s info x _ (looks_again true q s v) _ (emptied_drawn q.put q s v info x) (seen_standing q.standing (modal_with_empty_query q) s w (shown_hint w) is) (inl refl)
 again_met false q s v info x is = looks_met q.dir (Some q.start) q s v info x is
 
 -- it goes on as it came
@@ -180,25 +180,25 @@ passes_met : (q : Modal) (cmd : Cmd) (s : Setting) (v : Value) (info : Option (L
 passes_met q cmd s v info x rests from = record { fits = tt; leads = from ∙ sym (seen_resting q.standing q s v info rests); next = inr rests }
 
 begun_met : (empty : Bool) (dir : SearchDirection) (q : Modal) (cmd : Cmd) (s : Setting) (v : Value) (info : Option (List ℕ)) (x : Sight) → shows_own q.standing ≡ true → x ≡ sight_of s v info
-    → Met s info x (begun_if empty dir q cmd s v)
+    → Met s info x (search_start_if empty dir q cmd s v)
 begun_met true dir q cmd s v info x rests from = passes_met q cmd s v info x rests from
 begun_met false dir q cmd s v info x rests from =
-    let y = begun_at dir (length s.entries) v q in
+    let y = modal_at_search_start dir (length s.entries) v q in
     let w = (begin_search dir q s v).value in
-    met_drawn s info x _ (begun_if false dir q cmd s v) _ (search_met s _ info x y) refl (inl refl)
+    met_drawn s info x _ (search_start_if false dir q cmd s v) _ (search_met s _ info x y) refl (inl refl)
 
 -- another command is done, over steps that draw nothing
 saved_met : (ends : Bool) (q : Modal) (next : Cmd) (s : Setting) (v : Value) (info : Option (List ℕ)) (x : Sight) → shows_own q.standing ≡ true → x ≡ sight_of s v info
-    → Met s info x (record { effect = record { value = if ends then saved_now v else v; steps = if ends then Takes v ∷ [] else [] }; modal = q; next = next })
-saved_met true q next s v info x own from = record { fits = (tt, tt); leads = from ∙ sym (seen_resting q.standing q s (saved_now v) info own); next = inr own }
+    → Met s info x (record { effect = record { value = if ends then with_saved_line v else v; steps = if ends then Takes v ∷ [] else [] }; modal = q; next = next })
+saved_met true q next s v info x own from = record { fits = (tt, tt); leads = from ∙ sym (seen_resting q.standing q s (with_saved_line v) info own); next = inr own }
 saved_met false q next s v info x own from = passes_met q next s v info x own from
 
-beeped_met : (q : Modal) (s : Setting) (v : Value) (info : Option (List ℕ)) (x : Sight) → shows_own q.standing ≡ true → x ≡ sight_of s v info → Met s info x (takes beeped q s v)
+beeped_met : (q : Modal) (s : Setting) (v : Value) (info : Option (List ℕ)) (x : Sight) → shows_own q.standing ≡ true → x ≡ sight_of s v info → Met s info x (takes beep_effect q s v)
 beeped_met q s v info x own from = record { fits = (tt, tt); leads = from ∙ sym (seen_resting q.standing q s v info own); next = inl refl }
 
 -- ---- entries that begin with the line
 
-risen_met : (hit : Option Hit) (q : Modal) (s : Setting) (v : Value) (info : Option (List ℕ)) (x : Sight) → shows_own q.standing ≡ true → x ≡ sight_of s v info → Met s info x (risen hit q s v)
+risen_met : (hit : Option Hit) (q : Modal) (s : Setting) (v : Value) (info : Option (List ℕ)) (x : Sight) → shows_own q.standing ≡ true → x ≡ sight_of s v info → Met s info x (rise_meeting hit q s v)
 risen_met None q s v info x own from = beeped_met q s v info x own from
 risen_met (Some hit) q s v info x own from = saved_met (v.history == length s.entries) (record q { standing = Prefixes }) HistorySearchBackward s v info x refl from
 
@@ -206,15 +206,15 @@ rises_met : (own : Bool) (q : Modal) (cmd : Cmd) (s : Setting) (v : Value) (info
 rises_met true q cmd s v info x own from = risen_met (earlier s v) q s v info x own from
 rises_met false q cmd s v info x own from = passes_met q cmd s v info x own from
 
-fallen_met : (hit : Option Hit) (q : Modal) (s : Setting) (v : Value) (info : Option (List ℕ)) (x : Sight) → shows_own q.standing ≡ true → x ≡ sight_of s v info → Met s info x (fallen hit q s v)
-fallen_met None q s v info x own from = passes_met (rested q) EndOfHistory s v info x refl from
+fallen_met : (hit : Option Hit) (q : Modal) (s : Setting) (v : Value) (info : Option (List ℕ)) (x : Sight) → shows_own q.standing ≡ true → x ≡ sight_of s v info → Met s info x (fall_meeting hit q s v)
+fallen_met None q s v info x own from = passes_met (modal_at_rest q) EndOfHistory s v info x refl from
 fallen_met (Some hit) q s v info x own from = passes_met q HistorySearchForward s v info x own from
 
 -- ---- candidates
 
 -- the helper is called before it
 asked_drawn : {A : Type 0} (u : Value) (reply : Option (Reply A)) (own : List ℕ) (info : Option (List ℕ)) (x : Sight) (steps : List EditStep) (y : Sight) (shown : Option (List ℕ))
-    → Drawn own info x steps y shown → Drawn own info x (helped u reply ++ steps) y shown
+    → Drawn own info x steps y shown → Drawn own info x (help_steps u reply ++ steps) y shown
 asked_drawn u None own info x steps y shown h = h
 asked_drawn u (Some reply) own info x steps y shown h = record { fits = (tt, h.fits); leads = h.leads; info_is = h.info_is }
 
@@ -230,17 +230,17 @@ word_drawn start text s v info x =
     updated_drawn (update_reply start text s v) v s.prompt info x _ _ _ (own_drawn s (word_updated start text s v).value info x)
 
 beep_behind : (v : Value) (s : Setting) (own : List ℕ) (info : Option (List ℕ)) (x : Sight) (steps : List EditStep) (y : Sight) (shown : Option (List ℕ))
-    → Drawn own info x steps y shown → Drawn own info x (steps ++ (beeped s v).steps) y shown
+    → Drawn own info x steps y shown → Drawn own info x (steps ++ (beep_effect s v).steps) y shown
 beep_behind v s own info x steps y shown h = record {
-  fits = fits_both own x steps (beeped s v).steps h.fits (tt, tt);
-  leads = sight_both x steps (beeped s v).steps ∙ h.leads;
-  info_is = info_both steps (beeped s v).steps info ∙ h.info_is;
+  fits = fits_both own x steps (beep_effect s v).steps h.fits (tt, tt);
+  leads = sight_both x steps (beep_effect s v).steps ∙ h.leads;
+  info_is = info_both steps (beep_effect s v).steps info ∙ h.info_is;
 }
 
 -- a candidate in its place, or the word as it was
-turned_drawn : (start : ℕ) (text : Option (List ℕ)) (s : Setting) (v : Value) (info : Option (List ℕ)) (x : Sight) → (let e = turned_with start text s v in
+turned_drawn : (start : ℕ) (text : Option (List ℕ)) (s : Setting) (v : Value) (info : Option (List ℕ)) (x : Sight) → (let e = turn_effect_with start text s v in
     Drawn s.prompt info x e.steps (sight_of s e.value (shown_hint e.value)) (shown_hint e.value))
-turned_drawn start None s v info x = beep_behind (refreshed s v).value s s.prompt info x _ _ _ (own_drawn s v info x)
+turned_drawn start None s v info x = beep_behind (refresh_effect s v).value s s.prompt info x _ _ _ (own_drawn s v info x)
 turned_drawn start (Some text) s v info x = word_drawn start text s v info x
 
 -- drawn so, and the session's own prompt stands
@@ -258,19 +258,19 @@ both_met s info x first met fits h = record {
 }
 
 asked_met : {A : Type 0} (u : Value) (reply : Option (Reply A)) (s : Setting) (info : Option (List ℕ)) (x : Sight) (met : Meeting) → Met s info x met
-    → Met s info x (record { effect = record { value = met.effect.value; steps = helped u reply ++ met.effect.steps }; modal = met.modal; next = met.next })
+    → Met s info x (record { effect = record { value = met.effect.value; steps = help_steps u reply ++ met.effect.steps }; modal = met.modal; next = met.next })
 asked_met u None s info x met h = record { fits = h.fits; leads = h.leads; next = h.next }
 asked_met u (Some reply) s info x met h = record { fits = (tt, h.fits); leads = h.leads; next = h.next }
 
 -- the only candidate, or a beep
 only_met : (start : ℕ) (text : Option (List ℕ)) (q : Modal) (s : Setting) (v : Value) (info : Option (List ℕ)) (x : Sight) → shows_own q.standing ≡ true → x ≡ sight_of s v info
-    → Met s info x (takes (completed_with start text) q s v)
+    → Met s info x (takes (complete_effect_with start text) q s v)
 only_met start None q s v info x own from = beeped_met q s v info x own from
 only_met start (Some text) q s v info x own from = own_met s info x (takes (word_completed start text) q s v) _ (word_drawn start text s v info x) own
 
 -- the common prefix, a list, or a beep
 listed_met : (lists : Bool) (text : Option (List ℕ)) (found : Completion) (q : Modal) (s : Setting) (v : Value) (info : Option (List ℕ)) (x : Sight) → x ≡ sight_of s v info
-    → Met s info x (takes (listed_with lists q.limit found text) (record q { standing = list_standing lists text }) s v)
+    → Met s info x (takes (list_effect_with lists q.limit found text) (record q { standing = list_standing lists text }) s v)
 listed_met true (Some text) found q s v info x from =
     own_met s info x (takes (word_completed found.start text) (record q { standing = Tabbed }) s v) _ (word_drawn found.start text s v info x) refl
 listed_met false (Some text) found q s v info x from =
@@ -283,11 +283,11 @@ several_met : (kind : CompletionType) (lists : Bool) (found : Completion) (q : M
 several_met completion_type.Circular lists found q s v info x from =
     let w = (close_groups s v).value in
     own_met s info x (takes (cycle_begun found) (cycle_first found v.line q) s v) _ (turned_drawn found.start (candidate_at 0 found w.line) s w info x) refl
-several_met completion_type.List lists found q s v info x from = listed_met lists (elected found v.line) found q s v info x from
+several_met completion_type.List lists found q s v info x from = listed_met lists (common_text found v.line) found q s v info x from
 
 offered_met : (ambiguous lists : Bool) (found : Completion) (q : Modal) (s : Setting) (v : Value) (info : Option (List ℕ)) (x : Sight) → x ≡ sight_of s v info
-    → Met s info x (takes (offered_if ambiguous lists q found) (offered_modal_if ambiguous lists found v.line q) s v)
-offered_met false lists found q s v info x from = only_met found.start (only_put found v.line) (rested q) s v info x refl from
+    → Met s info x (takes (offer_effect_if ambiguous lists q found) (modal_after_offer_if ambiguous lists found v.line q) s v)
+offered_met false lists found q s v info x from = only_met found.start (only_put found v.line) (modal_at_rest q) s v info x refl from
 offered_met true lists found q s v info x from = several_met q.completion_type lists found q s v info x from
 
 tab_met : (reply : Option (Reply Completion)) (lists : Bool) (q : Modal) (cmd : Cmd) (s : Setting) (v : Value) (info : Option (List ℕ)) (x : Sight) → shows_own q.standing ≡ true → x ≡ sight_of s v info
@@ -295,41 +295,41 @@ tab_met : (reply : Option (Reply Completion)) (lists : Bool) (q : Modal) (cmd : 
 tab_met None lists q cmd s v info x own from = passes_met q cmd s v info x own from
 tab_met (Some reply) lists q cmd s v info x own from =
     let found = candidates_given (Some reply) in
-    asked_met v (completion_reply s v) s info x (takes (offered lists q found) (offered_modal lists found v.line q) s v) (offered_met (is_ambiguous found v.line) lists found q s v info x from)
+    asked_met v (completion_reply s v) s info x (takes (offer_effect lists q found) (modal_after_offer lists found v.line q) s v) (offered_met (is_ambiguous found v.line) lists found q s v info x from)
 
 -- the next candidate, from any sight
-next_drawn : (dir : SearchDirection) (put : Bool) (q : Modal) (s : Setting) (v : Value) (info : Option (List ℕ)) (x : Sight) → (let e = then_do (then_do (hit_back put) (placing q.place)) (asked_turned dir q) s v in
+next_drawn : (dir : SearchDirection) (put : Bool) (q : Modal) (s : Setting) (v : Value) (info : Option (List ℕ)) (x : Sight) → (let e = then_do (then_do (hit_undo_effect put) (place_effect q.place)) (ask_and_turn_effect dir q) s v in
     Drawn s.prompt info x e.steps (sight_of s e.value (shown_hint e.value)) (shown_hint e.value))
 next_drawn dir put q s v info x = by put
   where
-    on : (w : Value) → (let e = asked_turned dir q s w in Drawn s.prompt info x e.steps (sight_of s e.value (shown_hint e.value)) (shown_hint e.value))
+    on : (w : Value) → (let e = ask_and_turn_effect dir q s w in Drawn s.prompt info x e.steps (sight_of s e.value (shown_hint e.value)) (shown_hint e.value))
     on w =
         let found = candidates_given (completion_reply s w) in
         let at = cycle_at dir q.candidate (length found.candidates) in
         asked_drawn w (completion_reply s w) s.prompt info x _ _ _ (turned_drawn found.start (candidate_at at found w.line) s w info x)
 
-    by : (put : Bool) → (let e = then_do (then_do (hit_back put) (placing q.place)) (asked_turned dir q) s v in
+    by : (put : Bool) → (let e = then_do (then_do (hit_undo_effect put) (place_effect q.place)) (ask_and_turn_effect dir q) s v in
         Drawn s.prompt info x e.steps (sight_of s e.value (shown_hint e.value)) (shown_hint e.value))
-    by true = after_step (TakesBack v 1) s.prompt info x _ _ _ refl (on (then_do (hit_back true) (placing q.place) s v).value)
-    by false = on (then_do (hit_back false) (placing q.place) s v).value
+    by true = after_step (TakesBack v 1) s.prompt info x _ _ _ refl (on (then_do (hit_undo_effect true) (place_effect q.place) s v).value)
+    by false = on (then_do (hit_undo_effect false) (place_effect q.place) s v).value
 
 cycle_met : (reply : Option (Reply Completion)) (dir : SearchDirection) (q : Modal) (cmd : Cmd) (s : Setting) (v : Value) (info : Option (List ℕ)) (x : Sight) → shows_own q.standing ≡ true → x ≡ sight_of s v info
     → Met s info x (cycle_by reply dir q cmd s v)
 cycle_met None dir q cmd s v info x own from = passes_met q cmd s v info x own from
 cycle_met (Some reply) dir q cmd s v info x own from =
-    own_met s info x (takes (cycled dir q) (asked_modal dir q s (cycle_back q s v).value) s v) _ (next_drawn dir q.put q s v info x) own
+    own_met s info x (takes (cycle_effect dir q) (modal_after_ask dir q s (cycle_back q s v).value) s v) _ (next_drawn dir q.put q s v info x) own
 
 -- ---- the last query once more
 
-again_found_met : (hit : Option Hit) (q : Modal) (s : Setting) (v : Value) (info : Option (List ℕ)) (x : Sight) → shows_own q.standing ≡ true → x ≡ sight_of s v info → Met s info x (found_again hit q s v)
+again_found_met : (hit : Option Hit) (q : Modal) (s : Setting) (v : Value) (info : Option (List ℕ)) (x : Sight) → shows_own q.standing ≡ true → x ≡ sight_of s v info → Met s info x (search_again_meeting hit q s v)
 again_found_met None q s v info x own from = beeped_met q s v info x own from
 again_found_met (Some hit) q s v info x own from =
-    let w = (then_do close_groups (rewriting (updating_in_group hit.entry hit.pos)) s v).value in
-    own_met s info x (found_again (Some hit) q s v) _ (after_step (Edits _ _) s.prompt info x _ _ _ refl (own_drawn s w info x)) own
+    let w = (then_do close_groups (edit_effect (update_group hit.entry hit.pos)) s v).value in
+    own_met s info x (search_again_meeting (Some hit) q s v) _ (after_step (Edits _ _) s.prompt info x _ _ _ refl (own_drawn s w info x)) own
 
 -- ---- any command
 
-resting_met : (wish : Wish) (q : Modal) (cmd : Cmd) (s : Setting) (v : Value) (info : Option (List ℕ)) (x : Sight) → shows_own q.standing ≡ true → x ≡ sight_of s v info → Met s info x (met_resting wish q cmd s v)
+resting_met : (wish : Wish) (q : Modal) (cmd : Cmd) (s : Setting) (v : Value) (info : Option (List ℕ)) (x : Sight) → shows_own q.standing ≡ true → x ≡ sight_of s v info → Met s info x (meeting_at_rest wish q cmd s v)
 resting_met (Search dir) q cmd s v info x own from = begun_met (length s.entries == 0) dir q cmd s v info x own from
 resting_met Up q cmd s v info x own from = rises_met (is_own s v && is_prefix v.line) q cmd s v info x own from
 resting_met Down q cmd s v info x own from = passes_met q cmd s v info x own from
@@ -339,35 +339,35 @@ resting_met Leave q cmd s v info x own from = passes_met q cmd s v info x own fr
 resting_met (Again way) q cmd s v info x own from = again_found_met (hit_again way q s v) q s v info x own from
 resting_met Other q cmd s v info x own from = passes_met q cmd s v info x own from
 
-prefixes_met : (wish : Wish) (q : Modal) (cmd : Cmd) (s : Setting) (v : Value) (info : Option (List ℕ)) (x : Sight) → shows_own q.standing ≡ true → x ≡ sight_of s v info → Met s info x (met_prefixes wish q cmd s v)
+prefixes_met : (wish : Wish) (q : Modal) (cmd : Cmd) (s : Setting) (v : Value) (info : Option (List ℕ)) (x : Sight) → shows_own q.standing ≡ true → x ≡ sight_of s v info → Met s info x (meeting_in_prefixes wish q cmd s v)
 prefixes_met Up q cmd s v info x own from = risen_met (earlier s v) q s v info x own from
 prefixes_met Down q cmd s v info x own from = fallen_met (later s v) q s v info x own from
-prefixes_met (Search dir) q cmd s v info x own from = resting_met (Search dir) (rested q) cmd s v info x refl from
-prefixes_met Tab q cmd s v info x own from = resting_met Tab (rested q) cmd s v info x refl from
-prefixes_met TabBack q cmd s v info x own from = resting_met TabBack (rested q) cmd s v info x refl from
-prefixes_met Leave q cmd s v info x own from = resting_met Leave (rested q) cmd s v info x refl from
-prefixes_met (Again way) q cmd s v info x own from = resting_met (Again way) (rested q) cmd s v info x refl from
-prefixes_met Other q cmd s v info x own from = resting_met Other (rested q) cmd s v info x refl from
+prefixes_met (Search dir) q cmd s v info x own from = resting_met (Search dir) (modal_at_rest q) cmd s v info x refl from
+prefixes_met Tab q cmd s v info x own from = resting_met Tab (modal_at_rest q) cmd s v info x refl from
+prefixes_met TabBack q cmd s v info x own from = resting_met TabBack (modal_at_rest q) cmd s v info x refl from
+prefixes_met Leave q cmd s v info x own from = resting_met Leave (modal_at_rest q) cmd s v info x refl from
+prefixes_met (Again way) q cmd s v info x own from = resting_met (Again way) (modal_at_rest q) cmd s v info x refl from
+prefixes_met Other q cmd s v info x own from = resting_met Other (modal_at_rest q) cmd s v info x refl from
 
-tabbed_met : (wish : Wish) (q : Modal) (cmd : Cmd) (s : Setting) (v : Value) (info : Option (List ℕ)) (x : Sight) → shows_own q.standing ≡ true → x ≡ sight_of s v info → Met s info x (met_tabbed wish q cmd s v)
+tabbed_met : (wish : Wish) (q : Modal) (cmd : Cmd) (s : Setting) (v : Value) (info : Option (List ℕ)) (x : Sight) → shows_own q.standing ≡ true → x ≡ sight_of s v info → Met s info x (meeting_after_tab wish q cmd s v)
 tabbed_met Tab q cmd s v info x own from = tab_met (completion_reply s v) true q cmd s v info x own from
-tabbed_met (Search dir) q cmd s v info x own from = resting_met (Search dir) (rested q) cmd s v info x refl from
-tabbed_met Up q cmd s v info x own from = resting_met Up (rested q) cmd s v info x refl from
-tabbed_met Down q cmd s v info x own from = resting_met Down (rested q) cmd s v info x refl from
-tabbed_met TabBack q cmd s v info x own from = resting_met TabBack (rested q) cmd s v info x refl from
-tabbed_met Leave q cmd s v info x own from = resting_met Leave (rested q) cmd s v info x refl from
-tabbed_met (Again way) q cmd s v info x own from = resting_met (Again way) (rested q) cmd s v info x refl from
-tabbed_met Other q cmd s v info x own from = resting_met Other (rested q) cmd s v info x refl from
+tabbed_met (Search dir) q cmd s v info x own from = resting_met (Search dir) (modal_at_rest q) cmd s v info x refl from
+tabbed_met Up q cmd s v info x own from = resting_met Up (modal_at_rest q) cmd s v info x refl from
+tabbed_met Down q cmd s v info x own from = resting_met Down (modal_at_rest q) cmd s v info x refl from
+tabbed_met TabBack q cmd s v info x own from = resting_met TabBack (modal_at_rest q) cmd s v info x refl from
+tabbed_met Leave q cmd s v info x own from = resting_met Leave (modal_at_rest q) cmd s v info x refl from
+tabbed_met (Again way) q cmd s v info x own from = resting_met (Again way) (modal_at_rest q) cmd s v info x refl from
+tabbed_met Other q cmd s v info x own from = resting_met Other (modal_at_rest q) cmd s v info x refl from
 
 -- the line is drawn without the list, and then the command is met
-anew_met : (wish : Wish) (q : Modal) (cmd : Cmd) (s : Setting) (v : Value) (info : Option (List ℕ)) (x : Sight) → Met s info x (met_anew wish q cmd s v)
+anew_met : (wish : Wish) (q : Modal) (cmd : Cmd) (s : Setting) (v : Value) (info : Option (List ℕ)) (x : Sight) → Met s info x (meeting_anew wish q cmd s v)
 anew_met wish q cmd s v info x =
-    let e = refreshed s v in
+    let e = refresh_effect s v in
     let first = own_drawn s v info x in
-    both_met s info x e.steps (met_resting wish (rested q) cmd s e.value) first.fits
-    (resting_met wish (rested q) cmd s e.value (info_after e.steps info) (sight_all x e.steps) refl (first.leads ∙ ap (sight_of s e.value) (sym first.info_is)))
+    both_met s info x e.steps (meeting_at_rest wish (modal_at_rest q) cmd s e.value) first.fits
+    (resting_met wish (modal_at_rest q) cmd s e.value (info_after e.steps info) (sight_all x e.steps) refl (first.leads ∙ ap (sight_of s e.value) (sym first.info_is)))
 
-lists_met : (wish : Wish) (q : Modal) (cmd : Cmd) (s : Setting) (v : Value) (info : Option (List ℕ)) (x : Sight) → shows_own q.standing ≡ true → x ≡ sight_of s v info → Met s info x (met_lists wish q cmd s v)
+lists_met : (wish : Wish) (q : Modal) (cmd : Cmd) (s : Setting) (v : Value) (info : Option (List ℕ)) (x : Sight) → shows_own q.standing ≡ true → x ≡ sight_of s v info → Met s info x (meeting_in_list wish q cmd s v)
 lists_met Tab q cmd s v info x own from = tab_met (completion_reply s v) true q cmd s v info x own from
 lists_met (Search dir) q cmd s v info x own from = anew_met (Search dir) q cmd s v info x
 lists_met Up q cmd s v info x own from = anew_met Up q cmd s v info x
@@ -377,27 +377,27 @@ lists_met Leave q cmd s v info x own from = anew_met Leave q cmd s v info x
 lists_met (Again way) q cmd s v info x own from = anew_met (Again way) q cmd s v info x
 lists_met Other q cmd s v info x own from = anew_met Other q cmd s v info x
 
-cycles_met : (wish : Wish) (q : Modal) (cmd : Cmd) (s : Setting) (v : Value) (info : Option (List ℕ)) (x : Sight) → shows_own q.standing ≡ true → x ≡ sight_of s v info → Met s info x (met_cycles wish q cmd s v)
+cycles_met : (wish : Wish) (q : Modal) (cmd : Cmd) (s : Setting) (v : Value) (info : Option (List ℕ)) (x : Sight) → shows_own q.standing ≡ true → x ≡ sight_of s v info → Met s info x (meeting_in_cycle wish q cmd s v)
 cycles_met Tab q cmd s v info x own from = cycle_met (completion_reply s v) Forward q cmd s v info x own from
 cycles_met TabBack q cmd s v info x own from = cycle_met (completion_reply s v) Reverse q cmd s v info x own from
-cycles_met Leave q cmd s v info x own from = own_met s info x (met_cycles Leave q cmd s v) _ (left_drawn q.put q.place s v info x) refl
-cycles_met (Search dir) q cmd s v info x own from = resting_met (Search dir) (rested q) cmd s v info x refl from
-cycles_met Up q cmd s v info x own from = resting_met Up (rested q) cmd s v info x refl from
-cycles_met Down q cmd s v info x own from = resting_met Down (rested q) cmd s v info x refl from
-cycles_met (Again way) q cmd s v info x own from = resting_met (Again way) (rested q) cmd s v info x refl from
-cycles_met Other q cmd s v info x own from = resting_met Other (rested q) cmd s v info x refl from
+cycles_met Leave q cmd s v info x own from = own_met s info x (meeting_in_cycle Leave q cmd s v) _ (left_drawn q.put q.place s v info x) refl
+cycles_met (Search dir) q cmd s v info x own from = resting_met (Search dir) (modal_at_rest q) cmd s v info x refl from
+cycles_met Up q cmd s v info x own from = resting_met Up (modal_at_rest q) cmd s v info x refl from
+cycles_met Down q cmd s v info x own from = resting_met Down (modal_at_rest q) cmd s v info x refl from
+cycles_met (Again way) q cmd s v info x own from = resting_met (Again way) (modal_at_rest q) cmd s v info x refl from
+cycles_met Other q cmd s v info x own from = resting_met Other (modal_at_rest q) cmd s v info x refl from
 
-acted_met : (act : Act) (q : Modal) (cmd : Cmd) (s : Setting) (v : Value) (info : Option (List ℕ)) (x : Sight) → q.standing ≡ Searches → Met s info x (acted act q cmd s v)
+acted_met : (act : Act) (q : Modal) (cmd : Cmd) (s : Setting) (v : Value) (info : Option (List ℕ)) (x : Sight) → q.standing ≡ Searches → Met s info x (meeting_in_search act q cmd s v)
 acted_met (Types c) q cmd s v info x is =
-    let z = typed_in c q in
+    let z = modal_with_char c q in
     met_drawn s info x _ (looks_typed c q s v) _ (after_step (Takes v) s.prompt info x _ _ _ refl (looks_drawn q.dir (Some q.at) z s v info x is)) refl (inl refl)
-acted_met Erases q cmd s v info x is = again_met (length (erased q).query == 0) (erased q) s v info x is
-acted_met (Goes dir) q cmd s v info x is = looks_met dir (onward dir q (length s.entries)) (queried q.query q) s v info x is
-acted_met Leaves q cmd s v info x is = met_drawn s info x _ (acted Leaves q cmd s v) _ (left_drawn q.put q.place s v info x) refl (inl refl)
+acted_met Erases q cmd s v info x is = again_met (length (modal_after_erase q).query == 0) (modal_after_erase q) s v info x is
+acted_met (Goes dir) q cmd s v info x is = looks_met dir (onward dir q (length s.entries)) (modal_with_query q.query q) s v info x is
+acted_met Leaves q cmd s v info x is = met_drawn s info x _ (meeting_in_search Leaves q cmd s v) _ (left_drawn q.put q.place s v info x) refl (inl refl)
 acted_met Ends q cmd s v info x is = anew_met (wish_of cmd) q cmd s v info x
 
 pub meeting_leads : (at : Standing) (q : Modal) → q.standing ≡ at → (cmd : Cmd) (s : Setting) (v : Value) (info : Option (List ℕ)) (x : Sight) → (shows_own at ≡ true → x ≡ sight_of s v info)
-    → Met s info x (met_by at q cmd s v)
+    → Met s info x (meeting_in at q cmd s v)
 meeting_leads Off q is cmd s v info x from = passes_met q cmd s v info x (ap shows_own is) (from refl)
 meeting_leads Rests q is cmd s v info x from = resting_met (wish_of cmd) q cmd s v info x (ap shows_own is) (from refl)
 meeting_leads Prefixes q is cmd s v info x from = prefixes_met (wish_of cmd) q cmd s v info x (ap shows_own is) (from refl)

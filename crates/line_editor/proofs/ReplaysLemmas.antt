@@ -7,10 +7,10 @@ use Rattle.line_buffer.proofs.CutLemmas.{length-replace_range}
 use Rattle.std.proofs.lemmas.List.Elements.{All-head, All-tail}
 use Rattle.std.proofs.lemmas.Str.{IsUtf8-drop, IsCharBoundary-from_rest}
 use Rattle.line_buffer.specs.Clusters.{clusters}
-use Rattle.line_buffer.specs.LetterCase.{end_of_word, word_to_edit, recased, recase_events, recase_line, edit_word_events, edit_word_line}
-use Rattle.line_buffer.specs.Line.{Line, text_after, moved_to}
-use Rattle.line_buffer.specs.Replay.{replacement, replayed, replayed_all}
-use Rattle.line_buffer.specs.Transpositions.{Pair, after_words, before_words, second_word, first_word, words_around, swap_events, swap_line, transposes_words, transpose_words_events, transpose_words_line}
+use Rattle.line_buffer.specs.LetterCase.{end_of_word, word_to_edit, word_in_case, recase_events, recase_line, edit_word_events, edit_word_line}
+use Rattle.line_buffer.specs.Line.{Line, text_after, with_cursor_at}
+use Rattle.line_buffer.specs.Replay.{replacement, text_after_event, text_after_events}
+use Rattle.line_buffer.specs.Transpositions.{WordPair, after_words, before_words, second_word, first_word, words_around, swap_events, swap_line, transposes_words, transpose_words_events, transpose_words_line}
 use Rattle.line_buffer.specs.Words.{is_alphanumeric_cluster, prev_word, next_word}
 use Rattle.line_buffer.specs.declared.types.At.TheVariants.{AfterEnd}
 use Rattle.line_buffer.specs.declared.types.Word.TheVariants.{Emacs}
@@ -21,11 +21,11 @@ use Rattle.line_buffer.proofs.SpanLemmas.{IsEarlier, IsLater, prev_word-earlier,
 
 -- ---- motions by words
 
-moved_on : (o : Option ℕ) (l : Line) → IsCharBoundary l.text l.place → IfSome o (IsLater l) → IsLater l (moved_to o l).place
+moved_on : (o : Option ℕ) (l : Line) → IsCharBoundary l.text l.place → IfSome o (IsLater l) → IsLater l (with_cursor_at o l).place
 moved_on None l b h = (b, omega arith)
 moved_on (Some i) l b h = h
 
-moved_back : (o : Option ℕ) (l : Line) → IsCharBoundary l.text l.place → IfSome o (IsEarlier l) → IsEarlier l (moved_to o l).place
+moved_back : (o : Option ℕ) (l : Line) → IsCharBoundary l.text l.place → IfSome o (IsEarlier l) → IsEarlier l (with_cursor_at o l).place
 moved_back None l b h = (b, omega arith)
 moved_back (Some i) l b h = h
 
@@ -39,7 +39,7 @@ before_earlier n l u b = moved_back (prev_word Emacs n l) l b (prev_word-earlier
 
 -- ---- words exchanged
 
-record Lies (p : Pair) (text : List ℕ) : Type 0 where
+record Lies (p : WordPair) (text : List ℕ) : Type 0 where
   first : p.first.0 ≤ p.first.1
   second : p.second.0 ≤ p.second.1
   inside : p.second.1 ≤ length text
@@ -53,27 +53,27 @@ words_lie n l u b =
     let past = after_later 1 (first_word n l) u first.0 in
     record { first = past.1; second = second.1; inside = behind.0.0 }
 
-swap_replays : (p : Pair) (l : Line) → Lies p l.text → p.first.1 ≤ p.second.0 → replayed_all (swap_events p l.text) l.text ≡ (swap_line p l).text
+swap_replays : (p : WordPair) (l : Line) → Lies p l.text → p.first.1 ≤ p.second.0 → text_after_events (swap_events p l.text) l.text ≡ (swap_line p l).text
 swap_replays p l lies apart =
     let first : List ℕ = slice_range l.text p.first.0 p.first.1 in
     let second : List ℕ = slice_range l.text p.second.0 p.second.1 in
     let between : List ℕ = replace_range l.text p.second.0 p.second.1 first in
     let long = length-replace_range l.text p.second.0 p.second.1 first lies.second lies.inside in
     replayed_all-first _ _ l.text ∙ replayed_all-one _ _
-    ∙ ap (replayed (replacement p.first.0 p.first.1 second between)) (replayed_replacement l.text p.second.0 p.second.1 first lies.second lies.inside)
+    ∙ ap (text_after_event (replacement p.first.0 p.first.1 second between)) (replayed_replacement l.text p.second.0 p.second.1 first lies.second lies.inside)
     ∙ replayed_replacement between p.first.0 p.first.1 second lies.first (omega (arith, long, lies.second, lies.inside, apart))
 
 both_right : (a b : Bool) → (a && b) ≡ true → b ≡ true
 both_right true b h = h
 both_right false b h = cc
 
-pub transpose_words_replays : (n : ℕ) (l : Line) → IsUtf8 l.text → IsCharBoundary l.text l.place → replayed_all (transpose_words_events n l) l.text ≡ (transpose_words_line n l).text
+pub transpose_words_replays : (n : ℕ) (l : Line) → IsUtf8 l.text → IsCharBoundary l.text l.place → text_after_events (transpose_words_events n l) l.text ≡ (transpose_words_line n l).text
 unfolding after_words before_words
 transpose_words_replays n l u b = by_test (transposes_words n l) refl
   where
-    by_test : (t : Bool) → transposes_words n l ≡ t → replayed_all (if t then swap_events (words_around n l) l.text else []) l.text ≡ (if t then swap_line (words_around n l) l else after_words 1 (first_word n l)).text
+    by_test : (t : Bool) → transposes_words n l ≡ t → text_after_events (if t then swap_events (words_around n l) l.text else []) l.text ≡ (if t then swap_line (words_around n l) l else after_words 1 (first_word n l)).text
     by_test true e =
-        let p : Pair = words_around n l in
+        let p : WordPair = words_around n l in
         swap_replays p l (words_lie n l u b) (leb-true p.first.1 p.second.0 (both_right (not (p.first.0 == p.second.0)) (nat_le p.first.1 p.second.0) e))
     by_test false e = replayed_all-none l.text
 
@@ -100,11 +100,11 @@ word_lies (Some x) l u b h =
     let end = end_lies (record l { place = l.place + x.0 }) u (IsCharBoundary-from_rest l.text l.place x.0 b.0 h.start) in
     (end.1, end.0.0)
 
-recase_replays : (action : WordAction) (o : Option (ℕ × ℕ)) (l : Line) → IfSome o (IsWordIn l.text) → replayed_all (recase_events action o l) l.text ≡ (recase_line action o l).text
+recase_replays : (action : WordAction) (o : Option (ℕ × ℕ)) (l : Line) → IfSome o (IsWordIn l.text) → text_after_events (recase_events action o l) l.text ≡ (recase_line action o l).text
 recase_replays action None l h = replayed_all-none l.text
-recase_replays action (Some word) l h = replayed_all-one _ l.text ∙ replayed_replacement l.text word.0 word.1 (recased action (slice_range l.text word.0 word.1)) h.0 h.1
+recase_replays action (Some word) l h = replayed_all-one _ l.text ∙ replayed_replacement l.text word.0 word.1 (word_in_case action (slice_range l.text word.0 word.1)) h.0 h.1
 
-pub edit_word_replays : (action : WordAction) (l : Line) → IsUtf8 l.text → IsCharBoundary l.text l.place → replayed_all (edit_word_events action l) l.text ≡ (edit_word_line action l).text
+pub edit_word_replays : (action : WordAction) (l : Line) → IsUtf8 l.text → IsCharBoundary l.text l.place → text_after_events (edit_word_events action l) l.text ≡ (edit_word_line action l).text
 edit_word_replays action l u b =
     recase_replays action (word_to_edit l) l (word_lies (find (λ x. is_alphanumeric_cluster x.1) (clusters (text_after l))) l u b
     (found_one (IsPartAt (text_after l)) (λ x. is_alphanumeric_cluster x.1) (clusters (text_after l)) (All-IsPartAt (text_after l) (IsUtf8-drop l.text l.place u b))))

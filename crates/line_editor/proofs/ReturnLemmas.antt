@@ -2,9 +2,9 @@
 use Rattle.std.proofs.Common.{◌≡◌, ℕ, zero, suc, ◌+◌, ◌-◌, ◌==◌, ◌&&◌, ◌||◌, ◌<◌, ◌≤◌, not, min, max, nat_lt, Bool, true, false, List, [], ◌∷◌, length, Option, Some, None, is_some, slice_get, refl, sym, ap, ◌∙◌, subst, arith, if◌then◌else◌}
 use Rattle.std.proofs.lemmas.Bool.{eqb-true, eqb-false, ltb-true, ltb-false}
 use Rattle.line_buffer.specs.Columns.{line_up, line_down}
-use Rattle.line_buffer.specs.Insertions.{kept_text, can_take_before, insert as insertion, yank as yanked_in}
+use Rattle.line_buffer.specs.Insertions.{text_that_fits, can_take_before, insert as insertion, yank as yanked_in}
 use Rattle.line_buffer.specs.Clusters.{place_forward, place_backward}
-use Rattle.line_buffer.specs.Line.{Line, moved_to}
+use Rattle.line_buffer.specs.Line.{Line, with_cursor_at}
 use Rattle.line_buffer.specs.LetterCase.{word_to_edit}
 use Rattle.line_buffer.specs.Range.{range_of, copied_range}
 use Rattle.line_buffer.specs.Transpositions.{transposes_chars, transposes_words}
@@ -21,19 +21,19 @@ use Rattle.line_buffer.specs.declared.types.WordAction.{WordAction}
 use Rattle.line_buffer.specs.declared.types.WordAction.TheVariants.{Capitalize, Lowercase, Uppercase}
 use Rattle.line_config.specs.declared.settings.CompletionType.{CompletionType}
 use Rattle.line_config.specs.declared.settings.CompletionType.TheVariants as completion_type
-use Rattle.line_edits.specs.Steps.{made, answering, doing_nothing}
-use Rattle.line_edits.specs.Edits.{clusters_after, replacing, replacing_if_any, by, yanking, deleting, overwriting, transposing_chars_in_group, transposing_words_in_group, editing_word_in_group}
+use Rattle.line_edits.specs.WriteSteps.{effect_of_edit, with_answer, no_steps}
+use Rattle.line_edits.specs.Edits.{clusters_after, replace_group, replace_group_if_any, by, yank_steps, delete_steps, overwrite_steps, transpose_chars_group, transpose_words_group, word_group}
 use Rattle.line_edits.specs.Written.{Written, group_opened, group_closed}
 use Rattle.line_help.specs.Hints.{Hinted}
 use Rattle.line_help.specs.History.{begins_with_space}
 use Rattle.line_help.specs.Completion.{Completion}
 use Rattle.line_keys.specs.Replies.{Reply}
 use Rattle.line_help.specs.Search.{Hit}
-use Rattle.line_help.specs.declared.search.SearchDirection.{SearchDirection}
-use Rattle.line_help.specs.declared.search.SearchDirection.TheVariants.{Forward, Reverse}
+use Rattle.line_help.specs.declared.history.search.SearchDirection.{SearchDirection}
+use Rattle.line_help.specs.declared.history.search.SearchDirection.TheVariants.{Forward, Reverse}
 use Rattle.line_help.specs.Validation.{is_valid, has_message}
-use Rattle.line_help.specs.declared.validate.ValidationResult.{ValidationResult}
-use Rattle.line_help.specs.declared.validate.ValidationResult.TheVariants.{Incomplete, Invalid, Valid}
+use Rattle.line_help.specs.declared.helpers.validate.ValidationResult.{ValidationResult}
+use Rattle.line_help.specs.declared.helpers.validate.ValidationResult.TheVariants.{Incomplete, Invalid, Valid}
 use Rattle.line_keys.specs.Refreshing.{Ask}
 use Rattle.line_keys.specs.Refreshing.Ask.{Line as LineAsked, Message, Prompted, DoingInsert, DoneInserting}
 use Rattle.line_keys.specs.declared.command.Cmd.{Cmd}
@@ -41,27 +41,27 @@ use Rattle.line_keys.specs.declared.command.Cmd.TheVariants.{Abort, AcceptLine, 
 use Rattle.line_keys.specs.declared.command.CmdKind.{CmdKind}
 use Rattle.line_keys.specs.declared.command.CmdKind.TheVariants.{ForcedRefresh, MoveCursor, Other}
 use Rattle.line_record.specs.Held.{has_step, closes}
-use Rattle.line_record.specs.Ring.{exchanged}
-use Rattle.line_editor.specs.Accepting.{told_if, verdict_told, verdict_given, validate_by, verdict, bare, accept, accepts, newline_if}
+use Rattle.line_record.specs.Ring.{yank_exchange}
+use Rattle.line_editor.specs.Accepting.{message_effect_if, verdict_told, verdict_given, validate_by, verdict, bare, accept, accepts, newline_if}
 use Rattle.line_editor.specs.Asks.{ask_effect}
-use Rattle.line_editor.specs.Candidates.{only_put, listed_with, candidate_at, turned_with, several, offered_if, is_ambiguous, tab_by, cycle_at, asked_turned, cycle_by}
+use Rattle.line_editor.specs.Candidates.{only_put, list_effect_with, candidate_at, turn_effect_with, several, offer_effect_if, is_ambiguous, tab_by, cycle_at, ask_and_turn_effect, cycle_by}
 use Rattle.line_editor.specs.Commands.{Means, in_vi_command, effect}
-use Rattle.line_editor.specs.Completing.{elected, completed_with, candidates_given, complete_if}
-use Rattle.line_editor.specs.Hinting.{at_row_end, completed_by, complete_by}
+use Rattle.line_editor.specs.Completing.{common_text, complete_effect_with, candidates_given, complete_if}
+use Rattle.line_editor.specs.Hinting.{at_row_end, complete_hint_effect, complete_by}
 use Rattle.line_editor.specs.Inserting.{insert_char}
 use Rattle.line_editor.specs.Killing.{kill_effect, insert_text_if}
 use Rattle.line_editor.specs.Moving.{cursor_moved_if, to_found, to_place, move_home, move_to_next_word, move_to_first_print, move_by}
-use Rattle.line_editor.specs.Remembering.{saved_now, saved_on_leaving, recall, come_back as back_at_end, history_step, history_end}
-use Rattle.line_editor.specs.Returns.{ValueStep, value_after, value_after_all, leaving_by, is_search, searches, StaysAway, ComesBack}
+use Rattle.line_editor.specs.History.{with_saved_line, value_on_leaving, recall, come_back_effect as back_at_end, history_step, history_end}
+use Rattle.line_editor.specs.Returns.{ValueStep, value_after, value_after_all, command_that_leaves, is_search, searches, StaysAway, ComesBack}
 use Rattle.line_editor.specs.Returns.ValueStep.{Done, Asked, Met}
-use Rattle.line_editor.specs.Drawing.{refreshed, refreshed_if}
-use Rattle.line_editor.specs.Rewording.{edit_word_effect}
-use Rattle.line_editor.specs.Meeting.{meeting_effect, met_resting, met_prefixes, met_tabbed, met_anew, met_lists, met_cycles, met_by, acted}
-use Rattle.line_editor.specs.Modal.{Modal, rested, wish_of}
-use Rattle.line_editor.specs.Prefixes.{is_prefix, is_own, earlier, later, risen, rises_if, fallen}
-use Rattle.line_editor.specs.Searching.{erased, looks_again, typed_in, sought, onward, hit_back, found_put, is_place, placing, given_up, begun_if, hit_again, found_again, act_of}
-use Rattle.line_editor.specs.Values.{Value, Setting, Effect, Saved, then_do, verdict_reply, completion_reply, rewritten, written_of, at_line}
-use Rattle.line_editor.specs.Yanking.{anchored, steps_over, behind_yank, yanked_by, yank_text, yank_lent, pop_lent}
+use Rattle.line_editor.specs.Drawing.{refresh_effect, refresh_effect_if}
+use Rattle.line_editor.specs.Transforms.{edit_word_effect}
+use Rattle.line_editor.specs.ModalCommands.{meeting_effect, meeting_at_rest, meeting_in_prefixes, meeting_after_tab, meeting_anew, meeting_in_list, meeting_in_cycle, meeting_in, meeting_in_search}
+use Rattle.line_editor.specs.Modal.{Modal, modal_at_rest, wish_of}
+use Rattle.line_editor.specs.Prefixes.{is_prefix, is_own, earlier, later, rise_meeting, rises_if, fall_meeting}
+use Rattle.line_editor.specs.Searching.{modal_after_erase, looks_again, modal_with_char, search_for, onward, hit_undo_effect, put_hit_effect, is_place, place_effect, give_up_effect, search_start_if, hit_again, search_again_meeting, act_of}
+use Rattle.line_editor.specs.Values.{Value, Setting, Effect, Saved, then_do, verdict_reply, completion_reply, value_with_edit, line_and_record_of, at_line}
+use Rattle.line_editor.specs.Yanking.{line_at_anchor, steps_over, behind_yank, value_after_yank, yank_text, yank_lent, pop_lent}
 use Rattle.line_editor.specs.declared.modal_state.Act.{Act}
 use Rattle.line_editor.specs.declared.modal_state.Act.TheVariants.{Types, Erases, Goes, Leaves, Ends}
 use Rattle.line_editor.specs.declared.modal_state.Standing.{Standing}
@@ -97,7 +97,7 @@ step_keeps : (kind : CmdKind) (moves : Bool) (l : Line) (s : Setting) (v : Value
 step_keeps kind moves l s v g = either v moves _ _ (kept refl refl g) (kept refl refl refl)
 
 found_keeps : (o : Option ℕ) (s : Setting) (v : Value) → Keeps v (to_found o s v).value
-found_keeps o s v = step_keeps MoveCursor (is_some o) (moved_to o v.line) s v refl
+found_keeps o s v = step_keeps MoveCursor (is_some o) (with_cursor_at o v.line) s v refl
 
 place_keeps : (kind : CmdKind) (place : ℕ) (s : Setting) (v : Value) → Keeps v (to_place kind place s v).value
 place_keeps kind place s v = step_keeps kind (not (place == v.line.place)) (record v.line { place = place }) s v refl
@@ -138,7 +138,7 @@ yanked_keeps : (b : Bool) (v u w : Value) → Keeps v u → Keeps v w → Keeps 
 yanked_keeps true v u w h k = h
 yanked_keeps false v u w h k = k
 
-anchored_grows : (anchor : Anchor) (l : Line) → (anchored anchor l).growth ≡ l.growth
+anchored_grows : (anchor : Anchor) (l : Line) → (line_at_anchor anchor l).growth ≡ l.growth
 anchored_grows After l = refl
 anchored_grows Before l = refl
 
@@ -148,10 +148,10 @@ behind_grows false l = refl
 
 yank_keeps : (vi : Bool) (text : List ℕ) (anchor : Anchor) (n : ℕ) (s : Setting) (v : Value) → Keeps v (yank_text vi text anchor n s v).value
 yank_keeps vi text anchor n s v =
-    let before = at_line (anchored anchor v.line) v in
-    let w = rewritten (by (yanking text n)) before in
+    let before = at_line (line_at_anchor anchor v.line) v in
+    let w = value_with_edit (by (yank_steps text n)) before in
     let g : w.line.growth ≡ v.line.growth = yank_grows text n before.line ∙ anchored_grows anchor v.line in
-    let h : Keeps v (yanked_by vi text n before) = yanked_keeps (is_some (yanked_in text n before.line).answer) v (at_line (behind_yank vi w.line) w) w (kept refl refl (behind_grows vi w.line ∙ g)) (kept refl refl g) in
+    let h : Keeps v (value_after_yank vi text n before) = yanked_keeps (is_some (yanked_in text n before.line).answer) v (at_line (behind_yank vi w.line) w) w (kept refl refl (behind_grows vi w.line ∙ g)) (kept refl refl g) in
     either v (is_some (yanked_in text n before.line).answer || steps_over anchor v.line) _ _ (kept h.saved h.history h.growth) h
 
 lent_keeps : (vi : Bool) (anchor : Anchor) (n : ℕ) (o : Option (List ℕ)) (s : Setting) (v : Value) → Keeps v (yank_lent vi anchor n o s v).value
@@ -162,10 +162,10 @@ pop_keeps : (o : Option (ℕ × List ℕ)) (s : Setting) (v : Value) → Keeps v
 pop_keeps None s v = same v
 pop_keeps (Some lent) s v = either v (can_take_before lent.0 v.line) _ _ (kept refl refl (pop_grows lent.0 lent.1 v.line)) (kept refl refl refl)
 
-drawn_keeps : (b : Bool) (s : Setting) (v w : Value) → Keeps v w → Keeps v (refreshed_if b s w).value
+drawn_keeps : (b : Bool) (s : Setting) (v w : Value) → Keeps v w → Keeps v (refresh_effect_if b s w).value
 drawn_keeps b s v w h = either v b _ _ (kept h.saved h.history h.growth) h
 
-told_keeps : (draws : Bool) (text : Option (List ℕ)) (kind : CmdKind) (s : Setting) (v w : Value) → Keeps v w → Keeps v (told_if draws text kind s w).value
+told_keeps : (draws : Bool) (text : Option (List ℕ)) (kind : CmdKind) (s : Setting) (v w : Value) → Keeps v w → Keeps v (message_effect_if draws text kind s w).value
 told_keeps draws text kind s v w h = either v (draws || is_some text) _ _ (kept h.saved h.history h.growth) h
 
 verdict_keeps : (found : ValidationResult) (draws : Bool) (s : Setting) (v w : Value) → Keeps v w → Keeps v (verdict_told found draws s w).value
@@ -176,8 +176,8 @@ verdict_keeps (Valid text) draws s v w h = told_keeps draws text ForcedRefresh s
 validate_keeps : (reply : Option (Reply ValidationResult)) (s : Setting) (v : Value) → Keeps v (validate_by reply s v).value
 validate_keeps None s v = same v
 validate_keeps (Some reply) s v =
-    let w = rewritten group_opened v in
-    verdict_keeps (verdict_given reply.answer) (closes w.held || is_some w.hint) s v (rewritten group_closed w) (kept refl refl refl)
+    let w = value_with_edit group_opened v in
+    verdict_keeps (verdict_given reply.answer) (closes w.held || is_some w.hint) s v (value_with_edit group_closed w) (kept refl refl refl)
 
 bare_keeps : (s : Setting) (v : Value) → Keeps v (bare s v).value
 bare_keeps s v = kept refl refl refl
@@ -188,19 +188,19 @@ accept_keeps s v = then_keeps v (bare s v).value (accept s v).value (bare_keeps 
 newline_keeps : (accepted : Bool) (found : ValidationResult) (s : Setting) (v : Value) → Keeps v (newline_if accepted found s v).value
 newline_keeps accepted found s v = either v accepted _ _ (same v) (either v (is_valid found || not (has_message found)) _ _ (insertion_keeps 10 1 s v) (same v))
 
-completion_keeps : (o : Option (List ℕ)) (s : Setting) (v w : Value) → Keeps v w → Keeps v (completed_by o s w).value
+completion_keeps : (o : Option (List ℕ)) (s : Setting) (v w : Value) → Keeps v w → Keeps v (complete_hint_effect o s w).value
 completion_keeps None s v w h = kept h.saved h.history h.growth
 completion_keeps (Some text) s v w h =
     let g = yank_grows text 1 w.line ∙ h.growth in
     either v (is_some (yanked_in text 1 w.line).answer) _ _ (kept h.saved h.history g) (kept h.saved h.history g)
 
-elected_keeps : (start : ℕ) (o : Option (List ℕ)) (s : Setting) (v : Value) → Keeps v (completed_with start o s v).value
+elected_keeps : (start : ℕ) (o : Option (List ℕ)) (s : Setting) (v : Value) → Keeps v (complete_effect_with start o s v).value
 elected_keeps start None s v = same v
 elected_keeps start (Some text) s v = kept refl refl refl
 
 complete_keeps : (reply : Option (Reply Completion)) (s : Setting) (v : Value) → Keeps v (complete_if reply s v).value
 complete_keeps None s v = same v
-complete_keeps (Some reply) s v = let found = candidates_given (Some reply) in elected_keeps found.start (elected found v.line) s v
+complete_keeps (Some reply) s v = let found = candidates_given (Some reply) in elected_keeps found.start (common_text found v.line) s v
 
 hint_keeps : (o : Option Hinted) (s : Setting) (v : Value) → Keeps v (complete_by o s v).value
 hint_keeps None s v = same v
@@ -216,12 +216,12 @@ record Held (s : Setting) (text : List ℕ) (place : ℕ) (v : Value) : Type 0 w
   line : v.history ≡ length s.entries → (v.line.text ≡ text) × (v.line.place ≡ place)
   grows : v.line.growth ≡ true
 
-exchange_grows : (c n : ℕ) (v : Value) → (by (replacing c n) (written_of v)).line.growth ≡ v.line.growth
+exchange_grows : (c n : ℕ) (v : Value) → (by (replace_group c n) (line_and_record_of v)).line.growth ≡ v.line.growth
 exchange_grows c n v =
-    let taken : Written = by (deleting n) (group_opened (written_of v)) in
+    let taken : Written = by (delete_steps n) (group_opened (line_and_record_of v)) in
     insert_grows c (clusters_after n v.line) taken.line ∙ deletion_grows (range_of (ForwardChar n) v.line) v.line
 
-any_grows : (b : Bool) (c n : ℕ) (v : Value) → (made (if b then answering true (replacing c n v.line) else doing_nothing false) (written_of v)).line.growth ≡ v.line.growth
+any_grows : (b : Bool) (c n : ℕ) (v : Value) → (effect_of_edit (if b then with_answer true (replace_group c n v.line) else no_steps false) (line_and_record_of v)).line.growth ≡ v.line.growth
 any_grows true c n v = exchange_grows c n v
 any_grows false c n v = refl
 
@@ -248,7 +248,7 @@ min_within a b h = omega (arith, h)
 
 back_held : (s : Setting) (text : List ℕ) (at : ℕ) (v : Value) → at ≤ length text → v.saved ≡ record { text = text; place = at } → v.line.growth ≡ true → Held s text at (back_at_end s v).value
 back_held s text at v inside saved grows =
-    let whole : kept_text v.saved.text v.line ≡ v.saved.text = update_whole v.line.growth _ v.saved.text _ grows in
+    let whole : text_that_fits v.saved.text v.line ≡ v.saved.text = update_whole v.line.growth _ v.saved.text _ grows in
     record {
       saved = (λ h. absurd (omega (arith, h)));
       line = (λ there. (
@@ -268,11 +268,11 @@ off_end : (a b : ℕ) (x : Bool) → (a == b) ≡ x → a < b → x ≡ false
 off_end a b true e h = absurd (omega (arith, eqb-true a b e, h))
 off_end a b false e h = refl
 
-not_left : (v : Value) (b : Bool) → b ≡ false → (if b then saved_now v else v) ≡ v
+not_left : (v : Value) (b : Bool) → b ≡ false → (if b then with_saved_line v else v) ≡ v
 not_left v true e = cc
 not_left v false e = refl
 
-now_left : (v : Value) (b : Bool) → b ≡ true → (if b then saved_now v else v) ≡ saved_now v
+now_left : (v : Value) (b : Bool) → b ≡ true → (if b then with_saved_line v else v) ≡ with_saved_line v
 now_left v true e = refl
 now_left v false e = cc
 
@@ -288,7 +288,7 @@ next_below a b h e = by_less (nat_lt (a + 1) b) refl
     by_less false k = let least = ltb-false (a + 1) b k in absurd (eqb-false (a + 1) b e (omega (arith, h, least)))
 
 left_held : (place : ℕ) (o : Option Hit) (s : Setting) (text : List ℕ) (at : ℕ) (v : Value) → place < length s.entries → Held s text at v → Away s v
-    → Held s text at (recall place o s (saved_on_leaving s v)).value
+    → Held s text at (recall place o s (value_on_leaving s v)).value
 left_held place o s text at v below h away =
     subst (λ w. Held s text at (recall place o s w).value) (sym (not_left v (v.history == length s.entries) (off_end v.history (length s.entries) _ refl away)))
     (recall_held place o s text at v below h away)
@@ -310,7 +310,7 @@ last_held s text at v inside h away =
     either_held s text at (v.history == length s.entries) _ _ (λ e. h) (λ e. back_held s text at v inside (h.saved away) h.grows)
 
 word_keeps : (action : WordAction) (s : Setting) (v : Value) → Keeps v (edit_word_effect action s v).value
-word_keeps action s v = drawn_keeps (is_some (word_to_edit v.line)) s v (rewritten (by (editing_word_in_group action)) v) (kept refl refl (word_grows action v.line))
+word_keeps action s v = drawn_keeps (is_some (word_to_edit v.line)) s v (value_with_edit (by (word_group action)) v) (kept refl refl (word_grows action v.line))
 
 -- ---- any step
 
@@ -333,22 +333,22 @@ command_held m (Kill movement) s text at v quiet inside h away = keeps_held s te
 command_held m (Move movement) s text at v quiet inside h away = keeps_held s text at v (effect m (Move movement) s v).value h away (motion_keeps movement s v)
 command_held m Noop s text at v quiet inside h away = keeps_held s text at v (effect m Noop s v).value h away (same v)
 command_held m Repaint s text at v quiet inside h away = keeps_held s text at v (effect m Repaint s v).value h away (kept refl refl refl)
-command_held m (Overwrite c) s text at v quiet inside h away = keeps_held s text at v (effect m (Overwrite c) s v).value h away (drawn_keeps (is_some (place_forward 1 v.line)) s v (rewritten (by (overwriting c)) v) (kept refl refl (over_grows c (place_forward 1 v.line) (written_of v))))
+command_held m (Overwrite c) s text at v quiet inside h away = keeps_held s text at v (effect m (Overwrite c) s v).value h away (drawn_keeps (is_some (place_forward 1 v.line)) s v (value_with_edit (by (overwrite_steps c)) v) (kept refl refl (over_grows c (place_forward 1 v.line) (line_and_record_of v))))
 command_held m QuotedInsert s text at v quiet inside h away = keeps_held s text at v (effect m QuotedInsert s v).value h away (same v)
-command_held m (ReplaceChar n c) s text at v quiet inside h away = keeps_held s text at v (effect m (ReplaceChar n c) s v).value h away (drawn_keeps (is_some (place_forward n v.line)) s v (rewritten (by (replacing_if_any c n)) v) (kept refl refl (any_grows (is_some (place_forward n v.line)) c n v)))
+command_held m (ReplaceChar n c) s text at v quiet inside h away = keeps_held s text at v (effect m (ReplaceChar n c) s v).value h away (drawn_keeps (is_some (place_forward n v.line)) s v (value_with_edit (by (replace_group_if_any c n)) v) (kept refl refl (any_grows (is_some (place_forward n v.line)) c n v)))
 command_held m (Replace movement new) s text at v quiet inside h away = keeps_held s text at v (effect m (Replace movement new) s v).value h away (then_keeps v (kill_effect movement s v).value _ (kill_keeps movement s v) (text_keeps new s (kill_effect movement s v).value))
 command_held m ReverseSearchHistory s text at v quiet inside h away = keeps_held s text at v (effect m ReverseSearchHistory s v).value h away (same v)
 command_held m (SearchAgain way) s text at v quiet inside h away = keeps_held s text at v (effect m (SearchAgain way) s v).value h away (same v)
 command_held m (SelfInsert n c) s text at v quiet inside h away = keeps_held s text at v (effect m (SelfInsert n c) s v).value h away (insertion_keeps c n s v)
 command_held m Suspend s text at v quiet inside h away = keeps_held s text at v (effect m Suspend s v).value h away (same v)
-command_held m TransposeChars s text at v quiet inside h away = keeps_held s text at v (effect m TransposeChars s v).value h away (drawn_keeps (transposes_chars v.line) s v (rewritten (by transposing_chars_in_group) v) (kept refl refl (chars_grow v.line)))
-command_held m (TransposeWords n) s text at v quiet inside h away = keeps_held s text at v (effect m (TransposeWords n) s v).value h away ((let w = rewritten (by (transposing_words_in_group n)) v in drawn_keeps (transposes_words n v.line || not (w.line.place == v.line.place)) s v w (kept refl refl (words_grow n v.line))))
+command_held m TransposeChars s text at v quiet inside h away = keeps_held s text at v (effect m TransposeChars s v).value h away (drawn_keeps (transposes_chars v.line) s v (value_with_edit (by transpose_chars_group) v) (kept refl refl (chars_grow v.line)))
+command_held m (TransposeWords n) s text at v quiet inside h away = keeps_held s text at v (effect m (TransposeWords n) s v).value h away ((let w = value_with_edit (by (transpose_words_group n)) v in drawn_keeps (transposes_words n v.line || not (w.line.place == v.line.place)) s v w (kept refl refl (words_grow n v.line))))
 command_held m (Undo n) s text at v quiet inside h away = keeps_held s text at v (effect m (Undo n) s v).value h away (either v (has_step (max n 1) v.held) _ _ (kept refl refl (back_grows (max n 1) v.held v.line)) (kept refl refl refl))
 command_held m Unknown s text at v quiet inside h away = keeps_held s text at v (effect m Unknown s v).value h away (same v)
 command_held m UpcaseWord s text at v quiet inside h away = keeps_held s text at v (effect m UpcaseWord s v).value h away (word_keeps Uppercase s v)
 command_held m (ViYankTo movement) s text at v quiet inside h away = keeps_held s text at v (effect m (ViYankTo movement) s v).value h away (either v (is_some (copied_range movement v.line)) _ _ (same v) (same v))
 command_held m (Yank n anchor) s text at v quiet inside h away = keeps_held s text at v (effect m (Yank n anchor) s v).value h away (lent_keeps (in_vi_command m) anchor n (slice_get m.ring.slots m.ring.place) s v)
-command_held m YankPop s text at v quiet inside h away = keeps_held s text at v (effect m YankPop s v).value h away (pop_keeps (exchanged m.ring) s v)
+command_held m YankPop s text at v quiet inside h away = keeps_held s text at v (effect m YankPop s v).value h away (pop_keeps (yank_exchange m.ring) s v)
 command_held m Newline s text at v quiet inside h away = keeps_held s text at v (effect m Newline s v).value h away (then_keeps v (bare s v).value _ (bare_keeps s v) (insertion_keeps 10 1 s (bare s v).value))
 command_held m (AcceptOrInsertLine middle) s text at v quiet inside h away = keeps_held s text at v (effect m (AcceptOrInsertLine middle) s v).value h away (then_keeps v (accept s v).value _ (accept_keeps s v) (newline_keeps (accepts middle s v) (verdict s v) s (accept s v).value))
 command_held m PreviousHistory s text at v quiet inside h away = previous_held s text at v h away
@@ -371,13 +371,13 @@ ask_keeps DoneInserting s v = kept refl refl refl
 
 -- ---- what a search makes of a command
 
-hit_back_keeps : (put : Bool) (s : Setting) (v : Value) → Keeps v (hit_back put s v).value
+hit_back_keeps : (put : Bool) (s : Setting) (v : Value) → Keeps v (hit_undo_effect put s v).value
 hit_back_keeps true s v = kept refl refl (back_grows 1 v.held v.line)
 hit_back_keeps false s v = same v
 
-put_keeps : (put : Bool) (hit : Option Hit) (s : Setting) (v : Value) → Keeps v (found_put put hit s v).value
+put_keeps : (put : Bool) (hit : Option Hit) (s : Setting) (v : Value) → Keeps v (put_hit_effect put hit s v).value
 put_keeps put None s v = same v
-put_keeps put (Some hit) s v = then_keeps v (hit_back put s v).value (found_put put (Some hit) s v).value (hit_back_keeps put s v) (kept refl refl refl)
+put_keeps put (Some hit) s v = then_keeps v (hit_undo_effect put s v).value (put_hit_effect put (Some hit) s v).value (hit_back_keeps put s v) (kept refl refl refl)
 
 placed_grows : (b : Bool) (place : ℕ) (l : Line) → (if b then record l { place = place } else l).growth ≡ l.growth
 placed_grows true place l = refl
@@ -385,29 +385,29 @@ placed_grows false place l = refl
 
 again_keeps : (empty : Bool) (q : Modal) (s : Setting) (v : Value) → Keeps v (looks_again empty q s v).effect.value
 again_keeps true q s v =
-    let w = (hit_back q.put s v).value in
+    let w = (hit_undo_effect q.put s v).value in
     let h = hit_back_keeps q.put s v in
     kept h.saved h.history (placed_grows (is_place q.place w.line) q.place w.line ∙ h.growth)
-again_keeps false q s v = let h = put_keeps q.put (sought q.query q.dir (Some q.start) s.entries) s v in kept h.saved h.history h.growth
+again_keeps false q s v = let h = put_keeps q.put (search_for q.query q.dir (Some q.start) s.entries) s v in kept h.saved h.history h.growth
 
-back_keeps : (put : Bool) (place : ℕ) (s : Setting) (v : Value) → Keeps v (then_do (hit_back put) (placing place) s v).value
+back_keeps : (put : Bool) (place : ℕ) (s : Setting) (v : Value) → Keeps v (then_do (hit_undo_effect put) (place_effect place) s v).value
 back_keeps put place s v =
-    let w = (hit_back put s v).value in
+    let w = (hit_undo_effect put s v).value in
     let h = hit_back_keeps put s v in
     kept h.saved h.history (placed_grows (is_place place w.line) place w.line ∙ h.growth)
 
-given_up_keeps : (q : Modal) (s : Setting) (v : Value) → Keeps v (given_up q s v).value
+given_up_keeps : (q : Modal) (s : Setting) (v : Value) → Keeps v (give_up_effect q s v).value
 given_up_keeps q s v = let h = back_keeps q.put q.place s v in kept h.saved h.history h.growth
 
-begun_keeps : (empty : Bool) (dir : SearchDirection) (q : Modal) (cmd : Cmd) (s : Setting) (v : Value) → Keeps v (begun_if empty dir q cmd s v).effect.value
+begun_keeps : (empty : Bool) (dir : SearchDirection) (q : Modal) (cmd : Cmd) (s : Setting) (v : Value) → Keeps v (search_start_if empty dir q cmd s v).effect.value
 begun_keeps true dir q cmd s v = same v
 begun_keeps false dir q cmd s v = kept refl refl refl
 
 -- away from the history's end no line is saved
-stays_saved : (s : Setting) (v : Value) → Away s v → Keeps v (saved_on_leaving s v)
+stays_saved : (s : Setting) (v : Value) → Away s v → Keeps v (value_on_leaving s v)
 stays_saved s v away = subst (Keeps v) (sym (not_left v (v.history == length s.entries) (off_end v.history (length s.entries) _ refl away))) (same v)
 
-risen_keeps : (hit : Option Hit) (q : Modal) (s : Setting) (v : Value) → Away s v → Keeps v (risen hit q s v).effect.value
+risen_keeps : (hit : Option Hit) (q : Modal) (s : Setting) (v : Value) → Away s v → Keeps v (rise_meeting hit q s v).effect.value
 risen_keeps None q s v away = same v
 risen_keeps (Some hit) q s v away = stays_saved s v away
 
@@ -415,27 +415,27 @@ rises_keeps : (own : Bool) (q : Modal) (cmd : Cmd) (s : Setting) (v : Value) →
 rises_keeps true q cmd s v away = risen_keeps (earlier s v) q s v away
 rises_keeps false q cmd s v away = same v
 
-fallen_keeps : (hit : Option Hit) (q : Modal) (s : Setting) (v : Value) → Keeps v (fallen hit q s v).effect.value
+fallen_keeps : (hit : Option Hit) (q : Modal) (s : Setting) (v : Value) → Keeps v (fall_meeting hit q s v).effect.value
 fallen_keeps None q s v = same v
 fallen_keeps (Some hit) q s v = same v
 
 -- ---- candidates
 
-turned_keeps : (start : ℕ) (o : Option (List ℕ)) (s : Setting) (v w : Value) → Keeps v w → Keeps v (turned_with start o s w).value
+turned_keeps : (start : ℕ) (o : Option (List ℕ)) (s : Setting) (v w : Value) → Keeps v w → Keeps v (turn_effect_with start o s w).value
 turned_keeps start None s v w h = kept h.saved h.history h.growth
 turned_keeps start (Some text) s v w h = kept h.saved h.history h.growth
 
-listed_keeps : (lists : Bool) (o : Option (List ℕ)) (limit : ℕ) (found : Completion) (s : Setting) (v : Value) → Keeps v (listed_with lists limit found o s v).value
+listed_keeps : (lists : Bool) (o : Option (List ℕ)) (limit : ℕ) (found : Completion) (s : Setting) (v : Value) → Keeps v (list_effect_with lists limit found o s v).value
 listed_keeps true (Some text) limit found s v = kept refl refl refl
 listed_keeps false (Some text) limit found s v = kept refl refl refl
 listed_keeps true None limit found s v = kept refl refl refl
 listed_keeps false None limit found s v = same v
 
 several_keeps : (kind : CompletionType) (lists : Bool) (q : Modal) (found : Completion) (s : Setting) (v : Value) → Keeps v (several kind lists q found s v).value
-several_keeps completion_type.Circular lists q found s v = turned_keeps found.start (candidate_at 0 found v.line) s v (rewritten group_closed v) (kept refl refl refl)
-several_keeps completion_type.List lists q found s v = listed_keeps lists (elected found v.line) q.limit found s v
+several_keeps completion_type.Circular lists q found s v = turned_keeps found.start (candidate_at 0 found v.line) s v (value_with_edit group_closed v) (kept refl refl refl)
+several_keeps completion_type.List lists q found s v = listed_keeps lists (common_text found v.line) q.limit found s v
 
-offered_keeps : (ambiguous lists : Bool) (q : Modal) (found : Completion) (s : Setting) (v : Value) → Keeps v (offered_if ambiguous lists q found s v).value
+offered_keeps : (ambiguous lists : Bool) (q : Modal) (found : Completion) (s : Setting) (v : Value) → Keeps v (offer_effect_if ambiguous lists q found s v).value
 offered_keeps false lists q found s v = elected_keeps found.start (only_put found v.line) s v
 offered_keeps true lists q found s v = several_keeps q.completion_type lists q found s v
 
@@ -443,22 +443,22 @@ tab_keeps : (reply : Option (Reply Completion)) (lists : Bool) (q : Modal) (cmd 
 tab_keeps None lists q cmd s v = same v
 tab_keeps (Some reply) lists q cmd s v = let found = candidates_given (Some reply) in offered_keeps (is_ambiguous found v.line) lists q found s v
 
-next_keeps : (dir : SearchDirection) (q : Modal) (s : Setting) (v w : Value) → Keeps v w → Keeps v (asked_turned dir q s w).value
+next_keeps : (dir : SearchDirection) (q : Modal) (s : Setting) (v w : Value) → Keeps v w → Keeps v (ask_and_turn_effect dir q s w).value
 next_keeps dir q s v w h =
     let found = candidates_given (completion_reply s w) in
     turned_keeps found.start (candidate_at (cycle_at dir q.candidate (length found.candidates)) found w.line) s v w h
 
 cycle_keeps : (reply : Option (Reply Completion)) (dir : SearchDirection) (q : Modal) (cmd : Cmd) (s : Setting) (v : Value) → Keeps v (cycle_by reply dir q cmd s v).effect.value
 cycle_keeps None dir q cmd s v = same v
-cycle_keeps (Some reply) dir q cmd s v = next_keeps dir q s v (then_do (hit_back q.put) (placing q.place) s v).value (back_keeps q.put q.place s v)
+cycle_keeps (Some reply) dir q cmd s v = next_keeps dir q s v (then_do (hit_undo_effect q.put) (place_effect q.place) s v).value (back_keeps q.put q.place s v)
 
-again_found_keeps : (hit : Option Hit) (q : Modal) (s : Setting) (v : Value) → Keeps v (found_again hit q s v).effect.value
+again_found_keeps : (hit : Option Hit) (q : Modal) (s : Setting) (v : Value) → Keeps v (search_again_meeting hit q s v).effect.value
 again_found_keeps None q s v = same v
 again_found_keeps (Some hit) q s v = kept refl refl refl
 
 -- ---- any command that is met
 
-resting_keeps : (wish : Wish) (q : Modal) (cmd : Cmd) (s : Setting) (v : Value) → Away s v → Keeps v (met_resting wish q cmd s v).effect.value
+resting_keeps : (wish : Wish) (q : Modal) (cmd : Cmd) (s : Setting) (v : Value) → Away s v → Keeps v (meeting_at_rest wish q cmd s v).effect.value
 resting_keeps (Search dir) q cmd s v away = begun_keeps (length s.entries == 0) dir q cmd s v
 resting_keeps Up q cmd s v away = rises_keeps (is_own s v && is_prefix v.line) q cmd s v away
 resting_keeps Down q cmd s v away = same v
@@ -468,32 +468,32 @@ resting_keeps Leave q cmd s v away = same v
 resting_keeps (Again way) q cmd s v away = again_found_keeps (hit_again way q s v) q s v
 resting_keeps Other q cmd s v away = same v
 
-prefixes_keep : (wish : Wish) (q : Modal) (cmd : Cmd) (s : Setting) (v : Value) → Away s v → Keeps v (met_prefixes wish q cmd s v).effect.value
+prefixes_keep : (wish : Wish) (q : Modal) (cmd : Cmd) (s : Setting) (v : Value) → Away s v → Keeps v (meeting_in_prefixes wish q cmd s v).effect.value
 prefixes_keep Up q cmd s v away = risen_keeps (earlier s v) q s v away
 prefixes_keep Down q cmd s v away = fallen_keeps (later s v) q s v
-prefixes_keep (Search dir) q cmd s v away = resting_keeps (Search dir) (rested q) cmd s v away
-prefixes_keep Tab q cmd s v away = resting_keeps Tab (rested q) cmd s v away
-prefixes_keep TabBack q cmd s v away = resting_keeps TabBack (rested q) cmd s v away
-prefixes_keep Leave q cmd s v away = resting_keeps Leave (rested q) cmd s v away
-prefixes_keep (Again way) q cmd s v away = resting_keeps (Again way) (rested q) cmd s v away
-prefixes_keep Other q cmd s v away = resting_keeps Other (rested q) cmd s v away
+prefixes_keep (Search dir) q cmd s v away = resting_keeps (Search dir) (modal_at_rest q) cmd s v away
+prefixes_keep Tab q cmd s v away = resting_keeps Tab (modal_at_rest q) cmd s v away
+prefixes_keep TabBack q cmd s v away = resting_keeps TabBack (modal_at_rest q) cmd s v away
+prefixes_keep Leave q cmd s v away = resting_keeps Leave (modal_at_rest q) cmd s v away
+prefixes_keep (Again way) q cmd s v away = resting_keeps (Again way) (modal_at_rest q) cmd s v away
+prefixes_keep Other q cmd s v away = resting_keeps Other (modal_at_rest q) cmd s v away
 
-tabbed_keep : (wish : Wish) (q : Modal) (cmd : Cmd) (s : Setting) (v : Value) → Away s v → Keeps v (met_tabbed wish q cmd s v).effect.value
+tabbed_keep : (wish : Wish) (q : Modal) (cmd : Cmd) (s : Setting) (v : Value) → Away s v → Keeps v (meeting_after_tab wish q cmd s v).effect.value
 tabbed_keep Tab q cmd s v away = tab_keeps (completion_reply s v) true q cmd s v
-tabbed_keep (Search dir) q cmd s v away = resting_keeps (Search dir) (rested q) cmd s v away
-tabbed_keep Up q cmd s v away = resting_keeps Up (rested q) cmd s v away
-tabbed_keep Down q cmd s v away = resting_keeps Down (rested q) cmd s v away
-tabbed_keep TabBack q cmd s v away = resting_keeps TabBack (rested q) cmd s v away
-tabbed_keep Leave q cmd s v away = resting_keeps Leave (rested q) cmd s v away
-tabbed_keep (Again way) q cmd s v away = resting_keeps (Again way) (rested q) cmd s v away
-tabbed_keep Other q cmd s v away = resting_keeps Other (rested q) cmd s v away
+tabbed_keep (Search dir) q cmd s v away = resting_keeps (Search dir) (modal_at_rest q) cmd s v away
+tabbed_keep Up q cmd s v away = resting_keeps Up (modal_at_rest q) cmd s v away
+tabbed_keep Down q cmd s v away = resting_keeps Down (modal_at_rest q) cmd s v away
+tabbed_keep TabBack q cmd s v away = resting_keeps TabBack (modal_at_rest q) cmd s v away
+tabbed_keep Leave q cmd s v away = resting_keeps Leave (modal_at_rest q) cmd s v away
+tabbed_keep (Again way) q cmd s v away = resting_keeps (Again way) (modal_at_rest q) cmd s v away
+tabbed_keep Other q cmd s v away = resting_keeps Other (modal_at_rest q) cmd s v away
 
-anew_keeps : (wish : Wish) (q : Modal) (cmd : Cmd) (s : Setting) (v : Value) → Away s v → Keeps v (met_anew wish q cmd s v).effect.value
+anew_keeps : (wish : Wish) (q : Modal) (cmd : Cmd) (s : Setting) (v : Value) → Away s v → Keeps v (meeting_anew wish q cmd s v).effect.value
 anew_keeps wish q cmd s v away =
-    let w = (refreshed s v).value in
-    then_keeps v w (met_anew wish q cmd s v).effect.value (kept refl refl refl) (resting_keeps wish (rested q) cmd s w away)
+    let w = (refresh_effect s v).value in
+    then_keeps v w (meeting_anew wish q cmd s v).effect.value (kept refl refl refl) (resting_keeps wish (modal_at_rest q) cmd s w away)
 
-lists_keep : (wish : Wish) (q : Modal) (cmd : Cmd) (s : Setting) (v : Value) → Away s v → Keeps v (met_lists wish q cmd s v).effect.value
+lists_keep : (wish : Wish) (q : Modal) (cmd : Cmd) (s : Setting) (v : Value) → Away s v → Keeps v (meeting_in_list wish q cmd s v).effect.value
 lists_keep Tab q cmd s v away = tab_keeps (completion_reply s v) true q cmd s v
 lists_keep (Search dir) q cmd s v away = anew_keeps (Search dir) q cmd s v away
 lists_keep Up q cmd s v away = anew_keeps Up q cmd s v away
@@ -503,24 +503,24 @@ lists_keep Leave q cmd s v away = anew_keeps Leave q cmd s v away
 lists_keep (Again way) q cmd s v away = anew_keeps (Again way) q cmd s v away
 lists_keep Other q cmd s v away = anew_keeps Other q cmd s v away
 
-cycles_keep : (wish : Wish) (q : Modal) (cmd : Cmd) (s : Setting) (v : Value) → Away s v → Keeps v (met_cycles wish q cmd s v).effect.value
+cycles_keep : (wish : Wish) (q : Modal) (cmd : Cmd) (s : Setting) (v : Value) → Away s v → Keeps v (meeting_in_cycle wish q cmd s v).effect.value
 cycles_keep Tab q cmd s v away = cycle_keeps (completion_reply s v) Forward q cmd s v
 cycles_keep TabBack q cmd s v away = cycle_keeps (completion_reply s v) Reverse q cmd s v
 cycles_keep Leave q cmd s v away = given_up_keeps q s v
-cycles_keep (Search dir) q cmd s v away = resting_keeps (Search dir) (rested q) cmd s v away
-cycles_keep Up q cmd s v away = resting_keeps Up (rested q) cmd s v away
-cycles_keep Down q cmd s v away = resting_keeps Down (rested q) cmd s v away
-cycles_keep (Again way) q cmd s v away = resting_keeps (Again way) (rested q) cmd s v away
-cycles_keep Other q cmd s v away = resting_keeps Other (rested q) cmd s v away
+cycles_keep (Search dir) q cmd s v away = resting_keeps (Search dir) (modal_at_rest q) cmd s v away
+cycles_keep Up q cmd s v away = resting_keeps Up (modal_at_rest q) cmd s v away
+cycles_keep Down q cmd s v away = resting_keeps Down (modal_at_rest q) cmd s v away
+cycles_keep (Again way) q cmd s v away = resting_keeps (Again way) (modal_at_rest q) cmd s v away
+cycles_keep Other q cmd s v away = resting_keeps Other (modal_at_rest q) cmd s v away
 
-acted_keeps : (act : Act) (q : Modal) (cmd : Cmd) (s : Setting) (v : Value) → Away s v → Keeps v (acted act q cmd s v).effect.value
-acted_keeps (Types c) q cmd s v away = let h = put_keeps q.put (sought (typed_in c q).query q.dir (Some q.at) s.entries) s v in kept h.saved h.history h.growth
-acted_keeps Erases q cmd s v away = again_keeps (length (erased q).query == 0) (erased q) s v
-acted_keeps (Goes dir) q cmd s v away = let h = put_keeps q.put (sought q.query dir (onward dir q (length s.entries)) s.entries) s v in kept h.saved h.history h.growth
+acted_keeps : (act : Act) (q : Modal) (cmd : Cmd) (s : Setting) (v : Value) → Away s v → Keeps v (meeting_in_search act q cmd s v).effect.value
+acted_keeps (Types c) q cmd s v away = let h = put_keeps q.put (search_for (modal_with_char c q).query q.dir (Some q.at) s.entries) s v in kept h.saved h.history h.growth
+acted_keeps Erases q cmd s v away = again_keeps (length (modal_after_erase q).query == 0) (modal_after_erase q) s v
+acted_keeps (Goes dir) q cmd s v away = let h = put_keeps q.put (search_for q.query dir (onward dir q (length s.entries)) s.entries) s v in kept h.saved h.history h.growth
 acted_keeps Leaves q cmd s v away = given_up_keeps q s v
 acted_keeps Ends q cmd s v away = anew_keeps (wish_of cmd) q cmd s v away
 
-met_keeps : (at : Standing) (q : Modal) (cmd : Cmd) (s : Setting) (v : Value) → Away s v → Keeps v (met_by at q cmd s v).effect.value
+met_keeps : (at : Standing) (q : Modal) (cmd : Cmd) (s : Setting) (v : Value) → Away s v → Keeps v (meeting_in at q cmd s v).effect.value
 met_keeps Off q cmd s v away = same v
 met_keeps Rests q cmd s v away = resting_keeps (wish_of cmd) q cmd s v away
 met_keeps Prefixes q cmd s v away = prefixes_keep (wish_of cmd) q cmd s v away
@@ -541,7 +541,7 @@ all_held (step ∷ steps) s text at v inside h stays = all_held steps s text at 
 -- ---- leaving
 
 saved_held : (place : ℕ) (o : Option Hit) (s : Setting) (v : Value) → v.history ≡ length s.entries → v.line.growth ≡ true → place < length s.entries
-    → Held s v.line.text v.line.place (recall place o s (saved_now v)).value
+    → Held s v.line.text v.line.place (recall place o s (with_saved_line v)).value
 saved_held place None s v there grows below = record { saved = (λ h. absurd (omega (arith, there, h))); line = (λ h. (refl, refl)); grows = grows }
 saved_held place (Some hit) s v there grows below = record { saved = (λ h. refl); line = (λ h. absurd (omega (arith, h, below))); grows = grows }
 
@@ -549,7 +549,7 @@ start_held : (s : Setting) (v : Value) → v.history ≡ length s.entries → v.
 start_held s v there grows = record { saved = (λ h. absurd (omega (arith, there, h))); line = (λ h. (refl, refl)); grows = grows }
 
 leave_held : (place : ℕ) (o : Option Hit) (s : Setting) (v : Value) → v.history ≡ length s.entries → v.line.growth ≡ true → place < length s.entries
-    → Held s v.line.text v.line.place (recall place o s (saved_on_leaving s v)).value
+    → Held s v.line.text v.line.place (recall place o s (value_on_leaving s v)).value
 leave_held place o s v there grows below =
     subst (λ w. Held s v.line.text v.line.place (recall place o s w).value) (sym (now_left v (v.history == length s.entries) (same_place v.history (length s.entries) there))) (saved_held place o s v there grows below)
   where
@@ -560,7 +560,7 @@ leave_held place o s v there grows below =
         by_same true k = k
         by_same false k = absurd (eqb-false a b k e)
 
-by_leaving : (one : Bool) (m : Means) (s : Setting) (v : Value) → v.history ≡ length s.entries → v.line.growth ≡ true → Held s v.line.text v.line.place (effect m (leaving_by one) s v).value
+by_leaving : (one : Bool) (m : Means) (s : Setting) (v : Value) → v.history ≡ length s.entries → v.line.growth ≡ true → Held s v.line.text v.line.place (effect m (command_that_leaves one) s v).value
 by_leaving true m s v there grows = either_held s v.line.text v.line.place (v.history == 0) _ _ (λ e. start_held s v there grows)
     (λ e. leave_held (v.history - 1) _ s v there grows (let k = above_zero v.history e in omega (arith, there, k)))
 by_leaving false m s v there grows = either_held s v.line.text v.line.place (v.history == 0) _ _ (λ e. start_held s v there grows)
@@ -568,4 +568,4 @@ by_leaving false m s v there grows = either_held s v.line.text v.line.place (v.h
 
 pub come_back : ComesBack
 come_back s m one steps v there inside grows stays back =
-    (all_held steps s v.line.text v.line.place (effect m (leaving_by one) s v).value inside (by_leaving one m s v there grows) stays).line back
+    (all_held steps s v.line.text v.line.place (effect m (command_that_leaves one) s v).value inside (by_leaving one m s v there grows) stays).line back

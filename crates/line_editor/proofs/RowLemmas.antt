@@ -4,17 +4,17 @@ use Rattle.std.specs.Prelude.{Option, is_some, Result, Err, IsErrAnd}
 use Rattle.line_buffer.specs.Columns.{line_up, line_down}
 use Rattle.line_config.specs.declared.errors.ReadlineError.{ReadlineError}
 use Rattle.line_help.specs.declared.completion as completions
-use Rattle.line_help.specs.declared.hint as hints
-use Rattle.line_help.specs.declared.highlight as highlights
-use Rattle.line_help.specs.declared.validate as verdicts
+use Rattle.line_help.specs.declared.helpers.hint as hints
+use Rattle.line_help.specs.declared.helpers.highlight as highlights
+use Rattle.line_help.specs.declared.helpers.validate as verdicts
 use Rattle.line_help.specs.declared.history as histories
 use Rattle.line_keys.specs.declared.command.CmdKind.TheVariants.{MoveCursor}
-use Rattle.line_buffer.specs.Line.{moved_to}
+use Rattle.line_buffer.specs.Line.{with_cursor_at}
 use Rattle.line_editor.specs.Commands.{line_up_or_previous, line_down_or_next}
 use Rattle.line_editor.specs.Moving.{cursor_moved_if, to_found, move_line_up, move_line_down}
-use Rattle.line_editor.specs.Remembering.{history_step}
+use Rattle.line_editor.specs.History.{history_step}
 use Rattle.line_editor.specs.States.{value_of, setting_of, surface_of, Does}
-use Rattle.line_editor.specs.Steps.{Stops}
+use Rattle.line_editor.specs.EditSteps.{CutEditSteps}
 use Rattle.line_editor.specs.Values.{EditStep, Transition}
 use Rattle.line_editor.specs.declared.renderer as renderers
 use Rattle.line_editor.specs.declared.state.State.{State}
@@ -31,12 +31,12 @@ module _ {Out H Hi K T : Type 0} {renderer : renderers.Renderer.Ghosts Out} {com
       → (b ≡ false → (edit (setting_of s) (value_of s)).steps ≡ []) → Does {A = A} edit s t (Err e) → Does {A = B} (either b edit other) s t (Err e)
   either_cut true edit other s t e none h = record { value = tt; calls = tt; layout = tt; stays = h.stays; reason = h.reason; stops = h.stops }
   either_cut false edit other s t e none h = never_stops renderer.canvas (renderer.canvas.ruler s.out) e (value_of t) (surface_of s) (surface_of t)
-      (subst (λ (xs : List EditStep). Stops renderer.canvas (renderer.canvas.ruler s.out) xs (surface_of s) e (value_of t) (surface_of t)) (none refl) h.stops)
+      (subst (λ (xs : List EditStep). CutEditSteps renderer.canvas (renderer.canvas.ruler s.out) xs (surface_of s) e (value_of t) (surface_of t)) (none refl) h.stops)
 
   rows_cut : {A B : Type 0} (found : Option ℕ) (other : Transition) (s t : State Out H Hi K T renderer completer candidate hinter hint highlighter validator history) (e : ReadlineError)
       → Does {A = A} (to_found found) s t (Err e) → Does {A = B} (either (is_some found) (to_found found) other) s t (Err e)
   rows_cut {A} {B} found other s t e h = either_cut {A = A} {B = B} (is_some found) (to_found found) other s t e
-      (λ none. ap (λ (b : Bool). (cursor_moved_if MoveCursor b (moved_to found (value_of s).line) (setting_of s) (value_of s)).steps) none) h
+      (λ none. ap (λ (b : Bool). (cursor_moved_if MoveCursor b (with_cursor_at found (value_of s).line) (setting_of s) (value_of s)).steps) none) h
 
   pub up_cut : {A B : Type 0} (n : ℕ) (s t : State Out H Hi K T renderer completer candidate hinter hint highlighter validator history) (e : ReadlineError) (r : Result B ReadlineError)
       → IsErrAnd r (λ x. x ≡ e) → Does {A = A} (move_line_up n) s t (Err e) → Does (line_up_or_previous n) s t r

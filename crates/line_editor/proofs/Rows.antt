@@ -14,31 +14,31 @@ use Rattle.line_buffer.specs.declared.layout.Position.{Position}
 use Rattle.line_config.specs.Config.{default_config}
 use Rattle.line_config.specs.declared.errors.ReadlineError.TheVariants.{Eof}
 use Rattle.line_config.specs.declared.settings.EditMode.TheVariants.{Emacs}
-use Rattle.line_keys.specs.Answers.{Custom}
+use Rattle.line_keys.specs.CustomBindings.{Custom}
 use Rattle.line_keys.specs.Replies.{gives_at_once}
 use Rattle.line_keys.specs.Coming.{Coming, Pressed, Ends, End}
 use Rattle.line_keys.specs.Common.{common_action}
-use Rattle.line_keys.specs.Counts.{counting}
-use Rattle.line_keys.specs.Custom.{followed, following}
+use Rattle.line_keys.specs.Counts.{rest_of_count}
+use Rattle.line_keys.specs.CustomKeys.{key_sequence, rest_of_sequence}
 use Rattle.line_keys.specs.Emacs.{emacs_action}
 use Rattle.line_keys.specs.Events.{begins_with, single}
 use Rattle.line_keys.specs.Keys.{key_with, none, ctrl, alt}
-use Rattle.line_keys.specs.Phrases.{Input, answered, needing, with_read, from_key, asking, becoming, deciding, and_then}
+use Rattle.line_keys.specs.PhraseScripts.{Input, answer_part, memory_then, with_read, from_key, show_then, keep_then, reply_then, and_then}
 use Rattle.line_keys.specs.Bound.{same_event}
 use Rattle.line_keys.specs.declared.command.Cmd.TheVariants.{HistorySearchBackward, Noop}
 use Rattle.line_keys.specs.declared.command.InputMode.TheVariants.{Insert as Inserting}
 use Rattle.line_keys.specs.declared.key.KeyCode.TheVariants.{Backspace, Char, Down, Enter, Left, Up}
 use Rattle.line_keys.specs.declared.key.KeyEvent.{KeyEvent}
-use Rattle.line_record.specs.Course.{recorded_all}
+use Rattle.line_record.specs.RecordCourse.{record_after_events}
 use Rattle.line_record.specs.Ring.{Ring}
-use Rattle.line_editor.specs.Calls.{Call, Ruler}
-use Rattle.line_editor.specs.Calls.Call.{Draw, Move, Write, Beep}
-use Rattle.line_config.specs.Played.{Played}
+use Rattle.line_editor.specs.RenderCalls.{Call, Ruler}
+use Rattle.line_editor.specs.RenderCalls.Call.{Draw, Move, Write, Beep}
+use Rattle.script.specs.Played.{Played}
 use Rattle.line_config.specs.declared.errors.ReadlineError.{ReadlineError}
-use Rattle.line_editor.specs.LineScripts.{LineAsk, LineState, kept, played_from, steps_along, turn_script, turns_script, line_script}
+use Rattle.line_editor.specs.LineScripts.{LineAsk, LineState, line_state, played_from, steps_along, turn_script, turns_script, line_script}
 use Rattle.line_editor.specs.Modal.{Modal, modal_first}
 use Rattle.line_editor.specs.Redraws.{fresh}
-use Rattle.line_editor.specs.Steps.{asked}
+use Rattle.line_editor.specs.EditSteps.{calls_of_steps}
 use Rattle.line_editor.specs.Values.{Setting, EditStep, first_value}
 
 -- ---- a display of eighty columns, and lines after `> `
@@ -107,9 +107,9 @@ module _ (r : Ring) where
   abbrev line_with : Modal → List (List ℕ) → Custom → List KeyEvent → LineRow
   line_with modal entries custom ks =
       let s = with_entries entries in
-      let k = kept (first_value s) emacs r modal (pressed ks) in
+      let k = line_state (first_value s) emacs r modal (pressed ks) in
       let p = played_from s (line_script 12 custom) k in
-      record { calls = (asked plain (fresh Unicode) (steps_along s k p.asks)).calls; outcome = p.answer }
+      record { calls = (calls_of_steps plain (fresh Unicode) (steps_along s k p.asks)).calls; outcome = p.answer }
 
   abbrev line : List (List ℕ) → Custom → List KeyEvent → LineRow
   line entries custom ks = line_with (modal_first default_config []) entries custom ks
@@ -120,11 +120,11 @@ module _ (r : Ring) where
   a_left_enter = line [] nothing_bound (typed 0x61 ∷ key_with Left none ∷ key_with Enter none ∷ [])
 
   a_left_enter_calls : a_left_enter.calls ≡ draw [] (fresh Unicode) ∷ Write (codes "a") ∷ Move (at 3) (at 2) ∷ Move (at 2) (at 3) ∷ []
-  unfolding unicode_segmentation line_script turns_script turn_script answered following needing with_read from_key asking becoming deciding and_then counting followed emacs_action common_action
+  unfolding unicode_segmentation line_script turns_script turn_script answer_part rest_of_sequence memory_then with_read from_key show_then keep_then reply_then and_then rest_of_count key_sequence emacs_action common_action
   a_left_enter_calls = refl
 
   a_left_enter_outcome : a_left_enter.outcome ≡ Ok (codes "a")
-  unfolding unicode_segmentation line_script turns_script turn_script answered following needing with_read from_key asking becoming deciding and_then counting followed emacs_action common_action
+  unfolding unicode_segmentation line_script turns_script turn_script answer_part rest_of_sequence memory_then with_read from_key show_then keep_then reply_then and_then rest_of_count key_sequence emacs_action common_action
   a_left_enter_outcome = refl
 
   -- ---- a count of two before x: its prompt, the session's own again, and both characters in one drawing
@@ -133,11 +133,11 @@ module _ (r : Ring) where
   two_x = line [] nothing_bound (key_with (Char 0x32) alt ∷ typed 0x78 ∷ [])
 
   two_x_calls : two_x.calls ≡ draw [] (fresh Unicode) ∷ Draw (codes "(arg: 2) ") [] 0 None (Some (own_laid 2)) (laid false 9 9 9) None ∷ draw [] (laid false 9 9 9) ∷ draw (codes "xx") (own_laid 2) ∷ []
-  unfolding unicode_segmentation line_script turns_script turn_script answered following needing with_read from_key asking becoming deciding and_then counting followed emacs_action common_action digits
+  unfolding unicode_segmentation line_script turns_script turn_script answer_part rest_of_sequence memory_then with_read from_key show_then keep_then reply_then and_then rest_of_count key_sequence emacs_action common_action digits
   two_x_calls = refl
 
   two_x_outcome : two_x.outcome ≡ Err Eof
-  unfolding unicode_segmentation line_script turns_script turn_script answered following needing with_read from_key asking becoming deciding and_then counting followed emacs_action common_action digits
+  unfolding unicode_segmentation line_script turns_script turn_script answer_part rest_of_sequence memory_then with_read from_key show_then keep_then reply_then and_then rest_of_count key_sequence emacs_action common_action digits
   two_x_outcome = refl
 
   -- ---- a lone word transposed from its start: the cursor goes after it, by a whole drawing
@@ -146,7 +146,7 @@ module _ (r : Ring) where
   lone_word = line [] nothing_bound (typed 0x77 ∷ key_with (Char 0x41) ctrl ∷ key_with (Char 0x74) alt ∷ [])
 
   lone_word_calls : lone_word.calls ≡ draw [] (fresh Unicode) ∷ Write (codes "w") ∷ Move (at 3) (at 2) ∷ draw (codes "w") (laid true 2 2 3) ∷ []
-  unfolding unicode_segmentation line_script turns_script turn_script answered following needing with_read from_key asking becoming deciding and_then counting followed emacs_action common_action after_words before_words starts_of ends_of
+  unfolding unicode_segmentation line_script turns_script turn_script answer_part rest_of_sequence memory_then with_read from_key show_then keep_then reply_then and_then rest_of_count key_sequence emacs_action common_action after_words before_words starts_of ends_of
   lone_word_calls = refl
 
   -- ---- a key bound to a search, in an empty history
@@ -158,7 +158,7 @@ module _ (r : Ring) where
   }
 
   search_calls : (line [] ctrl_o (key_with (Char 0x4F) ctrl ∷ [])).calls ≡ draw [] (fresh Unicode) ∷ Beep ∷ []
-  unfolding unicode_segmentation line_script turns_script turn_script answered following needing with_read from_key asking becoming deciding and_then counting followed emacs_action common_action
+  unfolding unicode_segmentation line_script turns_script turn_script answer_part rest_of_sequence memory_then with_read from_key show_then keep_then reply_then and_then rest_of_count key_sequence emacs_action common_action
   search_calls = refl
 
   -- ---- up three times over two entries, and down twice
@@ -179,11 +179,11 @@ module _ (r : Ring) where
   up_and_down_calls : up_and_down.calls
       ≡ draw [] (fresh Unicode) ∷ Write (codes "c") ∷ Write (codes "u") ∷ Write (codes "r")
       ∷ draw (codes "line1") (own_laid 5) ∷ draw (codes "line0") (own_laid 7) ∷ draw (codes "line1") (own_laid 7) ∷ draw (codes "cur") (own_laid 7) ∷ []
-  unfolding unicode_segmentation line_script turns_script turn_script answered following needing with_read from_key asking becoming deciding and_then counting followed emacs_action common_action line_up line_down behind_newlines
+  unfolding unicode_segmentation line_script turns_script turn_script answer_part rest_of_sequence memory_then with_read from_key show_then keep_then reply_then and_then rest_of_count key_sequence emacs_action common_action line_up line_down behind_newlines
   up_and_down_calls = refl
 
   up_and_down_outcome : up_and_down.outcome ≡ Ok (codes "cur")
-  unfolding unicode_segmentation line_script turns_script turn_script answered following needing with_read from_key asking becoming deciding and_then counting followed emacs_action common_action line_up line_down behind_newlines
+  unfolding unicode_segmentation line_script turns_script turn_script answer_part rest_of_sequence memory_then with_read from_key show_then keep_then reply_then and_then rest_of_count key_sequence emacs_action common_action line_up line_down behind_newlines
   up_and_down_outcome = refl
 
   -- ---- the same entries searched as one types
@@ -211,21 +211,21 @@ module _ (r : Ring) where
       ∷ Draw (codes "(reverse-i-search)`0': ") (codes "line0") 4 None (Some (search_laid 22 0 0)) (search_laid 23 4 5) None
       ∷ Draw own (codes "line0") 4 None (Some (search_laid 23 4 5)) (laid true 2 6 7) None
       ∷ Move (at 6) (at 7) ∷ []
-  unfolding unicode_segmentation line_script turns_script turn_script answered following needing with_read from_key asking becoming deciding and_then counting followed emacs_action common_action
+  unfolding unicode_segmentation line_script turns_script turn_script answer_part rest_of_sequence memory_then with_read from_key show_then keep_then reply_then and_then rest_of_count key_sequence emacs_action common_action
   zero_found_calls = refl
 
   zero_found_outcome : zero_found.outcome ≡ Ok (codes "line0")
-  unfolding unicode_segmentation line_script turns_script turn_script answered following needing with_read from_key asking becoming deciding and_then counting followed emacs_action common_action
+  unfolding unicode_segmentation line_script turns_script turn_script answer_part rest_of_sequence memory_then with_read from_key show_then keep_then reply_then and_then rest_of_count key_sequence emacs_action common_action
   zero_found_outcome = refl
 
   -- given up, the line is as it was
   given_up_outcome : (searched_line [] (typed 0x63 ∷ typed 0x75 ∷ key_with Left none ∷ ctrl_r ∷ typed 0x30 ∷ key_with (Char 0x47) ctrl ∷ typed 0x78 ∷ enter ∷ [])).outcome ≡ Ok (codes "cxu")
-  unfolding unicode_segmentation line_script turns_script turn_script answered following needing with_read from_key asking becoming deciding and_then counting followed emacs_action common_action recorded_all
+  unfolding unicode_segmentation line_script turns_script turn_script answer_part rest_of_sequence memory_then with_read from_key show_then keep_then reply_then and_then rest_of_count key_sequence emacs_action common_action record_after_events
   given_up_outcome = refl
 
   -- an undo takes the search back, whatever entries it went over
   taken_back_outcome : (searched_line [] (typed 0x63 ∷ ctrl_r ∷ typed 0x6C ∷ ctrl_r ∷ key_with (Char 0x5F) ctrl ∷ enter ∷ [])).outcome ≡ Ok (codes "c")
-  unfolding unicode_segmentation line_script turns_script turn_script answered following needing with_read from_key asking becoming deciding and_then counting followed emacs_action common_action recorded_all
+  unfolding unicode_segmentation line_script turns_script turn_script answer_part rest_of_sequence memory_then with_read from_key show_then keep_then reply_then and_then rest_of_count key_sequence emacs_action common_action record_after_events
   taken_back_outcome = refl
 
   -- an empty query shows the line as it was
@@ -239,19 +239,19 @@ module _ (r : Ring) where
       ∷ Draw (codes "(reverse-i-search)`': ") (codes "cu") 1 None (Some (search_laid 23 4 5)) (search_laid 22 1 2) None
       ∷ Draw own (codes "cu") 1 None (Some (search_laid 22 1 2)) (laid true 2 3 4) None
       ∷ Move (at 3) (at 4) ∷ []
-  unfolding unicode_segmentation line_script turns_script turn_script answered following needing with_read from_key asking becoming deciding and_then counting followed emacs_action common_action recorded_all chars_placed
+  unfolding unicode_segmentation line_script turns_script turn_script answer_part rest_of_sequence memory_then with_read from_key show_then keep_then reply_then and_then rest_of_count key_sequence emacs_action common_action record_after_events chars_placed
   emptied_query_calls = refl
 
   emptied_query_outcome : emptied_query.outcome ≡ Ok (codes "cu")
-  unfolding unicode_segmentation line_script turns_script turn_script answered following needing with_read from_key asking becoming deciding and_then counting followed emacs_action common_action recorded_all chars_placed
+  unfolding unicode_segmentation line_script turns_script turn_script answer_part rest_of_sequence memory_then with_read from_key show_then keep_then reply_then and_then rest_of_count key_sequence emacs_action common_action record_after_events chars_placed
   emptied_query_outcome = refl
 
   -- the last query of an earlier line, by the same key twice
   last_query_outcome : (searched_line (codes "0") (ctrl_r ∷ ctrl_r ∷ enter ∷ [])).outcome ≡ Ok (codes "line0")
-  unfolding unicode_segmentation line_script turns_script turn_script answered following needing with_read from_key asking becoming deciding and_then counting followed emacs_action common_action
+  unfolding unicode_segmentation line_script turns_script turn_script answer_part rest_of_sequence memory_then with_read from_key show_then keep_then reply_then and_then rest_of_count key_sequence emacs_action common_action
   last_query_outcome = refl
 
   -- with the setting off the key does nothing
   off_outcome : (line entries nothing_bound (ctrl_r ∷ typed 0x30 ∷ enter ∷ [])).outcome ≡ Ok (codes "0")
-  unfolding unicode_segmentation line_script turns_script turn_script answered following needing with_read from_key asking becoming deciding and_then counting followed emacs_action common_action
+  unfolding unicode_segmentation line_script turns_script turn_script answer_part rest_of_sequence memory_then with_read from_key show_then keep_then reply_then and_then rest_of_count key_sequence emacs_action common_action
   off_outcome = refl

@@ -1,32 +1,32 @@
 -- A whole line.
 use Rattle.std.proofs.Common.{◌≡◌, inl, inr, ℕ, ◌<◌, Bool, List, refl, sym, ap, subst, ◌∙◌, IsTrue, le_refl}
 use Rattle.std.specs.Prelude.{Option, Some, None, option_map, Result, Ok, Err, length, string_bytes, IfErr, OnOk}
-use Rattle.line_config.specs.Scripts.{Goes}
+use Rattle.script.specs.Scripts.{Goes}
 use Rattle.line_config.specs.declared.config.Config.{Config}
 use Rattle.line_config.specs.declared.errors.ReadlineError.{ReadlineError}
 use Rattle.line_config.specs.declared.errors.ReadlineError.TheVariants.{Display, Helper, Memory}
-use Rattle.line_config.proofs.ScriptLaws.{ok_not_err, fault_or}
+use Rattle.script.proofs.ScriptLaws.{ok_not_err, fault_or}
 use Rattle.line_help.specs.declared.completion as completions
-use Rattle.line_help.specs.declared.hint as hints
-use Rattle.line_help.specs.declared.highlight as highlights
-use Rattle.line_help.specs.declared.validate as verdicts
+use Rattle.line_help.specs.declared.helpers.hint as hints
+use Rattle.line_help.specs.declared.helpers.highlight as highlights
+use Rattle.line_help.specs.declared.helpers.validate as verdicts
 use Rattle.line_help.specs.declared.history as histories
-use Rattle.line_keys.specs.Answers.{Custom}
-use Rattle.line_keys.specs.Coming.{Coming, made_of}
-use Rattle.line_keys.specs.Feeds.{KeyFeed}
+use Rattle.line_keys.specs.CustomBindings.{Custom}
+use Rattle.line_keys.specs.Coming.{Coming, answer_map}
+use Rattle.line_keys.specs.KeyFeeds.{KeyFeed}
 use Rattle.line_keys.specs.InputStates.{new_input}
-use Rattle.line_keys.specs.Phrases.{Input}
+use Rattle.line_keys.specs.PhraseScripts.{Input}
 use Rattle.line_record.specs.Ring.{Ring}
-use Rattle.line_editor.specs.Calls.{Canvas, Marks, Ruler}
-use Rattle.line_editor.specs.LineScripts.{LineStage, kept, line_script, line_world, line_stage}
+use Rattle.line_editor.specs.RenderCalls.{Canvas, Marks, Ruler}
+use Rattle.line_editor.specs.LineScripts.{LineStage, line_state, line_script, line_world, line_stage}
 use Rattle.line_editor.specs.Redraws.{fresh}
-use Rattle.line_editor.specs.Running.{Helping, helping_by, setting_by, stage_first, text_or, outcome_of, open_or, IsOpen, Runs}
+use Rattle.line_editor.specs.LineRun.{Helping, helper_from_hooks, setting_by, stage_first, text_or, outcome_of, open_or, IsOpen, Runs}
 use Rattle.line_editor.specs.Modal.{Modal, modal_first}
 use Rattle.line_editor.specs.States.{hooks_of, value_of, setting_of, Stays, Starts}
-use Rattle.line_editor.specs.Steps.{surface}
-use Rattle.line_editor.specs.Turning.{cause_of, Cause, Takes, stage_of, world_of}
+use Rattle.line_editor.specs.EditSteps.{surface}
+use Rattle.line_editor.specs.Turn.{cause_of, Cause, Takes, stage_of, world_of}
 use Rattle.line_editor.specs.Values.{Value, Setting, Hooks, IsFailing, empty_at, first_value}
-use Rattle.line_editor.specs.declared.running.Ran.{Ran}
+use Rattle.line_editor.specs.declared.line_run.Ran.{Ran}
 use Rattle.line_editor.specs.declared.renderer as renderers
 use Rattle.line_editor.specs.declared.state.State.{State}
 use Rattle.line_editor.proofs.StopsLemmas.{stops_taking}
@@ -65,18 +65,18 @@ not_begun_by {K = K} {T = T} canvas helps custom prompt helper entries config ou
 -- ---- results, with a text or without
 
 same_reason : {X : Type 0} (f : X → List ℕ) (o : Result X ReadlineError) (q : Result (List ℕ) ReadlineError) (P Q : ReadlineError → Type 0)
-    → made_of f o ≡ q → ((e : ReadlineError) → P e → Q e) → IfErr q P → IfErr o Q
+    → answer_map f o ≡ q → ((e : ReadlineError) → P e → Q e) → IfErr q P → IfErr o Q
 same_reason f (Ok x) q P Q is go h = tt
 same_reason f (Err e) (Ok text) P Q is go h = ok_not_err text e (sym is)
 same_reason f (Err e) (Err x) P Q is go h = subst Q (sym (ap (fault_or e) is)) (go x h)
 
-same_fall : {X : Type 0} (P : Type 0) (f : X → List ℕ) (o : Result X ReadlineError) (q : Result (List ℕ) ReadlineError) → made_of f o ≡ q → OnOk q P → OnOk o P
+same_fall : {X : Type 0} (P : Type 0) (f : X → List ℕ) (o : Result X ReadlineError) (q : Result (List ℕ) ReadlineError) → answer_map f o ≡ q → OnOk q P → OnOk o P
 same_fall P f (Err e) q is h = tt
 same_fall P f (Ok x) (Ok y) is h = h
 same_fall P f (Ok x) (Err e) is h = ok_not_err (f x) e is
 
 -- a line that isn't accepted is the one that stands
-line_left : {A X : Type 0} (f : X → List ℕ) (o : Result X ReadlineError) (read : Result A ReadlineError) (text : List ℕ) (first v : Value) → made_of f o ≡ text_or read text → IsOpen o first v (open_or read v.line)
+line_left : {A X : Type 0} (f : X → List ℕ) (o : Result X ReadlineError) (read : Result A ReadlineError) (text : List ℕ) (first v : Value) → answer_map f o ≡ text_or read text → IsOpen o first v (open_or read v.line)
 line_left f (Ok x) (Ok y) text first v is = refl
 line_left f (Ok x) (Err e) text first v is = ok_not_err (f x) e is
 line_left f (Err e) (Ok y) text first v is = ok_not_err text e (sym is)
@@ -101,7 +101,7 @@ Failing h = IsFailing h.hooks
 module _ {Out H Hi K T : Type 0} {renderer : renderers.Renderer.Ghosts Out} {completer : completions.Completer.Ghosts H K} {candidate : completions.Candidate.Ghosts K}
     {hinter : hints.Hinter.Ghosts H T} {hint : hints.Hint.Ghosts T} {highlighter : highlights.Highlighter.Ghosts H} {validator : verdicts.Validator.Ghosts H} {history : histories.History.Ghosts Hi} where
   abbrev helps : State Out H Hi K T renderer completer candidate hinter hint highlighter validator history → Option H → Helping
-  helps s helper = helping_by hinter.hint_of validator.verdict_of completer.completion_of completer.update_of highlighter.marks helper
+  helps s helper = helper_from_hooks hinter.hint_of validator.verdict_of completer.completion_of completer.update_of highlighter.marks helper
 
   helper_same : (s t : State Out H Hi K T renderer completer candidate hinter hint highlighter validator history) → Stays s t → helps s t.helper ≡ helps s s.helper
   helper_same s t h =
@@ -134,15 +134,15 @@ module _ {Out H Hi K T : Type 0} {renderer : renderers.Renderer.Ghosts Out} {com
     helper_same_as stays = ap (helps s) helper_is ∙ helper_same s t stays ∙ ap (helps s) starts.helper_is
 
     abbrev last : Out → LineStage Out
-    last o = line_stage (surface o t.layout) (kept (value_of t) i' ring' modal' feed'.coming)
+    last o = line_stage (surface o t.layout) (line_state (value_of t) i' ring' modal' feed'.coming)
 
     first_same : stage_of s i ring modal feed.coming ≡ stage_first out (renderer.canvas.ruler out) setting ring query feed.coming
     first_same =
-        ap (λ o. line_stage (surface o s.layout) (kept (value_of s) i ring modal feed.coming)) starts.out_is
-        ∙ ap (λ l. line_stage (surface out l) (kept (value_of s) i ring modal feed.coming)) starts.layout
-        ∙ ap (λ v. line_stage (surface out (fresh (renderer.canvas.ruler out).mode)) (kept v i ring modal feed.coming)) (starts.value ∙ ap empty_at place_is)
-        ∙ ap (λ j. line_stage (surface out (fresh (renderer.canvas.ruler out).mode)) (kept (first_value setting) j ring modal feed.coming)) input_is
-        ∙ ap (λ x. line_stage (surface out (fresh (renderer.canvas.ruler out).mode)) (kept (first_value setting) (new_input config) ring x feed.coming)) modal_is
+        ap (λ o. line_stage (surface o s.layout) (line_state (value_of s) i ring modal feed.coming)) starts.out_is
+        ∙ ap (λ l. line_stage (surface out l) (line_state (value_of s) i ring modal feed.coming)) starts.layout
+        ∙ ap (λ v. line_stage (surface out (fresh (renderer.canvas.ruler out).mode)) (line_state v i ring modal feed.coming)) (starts.value ∙ ap empty_at place_is)
+        ∙ ap (λ j. line_stage (surface out (fresh (renderer.canvas.ruler out).mode)) (line_state (first_value setting) j ring modal feed.coming)) input_is
+        ∙ ap (λ x. line_stage (surface out (fresh (renderer.canvas.ruler out).mode)) (line_state (first_value setting) (new_input config) ring x feed.coming)) modal_is
 
     goes_by : (n : ℕ) → Goes (world_of s) (line_script n custom) (stage_of s i ring modal feed.coming) (text_or result t.recorded.line.text) (stage_of t i' ring' modal' feed'.coming)
         → Goes (line_world renderer.canvas (renderer.canvas.ruler out) setting) (line_script n custom)

@@ -2,11 +2,11 @@
 use Rattle.std.proofs.Common.{◌≡◌, Bool, true, false, refl, sym, ap, subst, if◌then◌else◌}
 use Rattle.std.specs.Prelude.{Result, Ok, Err, IsErrAnd}
 use Rattle.line_config.specs.declared.errors.ReadlineError.{ReadlineError}
-use Rattle.line_keys.specs.Answers.{Custom}
-use Rattle.line_keys.specs.Feeds.{KeyFeed}
+use Rattle.line_keys.specs.CustomBindings.{Custom}
+use Rattle.line_keys.specs.KeyFeeds.{KeyFeed}
 use Rattle.line_keys.specs.Follows.{Follows}
-use Rattle.line_keys.specs.Phrase.{phrase}
-use Rattle.line_keys.specs.Phrases.{Input, Part, answered, asking}
+use Rattle.line_keys.specs.NextPhrase.{phrase}
+use Rattle.line_keys.specs.PhraseScripts.{Input, PhrasePart, answer_part, show_then}
 use Rattle.line_keys.specs.Refreshing.{KnownDisplay, Draws}
 use Rattle.line_keys.specs.Refreshing.Ask.{DoingInsert}
 use Rattle.line_keys.specs.declared.command.Cmd.{Cmd}
@@ -14,8 +14,8 @@ use Rattle.line_keys.proofs.Following.{then_stops, then_follows, ends_follow, as
 use Rattle.line_editor.specs.NextCommand.{begins_group, with_group_begun, line_phrase}
 use Rattle.line_editor.proofs.DoesLemmas.{is_err}
 
-abbrev by_group : Bool → Cmd → Part Cmd
-by_group b cmd = if b then asking DoingInsert (λ seen. answered cmd) else answered cmd
+abbrev by_group : Bool → Cmd → PhrasePart Cmd
+by_group b cmd = if b then show_then DoingInsert (λ seen. answer_part cmd) else answer_part cmd
 
 module _ {S : Type 0} (d : KnownDisplay S) (custom : Custom) where
   pub phrase_stops : (w w1 : S) (i i1 : Input) (f f1 : KeyFeed) (e : ReadlineError) (r : Result Cmd ReadlineError) → IsErrAnd r (λ x. x ≡ e)
@@ -34,12 +34,12 @@ module _ {S : Type 0} (d : KnownDisplay S) (custom : Custom) where
 
     pub phrase_begins : {A : Type 0} (u : A) (w2 : S) → begins_group cmd ≡ true → Draws d DoingInsert w1 w2 (Ok u) → Follows d custom (line_phrase custom i (d.shown w)) w i w2 i1 f f1 (Ok cmd)
     phrase_begins u w2 does draws = on w2 (Ok cmd) (as_follows d custom (by_group (begins_group cmd) cmd) (by_group true cmd) w1 w2 i1 i1 f1 f1 (Ok cmd)
-        (ask_follows d custom DoingInsert (λ seen. answered cmd) u w1 w2 w2 i1 i1 f1 f1 (Ok cmd) draws (ends_follow d custom (answered cmd) w2 i1 f1 cmd refl))
+        (ask_follows d custom DoingInsert (λ seen. answer_part cmd) u w1 w2 w2 i1 i1 f1 f1 (Ok cmd) draws (ends_follow d custom (answer_part cmd) w2 i1 f1 cmd refl))
         (ap (λ (b : Bool). by_group b cmd) does))
 
     pub phrase_unbegun : {A : Type 0} (w2 : S) (e : ReadlineError) (r : Result Cmd ReadlineError) → IsErrAnd r (λ x. x ≡ e) → begins_group cmd ≡ true → Draws {A = A} d DoingInsert w1 w2 (Err e)
         → Follows d custom (line_phrase custom i (d.shown w)) w i w2 i1 f f1 r
     phrase_unbegun {A} w2 e r is does draws = subst (λ (x : Result Cmd ReadlineError). Follows d custom (line_phrase custom i (d.shown w)) w i w2 i1 f f1 x) (sym (is_err e r is))
         (on w2 (Err e) (as_follows d custom (by_group (begins_group cmd) cmd) (by_group true cmd) w1 w2 i1 i1 f1 f1 (Err e)
-        (ask_stops {A = A} d custom DoingInsert (λ seen. answered cmd) w1 w2 i1 f1 e draws)
+        (ask_stops {A = A} d custom DoingInsert (λ seen. answer_part cmd) w1 w2 i1 f1 e draws)
         (ap (λ (b : Bool). by_group b cmd) does)))

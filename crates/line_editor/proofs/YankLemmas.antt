@@ -6,22 +6,22 @@ use Rattle.line_buffer.specs.Line.{Line}
 use Rattle.line_buffer.specs.declared.types.Anchor.{Anchor}
 use Rattle.line_config.specs.declared.errors.ReadlineError.{ReadlineError}
 use Rattle.line_config.specs.declared.errors.ReadlineError.TheVariants.{Memory}
-use Rattle.line_edits.specs.Edits.{yanking, by}
-use Rattle.line_edits.specs.Steps.{WriteSteps, answering, Edits as EditsRecorded}
-use Rattle.line_edits.specs.Written.{Written, written, written_in}
+use Rattle.line_edits.specs.Edits.{yank_steps, by}
+use Rattle.line_edits.specs.WriteSteps.{WriteSteps, with_answer, Edits as EditsRecorded}
+use Rattle.line_edits.specs.Written.{Written, line_and_record, line_and_record_in}
 use Rattle.line_edits.specs.declared.recorded_line.RecordedLine.{RecordedLine}
-use Rattle.line_record.specs.Items.{held_on}
+use Rattle.line_record.specs.Items.{record_on}
 use Rattle.line_help.specs.declared.completion as completions
-use Rattle.line_help.specs.declared.hint as hints
-use Rattle.line_help.specs.declared.highlight as highlights
-use Rattle.line_help.specs.declared.validate as verdicts
+use Rattle.line_help.specs.declared.helpers.hint as hints
+use Rattle.line_help.specs.declared.helpers.highlight as highlights
+use Rattle.line_help.specs.declared.helpers.validate as verdicts
 use Rattle.line_help.specs.declared.history as histories
-use Rattle.line_editor.specs.Drawing.{refreshed}
+use Rattle.line_editor.specs.Drawing.{refresh_effect}
 use Rattle.line_editor.specs.States.{value_of, setting_of, surface_of, Stays, Does}
-use Rattle.line_editor.specs.Steps.{SameBeside}
-use Rattle.line_editor.specs.Values.{Value, Setting, Effect, Transition, then_do, unchanged, rewritten, written_of, at_line}
+use Rattle.line_editor.specs.EditSteps.{SameBeside}
+use Rattle.line_editor.specs.Values.{Value, Setting, Effect, Transition, then_do, no_effect, value_with_edit, line_and_record_of, at_line}
 use Rattle.line_editor.specs.Values.EditStep.{Edits}
-use Rattle.line_editor.specs.Yanking.{anchored, steps_over, behind_yank, yanked_by, put_yanked, yank_text}
+use Rattle.line_editor.specs.Yanking.{line_at_anchor, steps_over, behind_yank, value_after_yank, yank_effect, yank_text}
 use Rattle.line_editor.specs.declared.renderer as renderers
 use Rattle.line_editor.specs.declared.state.State.{State}
 use Rattle.line_editor.proofs.DoesLemmas.{does_as, does_both, edit_made}
@@ -30,61 +30,61 @@ use Rattle.line_editor.proofs.EditLemmas.{edit_is, edit_refused}
 -- ---- a text put into a line
 
 -- whether it was put in
-pub is_put : {E : Type 0} (b : Bool) (text : List ℕ) (n : ℕ) (v : Value) (old new : RecordedLine) (put : Option Bool) → written_in old ≡ written_of v
-    → EditsRecorded {E = E} (yanking text n old.line) old new (Ok put) → is_some put ≡ b → is_some (yanked_in text n v.line).answer ≡ b
+pub is_put : {E : Type 0} (b : Bool) (text : List ℕ) (n : ℕ) (v : Value) (old new : RecordedLine) (put : Option Bool) → line_and_record_in old ≡ line_and_record_of v
+    → EditsRecorded {E = E} (yank_steps text n old.line) old new (Ok put) → is_some put ≡ b → is_some (yanked_in text n v.line).answer ≡ b
 is_put b text n v old new put same wrote found = ap (λ (w : Written). is_some (yanked_in text n w.line).answer) (sym same) ∙ ap is_some (sym wrote.writes.answers) ∙ found
 
 -- the line is drawn behind an edit of it
 abbrev drawn_behind_edit : Value → WriteSteps ⊤ → Value → Setting → Effect
-drawn_behind_edit stands edit w s = record { value = (refreshed s w).value; steps = Edits stands edit ∷ (refreshed s w).steps }
+drawn_behind_edit stands edit w s = record { value = (refresh_effect s w).value; steps = Edits stands edit ∷ (refresh_effect s w).steps }
 
 module _ {Out H Hi K T : Type 0} {renderer : renderers.Renderer.Ghosts Out} {completer : completions.Completer.Ghosts H K} {candidate : completions.Candidate.Ghosts K}
     {hinter : hints.Hinter.Ghosts H T} {hint : hints.Hint.Ghosts T} {highlighter : highlights.Highlighter.Ghosts H} {validator : verdicts.Validator.Ghosts H} {history : histories.History.Ghosts Hi} where
   put_drawn : {A : Type 0} (whole : Transition) (stands : Value) (edit : WriteSteps ⊤) (s m t : State Out H Hi K T renderer completer candidate hinter hint highlighter validator history) (result : Result A ReadlineError)
-      → drawn_behind_edit stands edit (value_of m) (setting_of s) ≡ whole (setting_of s) (value_of s) → surface_of m ≡ surface_of s → Stays s m → Does refreshed m t result → Does whole s t result
+      → drawn_behind_edit stands edit (value_of m) (setting_of s) ≡ whole (setting_of s) (value_of s) → surface_of m ≡ surface_of s → Stays s m → Does refresh_effect m t result → Does whole s t result
   put_drawn whole stands edit s m t result is surface stays done =
       let first : Transition = λ a v. record { value = value_of m; steps = Edits stands edit ∷ [] } in
-      does_as (then_do first refreshed) whole s t result is (does_both first refreshed s m t (tt {0}) result (edit_made first stands edit s m (tt {0}) refl surface stays) done)
+      does_as (then_do first refresh_effect) whole s t result is (does_both first refresh_effect s m t (tt {0}) result (edit_made first stands edit s m (tt {0}) refl surface stays) done)
 
 -- ---- a yank
 
 -- where it goes
 abbrev there : Anchor → Value → Value
-there anchor v = at_line (anchored anchor v.line) v
+there anchor v = at_line (line_at_anchor anchor v.line) v
 
 yank_is : (b vi : Bool) (text : List ℕ) (anchor : Anchor) (n : ℕ) (s : Setting) (v : Value) → (is_some (yanked_in text n (there anchor v).line).answer || steps_over anchor v.line) ≡ b
-    → (if b then then_do (put_yanked vi text n) refreshed s (there anchor v) else unchanged s (yanked_by vi text n (there anchor v))) ≡ yank_text vi text anchor n s v
-yank_is b vi text anchor n s v is = ap (λ c. if c then then_do (put_yanked vi text n) refreshed s (there anchor v) else unchanged s (yanked_by vi text n (there anchor v))) (sym is)
+    → (if b then then_do (yank_effect vi text n) refresh_effect s (there anchor v) else no_effect s (value_after_yank vi text n (there anchor v))) ≡ yank_text vi text anchor n s v
+yank_is b vi text anchor n s v is = ap (λ c. if c then then_do (yank_effect vi text n) refresh_effect s (there anchor v) else no_effect s (value_after_yank vi text n (there anchor v))) (sym is)
 
-yanked_is : {E : Type 0} (vi b : Bool) (text : List ℕ) (n : ℕ) (v w : Value) (old new : RecordedLine) (put : Option Bool) → written_in old ≡ written_of v
-    → EditsRecorded {E = E} (yanking text n old.line) old new (Ok put) → is_some put ≡ b → w ≡ record v { line = w.line; held = held_on new.changes w.line.text }
-    → w.line ≡ (if b then behind_yank vi new.line else new.line) → w.line.text ≡ new.line.text → w ≡ yanked_by vi text n v
+yanked_is : {E : Type 0} (vi b : Bool) (text : List ℕ) (n : ℕ) (v w : Value) (old new : RecordedLine) (put : Option Bool) → line_and_record_in old ≡ line_and_record_of v
+    → EditsRecorded {E = E} (yank_steps text n old.line) old new (Ok put) → is_some put ≡ b → w ≡ record v { line = w.line; held = record_on new.changes w.line.text }
+    → w.line ≡ (if b then behind_yank vi new.line else new.line) → w.line.text ≡ new.line.text → w ≡ value_after_yank vi text n v
 yanked_is vi true text n v w old new put same wrote found rest moved kept =
-    let u = rewritten (by (yanking text n)) v in
-    rest ∙ ap (λ l. record v { line = l; held = held_on new.changes w.line.text }) moved ∙ ap (λ t. record v { line = behind_yank vi new.line; held = held_on new.changes t }) kept
-    ∙ ap (λ (x : Value). at_line (behind_yank vi x.line) x) (edit_is (yanking text n) v _ old new put same wrote refl)
+    let u = value_with_edit (by (yank_steps text n)) v in
+    rest ∙ ap (λ l. record v { line = l; held = record_on new.changes w.line.text }) moved ∙ ap (λ t. record v { line = behind_yank vi new.line; held = record_on new.changes t }) kept
+    ∙ ap (λ (x : Value). at_line (behind_yank vi x.line) x) (edit_is (yank_steps text n) v _ old new put same wrote refl)
     ∙ ap (λ b. if b then at_line (behind_yank vi u.line) u else u) (sym (is_put true text n v old new put same wrote found))
 yanked_is vi false text n v w old new put same wrote found rest moved kept =
-    let u = rewritten (by (yanking text n)) v in
-    edit_is (yanking text n) v w old new put same wrote (rest ∙ ap (λ l. record v { line = l; held = held_on new.changes w.line.text }) moved ∙ ap (λ t. record v { line = new.line; held = held_on new.changes t }) kept)
+    let u = value_with_edit (by (yank_steps text n)) v in
+    edit_is (yank_steps text n) v w old new put same wrote (rest ∙ ap (λ l. record v { line = l; held = record_on new.changes w.line.text }) moved ∙ ap (λ t. record v { line = new.line; held = record_on new.changes t }) kept)
     ∙ ap (λ b. if b then at_line (behind_yank vi u.line) u else u) (sym (is_put false text n v old new put same wrote found))
 
 module _ {Out H Hi K T : Type 0} {renderer : renderers.Renderer.Ghosts Out} {completer : completions.Completer.Ghosts H K} {candidate : completions.Candidate.Ghosts K}
     {hinter : hints.Hinter.Ghosts H T} {hint : hints.Hint.Ghosts T} {highlighter : highlights.Highlighter.Ghosts H} {validator : verdicts.Validator.Ghosts H} {history : histories.History.Ghosts Hi} where
-  pub at_anchor : (anchor : Anchor) (s : State Out H Hi K T renderer completer candidate hinter hint highlighter validator history) (l : Line) → l ≡ anchored anchor s.recorded.line → l.text ≡ s.recorded.line.text
-      → written l s.recorded.changes ≡ written_of (there anchor (value_of s))
+  pub at_anchor : (anchor : Anchor) (s : State Out H Hi K T renderer completer candidate hinter hint highlighter validator history) (l : Line) → l ≡ line_at_anchor anchor s.recorded.line → l.text ≡ s.recorded.line.text
+      → line_and_record l s.recorded.changes ≡ line_and_record_of (there anchor (value_of s))
   at_anchor anchor s l line text =
-      ap (λ x. record { line = x; held = held_on s.recorded.changes l.text }) line ∙ ap (λ t. record { line = anchored anchor s.recorded.line; held = held_on s.recorded.changes t }) text
+      ap (λ x. record { line = x; held = record_on s.recorded.changes l.text }) line ∙ ap (λ t. record { line = line_at_anchor anchor s.recorded.line; held = record_on s.recorded.changes t }) text
 
   -- it was put in, or the cursor went over a cluster: the line is drawn
   pub yank_shown : {A E : Type 0} (mode vi b : Bool) (text : List ℕ) (anchor : Anchor) (n : ℕ) (s m t : State Out H Hi K T renderer completer candidate hinter hint highlighter validator history) (old new : RecordedLine) (put : Option Bool)
-      (result : Result A ReadlineError) → written_in old ≡ written_of (there anchor (value_of s)) → EditsRecorded {E = E} (yanking text n old.line) old new (Ok put)
-      → is_some put ≡ b → (b || steps_over anchor s.recorded.line) ≡ true → value_of m ≡ record (value_of s) { line = m.recorded.line; held = held_on new.changes m.recorded.line.text }
+      (result : Result A ReadlineError) → line_and_record_in old ≡ line_and_record_of (there anchor (value_of s)) → EditsRecorded {E = E} (yank_steps text n old.line) old new (Ok put)
+      → is_some put ≡ b → (b || steps_over anchor s.recorded.line) ≡ true → value_of m ≡ record (value_of s) { line = m.recorded.line; held = record_on new.changes m.recorded.line.text }
       → mode ≡ vi → m.recorded.line ≡ (if b then behind_yank mode new.line else new.line) → m.recorded.line.text ≡ new.line.text
-      → surface_of m ≡ surface_of s → Stays s m → Does refreshed m t result → Does (yank_text vi text anchor n) s t result
+      → surface_of m ≡ surface_of s → Stays s m → Does refresh_effect m t result → Does (yank_text vi text anchor n) s t result
   yank_shown mode vi b text anchor n s m t old new put result same wrote found shows rest in_mode moved kept surface stays done =
       let v = there anchor (value_of s) in
-      let edit = answering tt (yanking text n v.line) in
+      let edit = with_answer tt (yank_steps text n v.line) in
       put_drawn (yank_text vi text anchor n) v edit s m t result
       (ap (λ w. drawn_behind_edit v edit w (setting_of s)) (yanked_is vi b text n v (value_of m) old new put same wrote found rest (moved ∙ ap (λ x. if b then behind_yank x new.line else new.line) in_mode) kept)
       ∙ yank_is true vi text anchor n (setting_of s) (value_of s) (ap (λ x. x || steps_over anchor s.recorded.line) (is_put b text n v old new put same wrote found) ∙ shows))
@@ -92,22 +92,22 @@ module _ {Out H Hi K T : Type 0} {renderer : renderers.Renderer.Ghosts Out} {com
 
   -- neither: nothing is drawn
   pub yank_unshown : {A E : Type 0} (vi : Bool) (text : List ℕ) (anchor : Anchor) (n : ℕ) (s t : State Out H Hi K T renderer completer candidate hinter hint highlighter validator history) (old : RecordedLine) (put : Option Bool) (x : A)
-      → written_in old ≡ written_of (there anchor (value_of s)) → EditsRecorded {E = E} (yanking text n old.line) old t.recorded (Ok put) → is_some put ≡ false → steps_over anchor s.recorded.line ≡ false
-      → value_of t ≡ record (value_of s) { line = t.recorded.line; held = held_on t.recorded.changes t.recorded.line.text } → s.out ≡ t.out → t.layout ≡ s.layout → Stays s t → Does (yank_text vi text anchor n) s t (Ok x)
+      → line_and_record_in old ≡ line_and_record_of (there anchor (value_of s)) → EditsRecorded {E = E} (yank_steps text n old.line) old t.recorded (Ok put) → is_some put ≡ false → steps_over anchor s.recorded.line ≡ false
+      → value_of t ≡ record (value_of s) { line = t.recorded.line; held = record_on t.recorded.changes t.recorded.line.text } → s.out ≡ t.out → t.layout ≡ s.layout → Stays s t → Does (yank_text vi text anchor n) s t (Ok x)
   yank_unshown vi text anchor n s t old put x same wrote found rests rest out layout stays =
       let v = there anchor (value_of s) in
-      does_as (λ a w. unchanged a (yanked_by vi text n (there anchor w))) (yank_text vi text anchor n) s t (Ok x)
+      does_as (λ a w. no_effect a (value_after_yank vi text n (there anchor w))) (yank_text vi text anchor n) s t (Ok x)
       (yank_is false vi text anchor n (setting_of s) (value_of s) (ap (λ y. y || steps_over anchor s.recorded.line) (is_put false text n v old t.recorded put same wrote found) ∙ rests))
       (record { value = yanked_is vi false text n v (value_of t) old t.recorded put same wrote found rest refl refl; calls = out; layout = layout; stays = stays; reason = tt; stops = tt })
 
   -- memory ran out for it
   pub yank_refused : {A E : Type 0} (vi : Bool) (text : List ℕ) (anchor : Anchor) (n : ℕ) (s t : State Out H Hi K T renderer completer candidate hinter hint highlighter validator history) (old : RecordedLine)
-      (result : Result A ReadlineError) (fault : E) → IsErrAnd result (λ x. x ≡ Memory) → written_in old ≡ written_of (there anchor (value_of s))
-      → EditsRecorded {A = Option Bool} (yanking text n old.line) old t.recorded (Err fault) → is_some (yanked_in text n old.line).answer ≡ true
+      (result : Result A ReadlineError) (fault : E) → IsErrAnd result (λ x. x ≡ Memory) → line_and_record_in old ≡ line_and_record_of (there anchor (value_of s))
+      → EditsRecorded {A = Option Bool} (yank_steps text n old.line) old t.recorded (Err fault) → is_some (yanked_in text n old.line).answer ≡ true
       → SameBeside (there anchor (value_of s)) (value_of t) → surface_of t ≡ surface_of s → Stays s t → Does (yank_text vi text anchor n) s t result
   yank_refused vi text anchor n s t old result fault failed same wrote put rest surface stays =
       let v = there anchor (value_of s) in
-      edit_refused (yank_text vi text anchor n) (λ a u. refreshed a (yanked_by vi text n v)) (yanking text n) v s t old result fault failed
+      edit_refused (yank_text vi text anchor n) (λ a u. refresh_effect a (value_after_yank vi text n v)) (yank_steps text n) v s t old result fault failed
       (yank_is true vi text anchor n (setting_of s) (value_of s)
       (ap (λ x. x || steps_over anchor s.recorded.line) (ap (λ (w : Written). is_some (yanked_in text n w.line).answer) (sym same) ∙ put)))
       same wrote rest surface stays

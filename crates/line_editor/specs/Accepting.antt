@@ -5,17 +5,17 @@ use Rattle.std.specs.List.{list_all}
 use Rattle.line_buffer.specs.Line.{Line, text_after}
 use Rattle.line_keys.specs.Replies.{Reply}
 use Rattle.line_help.specs.Validation.{is_valid, has_message}
-use Rattle.line_help.specs.declared.validate.ValidationResult.{ValidationResult}
-use Rattle.line_help.specs.declared.validate.ValidationResult.TheVariants.{Incomplete, Invalid, Valid}
+use Rattle.line_help.specs.declared.helpers.validate.ValidationResult.{ValidationResult}
+use Rattle.line_help.specs.declared.helpers.validate.ValidationResult.TheVariants.{Incomplete, Invalid, Valid}
 use Rattle.line_keys.specs.declared.command.CmdKind.{CmdKind}
 use Rattle.line_keys.specs.declared.command.CmdKind.TheVariants.{ForcedRefresh, Other}
 use Rattle.line_record.specs.Held.{closes}
-use Rattle.line_editor.specs.Drawing.{told, moved_to_end}
+use Rattle.line_editor.specs.Drawing.{message_effect, cursor_end_effect}
 use Rattle.line_editor.specs.Inserting.{insert_char}
 use Rattle.line_editor.specs.Moving.{move_buffer_end}
 use Rattle.line_editor.specs.Redraws.{Redraw}
 use Rattle.line_editor.specs.Redraws.Redraw.{Drawn, Bared}
-use Rattle.line_editor.specs.Values.{Value, Setting, Transition, unchanged, then_do, redrawn, open_group, close_groups, verdict_reply, helped, without_hint, with_mark}
+use Rattle.line_editor.specs.Values.{Value, Setting, Transition, no_effect, then_do, draw_effect, open_group, close_groups, verdict_reply, help_steps, without_hint, with_mark}
 
 -- ---- before a line is accepted: no hint, no highlighted character, no count's prompt
 
@@ -25,11 +25,11 @@ bare_redraw s before v =
     then Drawn s.prompt true v.line.text v.line.place None
     else Bared s.prompt v.line.text v.line.place
 
-abbrev pub bared : Value → Setting → Value
-bared v s = with_mark ForcedRefresh s (without_hint v)
+abbrev pub bare_value : Value → Setting → Value
+bare_value v s = with_mark ForcedRefresh s (without_hint v)
 
 abbrev pub bare : Transition
-bare s v = redrawn (bare_redraw s v (bared v s)) s (bared v s)
+bare s v = draw_effect (bare_redraw s v (bare_value v s)) s (bare_value v s)
 
 -- ---- the helper's verdict
 
@@ -45,31 +45,32 @@ verdict_by (Some reply) = verdict_given reply.answer
 abbrev pub verdict : Setting → Value → ValidationResult
 verdict s v = verdict_by (verdict_reply s v)
 
-abbrev pub told_if : Bool → Option (List ℕ) → CmdKind → Transition
-told_if draws text kind s v = if draws || is_some text then told text kind s v else unchanged s v
+abbrev pub message_effect_if : Bool → Option (List ℕ) → CmdKind → Transition
+message_effect_if draws text kind s v = if draws || is_some text then message_effect text kind s v
+    else no_effect s v
 
 abbrev pub verdict_told : ValidationResult → Bool → Transition
-verdict_told Incomplete draws = unchanged
-verdict_told (Invalid text) draws = told_if draws text Other
-verdict_told (Valid text) draws = told_if draws text ForcedRefresh
+verdict_told Incomplete draws = no_effect
+verdict_told (Invalid text) draws = message_effect_if draws text Other
+verdict_told (Valid text) draws = message_effect_if draws text ForcedRefresh
 
 -- shown after the groups have been closed
-abbrev pub closed_and_told : ValidationResult → Transition
-closed_and_told found s v =
+abbrev pub verdict_effect : ValidationResult → Transition
+verdict_effect found s v =
     then_do close_groups (verdict_told found (closes v.held || is_some v.hint)) s v
 
 abbrev pub verdict_asked : Transition
-verdict_asked s v = record { value = v; steps = helped v (verdict_reply s v) }
+verdict_asked s v = record { value = v; steps = help_steps v (verdict_reply s v) }
 
 -- a group is opened, and the helper is called
-abbrev pub opened_and_asked : Transition
-opened_and_asked = then_do open_group verdict_asked
+abbrev pub group_and_verdict_effect : Transition
+group_and_verdict_effect = then_do open_group verdict_asked
 
 -- the groups are closed as well
 abbrev pub validate_by : Option (Reply ValidationResult) → Transition
-validate_by None = unchanged
+validate_by None = no_effect
 validate_by (Some reply) =
-    then_do opened_and_asked (closed_and_told (verdict_given reply.answer))
+    then_do group_and_verdict_effect (verdict_effect (verdict_given reply.answer))
 
 abbrev pub validate : Transition
 validate s v = validate_by (verdict_reply s v) s v
@@ -93,12 +94,12 @@ accepts middle s v = accepts_found middle (verdict s v) v.line
 -- a line that isn't accepted gets a newline, unless a message is shown
 abbrev pub newline_if : Bool → ValidationResult → Transition
 newline_if accepted found s v =
-    if accepted then unchanged s v else if is_valid found || not (has_message found)
-    then insert_char 10 1 s v else unchanged s v
+    if accepted then no_effect s v else if is_valid found || not (has_message found)
+    then insert_char 10 1 s v else no_effect s v
 
 abbrev pub accept_or_insert : Bool → Transition
 accept_or_insert middle s v = then_do accept (newline_if (accepts middle s v) (verdict s v)) s v
 
 -- an accepted line: the cursor at the text's end, then the display's cursor behind the drawing
-abbrev pub submitted : Transition
-submitted = then_do (move_buffer_end ForcedRefresh) moved_to_end
+abbrev pub submit_effect : Transition
+submit_effect = then_do (move_buffer_end ForcedRefresh) cursor_end_effect

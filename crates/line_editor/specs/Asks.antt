@@ -4,7 +4,7 @@ use Rattle.line_help.specs.Hints.{Hinted}
 use Rattle.line_keys.specs.Refreshing.{Shown, Ask}
 use Rattle.line_keys.specs.Refreshing.Ask.{Line, Message, Prompted, DoingInsert, DoneInserting}
 use Rattle.line_record.specs.Held.{last_inserted}
-use Rattle.line_editor.specs.Drawing.{refreshed, refreshed_behind, told}
+use Rattle.line_editor.specs.Drawing.{refresh_effect, refresh_effect_behind, message_effect}
 use Rattle.line_editor.specs.Values.{Value, Transition, open_group, close_groups}
 
 abbrev pub completion_in : Option Hinted → Option (List ℕ)
@@ -22,8 +22,8 @@ shown_in v = record {
 
 -- the effect of a phrase's call
 abbrev pub ask_effect : Ask → Transition
-ask_effect Line = refreshed
-ask_effect (Prompted prompt) = refreshed_behind prompt
-ask_effect (Message text kind) = told text kind
+ask_effect Line = refresh_effect
+ask_effect (Prompted prompt) = refresh_effect_behind prompt
+ask_effect (Message text kind) = message_effect text kind
 ask_effect DoingInsert = open_group
 ask_effect DoneInserting = close_groups

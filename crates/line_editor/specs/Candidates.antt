@@ -4,16 +4,16 @@ use Rattle.line_buffer.specs.Line.{Line}
 use Rattle.line_config.specs.declared.settings.CompletionType.{CompletionType}
 use Rattle.line_config.specs.declared.settings.CompletionType.TheVariants as completion_type
 use Rattle.line_help.specs.Completion.{Offered, Completion, unless_empty}
-use Rattle.line_help.specs.declared.search.SearchDirection.{SearchDirection}
-use Rattle.line_help.specs.declared.search.SearchDirection.TheVariants.{Forward, Reverse}
+use Rattle.line_help.specs.declared.history.search.SearchDirection.{SearchDirection}
+use Rattle.line_help.specs.declared.history.search.SearchDirection.TheVariants.{Forward, Reverse}
 use Rattle.line_keys.specs.Replies.{Reply}
 use Rattle.line_keys.specs.declared.command.Cmd.{Cmd}
 use Rattle.line_keys.specs.declared.command.CmdKind.TheVariants.{Other}
-use Rattle.line_editor.specs.Completing.{begins_word, elected, word_completed, completed_with, candidates_given, candidates_asked}
-use Rattle.line_editor.specs.Drawing.{beeped, refreshed, told}
-use Rattle.line_editor.specs.Modal.{Modal, rested, Meeting, passed, takes}
-use Rattle.line_editor.specs.Searching.{hit_back, placing}
-use Rattle.line_editor.specs.Values.{Value, Setting, Transition, taking_memory, then_do, close_groups, completion_reply}
+use Rattle.line_editor.specs.Completing.{begins_word, common_text, word_completed, complete_effect_with, candidates_given, candidates_asked}
+use Rattle.line_editor.specs.Drawing.{beep_effect, refresh_effect, message_effect}
+use Rattle.line_editor.specs.Modal.{Modal, modal_at_rest, Meeting, pass_meeting, takes}
+use Rattle.line_editor.specs.Searching.{hit_undo_effect, place_effect}
+use Rattle.line_editor.specs.Values.{Value, Setting, Transition, memory_effect, then_do, close_groups, completion_reply}
 use Rattle.line_editor.specs.declared.modal_state.Standing.{Standing}
 use Rattle.line_editor.specs.declared.modal_state.Standing.TheVariants.{Tabbed, Lists, Cycles}
 
@@ -27,7 +27,7 @@ abbrev pub only_put : Completion → Line → Option (List ℕ)
 only_put found l = if begins_word found.start l then only_text found.candidates else None
 
 abbrev pub only_completed : Completion → Transition
-only_completed found s v = completed_with found.start (only_put found v.line) s v
+only_completed found s v = complete_effect_with found.start (only_put found v.line) s v
 
 -- ---- a list of candidates: each on a row of its own, at most so many, and how many more there are
 
@@ -44,16 +44,18 @@ list_text limit candidates =
 
 -- drawn below the line in place of the hint, which takes memory
 abbrev pub list_shown : ℕ → List Offered → Transition
-list_shown limit candidates = then_do taking_memory (told (Some (list_text limit candidates)) Other)
+list_shown limit candidates = then_do memory_effect
+    (message_effect (Some (list_text limit candidates)) Other)
 
 -- the common prefix, if it adds something. Otherwise they are listed, or it beeps
-abbrev pub listed_with : Bool → ℕ → Completion → Option (List ℕ) → Transition
-listed_with lists limit found (Some text) = word_completed found.start text
-listed_with true limit found None = list_shown limit found.candidates
-listed_with false limit found None = beeped
+abbrev pub list_effect_with : Bool → ℕ → Completion → Option (List ℕ) → Transition
+list_effect_with lists limit found (Some text) = word_completed found.start text
+list_effect_with true limit found None = list_shown limit found.candidates
+list_effect_with false limit found None = beep_effect
 
-abbrev pub listed : Bool → ℕ → Completion → Transition
-listed lists limit found s v = listed_with lists limit found (elected found v.line) s v
+abbrev pub list_effect : Bool → ℕ → Completion → Transition
+list_effect lists limit found s v = list_effect_with lists limit found
+    (common_text found v.line) s v
 
 abbrev pub list_standing : Bool → Option (List ℕ) → Standing
 list_standing true None = Lists
@@ -76,92 +78,93 @@ candidate_at at found l =
     if begins_word found.start l then text_at (slice_get found.candidates at) else None
 
 -- put in place of the word; or the word as it was, and a beep
-abbrev pub turned_with : ℕ → Option (List ℕ) → Transition
-turned_with start None = then_do refreshed beeped
-turned_with start (Some text) = word_completed start text
+abbrev pub turn_effect_with : ℕ → Option (List ℕ) → Transition
+turn_effect_with start None = then_do refresh_effect beep_effect
+turn_effect_with start (Some text) = word_completed start text
 
-abbrev pub turned : ℕ → Completion → Transition
-turned at found s v = turned_with found.start (candidate_at at found v.line) s v
+abbrev pub turn_effect : ℕ → Completion → Transition
+turn_effect at found s v = turn_effect_with found.start (candidate_at at found v.line) s v
 
-abbrev pub turned_modal : ℕ → Completion → Line → Modal → Modal
-turned_modal at found l x =
+abbrev pub modal_after_turn : ℕ → Completion → Line → Modal → Modal
+modal_after_turn at found l x =
     record x { candidate = at; put = is_some (candidate_at at found l) }
 
 -- the first one of several
 abbrev pub cycle_begun : Completion → Transition
-cycle_begun found = then_do close_groups (turned 0 found)
+cycle_begun found = then_do close_groups (turn_effect 0 found)
 
 abbrev pub cycle_first : Completion → Line → Modal → Modal
 cycle_first found l x =
-    record (turned_modal 0 found l x) { standing = Cycles; place = l.place }
+    record (modal_after_turn 0 found l x) { standing = Cycles; place = l.place }
 
 -- what was put is undone, and the cursor is where it was
 abbrev pub cycle_back : Modal → Transition
-cycle_back x = then_do (hit_back x.put) (placing x.place)
+cycle_back x = then_do (hit_undo_effect x.put) (place_effect x.place)
 
 -- the helper is asked anew for that line, and the next candidate is put
 abbrev pub next_turned : SearchDirection → Modal → Completion → Transition
-next_turned dir x found = turned (cycle_at dir x.candidate (length found.candidates)) found
+next_turned dir x found = turn_effect (cycle_at dir x.candidate (length found.candidates)) found
 
 abbrev pub next_modal : SearchDirection → Completion → Line → Modal → Modal
-next_modal dir found l x = turned_modal (cycle_at dir x.candidate (length found.candidates)) found l x
+next_modal dir found l x = modal_after_turn
+    (cycle_at dir x.candidate (length found.candidates)) found l x
 
-abbrev pub asked_turned : SearchDirection → Modal → Transition
-asked_turned dir x s v =
+abbrev pub ask_and_turn_effect : SearchDirection → Modal → Transition
+ask_and_turn_effect dir x s v =
     then_do candidates_asked (next_turned dir x (candidates_given (completion_reply s v))) s v
 
-abbrev pub cycled : SearchDirection → Modal → Transition
-cycled dir x = then_do (cycle_back x) (asked_turned dir x)
+abbrev pub cycle_effect : SearchDirection → Modal → Transition
+cycle_effect dir x = then_do (cycle_back x) (ask_and_turn_effect dir x)
 
-abbrev pub asked_modal : SearchDirection → Modal → Setting → Value → Modal
-asked_modal dir x s v = next_modal dir (candidates_given (completion_reply s v)) v.line x
+abbrev pub modal_after_ask : SearchDirection → Modal → Setting → Value → Modal
+modal_after_ask dir x s v = next_modal dir (candidates_given (completion_reply s v)) v.line x
 
 -- ---- what it makes of a command
 
 -- several candidates for a word, by the setting; `lists`: they may be listed now
 abbrev pub several : CompletionType → Bool → Modal → Completion → Transition
 several completion_type.Circular lists x found = cycle_begun found
-several completion_type.List lists x found = listed lists x.limit found
+several completion_type.List lists x found = list_effect lists x.limit found
 
 abbrev pub several_modal : CompletionType → Bool → Completion → Line → Modal → Modal
 several_modal completion_type.Circular lists found l x = cycle_first found l x
 several_modal completion_type.List lists found l x =
-    record x { standing = list_standing lists (elected found l) }
+    record x { standing = list_standing lists (common_text found l) }
 
-abbrev pub offered_if : Bool → Bool → Modal → Completion → Transition
-offered_if false lists x found = only_completed found
-offered_if true lists x found = several x.completion_type lists x found
+abbrev pub offer_effect_if : Bool → Bool → Modal → Completion → Transition
+offer_effect_if false lists x found = only_completed found
+offer_effect_if true lists x found = several x.completion_type lists x found
 
-abbrev pub offered_modal_if : Bool → Bool → Completion → Line → Modal → Modal
-offered_modal_if false lists found l x = rested x
-offered_modal_if true lists found l x = several_modal x.completion_type lists found l x
+abbrev pub modal_after_offer_if : Bool → Bool → Completion → Line → Modal → Modal
+modal_after_offer_if false lists found l x = modal_at_rest x
+modal_after_offer_if true lists found l x = several_modal x.completion_type lists found l x
 
 abbrev pub is_ambiguous : Completion → Line → Bool
 is_ambiguous found l = nat_lt 1 (length found.candidates) && begins_word found.start l
 
-abbrev pub offered : Bool → Modal → Completion → Transition
-offered lists x found s v = offered_if (is_ambiguous found v.line) lists x found s v
+abbrev pub offer_effect : Bool → Modal → Completion → Transition
+offer_effect lists x found s v = offer_effect_if (is_ambiguous found v.line) lists x found s v
 
-abbrev pub offered_modal : Bool → Completion → Line → Modal → Modal
-offered_modal lists found l x = offered_modal_if (is_ambiguous found l) lists found l x
+abbrev pub modal_after_offer : Bool → Completion → Line → Modal → Modal
+modal_after_offer lists found l x = modal_after_offer_if (is_ambiguous found l) lists found l x
 
 abbrev pub tab_effect : Bool → Modal → Completion → Transition
-tab_effect lists x found = then_do candidates_asked (offered lists x found)
+tab_effect lists x found = then_do candidates_asked (offer_effect lists x found)
 
 -- without a helper a completion does nothing, as ever
 abbrev pub tab_by : Option (Reply Completion) → Bool → Modal → Cmd → Setting → Value → Meeting
-tab_by None lists x cmd s v = passed x cmd v
+tab_by None lists x cmd s v = pass_meeting x cmd v
 tab_by (Some reply) lists x cmd s v = let found = candidates_given (Some reply) in
-    takes (tab_effect lists x found) (offered_modal lists found v.line x) s v
+    takes (tab_effect lists x found) (modal_after_offer lists found v.line x) s v
 
 abbrev pub tab : Bool → Modal → Cmd → Setting → Value → Meeting
 tab lists x cmd s v = tab_by (completion_reply s v) lists x cmd s v
 
 abbrev pub cycle_by : Option (Reply Completion) → SearchDirection → Modal → Cmd → Setting → Value
     → Meeting
-cycle_by None dir x cmd s v = passed x cmd v
+cycle_by None dir x cmd s v = pass_meeting x cmd v
 cycle_by (Some reply) dir x cmd s v =
-    takes (cycled dir x) (asked_modal dir x s (cycle_back x s v).value) s v
+    takes (cycle_effect dir x) (modal_after_ask dir x s (cycle_back x s v).value) s v
 
 abbrev pub cycle : SearchDirection → Modal → Cmd → Setting → Value → Meeting
 cycle dir x cmd s v = cycle_by (completion_reply s v) dir x cmd s v

@@ -6,24 +6,24 @@ use Rattle.line_buffer.specs.declared.types.WordAction.TheVariants.{Capitalize, 
 use Rattle.line_config.specs.declared.errors.ReadlineError.{ReadlineError}
 use Rattle.line_config.specs.declared.errors.ReadlineError.TheVariants.{Interrupted, Eof, Memory}
 use Rattle.line_config.specs.declared.settings.EditMode.{EditMode}
-use Rattle.line_help.specs.declared.search.SearchDirection.TheVariants.{Forward, Reverse}
-use Rattle.line_keys.specs.Phrases.{Input}
+use Rattle.line_help.specs.declared.history.search.SearchDirection.TheVariants.{Forward, Reverse}
+use Rattle.line_keys.specs.PhraseScripts.{Input}
 use Rattle.line_keys.specs.Modes.{is_emacs, is_vi_command}
 use Rattle.line_keys.specs.declared.command.Cmd.{Cmd}
 use Rattle.line_keys.specs.declared.command.Cmd.TheVariants.{AcceptLine, BeginningOfHistory, CapitalizeWord, ClearScreen, Complete, CompleteHint, Dedent, DowncaseWord, EndOfFile, EndOfHistory, HistorySearchBackward, HistorySearchForward, Indent, Insert, Interrupt, Kill, Move, NextHistory, Repaint, Overwrite, PreviousHistory, ReplaceChar, Replace, SelfInsert, TransposeChars, TransposeWords, Undo, UpcaseWord, ViYankTo, Yank, YankPop, LineUpOrPreviousHistory, LineDownOrNextHistory, Newline, AcceptOrInsertLine}
 use Rattle.line_keys.specs.declared.command.InputMode.{InputMode}
-use Rattle.line_record.specs.Ring.{Ring, yanked, turned, exchanged}
-use Rattle.line_edits.specs.Edits.{unkilled}
+use Rattle.line_record.specs.Ring.{Ring, ring_after_yank, ring_after_turn, yank_exchange}
+use Rattle.line_edits.specs.Edits.{ring_without_kill}
 use Rattle.line_editor.specs.Accepting.{bare, newline, accept, accepts, accept_or_insert}
 use Rattle.line_editor.specs.Completing.{complete}
-use Rattle.line_editor.specs.Drawing.{refreshed, cleared_and_drawn, moved_to_end}
+use Rattle.line_editor.specs.Drawing.{refresh_effect, clear_and_draw_effect, cursor_end_effect}
 use Rattle.line_editor.specs.Hinting.{complete_hint}
 use Rattle.line_editor.specs.Inserting.{insert_char, replace_char, overwrite_char}
-use Rattle.line_editor.specs.Killing.{kill_effect, replace, killed_into, copy_effect, copied_into}
+use Rattle.line_editor.specs.Killing.{kill_effect, replace, ring_with_kill_of, copy_effect, ring_with_copy}
 use Rattle.line_editor.specs.Moving.{move_by, move_line_up, move_line_down}
-use Rattle.line_editor.specs.Remembering.{history_step, history_end, history_search}
-use Rattle.line_editor.specs.Rewording.{transpose_chars_effect, transpose_words_effect, edit_word_effect, indent_by_setting, undo}
-use Rattle.line_editor.specs.Values.{Value, Setting, Transition, unchanged}
+use Rattle.line_editor.specs.History.{history_step, history_end, history_search}
+use Rattle.line_editor.specs.Transforms.{transpose_chars_effect, transpose_words_effect, edit_word_effect, indent_by_setting, undo}
+use Rattle.line_editor.specs.Values.{Value, Setting, Transition, no_effect}
 use Rattle.line_editor.specs.Yanking.{yank_text, yank_lent, pop_lent}
 use Rattle.line_editor.specs.declared.commands.Status.{Status}
 use Rattle.line_editor.specs.declared.commands.Status.TheVariants.{Proceed, Submit}
@@ -61,15 +61,15 @@ effect m Newline = newline
 effect m (Insert n text) = yank_text (in_vi_command m) text Before n
 effect m (Yank n anchor) =
     yank_lent (in_vi_command m) anchor n (slice_get m.ring.slots m.ring.place)
-effect m YankPop = pop_lent (exchanged m.ring)
+effect m YankPop = pop_lent (yank_exchange m.ring)
 effect m (Move movement) = move_by movement
 effect m (Kill movement) = kill_effect movement
 effect m (Replace movement text) = replace movement text
 effect m (ReplaceChar n c) = replace_char c n
 effect m (Overwrite c) = overwrite_char c
 effect m EndOfFile = bare
-effect m ClearScreen = cleared_and_drawn
-effect m Repaint = refreshed
+effect m ClearScreen = clear_and_draw_effect
+effect m Repaint = refresh_effect
 effect m PreviousHistory = history_step true
 effect m NextHistory = history_step false
 effect m BeginningOfHistory = history_end true
@@ -90,29 +90,29 @@ effect m Complete = complete
 effect m CompleteHint = complete_hint
 effect m AcceptLine = accept
 effect m (AcceptOrInsertLine middle) = accept_or_insert middle
-effect m Interrupt = moved_to_end
+effect m Interrupt = cursor_end_effect
 effect m (ViYankTo movement) = copy_effect movement
-effect m cmd = unchanged
+effect m cmd = no_effect
 
 abbrev pub ring_after_command : Cmd → Value → Ring → Ring
-ring_after_command (Kill movement) v r = killed_into movement v r
-ring_after_command (Replace movement text) v r = killed_into movement v r
-ring_after_command (ViYankTo movement) v r = copied_into movement v r
-ring_after_command (Yank n anchor) v r = yanked r
-ring_after_command YankPop v r = turned r
+ring_after_command (Kill movement) v r = ring_with_kill_of movement v r
+ring_after_command (Replace movement text) v r = ring_with_kill_of movement v r
+ring_after_command (ViYankTo movement) v r = ring_with_copy movement v r
+ring_after_command (Yank n anchor) v r = ring_after_yank r
+ring_after_command YankPop v r = ring_after_turn r
 ring_after_command cmd v r = r
 
 -- the same if the ring finds no memory for a text
 abbrev pub ring_without_text : Cmd → Value → Ring → Ring
-ring_without_text (Kill movement) v r = unkilled movement r
-ring_without_text (Replace movement text) v r = unkilled movement r
+ring_without_text (Kill movement) v r = ring_without_kill movement r
+ring_without_text (Replace movement text) v r = ring_without_kill movement r
 ring_without_text (ViYankTo movement) v r = r
 ring_without_text cmd v r = ring_after_command cmd v r
 
 -- a command that fails leaves the ring that it makes, or, if memory ran out, the one without its
 -- text
-abbrev pub LeavesRing : Cmd → Value → Ring → Ring → ReadlineError → Type 0
-LeavesRing cmd v old new e =
+abbrev pub CutRing : Cmd → Value → Ring → Ring → ReadlineError → Type 0
+CutRing cmd v old new e =
     (new ≡ ring_after_command cmd v old)
     ⊎ ((e ≡ Memory) × (new ≡ ring_without_text cmd v old))
 

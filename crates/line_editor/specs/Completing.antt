@@ -2,16 +2,16 @@
 use Rattle.std.specs.Prelude.{◌≡◌, ◌⊎◌, ⊤, ℕ, Bool, ◌-◌, ◌==◌, ◌&&◌, ◌||◌, not, nat_le, nat_lt, if◌then◌else◌, List, [], ◌∷◌, map, length, Option, Some, None}
 use Rattle.std.specs.Option.{option_map_or}
 use Rattle.line_buffer.specs.Insertions.{is_inside_char}
-use Rattle.line_buffer.specs.Line.{Line, replaced}
+use Rattle.line_buffer.specs.Line.{Line, with_replacement}
 use Rattle.line_buffer.specs.Replay.{replacement}
 use Rattle.line_config.specs.declared.errors.HookFault.{HookFault}
 use Rattle.line_config.specs.declared.errors.HookFault.TheVariants.{Memory}
-use Rattle.line_edits.specs.Written.{Written, edited, group_opened, in_group}
+use Rattle.line_edits.specs.Written.{Written, after_edit, group_opened, in_group}
 use Rattle.line_help.specs.Completion.{longest_common_prefix, Completion, nothing_offered}
 use Rattle.line_keys.specs.Replies.{Reply, IsFaultOf}
-use Rattle.line_editor.specs.Drawing.{beeped, refreshed}
+use Rattle.line_editor.specs.Drawing.{beep_effect, refresh_effect}
 use Rattle.line_editor.specs.Values.EditStep.{Takes}
-use Rattle.line_editor.specs.Values.{Value, EditStep, Transition, unchanged, then_do, rewritten, helped, completion_reply, update_reply}
+use Rattle.line_editor.specs.Values.{Value, EditStep, Transition, no_effect, then_do, value_with_edit, help_steps, completion_reply, update_reply}
 
 -- ---- the text that replaces the word
 
@@ -21,18 +21,18 @@ begins_word start l = nat_le start l.place && not (is_inside_char l.text start)
 
 -- the common prefix of `count` candidates, if it is longer than the word or there is only one
 -- candidate
-abbrev pub elected_by : ℕ → ℕ → Option (List ℕ) → Option (List ℕ)
-elected_by len count None = None
-elected_by len count (Some text) =
+abbrev pub common_text_by : ℕ → ℕ → Option (List ℕ) → Option (List ℕ)
+common_text_by len count None = None
+common_text_by len count (Some text) =
     if count == 1 || nat_lt len (length text) then Some text else None
 
-abbrev pub elected_among : ℕ → List (List ℕ) → Option (List ℕ)
-elected_among len texts = elected_by len (length texts) (longest_common_prefix texts)
+abbrev pub common_text_among : ℕ → List (List ℕ) → Option (List ℕ)
+common_text_among len texts = common_text_by len (length texts) (longest_common_prefix texts)
 
-abbrev pub elected : Completion → Line → Option (List ℕ)
-elected found l =
+abbrev pub common_text : Completion → Line → Option (List ℕ)
+common_text found l =
     if begins_word found.start l
-    then elected_among (l.place - found.start) (map (λ o. o.replacement) found.candidates)
+    then common_text_among (l.place - found.start) (map (λ o. o.replacement) found.candidates)
     else None
 
 -- ---- the command
@@ -40,40 +40,40 @@ elected found l =
 -- the text from a start to the cursor replaced
 abbrev pub word_put : ℕ → List ℕ → Written → Written
 word_put start text w =
-    edited (replacement start w.line.place text w.line.text ∷ [])
-    (replaced start w.line.place text w.line) w
+    after_edit (replacement start w.line.place text w.line.text ∷ [])
+    (with_replacement start w.line.place text w.line) w
 
 abbrev pub word_replaced : ℕ → List ℕ → Written → Written
 word_replaced start text = in_group (word_put start text)
 
 -- a failed replacement: if the mark found no memory, all is as it was; otherwise the mark is set,
 -- and the completer failed
-abbrev pub LeavesWord : Reply ⊤ → Written → Written → HookFault → Type 0
-LeavesWord reply old new fault =
+abbrev pub CutWord : Reply ⊤ → Written → Written → HookFault → Type 0
+CutWord reply old new fault =
     ((fault ≡ Memory) × (new ≡ old)) ⊎ (IsFaultOf reply fault × (new ≡ group_opened old))
 
 -- a mark is set, which takes memory, and the helper is called for the replacement
 abbrev pub updates : Option (Reply ⊤) → Value → List EditStep
 updates None v = []
-updates (Some reply) v = Takes v ∷ helped (rewritten group_opened v) (Some reply)
+updates (Some reply) v = Takes v ∷ help_steps (value_with_edit group_opened v) (Some reply)
 
 -- by the helper, undone as one
 abbrev pub word_updated : ℕ → List ℕ → Transition
 word_updated start text s v = record {
-  value = rewritten (word_replaced start text) v;
+  value = value_with_edit (word_replaced start text) v;
   steps = updates (update_reply start text s v) v;
 }
 
 abbrev pub word_completed : ℕ → List ℕ → Transition
-word_completed start text = then_do (word_updated start text) refreshed
+word_completed start text = then_do (word_updated start text) refresh_effect
 
 -- a completion that adds nothing beeps
-abbrev pub completed_with : ℕ → Option (List ℕ) → Transition
-completed_with start None = beeped
-completed_with start (Some text) = word_completed start text
+abbrev pub complete_effect_with : ℕ → Option (List ℕ) → Transition
+complete_effect_with start None = beep_effect
+complete_effect_with start (Some text) = word_completed start text
 
-abbrev pub completed : Completion → Transition
-completed found s v = completed_with found.start (elected found v.line) s v
+abbrev pub complete_effect : Completion → Transition
+complete_effect found s v = complete_effect_with found.start (common_text found v.line) s v
 
 -- the helper's candidates; none if it fails
 abbrev pub candidates_given : Option (Reply Completion) → Completion
@@ -82,12 +82,13 @@ candidates_given (Some reply) = option_map_or (λ found. found) reply.answer not
 
 -- the helper is called for them
 abbrev pub candidates_asked : Transition
-candidates_asked s v = record { value = v; steps = helped v (completion_reply s v) }
+candidates_asked s v = record { value = v; steps = help_steps v (completion_reply s v) }
 
 -- without a helper nothing is done
 abbrev pub complete_if : Option (Reply Completion) → Transition
-complete_if None = unchanged
-complete_if (Some reply) = then_do candidates_asked (completed (candidates_given (Some reply)))
+complete_if None = no_effect
+complete_if (Some reply) = then_do candidates_asked
+    (complete_effect (candidates_given (Some reply)))
 
 abbrev pub complete : Transition
 complete s v = complete_if (completion_reply s v) s v

@@ -4,70 +4,70 @@ use Rattle.line_keys.specs.declared.command.CmdKind.{CmdKind}
 use Rattle.line_keys.specs.declared.command.CmdKind.TheVariants.{Other}
 use Rattle.line_editor.specs.Redraws.{Redraw}
 use Rattle.line_editor.specs.Redraws.Redraw.{Drawn, Moved, ToEnd, Beeped, Cleared}
-use Rattle.line_editor.specs.Values.{Value, Setting, Transition, unchanged, then_do, redrawn, hint_reply, helped, with_hint, without_hint, with_mark, shown_hint}
+use Rattle.line_editor.specs.Values.{Value, Setting, Transition, no_effect, then_do, draw_effect, hint_reply, help_steps, with_hint, without_hint, with_mark, shown_hint}
 
 -- the line with its hint after the session's own prompt
-abbrev pub drawn : Setting → Value → Redraw
-drawn s v = Drawn s.prompt true v.line.text v.line.place (shown_hint v)
+abbrev pub redraw_of : Setting → Value → Redraw
+redraw_of s v = Drawn s.prompt true v.line.text v.line.place (shown_hint v)
 
 -- drawn after a prompt, with the current hint
-abbrev pub drawn_behind : List ℕ → Bool → Transition
-drawn_behind prompt given s v =
-    redrawn (Drawn prompt given v.line.text v.line.place (shown_hint v)) s v
+abbrev pub draw_effect_behind : List ℕ → Bool → Transition
+draw_effect_behind prompt given s v =
+    draw_effect (Drawn prompt given v.line.text v.line.place (shown_hint v)) s v
 
-abbrev pub repainted : Transition
-repainted s v = drawn_behind s.prompt true s v
+abbrev pub repaint_effect : Transition
+repaint_effect s v = draw_effect_behind s.prompt true s v
 
 -- drawn with other information in place of the hint
-abbrev pub drawn_with : Option (List ℕ) → Transition
-drawn_with info s v = redrawn (Drawn s.prompt true v.line.text v.line.place info) s v
+abbrev pub draw_effect_with : Option (List ℕ) → Transition
+draw_effect_with info s v = draw_effect (Drawn s.prompt true v.line.text v.line.place info) s v
 
 -- the display's cursor moved to the text's cursor
 abbrev pub cursor_shown : Transition
-cursor_shown s v = redrawn (Moved v.line.text v.line.place) s v
+cursor_shown s v = draw_effect (Moved v.line.text v.line.place) s v
 
 -- the helper called for a hint; nothing is drawn
 abbrev pub hint_asked : Transition
-hint_asked s v = record { value = with_hint s v; steps = helped v (hint_reply s v) }
+hint_asked s v = record { value = with_hint s v; steps = help_steps v (hint_reply s v) }
 
 -- and for highlighted characters
-abbrev pub asked_anew : Transition
-asked_anew s v = record {
+abbrev pub ask_anew_effect : Transition
+ask_anew_effect s v = record {
   value = with_mark Other s (with_hint s v);
-  steps = helped v (hint_reply s v);
+  steps = help_steps v (hint_reply s v);
 }
 
-abbrev pub refreshed : Transition
-refreshed = then_do asked_anew repainted
+abbrev pub refresh_effect : Transition
+refresh_effect = then_do ask_anew_effect repaint_effect
 
 -- if something changed
-abbrev pub refreshed_if : Bool → Transition
-refreshed_if changes s v = if changes then refreshed s v else unchanged s v
+abbrev pub refresh_effect_if : Bool → Transition
+refresh_effect_if changes s v = if changes then refresh_effect s v else no_effect s v
 
 -- the same after another prompt
-abbrev pub refreshed_behind : List ℕ → Transition
-refreshed_behind prompt = then_do asked_anew (drawn_behind prompt false)
+abbrev pub refresh_effect_behind : List ℕ → Transition
+refresh_effect_behind prompt = then_do ask_anew_effect (draw_effect_behind prompt false)
 
 -- a message, if there is one, in place of the hint
-abbrev pub told : Option (List ℕ) → CmdKind → Transition
-told text kind s v = drawn_with text s (with_mark kind s (without_hint v))
+abbrev pub message_effect : Option (List ℕ) → CmdKind → Transition
+message_effect text kind s v = draw_effect_with text s (with_mark kind s (without_hint v))
 
 -- the cursor moved; if a character is highlighted, or was, the line is drawn without hint and
 -- message
 abbrev pub cursor_moved : CmdKind → Transition
 cursor_moved kind s v =
-    redrawn (if v.marked || (with_mark kind s v).marked
+    draw_effect (if v.marked || (with_mark kind s v).marked
     then Drawn s.prompt true v.line.text v.line.place None else Moved v.line.text v.line.place) s
     (with_mark kind s v)
 
-abbrev pub moved_to_end : Transition
-moved_to_end = redrawn ToEnd
+abbrev pub cursor_end_effect : Transition
+cursor_end_effect = draw_effect ToEnd
 
-abbrev pub beeped : Transition
-beeped = redrawn Beeped
+abbrev pub beep_effect : Transition
+beep_effect = draw_effect Beeped
 
-abbrev pub cleared : Transition
-cleared = redrawn Cleared
+abbrev pub clear_effect : Transition
+clear_effect = draw_effect Cleared
 
-abbrev pub cleared_and_drawn : Transition
-cleared_and_drawn = then_do cleared refreshed
+abbrev pub clear_and_draw_effect : Transition
+clear_and_draw_effect = then_do clear_effect refresh_effect

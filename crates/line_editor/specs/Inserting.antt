@@ -1,12 +1,15 @@
 -- Insertions of characters and texts, and clusters replaced by characters.
-use Rattle.std.specs.Prelude.{ℕ, ◌==◌, ◌&&◌, not, Bool, if◌then◌else◌, List, length, is_some}
+use Rattle.std.specs.Prelude.{ℕ, ◌==◌, ◌&&◌, nat_lt, not, Bool, if◌then◌else◌, List, length, is_some}
 use Rattle.line_buffer.specs.Clusters.{place_forward}
 use Rattle.line_buffer.specs.Insertions.{insert as insertion}
-use Rattle.line_edits.specs.Edits.{typing, putting_behind, replacing_if_any, overwriting, by}
-use Rattle.line_buffer.specs.Printable.{typed_at_end}
-use Rattle.line_editor.specs.Drawing.{drawn, asked_anew, refreshed, refreshed_if}
-use Rattle.line_editor.specs.Redraws.Redraw.{Typed}
-use Rattle.line_editor.specs.Values.{Value, Transition, unchanged, then_do, redrawn, rewritten, rewriting}
+use Rattle.line_edits.specs.Edits.{char_steps, text_steps, replace_group_if_any, overwrite_steps, by}
+use Rattle.line_buffer.specs.Printable.{is_printable, is_plain, is_typed_at_end}
+use Rattle.line_editor.specs.Drawing.{redraw_of, ask_anew_effect, refresh_effect, refresh_effect_if}
+use Rattle.line_editor.specs.Redraws.{Redraw}
+use Rattle.line_editor.specs.Redraws.Redraw.{Typed, PutIn}
+use Rattle.line_editor.specs.Values.{Value, Setting, Transition, no_effect, then_do, draw_effect, value_with_edit, edit_effect}
+use Rattle.line_editor.specs.declared.way.Way.{Way}
+use Rattle.line_editor.specs.declared.way.Way.TheVariants.{AtEnd, InRow, Whole}
 
 -- neither a hint nor a highlighted character
 abbrev pub is_bare : Value → Bool
@@ -16,37 +19,58 @@ is_bare v = not (is_some v.hint) && not v.marked
 -- line that is bare and plain, or has tabs if these are drawn
 abbrev pub may_be_typed : Bool → ℕ → ℕ → Value → Bool
 may_be_typed tabs c n v =
-    (n == 1) && (is_bare v && typed_at_end tabs c v.line.text v.line.place)
+    (n == 1) && (is_bare v && is_typed_at_end tabs c v.line.text v.line.place)
 
--- the drawing of an inserted character: its byte, if that alone may show it and the line is still
--- bare
-abbrev pub put_shown : ℕ → Bool → Transition
-put_shown c alone s v =
-    redrawn (if alone && is_bare v
-    then Typed s.prompt c v.line.text v.line.place else drawn s v) s v
+-- whether it may be shown in its row: a single printable character, put before the end of a line
+-- that is bare and plain, if lines may be drawn in part
+abbrev pub may_be_put_in : Bool → ℕ → ℕ → Value → Bool
+may_be_put_in partial c n v =
+    partial && ((n == 1) && (is_bare v && (is_printable c
+    && (nat_lt v.line.place (length v.line.text) && is_plain v.line.text))))
+
+abbrev pub insertion_way : Setting → ℕ → ℕ → Value → Way
+insertion_way s c n v =
+    if may_be_typed (is_some s.tabs) c n v then AtEnd
+    else if may_be_put_in s.config.partial_redraw c n v then InRow
+    else Whole
+
+-- the way in a line that is still bare, or not
+abbrev pub way_if_bare : Way → Value → Way
+way_if_bare way v = if is_bare v then way else Whole
+
+-- the drawing of an inserted character
+abbrev pub put_redraw : Way → ℕ → Setting → Value → Redraw
+put_redraw AtEnd c s v = Typed s.prompt c v.line.text v.line.place
+put_redraw InRow c s v = PutIn s.prompt c v.line.text v.line.place
+put_redraw Whole c s v = redraw_of s v
+
+abbrev pub show_char_effect : ℕ → Way → Transition
+show_char_effect c way s v = draw_effect (put_redraw (way_if_bare way v) c s v) s v
 
 -- with a new hint
-abbrev pub inserted_shown : ℕ → Bool → Transition
-inserted_shown c alone = then_do asked_anew (put_shown c alone)
+abbrev pub show_inserted_effect : ℕ → Way → Transition
+show_inserted_effect c way = then_do ask_anew_effect (show_char_effect c way)
 
 abbrev pub insert_char : ℕ → ℕ → Transition
 insert_char c n s v =
     if is_some (insertion c n v.line).answer
-    then then_do (rewriting (typing c n))
-    (inserted_shown c (may_be_typed (is_some s.tabs) c n v)) s v
-    else unchanged s (rewritten (by (typing c n)) v)
+    then then_do (edit_effect (char_steps c n))
+    (show_inserted_effect c (insertion_way s c n v)) s v
+    else no_effect s (value_with_edit (by (char_steps c n)) v)
 
 -- a text inserted at the cursor, which stays before it
 abbrev pub insert_text : List ℕ → Transition
 insert_text text s v =
-    if length text == 0 then unchanged s v
-    else then_do (rewriting (putting_behind text)) refreshed s v
+    if length text == 0 then no_effect s v
+    else then_do (edit_effect (text_steps text)) refresh_effect s v
 
 -- drawn if there is a cluster after the cursor
 abbrev pub replace_char : ℕ → ℕ → Transition
 replace_char c n s v =
-    then_do (rewriting (replacing_if_any c n)) (refreshed_if (is_some (place_forward n v.line))) s v
+    then_do (edit_effect (replace_group_if_any c n))
+    (refresh_effect_if (is_some (place_forward n v.line))) s v
 
 abbrev pub overwrite_char : ℕ → Transition
 overwrite_char c s v =
-    then_do (rewriting (overwriting c)) (refreshed_if (is_some (place_forward 1 v.line))) s v
+    then_do (edit_effect (overwrite_steps c))
+    (refresh_effect_if (is_some (place_forward 1 v.line))) s v

@@ -1,47 +1,71 @@
 -- Kills, and copies into the ring.
-use Rattle.std.specs.Prelude.{ℕ, ◌-◌, ◌&&◌, if◌then◌else◌, Bool, List, length, drop, Option, Some, None, is_some, option_map}
+use Rattle.std.specs.Prelude.{ℕ, ◌-◌, ◌&&◌, nat_lt, if◌then◌else◌, Bool, List, length, drop, Option, Some, None, is_some, option_map}
 use Rattle.std.specs.List.{list_all}
+use Rattle.line_buffer.specs.Line.{Line}
 use Rattle.line_buffer.specs.Range.{range_of, copied_range, span_text, kill_events}
 use Rattle.line_buffer.specs.declared.types.Mode.TheVariants.{Append}
 use Rattle.line_buffer.specs.declared.types.Movement.{Movement}
-use Rattle.line_record.specs.Ring.{Ring, ring_all, killed}
-use Rattle.line_edits.specs.Edits.{killing, by}
-use Rattle.line_buffer.specs.Printable.{is_printable, at_plain_end}
-use Rattle.line_editor.specs.Drawing.{drawn, asked_anew}
-use Rattle.line_editor.specs.Inserting.{is_bare, insert_text}
-use Rattle.line_editor.specs.Redraws.Redraw.{Taken}
-use Rattle.line_editor.specs.Values.{Value, Transition, unchanged, taking_memory, then_do, redrawn, rewritten, rewriting}
+use Rattle.line_record.specs.Ring.{Ring, ring_all, ring_with_kill}
+use Rattle.line_edits.specs.Edits.{kill_steps, by}
+use Rattle.line_buffer.specs.Printable.{is_printable, is_plain, at_plain_end}
+use Rattle.line_editor.specs.Drawing.{redraw_of, ask_anew_effect}
+use Rattle.line_editor.specs.Inserting.{is_bare, way_if_bare, insert_text}
+use Rattle.line_editor.specs.Redraws.{Redraw}
+use Rattle.line_editor.specs.Redraws.Redraw.{Taken, TakenOut}
+use Rattle.line_editor.specs.Values.{Value, Setting, Transition, no_effect, memory_effect, then_do, draw_effect, value_with_edit, edit_effect}
+use Rattle.line_editor.specs.declared.way.Way.{Way}
+use Rattle.line_editor.specs.declared.way.Way.TheVariants.{AtEnd, InRow, Whole}
 
 -- whether erasing the rest of the row may show a kill: printable characters, deleted from a bare
 -- line
 abbrev pub may_be_taken : List ℕ → Value → Bool
 may_be_taken killed v = is_bare v && list_all is_printable killed
 
--- the drawing after a deletion of `count` bytes: an erasure, if that may show it and the line is
--- still bare, with the cursor at the end of a plain text
-abbrev pub taken_shown : ℕ → Bool → Transition
-taken_shown count alone s v =
-    redrawn (if alone && (is_bare v && at_plain_end v.line.text v.line.place)
-    then Taken s.prompt count v.line.text v.line.place else drawn s v) s v
+-- whether moving the rest of its row may show it: it is made in a bare and plain line, if lines may
+-- be drawn in part
+abbrev pub may_be_taken_out : Bool → Value → Bool
+may_be_taken_out partial v = partial && (is_bare v && is_plain v.line.text)
+
+-- some text is gone, and some is left after the cursor
+abbrev pub is_cut_inside : Line → Line → Bool
+is_cut_inside before l =
+    nat_lt (length l.text) (length before.text) && nat_lt l.place (length l.text)
+
+-- from the line before to this one: at the end of a plain line, or before the end of what is left
+abbrev pub kill_way : Setting → Value → Line → Way
+kill_way s before l =
+    if may_be_taken (drop (length l.text) before.line.text) before && at_plain_end l.text l.place
+    then AtEnd
+    else if may_be_taken_out s.config.partial_redraw before && is_cut_inside before.line l
+    then InRow
+    else Whole
+
+-- the drawing after a deletion of `count` bytes
+abbrev pub taken_redraw : Way → ℕ → Setting → Value → Redraw
+taken_redraw AtEnd count s v = Taken s.prompt count v.line.text v.line.place
+taken_redraw InRow count s v = TakenOut s.prompt count v.line.text v.line.place
+taken_redraw Whole count s v = redraw_of s v
+
+abbrev pub show_taken_effect : ℕ → Way → Transition
+show_taken_effect count way s v = draw_effect (taken_redraw (way_if_bare way v) count s v) s v
 
 -- with a new hint
-abbrev pub killed_shown : ℕ → Bool → Transition
-killed_shown count alone = then_do asked_anew (taken_shown count alone)
+abbrev pub show_killed_effect : ℕ → Way → Transition
+show_killed_effect count way = then_do ask_anew_effect (show_taken_effect count way)
 
 -- the same for a deletion from a value
 abbrev pub show_taken : Value → Transition
 show_taken before s v =
-    killed_shown (length before.line.text - length v.line.text)
-    (may_be_taken (drop (length v.line.text) before.line.text) before) s v
+    show_killed_effect (length before.line.text - length v.line.text) (kill_way s before v.line) s v
 
 abbrev pub kill_effect : Movement → Transition
 kill_effect movement s v =
     if is_some (range_of movement v.line)
-    then then_do (rewriting (killing movement)) (show_taken v) s v
-    else unchanged s (rewritten (by (killing movement)) v)
+    then then_do (edit_effect (kill_steps movement)) (show_taken v) s v
+    else no_effect s (value_with_edit (by (kill_steps movement)) v)
 
 abbrev pub insert_text_if : Option (List ℕ) → Transition
-insert_text_if None = unchanged
+insert_text_if None = no_effect
 insert_text_if (Some text) = insert_text text
 
 -- killed, and a text inserted there
@@ -50,18 +74,18 @@ replace movement text = then_do (kill_effect movement) (insert_text_if text)
 
 -- ---- the ring
 
-abbrev pub killed_into : Movement → Value → Ring → Ring
-killed_into movement v r = ring_all (kill_events movement v.line) r
+abbrev pub ring_with_kill_of : Movement → Value → Ring → Ring
+ring_with_kill_of movement v r = ring_all (kill_events movement v.line) r
 
-abbrev pub copied_by : Option (List ℕ) → Ring → Ring
-copied_by None r = r
-copied_by (Some text) r = killed text Append r
+abbrev pub ring_with_copy_by : Option (List ℕ) → Ring → Ring
+ring_with_copy_by None r = r
+ring_with_copy_by (Some text) r = ring_with_kill text Append r
 
 -- a copy takes memory; nothing is drawn
 abbrev pub copy_effect : Movement → Transition
 copy_effect movement s v =
-    if is_some (copied_range movement v.line) then taking_memory s v else unchanged s v
+    if is_some (copied_range movement v.line) then memory_effect s v else no_effect s v
 
-abbrev pub copied_into : Movement → Value → Ring → Ring
-copied_into movement v r =
-    copied_by (option_map (λ span. span_text span v.line) (copied_range movement v.line)) r
+abbrev pub ring_with_copy : Movement → Value → Ring → Ring
+ring_with_copy movement v r =
+    ring_with_copy_by (option_map (λ span. span_text span v.line) (copied_range movement v.line)) r

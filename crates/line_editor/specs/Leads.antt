@@ -6,17 +6,17 @@ use Rattle.line_keys.specs.Refreshing.{Ask}
 use Rattle.line_keys.specs.Refreshing.Ask.{Line, Message, Prompted, DoingInsert, DoneInserting}
 use Rattle.line_keys.specs.declared.command.Cmd.{Cmd}
 use Rattle.line_keys.specs.declared.command.Cmd.TheVariants.{Interrupt}
-use Rattle.line_record.specs.Held.{Held}
-use Rattle.line_record.specs.Held.Held.{Opened, Stepped}
-use Rattle.line_keys.specs.Answers.{Custom}
+use Rattle.line_record.specs.Held.{HeldItem}
+use Rattle.line_record.specs.Held.HeldItem.{Opened, Stepped}
+use Rattle.line_keys.specs.CustomBindings.{Custom}
 use Rattle.line_keys.specs.Coming.{Coming}
-use Rattle.line_keys.specs.Phrases.{Input}
+use Rattle.line_keys.specs.PhraseScripts.{Input}
 use Rattle.line_record.specs.Ring.{Ring}
-use Rattle.line_editor.specs.Accepting.{submitted}
+use Rattle.line_editor.specs.Accepting.{submit_effect}
 use Rattle.line_editor.specs.Asks.{ask_effect}
 use Rattle.line_editor.specs.Commands.{Means, effect}
-use Rattle.line_editor.specs.LineScripts.{Begins, LineAsk, LineState, effect_at, kept, left_at, line_script, made_from, played_from, turn_script}
-use Rattle.line_editor.specs.Meeting.{modal_seen}
+use Rattle.line_editor.specs.LineScripts.{Begins, LineAsk, LineState, effect_at, line_state, left_at, line_script, made_from, played_from, turn_script}
+use Rattle.line_editor.specs.ModalCommands.{modal_seen}
 use Rattle.line_editor.specs.Modal.{Modal, modal_first}
 use Rattle.line_editor.specs.Sights.{Sight, no_sight, sight_with, sight_of, ended_sight, info_after, sight_all, FitsAll, Turns}
 use Rattle.line_editor.specs.Redraws.{Redraw}
@@ -31,7 +31,7 @@ pub record Sound (v : Value) : Type 0 where
 
 -- a record that gives a first text when all of it is undone, each mark on the text at which it was
 -- set
-abbrev pub Reaches : List ℕ → List Held → List ℕ → Type 0
+abbrev pub Reaches : List ℕ → List HeldItem → List ℕ → Type 0
 Reaches first [] text = text ≡ first
 Reaches first (Opened earlier ∷ held) text = (text ≡ earlier) × Reaches first held earlier
 Reaches first (Stepped earlier place newest joinable ∷ held) text = Reaches first held earlier
@@ -60,7 +60,7 @@ CommandsLead =
 
 -- an accepted line leads to its end
 abbrev pub SubmittingLeads : Type 0
-SubmittingLeads = (s : Setting) (v : Value) → LeadsToEnd s v (submitted s v)
+SubmittingLeads = (s : Setting) (v : Value) → LeadsToEnd s v (submit_effect s v)
 
 abbrev pub LeadsFrom : Sight → Setting → Effect → Option (List ℕ) → Type 0
 LeadsFrom x s e info = Turns s.prompt x e.steps (sight_of s e.value info)
@@ -129,6 +129,6 @@ abbrev pub LinesLead : Type 0
 LinesLead =
     (n : ℕ) (s : Setting) (custom : Custom) (input : Input) (r : Ring)
     (config : Config) (query : List ℕ) (coming : Coming)
-    → let k = kept (first_value s) input r (modal_first config query) coming in
+    → let k = line_state (first_value s) input r (modal_first config query) coming in
     let line = played_from s (line_script n custom) k in
     LeadsAlong s line.answer k no_sight line.asks

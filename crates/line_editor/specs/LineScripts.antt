@@ -1,32 +1,32 @@
 -- A line as a script: its requests in order, depending on the input, and where a fault stops it.
 use Rattle.std.specs.Prelude.{◌≡◌, ◌⊎◌, ℕ, zero, suc, List, [], ◌∷◌, ◌++◌, Result, Ok, Err}
 use Rattle.std.specs.List.{FoldsTo}
-use Rattle.line_config.specs.Played.{Plan, Played, played}
-use Rattle.line_config.specs.Scripts.{Script, Ends, Asks, World, then}
+use Rattle.script.specs.Played.{Plan, Played, play_of}
+use Rattle.script.specs.Scripts.{Script, Ends, Asks, World, then}
 use Rattle.line_config.specs.declared.errors.ReadlineError.{ReadlineError}
 use Rattle.line_config.specs.declared.errors.ReadlineError.TheVariants.{Memory}
-use Rattle.line_keys.specs.Answers.{Custom}
-use Rattle.line_keys.specs.Coming.{Coming, left_by}
-use Rattle.line_keys.specs.Feeds.{IsReadFault, item_at, behind}
-use Rattle.line_keys.specs.Phrases.{Input, KeyAsk, Answer, Steps, steps, Needs, Shows, Reads, Becomes, Refuses}
+use Rattle.line_keys.specs.CustomBindings.{Custom}
+use Rattle.line_keys.specs.Coming.{Coming, coming_after_error}
+use Rattle.line_keys.specs.KeyFeeds.{IsReadFault, item_at, behind}
+use Rattle.line_keys.specs.PhraseScripts.{Input, KeyAsk, Answer, KeyScript, steps, Needs, Shows, Reads, Becomes, Refuses}
 use Rattle.line_keys.specs.Refreshing.{Shown}
 use Rattle.line_keys.specs.declared.command.Cmd.{Cmd}
 use Rattle.line_record.specs.Ring.{Ring}
-use Rattle.line_editor.specs.Accepting.{submitted}
+use Rattle.line_editor.specs.Accepting.{submit_effect}
 use Rattle.line_editor.specs.Asks.{shown_in, ask_effect}
-use Rattle.line_editor.specs.Calls.{Canvas, Ruler, MadeIn}
-use Rattle.line_editor.specs.Commands.{Means, means_of, effect, ring_after_command, LeavesRing, outcome}
-use Rattle.line_editor.specs.Drawing.{refreshed}
-use Rattle.line_editor.specs.Meeting.{meeting, meeting_effect}
+use Rattle.line_editor.specs.RenderCalls.{Canvas, Ruler, MadeIn}
+use Rattle.line_editor.specs.Commands.{Means, means_of, effect, ring_after_command, CutRing, outcome}
+use Rattle.line_editor.specs.Drawing.{refresh_effect}
+use Rattle.line_editor.specs.ModalCommands.{meeting, meeting_effect}
 use Rattle.line_editor.specs.Modal.{Modal}
-use Rattle.line_editor.specs.NextCommand.{line_phrase, reset_by}
-use Rattle.line_editor.specs.Steps.{asked, Surface, Stops}
-use Rattle.line_editor.specs.Values.{Value, Setting, EditStep, Effect, Transition, unchanged, taking_memory, then_do}
+use Rattle.line_editor.specs.NextCommand.{line_phrase, ring_after_reset}
+use Rattle.line_editor.specs.EditSteps.{calls_of_steps, Surface, CutEditSteps}
+use Rattle.line_editor.specs.Values.{Value, Setting, EditStep, Effect, Transition, no_effect, memory_effect, then_do}
 use Rattle.line_editor.specs.declared.commands.Status.{Status}
 use Rattle.line_editor.specs.declared.commands.Status.TheVariants.{Proceed, Submit}
 
 -- the state in which a turn begins
-pub record Beginning : Type 0 where
+pub record TurnStart : Type 0 where
   pub input : Input
   pub shown : Shown
 
@@ -43,7 +43,7 @@ pub data LineAsk : Type 0 where
   Makes : (edit : Transition) → LineAsk
 
 abbrev pub LineAnswer : LineAsk → Type 0
-LineAnswer Begins = Beginning
+LineAnswer Begins = TurnStart
 LineAnswer (Keys ask) = Answer ask
 LineAnswer (Meets cmd) = Cmd
 LineAnswer (Obeys cmd) = Status
@@ -54,37 +54,38 @@ LineScript X = Script LineAsk LineAnswer X
 
 -- ---- the scripts; more fuel than a reader has keys and pastes is enough
 
-abbrev pub keyed : {X : Type 0} → Steps X → LineScript X
-keyed (Ends x) = Ends x
-keyed (Asks ask later) = Asks (Keys ask) (λ x. keyed (later x))
+abbrev pub script_of_keys : {X : Type 0} → KeyScript X → LineScript X
+script_of_keys (Ends x) = Ends x
+script_of_keys (Asks ask later) = Asks (Keys ask) (λ x. script_of_keys (later x))
 
-abbrev pub phrase_script : ℕ → Custom → Beginning → LineScript Cmd
-phrase_script n custom at = keyed (steps (line_phrase custom at.input at.shown) n)
+abbrev pub phrase_script : ℕ → Custom → TurnStart → LineScript Cmd
+phrase_script n custom at = script_of_keys (steps (line_phrase custom at.input at.shown) n)
 
-abbrev pub obeying : Cmd → LineScript Status
-obeying cmd = Asks (Obeys cmd) (λ status. Ends status)
+abbrev pub obey_script : Cmd → LineScript Status
+obey_script cmd = Asks (Obeys cmd) (λ status. Ends status)
 
 -- a command, or what is left of it
-abbrev pub met_then : Cmd → LineScript Status
-met_then cmd = Asks (Meets cmd) (λ next. obeying next)
+abbrev pub meet_script : Cmd → LineScript Status
+meet_script cmd = Asks (Meets cmd) (λ next. obey_script next)
 
 -- a phrase, and the command that it gives
 unfoldable pub turn_script : ℕ → Custom → LineScript Status
-turn_script n custom = Asks Begins (λ at. then (phrase_script n custom at) met_then)
+turn_script n custom = Asks Begins (λ at. then (phrase_script n custom at) meet_script)
 
 -- an accepted line is closed, and its text is the answer
-abbrev pub turned_on : LineScript (List ℕ) → Status → LineScript (List ℕ)
-turned_on next Proceed = next
-turned_on next Submit = Asks (Makes submitted) (λ v. Ends v.line.text)
+abbrev pub line_script_after : LineScript (List ℕ) → Status → LineScript (List ℕ)
+line_script_after next Proceed = next
+line_script_after next Submit = Asks (Makes submit_effect) (λ v. Ends v.line.text)
 
 -- turn after turn, until one ends the line
 unfoldable pub turns_script : ℕ → Custom → LineScript (List ℕ)
 turns_script zero custom = Asks (Keys (Refuses Memory)) (λ none. absurd none)
-turns_script (suc n) custom = then (turn_script (suc n) custom) (turned_on (turns_script n custom))
+turns_script (suc n) custom = then (turn_script (suc n) custom)
+    (line_script_after (turns_script n custom))
 
 -- drawn once memory has been taken for a line
 abbrev pub line_begun : Transition
-line_begun = then_do taking_memory refreshed
+line_begun = then_do memory_effect refresh_effect
 
 unfoldable pub line_script : ℕ → Custom → LineScript (List ℕ)
 line_script n custom = Asks (Makes line_begun) (λ v. turns_script n custom)
@@ -99,30 +100,30 @@ pub record LineState : Type 0 where
   pub modal : Modal
   pub coming : Coming
 
-abbrev pub kept : Value → Input → Ring → Modal → Coming → LineState
-kept value input ring modal coming =
+abbrev pub line_state : Value → Input → Ring → Modal → Coming → LineState
+line_state value input ring modal coming =
     record { value = value; input = input; ring = ring; modal = modal; coming = coming }
 
-abbrev pub beginning : LineState → Beginning
-beginning k = record { input = k.input; shown = shown_in k.value }
+abbrev pub turn_start : LineState → TurnStart
+turn_start k = record { input = k.input; shown = shown_in k.value }
 
 module _ (s : Setting) where
   -- most commands end a run of kills
   abbrev pub means_at : LineState → Cmd → Means
-  means_at k cmd = means_of k.input (reset_by cmd k.ring)
+  means_at k cmd = means_of k.input (ring_after_reset cmd k.ring)
 
   -- the edit that it makes
   abbrev pub effect_at : LineState → LineAsk → Effect
-  effect_at k (Keys Needs) = taking_memory s k.value
+  effect_at k (Keys Needs) = memory_effect s k.value
   effect_at k (Keys (Shows ask)) = ask_effect ask s k.value
   effect_at k (Meets cmd) = meeting_effect k.modal cmd s k.value
   effect_at k (Obeys cmd) = effect (means_at k cmd) cmd s k.value
   effect_at k (Makes edit) = edit s k.value
-  effect_at k ask = unchanged s k.value
+  effect_at k ask = no_effect s k.value
 
   -- its answer, or why it fails: because of the input, or because of a command that ends the line
   abbrev pub answer_at : LineState → (ask : LineAsk) → Result (LineAnswer ask) ReadlineError
-  answer_at k Begins = Ok (beginning k)
+  answer_at k Begins = Ok (turn_start k)
   answer_at k (Keys Needs) = Ok tt
   answer_at k (Keys (Shows ask)) = Ok (shown_in (ask_effect ask s k.value).value)
   answer_at k (Keys (Reads item)) = item_at item k.coming
@@ -143,7 +144,7 @@ module _ (s : Setting) where
   }
   left_at k (Obeys cmd) = record k {
     value = (effect_at k (Obeys cmd)).value;
-    ring = ring_after_command cmd k.value (reset_by cmd k.ring);
+    ring = ring_after_command cmd k.value (ring_after_reset cmd k.ring);
   }
   left_at k ask = record k { value = (effect_at k ask).value }
 
@@ -159,7 +160,7 @@ module _ (s : Setting) where
 
   abbrev pub played_from : {X : Type 0} → LineScript X → LineState
       → Played LineAsk LineState ReadlineError X
-  played_from script k = played line_plan script k
+  played_from script k = play_of line_plan script k
 
   -- its effect on the value
   abbrev pub made_from : {X : Type 0} → LineScript X → LineState → Effect
@@ -170,12 +171,12 @@ module _ (s : Setting) where
 
 -- what a fault leaves: the value, what stands between commands, and the ring of a command, as far as
 -- they came
-abbrev pub FaultLeaves : LineAsk → LineState → ReadlineError → LineState → Type 0
-FaultLeaves (Meets cmd) k e l = l ≡ record k { value = l.value; modal = l.modal }
-FaultLeaves (Obeys cmd) k e l =
+abbrev pub CutLineAsk : LineAsk → LineState → ReadlineError → LineState → Type 0
+CutLineAsk (Meets cmd) k e l = l ≡ record k { value = l.value; modal = l.modal }
+CutLineAsk (Obeys cmd) k e l =
     (l ≡ record k { value = l.value; ring = l.ring })
-    × LeavesRing cmd k.value (reset_by cmd k.ring) l.ring e
-FaultLeaves ask k e l = l ≡ record k { value = l.value }
+    × CutRing cmd k.value (ring_after_reset cmd k.ring) l.ring e
+CutLineAsk ask k e l = l ≡ record k { value = l.value }
 
 -- a pasted text finds no memory
 abbrev pub IsUnreadText : LineAsk → ReadlineError → Type 0
@@ -194,8 +195,8 @@ line_stage drawn kept = record { drawn = drawn; kept = kept }
 abbrev pub DrawnBy : {R : Type 0} → Canvas R → Ruler → List EditStep → Surface R → Surface R
     → Type 0
 DrawnBy canvas r steps old new =
-    FoldsTo (MadeIn canvas) old.out (asked r old.layout steps).calls new.out
-    × (new.layout ≡ (asked r old.layout steps).layout)
+    FoldsTo (MadeIn canvas) old.out (calls_of_steps r old.layout steps).calls new.out
+    × (new.layout ≡ (calls_of_steps r old.layout steps).layout)
 
 module _ {R : Type 0} (canvas : Canvas R) (r : Ruler) (s : Setting) where
   -- the edit was made whole, and the answer is its own
@@ -208,10 +209,10 @@ module _ {R : Type 0} (canvas : Canvas R) (r : Ruler) (s : Setting) where
   -- a fault stopped the edit, or a read, after which every read fails
   abbrev pub Stopped : LineStage R → LineAsk → ReadlineError → LineStage R → Type 0
   Stopped x ask e y =
-      (Stops canvas r (effect_at s x.kept ask).steps x.drawn e y.kept.value y.drawn
-      × FaultLeaves ask x.kept e y.kept)
+      (CutEditSteps canvas r (effect_at s x.kept ask).steps x.drawn e y.kept.value y.drawn
+      × CutLineAsk ask x.kept e y.kept)
       ⊎ ((left : List ℕ) × IsUnreadText ask e
-      × (y ≡ line_stage x.drawn (record x.kept { coming = left_by e left })))
+      × (y ≡ line_stage x.drawn (record x.kept { coming = coming_after_error e left })))
 
   abbrev pub line_world : World LineAsk LineAnswer (LineStage R) ReadlineError
   line_world = record {

@@ -2,8 +2,8 @@
 use Rattle.std.specs.Prelude.{ℕ, Bool, true, false, List, [], Result, Ok, Err, string_bytes}
 use Rattle.line_config.specs.declared.config.Config.{Config}
 use Rattle.line_config.specs.declared.settings.CompletionType.{CompletionType}
-use Rattle.line_help.specs.declared.search.SearchDirection.{SearchDirection}
-use Rattle.line_help.specs.declared.search.SearchDirection.TheVariants.{Forward, Reverse}
+use Rattle.line_help.specs.declared.history.search.SearchDirection.{SearchDirection}
+use Rattle.line_help.specs.declared.history.search.SearchDirection.TheVariants.{Forward, Reverse}
 use Rattle.line_keys.specs.declared.command.Cmd.{Cmd}
 use Rattle.line_keys.specs.declared.command.Cmd.TheVariants.{Abort, Complete, CompleteBackward, EndOfHistory, ForwardSearchHistory, HistorySearchBackward, HistorySearchForward, LineDownOrNextHistory, LineUpOrPreviousHistory, ReverseSearchHistory, SearchAgain, Unknown}
 use Rattle.line_editor.specs.Values.{Value, Setting, Effect, Transition}
@@ -54,9 +54,9 @@ modal_of x = record {
   place = x.place;
 }
 
-abbrev pub standing_first : Bool → Standing
-standing_first true = Rests
-standing_first false = Off
+abbrev pub first_standing : Bool → Standing
+first_standing true = Rests
+first_standing false = Off
 
 -- as a line begins: nothing stands, and the query is the last search's
 abbrev pub modal_first : Config → List ℕ → Modal
@@ -64,7 +64,7 @@ modal_first config query = record {
   completion_type = config.completion_type;
   lists_at_once = config.completion_show_all_if_ambiguous;
   limit = config.completion_prompt_limit;
-  standing = standing_first config.modal_commands;
+  standing = first_standing config.modal_commands;
   query = query;
   fresh = true;
   dir = Reverse;
@@ -76,8 +76,8 @@ modal_first config query = record {
   place = 0;
 }
 
-abbrev pub rested : Modal → Modal
-rested x = record x { standing = Rests }
+abbrev pub modal_at_rest : Modal → Modal
+modal_at_rest x = record x { standing = Rests }
 
 -- nothing stands, so a command is done as it comes unless it begins something
 abbrev pub is_at_rest : Standing → Bool
@@ -99,8 +99,8 @@ pub record Meeting : Type 0 where
   pub modal : Modal
   pub next : Cmd
 
-abbrev pub passed : Modal → Cmd → Value → Meeting
-passed x cmd v = record { effect = record { value = v; steps = [] }; modal = x; next = cmd }
+abbrev pub pass_meeting : Modal → Cmd → Value → Meeting
+pass_meeting x cmd v = record { effect = record { value = v; steps = [] }; modal = x; next = cmd }
 
 abbrev pub takes : Transition → Modal → Setting → Value → Meeting
 takes edit y s v = record { effect = edit s v; modal = y; next = Unknown }
@@ -130,6 +130,6 @@ next_of Later cmd = HistorySearchForward
 next_of Own cmd = EndOfHistory
 
 -- the command to be done, if the call succeeded; its error, if it failed
-abbrev pub answered_by : {A E : Type 0} → Result A E → Cmd → Result Cmd E
-answered_by (Ok x) cmd = Ok cmd
-answered_by (Err e) cmd = Err e
+abbrev pub answer_or_error : {A E : Type 0} → Result A E → Cmd → Result Cmd E
+answer_or_error (Ok x) cmd = Ok cmd
+answer_or_error (Err e) cmd = Err e

@@ -3,7 +3,7 @@ use Rattle.std.specs.Prelude.{ℕ, ◌==◌, not, Bool, if◌then◌else◌, len
 use Rattle.line_buffer.specs.Clusters.{place_forward, place_backward}
 use Rattle.line_buffer.specs.Columns.{line_up, line_down}
 use Rattle.line_buffer.specs.Hits.{search_place}
-use Rattle.line_buffer.specs.Line.{Line, moved_to}
+use Rattle.line_buffer.specs.Line.{Line, with_cursor_at}
 use Rattle.line_buffer.specs.Rows.{row_start, row_end}
 use Rattle.line_buffer.specs.Words.{prev_word, next_word}
 use Rattle.line_buffer.specs.declared.types.At.{At}
@@ -17,15 +17,19 @@ use Rattle.line_help.specs.History.{begins_with_space}
 use Rattle.line_keys.specs.declared.command.CmdKind.{CmdKind}
 use Rattle.line_keys.specs.declared.command.CmdKind.TheVariants.{MoveCursor}
 use Rattle.line_editor.specs.Drawing.{cursor_moved}
-use Rattle.line_editor.specs.Values.{Transition, unchanged, then_do, at_line}
+use Rattle.line_editor.specs.Values.{Transition, no_effect, then_do, at_line}
+
+-- the display's cursor follows, if that of the text moved
+abbrev pub cursor_follows : CmdKind → Bool → Transition
+cursor_follows kind moved s v = if moved then cursor_moved kind s v else no_effect s v
 
 -- if it moves, the display's cursor follows
 abbrev pub cursor_moved_if : CmdKind → Bool → Line → Transition
 cursor_moved_if kind moves line s v =
-    if moves then cursor_moved kind s (at_line line v) else unchanged s v
+    if moves then cursor_moved kind s (at_line line v) else no_effect s v
 
 abbrev pub to_found : Option ℕ → Transition
-to_found found s v = cursor_moved_if MoveCursor (is_some found) (moved_to found v.line) s v
+to_found found s v = cursor_moved_if MoveCursor (is_some found) (with_cursor_at found v.line) s v
 
 abbrev pub to_place : CmdKind → ℕ → Transition
 to_place kind place s v =
@@ -74,7 +78,7 @@ move_to_first_print s v =
     else move_home s v
 
 abbrev pub move_by : Movement → Transition
-move_by WholeLine = unchanged
+move_by WholeLine = no_effect
 move_by BeginningOfLine = move_home
 move_by EndOfLine = move_end
 move_by (BackwardWord n word) = move_to_prev_word word n
@@ -85,6 +89,6 @@ move_by (BackwardChar n) = move_backward n
 move_by (ForwardChar n) = move_forward n
 move_by (LineUp n) = move_line_up n
 move_by (LineDown n) = move_line_down n
-move_by WholeBuffer = unchanged
+move_by WholeBuffer = no_effect
 move_by BeginningOfBuffer = move_buffer_start
 move_by EndOfBuffer = move_buffer_end MoveCursor

@@ -2,14 +2,14 @@
 use Rattle.std.specs.Prelude.{◌+◌, ◌-◌, ◌==◌, ◌&&◌, not, Bool, true, false, if◌then◌else◌, take, length, Option, Some, None}
 use Rattle.std.specs.List.{list_any}
 use Rattle.line_buffer.specs.Line.{Line}
-use Rattle.line_help.specs.Search.{Hit, searched}
-use Rattle.line_help.specs.declared.search.SearchDirection.TheVariants.{Forward, Reverse}
+use Rattle.line_help.specs.Search.{Hit, search_hit}
+use Rattle.line_help.specs.declared.history.search.SearchDirection.TheVariants.{Forward, Reverse}
 use Rattle.line_keys.specs.declared.command.Cmd.{Cmd}
 use Rattle.line_keys.specs.declared.command.Cmd.TheVariants.{EndOfHistory, HistorySearchBackward, HistorySearchForward}
-use Rattle.line_editor.specs.Drawing.{beeped}
-use Rattle.line_editor.specs.Modal.{Modal, rested, Meeting, passed, takes, goes}
-use Rattle.line_editor.specs.Remembering.{saving_on_leaving}
-use Rattle.line_editor.specs.Values.{Value, Setting, unchanged}
+use Rattle.line_editor.specs.Drawing.{beep_effect}
+use Rattle.line_editor.specs.Modal.{Modal, modal_at_rest, Meeting, pass_meeting, takes, goes}
+use Rattle.line_editor.specs.History.{leave_effect}
+use Rattle.line_editor.specs.Values.{Value, Setting, no_effect}
 use Rattle.line_editor.specs.declared.modal_state.Standing.TheVariants.{Prefixes}
 
 -- one row that isn't empty, with the cursor at its end
@@ -25,30 +25,30 @@ is_own s v = v.history == length s.entries
 -- the nearest entries before and after the current one that begin with the text before the cursor
 abbrev pub earlier : Setting → Value → Option Hit
 earlier s v = if v.history == 0 then None
-    else searched true (take v.line.place v.line.text) (v.history - 1) Reverse s.entries
+    else search_hit true (take v.line.place v.line.text) (v.history - 1) Reverse s.entries
 
 abbrev pub later : Setting → Value → Option Hit
 later s v = if v.history == length s.entries then None
-    else searched true (take v.line.place v.line.text) (v.history + 1) Forward s.entries
+    else search_hit true (take v.line.place v.line.text) (v.history + 1) Forward s.entries
 
 -- up to the earlier entry; the line is saved, to come back to it. Without one a beep
-abbrev pub risen : Option Hit → Modal → Setting → Value → Meeting
-risen None x s v = takes beeped x s v
-risen (Some hit) x s v =
-    goes saving_on_leaving (record x { standing = Prefixes }) HistorySearchBackward s v
+abbrev pub rise_meeting : Option Hit → Modal → Setting → Value → Meeting
+rise_meeting None x s v = takes beep_effect x s v
+rise_meeting (Some hit) x s v =
+    goes leave_effect (record x { standing = Prefixes }) HistorySearchBackward s v
 
 abbrev pub rises : Modal → Setting → Value → Meeting
-rises x s v = risen (earlier s v) x s v
+rises x s v = rise_meeting (earlier s v) x s v
 
 -- at rest only the line itself is searched by
 abbrev pub rises_if : Bool → Modal → Cmd → Setting → Value → Meeting
 rises_if true x cmd s v = rises x s v
-rises_if false x cmd s v = passed x cmd v
+rises_if false x cmd s v = pass_meeting x cmd v
 
 -- down to the later entry; without one to the line itself
-abbrev pub fallen : Option Hit → Modal → Setting → Value → Meeting
-fallen None x s v = goes unchanged (rested x) EndOfHistory s v
-fallen (Some hit) x s v = goes unchanged x HistorySearchForward s v
+abbrev pub fall_meeting : Option Hit → Modal → Setting → Value → Meeting
+fall_meeting None x s v = goes no_effect (modal_at_rest x) EndOfHistory s v
+fall_meeting (Some hit) x s v = goes no_effect x HistorySearchForward s v
 
 abbrev pub falls : Modal → Setting → Value → Meeting
-falls x s v = fallen (later s v) x s v
+falls x s v = fall_meeting (later s v) x s v

@@ -4,8 +4,8 @@ use Rattle.line_buffer.specs.Cells.{same_cell, origin}
 use Rattle.line_buffer.specs.declared.layout.GraphemeClusterMode.{GraphemeClusterMode}
 use Rattle.line_buffer.specs.declared.layout.Layout.{Layout}
 use Rattle.line_buffer.specs.declared.layout.Position.{Position}
-use Rattle.line_editor.specs.Calls.{Call, Marks, Ruler}
-use Rattle.line_editor.specs.Calls.Call.{Draw, Move, Write, Beep, ClearScreen, MoveAndClearToEol}
+use Rattle.line_editor.specs.RenderCalls.{Call, Marks, Ruler}
+use Rattle.line_editor.specs.RenderCalls.Call.{Draw, Move, Write, Beep, ClearScreen, MoveAndClearToEol, InsertChar, MoveAndDelete}
 
 -- a redraw doesn't depend on columns
 pub data Redraw : Type 0 where
@@ -18,6 +18,10 @@ pub data Redraw : Type 0 where
   Typed : (prompt : List ℕ) (c : ℕ) (text : List ℕ) (place : ℕ) → Redraw
   -- `count` printable characters deleted at the end of a plain line, with no information after it
   Taken : (prompt : List ℕ) (count : ℕ) (text : List ℕ) (place : ℕ) → Redraw
+  -- a printable character put into a plain line, with no information before or after it
+  PutIn : (prompt : List ℕ) (c : ℕ) (text : List ℕ) (place : ℕ) → Redraw
+  -- `count` characters of a plain line deleted, with no information before or after that
+  TakenOut : (prompt : List ℕ) (count : ℕ) (text : List ℕ) (place : ℕ) → Redraw
   -- redrawn, without hint and message, only if another prompt than the session's own is shown
   Bared : (prompt : List ℕ) (text : List ℕ) (place : ℕ) → Redraw
   -- the cursor moved to the drawing's end
@@ -26,7 +30,7 @@ pub data Redraw : Type 0 where
   Cleared : Redraw
 
 -- calls in order, and the layout after them
-pub record Asked : Type 0 where
+pub record RedrawCalls : Type 0 where
   pub calls : List Call
   pub layout : Layout
 
@@ -60,7 +64,7 @@ layout_of r start given text place info = record {
 
 -- highlighted by these marks, if there are any
 abbrev pub full : Ruler → Option Marks → Layout → List ℕ → Bool → List ℕ → ℕ → Option (List ℕ)
-    → Asked
+    → RedrawCalls
 full r marks l prompt given text place info =
     let new = layout_of r (r.measure prompt origin) given text place info in
     record {
@@ -68,17 +72,17 @@ full r marks l prompt given text place info =
       layout = new;
     }
 
-abbrev pub nothing_asked : Layout → Asked
+abbrev pub nothing_asked : Layout → RedrawCalls
 nothing_asked l = record { calls = []; layout = l }
 
-abbrev pub moved_by_call : Layout → Position → Asked
-moved_by_call l cursor = record {
+abbrev pub move_call : Layout → Position → RedrawCalls
+move_call l cursor = record {
   calls = Move l.cursor cursor ∷ [];
   layout = record l { cursor = cursor };
 }
 
-abbrev pub moved : Layout → Position → Asked
-moved l cursor = if same_cell l.cursor cursor then nothing_asked l else moved_by_call l cursor
+abbrev pub move_calls : Layout → Position → RedrawCalls
+move_calls l cursor = if same_cell l.cursor cursor then nothing_asked l else move_call l cursor
 
 abbrev pub column_on : Position → Position
 column_on p = record { col = p.col + 1; row = p.row }
@@ -87,17 +91,31 @@ abbrev pub column_back : ℕ → Position → Position
 column_back n p = record { col = p.col - n; row = p.row }
 
 -- the character's byte alone
-abbrev pub typed_short : Layout → ℕ → Asked
-typed_short l c = record {
+abbrev pub char_call : Layout → ℕ → RedrawCalls
+char_call l c = record {
   calls = Write (encode_utf8 c) ∷ [];
   layout = record l { cursor = column_on l.cursor; end = column_on l.cursor };
 }
 
 -- the rest of the row erased
-abbrev pub taken_short : Layout → ℕ → Asked
-taken_short l count = record {
+abbrev pub erase_call : Layout → ℕ → RedrawCalls
+erase_call l count = record {
   calls = MoveAndClearToEol l.cursor (column_back count l.end) ∷ [];
   layout = record l { cursor = column_back count l.end; end = column_back count l.end };
+}
+
+-- the rest of the row moved by a cell, and the character put there
+abbrev pub put_in_short : Layout → ℕ → RedrawCalls
+put_in_short l c = record {
+  calls = InsertChar c ∷ [];
+  layout = record l { cursor = column_on l.cursor; end = column_on l.end };
+}
+
+-- the cursor moved, and the characters' cells taken out of the row
+abbrev pub taken_out_short : Layout → Position → ℕ → RedrawCalls
+taken_out_short l at count = record {
+  calls = MoveAndDelete l.cursor at count ∷ [];
+  layout = record l { cursor = at; end = column_back count l.end };
 }
 
 -- a byte written at a cell doesn't fill the row
@@ -112,20 +130,38 @@ may_type r l = not l.has_info && fits_in_row r.columns l.cursor
 abbrev pub may_take : Layout → ℕ → Bool
 may_take l count = not l.has_info && ((l.cursor.row == l.end.row) && nat_le count l.end.col)
 
-abbrev pub asked_by : Ruler → Option Marks → Layout → Redraw → Asked
-asked_by r marks l (Drawn prompt given text place info) =
+-- and whether a character can be put into the row of the drawing's end, which it doesn't fill
+abbrev pub may_put_in : Ruler → Layout → Bool
+may_put_in r l =
+    not l.has_info && ((l.cursor.row == l.end.row)
+    && (nat_le l.cursor.col l.end.col && fits_in_row r.columns l.end))
+
+-- and whether characters can be taken out of it, from a cell of it on
+abbrev pub may_take_out : Layout → Position → ℕ → Bool
+may_take_out l at count =
+    not l.has_info && ((l.cursor.row == l.end.row)
+    && ((at.row == l.end.row) && nat_le count l.end.col))
+
+abbrev pub calls_of_redraw : Ruler → Option Marks → Layout → Redraw → RedrawCalls
+calls_of_redraw r marks l (Drawn prompt given text place info) =
     full r marks l prompt given text place info
-asked_by r marks l (Moved text place) = moved l (r.measure (take place text) l.prompt_size)
-asked_by r marks l (Typed prompt c text place) =
-    if may_type r l then typed_short l c else full r marks l prompt true text place None
-asked_by r marks l (Taken prompt count text place) =
-    if may_take l count then taken_short l count else full r marks l prompt true text place None
-asked_by r marks l (Bared prompt text place) =
+calls_of_redraw r marks l (Moved text place) = move_calls l
+    (r.measure (take place text) l.prompt_size)
+calls_of_redraw r marks l (Typed prompt c text place) =
+    if may_type r l then char_call l c else full r marks l prompt true text place None
+calls_of_redraw r marks l (Taken prompt count text place) =
+    if may_take l count then erase_call l count else full r marks l prompt true text place None
+calls_of_redraw r marks l (PutIn prompt c text place) =
+    if may_put_in r l then put_in_short l c else full r marks l prompt true text place None
+calls_of_redraw r marks l (TakenOut prompt count text place) =
+    let at = r.measure (take place text) l.prompt_size in
+    if may_take_out l at count then taken_out_short l at count else full r marks l prompt true text place None
+calls_of_redraw r marks l (Bared prompt text place) =
     if l.default_prompt then nothing_asked l else full r marks l prompt true text place None
-asked_by r marks l ToEnd = moved l l.end
-asked_by r marks l Beeped = record { calls = Beep ∷ []; layout = l }
-asked_by r marks l Cleared =
+calls_of_redraw r marks l ToEnd = move_calls l l.end
+calls_of_redraw r marks l Beeped = record { calls = Beep ∷ []; layout = l }
+calls_of_redraw r marks l Cleared =
     record { calls = ClearScreen ∷ []; layout = fresh l.grapheme_cluster_mode }
 
-abbrev pub then_asked : Asked → Asked → Asked
+abbrev pub then_asked : RedrawCalls → RedrawCalls → RedrawCalls
 then_asked a b = record { calls = a.calls ++ b.calls; layout = b.layout }

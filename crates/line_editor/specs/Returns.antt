@@ -1,17 +1,17 @@
 -- Leaving the history's end and coming back to it; and the undo of all changes of a line.
 use Rattle.std.specs.Prelude.{◌≡◌, ⊤, ◌<◌, ◌≤◌, Bool, true, false, List, [], ◌∷◌, length, ℕ}
 use Rattle.line_help.specs.Completion.{Completion}
-use Rattle.line_help.specs.declared.search.SearchDirection.{SearchDirection}
+use Rattle.line_help.specs.declared.history.search.SearchDirection.{SearchDirection}
 use Rattle.line_keys.specs.Refreshing.{Ask}
 use Rattle.line_keys.specs.declared.command.Cmd.{Cmd}
 use Rattle.line_keys.specs.declared.command.Cmd.TheVariants.{Abort, BeginningOfHistory, Complete, HistorySearchBackward, HistorySearchForward, PreviousHistory, Undo}
-use Rattle.line_record.specs.Held.{ended}
+use Rattle.line_record.specs.Held.{record_after_close}
 use Rattle.line_editor.specs.Asks.{ask_effect}
 use Rattle.line_editor.specs.Candidates.{cycle_begun, cycle_first, cycle}
 use Rattle.line_editor.specs.Commands.{Means, effect}
-use Rattle.line_editor.specs.Meeting.{meeting_effect, acted}
+use Rattle.line_editor.specs.ModalCommands.{meeting_effect, meeting_in_search}
 use Rattle.line_editor.specs.Modal.{Modal}
-use Rattle.line_editor.specs.Searching.{begun_at, begin_search, given_up, is_place}
+use Rattle.line_editor.specs.Searching.{modal_at_search_start, begin_search, give_up_effect, is_place}
 use Rattle.line_editor.specs.Values.{Value, Setting}
 use Rattle.line_editor.specs.Leads.{Reaches, Sound}
 use Rattle.line_editor.specs.declared.modal_state.Act.{Act}
@@ -33,9 +33,9 @@ value_after_all s [] v = v
 value_after_all s (step ∷ steps) v = value_after_all s steps (value_after s step v)
 
 -- the commands that leave the history's end and save the line: by one entry, or to the first
-abbrev pub leaving_by : Bool → Cmd
-leaving_by true = PreviousHistory
-leaving_by false = BeginningOfHistory
+abbrev pub command_that_leaves : Bool → Cmd
+command_that_leaves true = PreviousHistory
+command_that_leaves false = BeginningOfHistory
 
 -- a search moves the place and saves no line
 abbrev pub is_search : Cmd → Bool
@@ -60,7 +60,7 @@ abbrev pub ComesBack : Type 0
 ComesBack =
     (s : Setting) (m : Means) (one : Bool) (steps : List ValueStep) (v : Value)
     → v.history ≡ length s.entries → v.line.place ≤ length v.line.text → v.line.growth ≡ true
-    → let left = (effect m (leaving_by one) s v).value in
+    → let left = (effect m (command_that_leaves one) s v).value in
     StaysAway s steps left
     → let back = value_after_all s steps left in
     back.history ≡ length s.entries
@@ -106,19 +106,19 @@ pub record Between : Type 0 where
   pub modal : Modal
   pub value : Value
 
-abbrev pub sought_first : Setting → SearchDirection → Modal → Value → Between
-sought_first s dir q v = record {
-  modal = begun_at dir (length s.entries) v q;
+abbrev pub search_start : Setting → SearchDirection → Modal → Value → Between
+search_start s dir q v = record {
+  modal = modal_at_search_start dir (length s.entries) v q;
   value = (begin_search dir q s v).value;
 }
 
-abbrev pub sought_on : Setting → Act → Between → Between
-sought_on s act x = let m = acted act x.modal Abort s x.value in
+abbrev pub search_after_act : Setting → Act → Between → Between
+search_after_act s act x = let m = meeting_in_search act x.modal Abort s x.value in
     record { modal = m.modal; value = m.effect.value }
 
-abbrev pub sought_all : Setting → List Act → Between → Between
-sought_all s [] x = x
-sought_all s (act ∷ acts) x = sought_all s acts (sought_on s act x)
+abbrev pub search_after_acts : Setting → List Act → Between → Between
+search_after_acts s [] x = x
+search_after_acts s (act ∷ acts) x = search_after_acts s acts (search_after_act s act x)
 
 -- a search that is given up after any such acts leaves line, cursor and record as they were,
 -- except the groups that its begin closed
@@ -126,27 +126,27 @@ abbrev pub GivesBack : Type 0
 GivesBack =
     (s : Setting) (dir : SearchDirection) (q : Modal) (v : Value) (acts : List Act)
     → v.line.growth ≡ true → is_place v.line.place v.line ≡ true → AllOnward acts
-    → let x = sought_all s acts (sought_first s dir q v) in
-    let back = (given_up x.modal s x.value).value in
-    (back.line ≡ v.line) × (back.held ≡ ended v.held)
+    → let x = search_after_acts s acts (search_start s dir q v) in
+    let back = (give_up_effect x.modal s x.value).value in
+    (back.line ≡ v.line) × (back.held ≡ record_after_close v.held)
 
 -- ---- candidates in turn that are given up
 
 -- the first one
-abbrev pub cycled_first : Setting → Completion → Modal → Value → Between
-cycled_first s found q v = record {
+abbrev pub cycle_start : Setting → Completion → Modal → Value → Between
+cycle_start s found q v = record {
   modal = cycle_first found v.line q;
   value = (cycle_begun found s v).value;
 }
 
 -- the next one in a direction
-abbrev pub cycled_on : Setting → SearchDirection → Between → Between
-cycled_on s dir x = let m = cycle dir x.modal Complete s x.value in
+abbrev pub cycle_after_turn : Setting → SearchDirection → Between → Between
+cycle_after_turn s dir x = let m = cycle dir x.modal Complete s x.value in
     record { modal = m.modal; value = m.effect.value }
 
-abbrev pub cycled_all : Setting → List SearchDirection → Between → Between
-cycled_all s [] x = x
-cycled_all s (dir ∷ dirs) x = cycled_all s dirs (cycled_on s dir x)
+abbrev pub cycle_after_turns : Setting → List SearchDirection → Between → Between
+cycle_after_turns s [] x = x
+cycle_after_turns s (dir ∷ dirs) x = cycle_after_turns s dirs (cycle_after_turn s dir x)
 
 -- candidates that are given up after any number of them, in either direction, leave line, cursor
 -- and record as they were, except the groups that the begin closed
@@ -154,6 +154,6 @@ abbrev pub GivesWordBack : Type 0
 GivesWordBack =
     (s : Setting) (found : Completion) (q : Modal) (v : Value) (dirs : List SearchDirection)
     → is_place v.line.place v.line ≡ true
-    → let x = cycled_all s dirs (cycled_first s found q v) in
-    let back = (given_up x.modal s x.value).value in
-    (back.line ≡ v.line) × (back.held ≡ ended v.held)
+    → let x = cycle_after_turns s dirs (cycle_start s found q v) in
+    let back = (give_up_effect x.modal s x.value).value in
+    (back.line ≡ v.line) × (back.held ≡ record_after_close v.held)

@@ -5,18 +5,18 @@ use Rattle.line_buffer.specs.Insertions.{is_inside_char}
 use Rattle.line_buffer.specs.Line.{Line}
 use Rattle.line_buffer.specs.declared.types.Movement.{Movement}
 use Rattle.line_buffer.specs.declared.types.Movement.TheVariants.{BackwardChar}
-use Rattle.line_edits.specs.Edits.{updating_in_group}
-use Rattle.line_help.specs.Search.{Hit, searched}
-use Rattle.line_help.specs.declared.search.SearchDirection.{SearchDirection}
-use Rattle.line_help.specs.declared.search.SearchDirection.TheVariants.{Forward, Reverse}
+use Rattle.line_edits.specs.Edits.{update_group}
+use Rattle.line_help.specs.Search.{Hit, search_hit}
+use Rattle.line_help.specs.declared.history.search.SearchDirection.{SearchDirection}
+use Rattle.line_help.specs.declared.history.search.SearchDirection.TheVariants.{Forward, Reverse}
 use Rattle.line_keys.specs.declared.command.SearchAgain.{SearchAgain}
 use Rattle.line_keys.specs.declared.command.SearchAgain.TheVariants.{Same, Opposite}
 use Rattle.line_keys.specs.declared.command.Cmd.{Cmd}
 use Rattle.line_keys.specs.declared.command.Cmd.TheVariants.{Abort, ForwardSearchHistory, Kill, ReverseSearchHistory, SelfInsert}
-use Rattle.line_editor.specs.Drawing.{beeped, refreshed, refreshed_behind}
-use Rattle.line_editor.specs.Modal.{Modal, rested, Meeting, passed, takes}
-use Rattle.line_editor.specs.Rewording.{taking_back}
-use Rattle.line_editor.specs.Values.{Value, Setting, Transition, unchanged, taking_memory, then_do, rewriting, close_groups, at_line}
+use Rattle.line_editor.specs.Drawing.{beep_effect, refresh_effect, refresh_effect_behind}
+use Rattle.line_editor.specs.Modal.{Modal, modal_at_rest, Meeting, pass_meeting, takes}
+use Rattle.line_editor.specs.Transforms.{undo_effect}
+use Rattle.line_editor.specs.Values.{Value, Setting, Transition, no_effect, memory_effect, then_do, edit_effect, close_groups, at_line}
 use Rattle.line_editor.specs.declared.modal_state.Act.{Act}
 use Rattle.line_editor.specs.declared.modal_state.Act.TheVariants.{Types, Erases, Goes, Leaves, Ends}
 use Rattle.line_editor.specs.declared.modal_state.Standing.TheVariants.{Searches}
@@ -26,16 +26,16 @@ use Rattle.line_editor.specs.declared.modal_state.Standing.TheVariants.{Searches
 abbrev pub query_in : Modal → List ℕ
 query_in x = if x.fresh then [] else x.query
 
-abbrev pub queried : List ℕ → Modal → Modal
-queried query x = record x { query = query; fresh = false }
+abbrev pub modal_with_query : List ℕ → Modal → Modal
+modal_with_query query x = record x { query = query; fresh = false }
 
 -- without its last character
 abbrev pub without_last : List ℕ → List ℕ
 without_last text = take (last_char text) text
 
 -- it is looked for from where the search began
-abbrev pub erased : Modal → Modal
-erased x = record (queried (without_last (query_in x)) x) { at = x.start }
+abbrev pub modal_after_erase : Modal → Modal
+modal_after_erase x = record (modal_with_query (without_last (query_in x)) x) { at = x.start }
 
 -- ---- the prompt
 
@@ -50,13 +50,13 @@ search_prompt x = heading x.dir x.fails ++ (query_in x ++ codes "': ")
 
 -- ---- what a command is to a search
 
-abbrev pub erased_by : Movement → Act
-erased_by (BackwardChar n) = Erases
-erased_by movement = Ends
+abbrev pub act_of_movement : Movement → Act
+act_of_movement (BackwardChar n) = Erases
+act_of_movement movement = Ends
 
 abbrev pub act_of : Cmd → Act
 act_of (SelfInsert n c) = Types c
-act_of (Kill movement) = erased_by movement
+act_of (Kill movement) = act_of_movement movement
 act_of ReverseSearchHistory = Goes Reverse
 act_of ForwardSearchHistory = Goes Forward
 act_of Abort = Leaves
@@ -74,57 +74,59 @@ next_at Forward at count = if nat_lt (at + 1) count then Some (at + 1) else None
 abbrev pub onward : SearchDirection → Modal → ℕ → Option ℕ
 onward dir x count = if x.fresh then Some x.at else next_at dir x.at count
 
-abbrev pub sought : List ℕ → SearchDirection → Option ℕ → List (List ℕ) → Option Hit
-sought query dir None entries = None
-sought query dir (Some from) entries = searched false query from dir entries
+abbrev pub search_for : List ℕ → SearchDirection → Option ℕ → List (List ℕ) → Option Hit
+search_for query dir None entries = None
+search_for query dir (Some from) entries = search_hit false query from dir entries
 
 -- the search after it; an empty query is not looked for, and doesn't fail
-abbrev pub looked : SearchDirection → Option Hit → Modal → Modal
-looked dir None x = record x { dir = dir; fresh = false; fails = not (length x.query == 0) }
-looked dir (Some hit) x =
+abbrev pub modal_after_look : SearchDirection → Option Hit → Modal → Modal
+modal_after_look dir None x = record x
+    { dir = dir; fresh = false; fails = not (length x.query == 0) }
+modal_after_look dir (Some hit) x =
     record x { dir = dir; fresh = false; fails = false; put = true; at = hit.idx }
 
 -- ---- what it makes of the line
 
 -- the entry that stands in place of the line is undone
-abbrev pub hit_back : Bool → Transition
-hit_back true = taking_back 1
-hit_back false = unchanged
+abbrev pub hit_undo_effect : Bool → Transition
+hit_undo_effect true = undo_effect 1
+hit_undo_effect false = no_effect
 
 -- another one is put there, undone as one with those before it
-abbrev pub hit_put : Bool → List ℕ → ℕ → Transition
-hit_put put entry pos = then_do (hit_back put) (rewriting (updating_in_group entry pos))
+abbrev pub hit_put_effect : Bool → List ℕ → ℕ → Transition
+hit_put_effect put entry pos = then_do (hit_undo_effect put) (edit_effect (update_group entry pos))
 
-abbrev pub found_put : Bool → Option Hit → Transition
-found_put put None = unchanged
-found_put put (Some hit) = hit_put put hit.entry hit.pos
+abbrev pub put_hit_effect : Bool → Option Hit → Transition
+put_hit_effect put None = no_effect
+put_hit_effect put (Some hit) = hit_put_effect put hit.entry hit.pos
 
 -- drawn after the search's prompt, which takes memory
 abbrev pub search_drawn : Modal → Transition
-search_drawn x = then_do taking_memory (refreshed_behind (search_prompt x))
+search_drawn x = then_do memory_effect (refresh_effect_behind (search_prompt x))
 
-abbrev pub found_drawn : SearchDirection → Option Hit → Modal → Transition
-found_drawn dir hit x = then_do (found_put x.put hit) (search_drawn (looked dir hit x))
+abbrev pub search_shown_effect : SearchDirection → Option Hit → Modal → Transition
+search_shown_effect dir hit x = then_do (put_hit_effect x.put hit)
+    (search_drawn (modal_after_look dir hit x))
 
 abbrev pub look : SearchDirection → Option ℕ → Modal → Transition
-look dir from x s v = found_drawn dir (sought x.query dir from s.entries) x s v
+look dir from x s v = search_shown_effect dir (search_for x.query dir from s.entries) x s v
 
 -- the line and its cursor as they were before the search
 abbrev pub is_place : ℕ → Line → Bool
 is_place place l = nat_le place (length l.text) && not (is_inside_char l.text place)
 
-abbrev pub placed : ℕ → Line → Line
-placed place l = if is_place place l then record l { place = place } else l
+abbrev pub line_at_place : ℕ → Line → Line
+line_at_place place l = if is_place place l then record l { place = place } else l
 
-abbrev pub placing : ℕ → Transition
-placing place s v = record { value = at_line (placed place v.line) v; steps = [] }
+abbrev pub place_effect : ℕ → Transition
+place_effect place s v = record { value = at_line (line_at_place place v.line) v; steps = [] }
 
-abbrev pub given_up : Modal → Transition
-given_up x = then_do (hit_back x.put) (then_do (placing x.place) refreshed)
+abbrev pub give_up_effect : Modal → Transition
+give_up_effect x = then_do (hit_undo_effect x.put) (then_do (place_effect x.place) refresh_effect)
 
 -- from the entry that is shown on, or from the last one
-abbrev pub begun_at : SearchDirection → ℕ → Value → Modal → Modal
-begun_at dir count v x = record x {
+abbrev pub modal_at_search_start : SearchDirection → ℕ → Value → Modal → Modal
+modal_at_search_start dir count v x = record x {
   standing = Searches;
   fresh = true;
   dir = dir;
@@ -137,7 +139,7 @@ begun_at dir count v x = record x {
 
 abbrev pub begin_search : SearchDirection → Modal → Transition
 begin_search dir x s v =
-    then_do close_groups (search_drawn (begun_at dir (length s.entries) v x)) s v
+    then_do close_groups (search_drawn (modal_at_search_start dir (length s.entries) v x)) s v
 
 -- ---- the last query once more, without a prompt
 
@@ -154,60 +156,61 @@ from_again dir x shown count =
 
 abbrev pub hit_again : SearchAgain → Modal → Setting → Value → Option Hit
 hit_again way x s v = let dir = dir_again way x.dir in
-    sought x.query dir (from_again dir x v.history (length s.entries)) s.entries
+    search_for x.query dir (from_again dir x v.history (length s.entries)) s.entries
 
 -- it replaces the line, undone as one
-abbrev pub put_again : List ℕ → ℕ → Transition
-put_again entry pos =
-    then_do close_groups (then_do (rewriting (updating_in_group entry pos)) refreshed)
+abbrev pub put_again_effect : List ℕ → ℕ → Transition
+put_again_effect entry pos =
+    then_do close_groups (then_do (edit_effect (update_group entry pos)) refresh_effect)
 
-abbrev pub found_again : Option Hit → Modal → Setting → Value → Meeting
-found_again None x s v = takes beeped x s v
-found_again (Some hit) x s v =
-    takes (put_again hit.entry hit.pos) (record x { fresh = false; at = hit.idx }) s v
+abbrev pub search_again_meeting : Option Hit → Modal → Setting → Value → Meeting
+search_again_meeting None x s v = takes beep_effect x s v
+search_again_meeting (Some hit) x s v =
+    takes (put_again_effect hit.entry hit.pos) (record x { fresh = false; at = hit.idx }) s v
 
 abbrev pub search_again : SearchAgain → Modal → Setting → Value → Meeting
-search_again way x s v = found_again (hit_again way x s v) x s v
+search_again way x s v = search_again_meeting (hit_again way x s v) x s v
 
 -- ---- what it makes of a command
 
 -- in an empty history nothing is searched
-abbrev pub begun_if : Bool → SearchDirection → Modal → Cmd → Setting → Value → Meeting
-begun_if true dir x cmd s v = passed x cmd v
-begun_if false dir x cmd s v =
-    takes (begin_search dir x) (begun_at dir (length s.entries) v x) s v
+abbrev pub search_start_if : Bool → SearchDirection → Modal → Cmd → Setting → Value → Meeting
+search_start_if true dir x cmd s v = pass_meeting x cmd v
+search_start_if false dir x cmd s v =
+    takes (begin_search dir x) (modal_at_search_start dir (length s.entries) v x) s v
 
 abbrev pub looks : SearchDirection → Option ℕ → Modal → Setting → Value → Meeting
 looks dir from x s v =
-    takes (look dir from x) (looked dir (sought x.query dir from s.entries) x) s v
+    takes (look dir from x) (modal_after_look dir (search_for x.query dir from s.entries) x) s v
 
 abbrev pub looks_on : SearchDirection → Modal → Setting → Value → Meeting
-looks_on dir x s v = looks dir (onward dir x (length s.entries)) (queried x.query x) s v
+looks_on dir x s v = looks dir (onward dir x (length s.entries)) (modal_with_query x.query x) s v
 
 -- a character that is typed takes memory
-abbrev pub typed_in : ℕ → Modal → Modal
-typed_in c x = queried (query_in x ++ encode_utf8 c) x
+abbrev pub modal_with_char : ℕ → Modal → Modal
+modal_with_char c x = modal_with_query (query_in x ++ encode_utf8 c) x
 
-abbrev pub typed_effect : ℕ → Modal → Transition
-typed_effect c x = then_do taking_memory (look x.dir (Some x.at) (typed_in c x))
+abbrev pub type_effect : ℕ → Modal → Transition
+type_effect c x = then_do memory_effect (look x.dir (Some x.at) (modal_with_char c x))
 
 abbrev pub looks_typed : ℕ → Modal → Setting → Value → Meeting
 looks_typed c x s v =
-    takes (typed_effect c x) (looks x.dir (Some x.at) (typed_in c x) s v).modal s v
+    takes (type_effect c x) (looks x.dir (Some x.at) (modal_with_char c x) s v).modal s v
 
 -- if the query is empty, the line is shown as it was before the search
-abbrev pub emptied : Modal → Modal
-emptied x = record x { fails = false; put = false }
+abbrev pub modal_with_empty_query : Modal → Modal
+modal_with_empty_query x = record x { fails = false; put = false }
 
-abbrev pub emptied_effect : Modal → Transition
-emptied_effect x = then_do (hit_back x.put) (then_do (placing x.place) (search_drawn (emptied x)))
+abbrev pub empty_query_effect : Modal → Transition
+empty_query_effect x = then_do (hit_undo_effect x.put)
+    (then_do (place_effect x.place) (search_drawn (modal_with_empty_query x)))
 
 abbrev pub looks_again : Bool → Modal → Setting → Value → Meeting
-looks_again true x s v = takes (emptied_effect x) (emptied x) s v
+looks_again true x s v = takes (empty_query_effect x) (modal_with_empty_query x) s v
 looks_again false x s v = looks x.dir (Some x.start) x s v
 
 abbrev pub looks_erased : Modal → Setting → Value → Meeting
-looks_erased x s v = looks_again (length (erased x).query == 0) (erased x) s v
+looks_erased x s v = looks_again (length (modal_after_erase x).query == 0) (modal_after_erase x) s v
 
-abbrev pub erased_effect : Modal → Transition
-erased_effect x s v = (looks_erased x s v).effect
+abbrev pub erase_effect : Modal → Transition
+erase_effect x s v = (looks_erased x s v).effect

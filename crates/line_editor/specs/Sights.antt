@@ -1,15 +1,15 @@
 -- What steps show, without a screen.
 use Rattle.std.specs.Prelude.{◌≡◌, ⊤, ℕ, ◌+◌, Bool, true, false, List, [], ◌∷◌, ◌++◌, length, Option, Some, None}
 use Rattle.std.specs.List.{list_all}
-use Rattle.line_buffer.specs.Printable.{is_printable, at_plain_end, typed_at_end}
-use Rattle.line_editor.specs.Calls.{Marks}
+use Rattle.line_buffer.specs.Printable.{is_printable, is_plain, at_plain_end, is_typed_at_end}
+use Rattle.line_editor.specs.RenderCalls.{Marks}
 use Rattle.line_editor.specs.Redraws.{Redraw, info_text}
-use Rattle.line_editor.specs.Redraws.Redraw.{Drawn, Moved, Typed, Taken, Bared, ToEnd, Beeped, Cleared}
+use Rattle.line_editor.specs.Redraws.Redraw.{Drawn, Moved, Typed, Taken, PutIn, TakenOut, Bared, ToEnd, Beeped, Cleared}
 use Rattle.line_editor.specs.Values.{Value, Setting, EditStep, shown_marks}
 use Rattle.line_editor.specs.Values.EditStep.{Draws}
 use Rattle.line_help.specs.Paints.{first_mark}
-use Rattle.line_help.specs.declared.style.Part.TheVariants.{Prompt as OfPrompt, Line as OfLine, Hint as OfHint}
-use Rattle.line_help.specs.declared.style.Span.{Span}
+use Rattle.line_help.specs.declared.helpers.style.Part.TheVariants.{Prompt as OfPrompt, Line as OfLine, Hint as OfHint}
+use Rattle.line_help.specs.declared.helpers.style.Span.{Span}
 
 -- ---- the styles of a drawing
 
@@ -73,6 +73,8 @@ sight_drawn x marks (Drawn prompt given text place info) =
 sight_drawn x marks (Moved text place) = record x { place = place; ended = false }
 sight_drawn x marks (Typed prompt c text place) = sight_as marks prompt text place None
 sight_drawn x marks (Taken prompt count text place) = sight_as marks prompt text place None
+sight_drawn x marks (PutIn prompt c text place) = sight_as marks prompt text place None
+sight_drawn x marks (TakenOut prompt count text place) = sight_as marks prompt text place None
 sight_drawn x marks (Bared prompt text place) = x
 sight_drawn x marks ToEnd = record x { ended = true }
 sight_drawn x marks Beeped = x
@@ -91,7 +93,7 @@ pub record SameStyles (x : Sight) (marks : Option Marks) (prompt text : List ℕ
 
 pub record TypedFits (x : Sight) (prompt : List ℕ) (c : ℕ) (text : List ℕ)
     (place : ℕ) : Type 0 where
-  pub typed : typed_at_end true c x.line x.place ≡ true
+  pub typed : is_typed_at_end true c x.line x.place ≡ true
   pub prompt_is : prompt ≡ x.prompt
   pub text_is : text ≡ x.line ++ c ∷ []
   pub behind : place ≡ x.place + 1
@@ -105,6 +107,32 @@ pub record TakenFits (x : Sight) (prompt : List ℕ) (count : ℕ) (text : List 
   pub printable : list_all is_printable killed ≡ true
   pub prompt_is : prompt ≡ x.prompt
 
+-- a character put at the cursor
+pub record PutInFits (x : Sight) (prompt : List ℕ) (c : ℕ) (text : List ℕ)
+    (place : ℕ) : Type 0 where
+  pub before : List ℕ
+  pub rest : List ℕ
+  pub whole : x.line ≡ before ++ rest
+  pub text_is : text ≡ before ++ c ∷ rest
+  pub at : x.place ≡ length before
+  pub behind : place ≡ length before + 1
+  pub plain : is_plain x.line ≡ true
+  pub printable : is_printable c ≡ true
+  pub prompt_is : prompt ≡ x.prompt
+
+-- characters deleted from the new cursor on
+pub record TakenOutFits (x : Sight) (prompt : List ℕ) (count : ℕ) (text : List ℕ)
+    (place : ℕ) : Type 0 where
+  pub before : List ℕ
+  pub killed : List ℕ
+  pub rest : List ℕ
+  pub whole : x.line ≡ before ++ (killed ++ rest)
+  pub text_is : text ≡ before ++ rest
+  pub count_is : count ≡ length killed
+  pub at : place ≡ length before
+  pub plain : is_plain x.line ≡ true
+  pub prompt_is : prompt ≡ x.prompt
+
 -- when each redraw is allowed; `own` is the session's prompt
 abbrev pub FitsDrawn : List ℕ → Sight → Option Marks → Redraw → Type 0
 FitsDrawn own x marks (Drawn prompt given text place info) = given ≡ true → prompt ≡ own
@@ -114,6 +142,12 @@ FitsDrawn own x marks (Typed prompt c text place) =
     × SameStyles x marks prompt text place
 FitsDrawn own x marks (Taken prompt count text place) =
     (x.given ≡ true) × (prompt ≡ own) × TakenFits x prompt count text place
+    × SameStyles x marks prompt text place
+FitsDrawn own x marks (PutIn prompt c text place) =
+    (x.given ≡ true) × (prompt ≡ own) × (x.ended ≡ false) × PutInFits x prompt c text place
+    × SameStyles x marks prompt text place
+FitsDrawn own x marks (TakenOut prompt count text place) =
+    (x.given ≡ true) × (prompt ≡ own) × TakenOutFits x prompt count text place
     × SameStyles x marks prompt text place
 FitsDrawn own x marks (Bared prompt text place) = x.given ≡ true
 FitsDrawn own x marks redraw = ⊤
@@ -141,6 +175,8 @@ abbrev pub info_drawn : Option (List ℕ) → Redraw → Option (List ℕ)
 info_drawn info (Drawn prompt given text place new) = new
 info_drawn info (Typed prompt c text place) = None
 info_drawn info (Taken prompt count text place) = None
+info_drawn info (PutIn prompt c text place) = None
+info_drawn info (TakenOut prompt count text place) = None
 info_drawn info Cleared = None
 info_drawn info redraw = info
 

@@ -4,22 +4,24 @@ use Rattle.std.specs.Prelude.{◌≡◌, ⊤, ℕ, Bool, false, if◌then◌else
 use Rattle.std.specs.List.{FoldsTo}
 use Rattle.line_buffer.specs.Cells.{origin}
 use Rattle.line_config.specs.declared.config.Config.{Config}
+use Rattle.line_config.specs.declared.errors.HookFault.{HookFault}
+use Rattle.line_config.specs.declared.errors.HookFault.TheVariants.{Failed, Memory as OutOfMemory}
 use Rattle.line_config.specs.declared.errors.ReadlineError.{ReadlineError}
 use Rattle.line_config.specs.declared.errors.ReadlineError.TheVariants.{Display, Helper, Memory}
 use Rattle.line_keys.specs.Refreshing.{KnownDisplay}
 use Rattle.line_keys.specs.Replies.{Reply, fails}
 use Rattle.line_help.specs.declared.completion.Completer as completers
 use Rattle.line_help.specs.declared.completion.Candidate as candidates
-use Rattle.line_help.specs.declared.hint.Hinter as hinters
-use Rattle.line_help.specs.declared.hint.Hint as hints
-use Rattle.line_help.specs.declared.highlight.Highlighter as highlighters
-use Rattle.line_help.specs.declared.validate.Validator as validators
+use Rattle.line_help.specs.declared.helpers.hint.Hinter as hinters
+use Rattle.line_help.specs.declared.helpers.hint.Hint as hints
+use Rattle.line_help.specs.declared.helpers.highlight.Highlighter as highlighters
+use Rattle.line_help.specs.declared.helpers.validate.Validator as validators
 use Rattle.line_help.specs.declared.history.History as histories
-use Rattle.line_record.specs.Items.{held_on}
+use Rattle.line_record.specs.Items.{record_on}
 use Rattle.line_editor.specs.Asks.{shown_in, ask_effect}
-use Rattle.line_editor.specs.Calls.{MadeIn}
+use Rattle.line_editor.specs.RenderCalls.{MadeIn}
 use Rattle.line_editor.specs.Redraws.{fresh}
-use Rattle.line_editor.specs.Steps.{asked, Surface, surface, Stops}
+use Rattle.line_editor.specs.EditSteps.{calls_of_steps, Surface, surface, CutEditSteps}
 use Rattle.line_editor.specs.Values.{Value, Setting, Hooks, empty_at, hooks_by, Transition, IsFailing}
 use Rattle.line_editor.specs.declared.renderer.Renderer as renderers
 use Rattle.line_editor.specs.declared.state.State.{State}
@@ -39,6 +41,11 @@ pub record Helps {A B : Type 0} (reply : Option (Reply A)) (result : Result B Re
     : Type 0 where
   pub works : OnOk result (IsFalse (fails_by reply))
   pub fault : IfErr result (IsHelpFault reply)
+
+-- the error of a hook's fault
+abbrev pub error_of : HookFault → ReadlineError
+error_of Failed = Helper
+error_of OutOfMemory = Memory
 
 -- why an edit fails: the display has failed, a hook fails, or memory ran out
 abbrev pub reason_of : Bool → Type 0 → ReadlineError → Type 0
@@ -63,7 +70,7 @@ module _ {Out H Hi K T : Type 0} {renderer : renderers.Ghosts Out}
       → Value
   value_of s = record {
     line = s.recorded.line;
-    held = held_on s.recorded.changes s.recorded.line.text;
+    held = record_on s.recorded.changes s.recorded.line.text;
     saved = record { text = string_bytes s.saved.text; place = s.saved.pos };
     history = s.ctx.place;
     hint = option_map hint.says s.hint;
@@ -118,15 +125,15 @@ module _ {Out H Hi K T : Type 0} {renderer : renderers.Ghosts Out}
     pub value : OnOk result (value_of t ≡ (edit (setting_of s) (value_of s)).value)
     pub calls : OnOk result
         (FoldsTo (MadeIn renderer.canvas) s.out
-        (asked (renderer.canvas.ruler s.out) s.layout
+        (calls_of_steps (renderer.canvas.ruler s.out) s.layout
         (edit (setting_of s) (value_of s)).steps).calls t.out)
     pub layout : OnOk result
         (t.layout
-        ≡ (asked (renderer.canvas.ruler s.out) s.layout
+        ≡ (calls_of_steps (renderer.canvas.ruler s.out) s.layout
         (edit (setting_of s) (value_of s)).steps).layout)
     pub stays : Stays s t
     pub reason : IfErr result (Reason t)
-    pub stops : IfErr result (λ fault. Stops renderer.canvas (renderer.canvas.ruler s.out)
+    pub stops : IfErr result (λ fault. CutEditSteps renderer.canvas (renderer.canvas.ruler s.out)
         (edit (setting_of s) (value_of s)).steps (surface_of s) fault (value_of t) (surface_of t))
 
   -- an edit that only draws: only the display can make it fail

@@ -5,19 +5,19 @@ use Rattle.line_buffer.specs.declared.layout.GraphemeClusterMode.{GraphemeCluste
 use Rattle.line_buffer.specs.declared.layout.TabStops.{TabStops}
 use Rattle.line_config.specs.declared.config.Config.{Config}
 use Rattle.line_edits.specs.Edits.{by}
-use Rattle.line_edits.specs.Steps.{WriteSteps, answering}
+use Rattle.line_edits.specs.WriteSteps.{WriteSteps, with_answer}
 use Rattle.line_edits.specs.Written.{Written, group_opened, group_closed}
 use Rattle.line_help.specs.Completion.{Completion}
 use Rattle.line_help.specs.Hints.{Hinted, Answers}
-use Rattle.line_help.specs.declared.style.Mark.{Mark}
-use Rattle.line_help.specs.declared.style.Part.{Part}
-use Rattle.line_help.specs.declared.style.Part.TheVariants.{Line as OfLine, Hint as OfHint, Message}
-use Rattle.line_help.specs.declared.style.Span.{Span}
+use Rattle.line_help.specs.declared.helpers.style.Mark.{Mark}
+use Rattle.line_help.specs.declared.helpers.style.Part.{Part}
+use Rattle.line_help.specs.declared.helpers.style.Part.TheVariants.{Line as OfLine, Hint as OfHint, Message}
+use Rattle.line_help.specs.declared.helpers.style.Span.{Span}
 use Rattle.line_keys.specs.Replies.{Reply, fails}
-use Rattle.line_help.specs.declared.validate.ValidationResult.{ValidationResult}
+use Rattle.line_help.specs.declared.helpers.validate.ValidationResult.{ValidationResult}
 use Rattle.line_keys.specs.declared.command.CmdKind.{CmdKind}
-use Rattle.line_record.specs.Held.{Held}
-use Rattle.line_editor.specs.Calls.{Marks}
+use Rattle.line_record.specs.Held.{HeldItem}
+use Rattle.line_editor.specs.RenderCalls.{Marks}
 use Rattle.line_editor.specs.Redraws.{Redraw}
 
 -- the line saved on leaving the history's end
@@ -27,7 +27,7 @@ pub record Saved : Type 0 where
 
 pub record Value : Type 0 where
   pub line : Line
-  pub held : List Held
+  pub held : List HeldItem
   pub saved : Saved
   -- the place in the history
   pub history : ℕ
@@ -117,17 +117,17 @@ seen_marks marked told m = record {
   paints = seen_paints marked told m.paints;
 }
 
-abbrev pub seen : Bool → Bool → Option Marks → Option Marks
-seen marked told marks = option_map (seen_marks marked told) marks
+abbrev pub marks_seen : Bool → Bool → Option Marks → Option Marks
+marks_seen marked told marks = option_map (seen_marks marked told) marks
 
 -- what the drawing of a value takes of them: a text after a line without a hint is a message
 abbrev pub shown_marks : Value → Option Marks → Option Marks
-shown_marks v marks = seen v.marked (not (is_some v.hint)) marks
+shown_marks v marks = marks_seen v.marked (not (is_some v.hint)) marks
 
 -- ---- one edit, then another
 
-abbrev pub unchanged : Transition
-unchanged s v = record { value = v; steps = [] }
+abbrev pub no_effect : Transition
+no_effect s v = record { value = v; steps = [] }
 
 abbrev pub then_do : Transition → Transition → Transition
 then_do first second s v =
@@ -136,34 +136,35 @@ then_do first second s v =
       steps = (first s v).steps ++ (second s (first s v).value).steps;
     }
 
-abbrev pub redrawn : Redraw → Transition
-redrawn x s v = record { value = v; steps = Draws v s.marks x ∷ [] }
+abbrev pub draw_effect : Redraw → Transition
+draw_effect x s v = record { value = v; steps = Draws v s.marks x ∷ [] }
 
 -- memory is taken for something that isn't part of the value
-abbrev pub taking_memory : Transition
-taking_memory s v = record { value = v; steps = Takes v ∷ [] }
+abbrev pub memory_effect : Transition
+memory_effect s v = record { value = v; steps = Takes v ∷ [] }
 
 -- ---- the line with its record
 
-abbrev pub written_of : Value → Written
-written_of v = record { line = v.line; held = v.held }
+abbrev pub line_and_record_of : Value → Written
+line_and_record_of v = record { line = v.line; held = v.held }
 
-abbrev pub rewritten : (Written → Written) → Value → Value
-rewritten edit v = record v { line = (edit (written_of v)).line; held = (edit (written_of v)).held }
+abbrev pub value_with_edit : (Written → Written) → Value → Value
+value_with_edit edit v = record v
+    { line = (edit (line_and_record_of v)).line; held = (edit (line_and_record_of v)).held }
 
 -- the steps of an edit; nothing is drawn
-abbrev pub rewriting : {A : Type 0} → (Line → WriteSteps A) → Transition
-rewriting edit s v = record {
-  value = rewritten (by edit) v;
-  steps = Edits v (answering tt (edit v.line)) ∷ [];
+abbrev pub edit_effect : {A : Type 0} → (Line → WriteSteps A) → Transition
+edit_effect edit s v = record {
+  value = value_with_edit (by edit) v;
+  steps = Edits v (with_answer tt (edit v.line)) ∷ [];
 }
 
 -- a group opened, which takes memory, and all groups closed, which can't fail
 abbrev pub open_group : Transition
-open_group s v = record { value = rewritten group_opened v; steps = Takes v ∷ [] }
+open_group s v = record { value = value_with_edit group_opened v; steps = Takes v ∷ [] }
 
 abbrev pub close_groups : Transition
-close_groups s v = record { value = rewritten group_closed v; steps = [] }
+close_groups s v = record { value = value_with_edit group_closed v; steps = [] }
 
 abbrev pub at_line : Line → Value → Value
 at_line line v = record v { line = line }
@@ -185,9 +186,9 @@ abbrev pub update_reply : ℕ → List ℕ → Setting → Value → Option (Rep
 update_reply start text s v = option_map (λ h. h.updates v.line start text) s.hooks
 
 -- a hook is called, if there is a helper
-abbrev pub helped : {A : Type 0} → Value → Option (Reply A) → List EditStep
-helped v None = []
-helped v (Some reply) = Helped v (fails reply) reply.takes ∷ []
+abbrev pub help_steps : {A : Type 0} → Value → Option (Reply A) → List EditStep
+help_steps v None = []
+help_steps v (Some reply) = Helped v (fails reply) reply.takes ∷ []
 
 -- a hook fails at some input
 pub record IsFailing (hooks : Option Hooks) : Type 0 where
@@ -229,10 +230,10 @@ shown_hint v = option_map (λ h. h.display) v.hint
 
 -- ---- highlighted characters
 
-abbrev pub marked_by : Option Marks → List ℕ → ℕ → CmdKind → Bool
-marked_by None text place kind = false
-marked_by (Some marks) text place kind = marks.marked text place kind
+abbrev pub is_marked_by : Option Marks → List ℕ → ℕ → CmdKind → Bool
+is_marked_by None text place kind = false
+is_marked_by (Some marks) text place kind = marks.marked text place kind
 
 -- new marks
 abbrev pub with_mark : CmdKind → Setting → Value → Value
-with_mark kind s v = record v { marked = marked_by s.marks v.line.text v.line.place kind }
+with_mark kind s v = record v { marked = is_marked_by s.marks v.line.text v.line.place kind }

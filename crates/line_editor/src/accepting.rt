@@ -1,9 +1,10 @@
 //! Accepts lines.
 ghost use Rattle.std.specs.Prelude.{◌≡◌, IfOk, OnOk, option_copied};
 
+use crate::faults::error_of;
 use crate::renderer::Renderer;
 use crate::state::State;
-use line_config::{HookFault, ReadlineError};
+use line_config::ReadlineError;
 use line_help::{Helper, History, ValidationContext, ValidationResult, Validator};
 use line_keys::{CmdKind, Text};
 
@@ -11,7 +12,7 @@ use line_keys::{CmdKind, Text};
 impl<'p, 'h, Out: Renderer, H: Helper + Drop, Hi: History> State<'p, 'h, Out, H, Hi> {
     ghost use Rattle.line_editor.specs.States.{value_of, setting_of, Does, Renders, Helps, Stays};
     ghost use Rattle.line_editor.specs.Values.{verdict_reply};
-    ghost use Rattle.line_editor.specs.Accepting.{bare, verdict, told_if, verdict_told, closed_and_told, opened_and_asked, validate, accepts_found, newline, accept, accepts, newline_if, accept_or_insert, submitted};
+    ghost use Rattle.line_editor.specs.Accepting.{bare, verdict, message_effect_if, verdict_told, verdict_effect, group_and_verdict_effect, validate, accepts_found, newline, accept, accepts, newline_if, accept_or_insert, submit_effect};
 
     /// Draws the line as it was typed, without hint and highlighted character. Draws nothing if
     /// there is neither and the session's own prompt is shown.
@@ -29,6 +30,7 @@ impl<'p, 'h, Out: Renderer, H: Helper + Drop, Hi: History> State<'p, 'h, Out, H,
     }
 
     /// The helper's verdict on the line.
+    #[tactic(auto, using(crate::proofs::HelpedLemmas::fault_told))]
     fn judge(&self) -> Result<ValidationResult, ReadlineError>
         ensures verdict { IfOk result
             (λ found. found ≡ verdict (setting_of self.now) (value_of self.now)) }
@@ -40,8 +42,7 @@ impl<'p, 'h, Out: Renderer, H: Helper + Drop, Hi: History> State<'p, 'h, Out, H,
         let text = self.recorded.line.as_str();
         match helper.validate(self.alloc, &ValidationContext::new(text)) {
             Ok(found) => Ok(found),
-            Err(HookFault::Failed) => Err(ReadlineError::Helper),
-            Err(HookFault::Memory) => Err(ReadlineError::Memory),
+            Err(fault) => Err(error_of(fault)),
         }
     }
 
@@ -64,7 +65,7 @@ impl<'p, 'h, Out: Renderer, H: Helper + Drop, Hi: History> State<'p, 'h, Out, H,
         text: &Option<Text>,
         kind: CmdKind,
     ) -> Result<(), ReadlineError>
-        ensures { Renders (told_if draws text.now kind) self.old self.new result }
+        ensures { Renders (message_effect_if draws text.now kind) self.old self.new result }
     {
         if draws || text.is_some() {
             self.tell(text_of(text), kind)
@@ -75,7 +76,7 @@ impl<'p, 'h, Out: Renderer, H: Helper + Drop, Hi: History> State<'p, 'h, Out, H,
 
     /// Closes the groups, and shows the verdict.
     fn close_and_tell(&mut self, found: &ValidationResult) -> Result<(), ReadlineError>
-        ensures { Renders (closed_and_told found.now) self.old self.new result }
+        ensures { Renders (verdict_effect found.now) self.old self.new result }
     {
         let recorded = &mut self.recorded;
         let ended = recorded.changes.end(self.alloc)?;
@@ -85,7 +86,7 @@ impl<'p, 'h, Out: Renderer, H: Helper + Drop, Hi: History> State<'p, 'h, Out, H,
 
     /// Opens a group, and calls the helper to validate the line.
     fn open_and_ask(&mut self) -> Result<ValidationResult, ReadlineError>
-        ensures does { Does opened_and_asked self.old self.new result }
+        ensures does { Does group_and_verdict_effect self.old self.new result }
         ensures verdict { IfOk result
             (λ found. found ≡ verdict (setting_of self.old) (value_of self.old)) }
     {
@@ -169,7 +170,7 @@ impl<'p, 'h, Out: Renderer, H: Helper + Drop, Hi: History> State<'p, 'h, Out, H,
     /// Ends an accepted line: moves the cursor to the text's end, then the display's cursor behind
     /// the drawing.
     pub(crate) fn submit(&mut self) -> Result<(), ReadlineError>
-        ensures { Renders submitted self.old self.new result }
+        ensures { Renders submit_effect self.old self.new result }
     {
         self.edit_move_buffer_end(CmdKind::ForcedRefresh)?;
         self.move_cursor_to_end()

@@ -2,8 +2,8 @@
 ghost use Rattle.std.specs.Prelude.{◌≡◌, ◌≤◌, ◌++◌, true, is_some, map, take, option_copied, string_bytes, IfErr, IfSome, OnOk, IsCharBoundary};
 ghost use Rattle.line_config.specs.Refusals.{OrMemory};
 ghost use Rattle.line_config.specs.declared.errors.ReadlineError.TheVariants.{Memory};
-ghost use Rattle.line_editor.specs.Candidates.{only_put, only_completed, rows_of, more_row, list_text, list_shown, listed, list_standing, candidate_at, turned, turned_modal, cycle_begun, cycle_first, cycle_back, next_turned, next_modal, asked_turned, asked_modal, cycled, cycle, several, several_modal, offered, offered_modal, tab_effect, tab};
-ghost use Rattle.line_editor.specs.Completing.{elected};
+ghost use Rattle.line_editor.specs.Candidates.{only_put, only_completed, rows_of, more_row, list_text, list_shown, list_effect, list_standing, candidate_at, turn_effect, modal_after_turn, cycle_begun, cycle_first, cycle_back, next_turned, next_modal, ask_and_turn_effect, modal_after_ask, cycle_effect, cycle, several, several_modal, offer_effect, modal_after_offer, tab_effect, tab};
+ghost use Rattle.line_editor.specs.Completing.{common_text};
 ghost use Rattle.line_editor.specs.Modal.{modal_of};
 
 use crate::completing::{begins_word, elected};
@@ -113,10 +113,10 @@ fn list_text<C: Candidate>(
 
 impl<'p, 'h, Out: Renderer, H: Helper + Drop, Hi: History> State<'p, 'h, Out, H, Hi> {
     ghost use Rattle.line_editor.specs.Completing.{candidates_given};
-    ghost use Rattle.line_editor.specs.Drawing.{beeped, refreshed};
+    ghost use Rattle.line_editor.specs.Drawing.{beep_effect, refresh_effect};
     ghost use Rattle.line_editor.specs.States.{value_of, setting_of, Does};
     ghost use Rattle.line_editor.specs.Values.{completion_reply, then_do};
-    ghost use Rattle.line_editor.specs.Turning.{MeetsAs};
+    ghost use Rattle.line_editor.specs.Turn.{MeetsAs};
 
     /// Replaces the word by the only candidate. Beeps if there is none.
     fn complete_only(
@@ -154,11 +154,11 @@ impl<'p, 'h, Out: Renderer, H: Helper + Drop, Hi: History> State<'p, 'h, Out, H,
         candidates: &[H::Candidate],
     ) -> Result<(), ReadlineError>
         requires { is_some self.old.helper ≡ true }
-        ensures does { Does (listed lists modal.old.limit
+        ensures does { Does (list_effect lists modal.old.limit
             (record { start = start; candidates = map H.Candidate.offers candidates.now }))
             self.old self.new result }
         ensures modal { OnOk result (modal_of modal.new ≡ record (modal_of modal.old) {
-          standing = list_standing lists (elected
+          standing = list_standing lists (common_text
               (record { start = start; candidates = map H.Candidate.offers candidates.now })
               self.old.recorded.line);
         }) }
@@ -181,7 +181,7 @@ impl<'p, 'h, Out: Renderer, H: Helper + Drop, Hi: History> State<'p, 'h, Out, H,
 
     /// Draws the word as it was, with a beep.
     fn show_own_word(&mut self) -> Result<(), ReadlineError>
-        ensures { Does (then_do refreshed beeped) self.old self.new result }
+        ensures { Does (then_do refresh_effect beep_effect) self.old self.new result }
     {
         self.refresh()?;
         self.beep()
@@ -196,10 +196,10 @@ impl<'p, 'h, Out: Renderer, H: Helper + Drop, Hi: History> State<'p, 'h, Out, H,
         candidates: &[H::Candidate],
     ) -> Result<(), ReadlineError>
         requires { is_some self.old.helper ≡ true }
-        ensures does { Does (turned at
+        ensures does { Does (turn_effect at
             (record { start = start; candidates = map H.Candidate.offers candidates.now }))
             self.old self.new result }
-        ensures modal { OnOk result (modal_of modal.new ≡ turned_modal at
+        ensures modal { OnOk result (modal_of modal.new ≡ modal_after_turn at
             (record { start = start; candidates = map H.Candidate.offers candidates.now })
             self.old.recorded.line (modal_of modal.old)) }
     {
@@ -269,10 +269,10 @@ impl<'p, 'h, Out: Renderer, H: Helper + Drop, Hi: History> State<'p, 'h, Out, H,
         candidates: &[H::Candidate],
     ) -> Result<(), ReadlineError>
         requires { is_some self.old.helper ≡ true }
-        ensures does { Does (offered lists (modal_of modal.old)
+        ensures does { Does (offer_effect lists (modal_of modal.old)
             (record { start = start; candidates = map H.Candidate.offers candidates.now }))
             self.old self.new result }
-        ensures modal { OnOk result (modal_of modal.new ≡ offered_modal lists
+        ensures modal { OnOk result (modal_of modal.new ≡ modal_after_offer lists
             (record { start = start; candidates = map H.Candidate.offers candidates.now })
             self.old.recorded.line (modal_of modal.old)) }
     {
@@ -288,7 +288,7 @@ impl<'p, 'h, Out: Renderer, H: Helper + Drop, Hi: History> State<'p, 'h, Out, H,
         requires { is_some self.old.helper ≡ true }
         ensures does { Does (λ s v. tab_effect lists (modal_of modal.old)
             (candidates_given (completion_reply s v)) s v) self.old self.new result }
-        ensures modal { OnOk result (modal_of modal.new ≡ offered_modal lists
+        ensures modal { OnOk result (modal_of modal.new ≡ modal_after_offer lists
             (candidates_given (completion_reply (setting_of self.old) (value_of self.old)))
             self.old.recorded.line (modal_of modal.old)) }
     {
@@ -349,8 +349,9 @@ impl<'p, 'h, Out: Renderer, H: Helper + Drop, Hi: History> State<'p, 'h, Out, H,
         dir: SearchDirection,
     ) -> Result<(), ReadlineError>
         requires { is_some self.old.helper ≡ true }
-        ensures does { Does (asked_turned dir (modal_of modal.old)) self.old self.new result }
-        ensures modal { OnOk result (modal_of modal.new ≡ asked_modal dir (modal_of modal.old)
+        ensures does { Does (ask_and_turn_effect dir (modal_of modal.old)) self.old self.new
+            result }
+        ensures modal { OnOk result (modal_of modal.new ≡ modal_after_ask dir (modal_of modal.old)
             (setting_of self.old) (value_of self.old)) }
     {
         let (start, candidates) = self.candidates()?;
@@ -360,8 +361,8 @@ impl<'p, 'h, Out: Renderer, H: Helper + Drop, Hi: History> State<'p, 'h, Out, H,
     /// The next candidate in a direction.
     fn turn_on(&mut self, modal: &mut ModalState, dir: SearchDirection) -> Result<(), ReadlineError>
         requires { is_some self.old.helper ≡ true }
-        ensures does { Does (cycled dir (modal_of modal.old)) self.old self.new result }
-        ensures modal { OnOk result (modal_of modal.new ≡ asked_modal dir (modal_of modal.old)
+        ensures does { Does (cycle_effect dir (modal_of modal.old)) self.old self.new result }
+        ensures modal { OnOk result (modal_of modal.new ≡ modal_after_ask dir (modal_of modal.old)
             (setting_of self.old)
             (cycle_back (modal_of modal.old) (setting_of self.old) (value_of self.old)).value) }
     {

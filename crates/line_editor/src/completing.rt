@@ -1,11 +1,12 @@
 //! Completion of the word before the cursor.
 ghost use Rattle.std.specs.Prelude.{◌≡◌, ◌≤◌, false, true, is_some, map, IfErr, IfOk, IfSome, OnOk, OnErr, IsCharBoundary, IsTrue, option_copied};
-ghost use Rattle.line_edits.specs.Written.{Writes, written, written_in};
+ghost use Rattle.line_edits.specs.Written.{Writes, line_and_record, line_and_record_in};
 ghost use Rattle.line_help.specs.Completion.{completion_by};
 ghost use Rattle.line_keys.specs.Replies.{Replies, fails, itself};
 ghost use Rattle.line_record.specs.Items.{ItemsStand};
-ghost use Rattle.line_editor.specs.Completing.{elected, elected_among, begins_word, word_put, word_replaced, LeavesWord};
+ghost use Rattle.line_editor.specs.Completing.{common_text, common_text_among, begins_word, word_put, word_replaced, CutWord};
 
+use crate::faults::error_of;
 use crate::renderer::Renderer;
 use crate::state::State;
 use line_buffer::LineBuffer;
@@ -18,7 +19,7 @@ use std::alloc::Global;
 /// The text that replaces a word of `len` bytes: the common prefix of all candidates, if it is
 /// longer than the word or there is only one candidate.
 fn elected_among<C: Candidate>(candidates: &[C], len: usize) -> Option<&str>
-    ensures { option_copied result ≡ elected_among len
+    ensures { option_copied result ≡ common_text_among len
         (map (λ c. (C.offers c).replacement) candidates.now) }
 {
     let text = longest_common_prefix(candidates)?;
@@ -44,7 +45,7 @@ pub(crate) fn elected<'c, C: Candidate>(
     start: usize,
     candidates: &'c [C],
 ) -> Option<&'c str>
-    ensures value { option_copied result ≡ elected
+    ensures value { option_copied result ≡ common_text
         (record { start = start; candidates = map C.offers candidates.now }) line.now }
     ensures order { IfSome result (λ _. start ≤ line.now.place) }
     ensures boundary { IfSome result (λ _. IsCharBoundary line.now.text start) }
@@ -94,8 +95,8 @@ fn put_in_group<C: Completer>(
         line.old line.new changes.old changes.new result }
     ensures works { OnOk result
         (fails (C.update_of completer.now line.old start text.now) ≡ false) }
-    ensures refused { IfErr result (LeavesWord (C.update_of completer.now line.old start text.now)
-        (written line.old changes.old) (written line.new changes.new)) }
+    ensures refused { IfErr result (CutWord (C.update_of completer.now line.old start text.now)
+        (line_and_record line.old changes.old) (line_and_record line.new changes.new)) }
 {
     changes.begin(alloc)?;
     put(alloc, completer, line, changes, start, text)?;
@@ -118,8 +119,8 @@ fn update<C: Completer>(
     ensures works { OnOk result
         (fails (C.update_of completer.now recorded.old.line start text.now) ≡ false) }
     ensures refused { IfErr result
-        (LeavesWord (C.update_of completer.now recorded.old.line start text.now)
-        (written_in recorded.old) (written_in recorded.new)) }
+        (CutWord (C.update_of completer.now recorded.old.line start text.now)
+        (line_and_record_in recorded.old) (line_and_record_in recorded.new)) }
 {
     let line = &mut recorded.line;
     let done = put_in_group(alloc, completer, line, &mut recorded.changes, start, text);
@@ -127,6 +128,7 @@ fn update<C: Completer>(
     done
 }
 
+#[tactic(auto, using(crate::proofs::HelpedLemmas::fault_told))]
 impl<'p, 'h, Out: Renderer, H: Helper + Drop, Hi: History> State<'p, 'h, Out, H, Hi> {
     ghost use Rattle.line_editor.specs.States.{value_of, setting_of, Does, Helps};
     ghost use Rattle.line_editor.specs.Values.{completion_reply};
@@ -146,8 +148,7 @@ impl<'p, 'h, Out: Renderer, H: Helper + Drop, Hi: History> State<'p, 'h, Out, H,
         let line = &self.recorded.line;
         match helper.complete(self.alloc, line.as_str(), line.pos(), &self.ctx) {
             Ok(found) => Ok(found),
-            Err(HookFault::Failed) => Err(ReadlineError::Helper),
-            Err(HookFault::Memory) => Err(ReadlineError::Memory),
+            Err(fault) => Err(error_of(fault)),
         }
     }
 
@@ -162,11 +163,9 @@ impl<'p, 'h, Out: Renderer, H: Helper + Drop, Hi: History> State<'p, 'h, Out, H,
             return Ok(());
         };
         self.known = None;
-        let done = update(self.alloc, helper, &mut self.recorded, start, text);
-        match done {
+        match update(self.alloc, helper, &mut self.recorded, start, text) {
             Ok(()) => Ok(()),
-            Err(HookFault::Failed) => Err(ReadlineError::Helper),
-            Err(HookFault::Memory) => Err(ReadlineError::Memory),
+            Err(fault) => Err(error_of(fault)),
         }
     }
 

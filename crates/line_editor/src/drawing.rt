@@ -1,15 +1,16 @@
 //! Draws a state.
 ghost use Rattle.std.specs.Prelude.{◌≡◌, ◌+◌, ◌<◌, ◌≤◌, Some, None, is_some, not, if◌then◌else◌, IfOk, IsTrue, option_map, option_copied};
 ghost use Rattle.line_buffer.specs.Cells.{origin};
-ghost use Rattle.line_editor.specs.Calls.{Makes};
-ghost use Rattle.line_editor.specs.Calls.Call.{Draw};
-ghost use Rattle.line_editor.specs.Values.{hooks_by, marked_by, seen};
-ghost use Rattle.line_editor.specs.Redraws.{layout_of, may_type, may_take};
+ghost use Rattle.line_editor.specs.RenderCalls.{Makes};
+ghost use Rattle.line_editor.specs.RenderCalls.Call.{Draw};
+ghost use Rattle.line_editor.specs.Values.{hooks_by, is_marked_by, marks_seen};
+ghost use Rattle.line_editor.specs.Redraws.{layout_of, may_type, may_take, may_put_in, may_take_out};
 
+use crate::faults::error_of;
 use crate::renderer::{RefreshKind, Renderer};
 use crate::state::State;
 use line_buffer::{Layout, LineBuffer, Position};
-use line_config::{HookFault, ReadlineError};
+use line_config::ReadlineError;
 use line_help::{Helper, Highlighter, Hint, Hinter, History};
 use line_keys::CmdKind;
 
@@ -39,7 +40,7 @@ fn marked_by<H: Helper>(
     line: &LineBuffer,
     kind: CmdKind,
 ) -> bool
-    ensures value { result ≡ marked_by (if colours then option_map H.marks helper.old else None)
+    ensures value { result ≡ is_marked_by (if colours then option_map H.marks helper.old else None)
         line.now.text line.now.place kind }
     ensures hooks { let hooks = hooks_by H.hint_of H.verdict_of H.completion_of H.update_of in
         option_map hooks helper.new ≡ option_map hooks helper.old }
@@ -74,6 +75,31 @@ fn may_take(layout: &Layout, count: usize) -> bool
     !layout.has_info && layout.cursor.row == layout.end.row && count <= usize::from(layout.end.col)
 }
 
+/// Whether nothing is shown after the line, and one more cell fits in the row of its end, where
+/// the cursor is too.
+fn may_put_in<Out: Renderer>(out: &Out, layout: &Layout) -> bool
+    ensures value { result ≡ may_put_in (Out.canvas.ruler out.now) layout.now }
+    ensures cursor { IsTrue result → layout.now.cursor.col + 1 ≤ 65535 }
+    ensures end { IsTrue result → layout.now.end.col + 1 ≤ 65535 }
+{
+    let columns = out.get_columns();
+    let end = layout.end;
+    !layout.has_info
+        && (layout.cursor.row == end.row
+            && (layout.cursor.col <= end.col && (end.col < columns && end.col + 1 < columns)))
+}
+
+/// Whether nothing is shown after the line, and `count` columns of the row of its end can be taken
+/// out from a cell on.
+fn may_take_out(layout: &Layout, at: Position, count: usize) -> bool
+    ensures value { result ≡ may_take_out layout.now at count }
+    ensures room { IsTrue result → count ≤ layout.now.end.col }
+{
+    let end = layout.end;
+    !layout.has_info
+        && (layout.cursor.row == end.row && (at.row == end.row && count <= usize::from(end.col)))
+}
+
 /// Whether a text after the line is a message: there is no hint.
 fn tells<T: Hint>(hint: &Option<T>) -> bool
     ensures { result ≡ not (is_some (option_map T.says hint.now)) }
@@ -102,7 +128,7 @@ fn draw_over<Out: Renderer, H: Highlighter, T: Hint>(
         line.now.place (option_copied info.entry) in
         Makes Out.canvas (Draw prompt.now line.now.text line.now.place
         (option_copied info.entry) (Some old) new
-        (seen marked (not (is_some (option_map T.says hint.now)))
+        (marks_seen marked (not (is_some (option_map T.says hint.now)))
         (if ruler.colours then option_map H.marks helper.now else None)))
         out.old out.new result }
     ensures layout { let ruler = Out.canvas.ruler out.old in
@@ -131,14 +157,15 @@ fn draw_over<Out: Renderer, H: Highlighter, T: Hint>(
 impl<'p, 'h, Out: Renderer, H: Helper + Drop, Hi: History> State<'p, 'h, Out, H, Hi> {
     ghost use Rattle.line_editor.specs.States.{value_of, setting_of, Stays, Does, Renders, Helps};
     ghost use Rattle.line_editor.specs.Values.{hint_reply, with_hint, with_mark};
-    ghost use Rattle.line_editor.specs.Drawing.{drawn_behind, drawn_with, repainted, refreshed, refreshed_behind, told, cursor_shown, cursor_moved, moved_to_end, beeped, cleared, cleared_and_drawn};
-    ghost use Rattle.line_editor.specs.Drawing.{hint_asked, asked_anew};
-    ghost use Rattle.line_editor.specs.Values.{redrawn};
-    ghost use Rattle.line_editor.specs.Redraws.Redraw.{Typed, Taken, Bared};
-    ghost use Rattle.line_editor.specs.Calls.Call.{ToLeftmost};
+    ghost use Rattle.line_editor.specs.Drawing.{draw_effect_behind, draw_effect_with, repaint_effect, refresh_effect, refresh_effect_behind, message_effect, cursor_shown, cursor_moved, cursor_end_effect, beep_effect, clear_effect, clear_and_draw_effect};
+    ghost use Rattle.line_editor.specs.Drawing.{hint_asked, ask_anew_effect};
+    ghost use Rattle.line_editor.specs.Values.{draw_effect};
+    ghost use Rattle.line_editor.specs.Redraws.Redraw.{Typed, Taken, PutIn, TakenOut, Bared};
+    ghost use Rattle.line_editor.specs.RenderCalls.Call.{ToLeftmost};
     ghost use Rattle.line_keys.specs.declared.command.CmdKind.TheVariants.{Other};
 
     /// The helper's hint, if it has one that isn't empty.
+    #[tactic(auto, using(crate::proofs::HelpedLemmas::fault_told))]
     fn found_hint(&self) -> Result<Option<H::Hint>, ReadlineError>
         ensures value { IfOk result (λ hint. option_map H.Hint.says hint
             ≡ (with_hint (setting_of self.now) (value_of self.now)).hint) }
@@ -157,8 +184,7 @@ impl<'p, 'h, Out: Renderer, H: Helper + Drop, Hi: History> State<'p, 'h, Out, H,
                 }
             }
             Ok(None) => Ok(None),
-            Err(HookFault::Failed) => Err(ReadlineError::Helper),
-            Err(HookFault::Memory) => Err(ReadlineError::Memory),
+            Err(fault) => Err(error_of(fault)),
         }
     }
 
@@ -191,7 +217,7 @@ impl<'p, 'h, Out: Renderer, H: Helper + Drop, Hi: History> State<'p, 'h, Out, H,
 
     /// Draws the line after a prompt, with the current hint.
     pub(crate) fn draw(&mut self, prompt: &str, given: bool) -> Result<(), ReadlineError>
-        ensures { Renders (drawn_behind prompt.now given) self.old self.new result }
+        ensures { Renders (draw_effect_behind prompt.now given) self.old self.new result }
     {
         let pos = self.recorded.line.pos();
         let info = display_of(&self.hint);
@@ -213,7 +239,7 @@ impl<'p, 'h, Out: Renderer, H: Helper + Drop, Hi: History> State<'p, 'h, Out, H,
 
     /// Draws the line with other information in place of the hint.
     pub(crate) fn draw_with(&mut self, info: Option<&str>) -> Result<(), ReadlineError>
-        ensures { Renders (drawn_with (option_copied info.entry)) self.old self.new result }
+        ensures { Renders (draw_effect_with (option_copied info.entry)) self.old self.new result }
     {
         let pos = self.recorded.line.pos();
         self.known = None;
@@ -234,7 +260,7 @@ impl<'p, 'h, Out: Renderer, H: Helper + Drop, Hi: History> State<'p, 'h, Out, H,
 
     /// Draws the line with the current hint. Everything is redrawn, whatever the kind.
     pub fn repaint(&mut self, _kind: RefreshKind) -> Result<(), ReadlineError>
-        ensures { Renders repainted self.old self.new result }
+        ensures { Renders repaint_effect self.old self.new result }
     {
         let prompt = self.prompt;
         self.draw(prompt, true)
@@ -242,7 +268,7 @@ impl<'p, 'h, Out: Renderer, H: Helper + Drop, Hi: History> State<'p, 'h, Out, H,
 
     /// Calls the helper for the hint and for highlighted characters.
     pub(crate) fn ask_anew(&mut self) -> Result<(), ReadlineError>
-        ensures does { Does asked_anew self.old self.new result }
+        ensures does { Does ask_anew_effect self.old self.new result }
     {
         self.hint()?;
         self.mark(CmdKind::Other);
@@ -251,7 +277,7 @@ impl<'p, 'h, Out: Renderer, H: Helper + Drop, Hi: History> State<'p, 'h, Out, H,
 
     /// Draws the line with a new hint.
     pub(crate) fn refresh(&mut self) -> Result<(), ReadlineError>
-        ensures does { Does refreshed self.old self.new result }
+        ensures does { Does refresh_effect self.old self.new result }
     {
         self.ask_anew()?;
         let prompt = self.prompt;
@@ -260,7 +286,7 @@ impl<'p, 'h, Out: Renderer, H: Helper + Drop, Hi: History> State<'p, 'h, Out, H,
 
     /// Draws the line with a new hint after another prompt.
     pub(crate) fn refresh_behind(&mut self, prompt: &str) -> Result<(), ReadlineError>
-        ensures does { Does (refreshed_behind prompt.now) self.old self.new result }
+        ensures does { Does (refresh_effect_behind prompt.now) self.old self.new result }
     {
         self.ask_anew()?;
         self.draw(prompt, false)
@@ -268,7 +294,8 @@ impl<'p, 'h, Out: Renderer, H: Helper + Drop, Hi: History> State<'p, 'h, Out, H,
 
     /// Draws the line with a message, if there is one, in place of the hint.
     pub(crate) fn tell(&mut self, message: Option<&str>, kind: CmdKind) -> Result<(), ReadlineError>
-        ensures { Renders (told (option_copied message.entry) kind) self.old self.new result }
+        ensures { Renders (message_effect (option_copied message.entry) kind) self.old self.new
+            result }
     {
         self.hint = None;
         self.mark(kind);
@@ -306,7 +333,7 @@ impl<'p, 'h, Out: Renderer, H: Helper + Drop, Hi: History> State<'p, 'h, Out, H,
 
     /// Moves the display's cursor to the drawing's end.
     pub fn move_cursor_to_end(&mut self) -> Result<(), ReadlineError>
-        ensures { Renders moved_to_end self.old self.new result }
+        ensures { Renders cursor_end_effect self.old self.new result }
     {
         if self.layout.cursor == self.layout.end {
             return Ok(());
@@ -327,7 +354,7 @@ impl<'p, 'h, Out: Renderer, H: Helper + Drop, Hi: History> State<'p, 'h, Out, H,
     }
 
     pub(crate) fn beep(&mut self) -> Result<(), ReadlineError>
-        ensures { Renders beeped self.old self.new result }
+        ensures { Renders beep_effect self.old self.new result }
     {
         self.out.beep()?;
         Ok(())
@@ -335,7 +362,7 @@ impl<'p, 'h, Out: Renderer, H: Helper + Drop, Hi: History> State<'p, 'h, Out, H,
 
     /// Erases the display. The stored layout is as before the first drawing.
     pub fn clear_screen(&mut self) -> Result<(), ReadlineError>
-        ensures { Renders cleared self.old self.new result }
+        ensures { Renders clear_effect self.old self.new result }
     {
         self.known = None;
         self.out.clear_screen()?;
@@ -345,7 +372,7 @@ impl<'p, 'h, Out: Renderer, H: Helper + Drop, Hi: History> State<'p, 'h, Out, H,
 
     /// Erases the display and draws the line.
     pub(crate) fn clear_and_draw(&mut self) -> Result<(), ReadlineError>
-        ensures does { Does cleared_and_drawn self.old self.new result }
+        ensures does { Does clear_and_draw_effect self.old self.new result }
     {
         self.clear_screen()?;
         self.refresh()
@@ -354,7 +381,7 @@ impl<'p, 'h, Out: Renderer, H: Helper + Drop, Hi: History> State<'p, 'h, Out, H,
     /// Shows a character typed at the end. It writes its byte alone, if nothing is shown after it
     /// and it doesn't fill its row.
     pub(crate) fn show_short_typed(&mut self, ch: char) -> Result<(), ReadlineError>
-        ensures { Renders (λ s v. redrawn (Typed s.prompt ch v.line.text v.line.place) s v)
+        ensures { Renders (λ s v. draw_effect (Typed s.prompt ch v.line.text v.line.place) s v)
             self.old self.new result }
     {
         if may_type(&self.out, &self.layout) {
@@ -370,7 +397,7 @@ impl<'p, 'h, Out: Renderer, H: Helper + Drop, Hi: History> State<'p, 'h, Out, H,
     /// Shows that `count` characters were deleted at the end. It erases the rest of the row, if
     /// they were in it and nothing is shown after them.
     pub(crate) fn show_short_taken(&mut self, count: usize) -> Result<(), ReadlineError>
-        ensures { Renders (λ s v. redrawn (Taken s.prompt count v.line.text v.line.place) s v)
+        ensures { Renders (λ s v. draw_effect (Taken s.prompt count v.line.text v.line.place) s v)
             self.old self.new result }
     {
         if may_take(&self.layout, count) {
@@ -386,9 +413,47 @@ impl<'p, 'h, Out: Renderer, H: Helper + Drop, Hi: History> State<'p, 'h, Out, H,
         self.draw_with(None)
     }
 
+    /// Shows a character put into a plain line: in its row, if one more fits there and nothing is shown
+    /// after the line.
+    pub(crate) fn show_put_in(&mut self, ch: char) -> Result<(), ReadlineError>
+        ensures { Renders (λ s v. draw_effect (PutIn s.prompt ch v.line.text v.line.place) s v)
+            self.old self.new result }
+    {
+        if may_put_in(&self.out, &self.layout) {
+            self.out.insert_char(ch)?;
+            self.layout.cursor.col += 1;
+            self.layout.end.col += 1;
+            return Ok(());
+        }
+        self.draw_with(None)
+    }
+
+    /// Shows that `count` characters of a plain line were deleted from the cursor on: in their row,
+    /// if the line ends there and nothing is shown after it.
+    pub(crate) fn show_taken_out(&mut self, count: usize) -> Result<(), ReadlineError>
+        ensures { Renders (λ s v. draw_effect
+            (TakenOut s.prompt count v.line.text v.line.place) s v)
+            self.old self.new result }
+    {
+        let pos = self.recorded.line.pos();
+        let at = self.position_at(pos);
+        if may_take_out(&self.layout, at, count) {
+            let end = Position {
+                col: self.layout.end.col - count as u16,
+                row: self.layout.end.row,
+            };
+            self.out
+                .move_and_delete_chars(self.layout.cursor, at, count as u16)?;
+            self.layout.cursor = at;
+            self.layout.end = end;
+            return Ok(());
+        }
+        self.draw_with(None)
+    }
+
     /// Draws the line without hint if another prompt than its own is shown.
     pub(crate) fn show_bare(&mut self) -> Result<(), ReadlineError>
-        ensures { Renders (λ s v. redrawn (Bared s.prompt v.line.text v.line.place) s v)
+        ensures { Renders (λ s v. draw_effect (Bared s.prompt v.line.text v.line.place) s v)
             self.old self.new result }
     {
         if self.layout.default_prompt {

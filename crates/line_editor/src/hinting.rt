@@ -9,13 +9,13 @@ use line_help::{Helper, Hint, History};
 #[tactic(auto, using(crate::proofs::StopsLemmas::edits_stop))]
 impl<'p, 'h, Out: Renderer, H: Helper + Drop, Hi: History> State<'p, 'h, Out, H, Hi> {
     ghost use Rattle.line_editor.specs.States.{value_of, setting_of, Does};
-    ghost use Rattle.line_editor.specs.Drawing.{beeped, refreshed};
+    ghost use Rattle.line_editor.specs.Drawing.{beep_effect, refresh_effect};
     ghost use Rattle.line_editor.specs.Hinting.{complete_hint};
     ghost use Rattle.line_editor.specs.Values.{then_do};
 
     /// Beeps, and draws the line with a new hint.
     fn beep_and_refresh(&mut self) -> Result<(), ReadlineError>
-        ensures does { Does (then_do beeped refreshed) self.old self.new result }
+        ensures does { Does (then_do beep_effect refresh_effect) self.old self.new result }
     {
         self.beep()?;
         self.refresh()

@@ -5,6 +5,7 @@ ghost use Rattle.line_buffer.specs.Printable.{at_plain_end, at_simple_end};
 use crate::measured::known_within;
 use crate::renderer::Renderer;
 use crate::state::State;
+use crate::way::Way;
 use line_buffer::{RepeatCount, is_printable, is_simple};
 use line_config::ReadlineError;
 use line_help::{Helper, History};
@@ -12,7 +13,7 @@ use line_help::{Helper, History};
 #[tactic(auto, using(crate::proofs::StopsLemmas::edits_stop))]
 impl<'p, 'h, Out: Renderer, H: Helper + Drop, Hi: History> State<'p, 'h, Out, H, Hi> {
     ghost use Rattle.line_editor.specs.States.{value_of, setting_of, Does};
-    ghost use Rattle.line_editor.specs.Inserting.{is_bare, may_be_typed, inserted_shown, insert_char, insert_text, replace_char, overwrite_char};
+    ghost use Rattle.line_editor.specs.Inserting.{is_bare, may_be_typed, may_be_put_in, insertion_way, way_if_bare, show_inserted_effect, insert_char, insert_text, replace_char, overwrite_char};
 
     /// Whether neither a hint nor a highlighted character is shown.
     pub(crate) fn is_bare(&self) -> bool
@@ -47,17 +48,52 @@ impl<'p, 'h, Out: Renderer, H: Helper + Drop, Hi: History> State<'p, 'h, Out, H,
         n == 1 && (self.is_bare() && (is_printable(ch) && self.is_at_simple_end()))
     }
 
-    /// Shows an inserted character, with a new hint. It writes its byte alone if that may show it
-    /// and the line is still bare.
-    fn show_inserted(&mut self, ch: char, alone: bool) -> Result<(), ReadlineError>
-        ensures does { Does (inserted_shown ch alone) self.old self.new result }
+    /// Whether a character may be shown in its row: a single printable character, put before the
+    /// end of a line that is bare and plain, if lines may be drawn in part.
+    fn may_be_put_in(&self, ch: char, n: RepeatCount) -> bool
+        ensures { result ≡ may_be_put_in (setting_of self.now).config.partial_redraw ch n
+            (value_of self.now) }
+    {
+        self.config.partial_redraw()
+            && (n == 1
+                && (self.is_bare()
+                    && (is_printable(ch)
+                        && (self.recorded.line.pos() < self.recorded.line.len()
+                            && self.recorded.plain))))
+    }
+
+    /// How a character that is to be inserted may be shown.
+    fn insertion_way(&self, ch: char, n: RepeatCount) -> Way
+        ensures { result ≡ insertion_way (setting_of self.now) ch n (value_of self.now) }
+    {
+        if self.may_be_typed(ch, n) {
+            Way::AtEnd
+        } else if self.may_be_put_in(ch, n) {
+            Way::InRow
+        } else {
+            Way::Whole
+        }
+    }
+
+    /// The way, if the line is still bare.
+    pub(crate) fn way_if_bare(&self, way: Way) -> Way
+        ensures { result ≡ way_if_bare way (value_of self.now) }
+    {
+        if self.is_bare() { way } else { Way::Whole }
+    }
+
+    /// Shows an inserted character in this way, if the line is still bare, with a new hint.
+    fn show_inserted(&mut self, ch: char, way: Way) -> Result<(), ReadlineError>
+        ensures does { Does (show_inserted_effect ch way) self.old self.new result }
     {
         self.ask_anew()?;
-        if alone && self.is_bare() {
-            self.show_short_typed(ch)
-        } else {
-            let prompt = self.prompt;
-            self.draw(prompt, true)
+        match self.way_if_bare(way) {
+            Way::AtEnd => self.show_short_typed(ch),
+            Way::InRow => self.show_put_in(ch),
+            Way::Whole => {
+                let prompt = self.prompt;
+                self.draw(prompt, true)
+            }
         }
     }
 
@@ -66,7 +102,7 @@ impl<'p, 'h, Out: Renderer, H: Helper + Drop, Hi: History> State<'p, 'h, Out, H,
     pub fn edit_insert(&mut self, ch: char, n: RepeatCount) -> Result<(), ReadlineError>
         ensures does { Does (insert_char ch n) self.old self.new result }
     {
-        let alone = self.may_be_typed(ch, n);
+        let way = self.insertion_way(ch, n);
         let known = known_within(self.recorded.line.pos(), self.known);
         self.known = None;
         let inserted = self.recorded.insert_char(self.alloc, ch, n)?;
@@ -74,7 +110,7 @@ impl<'p, 'h, Out: Renderer, H: Helper + Drop, Hi: History> State<'p, 'h, Out, H,
         if inserted.is_none() {
             return Ok(());
         }
-        self.show_inserted(ch, alone)
+        self.show_inserted(ch, way)
     }
 
     /// Inserts a text at the cursor, which stays before it.

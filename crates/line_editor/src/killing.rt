@@ -1,13 +1,16 @@
 //! Kills texts, and copies texts into the ring.
-ghost use Rattle.std.specs.Prelude.{◌≡◌, ◌⊎◌, OnOk, IfErr, length, drop, is_some, IsTrue};
-ghost use Rattle.line_buffer.specs.Range.{kill_line, copied_range};
+ghost use Rattle.std.specs.Prelude.{◌≡◌, ◌&&◌, ◌⊎◌, if◌then◌else◌, nat_lt, OnOk, IfErr, IfSome, length, drop, is_some, IsTrue};
+ghost use Rattle.line_buffer.specs.Range.{IsSpanOf, copied_range, deletion_line};
 ghost use Rattle.line_config.specs.declared.errors.ReadlineError.{ReadlineError};
-ghost use Rattle.line_edits.specs.Edits.{unkilled};
+ghost use Rattle.line_edits.specs.Edits.{ring_without_kill};
+ghost use Rattle.line_buffer.specs.Printable.{at_plain_end};
+ghost use Rattle.line_editor.specs.declared.way.Way.TheVariants.{AtEnd, InRow, Whole};
 
 use crate::measured::known_within;
 use crate::renderer::Renderer;
 use crate::state::State;
-use line_buffer::{Mode, Movement};
+use crate::way::Way;
+use line_buffer::{Mode, Movement, TextSpan};
 use line_config::ReadlineError;
 use line_help::{Helper, History};
 use line_keys::Text;
@@ -16,29 +19,57 @@ use line_record::KillRing;
 #[tactic(auto, using(crate::proofs::StopsLemmas::edits_stop))]
 impl<'p, 'h, Out: Renderer, H: Helper + Drop, Hi: History> State<'p, 'h, Out, H, Hi> {
     ghost use Rattle.line_editor.specs.States.{value_of, setting_of, Does, Stays};
-    ghost use Rattle.line_editor.specs.Killing.{may_be_taken, killed_shown, kill_effect, insert_text_if, replace, killed_into, copied_into};
+    ghost use Rattle.line_editor.specs.Killing.{may_be_taken, may_be_taken_out, show_killed_effect, kill_way, kill_effect, insert_text_if, replace, ring_with_kill_of, ring_with_copy};
 
-    /// Whether erasing the rest of the row may show a movement's kill: printable characters,
+    /// Whether erasing the rest of the row may show the kill of a range: printable characters,
     /// deleted from a bare line.
-    fn may_be_taken(&self, movement: &Movement) -> bool
-        ensures { let left = (kill_line movement.now self.now.recorded.line).text in
+    fn may_be_taken(&self, span: Option<TextSpan>) -> bool
+        requires { IfSome span (λ s. IsSpanOf self.now.recorded.line.text s) }
+        ensures { let left = (deletion_line span self.now.recorded.line).text in
             result ≡ may_be_taken (drop (length left) self.now.recorded.line.text)
             (value_of self.now) }
     {
-        self.is_bare() && self.recorded.line.has_printable_end(movement)
+        self.is_bare() && self.recorded.line.has_printable_end(span)
     }
 
-    /// Shows that `count` bytes were killed, with a new hint. It erases them if that may show the
-    /// kill, and if the line is still bare, with the cursor at the end of a plain text.
-    fn show_killed(&mut self, count: usize, alone: bool) -> Result<(), ReadlineError>
-        ensures does { Does (killed_shown count alone) self.old self.new result }
+    /// Whether moving the rest of its row may show a kill: it is made in a bare and plain line, and
+    /// lines may be drawn in part.
+    fn may_be_taken_out(&self) -> bool
+        ensures { result ≡ may_be_taken_out (setting_of self.now).config.partial_redraw
+            (value_of self.now) }
+    {
+        self.config.partial_redraw() && (self.is_bare() && self.recorded.plain)
+    }
+
+    /// How a kill of `count` bytes may be shown that left this line: `alone` and `in_row` say what
+    /// its text and the line before allow.
+    fn kill_way(&self, alone: bool, in_row: bool, count: usize) -> Way
+        ensures { let line = self.now.recorded.line in
+            result ≡ (if alone && at_plain_end line.text line.place then AtEnd
+            else if in_row && (nat_lt 0 count && nat_lt line.place (length line.text)) then InRow
+            else Whole) }
+    {
+        if alone && self.is_at_plain_end() {
+            Way::AtEnd
+        } else if in_row && (0 < count && self.recorded.line.pos() < self.recorded.line.len()) {
+            Way::InRow
+        } else {
+            Way::Whole
+        }
+    }
+
+    /// Shows that `count` bytes were killed in this way, if the line is still bare, with a new hint.
+    fn show_killed(&mut self, count: usize, way: Way) -> Result<(), ReadlineError>
+        ensures does { Does (show_killed_effect count way) self.old self.new result }
     {
         self.ask_anew()?;
-        if alone && self.is_bare() && self.is_at_plain_end() {
-            self.show_short_taken(count)
-        } else {
-            let prompt = self.prompt;
-            self.draw(prompt, true)
+        match self.way_if_bare(way) {
+            Way::AtEnd => self.show_short_taken(count),
+            Way::InRow => self.show_taken_out(count),
+            Way::Whole => {
+                let prompt = self.prompt;
+                self.draw(prompt, true)
+            }
         }
     }
 
@@ -55,22 +86,25 @@ impl<'p, 'h, Out: Renderer, H: Helper + Drop, Hi: History> State<'p, 'h, Out, H,
     ) -> Result<(), ReadlineError>
         ensures does { Does (kill_effect movement.now) self.old self.new result }
         ensures ring { OnOk result
-            (ring.new ≡ killed_into movement.now (value_of self.old) ring.old) }
+            (ring.new ≡ ring_with_kill_of movement.now (value_of self.old) ring.old) }
         ensures refused_ring { IfErr result
-            (λ e. (ring.new ≡ killed_into movement.now (value_of self.old) ring.old)
-            ⊎ ((e ≡ ReadlineError.Memory) × (ring.new ≡ unkilled movement.now ring.old))) }
+            (λ e. (ring.new ≡ ring_with_kill_of movement.now (value_of self.old) ring.old)
+            ⊎ ((e ≡ ReadlineError.Memory) × (ring.new ≡ ring_without_kill movement.now ring.old))) }
     {
-        let alone = self.may_be_taken(movement);
+        let span = self.recorded.line.range_of(movement);
+        let alone = self.may_be_taken(span);
+        let in_row = self.may_be_taken_out();
         let before = self.recorded.line.len();
         let known = self.known_before(movement);
         self.known = None;
-        let killed = self.recorded.kill(self.alloc, ring, movement)?;
+        let killed = self.recorded.kill_range(self.alloc, ring, movement, span)?;
         self.known = known_within(self.recorded.line.pos(), known);
         if !killed {
             return Ok(());
         }
         let count = before - self.recorded.line.len();
-        self.show_killed(count, alone)
+        let way = self.kill_way(alone, in_row, count);
+        self.show_killed(count, way)
     }
 
     /// Inserts a text at the cursor, if there is one.
@@ -93,10 +127,10 @@ impl<'p, 'h, Out: Renderer, H: Helper + Drop, Hi: History> State<'p, 'h, Out, H,
     ) -> Result<(), ReadlineError>
         ensures does { Does (replace movement.now text.now) self.old self.new result }
         ensures ring { OnOk result
-            (ring.new ≡ killed_into movement.now (value_of self.old) ring.old) }
+            (ring.new ≡ ring_with_kill_of movement.now (value_of self.old) ring.old) }
         ensures refused_ring { IfErr result
-            (λ e. (ring.new ≡ killed_into movement.now (value_of self.old) ring.old)
-            ⊎ ((e ≡ ReadlineError.Memory) × (ring.new ≡ unkilled movement.now ring.old))) }
+            (λ e. (ring.new ≡ ring_with_kill_of movement.now (value_of self.old) ring.old)
+            ⊎ ((e ≡ ReadlineError.Memory) × (ring.new ≡ ring_without_kill movement.now ring.old))) }
     {
         self.edit_kill(movement, ring)?;
         self.insert_some(text)?;
@@ -110,7 +144,7 @@ impl<'p, 'h, Out: Renderer, H: Helper + Drop, Hi: History> State<'p, 'h, Out, H,
         ring: &mut KillRing,
     ) -> Result<(), ReadlineError>
         ensures ring { OnOk result
-            (ring.new ≡ copied_into movement.now (value_of self.now) ring.old) }
+            (ring.new ≡ ring_with_copy movement.now (value_of self.now) ring.old) }
         ensures refused { IfErr result (λ e. (e ≡ ReadlineError.Memory) × (ring.new ≡ ring.old)
             × IsTrue (is_some (copied_range movement.now (value_of self.now).line))) }
     {

@@ -2,7 +2,7 @@
 
 ghost use Rattle.line_editor.specs.Leads.{CommandsLead, SubmittingLeads, AsksLead, EachTurnLeads, LinesLead};
 ghost use Rattle.line_editor.specs.Leads.{Sound};
-ghost use Rattle.line_editor.specs.Meeting.{OffPasses};
+ghost use Rattle.line_editor.specs.ModalCommands.{OffPasses};
 ghost use Rattle.line_editor.specs.Returns.{ComesBack, UndoReaches, UndoesAll, GivesBack, GivesWordBack};
 ghost use Rattle.line_editor.specs.States.{value_of};
 

@@ -7,26 +7,28 @@ mod candidates;
 pub mod commands;
 mod completing;
 mod drawing;
+mod faults;
 mod hinting;
+mod history;
 mod inserting;
 mod killing;
 pub mod laws;
+mod line_loop;
+pub mod line_run;
 mod measured;
-mod meeting;
+mod modal_commands;
 pub mod modal_state;
 mod moving;
 mod next_command;
 mod prefixes;
-mod reading;
 mod refreshing;
-mod remembering;
 pub mod renderer;
-mod rewording;
-pub mod running;
 pub mod saved;
 mod starting;
 pub mod state;
-mod turning;
+mod transforms;
+mod turn;
+pub mod way;
 mod yanking;
 
 pub use commands::{Status, execute};
@@ -52,6 +54,6 @@ pub use line_keys::{
     EventMap, InputMode, InputState, Invoke, KeyCode, KeyEvent, Keys, Modifiers, RawReader,
     Refresher, SearchAgain, Text,
 };
+pub use line_run::{Ran, run};
 pub use renderer::{RefreshKind, Renderer};
-pub use running::{Ran, run};
 pub use state::State;

@@ -1,6 +1,6 @@
 //! Where the drawing of the line up to a place ends, computed from a place for which this is known.
 ghost use Rattle.std.specs.Prelude.{◌≡◌, take, IsCharBoundary};
-ghost use Rattle.line_editor.specs.Known.{IsKnownOn, known_within};
+ghost use Rattle.line_editor.specs.KnownPlaces.{IsKnownOn, known_within};
 
 use crate::renderer::Renderer;
 use crate::state::State;

@@ -4,8 +4,8 @@ ghost use Rattle.std.specs.Char.{IsScalar};
 ghost use Rattle.line_config.specs.Refusals.{OrMemory};
 ghost use Rattle.line_config.specs.declared.errors.ReadlineError.TheVariants.{Memory};
 ghost use Rattle.line_editor.specs.Candidates.{cycle_at};
-ghost use Rattle.line_editor.specs.Modal.{modal_of, modal_first, standing_first, wish_of};
-ghost use Rattle.line_editor.specs.Searching.{query_in, queried, without_last, erased, heading, search_prompt, erased_by, act_of, next_at, onward, dir_again, from_again};
+ghost use Rattle.line_editor.specs.Modal.{modal_of, modal_first, first_standing, wish_of};
+ghost use Rattle.line_editor.specs.Searching.{query_in, modal_with_query, without_last, modal_after_erase, heading, search_prompt, act_of_movement, act_of, next_at, onward, dir_again, from_again};
 
 use line_buffer::Movement;
 use line_config::{CompletionType, Config, ReadlineError};
@@ -102,7 +102,7 @@ pub struct ModalState {
 }
 
 fn standing_first(on: bool) -> Standing
-    ensures { result ≡ standing_first on }
+    ensures { result ≡ first_standing on }
 {
     if on { Standing::Rests } else { Standing::Off }
 }
@@ -137,7 +137,7 @@ pub(crate) fn wish_of(cmd: &Cmd) -> Wish
 }
 
 fn erased_by(movement: &Movement) -> Act
-    ensures { result ≡ erased_by movement.now }
+    ensures { result ≡ act_of_movement movement.now }
 {
     match movement {
         Movement::BackwardChar(_) => Act::Erases,
@@ -257,7 +257,8 @@ impl ModalState {
     /// A character more of the query. Without memory all stays, the last query too.
     pub(crate) fn type_in(&mut self, alloc: Global, c: char) -> Result<(), ReadlineError>
         ensures ok { OnOk result (modal_of self.new
-            ≡ queried (query_in (modal_of self.old) ++ encode_utf8 c) (modal_of self.old)) }
+            ≡ modal_with_query (query_in (modal_of self.old) ++ encode_utf8 c)
+            (modal_of self.old)) }
         ensures err { IfErr result (λ e. e ≡ Memory) }
         ensures same { OnErr result (modal_of self.new ≡ modal_of self.old) }
     {
@@ -274,7 +275,7 @@ impl ModalState {
 
     /// The query without its last character, looked for from where the search began.
     pub(crate) fn erase(&mut self)
-        ensures { modal_of self.new ≡ erased (modal_of self.old) }
+        ensures { modal_of self.new ≡ modal_after_erase (modal_of self.old) }
     {
         if self.fresh {
             self.query.clear();

@@ -16,18 +16,26 @@ impl<'p, 'h, Out: Renderer, H: Helper + Drop, Hi: History> State<'p, 'h, Out, H,
     ghost use Rattle.line_buffer.specs.declared.types.At.TheVariants.{Start};
     ghost use Rattle.line_buffer.specs.declared.types.Word.TheVariants.{Big};
     ghost use Rattle.line_editor.specs.Values.{then_do};
-    ghost use Rattle.line_editor.specs.Moving.{move_backward, move_forward, move_to_prev_word, move_to_next_word, move_to, move_line_up, move_line_down, move_home, move_end, move_buffer_start, move_buffer_end, move_to_first_print, move_by};
+    ghost use Rattle.line_editor.specs.Moving.{cursor_follows, move_backward, move_forward, move_to_prev_word, move_to_next_word, move_to, move_line_up, move_line_down, move_home, move_end, move_buffer_start, move_buffer_end, move_to_first_print, move_by};
+
+    /// Moves the display's cursor, if that of the text was moved.
+    fn follow(&mut self, moved: bool, kind: CmdKind) -> Result<(), ReadlineError>
+        ensures { Renders (cursor_follows kind moved) self.old self.new result }
+    {
+        if moved {
+            self.move_cursor(kind)
+        } else {
+            Ok(())
+        }
+    }
 
     /// Moves back by clusters.
     pub fn edit_move_backward(&mut self, n: RepeatCount) -> Result<(), ReadlineError>
         ensures does { Does (move_backward n) self.old self.new result }
     {
         let recorded = &mut self.recorded;
-        if recorded.line.move_backward(n) {
-            self.move_cursor(CmdKind::MoveCursor)
-        } else {
-            Ok(())
-        }
+        let moved = recorded.line.move_backward(n);
+        self.follow(moved, CmdKind::MoveCursor)
     }
 
     /// Moves forward by clusters.
@@ -35,11 +43,8 @@ impl<'p, 'h, Out: Renderer, H: Helper + Drop, Hi: History> State<'p, 'h, Out, H,
         ensures does { Does (move_forward n) self.old self.new result }
     {
         let recorded = &mut self.recorded;
-        if recorded.line.move_forward(n) {
-            self.move_cursor(CmdKind::MoveCursor)
-        } else {
-            Ok(())
-        }
+        let moved = recorded.line.move_forward(n);
+        self.follow(moved, CmdKind::MoveCursor)
     }
 
     /// Moves to the row's start.
@@ -47,11 +52,8 @@ impl<'p, 'h, Out: Renderer, H: Helper + Drop, Hi: History> State<'p, 'h, Out, H,
         ensures does { Does move_home self.old self.new result }
     {
         let recorded = &mut self.recorded;
-        if recorded.line.move_home() {
-            self.move_cursor(CmdKind::MoveCursor)
-        } else {
-            Ok(())
-        }
+        let moved = recorded.line.move_home();
+        self.follow(moved, CmdKind::MoveCursor)
     }
 
     /// Moves to the row's end.
@@ -59,11 +61,8 @@ impl<'p, 'h, Out: Renderer, H: Helper + Drop, Hi: History> State<'p, 'h, Out, H,
         ensures does { Does move_end self.old self.new result }
     {
         let recorded = &mut self.recorded;
-        if recorded.line.move_end() {
-            self.move_cursor(CmdKind::MoveCursor)
-        } else {
-            Ok(())
-        }
+        let moved = recorded.line.move_end();
+        self.follow(moved, CmdKind::MoveCursor)
     }
 
     /// Moves to the text's start.
@@ -71,11 +70,8 @@ impl<'p, 'h, Out: Renderer, H: Helper + Drop, Hi: History> State<'p, 'h, Out, H,
         ensures does { Does move_buffer_start self.old self.new result }
     {
         let recorded = &mut self.recorded;
-        if recorded.line.move_buffer_start() {
-            self.move_cursor(CmdKind::MoveCursor)
-        } else {
-            Ok(())
-        }
+        let moved = recorded.line.move_buffer_start();
+        self.follow(moved, CmdKind::MoveCursor)
     }
 
     /// Moves to the text's end.
@@ -83,11 +79,8 @@ impl<'p, 'h, Out: Renderer, H: Helper + Drop, Hi: History> State<'p, 'h, Out, H,
         ensures { Renders (move_buffer_end kind) self.old self.new result }
     {
         let recorded = &mut self.recorded;
-        if recorded.line.move_buffer_end() {
-            self.move_cursor(kind)
-        } else {
-            Ok(())
-        }
+        let moved = recorded.line.move_buffer_end();
+        self.follow(moved, kind)
     }
 
     /// Moves back to a word's start.
@@ -99,11 +92,8 @@ impl<'p, 'h, Out: Renderer, H: Helper + Drop, Hi: History> State<'p, 'h, Out, H,
         ensures does { Does (move_to_prev_word word n) self.old self.new result }
     {
         let recorded = &mut self.recorded;
-        if recorded.line.move_to_prev_word(word, n) {
-            self.move_cursor(CmdKind::MoveCursor)
-        } else {
-            Ok(())
-        }
+        let moved = recorded.line.move_to_prev_word(word, n);
+        self.follow(moved, CmdKind::MoveCursor)
     }
 
     /// Moves to a later word.
@@ -116,11 +106,8 @@ impl<'p, 'h, Out: Renderer, H: Helper + Drop, Hi: History> State<'p, 'h, Out, H,
         ensures { Renders (move_to_next_word at word n) self.old self.new result }
     {
         let recorded = &mut self.recorded;
-        if recorded.line.move_to_next_word(at, word, n) {
-            self.move_cursor(CmdKind::MoveCursor)
-        } else {
-            Ok(())
-        }
+        let moved = recorded.line.move_to_next_word(at, word, n);
+        self.follow(moved, CmdKind::MoveCursor)
     }
 
     /// Moves by a search to the n-th such character, or to the last one if there are fewer.
@@ -128,11 +115,8 @@ impl<'p, 'h, Out: Renderer, H: Helper + Drop, Hi: History> State<'p, 'h, Out, H,
         ensures does { Does (move_to search n) self.old self.new result }
     {
         let recorded = &mut self.recorded;
-        if recorded.line.move_to(search, n) {
-            self.move_cursor(CmdKind::MoveCursor)
-        } else {
-            Ok(())
-        }
+        let moved = recorded.line.move_to(search, n);
+        self.follow(moved, CmdKind::MoveCursor)
     }
 
     /// The layout after the session's own prompt. Motions by rows use the prompt's end.

@@ -3,7 +3,7 @@ ghost use Rattle.std.specs.Prelude.{◌≡◌, ◌<◌, OnOk};
 ghost use Rattle.line_keys.specs.Follows.{Follows};
 ghost use Rattle.line_keys.specs.InputStates.{input_of, custom_in};
 ghost use Rattle.line_keys.specs.Requests.{Begins, IsLater, abort_in, first_request};
-ghost use Rattle.line_editor.specs.NextCommand.{line_phrase, begins_group, reset_by};
+ghost use Rattle.line_editor.specs.NextCommand.{line_phrase, begins_group, ring_after_reset};
 
 use crate::renderer::Renderer;
 use crate::state::State;
@@ -21,7 +21,7 @@ fn begins_group(cmd: &Cmd) -> bool
 
 /// Ends a run of kills before a command that doesn't continue it.
 pub(crate) fn reset_for(ring: &mut KillRing, cmd: &Cmd)
-    ensures { ring.new ≡ reset_by cmd.now ring.old }
+    ensures { ring.new ≡ ring_after_reset cmd.now ring.old }
 {
     if cmd.should_reset_kill_ring() {
         ring.reset();

@@ -20,7 +20,7 @@ fn is_prefix(line: &LineBuffer) -> bool
 
 impl<'p, 'h, Out: Renderer, H: Helper + Drop, Hi: History> State<'p, 'h, Out, H, Hi> {
     ghost use Rattle.line_editor.specs.States.{value_of, setting_of};
-    ghost use Rattle.line_editor.specs.Turning.{MeetsAs};
+    ghost use Rattle.line_editor.specs.Turn.{MeetsAs};
 
     /// Whether an earlier entry begins with the text before the cursor.
     fn has_earlier(&self) -> bool

@@ -1,12 +1,12 @@
 //! The trait of renderers.
 ghost use Rattle.std.specs.Prelude.{◌≡◌, true, take, Some, OnErr, IfErr, IsTrue, IsCharBoundary, option_copied, option_map};
 ghost use Rattle.line_buffer.specs.Printable.{is_plain};
-ghost use Rattle.line_editor.specs.Known.{IsKnown};
+ghost use Rattle.line_editor.specs.KnownPlaces.{IsKnown};
 ghost use Rattle.line_config.specs.declared.errors.ReadlineError.TheVariants.{Display};
-ghost use Rattle.line_editor.specs.Calls.{Canvas, Makes, Idles};
-ghost use Rattle.line_editor.specs.Calls.Call.{Draw, Move, Write, Beep, ClearScreen, ClearRows, ClearToEol, MoveAndClearToEol, ToLeftmost};
+ghost use Rattle.line_editor.specs.RenderCalls.{Canvas, Makes, Idles};
+ghost use Rattle.line_editor.specs.RenderCalls.Call.{Draw, Move, Write, Beep, ClearScreen, ClearRows, ClearToEol, MoveAndClearToEol, InsertChar, MoveAndDelete, ToLeftmost};
 ghost use Rattle.line_editor.specs.Redraws.{layout_of};
-ghost use Rattle.line_editor.specs.Values.{seen};
+ghost use Rattle.line_editor.specs.Values.{marks_seen};
 
 use line_buffer::{GraphemeClusterMode, Layout, LineBuffer, Position, TabStops, Unit};
 use line_config::ReadlineError;
@@ -51,7 +51,7 @@ pub trait Renderer: Drop {
     ) -> Result<(), ReadlineError>
         ensures { Makes canvas (Draw prompt.now line.now.text line.now.place
             (option_copied hint.entry) old_layout new_layout.now
-            (seen marked told (option_map H.marks (option_copied highlighter.entry))))
+            (marks_seen marked told (option_map H.marks (option_copied highlighter.entry))))
             self.old self.new result };
 
     /// Writes a text at the cursor.
@@ -77,6 +77,19 @@ pub trait Renderer: Drop {
     /// Moves the cursor, and erases from there to its row's end.
     fn move_and_clear_to_eol(&mut self, old: Position, new: Position) -> Result<(), ReadlineError>
         ensures { Makes canvas (MoveAndClearToEol old new) self.old self.new result };
+
+    /// Opens a cell at the cursor: the rest of its row moves by one. Writes a character there.
+    fn insert_char(&mut self, ch: char) -> Result<(), ReadlineError>
+        ensures { Makes canvas (InsertChar ch) self.old self.new result };
+
+    /// Moves the cursor, and takes `count` cells out of the row from there on.
+    fn move_and_delete_chars(
+        &mut self,
+        old: Position,
+        new: Position,
+        count: Unit,
+    ) -> Result<(), ReadlineError>
+        ensures { Makes canvas (MoveAndDelete old new count) self.old self.new result };
 
     /// Moves the cursor to the first cell of its row, if the display left it elsewhere.
     fn move_cursor_at_leftmost(&mut self) -> Result<(), ReadlineError>

@@ -1,5 +1,5 @@
 //! The state of an edited line.
-ghost use Rattle.line_editor.specs.Known.{IsKnown-prop, IsKnownOn};
+ghost use Rattle.line_editor.specs.KnownPlaces.{IsKnown-prop, IsKnownOn};
 
 use crate::renderer::Renderer;
 use crate::saved::SavedLine;

@@ -1,6 +1,6 @@
 //! Yanks texts from the ring, and replaces yanked texts.
 ghost use Rattle.std.specs.Prelude.{◌≡◌, slice_get};
-ghost use Rattle.line_editor.specs.Yanking.{anchored, steps_over, behind_yank};
+ghost use Rattle.line_editor.specs.Yanking.{line_at_anchor, steps_over, behind_yank};
 
 use crate::renderer::Renderer;
 use crate::state::State;
@@ -12,7 +12,7 @@ use line_record::KillRing;
 
 /// Steps over the cluster at the cursor if a text is to go after it. Returns whether there is one.
 fn step_on(line: &mut LineBuffer, anchor: Anchor) -> bool
-    ensures line { line.new ≡ anchored anchor line.old }
+    ensures line { line.new ≡ line_at_anchor anchor line.old }
     ensures text { line.new.text ≡ line.old.text }
     ensures stepped { result ≡ steps_over anchor line.old }
 {
@@ -37,7 +37,7 @@ impl<'p, 'h, Out: Renderer, H: Helper + Drop, Hi: History> State<'p, 'h, Out, H,
     ghost use Rattle.line_editor.specs.States.{Does};
     ghost use Rattle.line_editor.specs.Yanking.{yank_text, pop_text, yank_lent, pop_lent};
     ghost use Rattle.line_keys.specs.Modes.{is_vi_command};
-    ghost use Rattle.line_record.specs.Ring.{yanked, turned, exchanged};
+    ghost use Rattle.line_record.specs.Ring.{ring_after_yank, ring_after_turn, yank_exchange};
 
     /// Inserts a text `n` times, at the cursor or after the cluster at it.
     pub fn edit_yank<D: Decides>(
@@ -85,7 +85,7 @@ impl<'p, 'h, Out: Renderer, H: Helper + Drop, Hi: History> State<'p, 'h, Out, H,
         ensures does { Does (yank_lent
             (is_vi_command input_state.now.mode input_state.now.input_mode) anchor n
             (slice_get ring.old.slots ring.old.place)) self.old self.new result }
-        ensures ring { ring.new ≡ yanked ring.old }
+        ensures ring { ring.new ≡ ring_after_yank ring.old }
     {
         match ring.yank() {
             Some(text) => self.edit_yank(input_state, text, anchor, n),
@@ -95,8 +95,8 @@ impl<'p, 'h, Out: Renderer, H: Helper + Drop, Hi: History> State<'p, 'h, Out, H,
 
     /// Replaces the yanked text by that of the turned slot.
     pub(crate) fn pop_from(&mut self, ring: &mut KillRing) -> Result<(), ReadlineError>
-        ensures does { Does (pop_lent (exchanged ring.old)) self.old self.new result }
-        ensures ring { ring.new ≡ turned ring.old }
+        ensures does { Does (pop_lent (yank_exchange ring.old)) self.old self.new result }
+        ensures ring { ring.new ≡ ring_after_turn ring.old }
     {
         match ring.yank_pop() {
             Some((size, text)) => self.edit_yank_pop(size, text),

@@ -6,16 +6,16 @@ use Rattle.std.proofs.lemmas.Bool.{and_parts}
 use Rattle.std.proofs.lemmas.List.{take-append-drop}
 use Rattle.std.proofs.lemmas.List.Folds.{list_all-append}
 use Rattle.std.proofs.lemmas.Str.{encode_ascii}
-use Rattle.line_buffer.specs.Event.{Event}
-use Rattle.line_buffer.specs.Event.Event.{InsertChar}
-use Rattle.line_buffer.specs.Insertions.{no_insertion, has_room, put_at_cursor, insertion_of, insert as insertion, yank as yanked_in}
-use Rattle.line_buffer.specs.Replay.{insertion as told_insertion, carried_line, carried_all}
-use Rattle.line_buffer.specs.Line.{Line, put_in, replaced}
-use Rattle.line_buffer.specs.Indent.{rows_covered, rows_of, leading, row_event, row_len, row_events, spaces, indent_line}
+use Rattle.line_buffer.specs.Event.{ChangeEvent}
+use Rattle.line_buffer.specs.Event.ChangeEvent.{InsertChar}
+use Rattle.line_buffer.specs.Insertions.{no_insertion, has_room, with_text_at_cursor, insertion_of, insert as insertion, yank as yanked_in}
+use Rattle.line_buffer.specs.Replay.{insertion as told_insertion, line_after_event, line_after_events}
+use Rattle.line_buffer.specs.Line.{Line, with_text_at, with_replacement}
+use Rattle.line_buffer.specs.Indent.{rows_covered, rows_of, front_whitespace, row_event, row_len, row_events, spaces, indent_line}
 use Rattle.line_buffer.specs.Rows.{row_start, row_end}
 use Rattle.line_buffer.specs.Range.{range_of, deletion_line, kill_line}
 use Rattle.line_buffer.specs.Printable.{is_printable, is_plain, is_plain_byte}
-use Rattle.line_buffer.specs.declared.range.Span.{Span}
+use Rattle.line_buffer.specs.declared.range.TextSpan.{TextSpan}
 use Rattle.line_buffer.specs.declared.types.Movement.{Movement}
 
 or_true : (a b : Bool) → b ≡ true → (a || b) ≡ true
@@ -44,7 +44,7 @@ char_plain c p low = ap is_plain (encode_ascii c (omega (arith, low))) ∙ both 
 
 -- ---- what is killed
 
-deleted_plain : (span : Option Span) (l : Line) → is_plain l.text ≡ true → is_plain (deletion_line span l).text ≡ true
+deleted_plain : (span : Option TextSpan) (l : Line) → is_plain l.text ≡ true → is_plain (deletion_line span l).text ≡ true
 deleted_plain None l h = h
 deleted_plain (Some span) l h = replaced_plain span.from span.upto l.text [] h refl
 
@@ -53,14 +53,14 @@ killed_plain movement l h = deleted_plain (range_of movement l) l h
 
 -- ---- what is put in or over
 
-pub put_behind_plain : (text : List ℕ) (l : Line) → is_plain l.text ≡ true → is_plain text ≡ true → is_plain (put_in l.place text l).text ≡ true
+pub put_behind_plain : (text : List ℕ) (l : Line) → is_plain l.text ≡ true → is_plain text ≡ true → is_plain (with_text_at l.place text l).text ≡ true
 put_behind_plain text l h g = replaced_plain l.place l.place l.text text h g
 
-pub put_over_plain : (c end : ℕ) (l : Line) → is_plain l.text ≡ true → is_printable c ≡ true → c < 127 → is_plain (replaced l.place end (encode_utf8 c) l).text ≡ true
+pub put_over_plain : (c end : ℕ) (l : Line) → is_plain l.text ≡ true → is_printable c ≡ true → c < 127 → is_plain (with_replacement l.place end (encode_utf8 c) l).text ≡ true
 put_over_plain c end l h p low = replaced_plain l.place end l.text (encode_utf8 c) h (char_plain c p low)
 
-put_room : (room : Bool) (told : Event) (added : List ℕ) (l : Line) → is_plain l.text ≡ true → is_plain added ≡ true
-    → is_plain (if room then record { answer = Some (l.place == length l.text); events = told ∷ []; line = put_at_cursor added l } else no_insertion l).line.text ≡ true
+put_room : (room : Bool) (told : ChangeEvent) (added : List ℕ) (l : Line) → is_plain l.text ≡ true → is_plain added ≡ true
+    → is_plain (if room then record { answer = Some (l.place == length l.text); events = told ∷ []; line = with_text_at_cursor added l } else no_insertion l).line.text ≡ true
 put_room true told added l h g = replaced_plain l.place l.place l.text added h g
 put_room false told added l h g = h
 
@@ -78,15 +78,15 @@ yanked_plain text n l h g = yank_if (length text == 0) text n l h g
 
 -- ---- rows moved in or out
 
-moved_plain : (amount : ℕ) (dedent : Bool) (at : ℕ) (row : List ℕ) (l : Line) → is_plain l.text ≡ true → is_plain (carried_line (row_event (spaces amount) dedent at row) l).text ≡ true
-moved_plain amount true at row l h = replaced_plain at (at + length (leading (length (spaces amount)) row)) l.text [] h refl
+moved_plain : (amount : ℕ) (dedent : Bool) (at : ℕ) (row : List ℕ) (l : Line) → is_plain l.text ≡ true → is_plain (line_after_event (row_event (spaces amount) dedent at row) l).text ≡ true
+moved_plain amount true at row l h = replaced_plain at (at + length (front_whitespace (length (spaces amount)) row)) l.text [] h refl
 moved_plain amount false at row l h = replaced_plain at (at + 0) l.text (spaces amount) h (repeated_plain amount (32 ∷ []) refl)
 
-rows_plain : (amount : ℕ) (dedent : Bool) (at : ℕ) (rows : List (List ℕ)) (l : Line) → is_plain l.text ≡ true → is_plain (carried_all (row_events (spaces amount) dedent at rows) l).text ≡ true
-unfolding carried_all row_events
+rows_plain : (amount : ℕ) (dedent : Bool) (at : ℕ) (rows : List (List ℕ)) (l : Line) → is_plain l.text ≡ true → is_plain (line_after_events (row_events (spaces amount) dedent at rows) l).text ≡ true
+unfolding line_after_events row_events
 rows_plain amount dedent at [] l h = h
 rows_plain amount dedent at (row ∷ rows) l h =
-    rows_plain amount dedent (at + row_len (spaces amount) dedent row + 1) rows (carried_line (row_event (spaces amount) dedent at row) l) (moved_plain amount dedent at row l h)
+    rows_plain amount dedent (at + row_len (spaces amount) dedent row + 1) rows (line_after_event (row_event (spaces amount) dedent at row) l) (moved_plain amount dedent at row l h)
 
 pub indented_plain : (movement : Movement) (amount : ℕ) (dedent : Bool) (l : Line) → is_plain l.text ≡ true → is_plain (indent_line movement amount dedent l).text ≡ true
 indented_plain movement amount dedent l h =

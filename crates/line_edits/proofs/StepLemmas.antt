@@ -3,65 +3,65 @@ use Rattle.std.specs.Prelude.{Result, Ok, Err, OnErr, IsErrAnd, IsUtf8}
 use Rattle.std.proofs.Common.{◌≡◌, ℕ, List, [], ◌∷◌, ◌++◌, refl, ap, ◌∙◌, subst, inl, inr}
 use Rattle.std.proofs.lemmas.Result.{on_err_weaker}
 use Rattle.line_buffer.specs.Edit.{StopsAt}
-use Rattle.line_buffer.specs.Event.{Event}
+use Rattle.line_buffer.specs.Event.{ChangeEvent}
 use Rattle.line_buffer.specs.Line.{Line}
-use Rattle.line_buffer.specs.Replay.{TellsOfChange, Reports, wants_or, carried_all}
+use Rattle.line_buffer.specs.Replay.{TellsOfChange, Reports, wants_or, line_after_events}
 use Rattle.line_buffer.proofs.LeftLemmas.{stopped_first}
-use Rattle.line_record.specs.Items.{Items, ItemsStand, RecordedIn, record_refuses, held_on, opened}
-use Rattle.line_record.specs.Course.{recorded_all}
+use Rattle.line_record.specs.Items.{Items, ItemsStand, RecordsEventIn, record_refuses, record_on, items_with_mark}
+use Rattle.line_record.specs.RecordCourse.{record_after_events}
 use Rattle.line_record.proofs.RunLemmas.{told_stand, told_held, stopped_stand, part_stopped, recorded_all-nil}
-use Rattle.line_edits.specs.Steps.{WriteStep, Tells, Leaves, Closes, StopsWithin, StopsAlong, StopsIn, Rewrites, Edits, made, made_along, doing, in_turn, answering, grouping, WriteSteps, step_made}
-use Rattle.line_edits.specs.Written.{Written, Writes, written, written_in}
+use Rattle.line_edits.specs.WriteSteps.{WriteStep, Tells, Leaves, Closes, CutEvents, CutAlong, CutEdit, Rewrites, Edits, effect_of_edit, effect_of_steps, single_step, in_turn, with_answer, steps_in_group, WriteSteps, effect_of_step}
+use Rattle.line_edits.specs.Written.{Written, Writes, line_and_record, line_and_record_in}
 use Rattle.line_edits.specs.declared.recorded_line.RecordedLine.{RecordedLine}
 
 -- ---- steps
 
 -- others follow them
-pub along_before : (steps more : List WriteStep) (w v : Written) → StopsAlong steps w v → StopsAlong (steps ++ more) w v
+pub along_before : (steps more : List WriteStep) (w v : Written) → CutAlong steps w v → CutAlong (steps ++ more) w v
 along_before [] more w v h = absurd h
-along_before (step ∷ steps) more w v (inl h) = inl (along_before steps more (step_made step w) v h)
+along_before (step ∷ steps) more w v (inl h) = inl (along_before steps more (effect_of_step step w) v h)
 along_before (step ∷ steps) more w v (inr h) = inr h
 
-along_behind : (steps more : List WriteStep) (w v : Written) → StopsAlong more (made_along steps w) v → StopsAlong (steps ++ more) w v
+along_behind : (steps more : List WriteStep) (w v : Written) → CutAlong more (effect_of_steps steps w) v → CutAlong (steps ++ more) w v
 along_behind [] more w v h = h
-along_behind (step ∷ steps) more w v h = inl (along_behind steps more (step_made step w) v h)
+along_behind (step ∷ steps) more w v h = inl (along_behind steps more (effect_of_step step w) v h)
 
 module _ {A B : Type 0} (first : WriteSteps A) (second : WriteSteps B) where
-  pub stops_before : {w v : Written} → StopsIn first w v → StopsIn (in_turn first second) w v
+  pub stops_before : {w v : Written} → CutEdit first w v → CutEdit (in_turn first second) w v
   stops_before {w} {v} h = record { stops = along_before first.steps second.steps w v h.stops }
 
-  pub stops_behind : {w v : Written} → StopsIn second (made first w) v → StopsIn (in_turn first second) w v
+  pub stops_behind : {w v : Written} → CutEdit second (effect_of_edit first w) v → CutEdit (in_turn first second) w v
   stops_behind {w} {v} h = record { stops = along_behind first.steps second.steps w v h.stops }
 
 -- whatever would have been answered
-pub unanswered : {A B : Type 0} (answer : B) (edit : WriteSteps A) (w v : Written) → StopsIn edit w v → StopsIn (answering answer edit) w v
+pub unanswered : {A B : Type 0} (answer : B) (edit : WriteSteps A) (w v : Written) → CutEdit edit w v → CutEdit (with_answer answer edit) w v
 unanswered answer edit w v h = record { stops = h.stops }
 
-pub left_unanswered : {A B E : Type 0} (result : Result A E) (edit : WriteSteps B) (w v : Written) → OnErr result (StopsIn edit w v) → OnErr result (StopsIn (answering (tt {0}) edit) w v)
+pub left_unanswered : {A B E : Type 0} (result : Result A E) (edit : WriteSteps B) (w v : Written) → OnErr result (CutEdit edit w v) → OnErr result (CutEdit (with_answer (tt {0}) edit) w v)
 left_unanswered result edit w v = on_err_weaker result (unanswered (tt {0}) edit w v)
 
 -- ---- a call
 
 -- one that failed has made the first steps, and the record stands
 pub rewrites_refused : {A E : Type 0} {steps : WriteSteps A} {before after : Line} {old new : Items} (e : E) (result : Result A E)
-    → IsErrAnd result (λ x. x ≡ e) → ItemsStand new after.text → StopsIn steps (written before old) (written after new) → Rewrites steps before after old new result
+    → IsErrAnd result (λ x. x ≡ e) → ItemsStand new after.text → CutEdit steps (line_and_record before old) (line_and_record after new) → Rewrites steps before after old new result
 rewrites_refused e (Ok a) is stand stops = absurd is
 rewrites_refused e (Err x) is stand stops = record { writes = record { answers = tt; line = tt; held = tt; stand = stand }; left = stops }
 
 pub edits_refused : {A E : Type 0} {steps : WriteSteps A} {before after : RecordedLine} (e : E) (result : Result A E)
-    → IsErrAnd result (λ x. x ≡ e) → ItemsStand after.changes after.line.text → StopsIn steps (written_in before) (written_in after) → Edits steps before after result
+    → IsErrAnd result (λ x. x ≡ e) → ItemsStand after.changes after.line.text → CutEdit steps (line_and_record_in before) (line_and_record_in after) → Edits steps before after result
 edits_refused {steps = steps} {before = before} {after = after} e result is stand stops =
-    let h = rewrites_refused e result is stand stops in record { writes = h.writes; left = left_unanswered result steps (written_in before) (written_in after) h.left }
+    let h = rewrites_refused e result is stand stops in record { writes = h.writes; left = left_unanswered result steps (line_and_record_in before) (line_and_record_in after) h.left }
 
 -- one that was answered is where its edit leads
 pub written_is : {A E : Type 0} {edit : Written → Written} {answer : A} {before after : Line} {old new : Items} {a : A} → Writes {A = A} {E = E} edit answer before after old new (Ok a)
-    → written after new ≡ edit (written before old)
+    → line_and_record after new ≡ edit (line_and_record before old)
 written_is {A} {E} {edit} {answer} {before} {after} {old} {new} h =
-    ap (λ l. record { line = l; held = held_on new after.text }) h.line ∙ ap (λ k. record { line = (edit (written before old)).line; held = k }) h.held
+    ap (λ l. record { line = l; held = record_on new after.text }) h.line ∙ ap (λ k. record { line = (edit (line_and_record before old)).line; held = k }) h.held
 
 -- the cursor was moved before
 pub behind_move : {A E : Type 0} {steps : WriteSteps A} (before : Line) (place : ℕ) {after : Line} {old new : Items} (result : Result A E)
-    → Rewrites steps (record before { place = place }) after old new result → Rewrites (in_turn (doing (Leaves (record before { place = place })) (tt {0})) steps) before after old new result
+    → Rewrites steps (record before { place = place }) after old new result → Rewrites (in_turn (single_step (Leaves (record before { place = place })) (tt {0})) steps) before after old new result
 behind_move before place result h = record {
   writes = record { answers = h.writes.answers; line = h.writes.line; held = h.writes.held; stand = h.writes.stand };
   left = on_err_weaker result (λ h. record { stops = inl h.stops }) h.left;
@@ -70,52 +70,52 @@ behind_move before place result h = record {
 -- ---- events
 
 -- what was told is what the line followed
-pub among : {S : Type 0} {takes refuses : S → Event → S → Type 0} {closing events : List Event} {s t : S} {before after : Line} (old new : Items)
-    → (call : StopsAt takes refuses closing events s t before after) → held_on new after.text ≡ recorded_all call.stops.done before.text (held_on old before.text)
-    → StopsWithin events (written before old) (written after new)
+pub among : {S : Type 0} {takes refuses : S → ChangeEvent → S → Type 0} {closing events : List ChangeEvent} {s t : S} {before after : Line} (old new : Items)
+    → (call : StopsAt takes refuses closing events s t before after) → record_on new after.text ≡ record_after_events call.stops.done before.text (record_on old before.text)
+    → CutEvents events (line_and_record before old) (line_and_record after new)
 among {before = before} {after = after} old new call held = record {
   done = call.stops.done;
   refused = call.stops.refused;
   never = call.stops.never;
   split = call.stops.split;
   change = call.stops.change;
-  left = ap (λ l. record { line = l; held = held_on new after.text }) call.line ∙ ap (λ k. record { line = carried_all call.stops.done before; held = k }) held;
+  left = ap (λ l. record { line = l; held = record_on new after.text }) call.line ∙ ap (λ k. record { line = line_after_events call.stops.done before; held = k }) held;
 }
 
-pub stopped_among : {events : List Event} {before after : Line} {old new : Items} → IsUtf8 before.text → ItemsStand old before.text
-    → StopsAt RecordedIn (wants_or record_refuses) [] events old new before after → StopsWithin events (written before old) (written after new)
+pub stopped_among : {events : List ChangeEvent} {before after : Line} {old new : Items} → IsUtf8 before.text → ItemsStand old before.text
+    → StopsAt RecordsEventIn (wants_or record_refuses) [] events old new before after → CutEvents events (line_and_record before old) (line_and_record after new)
 stopped_among {events} {before} {after} {old} {new} utf8 stand call =
-    let p = part_stopped RecordedIn (λ x. x) (λ s e t k. k) record_refuses (λ x e y k. k.0) stand utf8 call.stops in
+    let p = part_stopped RecordsEventIn (λ x. x) (λ s e t k. k) record_refuses (λ x e y k. k.0) stand utf8 call.stops in
     among old new call (p.0.held ∙ recorded_all-nil _ _ ∙ p.1.held)
 
 -- an answered call told the record the edit's events
-pub told_rewrites : {A E : Type 0} {events : List Event} {line : Line} {answer : A} {before after : Line} {old new : Items} (a : A) → IsUtf8 before.text → ItemsStand old before.text
-    → a ≡ answer → after ≡ line → Reports RecordedIn events old new before.text after.text → Rewrites {A = A} {E = E} (doing (Tells events line) answer) before after old new (Ok a)
+pub told_rewrites : {A E : Type 0} {events : List ChangeEvent} {line : Line} {answer : A} {before after : Line} {old new : Items} (a : A) → IsUtf8 before.text → ItemsStand old before.text
+    → a ≡ answer → after ≡ line → Reports RecordsEventIn events old new before.text after.text → Rewrites {A = A} {E = E} (single_step (Tells events line) answer) before after old new (Ok a)
 told_rewrites a utf8 stand is line told = record {
   writes = record { answers = is; line = line; held = told_held stand utf8 told; stand = told_stand stand utf8 told };
   left = tt;
 }
 
 -- a failed one reported the first of them
-pub stopped_rewrites : {A E : Type 0} {events : List Event} {line : Line} {answer : A} {before after : Line} {old new : Items} (e : E) (result : Result A E)
-    → IsErrAnd result (λ x. x ≡ e) → IsUtf8 before.text → ItemsStand old before.text → StopsAt RecordedIn (wants_or record_refuses) [] events old new before after
-    → Rewrites (doing (Tells events line) answer) before after old new result
+pub stopped_rewrites : {A E : Type 0} {events : List ChangeEvent} {line : Line} {answer : A} {before after : Line} {old new : Items} (e : E) (result : Result A E)
+    → IsErrAnd result (λ x. x ≡ e) → IsUtf8 before.text → ItemsStand old before.text → StopsAt RecordsEventIn (wants_or record_refuses) [] events old new before after
+    → Rewrites (single_step (Tells events line) answer) before after old new result
 stopped_rewrites e result is utf8 stand call =
     rewrites_refused e result is (stopped_stand stand utf8 call.stops) (record { stops = inr (stopped_among utf8 stand call) })
 
 -- ---- groups
 
 -- the edit failed after the mark
-pub stopped_in_group : {A E : Type 0} (steps : WriteSteps A) (line : Line) (old : Items) {mid new : Items} {after : Line} → mid ≡ opened old → (e : E) (result : Result A E) → IsErrAnd result (λ x. x ≡ e) → ItemsStand new after.text
-    → StopsIn steps (written line mid) (written after new) → Rewrites (grouping steps) line after old new result
+pub stopped_in_group : {A E : Type 0} (steps : WriteSteps A) (line : Line) (old : Items) {mid new : Items} {after : Line} → mid ≡ items_with_mark old → (e : E) (result : Result A E) → IsErrAnd result (λ x. x ≡ e) → ItemsStand new after.text
+    → CutEdit steps (line_and_record line mid) (line_and_record after new) → Rewrites (steps_in_group steps) line after old new result
 stopped_in_group steps line old {mid} {new} {after} marked e result is stand h =
-    rewrites_refused e result is stand (record { stops = inl (along_before steps.steps (Closes ∷ []) (written line (opened old)) (written after new) (subst (λ items. StopsAlong steps.steps (written line items) (written after new)) marked h.stops)) })
+    rewrites_refused e result is stand (record { stops = inl (along_before steps.steps (Closes ∷ []) (line_and_record line (items_with_mark old)) (line_and_record after new) (subst (λ items. CutAlong steps.steps (line_and_record line items) (line_and_record after new)) marked h.stops)) })
 
 -- ---- one change
 
 -- it failed, and the line stayed
-pub unchanged_rewrites : {A E : Type 0} {line : Line} {answer : A} (event : Event) {before after : Line} {old new : Items} (e : E) (result : Result A E) → IsErrAnd result (λ x. x ≡ e)
+pub unchanged_rewrites : {A E : Type 0} {line : Line} {answer : A} (event : ChangeEvent) {before after : Line} {old new : Items} (e : E) (result : Result A E) → IsErrAnd result (λ x. x ≡ e)
     → TellsOfChange event → IsUtf8 before.text → ItemsStand old before.text → wants_or record_refuses old event new → after ≡ before
-    → Rewrites (doing (Tells (event ∷ []) line) answer) before after old new result
+    → Rewrites (single_step (Tells (event ∷ []) line) answer) before after old new result
 unchanged_rewrites event {before} {after} {old} {new} e result is change utf8 stand refused kept =
-    stopped_rewrites e result is utf8 stand (stopped_first RecordedIn (wants_or record_refuses) (event ∷ []) [] event old new before after refl change refused kept)
+    stopped_rewrites e result is utf8 stand (stopped_first RecordsEventIn (wants_or record_refuses) (event ∷ []) [] event old new before after refl change refused kept)

@@ -1,44 +1,44 @@
 -- What a failed edit leaves: one of a single change, a kill, and a group.
 use Rattle.std.specs.Prelude.{Bool, true, false, if◌then◌else◌, Option, Some, None}
 use Rattle.std.proofs.Common.{◌≡◌, ◌≤◌, inl, inr, List, [], ◌∷◌, ◌++◌, length, refl, ap, ◌∙◌, arith, length-append}
-use Rattle.line_buffer.specs.Event.{Event}
-use Rattle.line_buffer.specs.Event.Event.{StartKilling, StopKilling}
+use Rattle.line_buffer.specs.Event.{ChangeEvent}
+use Rattle.line_buffer.specs.Event.ChangeEvent.{StartKilling, StopKilling}
 use Rattle.line_buffer.specs.Line.{Line}
 use Rattle.line_buffer.specs.Range.{range_of, goes_by_clusters, deletion_events}
-use Rattle.line_buffer.specs.Replay.{deletion, carried_all}
-use Rattle.line_buffer.specs.declared.range.Span.{Span}
+use Rattle.line_buffer.specs.Replay.{deletion, line_after_events}
+use Rattle.line_buffer.specs.declared.range.TextSpan.{TextSpan}
 use Rattle.line_buffer.proofs.KeptLemmas.{no_change, deletion_few, insert_few, split_between, yank_few}
-use Rattle.line_record.specs.Course.{recorded_all}
+use Rattle.line_record.specs.RecordCourse.{record_after_events}
 use Rattle.line_edits.specs.Edits.{RefusedChangesLeaveAll, RefusedGroupsStayOpen}
-use Rattle.line_edits.specs.Steps.{WriteStep, Tells, Closes, StopsWithin, StopsAlong, StopsIn, after_events, doing, step_made}
+use Rattle.line_edits.specs.WriteSteps.{WriteStep, Tells, Closes, CutEvents, CutAlong, CutEdit, after_events, single_step, effect_of_step}
 use Rattle.line_edits.specs.Written.{Written, group_opened}
 
 followed-none : (w : Written) → after_events [] w ≡ w
-unfolding carried_all recorded_all
+unfolding line_after_events record_after_events
 followed-none w = refl
 
 followed-mark : (w : Written) → after_events (StartKilling ∷ []) w ≡ w
-unfolding carried_all recorded_all
+unfolding line_after_events record_after_events
 followed-mark w = refl
 
 -- of one event at most none was made
-kept_within : (events : List Event) {w v : Written} → length events ≤ 1 → StopsWithin events w v → v ≡ w
+kept_within : (events : List ChangeEvent) {w v : Written} → length events ≤ 1 → CutEvents events w v → v ≡ w
 kept_within events {w} {v} few x = by x.done x.split x.left
   where
-    by : (done : List Event) → events ≡ done ++ x.refused ∷ x.never → v ≡ after_events done w → v ≡ w
+    by : (done : List ChangeEvent) → events ≡ done ++ x.refused ∷ x.never → v ≡ after_events done w → v ≡ w
     by [] split left = left ∙ followed-none w
     by (e ∷ es) split left = absurd (omega (arith, few, ap length split, length-append es (x.refused ∷ x.never)))
 
 -- of a kill the mark alone
-kill_within : (by_clusters : Bool) (range : Option Span) (l : Line) {w v : Written}
-    → StopsWithin (if by_clusters then deletion_events range l else StartKilling ∷ (deletion_events range l ++ (StopKilling ∷ []))) w v → v ≡ w
+kill_within : (by_clusters : Bool) (range : Option TextSpan) (l : Line) {w v : Written}
+    → CutEvents (if by_clusters then deletion_events range l else StartKilling ∷ (deletion_events range l ++ (StopKilling ∷ []))) w v → v ≡ w
 kill_within true range l x = kept_within (deletion_events range l) (deletion_few range l) x
 kill_within false None l x = no_change x.done x.never x.refused x.split x.change
 kill_within false (Some span) l {w} x =
     split_between (deletion span.from span.upto span.direction l.text) x.done x.never x.refused x.split x.change (λ one is. x.left ∙ ap (λ es. after_events es w) one ∙ followed-mark w)
 
 -- an edit of one step
-stopped_step : {A : Type 0} {events : List Event} {line : Line} {answer : A} {w v : Written} → StopsIn (doing (Tells events line) answer) w v → StopsWithin events w v
+stopped_step : {A : Type 0} {events : List ChangeEvent} {line : Line} {answer : A} {w v : Written} → CutEdit (single_step (Tells events line) answer) w v → CutEvents events w v
 stopped_step h = elim h.stops [ inl none ↦ absurd none | inr refused ↦ refused ]
 
 pub refused_changes_leave_all : RefusedChangesLeaveAll
@@ -51,10 +51,10 @@ refused_changes_leave_all = record {
 }
 
 -- closing marks never fails
-unclosed : (steps : List WriteStep) (w v : Written) → StopsAlong (steps ++ (Closes ∷ [])) w v → StopsAlong steps w v
+unclosed : (steps : List WriteStep) (w v : Written) → CutAlong (steps ++ (Closes ∷ [])) w v → CutAlong steps w v
 unclosed [] w v (inl h) = h
 unclosed [] w v (inr h) = h
-unclosed (step ∷ steps) w v (inl h) = inl (unclosed steps (step_made step w) v h)
+unclosed (step ∷ steps) w v (inl h) = inl (unclosed steps (effect_of_step step w) v h)
 unclosed (step ∷ steps) w v (inr h) = inr h
 
 pub refused_groups_stay_open : RefusedGroupsStayOpen

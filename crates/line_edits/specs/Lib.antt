@@ -1,3 +1,3 @@
 pub mod Written
-pub mod Steps
+pub mod WriteSteps
 pub mod Edits

@@ -1,33 +1,34 @@
 -- A line with the record of its texts, and the effect of a call on both.
 use Rattle.std.specs.Prelude.{◌≡◌, ◌∷◌, List, Result, IfOk, OnOk}
-use Rattle.line_buffer.specs.Event.{Event}
+use Rattle.line_buffer.specs.Event.{ChangeEvent}
 use Rattle.line_buffer.specs.Line.{Line}
-use Rattle.line_record.specs.Held.{Held, ended}
-use Rattle.line_record.specs.Held.Held.{Opened}
-use Rattle.line_record.specs.Items.{Items, ItemsStand, held_on}
-use Rattle.line_record.specs.Course.{recorded_all}
+use Rattle.line_record.specs.Held.{HeldItem, record_after_close}
+use Rattle.line_record.specs.Held.HeldItem.{Opened}
+use Rattle.line_record.specs.Items.{Items, ItemsStand, record_on}
+use Rattle.line_record.specs.RecordCourse.{record_after_events}
 use Rattle.line_edits.specs.declared.recorded_line.RecordedLine.{RecordedLine}
 
 pub record Written : Type 0 where
   pub line : Line
-  pub held : List Held
+  pub held : List HeldItem
 
-abbrev pub written : Line → Items → Written
-written line changes = record { line = line; held = held_on changes line.text }
+abbrev pub line_and_record : Line → Items → Written
+line_and_record line changes = record { line = line; held = record_on changes line.text }
 
-abbrev pub written_in : RecordedLine → Written
-written_in r = written r.line r.changes
+abbrev pub line_and_record_in : RecordedLine → Written
+line_and_record_in r = line_and_record r.line r.changes
 
 -- an edit by its events, and the line that it leaves
-abbrev pub edited : List Event → Line → Written → Written
-edited events line w = record { line = line; held = recorded_all events w.line.text w.held }
+abbrev pub after_edit : List ChangeEvent → Line → Written → Written
+after_edit events line w = record
+    { line = line; held = record_after_events events w.line.text w.held }
 
 -- a mark set, and all marks closed
 abbrev pub group_opened : Written → Written
 group_opened w = record { line = w.line; held = Opened w.line.text ∷ w.held }
 
 abbrev pub group_closed : Written → Written
-group_closed w = record { line = w.line; held = ended w.held }
+group_closed w = record { line = w.line; held = record_after_close w.held }
 
 -- an edit that is undone as one
 abbrev pub in_group : (Written → Written) → Written → Written
@@ -38,6 +39,6 @@ in_group edit w = group_closed (edit (group_opened w))
 pub record Writes {A E : Type 0} (edit : Written → Written) (answer : A) (before after : Line)
     (old new : Items) (result : Result A E) : Type 0 where
   pub answers : IfOk result (λ a. a ≡ answer)
-  pub line : OnOk result (after ≡ (edit (written before old)).line)
-  pub held : OnOk result (held_on new after.text ≡ (edit (written before old)).held)
+  pub line : OnOk result (after ≡ (edit (line_and_record before old)).line)
+  pub held : OnOk result (record_on new after.text ≡ (edit (line_and_record before old)).held)
   pub stand : ItemsStand new after.text

@@ -2,8 +2,8 @@
 ghost use Rattle.std.specs.Prelude.{◌≡◌, ◌≤◌, ◌-◌, true, is_some, OnErr, IsCharBoundary};
 ghost use Rattle.line_buffer.specs.Insertions.{insert as insertion, yank as yanked_in};
 ghost use Rattle.line_record.specs.Items.{ItemsStand};
-ghost use Rattle.line_edits.specs.Edits.{typing, yanking, putting_behind, popping, popping_in_group};
-ghost use Rattle.line_edits.specs.Steps.{Edits, Rewrites};
+ghost use Rattle.line_edits.specs.Edits.{char_steps, yank_steps, text_steps, pop_steps, pop_group};
+ghost use Rattle.line_edits.specs.WriteSteps.{Edits, Rewrites};
 
 use crate::plain::is_plain;
 use crate::recorded_line::RecordedLine;
@@ -19,7 +19,7 @@ pub(crate) fn insert_told(
     n: RepeatCount,
 ) -> Result<Option<bool>, OutOfMemory>
     requires { ItemsStand changes.old line.old.text }
-    ensures rewrites { Rewrites (typing ch n line.old)
+    ensures rewrites { Rewrites (char_steps ch n line.old)
         line.old line.new changes.old changes.new result }
     ensures kept { OnErr result (line.new ≡ line.old) }
     ensures refused { OnErr result (is_some (insertion ch n line.old).answer ≡ true) }
@@ -35,7 +35,7 @@ fn text_told(
     text: &str,
 ) -> Result<(), OutOfMemory>
     requires { ItemsStand changes.old line.old.text }
-    ensures rewrites { Rewrites (putting_behind text.now line.old)
+    ensures rewrites { Rewrites (text_steps text.now line.old)
         line.old line.new changes.old changes.new result }
     ensures kept { OnErr result (line.new ≡ line.old) }
 {
@@ -53,7 +53,7 @@ fn yank_told(
     n: RepeatCount,
 ) -> Result<Option<bool>, OutOfMemory>
     requires { ItemsStand changes.old line.old.text }
-    ensures rewrites { Rewrites (yanking text.now n line.old)
+    ensures rewrites { Rewrites (yank_steps text.now n line.old)
         line.old line.new changes.old changes.new result }
     ensures kept { OnErr result (line.new ≡ line.old) }
     ensures refused { OnErr result (is_some (yanked_in text.now n line.old).answer ≡ true) }
@@ -72,7 +72,7 @@ fn pop_told(
     requires size { yank_size ≤ line.old.place }
     requires start { IsCharBoundary line.old.text (line.old.place - yank_size) }
     requires stand { ItemsStand changes.old line.old.text }
-    ensures { Rewrites (popping yank_size text.now line.old)
+    ensures { Rewrites (pop_steps yank_size text.now line.old)
         line.old line.new changes.old changes.new result }
 {
     let _text = line.as_str();
@@ -90,7 +90,7 @@ fn pop_told_in_group(
     requires size { yank_size ≤ line.old.place }
     requires start { IsCharBoundary line.old.text (line.old.place - yank_size) }
     requires stand { ItemsStand changes.old line.old.text }
-    ensures { Rewrites (popping_in_group yank_size text.now line.old)
+    ensures { Rewrites (pop_group yank_size text.now line.old)
         line.old line.new changes.old changes.new result }
 {
     changes.begin(alloc)?;
@@ -109,7 +109,7 @@ impl RecordedLine {
         ch: char,
         n: RepeatCount,
     ) -> Result<Option<bool>, OutOfMemory>
-        ensures writes { Edits (typing ch n self.old.line) self.old self.new result }
+        ensures writes { Edits (char_steps ch n self.old.line) self.old self.new result }
         ensures refused { OnErr result (is_some (insertion ch n self.old.line).answer ≡ true) }
     {
         let at_end = insert_told(alloc, &mut self.line, &mut self.changes, ch, n)?;
@@ -122,7 +122,7 @@ impl RecordedLine {
 
     /// Inserts a text at the cursor, which stays before it.
     pub fn insert_text(&mut self, alloc: Global, text: &str) -> Result<(), OutOfMemory>
-        ensures { Edits (putting_behind text.now self.old.line) self.old self.new result }
+        ensures { Edits (text_steps text.now self.old.line) self.old self.new result }
     {
         text_told(alloc, &mut self.line, &mut self.changes, text)?;
         if self.plain && is_plain(text) {
@@ -140,7 +140,7 @@ impl RecordedLine {
         text: &str,
         n: RepeatCount,
     ) -> Result<Option<bool>, OutOfMemory>
-        ensures writes { Edits (yanking text.now n self.old.line) self.old self.new result }
+        ensures writes { Edits (yank_steps text.now n self.old.line) self.old self.new result }
         ensures refused { OnErr result
             (is_some (yanked_in text.now n self.old.line).answer ≡ true) }
     {
@@ -162,7 +162,7 @@ impl RecordedLine {
     ) -> Result<(), OutOfMemory>
         requires size { yank_size ≤ self.old.line.place }
         requires start { IsCharBoundary self.old.line.text (self.old.line.place - yank_size) }
-        ensures { Edits (popping_in_group yank_size text.now self.old.line)
+        ensures { Edits (pop_group yank_size text.now self.old.line)
             self.old self.new result }
     {
         let done = pop_told_in_group(alloc, &mut self.line, &mut self.changes, yank_size, text);

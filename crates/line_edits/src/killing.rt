@@ -1,15 +1,15 @@
 //! Kills.
 ghost use Rattle.std.specs.Prelude.{◌≡◌, ◌≤◌, true, length, is_some, OnOk, OnErr};
-ghost use Rattle.line_buffer.specs.Range.{range_of, kill_events};
+ghost use Rattle.line_buffer.specs.Range.{FindsSpan, range_of, kill_events};
 ghost use Rattle.line_record.specs.Items.{ItemsStand};
 ghost use Rattle.line_record.specs.Together.{SameNames};
 ghost use Rattle.line_record.specs.Ring.{ring_all};
-ghost use Rattle.line_edits.specs.Edits.{killing, TookOrNot};
-ghost use Rattle.line_edits.specs.Steps.{Edits, Rewrites};
+ghost use Rattle.line_edits.specs.Edits.{kill_steps, TookOrNot};
+ghost use Rattle.line_edits.specs.WriteSteps.{Edits, Rewrites};
 
 use crate::plain::is_plain;
 use crate::recorded_line::RecordedLine;
-use line_buffer::{LineBuffer, Movement, OutOfMemory};
+use line_buffer::{LineBuffer, Movement, OutOfMemory, TextSpan};
 use line_record::{Changeset, Joined, KillRing};
 use std::alloc::Global;
 
@@ -19,9 +19,11 @@ fn kill_told(
     line: &mut LineBuffer,
     both: &mut Joined<'_, KillRing, Changeset>,
     movement: &Movement,
+    span: Option<TextSpan>,
 ) -> Result<bool, OutOfMemory>
-    requires { ItemsStand both.old.second.now line.old.text }
-    ensures rewrites { Rewrites (killing movement.now line.old)
+    requires stand { ItemsStand both.old.second.now line.old.text }
+    requires span { FindsSpan (range_of movement.now line.old) line.old.text span }
+    ensures rewrites { Rewrites (kill_steps movement.now line.old)
         line.old line.new both.old.second.now both.new.second.now result }
     ensures ring { OnOk result
         (both.new.first.now ≡ ring_all (kill_events movement.now line.old) both.old.first.now) }
@@ -33,7 +35,7 @@ fn kill_told(
     ensures shrinks { length line.new.text ≤ length line.old.text }
 {
     let _text = line.as_str();
-    Ok(line.kill(alloc, movement, both)?)
+    Ok(line.kill_range(alloc, movement, span, both)?)
 }
 
 impl RecordedLine {
@@ -45,7 +47,28 @@ impl RecordedLine {
         ring: &mut KillRing,
         movement: &Movement,
     ) -> Result<bool, OutOfMemory>
-        ensures writes { Edits (killing movement.now self.old.line) self.old self.new result }
+        ensures writes { Edits (kill_steps movement.now self.old.line) self.old self.new result }
+        ensures ring { OnOk result
+            (ring.new ≡ ring_all (kill_events movement.now self.old.line) ring.old) }
+        ensures refused { OnErr result (is_some (range_of movement.now self.old.line) ≡ true) }
+        ensures refused_ring { OnErr result
+            (TookOrNot movement.now self.old.line ring.old ring.new) }
+        ensures shrinks { length self.new.line.text ≤ length self.old.line.text }
+    {
+        let span = self.line.range_of(movement);
+        self.kill_range(alloc, ring, movement, span)
+    }
+
+    /// `kill` of the range that the movement names, if it is known already.
+    pub fn kill_range(
+        &mut self,
+        alloc: Global,
+        ring: &mut KillRing,
+        movement: &Movement,
+        span: Option<TextSpan>,
+    ) -> Result<bool, OutOfMemory>
+        requires { FindsSpan (range_of movement.now self.old.line) self.old.line.text span }
+        ensures writes { Edits (kill_steps movement.now self.old.line) self.old self.new result }
         ensures ring { OnOk result
             (ring.new ≡ ring_all (kill_events movement.now self.old.line) ring.old) }
         ensures refused { OnErr result (is_some (range_of movement.now self.old.line) ≡ true) }
@@ -57,7 +80,7 @@ impl RecordedLine {
             first: ring,
             second: &mut self.changes,
         };
-        let killed = kill_told(alloc, &mut self.line, &mut both, movement);
+        let killed = kill_told(alloc, &mut self.line, &mut both, movement, span);
         if !self.plain {
             self.plain = is_plain(self.line.as_str());
         }

@@ -5,8 +5,8 @@ use Rattle.std.proofs.lemmas.Bool.{eq-eqb}
 use Rattle.std.proofs.lemmas.List.{append-nil}
 use Rattle.line_help.specs.Brackets.{all_kinds, are_kind, is_opening, is_closing, partner, Balanced, empty, other, pair}
 use Rattle.line_help.specs.Validation.{verdict_from, mismatch, closes_innermost, without_innermost, bracket_verdict, ValidIsBalanced, IncompleteIsBegun, InvalidIsLost}
-use Rattle.line_help.specs.declared.validate.ValidationResult.{ValidationResult}
-use Rattle.line_help.specs.declared.validate.ValidationResult.TheVariants.{Incomplete, Invalid, Valid}
+use Rattle.line_help.specs.declared.helpers.validate.ValidationResult.{ValidationResult}
+use Rattle.line_help.specs.declared.helpers.validate.ValidationResult.TheVariants.{Incomplete, Invalid, Valid}
 
 pub eqb_true : (a b : ℕ) → (a == b) ≡ true → a ≡ b
 eqb_true a b e = grind arith

@@ -5,7 +5,7 @@ use lib.Utf8.{encode}
 use Rattle.line_help.specs.Brackets.{bracket_to_match, match_of}
 use Rattle.line_help.specs.Highlights.{kept_bracket, with_match_shown}
 use Rattle.line_help.specs.Validation.{bracket_verdict}
-use Rattle.line_help.specs.declared.validate.ValidationResult.TheVariants.{Incomplete, Invalid, Valid}
+use Rattle.line_help.specs.declared.helpers.validate.ValidationResult.TheVariants.{Incomplete, Invalid, Valid}
 use Rattle.line_keys.specs.declared.command.CmdKind.TheVariants.{MoveCursor, ForcedRefresh}
 
 -- no match; the match after, before, and of the outer one of two

@@ -7,8 +7,8 @@ use Rattle.line_buffer.specs.Insertions.{last_cut}
 use Rattle.line_help.specs.Completion.{Offered, longest_common_prefix, word_start, is_among, break_characters}
 use Rattle.line_help.specs.FileNames.{Named, path_completion, unsorted_completion}
 use Rattle.line_keys.specs.Replies.{Reply, gives, gives_at_once}
-use Rattle.line_help.specs.Quotes.{escaped, unescaped, unclosed_quote}
-use Rattle.line_help.specs.declared.quotes.Quote.TheVariants.{Double, Single, None as Unquoted}
+use Rattle.line_help.specs.Quotes.{text_with_escapes, text_without_escapes, unclosed_quote}
+use Rattle.line_help.specs.declared.completion.quotes.Quote.TheVariants.{Double, Single, None as Unquoted}
 
 -- `fée`, `fête`
 in_whole_characters : longest_common_prefix ((102 ∷ 195 ∷ 169 ∷ 101 ∷ []) ∷ (102 ∷ 195 ∷ 170 ∷ 116 ∷ 101 ∷ []) ∷ []) ≡ Some (codes "f")
@@ -52,14 +52,14 @@ word_with_an_escape : word_start (Some 92) (is_among break_characters) (codes "l
 unfolding chars encode
 word_with_an_escape = refl
 
-space_escaped : escaped (codes "/User Information") (Some 92) (is_among break_characters) Unquoted ≡ codes "/User" ++ (92 ∷ codes " Information")
+space_escaped : text_with_escapes (codes "/User Information") (Some 92) (is_among break_characters) Unquoted ≡ codes "/User" ++ (92 ∷ codes " Information")
 unfolding chars encode
 space_escaped = refl
 
-nothing_escaped_in_single_quotes : escaped (codes "a b") (Some 92) (is_among break_characters) Single ≡ codes "a b"
+nothing_escaped_in_single_quotes : text_with_escapes (codes "a b") (Some 92) (is_among break_characters) Single ≡ codes "a b"
 nothing_escaped_in_single_quotes = refl
 
-escape_at_the_end_goes : unescaped (codes "a" ++ (92 ∷ [])) (Some 92) ≡ codes "a"
+escape_at_the_end_goes : text_without_escapes (codes "a" ++ (92 ∷ [])) (Some 92) ≡ codes "a"
 unfolding chars encode
 escape_at_the_end_goes = refl
 

@@ -5,8 +5,8 @@ use Rattle.std.proofs.Math.Nat.{min-eq_left, min-eq_right}
 use Rattle.std.proofs.lemmas.Bool.Decides.{Decides-eqb}
 use Rattle.std.proofs.lemmas.Grind.{flat_map-append}
 use Rattle.std.proofs.lemmas.List.{append-nil, append_assoc, length-append}
-use Rattle.line_help.specs.Course.{WrittenHistory, HistoryStep, Adds, Saves, Appends, Loads, after_step, after_steps, just_saved, CanStep, CanMake, CanComeBack, loaded, history_made_of, TextKeepsUp}
-use Rattle.line_help.specs.History.{Settings, Filed, added, all_saved, filed_with, ignored, newest, nothing_filed}
+use Rattle.line_help.specs.HistoryCourse.{WrittenHistory, HistoryStep, Adds, Saves, Appends, Loads, after_step, after_steps, just_saved, CanStep, CanMake, CanComeBack, history_from_text, history_made_of, TextKeepsUp}
+use Rattle.line_help.specs.History.{Settings, Filed, entries_after, all_saved, history_with_line, ignores_line, newest, nothing_filed}
 use Rattle.line_help.specs.HistoryText.{header, row_of, rows_text, saved_text}
 use Rattle.line_help.proofs.InTurnLemmas.{InTurn, added_all, added_in_parts, added_when, all_in_turn, all_small, filed_kept, gives_itself, overwritten, stays_in_turn, stays_small}
 use Rattle.line_help.proofs.NewestLemmas.{all_new, length-newest, newest_twice, newest_with, none_new}
@@ -32,42 +32,42 @@ which : (a b : ℕ) → (a ≤ b) ⊎ (b < a)
 which a b = grind arith
 
 -- a line that becomes an entry
-module _ (s : Settings) (entries rows : List (List ℕ)) (unsaved : ℕ) (line : List ℕ) (taken : ignored s entries line ≡ false)
+module _ (s : Settings) (entries rows : List (List ℕ)) (unsaved : ℕ) (line : List ℕ) (taken : ignores_line s entries line ≡ false)
     (turn : InTurn s [] entries) (fits : length entries ≤ s.max_len) (few : unsaved ≤ length entries)
     (gives : added_all s [] (rows ++ newest unsaved entries) ≡ entries) where
-  one_more : unsaved + 1 ≤ length (added s entries line) → added_all s [] (rows ++ newest (unsaved + 1) (added s entries line)) ≡ added s entries line
+  one_more : unsaved + 1 ≤ length (entries_after s entries line) → added_all s [] (rows ++ newest (unsaved + 1) (entries_after s entries line)) ≡ entries_after s entries line
   one_more le =
       let small = stays_small s entries line fits in
       ap (λ xs. added_all s [] (rows ++ newest (unsaved + 1) xs)) (added_when s entries line taken)
       ∙ ap (λ xs. added_all s [] (rows ++ xs)) (newest_twice (unsaved + 1) s.max_len (entries ++ line ∷ []) (omega arith) ∙ newest_with unsaved entries line)
       ∙ ap (λ xs. added_all s [] xs) (sym (append_assoc rows (newest unsaved entries) (line ∷ [])))
       ∙ added_in_parts s [] (rows ++ newest unsaved entries) (line ∷ [])
-      ∙ ap (λ xs. added s xs line) gives
+      ∙ ap (λ xs. entries_after s xs line) gives
 
-  all_are_new : length (added s entries line) < unsaved + 1 → added_all s [] (rows ++ newest (length (added s entries line)) (added s entries line)) ≡ added s entries line
+  all_are_new : length (entries_after s entries line) < unsaved + 1 → added_all s [] (rows ++ newest (length (entries_after s entries line)) (entries_after s entries line)) ≡ entries_after s entries line
   all_are_new lt =
-      let l : length (added s entries line) ≡ length (entries ++ line ∷ []) - (length (entries ++ line ∷ []) - s.max_len) =
+      let l : length (entries_after s entries line) ≡ length (entries ++ line ∷ []) - (length (entries ++ line ∷ []) - s.max_len) =
       ap (λ xs. length xs) (added_when s entries line taken) ∙ length-newest s.max_len (entries ++ line ∷ []) in
       let m = length-append entries (line ∷ []) in
-      ap (λ xs. added_all s [] (rows ++ xs)) (all_new (length (added s entries line)) (added s entries line) (omega arith))
-      ∙ added_in_parts s [] rows (added s entries line)
-      ∙ overwritten s (added_all s [] rows) (added s entries line) (all_small s [] rows (omega arith)) (stays_in_turn s entries line turn) (omega arith)
+      ap (λ xs. added_all s [] (rows ++ xs)) (all_new (length (entries_after s entries line)) (entries_after s entries line) (omega arith))
+      ∙ added_in_parts s [] rows (entries_after s entries line)
+      ∙ overwritten s (added_all s [] rows) (entries_after s entries line) (all_small s [] rows (omega arith)) (stays_in_turn s entries line turn) (omega arith)
 
 after_adding : (s : Settings) (now : WrittenHistory) (line : List ℕ) → Stands s now → Stands s (after_step s (Adds line) now)
-after_adding s now line r = by_case (ignored s r.entries line) refl where
-  is_ignored : ignored s r.entries line ≡ true → filed_with (filed_of s r.entries r.unsaved) line ≡ filed_of s r.entries r.unsaved
+after_adding s now line r = by_case (ignores_line s r.entries line) refl where
+  is_ignored : ignores_line s r.entries line ≡ true → history_with_line (filed_of s r.entries r.unsaved) line ≡ filed_of s r.entries r.unsaved
   is_ignored e = rw e refl
 
-  counted : ignored s r.entries line ≡ false → filed_with (filed_of s r.entries r.unsaved) line ≡ filed_of s (added s r.entries line) (min (r.unsaved + 1) (length (added s r.entries line)))
+  counted : ignores_line s r.entries line ≡ false → history_with_line (filed_of s r.entries r.unsaved) line ≡ filed_of s (entries_after s r.entries line) (min (r.unsaved + 1) (length (entries_after s r.entries line)))
   counted e = rw e refl
 
-  taken : (count : ℕ) → ignored s r.entries line ≡ false → min (r.unsaved + 1) (length (added s r.entries line)) ≡ count → count ≤ length (added s r.entries line)
-      → added_all s [] (r.rows ++ newest count (added s r.entries line)) ≡ added s r.entries line → Stands s (after_step s (Adds line) now)
+  taken : (count : ℕ) → ignores_line s r.entries line ≡ false → min (r.unsaved + 1) (length (entries_after s r.entries line)) ≡ count → count ≤ length (entries_after s r.entries line)
+      → added_all s [] (r.rows ++ newest count (entries_after s r.entries line)) ≡ entries_after s r.entries line → Stands s (after_step s (Adds line) now)
   taken count e f few gives = record {
-    entries = added s r.entries line;
+    entries = entries_after s r.entries line;
     unsaved = count;
     rows = r.rows;
-    is = ap (λ h. filed_with h line) r.is ∙ counted e ∙ ap (λ n. filed_of s (added s r.entries line) n) f;
+    is = ap (λ h. history_with_line h line) r.is ∙ counted e ∙ ap (λ n. filed_of s (entries_after s r.entries line) n) f;
     text = r.text;
     back = r.back;
     turn = stays_in_turn s r.entries line r.turn;
@@ -76,12 +76,12 @@ after_adding s now line r = by_case (ignored s r.entries line) refl where
     gives = gives;
   }
 
-  by_case : (b : Bool) → ignored s r.entries line ≡ b → Stands s (after_step s (Adds line) now)
+  by_case : (b : Bool) → ignores_line s r.entries line ≡ b → Stands s (after_step s (Adds line) now)
   by_case true e = record {
     entries = r.entries;
     unsaved = r.unsaved;
     rows = r.rows;
-    is = ap (λ h. filed_with h line) r.is ∙ is_ignored e;
+    is = ap (λ h. history_with_line h line) r.is ∙ is_ignored e;
     text = r.text;
     back = r.back;
     turn = r.turn;
@@ -90,9 +90,9 @@ after_adding s now line r = by_case (ignored s r.entries line) refl where
     gives = r.gives;
   }
   by_case false e =
-      elim (which (r.unsaved + 1) (length (added s r.entries line))) [
+      elim (which (r.unsaved + 1) (length (entries_after s r.entries line))) [
         | inl le ↦ taken (r.unsaved + 1) e (min-eq_left le) le (one_more s r.entries r.rows r.unsaved line e r.turn r.fits r.few r.gives le)
-        | inr lt ↦ taken (length (added s r.entries line)) e (min-eq_right (omega arith)) (omega arith) (all_are_new s r.entries r.rows r.unsaved line e r.turn r.fits r.few r.gives lt)
+        | inr lt ↦ taken (length (entries_after s r.entries line)) e (min-eq_right (omega arith)) (omega arith) (all_are_new s r.entries r.rows r.unsaved line e r.turn r.fits r.few r.gives lt)
       ]
 
 -- if nothing is new after the rows, they give the history
@@ -152,8 +152,8 @@ after_appending s now can r = by_case (now.history.unsaved == 0) refl where
 made_is : (s : Settings) (rows : List (List ℕ)) → history_made_of s rows ≡ filed_of s (added_all s [] rows) 0
 made_is s rows = let kept = filed_kept (nothing_filed s) rows in rw kept refl
 
-loaded_is : (s : Settings) (text : List ℕ) (rows : List (List ℕ)) → text ≡ saved_text rows → CanComeBack rows → loaded s text ≡ filed_of s (added_all s [] rows) 0
-loaded_is s text rows is back = ap (λ t. loaded s t) is ∙ saved_back s rows back ∙ made_is s rows
+loaded_is : (s : Settings) (text : List ℕ) (rows : List (List ℕ)) → text ≡ saved_text rows → CanComeBack rows → history_from_text s text ≡ filed_of s (added_all s [] rows) 0
+loaded_is s text rows is back = ap (λ t. history_from_text s t) is ∙ saved_back s rows back ∙ made_is s rows
 
 after_loading : (s : Settings) (now : WrittenHistory) → Stands s now → Stands s (after_step s Loads now)
 after_loading s now r = record {
@@ -179,7 +179,7 @@ after_all : (s : Settings) (steps : List HistoryStep) (now : WrittenHistory) →
 after_all s [] now can r = r
 after_all s (step ∷ steps) now can r = after_all s steps (after_step s step now) can.1 (after_one s now step can.0 r)
 
-comes_back : (s : Settings) (now : WrittenHistory) → Stands s now → now.history.unsaved ≡ 0 → loaded s now.text ≡ now.history
+comes_back : (s : Settings) (now : WrittenHistory) → Stands s now → now.history.unsaved ≡ 0 → history_from_text s now.text ≡ now.history
 comes_back s now r e =
     let none : r.unsaved ≡ 0 = sym (ap (λ h. h.unsaved) r.is) ∙ e in
     loaded_is s now.text r.rows r.text r.back

@@ -9,9 +9,9 @@ use Rattle.std.proofs.lemmas.List.Sums.{suffix_len_is}
 use Rattle.std.proofs.lemmas.Str.{IsCharBoundary-after_ascii}
 use Rattle.line_help.specs.Completion.{Offered}
 use Rattle.line_help.specs.Quotes.{closes_quote, unclosed_quote}
-use Rattle.line_help.specs.FileNames.{Named, folder_len, name_begins, offered_name, offered_names, displayed_before}
-use Rattle.line_help.specs.declared.quotes.Quote.{Quote}
-use Rattle.line_help.specs.declared.quotes.Quote.TheVariants.{Double, Single, None as Unquoted}
+use Rattle.line_help.specs.FileNames.{Named, folder_len, name_begins, offered_name, offered_names, is_displayed_before}
+use Rattle.line_help.specs.declared.completion.quotes.Quote.{Quote}
+use Rattle.line_help.specs.declared.completion.quotes.Quote.TheVariants.{Double, Single, None as Unquoted}
 use Rattle.line_help.proofs.QuoteLemmas.{StandsIn, unclosed_stands}
 
 -- where the folder of a path ends
@@ -66,5 +66,5 @@ pub skipped_turn : (quote : Quote) (folder name : List ℕ) (all : List Named) (
 skipped_turn quote folder name all i named done after inside is begins whole e =
     rw e (ap (λ rest. done ++ rest) (sym (name_skipped quote folder name all i named inside is begins)) ∙ whole)
 
-pub display_order : IsStrictWeakOrder displayed_before
+pub display_order : IsStrictWeakOrder is_displayed_before
 display_order = ranks_by nat_list_cmp_total (λ (offered : Offered). offered.display)

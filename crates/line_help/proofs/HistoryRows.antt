@@ -5,12 +5,12 @@ use Rattle.std.specs.Str.{chars, is_utf8}
 use lib.Utf8.{encode}
 use Rattle.line_config.specs.declared.device.Last.TheVariants.{End, Failed}
 use Rattle.line_config.specs.declared.errors.ReadlineError.TheVariants.{HistoryText, Reader}
-use Rattle.line_help.specs.Course.{Adds, Appends, Loads, after_steps, just_saved, loaded}
-use Rattle.line_help.specs.History.{Settings, filed_with_all, takes_all, nothing_filed, entries_kept, ignored, resized}
+use Rattle.line_help.specs.HistoryCourse.{Adds, Appends, Loads, after_steps, just_saved, history_from_text}
+use Rattle.line_help.specs.History.{Settings, history_with_lines, takes_all, nothing_filed, entries_kept, ignores_line, entries_with_max_len}
 use Rattle.line_help.specs.HistoryText.{text_rows, texts_of, has_header, text_to_save, text_to_append, header, load_answer, load_leaves}
-use Rattle.line_help.specs.Search.{searched}
+use Rattle.line_help.specs.Search.{search_hit}
 use Rattle.line_help.specs.Hints.{history_hint}
-use Rattle.line_help.specs.declared.search.SearchDirection.TheVariants.{Forward, Reverse}
+use Rattle.line_help.specs.declared.history.search.SearchDirection.TheVariants.{Forward, Reverse}
 
 abbrev few : Settings
 few = record { max_len = 100; ignore_space = false; ignore_dups = true }
@@ -32,7 +32,7 @@ escapes_are_read_back = refl
 header_stands : has_header (text_rows End escaped_rows) ≡ true
 header_stands = refl
 
-escaped_text_is_loaded : loaded few escaped_rows ≡ record { kept = entries_kept read_entries few; unsaved = 0 }
+escaped_text_is_loaded : history_from_text few escaped_rows ≡ record { kept = entries_kept read_entries few; unsaved = 0 }
 unfolding is_utf8 chars encode
 escaped_text_is_loaded = refl
 
@@ -40,14 +40,14 @@ escaped_text_is_whole : load_answer End (text_rows End escaped_rows) (nothing_fi
 unfolding is_utf8 chars encode
 escaped_text_is_whole = refl
 
-nothing_to_save_behind_a_load : text_to_save (loaded few escaped_rows) ≡ []
+nothing_to_save_behind_a_load : text_to_save (history_from_text few escaped_rows) ≡ []
 unfolding is_utf8 chars encode
 nothing_to_save_behind_a_load = refl
 
 none_is_ignored : takes_all (nothing_filed few) read_entries ≡ true
 none_is_ignored = refl
 
-all_are_kept : (filed_with_all (nothing_filed few) read_entries).kept.entries ≡ read_entries
+all_are_kept : (history_with_lines (nothing_filed few) read_entries).kept.entries ≡ read_entries
 all_are_kept = refl
 
 -- `a\nb`
@@ -80,13 +80,13 @@ unfolding is_utf8 chars encode
 failure_behind_a_row = refl
 
 -- new entry `x\y`
-backslash_is_doubled : text_to_save (filed_with_all (nothing_filed few) ((120 ∷ 92 ∷ 121 ∷ []) ∷ [])) ≡ header ++ 10 ∷ 120 ∷ 92 ∷ 92 ∷ 121 ∷ 10 ∷ []
+backslash_is_doubled : text_to_save (history_with_lines (nothing_filed few) ((120 ∷ 92 ∷ 121 ∷ []) ∷ [])) ≡ header ++ 10 ∷ 120 ∷ 92 ∷ 92 ∷ 121 ∷ 10 ∷ []
 backslash_is_doubled = refl
 
 nothing_new_nothing_saved : text_to_save (record { kept = record { entries = read_entries; settings = few }; unsaved = 0 }) ≡ []
 nothing_new_nothing_saved = refl
 
-new_row_appended : text_to_append (filed_with_all (record { kept = record { entries = read_entries; settings = few }; unsaved = 0 }) (codes "z" ∷ [])) ≡ 122 ∷ 10 ∷ []
+new_row_appended : text_to_append (history_with_lines (record { kept = record { entries = read_entries; settings = few }; unsaved = 0 }) (codes "z" ∷ [])) ≡ 122 ∷ 10 ∷ []
 new_row_appended = refl
 
 -- after a first save: appended to, loaded, and appended to again
@@ -104,22 +104,22 @@ begun_row_of_a_failing_source = refl
 abbrev three : List (List ℕ)
 three = codes "line1" ∷ codes "line2" ∷ codes "line3" ∷ []
 
-nearest_backward : searched false (codes "line") 1 Reverse three ≡ Some (record { entry = codes "line2"; idx = 1; pos = 0 })
+nearest_backward : search_hit false (codes "line") 1 Reverse three ≡ Some (record { entry = codes "line2"; idx = 1; pos = 0 })
 nearest_backward = refl
 
-nearest_forward : searched false (codes "3") 0 Forward three ≡ Some (record { entry = codes "line3"; idx = 2; pos = 4 })
+nearest_forward : search_hit false (codes "3") 0 Forward three ≡ Some (record { entry = codes "line3"; idx = 2; pos = 4 })
 nearest_forward = refl
 
-not_found : searched false (codes "none") 1 Reverse three ≡ None
+not_found : search_hit false (codes "none") 1 Reverse three ≡ None
 not_found = refl
 
-empty_term : searched false [] 1 Reverse three ≡ None
+empty_term : search_hit false [] 1 Reverse three ≡ None
 empty_term = refl
 
-behind_the_end : searched false (codes "line") 3 Reverse three ≡ None
+behind_the_end : search_hit false (codes "line") 3 Reverse three ≡ None
 behind_the_end = refl
 
-size_one_keeps_the_newest : (resized 1 (record { entries = three; settings = few })).entries ≡ codes "line3" ∷ []
+size_one_keeps_the_newest : (entries_with_max_len 1 (record { entries = three; settings = few })).entries ≡ codes "line3" ∷ []
 size_one_keeps_the_newest = refl
 
 rest_of_the_entry : history_hint (codes "hello") 5 (codes "hello world" ∷ []) 1 ≡ Some (codes " world")
@@ -128,17 +128,17 @@ rest_of_the_entry = refl
 no_hint_for_the_entry_itself : history_hint (codes "hello world") 11 (codes "hello world" ∷ []) 1 ≡ None
 no_hint_for_the_entry_itself = refl
 
-repeated_line : ignored no_spaces (codes "line2" ∷ []) (codes "line2") ≡ true
+repeated_line : ignores_line no_spaces (codes "line2" ∷ []) (codes "line2") ≡ true
 unfolding chars
 repeated_line = refl
 
-empty_line : ignored no_spaces (codes "line2" ∷ []) [] ≡ true
+empty_line : ignores_line no_spaces (codes "line2" ∷ []) [] ≡ true
 empty_line = refl
 
-new_line : ignored no_spaces [] (codes "line2") ≡ false
+new_line : ignores_line no_spaces [] (codes "line2") ≡ false
 unfolding chars
 new_line = refl
 
-line_behind_a_space : ignored no_spaces (codes "line2" ∷ []) (codes " line3") ≡ true
+line_behind_a_space : ignores_line no_spaces (codes "line2" ∷ []) (codes " line3") ≡ true
 unfolding chars
 line_behind_a_space = refl

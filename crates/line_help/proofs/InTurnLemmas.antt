@@ -3,28 +3,28 @@ use Rattle.std.proofs.Common.{◌≡◌, ℕ, zero, suc, ◌-◌, ◌≤◌, ◌
 use Rattle.std.specs.Prelude.{◌==◌, ◌||◌, ◌&&◌}
 use Rattle.std.proofs.lemmas.List.{append-nil, append_assoc}
 use Rattle.std.proofs.lemmas.Slice.Eq.{bytes_eq-Decides}
-use Rattle.line_help.specs.History.{Settings, Filed, added, begins_with_space, filed_with, filed_with_all, ignored, newest, newest_is}
+use Rattle.line_help.specs.History.{Settings, Filed, entries_after, begins_with_space, history_with_line, history_with_lines, ignores_line, newest, newest_is}
 use Rattle.line_help.proofs.NewestLemmas.{all_new, length-newest, newest_behind, newest_all_behind}
 
 abbrev pub added_all : Settings → List (List ℕ) → List (List ℕ) → List (List ℕ)
 added_all s entries [] = entries
-added_all s entries (line ∷ lines) = added_all s (added s entries line) lines
+added_all s entries (line ∷ lines) = added_all s (entries_after s entries line) lines
 
 -- each of them would be taken after the one before it
 abbrev pub InTurn : Settings → List (List ℕ) → List (List ℕ) → Type 0
 InTurn s before [] = Unit {0}
-InTurn s before (line ∷ lines) = (ignored s before line ≡ false) × InTurn s (line ∷ []) lines
+InTurn s before (line ∷ lines) = (ignores_line s before line ≡ false) × InTurn s (line ∷ []) lines
 
 -- the list that a history has after these lines, and its settings
-pub filed_kept : (h : Filed) (lines : List (List ℕ)) → (filed_with_all h lines).kept ≡ record { entries = added_all h.kept.settings h.kept.entries lines; settings = h.kept.settings }
+pub filed_kept : (h : Filed) (lines : List (List ℕ)) → (history_with_lines h lines).kept ≡ record { entries = added_all h.kept.settings h.kept.entries lines; settings = h.kept.settings }
 filed_kept h [] = refl
-filed_kept h (line ∷ lines) = filed_kept (filed_with h line) lines
+filed_kept h (line ∷ lines) = filed_kept (history_with_line h line) lines
 
 pub added_in_parts : (s : Settings) (entries xs ys : List (List ℕ)) → added_all s entries (xs ++ ys) ≡ added_all s (added_all s entries xs) ys
 added_in_parts s entries [] ys = refl
-added_in_parts s entries (x ∷ xs) ys = added_in_parts s (added s entries x) xs ys
+added_in_parts s entries (x ∷ xs) ys = added_in_parts s (entries_after s entries x) xs ys
 
-pub added_when : (s : Settings) (entries : List (List ℕ)) (line : List ℕ) → ignored s entries line ≡ false → added s entries line ≡ newest s.max_len (entries ++ line ∷ [])
+pub added_when : (s : Settings) (entries : List (List ℕ)) (line : List ℕ) → ignores_line s entries line ≡ false → entries_after s entries line ≡ newest s.max_len (entries ++ line ∷ [])
 added_when s entries line e = rw e refl
 
 -- the newest entry is what decides
@@ -43,7 +43,7 @@ newest_of_newest : (line : List ℕ) (n : ℕ) (entries : List (List ℕ)) → 0
 newest_of_newest line n [] some = ap (λ xs. newest_is line xs) (all_new n [] (omega arith))
 newest_of_newest line n (x ∷ entries) some = newest_of_drop line (length (x ∷ entries) - n) (x ∷ entries) (omega arith)
 
-same_newest : (s : Settings) (xs ys : List (List ℕ)) (line : List ℕ) → newest_is line xs ≡ newest_is line ys → ignored s xs line ≡ ignored s ys line
+same_newest : (s : Settings) (xs ys : List (List ℕ)) (line : List ℕ) → newest_is line xs ≡ newest_is line ys → ignores_line s xs line ≡ ignores_line s ys line
 same_newest s xs ys line e =
     ap (λ b. ((s.max_len == 0 || length line == 0) || (s.ignore_space && begins_with_space line)) || (s.ignore_dups && b)) e
 
@@ -59,14 +59,14 @@ or_false : (a b c : Bool) → (a || b) ≡ false → c ≡ false → (a || c) �
 or_false true b c e f = cc
 or_false false b c e f = f
 
-some_room : (s : Settings) (entries : List (List ℕ)) (line : List ℕ) → ignored s entries line ≡ false → 0 < s.max_len
+some_room : (s : Settings) (entries : List (List ℕ)) (line : List ℕ) → ignores_line s entries line ≡ false → 0 < s.max_len
 some_room s entries line e = by_size s.max_len (two_false (s.max_len == 0) (length line == 0) (two_false _ (s.ignore_space && begins_with_space line) (two_false _ _ e).0).0).0 where
   by_size : (n : ℕ) → (n == 0) ≡ false → 0 < n
   by_size zero f = cc
   by_size (suc n) f = omega arith
 
 -- a line that is taken after another is taken first, too
-taken_first : (s : Settings) (entries : List (List ℕ)) (line : List ℕ) → ignored s entries line ≡ false → ignored s [] line ≡ false
+taken_first : (s : Settings) (entries : List (List ℕ)) (line : List ℕ) → ignores_line s entries line ≡ false → ignores_line s [] line ≡ false
 taken_first s entries line e =
     or_false ((s.max_len == 0 || length line == 0) || (s.ignore_space && begins_with_space line)) (s.ignore_dups && newest_is line entries) (s.ignore_dups && false) e (and_false s.ignore_dups)
 
@@ -83,7 +83,7 @@ in_turn_rest s zero lines t = t
 in_turn_rest s (suc k) [] t = tt
 in_turn_rest s (suc k) (line ∷ lines) t = in_turn_rest s k lines (in_turn_first s (line ∷ []) lines t.1)
 
-in_turn_with : (s : Settings) (before lines : List (List ℕ)) (line : List ℕ) → InTurn s before lines → ignored s (before ++ lines) line ≡ false → InTurn s before (lines ++ line ∷ [])
+in_turn_with : (s : Settings) (before lines : List (List ℕ)) (line : List ℕ) → InTurn s before lines → ignores_line s (before ++ lines) line ≡ false → InTurn s before (lines ++ line ∷ [])
 in_turn_with s before [] line t e = (sym (same_newest s (before ++ []) before line (ap (λ xs. newest_is line xs) (append-nil before))) ∙ e, tt)
 in_turn_with s before (x ∷ lines) line t e =
     (t.0, in_turn_with s (x ∷ []) lines line t.1 (sym (same_newest s (before ++ x ∷ lines) (x ∷ lines) line (behind before)) ∙ e)) where
@@ -115,7 +115,7 @@ or_true_right true b e f = cc
 or_true_right false b e f = e
 
 -- a line that would be taken first is ignored after entries of which the newest is the line
-ignored_repeats : (s : Settings) (entries : List (List ℕ)) (line : List ℕ) → ignored s entries line ≡ true → ignored s [] line ≡ false → newest_is line entries ≡ true
+ignored_repeats : (s : Settings) (entries : List (List ℕ)) (line : List ℕ) → ignores_line s entries line ≡ true → ignores_line s [] line ≡ false → newest_is line entries ≡ true
 ignored_repeats s entries line e f =
     let others = (s.max_len == 0 || length line == 0) || (s.ignore_space && begins_with_space line) in
     and_true_right s.ignore_dups (newest_is line entries)
@@ -128,15 +128,15 @@ none_of (x ∷ entries) few = absurd (omega arith)
 -- as many as there is space for take the place of all that was there
 pub overwritten : (s : Settings) (entries lines : List (List ℕ)) → length entries ≤ s.max_len → InTurn s [] lines → length lines ≡ s.max_len → added_all s entries lines ≡ lines
 overwritten s entries [] fits t e = none_of entries (omega arith)
-overwritten s entries (line ∷ lines) fits t e = by_case (ignored s entries line) refl where
-  by_case : (b : Bool) → ignored s entries line ≡ b → added_all s (added s entries line) lines ≡ line ∷ lines
+overwritten s entries (line ∷ lines) fits t e = by_case (ignores_line s entries line) refl where
+  by_case : (b : Bool) → ignores_line s entries line ≡ b → added_all s (entries_after s entries line) lines ≡ line ∷ lines
   by_case false f =
       ap (λ xs. added_all s xs (line ∷ lines)) (sym (all_new s.max_len entries fits))
       ∙ taken_in_turn s entries (line ∷ lines) (f, t.1)
       ∙ newest_all_behind s.max_len entries (line ∷ lines) e
   by_case true f =
       let r = ends_with line entries (ignored_repeats s entries line f t.0) in
-      let stays : added s entries line ≡ entries = rw f refl in
+      let stays : entries_after s entries line ≡ entries = rw f refl in
       let behind : InTurn s entries lines = rw r.1 (in_turn_alone s r.0 line lines t.1) in
       ap (λ xs. added_all s xs lines) (stays ∙ sym (all_new s.max_len entries fits))
       ∙ taken_in_turn s entries lines behind
@@ -145,25 +145,25 @@ overwritten s entries (line ∷ lines) fits t e = by_case (ignored s entries lin
       ∙ newest_all_behind s.max_len r.0 (line ∷ lines) e
 
 -- what adding makes of such a list is such a list
-pub stays_in_turn : (s : Settings) (entries : List (List ℕ)) (line : List ℕ) → InTurn s [] entries → InTurn s [] (added s entries line)
-stays_in_turn s entries line t = by_case (ignored s entries line) refl where
-  by_case : (b : Bool) → ignored s entries line ≡ b → InTurn s [] (added s entries line)
+pub stays_in_turn : (s : Settings) (entries : List (List ℕ)) (line : List ℕ) → InTurn s [] entries → InTurn s [] (entries_after s entries line)
+stays_in_turn s entries line t = by_case (ignores_line s entries line) refl where
+  by_case : (b : Bool) → ignores_line s entries line ≡ b → InTurn s [] (entries_after s entries line)
   by_case true e = rw e t
   by_case false e = rw e (in_turn_rest s (length (entries ++ line ∷ []) - s.max_len) (entries ++ line ∷ []) (in_turn_with s [] entries line t e))
 
-pub stays_small : (s : Settings) (entries : List (List ℕ)) (line : List ℕ) → length entries ≤ s.max_len → length (added s entries line) ≤ s.max_len
-stays_small s entries line fits = by_case (ignored s entries line) refl where
-  by_case : (b : Bool) → ignored s entries line ≡ b → length (added s entries line) ≤ s.max_len
+pub stays_small : (s : Settings) (entries : List (List ℕ)) (line : List ℕ) → length entries ≤ s.max_len → length (entries_after s entries line) ≤ s.max_len
+stays_small s entries line fits = by_case (ignores_line s entries line) refl where
+  by_case : (b : Bool) → ignores_line s entries line ≡ b → length (entries_after s entries line) ≤ s.max_len
   by_case true e = rw e fits
   by_case false e = rw e (let l = length-newest s.max_len (entries ++ line ∷ []) in omega arith)
 
 pub all_in_turn : (s : Settings) (entries lines : List (List ℕ)) → InTurn s [] entries → InTurn s [] (added_all s entries lines)
 all_in_turn s entries [] t = t
-all_in_turn s entries (line ∷ lines) t = all_in_turn s (added s entries line) lines (stays_in_turn s entries line t)
+all_in_turn s entries (line ∷ lines) t = all_in_turn s (entries_after s entries line) lines (stays_in_turn s entries line t)
 
 pub all_small : (s : Settings) (entries lines : List (List ℕ)) → length entries ≤ s.max_len → length (added_all s entries lines) ≤ s.max_len
 all_small s entries [] fits = fits
-all_small s entries (line ∷ lines) fits = all_small s (added s entries line) lines (stays_small s entries line fits)
+all_small s entries (line ∷ lines) fits = all_small s (entries_after s entries line) lines (stays_small s entries line fits)
 
 -- such a list, added to nothing, gives itself
 pub gives_itself : (s : Settings) (entries : List (List ℕ)) → InTurn s [] entries → length entries ≤ s.max_len → added_all s [] entries ≡ entries

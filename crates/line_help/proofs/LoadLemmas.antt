@@ -7,11 +7,10 @@ use Rattle.std.proofs.lemmas.Str.{IsUtf8-from_is_utf8, is_utf8-from_IsUtf8, IsUt
 use Rattle.std.proofs.lemmas.Slice.Eq.{bytes_eq-Decides}
 use lib.Utf8.{encode}
 use Rattle.line_config.specs.declared.device.Last.{Last}
-use Rattle.line_config.specs.declared.device.Last.TheVariants.{End, Failed}
 use Rattle.line_config.specs.declared.errors.ReadlineError.{ReadlineError}
 use Rattle.line_config.specs.declared.errors.ReadlineError.TheVariants.{HistoryText, Memory}
-use Rattle.line_help.specs.History.{Filed, all_saved, filed_with, filed_with_all, takes_all, ignored}
-use Rattle.line_help.specs.HistoryText.{GoodUpTo, LosesRow, after_first, behind_row, behind_rows, follows, text_rows, entries_of, entry_of, good_rows, has_bad_row, header, load_answer, load_leaves, left_at, row_fault, rows_answer, answer_at, texts_of, LoadsSome, left_by_load}
+use Rattle.line_help.specs.History.{Filed, history_with_line, history_with_lines, takes_all, ignores_line}
+use Rattle.line_help.specs.HistoryText.{GoodUpTo, LosesRow, after_first, behind_row, behind_rows, follows, text_rows, entries_of, entry_of, good_rows, has_bad_row, header, load_answer, load_leaves, history_left_at, row_fault, rows_answer, texts_of, LoadsSome, rest_after_load}
 
 pub not_utf8 : (bytes : List ℕ) → ¬ (IsUtf8 bytes) → is_utf8 bytes ≡ false
 not_utf8 bytes never = by_answer (is_utf8 bytes) refl where
@@ -34,33 +33,21 @@ pub empty_is_utf8 : (row : List ℕ) → length row ≡ 0 → is_utf8 row ≡ tr
 empty_is_utf8 [] e = is_utf8-from_IsUtf8 [] IsUtf8-nil
 empty_is_utf8 (b ∷ bs) e = absurd (omega arith)
 
-pub no_entry : (escapes : Bool) (row : List ℕ) → length row ≡ 0 → entries_of escapes (row ∷ []) ≡ []
-no_entry escapes [] e = refl
-no_entry escapes (b ∷ bs) e = absurd (omega arith)
-
-pub sole_entry : (escapes : Bool) (row : List ℕ) → 0 < length row → entries_of escapes (row ∷ []) ≡ entry_of escapes row ∷ []
-sole_entry escapes [] e = absurd (omega arith)
-sole_entry escapes (b ∷ bs) e = refl
-
-and_true : (b : Bool) → (b && true) ≡ b
-and_true true = refl
-and_true false = refl
-
 and_assoc : (a b c : Bool) → (a && (b && c)) ≡ ((a && b) && c)
 and_assoc true b c = refl
 and_assoc false b c = refl
 
 -- the rest of the rows, after the entry of the first
 left_step : (h : Filed) (escapes : Bool) (row : List ℕ) (rows : List (List ℕ))
-    → filed_with_all h (entries_of escapes (row ∷ rows)) ≡ filed_with_all (filed_with_all h (entries_of escapes (row ∷ []))) (entries_of escapes rows)
+    → history_with_lines h (entries_of escapes (row ∷ rows)) ≡ history_with_lines (history_with_lines h (entries_of escapes (row ∷ []))) (entries_of escapes rows)
 left_step h escapes [] rows = refl
 left_step h escapes (b ∷ bs) rows = refl
 
 takes_step : (h : Filed) (escapes : Bool) (row : List ℕ) (rows : List (List ℕ))
-    → takes_all h (entries_of escapes (row ∷ rows)) ≡ (takes_all h (entries_of escapes (row ∷ [])) && takes_all (filed_with_all h (entries_of escapes (row ∷ []))) (entries_of escapes rows))
+    → takes_all h (entries_of escapes (row ∷ rows)) ≡ (takes_all h (entries_of escapes (row ∷ [])) && takes_all (history_with_lines h (entries_of escapes (row ∷ []))) (entries_of escapes rows))
 takes_step h escapes [] rows = refl
 takes_step h escapes (b ∷ bs) rows =
-    and_same (not (ignored h.kept.settings h.kept.entries (entry_of escapes (b ∷ bs)))) (takes_all (filed_with h (entry_of escapes (b ∷ bs))) (entries_of escapes rows)) where
+    and_same (not (ignores_line h.kept.settings h.kept.entries (entry_of escapes (b ∷ bs)))) (takes_all (history_with_line h (entry_of escapes (b ∷ bs))) (entries_of escapes rows)) where
       and_same : (a c : Bool) → (a && c) ≡ ((a && true) && c)
       and_same true c = refl
       and_same false c = refl
@@ -75,29 +62,25 @@ bad_more : (row : List ℕ) (rows : List (List ℕ)) → is_utf8 row ≡ true �
 bad_more row rows e = rw e refl
 
 pub left_more : (h : Filed) (escapes : Bool) (row : List ℕ) (rows : List (List ℕ)) → is_utf8 row ≡ true
-    → filed_with_all h (entries_of escapes (good_rows (row ∷ rows))) ≡ filed_with_all (filed_with_all h (entries_of escapes (row ∷ []))) (entries_of escapes (good_rows rows))
-left_more h escapes row rows e = ap (λ rs. filed_with_all h (entries_of escapes rs)) (good_more row rows e) ∙ left_step h escapes row (good_rows rows)
+    → history_with_lines h (entries_of escapes (good_rows (row ∷ rows))) ≡ history_with_lines (history_with_lines h (entries_of escapes (row ∷ []))) (entries_of escapes (good_rows rows))
+left_more h escapes row rows e = ap (λ rs. history_with_lines h (entries_of escapes rs)) (good_more row rows e) ∙ left_step h escapes row (good_rows rows)
 
 outcome_more : (last : Last) (row : List ℕ) (rows : List (List ℕ)) (whole : Bool) → is_utf8 row ≡ true → rows_answer last (row ∷ rows) whole ≡ rows_answer last rows whole
 outcome_more last row rows whole e = rw e refl
 
 pub answer_more : (last : Last) (whole : Bool) (h : Filed) (escapes : Bool) (row : List ℕ) (rows : List (List ℕ)) → is_utf8 row ≡ true
     → rows_answer last (row ∷ rows) (whole && takes_all h (entries_of escapes (good_rows (row ∷ rows))))
-    ≡ rows_answer last rows ((whole && takes_all h (entries_of escapes (row ∷ []))) && takes_all (filed_with_all h (entries_of escapes (row ∷ []))) (entries_of escapes (good_rows rows)))
+    ≡ rows_answer last rows ((whole && takes_all h (entries_of escapes (row ∷ []))) && takes_all (history_with_lines h (entries_of escapes (row ∷ []))) (entries_of escapes (good_rows rows)))
 answer_more last whole h escapes row rows e =
     outcome_more last row rows (whole && takes_all h (entries_of escapes (good_rows (row ∷ rows)))) e
     ∙ ap (λ b. rows_answer last rows b)
     (ap (λ rs. whole && takes_all h (entries_of escapes rs)) (good_more row rows e)
     ∙ ap (λ b. whole && b) (takes_step h escapes row (good_rows rows))
-    ∙ and_assoc whole (takes_all h (entries_of escapes (row ∷ []))) (takes_all (filed_with_all h (entries_of escapes (row ∷ []))) (entries_of escapes (good_rows rows))))
+    ∙ and_assoc whole (takes_all h (entries_of escapes (row ∷ []))) (takes_all (history_with_lines h (entries_of escapes (row ∷ []))) (entries_of escapes (good_rows rows))))
 
 good_if_memory : (good : Bool) → (if good then Memory else HistoryText) ≡ Memory → good ≡ true
 good_if_memory true e = refl
 good_if_memory false e = cc
-
-bad_if_not : (good : Bool) → (if good then Memory else HistoryText) ≡ HistoryText → good ≡ false
-bad_if_not true e = cc
-bad_if_not false e = refl
 
 pub good_text : (row : List ℕ) (result : Result Bool ReadlineError) → is_utf8 row ≡ true → OnOk result (is_utf8 row ≡ true)
 good_text row (Ok b) utf8 = utf8
@@ -107,26 +90,16 @@ pub good_fault : (row : List ℕ) (result : Result Bool ReadlineError) → is_ut
 good_fault row (Ok b) utf8 some e = tt
 good_fault row (Err why) utf8 some e = (rw utf8 e, some)
 
-pub bad_fault : (row : List ℕ) (result : Result Bool ReadlineError) → is_utf8 row ≡ false → 0 < length row → IfErr result (λ e. e ≡ HistoryText) → IfErr result (λ e. (e ≡ row_fault row) × (0 < length row))
-bad_fault row (Ok b) bad some e = tt
-bad_fault row (Err why) bad some e = (rw bad e, some)
-
--- a row for which memory runs out is UTF-8; one that isn't taken for what it says isn't
+-- a row for which memory runs out is UTF-8
 pub memory_row : (row : List ℕ) → row_fault row ≡ Memory → is_utf8 row ≡ true
 memory_row row e = good_if_memory (is_utf8 row) e
 
-pub bad_row : (row : List ℕ) → row_fault row ≡ HistoryText → is_utf8 row ≡ false
-bad_row row e = bad_if_not (is_utf8 row) e
-
 pub left_bad : (h : Filed) (escapes : Bool) (row : List ℕ) (rows : List (List ℕ)) → is_utf8 row ≡ false
-    → filed_with_all h (entries_of escapes (good_rows (row ∷ rows))) ≡ h
-left_bad h escapes row rows e = ap (λ rs. filed_with_all h (entries_of escapes rs)) (good_none row rows e)
+    → history_with_lines h (entries_of escapes (good_rows (row ∷ rows))) ≡ h
+left_bad h escapes row rows e = ap (λ rs. history_with_lines h (entries_of escapes rs)) (good_none row rows e)
 
 pub answer_bad : (last : Last) (row : List ℕ) (rows : List (List ℕ)) (whole : Bool) → is_utf8 row ≡ false → rows_answer last (row ∷ rows) whole ≡ Err HistoryText
 answer_bad last row rows whole e = rw e refl
-
-pub answer_end : (whole : Bool) → rows_answer End [] (whole && true) ≡ Ok whole
-answer_end whole = ap (λ b. Ok b) (and_true whole)
 
 pub header_is_utf8 : is_utf8 header ≡ true
 unfolding is_utf8 chars encode
@@ -136,16 +109,16 @@ pub header_row : (row : List ℕ) → bytes_eq row header ≡ true → is_utf8 r
 header_row row e = rw ((bytes_eq-Decides row header).0 e) header_is_utf8
 
 texts_step : (h : Filed) (row : List ℕ) (rows : List (List ℕ)) (escapes : Bool) → bytes_eq row header ≡ escapes
-    → filed_with_all h (if escapes then entries_of true rows else entries_of false (row ∷ rows)) ≡ filed_with_all (if escapes then h else filed_with_all h (entries_of false (row ∷ []))) (entries_of escapes rows)
+    → history_with_lines h (if escapes then entries_of true rows else entries_of false (row ∷ rows)) ≡ history_with_lines (if escapes then h else history_with_lines h (entries_of false (row ∷ []))) (entries_of escapes rows)
 texts_step h row rows true e = refl
 texts_step h row rows false e = left_step h false row rows
 
 pub loaded_left : (h : Filed) (row : List ℕ) (rows : List (List ℕ)) → is_utf8 row ≡ true
-    → filed_with_all h (texts_of (good_rows (row ∷ rows))) ≡ filed_with_all (after_first h row) (entries_of (bytes_eq row header) (good_rows rows))
-loaded_left h row rows e = ap (λ rs. filed_with_all h (texts_of rs)) (good_more row rows e) ∙ texts_step h row (good_rows rows) (bytes_eq row header) refl
+    → history_with_lines h (texts_of (good_rows (row ∷ rows))) ≡ history_with_lines (after_first h row) (entries_of (bytes_eq row header) (good_rows rows))
+loaded_left h row rows e = ap (λ rs. history_with_lines h (texts_of rs)) (good_more row rows e) ∙ texts_step h row (good_rows rows) (bytes_eq row header) refl
 
 takes_behind : (h : Filed) (row : List ℕ) (rows : List (List ℕ)) (escapes : Bool)
-    → (escapes && takes_all h (if escapes then entries_of true rows else entries_of false (row ∷ rows))) ≡ (escapes && takes_all (if escapes then h else filed_with_all h (entries_of false (row ∷ []))) (entries_of escapes rows))
+    → (escapes && takes_all h (if escapes then entries_of true rows else entries_of false (row ∷ rows))) ≡ (escapes && takes_all (if escapes then h else history_with_lines h (entries_of false (row ∷ []))) (entries_of escapes rows))
 takes_behind h row rows true = refl
 takes_behind h row rows false = refl
 
@@ -157,61 +130,22 @@ loaded_answer last h row rows e =
     (ap (λ rs. bytes_eq row header && takes_all h (texts_of rs)) (good_more row rows e) ∙ takes_behind h row (good_rows rows) (bytes_eq row header))
 
 pub loaded_leaves : (last : Last) (h : Filed) (row : List ℕ) (rows : List (List ℕ)) → is_utf8 row ≡ true
-    → load_leaves last (row ∷ rows) h ≡ (if has_bad_row rows then filed_with_all (after_first h row) (entries_of (bytes_eq row header) (good_rows rows))
-    else left_at last (filed_with_all (after_first h row) (entries_of (bytes_eq row header) (good_rows rows))))
+    → load_leaves last (row ∷ rows) h ≡ (if has_bad_row rows then history_with_lines (after_first h row) (entries_of (bytes_eq row header) (good_rows rows))
+    else history_left_at last (history_with_lines (after_first h row) (entries_of (bytes_eq row header) (good_rows rows))))
 loaded_leaves last h row rows e =
-    ap (λ b. if b then filed_with_all h (texts_of (good_rows (row ∷ rows))) else left_at last (filed_with_all h (texts_of (good_rows (row ∷ rows))))) (bad_more row rows e)
-    ∙ ap (λ f. if has_bad_row rows then f else left_at last f) (loaded_left h row rows e)
-
--- what the rest answers, after the first row
-both : (last : Last) (bad escapes whole : Bool) (b : Bool) → (if bad then Err HistoryText else answer_at last whole) ≡ Ok b
-    → (if bad then Err HistoryText else answer_at last (escapes && whole)) ≡ Ok (escapes && b)
-both last true escapes whole b e = cc
-both End false escapes whole b e = let f : whole ≡ b = cc in rw f refl
-both Failed false escapes whole b e = cc
-
-pub rest_whole : (last : Last) (rows : List (List ℕ)) (escapes whole : Bool) (b : Bool) → rows_answer last rows whole ≡ Ok b → rows_answer last rows (escapes && whole) ≡ Ok (escapes && b)
-rest_whole last rows escapes whole b e = both last (has_bad_row rows) escapes whole b e
-
-neither_ok : (last : Last) (bad escapes whole : Bool) (r : ReadlineError) → (if bad then Err HistoryText else answer_at last whole) ≡ Err r
-    → (if bad then Err HistoryText else answer_at last (escapes && whole)) ≡ Err r
-neither_ok last true escapes whole r e = e
-neither_ok End false escapes whole r e = cc
-neither_ok Failed false escapes whole r e = e
-
-pub rest_refused : (last : Last) (rows : List (List ℕ)) (escapes whole : Bool) (r : ReadlineError) → rows_answer last rows whole ≡ Err r → rows_answer last rows (escapes && whole) ≡ Err r
-rest_refused last rows escapes whole r e = neither_ok last (has_bad_row rows) escapes whole r e
-
-left_ok : (last : Last) (bad whole : Bool) (b : Bool) (f : Filed) → (if bad then Err HistoryText else answer_at last whole) ≡ Ok b → (if bad then f else left_at last f) ≡ all_saved f
-left_ok last true whole b f e = cc
-left_ok End false whole b f e = refl
-left_ok Failed false whole b f e = cc
-
-left_refused : (last : Last) (bad whole : Bool) (r : ReadlineError) (f : Filed) → (if bad then Err HistoryText else answer_at last whole) ≡ Err r → (if bad then f else left_at last f) ≡ f
-left_refused last true whole r f e = refl
-left_refused End false whole r f e = cc
-left_refused Failed false whole r f e = refl
-
-pub leaves_saved : (last : Last) (rows : List (List ℕ)) (whole b : Bool) (f : Filed) → rows_answer last rows whole ≡ Ok b → (if has_bad_row rows then f else left_at last f) ≡ all_saved f
-leaves_saved last rows whole b f e = left_ok last (has_bad_row rows) whole b f e
-
-pub leaves_kept : (last : Last) (rows : List (List ℕ)) (whole : Bool) (r : ReadlineError) (f : Filed) → rows_answer last rows whole ≡ Err r → (if has_bad_row rows then f else left_at last f) ≡ f
-leaves_kept last rows whole r f e = left_refused last (has_bad_row rows) whole r f e
+    ap (λ b. if b then history_with_lines h (texts_of (good_rows (row ∷ rows))) else history_left_at last (history_with_lines h (texts_of (good_rows (row ∷ rows))))) (bad_more row rows e)
+    ∙ ap (λ f. if has_bad_row rows then f else history_left_at last f) (loaded_left h row rows e)
 
 -- ---- what was loaded, and what is left
-
-entries_split : (escapes : Bool) (row : List ℕ) (rows : List (List ℕ)) → entries_of escapes (row ∷ rows) ≡ entries_of escapes (row ∷ []) ++ entries_of escapes rows
-entries_split escapes [] rows = refl
-entries_split escapes (b ∷ bs) rows = refl
 
 entries_append : (escapes : Bool) (xs ys : List (List ℕ)) → entries_of escapes (xs ++ ys) ≡ entries_of escapes xs ++ entries_of escapes ys
 entries_append escapes [] ys = refl
 entries_append escapes ([] ∷ xs) ys = entries_append escapes xs ys
 entries_append escapes ((b ∷ bs) ∷ xs) ys = ap (λ es. entry_of escapes (b ∷ bs) ∷ es) (entries_append escapes xs ys)
 
-all_in_turn : (h : Filed) (xs ys : List (List ℕ)) → filed_with_all h (xs ++ ys) ≡ filed_with_all (filed_with_all h xs) ys
+all_in_turn : (h : Filed) (xs ys : List (List ℕ)) → history_with_lines h (xs ++ ys) ≡ history_with_lines (history_with_lines h xs) ys
 all_in_turn h [] ys = refl
-all_in_turn h (x ∷ xs) ys = all_in_turn (filed_with h x) xs ys
+all_in_turn h (x ∷ xs) ys = all_in_turn (history_with_line h x) xs ys
 
 good_one : (good bad after : Bool) → (if good then bad else true) ≡ false → (bad ≡ false → after ≡ false) → (if good then after else true) ≡ false
 good_one true bad after g h = h g
@@ -230,14 +164,11 @@ pub record Reached (escapes : Bool) (last : Last) (text coming : List ℕ) (befo
   pub loaded : List (List ℕ)
   pub split : text_rows last text ≡ loaded ++ text_rows last coming
   pub good : has_bad_row loaded ≡ false
-  pub added : now ≡ filed_with_all before (entries_of escapes loaded)
+  pub added : now ≡ history_with_lines before (entries_of escapes loaded)
   pub left : behind_rows (length loaded) text ≡ coming
 
-pub reached_none : (escapes : Bool) (last : Last) (text : List ℕ) (before : Filed) → Reached escapes last text text before before
-reached_none escapes last text before = record { loaded = []; split = refl; good = refl; added = refl; left = refl }
-
 pub reached_more : (escapes : Bool) (last : Last) (text coming later row : List ℕ) (before now after : Filed) → is_utf8 row ≡ true
-    → text_rows last coming ≡ row ∷ text_rows last later → later ≡ behind_row coming → after ≡ filed_with_all now (entries_of escapes (row ∷ []))
+    → text_rows last coming ≡ row ∷ text_rows last later → later ≡ behind_row coming → after ≡ history_with_lines now (entries_of escapes (row ∷ []))
     → Reached escapes last text coming before now → Reached escapes last text later before after
 reached_more escapes last text coming later row before now after e rows is a r = record {
   loaded = r.loaded ++ (row ∷ []);
@@ -245,9 +176,9 @@ reached_more escapes last text coming later row before now after e rows is a r =
   good = good_behind r.loaded row r.good e;
   added =
       a
-      ∙ ap (λ f. filed_with_all f (entries_of escapes (row ∷ []))) r.added
+      ∙ ap (λ f. history_with_lines f (entries_of escapes (row ∷ []))) r.added
       ∙ sym (all_in_turn before (entries_of escapes r.loaded) (entries_of escapes (row ∷ [])))
-      ∙ ap (filed_with_all before) (sym (entries_append escapes r.loaded (row ∷ [])));
+      ∙ ap (history_with_lines before) (sym (entries_append escapes r.loaded (row ∷ [])));
   left = one_behind r.loaded row text ∙ ap behind_row r.left ∙ sym is;
 }
 
@@ -276,7 +207,7 @@ loads_behind_first last text coming later row before middle after escapes e b ro
   good = bad_more row r.loaded e ∙ r.good;
   added =
       r.added
-      ∙ ap₂ (λ f x. filed_with_all f (entries_of x r.loaded)) m b
+      ∙ ap₂ (λ f x. history_with_lines f (entries_of x r.loaded)) m b
       ∙ sym (texts_step before row r.loaded (bytes_eq row header) refl);
   left = subst (λ t. LosesRow (behind_rows (length r.loaded) t) later) is r.left;
 }
@@ -294,32 +225,28 @@ rest_bad row rows text e = rw e refl
 
 -- what a load leaves, behind a row that it takes, at a row that it doesn't, and without a row
 pub left_more_text : (last : Last) (text coming row : List ℕ) → is_utf8 row ≡ true → text_rows last text ≡ row ∷ text_rows last coming → coming ≡ behind_row text
-    → left_by_load last text ≡ left_by_load last coming
+    → rest_after_load last text ≡ rest_after_load last coming
 unfolding rest_of
 left_more_text last text coming row e rows is =
     ap (λ rs. rest_of rs text) rows ∙ rest_behind row (text_rows last coming) text e ∙ ap (rest_of (text_rows last coming)) (sym is)
 
-pub left_bad_text : (last : Last) (text coming row : List ℕ) → is_utf8 row ≡ false → text_rows last text ≡ row ∷ text_rows last coming → left_by_load last text ≡ behind_row text
+pub left_bad_text : (last : Last) (text coming row : List ℕ) → is_utf8 row ≡ false → text_rows last text ≡ row ∷ text_rows last coming → rest_after_load last text ≡ behind_row text
 unfolding rest_of
 left_bad_text last text coming row e rows = ap (λ rs. rest_of rs text) rows ∙ rest_bad row (text_rows last coming) text e
-
-pub left_no_text : (last : Last) (text : List ℕ) → text_rows last text ≡ [] → left_by_load last text ≡ []
-unfolding rest_of
-left_no_text last text rows = ap (λ rs. rest_of rs text) rows
 
 -- where the rows up to there were loaded, the rest of a load says what the whole does
 pub record Underway (escapes whole : Bool) (last : Last) (text coming : List ℕ) (before now : Filed) : Type 0 where
   pub good : GoodUpTo text coming
   pub part : Reached escapes last text coming before now
-  pub left : left_by_load last coming ≡ left_by_load last text
-  pub history : filed_with_all now (entries_of escapes (good_rows (text_rows last coming))) ≡ filed_with_all before (entries_of escapes (good_rows (text_rows last text)))
+  pub left : rest_after_load last coming ≡ rest_after_load last text
+  pub history : history_with_lines now (entries_of escapes (good_rows (text_rows last coming))) ≡ history_with_lines before (entries_of escapes (good_rows (text_rows last text)))
   pub answer :
       rows_answer last (text_rows last coming) (whole && takes_all now (entries_of escapes (good_rows (text_rows last coming))))
       ≡ rows_answer last (text_rows last text) (takes_all before (entries_of escapes (good_rows (text_rows last text))))
 
 pub one_row_on : (escapes whole added : Bool) (last : Last) (text here onward row : List ℕ) (before now after : Filed) → is_utf8 row ≡ true
     → text_rows last here ≡ row ∷ text_rows last onward → onward ≡ behind_row here → GoodUpTo here onward
-    → after ≡ filed_with_all now (entries_of escapes (row ∷ [])) → added ≡ takes_all now (entries_of escapes (row ∷ []))
+    → after ≡ history_with_lines now (entries_of escapes (row ∷ [])) → added ≡ takes_all now (entries_of escapes (row ∷ []))
     → Underway escapes whole last text here before now → Underway escapes (whole && added) last text onward before after
 one_row_on escapes whole added last text here onward row before now after utf8 r is good made took so = record {
   good = λ later g. so.good later (good later g);
@@ -332,8 +259,8 @@ one_row_on escapes whole added last text here onward row before now after utf8 r
 -- a row that isn't UTF-8 ends the load as the whole text says
 pub record EndsLoad (escapes : Bool) (last : Last) (text coming : List ℕ) (before now : Filed) (result : Result Bool ReadlineError) : Type 0 where
   pub answer : result ≡ rows_answer last (text_rows last text) (takes_all before (entries_of escapes (good_rows (text_rows last text))))
-  pub history : now ≡ filed_with_all before (entries_of escapes (good_rows (text_rows last text)))
-  pub left : coming ≡ left_by_load last text
+  pub history : now ≡ history_with_lines before (entries_of escapes (good_rows (text_rows last text)))
+  pub left : coming ≡ rest_after_load last text
 
 bad_if_followed : (good : Bool) → IsTrue (follows (Err (if good then Memory else HistoryText))) → good ≡ false
 bad_if_followed true f = cc

@@ -2,7 +2,7 @@
 use Rattle.std.proofs.Common.{◌≡◌, ℕ, suc, ◌+◌, ◌-◌, ◌<◌, Bool, true, false, List, [], ◌∷◌, length, drop, take, reverse, refl, ap, Option, Some, None, option_map, slice_index_or, arith}
 use Rattle.std.specs.Prelude.{if◌then◌else◌, ◌==◌, ◌&&◌}
 use Rattle.std.proofs.lemmas.List.{drop_more, take_more, reverse-append}
-use Rattle.line_help.specs.Brackets.{unclosed_behind, bytes_between}
+use Rattle.line_help.specs.Brackets.{open_count_after, bytes_between}
 
 -- the place where so many bytes stand before it from a place on
 abbrev pub place_behind : ℕ → Option ℕ → Option ℕ
@@ -25,13 +25,13 @@ one_before place false (Some n) = ap (λ n. Some n) (omega arith)
 pub behind_step : (same other unclosed : ℕ) (bytes : List ℕ) (place : ℕ) → place < length bytes
     → place_behind place (bytes_between same other unclosed (drop place bytes))
     ≡ (if (slice_index_or bytes place 0 == other) && (unclosed == 0) then Some place
-    else place_behind (place + 1) (bytes_between same other (unclosed_behind same other (slice_index_or bytes place 0) unclosed) (drop (place + 1) bytes)))
+    else place_behind (place + 1) (bytes_between same other (open_count_after same other (slice_index_or bytes place 0) unclosed) (drop (place + 1) bytes)))
 behind_step same other unclosed bytes place within = rw (drop_more bytes place 0 within) (one_behind place _ _)
 
 pub before_step : (same other unclosed : ℕ) (bytes : List ℕ) (place : ℕ) → place < length bytes
     → place_before (place + 1) (bytes_between same other unclosed (reverse (take (place + 1) bytes)))
     ≡ (if (slice_index_or bytes place 0 == other) && (unclosed == 0) then Some place
-    else place_before place (bytes_between same other (unclosed_behind same other (slice_index_or bytes place 0) unclosed) (reverse (take place bytes))))
+    else place_before place (bytes_between same other (open_count_after same other (slice_index_or bytes place 0) unclosed) (reverse (take place bytes))))
 before_step same other unclosed bytes place within =
     rw (take_more bytes place 0 within, reverse-append (take place bytes) (slice_index_or bytes place 0 ∷ [])) (one_before place _ _)
 

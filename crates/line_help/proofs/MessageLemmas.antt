@@ -2,8 +2,8 @@
 use Rattle.std.proofs.Common.{◌≡◌, ◌≢◌, ◌⊎◌, inl, inr, ℕ, true, false, List, [], ◌∷◌, ◌++◌, map, refl, sym, ap, ◌∙◌, append_assoc, Some, None}
 use Rattle.std.proofs.lemmas.Bool.{eq-eqb}
 use Rattle.line_help.specs.Brackets.{all_kinds, is_opening, is_closing, partner, Balanced, empty, other, pair}
-use Rattle.line_help.specs.Validation.{verdict_from, mismatch, closes_innermost, without_innermost, unpaired, not_closed, NamesWhatFails, MessageNames}
-use Rattle.line_help.specs.declared.validate.ValidationResult.TheVariants.{Invalid, Valid}
+use Rattle.line_help.specs.Validation.{verdict_from, mismatch, closes_innermost, without_innermost, message_of_unpaired, not_closed, NamesWhatFails, MessageNames}
+use Rattle.line_help.specs.declared.helpers.validate.ValidationResult.TheVariants.{Invalid, Valid}
 use Rattle.line_help.proofs.BalanceLemmas.{eqb_true, kind_of_opening, opens_step, closes_step, fails_step, passes_step, read, AllOpening, Closed, closed_behind_other, closed_behind_pair, closings_valid, valid_balanced}
 
 -- a closing bracket fails at one of the brackets that were open from the start
@@ -18,7 +18,7 @@ FailsInside unclosed before closing message = (front : List ℕ) × (opening : �
     × Balanced all_kinds inner × (partner opening ≢ closing) × (message ≡ not_closed opening) × (verdict_from unclosed (front ++ more) ≡ Valid None)
 
 abbrev Told : List ℕ → List ℕ → ℕ → List ℕ → Type 0
-Told unclosed before closing message = (Closed unclosed before × (message ≡ unpaired closing)) ⊎ (FailsInside unclosed before closing message ⊎ FailsAtOpen unclosed before closing message)
+Told unclosed before closing message = (Closed unclosed before × (message ≡ message_of_unpaired closing)) ⊎ (FailsInside unclosed before closing message ⊎ FailsAtOpen unclosed before closing message)
 
 abbrev Fails : List ℕ → List ℕ → List ℕ → Type 0
 Fails unclosed text message = (before : List ℕ) × (closing : ℕ) × (after : List ℕ) × (text ≡ before ++ (closing ∷ after)) × (is_closing closing ≡ true) × Told unclosed before closing message

@@ -6,8 +6,8 @@ use Rattle.std.specs.Char.{IsScalar}
 use Rattle.std.specs.Prelude.{encode_utf8, encode_utf8_all}
 use Rattle.std.specs.Str.{chars}
 use Rattle.line_help.specs.Quotes.{unescaped_chars, escaped_chars, closes_quote, escapes_in, escapes_at, quote_after, open_behind, unclosed_quote}
-use Rattle.line_help.specs.declared.quotes.Quote.{Quote}
-use Rattle.line_help.specs.declared.quotes.Quote.TheVariants.{Double, Single, None as Unquoted}
+use Rattle.line_help.specs.declared.completion.quotes.Quote.{Quote}
+use Rattle.line_help.specs.declared.completion.quotes.Quote.TheVariants.{Double, Single, None as Unquoted}
 
 pub chars_step : (c : ℕ) (rest : List ℕ) → IsScalar c → chars (encode_utf8 c ++ rest) ≡ c ∷ chars rest
 chars_step c rest scalar =

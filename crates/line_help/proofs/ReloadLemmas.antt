@@ -9,9 +9,9 @@ use lib.Utf8.{encode, encodes, scalar, scalars}
 use Rattle.std.proofs.lemmas.Bool.Decides.{eqb_tells}
 use Rattle.std.proofs.lemmas.Str.{IsUtf8-append, IsUtf8-from_is_utf8, IsUtf8-nil, is_utf8-from_IsUtf8}
 use Rattle.line_config.specs.declared.device.Last.TheVariants.{End}
-use Rattle.line_help.specs.History.{Settings, Filed, begins_with_space, newest_is, filed_with, filed_with_all, nothing_filed, all_saved, newest}
+use Rattle.line_help.specs.History.{Settings, Filed, begins_with_space, newest_is, history_with_line, history_with_lines, nothing_filed, all_saved, newest}
 use Rattle.line_help.specs.HistoryText.{escaped_entry, escaped_byte, unescaped_row, entry_of, entries_of, row_of, rows_text, text_rows, saved_text, header, without_return, good_rows, has_bad_row, load_leaves, text_to_append}
-use Rattle.line_help.specs.Course.{CanComeBack, loaded, history_made_of, Reload, ReloadAppended}
+use Rattle.line_help.specs.HistoryCourse.{CanComeBack, history_from_text, history_made_of, Reload, ReloadAppended}
 use Rattle.line_help.proofs.EscapeLemmas.{plain_byte, no_byte}
 use Rattle.line_help.proofs.LoadLemmas.{loaded_leaves, header_is_utf8}
 use Rattle.line_help.proofs.RowLemmas.{cut_row, has_newline}
@@ -164,7 +164,7 @@ any_true : (a b c : Bool) → (((a || true) || b) || c) ≡ true
 any_true true b c = refl
 any_true false b c = refl
 
-empty_ignored : (h : Filed) → filed_with h [] ≡ h
+empty_ignored : (h : Filed) → history_with_line h [] ≡ h
 empty_ignored h =
     rw (any_true (h.kept.settings.max_len == 0) (h.kept.settings.ignore_space && begins_with_space []) (h.kept.settings.ignore_dups && newest_is [] h.kept.entries)) refl
 
@@ -172,15 +172,15 @@ entry_step : (row : List ℕ) (rows : List (List ℕ)) → 0 < length row → en
 entry_step [] rows some = absurd (omega arith)
 entry_step (b ∷ bs) rows some = refl
 
-added_back : (h : Filed) (entries : List (List ℕ)) → filed_with_all h (entries_of true (map escaped_entry entries)) ≡ filed_with_all h entries
+added_back : (h : Filed) (entries : List (List ℕ)) → history_with_lines h (entries_of true (map escaped_entry entries)) ≡ history_with_lines h entries
 added_back h [] = refl
-added_back h ([] ∷ entries) = added_back h entries ∙ ap (λ f. filed_with_all f entries) (sym (empty_ignored h))
+added_back h ([] ∷ entries) = added_back h entries ∙ ap (λ f. history_with_lines f entries) (sym (empty_ignored h))
 added_back h ((b ∷ bs) ∷ entries) =
-    ap (λ ls. filed_with_all h ls) (entry_step (escaped_entry (b ∷ bs)) (map escaped_entry entries) (escaped_some b bs)
+    ap (λ ls. history_with_lines h ls) (entry_step (escaped_entry (b ∷ bs)) (map escaped_entry entries) (escaped_some b bs)
     ∙ ap (λ o. unwrap_or o (escaped_entry (b ∷ bs)) ∷ entries_of true (map escaped_entry entries)) (read_back (b ∷ bs)))
-    ∙ added_back (filed_with h (b ∷ bs)) entries
+    ∙ added_back (history_with_line h (b ∷ bs)) entries
 
-pub saved_back : (settings : Settings) (entries : List (List ℕ)) → CanComeBack entries → loaded settings (saved_text entries) ≡ history_made_of settings entries
+pub saved_back : (settings : Settings) (entries : List (List ℕ)) → CanComeBack entries → history_from_text settings (saved_text entries) ≡ history_made_of settings entries
 saved_back settings entries can =
     let rows : text_rows End (saved_text entries) ≡ header ∷ map escaped_entry entries = cut_row End header (rows_text entries) refl ∙ ap (λ rs. header ∷ rs) (rows_back entries can) in
     ap (λ rs. load_leaves End rs (nothing_filed settings)) rows
@@ -196,12 +196,12 @@ can_both [] ys p q = q
 can_both (x ∷ xs) ys p q = (p.0, p.1, can_both xs ys p.2 q)
 
 pub reload_holds : Reload
-reload_holds settings filed some can = ap (λ t. loaded settings t) (text_is (filed.unsaved == 0) (saved_text filed.kept.entries) some) ∙ saved_back settings filed.kept.entries can
+reload_holds settings filed some can = ap (λ t. history_from_text settings t) (text_is (filed.unsaved == 0) (saved_text filed.kept.entries) some) ∙ saved_back settings filed.kept.entries can
 
 pub reload_appended_holds : ReloadAppended
 reload_appended_holds settings saved later some more can new =
     let entries = newest later.unsaved later.kept.entries in
-    ap (λ t. loaded settings (t ++ text_to_append later)) (text_is (saved.unsaved == 0) (saved_text saved.kept.entries) some)
-    ∙ ap (λ t. loaded settings (saved_text saved.kept.entries ++ t)) (text_is (later.unsaved == 0) (rows_text entries) more)
-    ∙ ap (λ t. loaded settings (header ++ (10 ∷ t))) (sym (flat_map-append row_of saved.kept.entries entries))
+    ap (λ t. history_from_text settings (t ++ text_to_append later)) (text_is (saved.unsaved == 0) (saved_text saved.kept.entries) some)
+    ∙ ap (λ t. history_from_text settings (saved_text saved.kept.entries ++ t)) (text_is (later.unsaved == 0) (rows_text entries) more)
+    ∙ ap (λ t. history_from_text settings (header ++ (10 ∷ t))) (sym (flat_map-append row_of saved.kept.entries entries))
     ∙ saved_back settings (saved.kept.entries ++ entries) (can_both saved.kept.entries entries can new)

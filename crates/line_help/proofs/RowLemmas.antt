@@ -1,6 +1,6 @@
 -- Rows of a text: a row up to its newline, the last row, a row that a failure cuts off.
-use Rattle.std.proofs.Common.{◌≡◌, ◌≢◌, ℕ, suc, ◌+◌, ◌-◌, ◌<◌, Bool, true, false, List, [], ◌∷◌, ◌++◌, length, take, refl, sym, ap, ◌∙◌, append_assoc, get_or, Option, Some, None, arith}
-use Rattle.std.specs.Prelude.{if◌then◌else◌, ◌&&◌, ◌==◌, not, unwrap_or}
+use Rattle.std.proofs.Common.{◌≡◌, ◌≢◌, ℕ, suc, ◌+◌, ◌-◌, ◌<◌, ◌≤◌, le_trans, inl, inr, IsTrue, Bool, true, false, List, [], ◌∷◌, ◌++◌, length, take, refl, sym, ap, ◌∙◌, append_assoc, get_or, Option, Some, None, arith}
+use Rattle.std.specs.Prelude.{if◌then◌else◌, ◌&&◌, ◌==◌, not, unwrap_or, Result, Ok, Err}
 use Rattle.std.specs.List.{list_any, position_or_len}
 use Rattle.std.specs.Str.{is_utf8}
 use Rattle.std.proofs.lemmas.List.{append-nil}
@@ -9,10 +9,13 @@ use Rattle.std.proofs.lemmas.List.Folds.{list_any-append}
 use Rattle.std.proofs.lemmas.Bool.{eq-eqb, eqb-true, ne_eqb, or_from, or_parts}
 use mathlib.Core.Bool.{cond}
 use Rattle.memchr.specs.Find.{IsFirstByte, is_byte}
-use Rattle.line_config.specs.Feed.{Feed, GivesBytes}
+use Rattle.line_config.specs.Feed.{Feed, GivesBytes, device_failed, front_of}
 use Rattle.line_config.specs.declared.device.Last.{Last}
 use Rattle.line_config.specs.declared.device.Last.TheVariants.{End, Failed}
-use Rattle.line_help.specs.HistoryText.{TakesPiece, text_rows, onto, without_return, begins_with_newline, behind_row, EndIsMet, GoodUpTo, LosesRow, ReadsGood}
+use Rattle.line_config.specs.declared.errors.ReadlineError.{ReadlineError}
+use Rattle.line_config.specs.declared.errors.ReadlineError.TheVariants.{Memory, Reader}
+use Rattle.script.proofs.ScriptLaws.{ok_not_err}
+use Rattle.line_help.specs.HistoryText.{TakesPiece, text_rows, onto, without_return, begins_with_newline, behind_row, EndIsMet, GoodUpTo, LosesRow, ReadsByte, ReadsGood, ReadsRow}
 
 -- no newline stands among these bytes
 abbrev pub has_newline : List ℕ → Bool
@@ -85,7 +88,7 @@ pub no_return : (xs : List ℕ) → length xs ≡ 0 → without_return xs ≡ xs
 no_return [] none = refl
 no_return (x ∷ xs) none = absurd (omega arith)
 
-pub ruleset endings = (last_return, no_return)
+pub ruleset row_steps = (last_return, no_return, newline_at)
 
 one_byte : (last : Last) (b : ℕ) (rows : List (List ℕ)) (newline return : Bool) → newline ≡ false
     → (if newline then [] ∷ ([] ∷ rows) else if return && true then [] ∷ rows else onto ([] ∷ rows) last b) ≡ (if return then [] else b ∷ []) ∷ rows
@@ -155,13 +158,6 @@ one_more (x ∷ xs) b none other =
 pub more_free : (xs ys : List ℕ) → has_newline xs ≡ false → has_newline ys ≡ false → has_newline (xs ++ ys) ≡ false
 more_free xs ys one two = list_any-append (λ b. b == 10) xs ys ∙ or_from (has_newline xs) (has_newline ys) one two
 
-pub part_reads : (xs coming : List ℕ) (b : ℕ) → has_newline xs ≡ false → b ≢ 10 → ReadsGood (xs ++ (b ∷ coming)) coming
-part_reads xs coming b none other = record {
-  read = xs ++ (b ∷ []);
-  split = sym (append_assoc xs (b ∷ []) coming);
-  good = rw (cut_off (xs ++ (b ∷ [])) (one_more xs b none other)) refl;
-}
-
 pub pieces_read : (xs piece coming : List ℕ) (b : ℕ) → has_newline xs ≡ false → b ≢ 10 → has_newline piece ≡ false → ReadsGood (xs ++ (b ∷ (piece ++ coming))) coming
 pieces_read xs piece coming b none other inside = record {
   read = xs ++ (b ∷ piece);
@@ -199,9 +195,6 @@ part_lost xs coming none = record { lost = xs; split = refl; row = behind_none x
 pub row_lost : (xs coming : List ℕ) → has_newline xs ≡ false → LosesRow (xs ++ (10 ∷ coming)) coming
 row_lost xs coming none = record { lost = xs ++ (10 ∷ []); split = sym (append_assoc xs (10 ∷ []) coming); row = behind_cut xs [] none }
 
-pub byte_lost : (xs coming : List ℕ) (b : ℕ) → has_newline xs ≡ false → b ≢ 10 → LosesRow (xs ++ (b ∷ coming)) coming
-byte_lost xs coming b none other = record { lost = xs ++ (b ∷ []); split = sym (append_assoc xs (b ∷ []) coming); row = behind_none (xs ++ (b ∷ [])) (one_more xs b none other) }
-
 pub piece_lost : (xs piece coming : List ℕ) (b : ℕ) → has_newline xs ≡ false → b ≢ 10 → has_newline piece ≡ false → LosesRow (xs ++ (b ∷ (piece ++ coming))) coming
 piece_lost xs piece coming b none other inside = record {
   lost = xs ++ (b ∷ piece);
@@ -216,19 +209,21 @@ pub record StandsWhole (here onward row : List ℕ) : Type 0 where
   pub good : is_utf8 row ≡ true → GoodUpTo here onward
   pub lost : LosesRow here onward
 
+whole_row : (xs here onward row : List ℕ) → has_newline xs ≡ false → here ≡ xs ++ (10 ∷ onward) → row ≡ without_return xs → StandsWhole here onward row
+whole_row xs here onward row none cut is = record {
+  rows = λ last. ap (text_rows last) cut ∙ cut_row last xs onward none ∙ ap (λ r. r ∷ text_rows last onward) (sym is);
+  behind = sym (ap behind_row cut ∙ behind_cut xs onward none);
+  good = λ utf8. rw cut (row_reads xs onward none (rw is at utf8));
+  lost = rw cut (row_lost xs onward none);
+}
+
 pub stands_whole : (ready here onward row : List ℕ) (count : ℕ) → count ≡ position_or_len (λ b. b == 10) ready → count < length ready
     → here ≡ take (count + 1) ready ++ onward → row ≡ without_return (take count ready) → StandsWhole here onward row
 stands_whole ready here onward row count e inside split is =
     let xs = take count ready in
     let none : has_newline xs ≡ false = ap (λ k. has_newline (take k ready)) e ∙ front_free (λ b. b == 10) ready in
-    let cut : here ≡ xs ++ (10 ∷ onward) =
-    split ∙ ap (λ bytes. bytes ++ onward) (up_to ready count e inside) ∙ append_assoc xs (10 ∷ []) onward in
-    record {
-      rows = λ last. ap (text_rows last) cut ∙ cut_row last xs onward none ∙ ap (λ r. r ∷ text_rows last onward) (sym is);
-      behind = sym (ap behind_row cut ∙ behind_cut xs onward none);
-      good = λ utf8. rw cut (row_reads xs onward none (rw is at utf8));
-      lost = rw cut (row_lost xs onward none);
-    }
+    whole_row xs here onward row none
+    (split ∙ ap (λ bytes. bytes ++ onward) (up_to ready count e inside) ∙ append_assoc xs (10 ∷ []) onward) is
 
 -- a source that gives bytes has not met the end
 pub still_met : (met : Bool) (old new : Feed) (bytes : List ℕ) → EndIsMet met old → GivesBytes old new bytes → EndIsMet met new
@@ -244,4 +239,140 @@ pub not_met : (met : Bool) (feed : Feed) → met ≡ false → EndIsMet met feed
 not_met true feed e met = absurd (let k : true ≡ false = e in cc)
 not_met false feed e met = absurd (let k : false ≡ true = met in cc)
 
-pub ruleset row_ends = (cut_row, cut_off)
+-- ---- a row that is read: its bytes so far, and what remains
+
+pub record RowSoFar (old here : Feed) (xs : List ℕ) : Type 0 where
+  pub told : IsTrue here.told → IsTrue old.told
+  pub split : IsTrue here.told → old.coming ≡ xs ++ here.coming
+  pub last : here.last ≡ old.last
+  pub bound : here.bound ≤ old.bound
+  pub used : 0 < length xs → here.bound < old.bound
+  pub inside : has_newline xs ≡ false
+
+refused_front : (bytes : List ℕ) (last : Last) → Err device_failed ≡ front_of bytes last → (bytes ≡ []) × (last ≡ Failed)
+refused_front (b ∷ bytes) last is = ok_not_err (Some b) device_failed (sym is)
+refused_front [] End is = ok_not_err None device_failed (sym is)
+refused_front [] Failed is = (refl, refl)
+
+abbrev answered : Bool → Result Bool ReadlineError
+answered b = Ok b
+
+abbrev failed : ReadlineError → Result Bool ReadlineError
+failed e = Err e
+
+no_other : {X : Type 0} → answered true ≡ answered false → X
+no_other is = absurd cc
+
+no_memory : {X : Type 0} → failed Reader ≡ failed Memory → X
+no_memory is = absurd cc
+
+some_byte : (xs : List ℕ) (empty : Bool) → empty ≡ (length xs == 0) → answered (not empty) ≡ answered true → 0 < length xs
+some_byte [] empty e is = no_other (sym (rw e at is))
+some_byte (x ∷ xs) empty e is = omega arith
+
+module _ (old here new : Feed) (xs : List ℕ) (so : RowSoFar old here xs) where
+  pub row_ends : (bytes : List ℕ) (met : Bool) → met ≡ false → bytes ≡ without_return xs → ReadsByte here new (Ok (Some 10)) → ReadsRow old new bytes met (Ok true)
+  row_ends bytes met unmet is byte =
+      let w : IsTrue new.told → StandsWhole old.coming new.coming bytes = λ told.
+      whole_row xs old.coming new.coming bytes so.inside (so.split (byte.gives.told told) ∙ ap (λ rest. xs ++ rest) (byte.gives.read told)) is in
+      record {
+        row = λ told. (w told).rows old.last;
+        behind = λ told whole. (w told).behind;
+        end = λ told none. no_other none;
+        cut = λ told none. ok_not_err true Reader none;
+        lost = λ told. (w told).lost;
+        good = λ told whole utf8. (w told).good utf8;
+        memory = λ told none. ok_not_err true Memory none;
+        ended = not_met met new unmet;
+        fault = tt;
+        failure = byte.gives.failure;
+        told = λ told. so.told (byte.gives.told told);
+        last = byte.gives.last ∙ so.last;
+        falls = λ whole. omega (arith, byte.gives.falls, so.bound);
+        keeps = le_trans byte.gives.keeps so.bound;
+      }
+
+  pub text_ends : (empty : Bool) → empty ≡ (length xs == 0) → ReadsByte here new (Ok None) → ReadsRow old new xs true (Ok (not empty))
+  text_ends empty e byte =
+      let none : IsTrue new.told → (here.coming ≡ []) × (here.last ≡ End) = λ told. byte.gives.end told refl in
+      let last : IsTrue new.told → old.last ≡ End = λ told. sym so.last ∙ (none told).1 in
+      let after : IsTrue new.told → new.coming ≡ [] = λ told. sym (byte.gives.read told) ∙ (none told).0 in
+      let all : IsTrue new.told → old.coming ≡ xs = λ told. so.split (byte.gives.told told) ∙ ap (λ rest. xs ++ rest) (none told).0 ∙ append-nil xs in
+      record {
+        row = λ told. rw (last told, all told, after told) (at_end xs empty so.inside e);
+        behind = λ told some. rw (all told, after told) (sym (behind_none xs so.inside));
+        end = λ told some. (last told, after told);
+        cut = λ told some. ok_not_err (not empty) Reader some;
+        lost = λ told. rw (so.split (byte.gives.told told), (none told).0, after told) (part_lost xs [] so.inside);
+        good = λ told some utf8 later r. rw (all told) (last_reads xs so.inside later (rw (after told) at r));
+        memory = λ told some. ok_not_err (not empty) Memory some;
+        ended = λ met. (byte.gives.failure, λ told. (after told, byte.gives.last ∙ (none told).1));
+        fault = tt;
+        failure = byte.gives.failure;
+        told = λ told. so.told (byte.gives.told told);
+        last = byte.gives.last ∙ so.last;
+        falls = λ some. omega (arith, byte.gives.keeps, so.used (some_byte xs empty e some));
+        keeps = le_trans byte.gives.keeps so.bound;
+      }
+
+  -- the source fails
+  pub row_cut : (e : ReadlineError) (met : Bool) → met ≡ false → ReadsByte here new (Err e) → ReadsRow old new xs met (Err Reader)
+  row_cut e met unmet byte =
+      let front : IsTrue new.told → (here.coming ≡ []) × (here.last ≡ Failed) = λ told. refused_front here.coming here.last (byte.gives.front told) in
+      let last : IsTrue new.told → old.last ≡ Failed = λ told. sym so.last ∙ (front told).1 in
+      let after : IsTrue new.told → new.coming ≡ [] = λ told. byte.gives.fault told ∙ (front told).0 in
+      let all : IsTrue new.told → old.coming ≡ xs = λ told. so.split (byte.gives.told told) ∙ ap (λ rest. xs ++ rest) (front told).0 ∙ append-nil xs in
+      record {
+        row = λ told. tt;
+        behind = λ told is. ok_not_err true Reader (sym is);
+        end = λ told is. ok_not_err false Reader (sym is);
+        cut = λ told is. (last told, after told, rw (last told, all told) (cut_off xs so.inside));
+        lost = λ told. rw (so.split (byte.gives.told told), (front told).0, after told) (part_lost xs [] so.inside);
+        good = λ told is. ok_not_err true Reader (sym is);
+        memory = λ told is. no_memory is;
+        ended = not_met met new unmet;
+        fault = inr refl;
+        failure = byte.gives.failure;
+        told = λ told. so.told (byte.gives.told told);
+        last = byte.gives.last ∙ so.last;
+        falls = λ is. ok_not_err true Reader (sym is);
+        keeps = le_trans byte.gives.keeps so.bound;
+      }
+
+  -- a byte other than a newline, and the bytes behind it that were buffered
+  module _ (b : ℕ) (other : b ≢ 10) (byte : ReadsByte here new (Ok (Some b))) (later : Feed) (ys : List ℕ) (piece : TakesPiece new later (xs ++ (b ∷ [])) ys) where
+    split_on : IsTrue later.told → old.coming ≡ xs ++ (b ∷ (piece.piece ++ later.coming))
+    split_on told =
+        let given = piece.given.gives told in
+        so.split (byte.gives.told given.0) ∙ ap (λ rest. xs ++ rest) (byte.gives.read given.0 ∙ ap (λ rest. b ∷ rest) given.1)
+
+    pub row_goes_on : RowSoFar old later ys
+    row_goes_on = record {
+      told = λ told. so.told (byte.gives.told (piece.given.gives told).0);
+      split = λ told.
+          split_on told
+          ∙ sym (ap (λ bytes. bytes ++ later.coming) piece.row ∙ append_assoc (xs ++ (b ∷ [])) piece.piece later.coming ∙ append_assoc xs (b ∷ []) (piece.piece ++ later.coming));
+      last = piece.given.last ∙ byte.gives.last ∙ so.last;
+      bound = omega (arith, piece.given.falls, byte.gives.falls, so.bound);
+      used = λ some. omega (arith, piece.given.falls, byte.gives.falls, so.bound);
+      inside = rw piece.row (more_free (xs ++ (b ∷ [])) piece.piece (one_more xs b so.inside other) piece.inside);
+    }
+
+    -- memory runs out
+    pub row_unkept : (bytes : List ℕ) (met : Bool) → met ≡ false → ReadsRow old later bytes met (Err Memory)
+    row_unkept bytes met unmet = record {
+      row = λ told. tt;
+      behind = λ told is. ok_not_err true Memory (sym is);
+      end = λ told is. ok_not_err false Memory (sym is);
+      cut = λ told is. no_memory (sym is);
+      lost = λ told. rw (split_on told) (piece_lost xs piece.piece later.coming b so.inside other piece.inside);
+      good = λ told is. ok_not_err true Memory (sym is);
+      memory = λ told is. rw (split_on told) (pieces_read xs piece.piece later.coming b so.inside other piece.inside);
+      ended = not_met met later unmet;
+      fault = inl refl;
+      failure = piece.given.failed ∙ byte.gives.failure;
+      told = λ told. so.told (byte.gives.told (piece.given.gives told).0);
+      last = piece.given.last ∙ byte.gives.last ∙ so.last;
+      falls = λ is. ok_not_err true Memory (sym is);
+      keeps = omega (arith, piece.given.falls, byte.gives.falls, so.bound);
+    }

@@ -7,8 +7,8 @@ use Rattle.std.proofs.lemmas.Str.Pattern.{starts_text}
 use Rattle.std.proofs.lemmas.Bool.{eq-eqb}
 use Rattle.std.proofs.lemmas.List.{drop_more, take_more, reverse-append, length-reverse, length-take}
 use Rattle.line_help.specs.History.{newest_is}
-use Rattle.line_help.specs.Search.{Hit, first_hit, hit_at_start, hit_or, first_from, first_back, searched}
-use Rattle.line_help.specs.declared.search.SearchDirection.TheVariants.{Reverse}
+use Rattle.line_help.specs.Search.{Hit, first_hit, hit_at_start, hit_or, first_from, first_back, search_hit}
+use Rattle.line_help.specs.declared.history.search.SearchDirection.TheVariants.{Reverse}
 
 pub newest_last : (text : List ℕ) (xs : List (List ℕ)) (d : List ℕ) → 0 < length xs → newest_is text xs ≡ bytes_eq (slice_index_or xs (length xs - 1) d) text
 newest_last text [] d some = absurd (omega arith)
@@ -64,7 +64,7 @@ unless_none : (none : Bool) (found : Option Hit) (hit : Hit) → (if none then N
 unless_none true found hit h = cc
 unless_none false found hit h = h
 
-pub anchored_begins : (term : List ℕ) (start : ℕ) (entries : List (List ℕ)) (hit : Hit) → searched true term start Reverse entries ≡ Some hit → starts_with eqb hit.entry term ≡ true
+pub anchored_begins : (term : List ℕ) (start : ℕ) (entries : List (List ℕ)) (hit : Hit) → search_hit true term start Reverse entries ≡ Some hit → starts_with eqb hit.entry term ≡ true
 anchored_begins term start entries hit h =
     back_begins term (reverse (take (start + 1) entries)) hit
     (unless_none (length term == 0 || nat_le (length entries) start) (first_back (hit_at_start term) (reverse (take (start + 1) entries))) hit h)

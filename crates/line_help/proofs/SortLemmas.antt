@@ -4,7 +4,7 @@ use Rattle.std.specs.List.{filter}
 use Rattle.std.specs.List.Sorted.{IsSortedBy, IsStableBy, ties}
 use Rattle.std.specs.Cmp.{IsStrictWeakOrder}
 use Rattle.std.proofs.lemmas.List.Sorted.{sorted_far}
-use Rattle.line_help.specs.FileNames.{placed_by, sorted_by}
+use Rattle.line_help.specs.FileNames.{insert_in_order_by, list_in_order_by}
 
 -- no element is less than x
 NoneBefore : {X : Type 0} → (X → X → Bool) → X → List X → Type 0
@@ -54,12 +54,12 @@ no_tie : {X : Type 0} (lt : X → X → Bool) (x y : X) → lt x y ≡ true → 
 no_tie lt x y e = rw e refl
 
 -- placing keeps the order
-none_placed : {X : Type 0} (lt : X → X → Bool) (y x : X) (ys : List X) → lt x y ≡ false → NoneBefore lt y ys → NoneBefore lt y (placed_by lt x ys)
+none_placed : {X : Type 0} (lt : X → X → Bool) (y x : X) (ys : List X) → lt x y ≡ false → NoneBefore lt y ys → NoneBefore lt y (insert_in_order_by lt x ys)
 unfolding NoneBefore
 none_placed lt y x [] e h = (e, tt)
 none_placed lt y x (z ∷ zs) e h = go (lt z x) (none_placed lt y x zs e h.1)
   where
-    go : (b : Bool) → NoneBefore lt y (placed_by lt x zs) → NoneBefore lt y (cond b (z ∷ placed_by lt x zs) (x ∷ (z ∷ zs)))
+    go : (b : Bool) → NoneBefore lt y (insert_in_order_by lt x zs) → NoneBefore lt y (cond b (z ∷ insert_in_order_by lt x zs) (x ∷ (z ∷ zs)))
     go true rest = (h.0, rest)
     go false rest = (e, h)
 
@@ -68,19 +68,19 @@ unfolding NoneBefore
 none_chain lt o x y [] e h = tt
 none_chain lt o x y (z ∷ zs) e h = (o.chain z y x h.0 e, none_chain lt o x y zs e h.1)
 
-up_placed : {X : Type 0} (lt : X → X → Bool) → IsStrictWeakOrder lt → (x : X) (ys : List X) → Up lt ys → Up lt (placed_by lt x ys)
+up_placed : {X : Type 0} (lt : X → X → Bool) → IsStrictWeakOrder lt → (x : X) (ys : List X) → Up lt ys → Up lt (insert_in_order_by lt x ys)
 unfolding Up NoneBefore
 up_placed lt o x [] h = (tt, tt)
 up_placed lt o x (y ∷ ys) h = go (lt y x) refl (up_placed lt o x ys h.1)
   where
-    go : (b : Bool) → lt y x ≡ b → Up lt (placed_by lt x ys) → Up lt (cond b (y ∷ placed_by lt x ys) (x ∷ (y ∷ ys)))
+    go : (b : Bool) → lt y x ≡ b → Up lt (insert_in_order_by lt x ys) → Up lt (cond b (y ∷ insert_in_order_by lt x ys) (x ∷ (y ∷ ys)))
     go true e rest = (none_placed lt y x ys (o.one_way y x e) h.0, rest)
     go false e rest = ((e, none_chain lt o x y ys e h.0), h)
 
-up_sorted : {X : Type 0} (lt : X → X → Bool) → IsStrictWeakOrder lt → (xs : List X) → Up lt (sorted_by lt xs)
+up_sorted : {X : Type 0} (lt : X → X → Bool) → IsStrictWeakOrder lt → (xs : List X) → Up lt (list_in_order_by lt xs)
 unfolding Up
 up_sorted lt o [] = tt
-up_sorted lt o (x ∷ xs) = up_placed lt o x (sorted_by lt xs) (up_sorted lt o xs)
+up_sorted lt o (x ∷ xs) = up_placed lt o x (list_in_order_by lt xs) (up_sorted lt o xs)
 
 -- and what ties keeps its order
 exchanged : {X : Type 0} (a b : Bool) (x y : X) (rest : List X) → (a ≡ true → b ≡ false) → cond b (y ∷ cond a (x ∷ rest) rest) (cond a (x ∷ rest) rest) ≡ cond a (x ∷ cond b (y ∷ rest) rest) (cond b (y ∷ rest) rest)
@@ -88,22 +88,22 @@ exchanged true b x y rest h = rw (h refl) refl
 exchanged false true x y rest h = refl
 exchanged false false x y rest h = refl
 
-tied_placed : {X : Type 0} (lt : X → X → Bool) → IsStrictWeakOrder lt → (w x : X) (ys : List X) → filter (ties lt w) (placed_by lt x ys) ≡ filter (ties lt w) (x ∷ ys)
+tied_placed : {X : Type 0} (lt : X → X → Bool) → IsStrictWeakOrder lt → (w x : X) (ys : List X) → filter (ties lt w) (insert_in_order_by lt x ys) ≡ filter (ties lt w) (x ∷ ys)
 tied_placed lt o w x [] = refl
 tied_placed lt o w x (y ∷ ys) = go (lt y x) refl (tied_placed lt o w x ys)
   where
     apart : lt y x ≡ true → ties lt w x ≡ true → ties lt w y ≡ false
     apart e t = false_by (ties lt w y) (λ s. let never : lt y x ≡ false = o.chain y w x (tie_second (lt w y) (lt y w) s) (tie_first (lt w x) (lt x w) t) in cc)
 
-    go : (b : Bool) → lt y x ≡ b → filter (ties lt w) (placed_by lt x ys) ≡ filter (ties lt w) (x ∷ ys) → filter (ties lt w) (cond b (y ∷ placed_by lt x ys) (x ∷ (y ∷ ys))) ≡ filter (ties lt w) (x ∷ (y ∷ ys))
+    go : (b : Bool) → lt y x ≡ b → filter (ties lt w) (insert_in_order_by lt x ys) ≡ filter (ties lt w) (x ∷ ys) → filter (ties lt w) (cond b (y ∷ insert_in_order_by lt x ys) (x ∷ (y ∷ ys))) ≡ filter (ties lt w) (x ∷ (y ∷ ys))
     go true e rest =
         ap (λ zs. cond (ties lt w y) (y ∷ zs) zs) rest
         ∙ exchanged (ties lt w x) (ties lt w y) x y (filter (ties lt w) ys) (apart e)
     go false e rest = refl
 
-tied_sorted : {X : Type 0} (lt : X → X → Bool) → IsStrictWeakOrder lt → (w : X) (xs : List X) → filter (ties lt w) (sorted_by lt xs) ≡ filter (ties lt w) xs
+tied_sorted : {X : Type 0} (lt : X → X → Bool) → IsStrictWeakOrder lt → (w : X) (xs : List X) → filter (ties lt w) (list_in_order_by lt xs) ≡ filter (ties lt w) xs
 tied_sorted lt o w [] = refl
-tied_sorted lt o w (x ∷ xs) = tied_placed lt o w x (sorted_by lt xs) ∙ ap (λ ys. cond (ties lt w x) (x ∷ ys) ys) (tied_sorted lt o w xs)
+tied_sorted lt o w (x ∷ xs) = tied_placed lt o w x (list_in_order_by lt xs) ∙ ap (λ ys. cond (ties lt w x) (x ∷ ys) ys) (tied_sorted lt o w xs)
 
 -- no element of a sorted list ties with what is less than its first
 none_tie : {X : Type 0} (lt : X → X → Bool) → IsStrictWeakOrder lt → (y z : X) (zs : List X) → lt y z ≡ true → NoneBefore lt z zs → filter (ties lt y) zs ≡ []
@@ -145,6 +145,6 @@ only_one lt o (y ∷ ys) (z ∷ zs) h k same =
     (same w ∙ ap (λ v. cond (ties lt w v) (v ∷ filter (ties lt w) zs) (filter (ties lt w) zs)) one)) in
     cc
 
-pub sorted_is : {X : Type 0} (lt : X → X → Bool) → IsStrictWeakOrder lt → (xs ys : List X) → IsSortedBy lt ys → IsStableBy lt xs ys → ys ≡ sorted_by lt xs
+pub sorted_is : {X : Type 0} (lt : X → X → Bool) → IsStrictWeakOrder lt → (xs ys : List X) → IsSortedBy lt ys → IsStableBy lt xs ys → ys ≡ list_in_order_by lt xs
 sorted_is lt o xs ys up stable =
-    only_one lt o ys (sorted_by lt xs) (up_from lt ys (sorted_far lt o ys up)) (up_sorted lt o xs) (λ w. stable w ∙ sym (tied_sorted lt o w xs))
+    only_one lt o ys (list_in_order_by lt xs) (up_from lt ys (sorted_far lt o ys up)) (up_sorted lt o xs) (λ w. stable w ∙ sym (tied_sorted lt o w xs))

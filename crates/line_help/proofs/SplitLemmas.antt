@@ -10,16 +10,16 @@ use Rattle.std.proofs.lemmas.List.Sums.{sum_by-cons}
 use Rattle.std.specs.Prelude.{IfErr, Result, Ok, Err, sum_by}
 use Rattle.std.specs.Int.{is_in_range}
 use Rattle.std.specs.Bool.{Decides}
-use Rattle.line_help.specs.declared.style.Colour.{Colour}
-use Rattle.line_help.specs.declared.style.Colour.TheVariants.{Terminal, Basic, Bright, Palette, Rgb}
-use Rattle.line_help.specs.declared.style.Hue.{Hue}
-use Rattle.line_help.specs.declared.style.Hue.TheVariants.{Black, Red, Green, Yellow, Blue, Magenta, Cyan, White}
-use Rattle.line_help.specs.declared.style.Span.{Span}
-use Rattle.line_help.specs.declared.style.Style.{Style}
-use Rattle.line_help.specs.declared.style_split.Open.{Open}
-use Rattle.line_help.specs.declared.style_split.Open.TheVariants.{Nothing, Kind, Index, Parts, OnePart, TwoParts, Dropped}
+use Rattle.line_help.specs.declared.helpers.style.Colour.{Colour}
+use Rattle.line_help.specs.declared.helpers.style.Colour.TheVariants.{Terminal, Basic, Bright, Palette, Rgb}
+use Rattle.line_help.specs.declared.helpers.style.Hue.{Hue}
+use Rattle.line_help.specs.declared.helpers.style.Hue.TheVariants.{Black, Red, Green, Yellow, Blue, Magenta, Cyan, White}
+use Rattle.line_help.specs.declared.helpers.style.Span.{Span}
+use Rattle.line_help.specs.declared.helpers.style.Style.{Style}
+use Rattle.line_help.specs.declared.helpers.style_split.Open.{Open}
+use Rattle.line_help.specs.declared.helpers.style_split.Open.TheVariants.{Nothing, Kind, Index, Parts, OnePart, TwoParts, Dropped}
 use Rattle.line_help.specs.Paints.{plain}
-use Rattle.line_help.specs.SplitStyles.{Piece, TextStays, SpansFit, final_len, sequence_len, pieces_after, changed_by, with_digit, numbers_in, style_by, style_after, text_of, styles_of, styles_in, Differ, open_numbers, styles_so_far, hue_at, hue_number, same_colour}
+use Rattle.line_help.specs.SplitStyles.{Piece, TextStays, SpansFit, final_len, sequence_len, pieces_after, style_after_numbers, with_digit, numbers_in, style_by, style_after, text_of, styles_of, styles_in, Differ, open_numbers, styles_so_far, hue_at, hue_number, same_colour}
 use Rattle.line_help.specs.SplitStyles.Piece.{Byte, Sequence}
 
 pub at_place : (text : List ℕ) (place : ℕ) → place < length text → drop place text ≡ get_or text place 0 ∷ drop (place + 1) text
@@ -99,7 +99,7 @@ no_bracket (c ∷ bs) none =
 -- the style at its end, if these bytes are left
 abbrev pub read_by : Style → Style → Open → Option (List ℕ) → Style
 read_by s changed begun None = s
-read_by s changed begun (Some ns) = changed_by 0 (open_numbers begun ++ ns) changed
+read_by s changed begun (Some ns) = style_after_numbers 0 (open_numbers begun ++ ns) changed
 
 abbrev pub reading : Style → Style → Open → ℕ → List ℕ → Style
 reading s changed begun n bs = read_by s changed begun (numbers_in n bs)
@@ -114,7 +114,7 @@ reading_first s bs = first_by s (numbers_in 0 bs)
 -- a number is taken
 abbrev pub Takes : Style → Open → ℕ → Style → Open → Type 0
 Takes changed begun n after left = (ns : List ℕ)
-    → changed_by 0 (open_numbers begun ++ (n ∷ ns)) changed ≡ changed_by 0 (open_numbers left ++ ns) after
+    → style_after_numbers 0 (open_numbers begun ++ (n ∷ ns)) changed ≡ style_after_numbers 0 (open_numbers left ++ ns) after
 
 after_semicolon : (s changed after : Style) (begun left : Open) (n : ℕ) (found : Option (List ℕ)) → Takes changed begun n after left
     → read_by s changed begun (option_map (λ ns. n ∷ ns) found) ≡ read_by s after left found
@@ -126,7 +126,7 @@ pub at_semicolon : (s changed after : Style) (begun left : Open) (n : ℕ) (bs :
 at_semicolon s changed after begun left n bs takes = after_semicolon s changed after begun left n (numbers_in 0 bs) takes
 
 -- a colour that has begun and isn't whole changes nothing
-pub none_begun : (s : Style) (begun : Open) → changed_by 0 (open_numbers begun ++ []) s ≡ s
+pub none_begun : (s : Style) (begun : Open) → style_after_numbers 0 (open_numbers begun ++ []) s ≡ s
 none_begun s Nothing = refl
 none_begun s (Kind true) = refl
 none_begun s (Kind false) = refl

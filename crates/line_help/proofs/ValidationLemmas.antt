@@ -8,8 +8,8 @@ use Rattle.std.proofs.lemmas.Bool.{ne_eqb, or_parts}
 use Rattle.line_config.specs.declared.errors.HookFault.{HookFault}
 use Rattle.line_config.specs.declared.errors.HookFault.TheVariants.{Memory}
 use Rattle.line_help.specs.Brackets.{is_opening, is_closing, is_bracket, is_near_bracket, partner}
-use Rattle.line_help.specs.Validation.{HasNoBracket, verdict_from, bracket_verdict, not_closed, unpaired}
-use Rattle.line_help.specs.declared.validate.ValidationResult.TheVariants.{Invalid}
+use Rattle.line_help.specs.Validation.{HasNoBracket, verdict_from, bracket_verdict, not_closed, message_of_unpaired}
+use Rattle.line_help.specs.declared.helpers.validate.ValidationResult.TheVariants.{Invalid}
 
 pub not_closed_found : (input bytes items older message : List ℕ) (opening other i : ℕ) → bytes ≡ input → verdict_from [] bytes ≡ verdict_from (reverse items) (drop i bytes) → i < length bytes
     → items ≡ older ++ (opening ∷ []) → false ≡ is_opening (slice_index_or bytes i 0) → true ≡ is_closing (slice_index_or bytes i 0) → other ≡ partner opening → other ≢ slice_index_or bytes i 0
@@ -22,9 +22,9 @@ not_closed_found input bytes items older message opening other i same so_far wit
 
 pub unpaired_found : (input bytes items message : List ℕ) (i : ℕ) → bytes ≡ input → verdict_from [] bytes ≡ verdict_from (reverse items) (drop i bytes) → i < length bytes
     → length items ≡ 0 → false ≡ is_opening (slice_index_or bytes i 0) → true ≡ is_closing (slice_index_or bytes i 0)
-    → message ≡ unpaired (slice_index_or bytes i 0) → Invalid (Some message) ≡ bracket_verdict input
+    → message ≡ message_of_unpaired (slice_index_or bytes i 0) → Invalid (Some message) ≡ bracket_verdict input
 unpaired_found input bytes items message i same so_far within none not_opening closing told =
-    let step : verdict_from (reverse items) (drop i bytes) ≡ Invalid (Some (unpaired (slice_index_or bytes i 0))) =
+    let step : verdict_from (reverse items) (drop i bytes) ≡ Invalid (Some (message_of_unpaired (slice_index_or bytes i 0))) =
     rw (nil_from_length items none, drop_more bytes i 0 within, ← not_opening, ← closing) refl in
     ap (λ text. Invalid (Some text)) told ∙ sym (ap (λ text. verdict_from [] text) (sym same) ∙ so_far ∙ step)
 

@@ -85,8 +85,8 @@ bracket_to_match line pos =
 
 -- how many brackets are open after a byte, if this many were before it; only those of one kind
 -- count
-abbrev pub unclosed_behind : ℕ → ℕ → ℕ → ℕ → ℕ
-unclosed_behind same mate byte unclosed =
+abbrev pub open_count_after : ℕ → ℕ → ℕ → ℕ → ℕ
+open_count_after same mate byte unclosed =
     if byte == mate then unclosed - 1 else if byte == same then unclosed + 1 else unclosed
 
 -- how many bytes are before the bracket `mate` that matches the bracket `same` in front of these
@@ -94,7 +94,7 @@ unclosed_behind same mate byte unclosed =
 abbrev pub bytes_between : ℕ → ℕ → ℕ → List ℕ → Option ℕ
 bytes_between same mate unclosed [] = None
 bytes_between same mate unclosed (byte ∷ bytes) = if (byte == mate) && (unclosed == 0) then Some 0
-    else option_map suc (bytes_between same mate (unclosed_behind same mate byte unclosed) bytes)
+    else option_map suc (bytes_between same mate (open_count_after same mate byte unclosed) bytes)
 
 -- the place of the match of a bracket at a place: after it for an opening one, before it for a
 -- closing one

@@ -2,16 +2,16 @@
 -- on the line.
 use Rattle.std.specs.Prelude.{◌≡◌, ◌⊎◌, ℕ, List, [], map, Result, OnOk, OnErr, ◌==◌, Bool, false, if◌then◌else◌, ◌∷◌, length, reverse, Option, Some, None, encode_utf8_all, take, nat_eq, ◌≢◌, IsTrue, ◌++◌, IsUtf8, All, filter, drop, nat_lt}
 use Rattle.std.specs.Global.{Vec}
-use Rattle.line_buffer.specs.Event.{Event}
-use Rattle.line_buffer.specs.Line.{Line, replaced}
+use Rattle.line_buffer.specs.Event.{ChangeEvent}
+use Rattle.line_buffer.specs.Line.{Line, with_replacement}
 use Rattle.line_buffer.specs.Replay.{Replays, replacement}
 use Rattle.std.specs.List.{list_any, common_prefix_len, starts_with}
 use Rattle.std.specs.Str.{chars}
 use Rattle.line_buffer.specs.Insertions.{last_cut}
 use Rattle.std.specs.Char.{IsScalar, is_whitespace}
-use Rattle.line_help.specs.Quotes.{unescaped, escaped}
-use Rattle.line_help.specs.declared.quotes.Quote.{Quote}
-use Rattle.line_help.specs.declared.quotes.Quote.TheVariants.{Single}
+use Rattle.line_help.specs.Quotes.{text_without_escapes, text_with_escapes}
+use Rattle.line_help.specs.declared.completion.quotes.Quote.{Quote}
+use Rattle.line_help.specs.declared.completion.quotes.Quote.TheVariants.{Single}
 use Rattle.line_keys.specs.Replies.{Reply}
 
 -- a candidate: the text to list, the text to insert into the line, and the one to insert if there is
@@ -42,14 +42,14 @@ completion_by offers found = record { start = found.0; candidates = map offers f
 
 -- a text replaced the line from a place to the cursor, after the listener was notified. Or the line
 -- stays, and so does the listener, unless it failed on the change
-pub record Updates {L A E : Type 0} (takes refuses : L → Event → L → Type 0)
+pub record Updates {L A E : Type 0} (takes refuses : L → ChangeEvent → L → Type 0)
     (start : ℕ) (elected : List ℕ) (listener listener' : L)
     (line line' : Line) (result : Result A E) : Type 0 where
   pub told : OnOk result
       (takes listener (replacement start line.place elected line.text) listener')
   pub replays : OnOk result
       (Replays (replacement start line.place elected line.text) line.text line'.text)
-  pub becomes : OnOk result (line' ≡ replaced start line.place elected line)
+  pub becomes : OnOk result (line' ≡ with_replacement start line.place elected line)
   pub refused : OnErr result ((listener' ≡ listener)
       ⊎ refuses listener (replacement start line.place elected line.text) listener')
   pub stays : OnErr result (line' ≡ line)
@@ -114,7 +114,7 @@ abbrev pub EscapesComeBack : Type 0
 EscapesComeBack =
     (text : List ℕ) (esc : ℕ) (breaks : ℕ → Bool) (quote : Quote) → IsUtf8 text → IsScalar esc
     → IsTrue (breaks esc) → quote ≢ Single
-    → unescaped (escaped text (Some esc) breaks quote) (Some esc) ≡ text
+    → text_without_escapes (text_with_escapes text (Some esc) breaks quote) (Some esc) ≡ text
 
 -- one text is a prefix of another
 abbrev pub BeginsText : List ℕ → List ℕ → Type 0

@@ -5,18 +5,18 @@ use Rattle.std.specs.Ordering.{is_lt, nat_cmp}
 use Rattle.std.specs.Cmp.Lexicographic.{slice_cmp}
 use Rattle.line_help.specs.Completion.{Offered, Completion, word_start, break_characters, double_quote_characters, is_among}
 use Rattle.line_keys.specs.Replies.{Reply}
-use Rattle.line_help.specs.Quotes.{unescaped, escaped, unclosed_quote, escapes_at}
-use Rattle.line_help.specs.declared.quotes.Quote.{Quote}
-use Rattle.line_help.specs.declared.quotes.Quote.TheVariants.{Double, Single, None as Unquoted}
+use Rattle.line_help.specs.Quotes.{text_without_escapes, text_with_escapes, unclosed_quote, escapes_at}
+use Rattle.line_help.specs.declared.completion.quotes.Quote.{Quote}
+use Rattle.line_help.specs.declared.completion.quotes.Quote.TheVariants.{Double, Single, None as Unquoted}
 
 -- before the first element that isn't less
-abbrev pub placed_by : {X : Type 0} → (X → X → Bool) → X → List X → List X
-placed_by lt x [] = x ∷ []
-placed_by lt x (y ∷ ys) = if lt y x then y ∷ placed_by lt x ys else x ∷ (y ∷ ys)
+abbrev pub insert_in_order_by : {X : Type 0} → (X → X → Bool) → X → List X → List X
+insert_in_order_by lt x [] = x ∷ []
+insert_in_order_by lt x (y ∷ ys) = if lt y x then y ∷ insert_in_order_by lt x ys else x ∷ (y ∷ ys)
 
-abbrev pub sorted_by : {X : Type 0} → (X → X → Bool) → List X → List X
-sorted_by lt [] = []
-sorted_by lt (x ∷ xs) = placed_by lt x (sorted_by lt xs)
+abbrev pub list_in_order_by : {X : Type 0} → (X → X → Bool) → List X → List X
+list_in_order_by lt [] = []
+list_in_order_by lt (x ∷ xs) = insert_in_order_by lt x (list_in_order_by lt xs)
 
 -- an item of a folder: its name, and whether it is a folder
 pub record Named : Type 0 where
@@ -29,8 +29,8 @@ pub record Typed : Type 0 where
   pub path : List ℕ
   pub quote : Quote
 
-abbrev pub typed_of : ℕ → List ℕ → Quote → Typed
-typed_of start path quote = record { start = start; path = path; quote = quote }
+abbrev pub path_word : ℕ → List ℕ → Quote → Typed
+path_word start path quote = record { start = start; path = path; quote = quote }
 
 -- the characters before which a name needs an escape
 abbrev pub is_special : Quote → ℕ → Bool
@@ -39,20 +39,22 @@ is_special Single c = is_among break_characters c
 is_special Unquoted c = is_among break_characters c
 
 -- after an open quote the path is the rest; otherwise it is the last word
-abbrev pub quoted : ℕ → Quote → List ℕ → Typed
-quoted start Double text = typed_of start (unescaped (drop start text) (Some 92)) Double
-quoted start Single text = typed_of start (drop start text) Single
-quoted start Unquoted text = typed_of start (drop start text) Unquoted
+abbrev pub path_after_quote : ℕ → Quote → List ℕ → Typed
+path_after_quote start Double text = path_word start
+    (text_without_escapes (drop start text) (Some 92)) Double
+path_after_quote start Single text = path_word start (drop start text) Single
+path_after_quote start Unquoted text = path_word start (drop start text) Unquoted
 
-abbrev pub unquoted : ℕ → List ℕ → Typed
-unquoted start text = typed_of start (unescaped (drop start text) (Some 92)) Unquoted
+abbrev pub path_as_word : ℕ → List ℕ → Typed
+path_as_word start text = path_word start
+    (text_without_escapes (drop start text) (Some 92)) Unquoted
 
-abbrev pub typed_behind : Option (ℕ × Quote) → List ℕ → Typed
-typed_behind None text = unquoted (word_start (Some 92) (is_among break_characters) text) text
-typed_behind (Some within) text = quoted (within.0 + 1) within.1 text
+abbrev pub path_by_quote : Option (ℕ × Quote) → List ℕ → Typed
+path_by_quote None text = path_as_word (word_start (Some 92) (is_among break_characters) text) text
+path_by_quote (Some within) text = path_after_quote (within.0 + 1) within.1 text
 
 abbrev pub typed_path : List ℕ → Typed
-typed_path text = typed_behind (unclosed_quote text) text
+typed_path text = path_by_quote (unclosed_quote text) text
 
 -- a path is a folder, up to the last slash, and a name
 abbrev pub folder_len : List ℕ → ℕ
@@ -72,7 +74,7 @@ slash_of false = []
 abbrev pub offered_name : Quote → List ℕ → Named → Offered
 offered_name quote folder named =
     let path : List ℕ = (folder ++ named.name) ++ slash_of named.is_dir in
-    let shown : List ℕ = escaped path (Some 92) (is_special quote) quote in
+    let shown : List ℕ = text_with_escapes path (Some 92) (is_special quote) quote in
     record { display = named.name; replacement = shown; alone = shown }
 
 abbrev pub name_begins : List ℕ → Named → Bool
@@ -83,18 +85,19 @@ abbrev pub offered_names : Quote → List ℕ → List ℕ → List Named → Li
 offered_names quote folder name all =
     map (offered_name quote folder) (filter (name_begins name) all)
 
-abbrev pub unsorted_for : Typed → List Named → Completion
-unsorted_for typed all =
+abbrev pub completion_in_list_order : Typed → List Named → Completion
+completion_in_list_order typed all =
     let offered : List Offered =
     offered_names typed.quote (folder_of typed.path) (name_of typed.path) all in
     record { start = typed.start; candidates = offered }
 
 -- by what is displayed; items that are displayed alike keep their order
-abbrev pub displayed_before : Offered → Offered → Bool
-displayed_before x y = is_lt (slice_cmp nat_cmp x.display y.display)
+abbrev pub is_displayed_before : Offered → Offered → Bool
+is_displayed_before x y = is_lt (slice_cmp nat_cmp x.display y.display)
 
-abbrev pub sorted : Completion → Completion
-sorted found = record found { candidates = sorted_by displayed_before found.candidates }
+abbrev pub completion_in_order : Completion → Completion
+completion_in_order found = record found
+    { candidates = list_in_order_by is_displayed_before found.candidates }
 
 -- the candidates for a text, from a list of what folders contain: none if the folder can't be
 -- listed. Memory is taken for the path without its escapes, by the list, and for the candidates
@@ -102,11 +105,11 @@ abbrev pub unsorted_completion : (List ℕ → Reply (List Named)) → List ℕ 
 unsorted_completion list text =
     let listed : Reply (List Named) = list (folder_of (typed_path text).path) in
     record {
-      answer = option_map (unsorted_for (typed_path text)) listed.answer;
+      answer = option_map (completion_in_list_order (typed_path text)) listed.answer;
       takes = escapes_at (unclosed_quote text) || (listed.takes || is_some listed.answer);
     }
 
 abbrev pub path_completion : (List ℕ → Reply (List Named)) → List ℕ → Reply Completion
 path_completion list text =
     let found : Reply Completion = unsorted_completion list text in
-    record found { answer = option_map sorted found.answer }
+    record found { answer = option_map completion_in_order found.answer }

@@ -63,12 +63,12 @@ abbrev pub with_match_shown : List ℕ → Option (ℕ × ℕ) → List ℕ
 with_match_shown line bracket = with_bold_byte line (match_to_show line bracket)
 
 -- the line so, in memory that a match takes; every other text as it is
-abbrev pub shown_with_match : Option (ℕ × ℕ) → DisplayPart → List ℕ → Reply (List ℕ)
-shown_with_match bracket (OfLine place) text = record {
+abbrev pub part_with_match : Option (ℕ × ℕ) → DisplayPart → List ℕ → Reply (List ℕ)
+part_with_match bracket (OfLine place) text = record {
   answer = Some (with_match_shown text bracket);
   takes = is_some (match_to_show text bracket);
 }
-shown_with_match bracket part text = gives_at_once text
+part_with_match bracket part text = gives_at_once text
 
 -- the bracket kept for the next drawing: none for the last drawing of a line
 abbrev pub kept_bracket : List ℕ → ℕ → CmdKind → Option (ℕ × ℕ)

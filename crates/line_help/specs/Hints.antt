@@ -1,8 +1,8 @@
 -- Hints, which a hinter shows after a line.
 use Rattle.std.specs.Prelude.{ℕ, ◌-◌, ◌==◌, ◌||◌, not, true, if◌then◌else◌, List, length, drop, bytes_eq, Option, Some, None, is_some, option_map}
 use Rattle.line_keys.specs.Replies.{Reply}
-use Rattle.line_help.specs.Search.{Hit, searched}
-use Rattle.line_help.specs.declared.search.SearchDirection.TheVariants.{Reverse}
+use Rattle.line_help.specs.Search.{Hit, search_hit}
+use Rattle.line_help.specs.declared.history.search.SearchDirection.TheVariants.{Reverse}
 
 -- a hint: the text to show, and the text that accepting it inserts, if any
 pub record Hinted : Type 0 where
@@ -30,7 +30,7 @@ rest_behind line (Some hit) =
 -- the rest of the nearest entry at or before the place in the history that begins with the line
 abbrev pub history_hint : List ℕ → ℕ → List (List ℕ) → ℕ → Option (List ℕ)
 history_hint line pos entries place = if length line == 0 || not (pos == length line) then None
-    else rest_behind line (searched true line (hint_start entries place) Reverse entries)
+    else rest_behind line (search_hit true line (hint_start entries place) Reverse entries)
 
 -- the reply of `HistoryHinter`; a hint takes memory
 abbrev pub hint_of_history : List ℕ → ℕ → List (List ℕ) → ℕ → Reply (Option Hinted)

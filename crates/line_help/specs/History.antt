@@ -9,7 +9,7 @@ use Rattle.line_config.specs.declared.settings.HistoryDuplicates.TheVariants.{Al
 use Rattle.std.specs.Borrow.{Bor}
 use Rattle.std.specs.declared.alloc.Global.{Global}
 use Rattle.std.specs.VecDeque.Iter.{deque_iter_rest}
-use Rattle.line_help.specs.declared.history_iter.HistoryIter.{HistoryIter}
+use Rattle.line_help.specs.declared.history.history_iter.HistoryIter.{HistoryIter}
 
 -- the most entries, and which lines are left out
 pub record Settings : Type 0 where
@@ -54,8 +54,8 @@ newest_is text (entry ∷ []) = bytes_eq entry text
 newest_is text (entry ∷ (next ∷ entries)) = newest_is text (next ∷ entries)
 
 -- whether the line doesn't become an entry
-abbrev pub ignored : Settings → List (List ℕ) → List ℕ → Bool
-ignored settings entries line =
+abbrev pub ignores_line : Settings → List (List ℕ) → List ℕ → Bool
+ignores_line settings entries line =
     ((settings.max_len == 0 || length line == 0)
     || (settings.ignore_space && begins_with_space line))
     || (settings.ignore_dups && newest_is line entries)
@@ -64,9 +64,9 @@ ignored settings entries line =
 abbrev pub newest : ℕ → List (List ℕ) → List (List ℕ)
 newest count entries = drop (length entries - count) entries
 
-abbrev pub added : Settings → List (List ℕ) → List ℕ → List (List ℕ)
-added settings entries line =
-    if ignored settings entries line then entries
+abbrev pub entries_after : Settings → List (List ℕ) → List ℕ → List (List ℕ)
+entries_after settings entries line =
+    if ignores_line settings entries line then entries
     else newest settings.max_len (entries ++ line ∷ [])
 
 -- with this entry after the others
@@ -74,17 +74,20 @@ abbrev pub entries_with : Kept → List ℕ → Kept
 entries_with kept entry =
     record kept { entries = newest kept.settings.max_len (kept.entries ++ entry ∷ []) }
 
-abbrev pub unsaved_after : Settings → List (List ℕ) → List ℕ → ℕ → ℕ
-unsaved_after settings entries line unsaved =
-    if ignored settings entries line then unsaved
-    else min (unsaved + 1) (length (added settings entries line))
+abbrev pub count_of_unsaved : Settings → List (List ℕ) → List ℕ → ℕ → ℕ
+count_of_unsaved settings entries line unsaved =
+    if ignores_line settings entries line then unsaved
+    else min (unsaved + 1) (length (entries_after settings entries line))
 
 -- the effect of a line on a history that can be saved
-abbrev pub filed_with : Filed → List ℕ → Filed
-filed_with filed line =
+abbrev pub history_with_line : Filed → List ℕ → Filed
+history_with_line filed line =
     let kept : Kept = filed.kept in record {
-      kept = record { entries = added kept.settings kept.entries line; settings = kept.settings };
-      unsaved = unsaved_after kept.settings kept.entries line filed.unsaved;
+      kept = record {
+        entries = entries_after kept.settings kept.entries line;
+        settings = kept.settings;
+      };
+      unsaved = count_of_unsaved kept.settings kept.entries line filed.unsaved;
     }
 
 -- a call has this effect on a value, or memory ran out and the value stays
@@ -95,24 +98,25 @@ pub record Grows {V A : Type 0} (before wanted after : V) (result : Result A Rea
   pub fault : IfErr result (λ e. e ≡ Memory)
 
 -- these lines, one after the other
-abbrev pub filed_with_all : Filed → List (List ℕ) → Filed
-filed_with_all filed [] = filed
-filed_with_all filed (line ∷ lines) = filed_with_all (filed_with filed line) lines
+abbrev pub history_with_lines : Filed → List (List ℕ) → Filed
+history_with_lines filed [] = filed
+history_with_lines filed (line ∷ lines) = history_with_lines (history_with_line filed line) lines
 
 -- whether a line isn't ignored, and whether none of these is
 abbrev pub takes : Filed → List ℕ → Bool
-takes filed line = not (ignored filed.kept.settings filed.kept.entries line)
+takes filed line = not (ignores_line filed.kept.settings filed.kept.entries line)
 
 abbrev pub takes_all : Filed → List (List ℕ) → Bool
 takes_all filed [] = true
-takes_all filed (line ∷ lines) = takes filed line && takes_all (filed_with filed line) lines
+takes_all filed (line ∷ lines) = takes filed line && takes_all (history_with_line filed line) lines
 
-abbrev pub resized : ℕ → Kept → Kept
-resized len kept =
+abbrev pub entries_with_max_len : ℕ → Kept → Kept
+entries_with_max_len len kept =
     record { entries = newest len kept.entries; settings = record kept.settings { max_len = len } }
 
-abbrev pub filed_resized : ℕ → Filed → Filed
-filed_resized len filed = record { kept = resized len filed.kept; unsaved = min filed.unsaved len }
+abbrev pub history_with_max_len : ℕ → Filed → Filed
+history_with_max_len len filed = record
+    { kept = entries_with_max_len len filed.kept; unsaved = min filed.unsaved len }
 
 abbrev pub entries_kept : List (List ℕ) → Settings → Kept
 entries_kept entries settings = record { entries = entries; settings = settings }

@@ -2,12 +2,13 @@
 use Rattle.std.specs.Prelude.{◌≡◌, ℕ, zero, suc, ◌==◌, ◌&&◌, Bool, true, false, if◌then◌else◌, List, [], ◌∷◌, ◌++◌, flat_map, bytes_eq, codes, Option, Some, None, option_map, unwrap_or, Result, Ok, Err, IsTrue, ⊤, IfOk, IfErr, OnOk, OnErr, ◌⊎◌, ◌<◌, ◌≤◌, length, take}
 use Rattle.std.specs.List.{list_any}
 use Rattle.std.specs.Str.{is_utf8}
-use Rattle.line_config.specs.Feed.{Feed, GivesBytes}
+use Rattle.line_config.specs.Feed.{Feed, GivesByte, GivesBytes, device_failed}
+use Rattle.line_config.specs.declared.device.DeviceFailed.{DeviceFailed}
 use Rattle.line_config.specs.declared.device.Last.{Last}
 use Rattle.line_config.specs.declared.device.Last.TheVariants.{End, Failed}
 use Rattle.line_config.specs.declared.errors.ReadlineError.{ReadlineError}
 use Rattle.line_config.specs.declared.errors.ReadlineError.TheVariants.{Reader, HistoryText, Memory}
-use Rattle.line_help.specs.History.{Filed, newest, filed_with_all, takes_all, all_saved}
+use Rattle.line_help.specs.History.{Filed, newest, history_with_lines, takes_all, all_saved}
 use Rattle.line_config.specs.Sending.{Takes, TakesSome, Sends}
 
 -- the first row of a saved text: a text without it has no escapes
@@ -105,7 +106,7 @@ has_header (row ∷ rows) = bytes_eq row header
 -- the history after the first row
 abbrev pub after_first : Filed → List ℕ → Filed
 after_first filed row =
-    if bytes_eq row header then filed else filed_with_all filed (entries_of false (row ∷ []))
+    if bytes_eq row header then filed else history_with_lines filed (entries_of false (row ∷ []))
 
 -- the texts that loading these rows adds, in order
 abbrev pub texts_of : List (List ℕ) → List (List ℕ)
@@ -147,6 +148,11 @@ pub record ReadsGood (text coming : List ℕ) : Type 0 where
 abbrev pub GoodUpTo : List ℕ → List ℕ → Type 0
 GoodUpTo text coming = (later : List ℕ) → ReadsGood coming later → ReadsGood text later
 
+-- whether a result says that the source failed
+abbrev pub says_reader : {A : Type 0} → Result A ReadlineError → Bool
+says_reader (Err Reader) = true
+says_reader result = false
+
 -- the result of reading rows: a row that isn't UTF-8 comes before the failure of the source
 abbrev pub answer_at : Last → Bool → Result Bool ReadlineError
 answer_at End whole = Ok whole
@@ -161,24 +167,19 @@ load_answer last rows filed =
     rows_answer last rows (has_header rows && takes_all filed (texts_of (good_rows rows)))
 
 -- the history after it: with all rows before an error, and with no new entry if there is none
-abbrev pub left_at : Last → Filed → Filed
-left_at End filed = all_saved filed
-left_at Failed filed = filed
+abbrev pub history_left_at : Last → Filed → Filed
+history_left_at End filed = all_saved filed
+history_left_at Failed filed = filed
 
 abbrev pub load_leaves : Last → List (List ℕ) → Filed → Filed
 load_leaves last rows filed =
-    let after : Filed = filed_with_all filed (texts_of (good_rows rows)) in
-    if has_bad_row rows then after else left_at last after
+    let after : Filed = history_with_lines filed (texts_of (good_rows rows)) in
+    if has_bad_row rows then after else history_left_at last after
 
 -- whether such a result follows from the text alone: running out of memory doesn't
 abbrev pub follows : Result Bool ReadlineError → Bool
 follows (Err Memory) = false
 follows result = true
-
--- whether a result says that the source failed
-abbrev pub says_reader : {A : Type 0} → Result A ReadlineError → Bool
-says_reader (Err Reader) = true
-says_reader result = false
 
 -- a row without the carriage return at its end
 abbrev pub without_return : List ℕ → List ℕ
@@ -217,9 +218,41 @@ pub record SavesNew {D : Type 0} (held : D → List ℕ) (failed : D → Bool) (
 
 -- ---- the effect of loading on a history and on the source of its text
 
+-- a result as a device gives it, without the reason of a failure
+abbrev pub as_device : {A : Type 0} → Result A ReadlineError → Result A DeviceFailed
+as_device (Ok x) = Ok x
+as_device (Err e) = Err device_failed
+
+-- one byte is requested of a source, whose failure is the error Reader
+pub record ReadsByte (old new : Feed) (result : Result (Option ℕ) ReadlineError) : Type 0 where
+  pub gives : GivesByte old new (as_device result)
+  pub fault : IfErr result (λ e. e ≡ Reader)
+
+-- the next row is read, or the text's end is met, which is remembered. If the source fails, it gave
+-- no whole row
+pub record ReadsRow (old new : Feed) (bytes : List ℕ) (met : Bool)
+    (result : Result Bool ReadlineError) : Type 0 where
+  pub row : IsTrue new.told → IfOk result (λ is_row. text_rows old.last old.coming
+      ≡ (if is_row then bytes ∷ text_rows old.last new.coming else []))
+  pub behind : IsTrue new.told → result ≡ Ok true → new.coming ≡ behind_row old.coming
+  pub end : IsTrue new.told → result ≡ Ok false → (old.last ≡ End) × (new.coming ≡ [])
+  pub cut : IsTrue new.told → result ≡ Err Reader
+      → (old.last ≡ Failed) × (new.coming ≡ []) × (text_rows old.last old.coming ≡ [])
+  pub lost : IsTrue new.told → LosesRow old.coming new.coming
+  pub good : IsTrue new.told → result ≡ Ok true → is_utf8 bytes ≡ true
+      → GoodUpTo old.coming new.coming
+  pub memory : IsTrue new.told → result ≡ Err Memory → ReadsGood old.coming new.coming
+  pub ended : EndIsMet met new
+  pub fault : IfErr result (λ e. (e ≡ Memory) ⊎ (e ≡ Reader))
+  pub failure : new.failed ≡ says_reader result
+  pub told : IsTrue new.told → IsTrue old.told
+  pub last : new.last ≡ old.last
+  pub falls : result ≡ Ok true → new.bound < old.bound
+  pub keeps : new.bound ≤ old.bound
+
 -- what a load leaves of a text: nothing, or the text after the first row that isn't UTF-8
-abbrev pub left_by_load : Last → List ℕ → List ℕ
-left_by_load last text =
+abbrev pub rest_after_load : Last → List ℕ → List ℕ
+rest_after_load last text =
     let rows = text_rows last text in
     if has_bad_row rows then behind_rows (suc (length (good_rows rows))) text else []
 
@@ -231,24 +264,51 @@ pub record LoadsSome (texts : List (List ℕ) → List (List ℕ)) (last : Last)
   pub later : List (List ℕ)
   pub split : text_rows last text ≡ loaded ++ later
   pub good : has_bad_row loaded ≡ false
-  pub added : after ≡ filed_with_all before (texts loaded)
+  pub added : after ≡ history_with_lines before (texts loaded)
   pub left : LosesRow (behind_rows (length loaded) text) coming
 
--- answer, history and remaining text follow from the text, unless memory ran out; each error says
--- how much of the text was loaded. All this holds if the source agrees with the assumption
-pub record Loads (old new : Feed) (before after : Filed) (result : Result Bool ReadlineError)
-    : Type 0 where
-  pub answer : IsTrue new.told → IsTrue (follows result)
-      → result ≡ load_answer old.last (text_rows old.last old.coming) before
-  pub history : IsTrue new.told → IsTrue (follows result)
-      → after ≡ load_leaves old.last (text_rows old.last old.coming) before
+-- the answer, the history and the remaining text are these, unless memory ran out; each error says
+-- of how much of the text the entries were added. All this holds if the source agrees with the
+-- assumption
+pub record LoadsAs (wanted : Result Bool ReadlineError) (filed : Filed)
+    (texts : List (List ℕ) → List (List ℕ)) (old new : Feed) (before after : Filed)
+    (result : Result Bool ReadlineError) : Type 0 where
+  pub answer : IsTrue new.told → IsTrue (follows result) → result ≡ wanted
+  pub history : IsTrue new.told → IsTrue (follows result) → after ≡ filed
   pub left : IsTrue new.told → IsTrue (follows result)
-      → new.coming ≡ left_by_load old.last old.coming
+      → new.coming ≡ rest_after_load old.last old.coming
   pub part : IsTrue new.told
-      → OnErr result (LoadsSome texts_of old.last old.coming new.coming before after)
+      → OnErr result (LoadsSome texts old.last old.coming new.coming before after)
   pub memory : IsTrue new.told → result ≡ Err Memory → ReadsGood old.coming new.coming
   pub fault : IfErr result (λ e. (e ≡ Memory) ⊎ ((e ≡ HistoryText) ⊎ (e ≡ Reader)))
   pub failure : new.failed ≡ says_reader result
   pub told : IsTrue new.told → IsTrue old.told
   pub last : new.last ≡ old.last
   pub keeps : new.bound ≤ old.bound
+
+-- the text of a history is loaded
+abbrev pub Loads : (old new : Feed) → (before after : Filed) → Result Bool ReadlineError → Type 0
+Loads old new before after result =
+    let rows = text_rows old.last old.coming in
+    LoadsAs (load_answer old.last rows before) (load_leaves old.last rows before) texts_of
+    old new before after result
+
+-- the rows behind the first one are loaded
+abbrev pub LoadsRows : (escapes : Bool) → (old new : Feed) → (before after : Filed)
+    → Result Bool ReadlineError → Type 0
+LoadsRows escapes old new before after result =
+    let rows = text_rows old.last old.coming in
+    let entries = entries_of escapes (good_rows rows) in
+    LoadsAs (rows_answer old.last rows (takes_all before entries))
+    (history_with_lines before entries)
+    (entries_of escapes) old new before after result
+
+-- a row is added, with this answer and this history after it; if it isn't UTF-8 or memory runs out,
+-- the history stays. An empty row is always added
+pub record AddsRow (row : List ℕ) (took : Bool) (wanted before after : Filed)
+    (result : Result Bool ReadlineError) : Type 0 where
+  pub answer : IfOk result (λ b. b ≡ took)
+  pub added : OnOk result (after ≡ wanted)
+  pub text : OnOk result (is_utf8 row ≡ true)
+  pub kept : OnErr result (after ≡ before)
+  pub fault : IfErr result (λ e. (e ≡ row_fault row) × (0 < length row))

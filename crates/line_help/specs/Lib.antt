@@ -1,6 +1,6 @@
 pub mod Brackets
 pub mod Completion
-pub mod Course
+pub mod HistoryCourse
 pub mod FileNames
 pub mod History
 pub mod HistoryText

@@ -2,13 +2,13 @@
 use Rattle.std.specs.Prelude.{◌≡◌, ℕ, ◌==◌, ◌&&◌, nat_lt, Bool, true, false, if◌then◌else◌, List, [], ◌∷◌, drop, length, Option, Some, None, is_some, option_map}
 use Rattle.std.specs.List.{position_or_len}
 use Rattle.line_keys.specs.declared.command.CmdKind.{CmdKind}
-use Rattle.line_help.specs.declared.style.Colour.TheVariants.{Terminal, Basic}
-use Rattle.line_help.specs.declared.style.Hue.TheVariants.{Blue, Red}
-use Rattle.line_help.specs.declared.style.Mark.{Mark}
-use Rattle.line_help.specs.declared.style.Part.{Part}
-use Rattle.line_help.specs.declared.style.Part.TheVariants.{Prompt, Line, Hint, Message}
-use Rattle.line_help.specs.declared.style.Span.{Span}
-use Rattle.line_help.specs.declared.style.Style.{Style}
+use Rattle.line_help.specs.declared.helpers.style.Colour.TheVariants.{Terminal, Basic}
+use Rattle.line_help.specs.declared.helpers.style.Hue.TheVariants.{Blue, Red}
+use Rattle.line_help.specs.declared.helpers.style.Mark.{Mark}
+use Rattle.line_help.specs.declared.helpers.style.Part.{Part}
+use Rattle.line_help.specs.declared.helpers.style.Part.TheVariants.{Prompt, Line, Hint, Message}
+use Rattle.line_help.specs.declared.helpers.style.Span.{Span}
+use Rattle.line_help.specs.declared.helpers.style.Style.{Style}
 use Rattle.line_help.specs.Brackets.{bracket_to_match}
 use Rattle.line_help.specs.Highlights.{kept_bracket, match_to_show}
 

@@ -2,8 +2,8 @@
 use Rattle.std.specs.Prelude.{◌≡◌, ℕ, ◌+◌, ◌==◌, ◌&&◌, Bool, true, false, if◌then◌else◌, List, [], ◌∷◌, flat_map, Option, Some, None, encode_utf8_all, ◌≢◌, ◌⊎◌, ◌↔◌, ◌++◌, length}
 use Rattle.std.specs.Str.{chars}
 use Rattle.std.specs.Char.{IsScalar}
-use Rattle.line_help.specs.declared.quotes.Quote.{Quote}
-use Rattle.line_help.specs.declared.quotes.Quote.TheVariants.{Double, Single, None as Unquoted}
+use Rattle.line_help.specs.declared.completion.quotes.Quote.{Quote}
+use Rattle.line_help.specs.declared.completion.quotes.Quote.TheVariants.{Double, Single, None as Unquoted}
 
 -- a closure answers like this test of characters
 abbrev pub Tells : (ℕ → Bool → Type 0) → (ℕ → Bool) → Type 0
@@ -16,9 +16,9 @@ unescaped_chars esc (c ∷ []) = if c == esc then [] else c ∷ []
 unescaped_chars esc (c ∷ (d ∷ cs)) =
     if c == esc then d ∷ unescaped_chars esc cs else c ∷ unescaped_chars esc (d ∷ cs)
 
-abbrev pub unescaped : List ℕ → Option ℕ → List ℕ
-unescaped text None = text
-unescaped text (Some esc) = encode_utf8_all (unescaped_chars esc (chars text))
+abbrev pub text_without_escapes : List ℕ → Option ℕ → List ℕ
+text_without_escapes text None = text
+text_without_escapes text (Some esc) = encode_utf8_all (unescaped_chars esc (chars text))
 
 -- an escape before each break character
 abbrev pub escaped_char : ℕ → (ℕ → Bool) → ℕ → List ℕ
@@ -27,9 +27,10 @@ escaped_char esc breaks c = if breaks c then esc ∷ c ∷ [] else c ∷ []
 abbrev pub escaped_chars : ℕ → (ℕ → Bool) → List ℕ → List ℕ
 escaped_chars esc breaks cs = flat_map (escaped_char esc breaks) cs
 
-abbrev pub escaped_by : Option ℕ → List ℕ → (ℕ → Bool) → List ℕ
-escaped_by None text breaks = text
-escaped_by (Some esc) text breaks = encode_utf8_all (escaped_chars esc breaks (chars text))
+abbrev pub text_with_escapes_by : Option ℕ → List ℕ → (ℕ → Bool) → List ℕ
+text_with_escapes_by None text breaks = text
+text_with_escapes_by (Some esc) text breaks = encode_utf8_all
+    (escaped_chars esc breaks (chars text))
 
 -- nothing is escaped between single quotes
 abbrev pub escape_in : Quote → Option ℕ → Option ℕ
@@ -37,8 +38,8 @@ escape_in Double esc = esc
 escape_in Single esc = None
 escape_in Unquoted esc = esc
 
-abbrev pub escaped : List ℕ → Option ℕ → (ℕ → Bool) → Quote → List ℕ
-escaped text esc breaks quote = escaped_by (escape_in quote esc) text breaks
+abbrev pub text_with_escapes : List ℕ → Option ℕ → (ℕ → Bool) → Quote → List ℕ
+text_with_escapes text esc breaks quote = text_with_escapes_by (escape_in quote esc) text breaks
 
 -- whether a backslash is an escape, outside quotes or after the quote at a place: it is one
 -- outside, and between double quotes
@@ -58,12 +59,12 @@ closes_quote Single b = b == 39
 closes_quote Unquoted b = false
 
 -- a byte at a place, which no backslash escapes, opens a quote, closes it or does neither
-abbrev pub opened_at : ℕ → ℕ → Option (ℕ × Quote)
-opened_at place b =
+abbrev pub quote_opened_at : ℕ → ℕ → Option (ℕ × Quote)
+quote_opened_at place b =
     if b == 34 then Some (place, Double) else if b == 39 then Some (place, Single) else None
 
 abbrev pub quote_after : ℕ → ℕ → Option (ℕ × Quote) → Option (ℕ × Quote)
-quote_after place b None = opened_at place b
+quote_after place b None = quote_opened_at place b
 quote_after place b (Some within) = if closes_quote within.1 b then None else Some within
 
 -- the quote that is open after these bytes, which start at a place

@@ -1,9 +1,9 @@
 -- Searches in a history.
 use Rattle.std.specs.Prelude.{◌≡◌, ◌<◌, ℕ, suc, ◌+◌, ◌==◌, ◌||◌, nat_le, Bool, true, false, if◌then◌else◌, List, [], ◌∷◌, length, take, drop, reverse, eqb, Option, Some, None, option_map, slice_get, IfSome, IsCharBoundary, ◌≢◌, ◌↔◌, ◌-◌, ◌≤◌, ◌++◌, All}
 use Rattle.std.specs.List.{starts_with}
-use Rattle.line_help.specs.declared.search.SearchResult.{SearchResult}
-use Rattle.line_help.specs.declared.search.SearchDirection.{SearchDirection}
-use Rattle.line_help.specs.declared.search.SearchDirection.TheVariants.{Forward, Reverse}
+use Rattle.line_help.specs.declared.history.search.SearchResult.{SearchResult}
+use Rattle.line_help.specs.declared.history.search.SearchDirection.{SearchDirection}
+use Rattle.line_help.specs.declared.history.search.SearchDirection.TheVariants.{Forward, Reverse}
 
 -- an entry found: its text, its index in the history, and the place in it, in bytes
 pub record Hit : Type 0 where
@@ -52,8 +52,8 @@ nearest Forward test start entries = first_from test start (drop start entries)
 nearest Reverse test start entries = first_back test (reverse (take (start + 1) entries))
 
 -- the result of a search: nothing for an empty term or an index past the last entry
-abbrev pub searched : Bool → List ℕ → ℕ → SearchDirection → List (List ℕ) → Option Hit
-searched anchored term start direction entries =
+abbrev pub search_hit : Bool → List ℕ → ℕ → SearchDirection → List (List ℕ) → Option Hit
+search_hit anchored term start direction entries =
     if length term == 0 || nat_le (length entries) start then None
     else nearest direction (hit_by anchored term) start entries
 
@@ -115,5 +115,5 @@ abbrev pub NearestIsFound : Type 0
 NearestIsFound =
     (anchored : Bool) (term : List ℕ) (start : ℕ) (direction : SearchDirection)
     (entries : List (List ℕ)) (hit : Hit)
-    → (searched anchored term start direction entries ≡ Some hit)
+    → (search_hit anchored term start direction entries ≡ Some hit)
     ↔ IsNearest anchored term start direction entries hit

@@ -2,14 +2,14 @@
 use Rattle.std.specs.Prelude.{◌≡◌, ◌≢◌, ◌<◌, ◌≤◌, ⊤, ℕ, zero, suc, ◌+◌, ◌-◌, ◌*◌, ◌==◌, ◌&&◌, nat_lt, min, Bool, true, false, if◌then◌else◌, List, [], ◌∷◌, ◌++◌, length, take, drop, slice_index, sum_by, flat_map, replicate, Option, None, Some, option_map, unwrap_or}
 use Rattle.std.specs.Borrow.{Bor}
 use Rattle.std.specs.Int.{is_in_range}
-use Rattle.line_help.specs.declared.style_split.Open.{Open}
-use Rattle.line_help.specs.declared.style_split.Open.TheVariants.{Nothing, Kind, Index, Parts, OnePart, TwoParts, Dropped}
-use Rattle.line_help.specs.declared.style.Colour.{Colour}
-use Rattle.line_help.specs.declared.style.Colour.TheVariants.{Terminal, Basic, Bright, Palette, Rgb}
-use Rattle.line_help.specs.declared.style.Hue.{Hue}
-use Rattle.line_help.specs.declared.style.Hue.TheVariants.{Black, Red, Green, Yellow, Blue, Magenta, Cyan, White}
-use Rattle.line_help.specs.declared.style.Span.{Span}
-use Rattle.line_help.specs.declared.style.Style.{Style}
+use Rattle.line_help.specs.declared.helpers.style_split.Open.{Open}
+use Rattle.line_help.specs.declared.helpers.style_split.Open.TheVariants.{Nothing, Kind, Index, Parts, OnePart, TwoParts, Dropped}
+use Rattle.line_help.specs.declared.helpers.style.Colour.{Colour}
+use Rattle.line_help.specs.declared.helpers.style.Colour.TheVariants.{Terminal, Basic, Bright, Palette, Rgb}
+use Rattle.line_help.specs.declared.helpers.style.Hue.{Hue}
+use Rattle.line_help.specs.declared.helpers.style.Hue.TheVariants.{Black, Red, Green, Yellow, Blue, Magenta, Cyan, White}
+use Rattle.line_help.specs.declared.helpers.style.Span.{Span}
+use Rattle.line_help.specs.declared.helpers.style.Style.{Style}
 use Rattle.line_help.specs.Paints.{plain}
 
 -- ---- the pieces of a text
@@ -108,18 +108,19 @@ abbrev pub colour_len : List ℕ → ℕ
 colour_len [] = 0
 colour_len (kind ∷ ns) = if kind == 5 then 2 else if kind == 2 then 4 else suc (length ns)
 
-abbrev pub changed : ℕ → List ℕ → Style → Style
-changed n ns s = if n == 38 then with_colour false (colour_in ns) s
+abbrev pub style_after_number : ℕ → List ℕ → Style → Style
+style_after_number n ns s = if n == 38 then with_colour false (colour_in ns) s
     else if n == 48 then with_colour true (colour_in ns) s else with_number n s
 
-abbrev pub taken : ℕ → List ℕ → ℕ
-taken n ns = if n == 38 then colour_len ns else if n == 48 then colour_len ns else 0
+abbrev pub count_taken : ℕ → List ℕ → ℕ
+count_taken n ns = if n == 38 then colour_len ns else if n == 48 then colour_len ns else 0
 
 -- what numbers change; so many of them belong to the colour of one before
-abbrev pub changed_by : ℕ → List ℕ → Style → Style
-changed_by skip [] s = s
-changed_by (suc k) (n ∷ ns) s = changed_by k ns s
-changed_by zero (n ∷ ns) s = changed_by (taken n ns) ns (changed n ns s)
+abbrev pub style_after_numbers : ℕ → List ℕ → Style → Style
+style_after_numbers skip [] s = s
+style_after_numbers (suc k) (n ∷ ns) s = style_after_numbers k ns s
+style_after_numbers zero (n ∷ ns) s = style_after_numbers (count_taken n ns) ns
+    (style_after_number n ns s)
 
 -- a number goes on by a digit; 999 stands for all above it
 abbrev pub with_digit : ℕ → ℕ → ℕ
@@ -137,7 +138,7 @@ numbers_in n (b ∷ bs) =
 -- an SGR sequence changes the style, any other leaves it as it is
 abbrev pub style_by : Option (List ℕ) → Style → Style
 style_by None s = s
-style_by (Some ns) s = changed_by 0 ns s
+style_by (Some ns) s = style_after_numbers 0 ns s
 
 abbrev pub style_after : List ℕ → Style → Style
 style_after sequence s = style_by (numbers_in 0 sequence) s
@@ -199,7 +200,7 @@ SplitsSequence after (Some parts) = (after ≡ 0x5B ∷ (parts.0.now ++ parts.1.
     × (sequence_len 0x1B after ≡ suc (length parts.0.now))
 
 -- spans before a place of a text, and one style from there on, which may be of no byte yet
-pub record Stands (len start : ℕ) (spans : List Span) (style : Style) : Type 0 where
+pub record SpansStand (len start : ℕ) (spans : List Span) (style : Style) : Type 0 where
   pub within : start ≤ len
   pub differ : Differ spans style
   pub first : start ≡ len → spans ≡ []

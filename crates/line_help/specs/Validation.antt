@@ -3,8 +3,8 @@ use Rattle.std.specs.Prelude.{ℕ, drop, ◌==◌, Bool, true, false, if◌then�
 use Rattle.std.specs.List.{list_any}
 use Rattle.line_keys.specs.Replies.{Reply}
 use Rattle.line_help.specs.Brackets.{is_bracket, is_opening, is_closing, partner, all_kinds, Balanced}
-use Rattle.line_help.specs.declared.validate.ValidationResult.{ValidationResult}
-use Rattle.line_help.specs.declared.validate.ValidationResult.TheVariants.{Incomplete, Invalid, Valid}
+use Rattle.line_help.specs.declared.helpers.validate.ValidationResult.{ValidationResult}
+use Rattle.line_help.specs.declared.helpers.validate.ValidationResult.TheVariants.{Incomplete, Invalid, Valid}
 
 abbrev pub is_valid : ValidationResult → Bool
 is_valid Incomplete = false
@@ -22,8 +22,9 @@ abbrev pub not_closed : ℕ → List ℕ
 not_closed opening =
     codes "Mismatched brackets: '" ++ (encode_utf8 opening ++ codes "' is not properly closed")
 
-abbrev pub unpaired : ℕ → List ℕ
-unpaired closing = codes "Mismatched brackets: '" ++ (encode_utf8 closing ++ codes "' is unpaired")
+abbrev pub message_of_unpaired : ℕ → List ℕ
+message_of_unpaired closing = codes "Mismatched brackets: '" ++
+    (encode_utf8 closing ++ codes "' is unpaired")
 
 -- the verdict at the end of the text, with these brackets open
 abbrev pub verdict_at_end : List ℕ → ValidationResult
@@ -32,7 +33,7 @@ verdict_at_end (opening ∷ others) = Incomplete
 
 -- the verdict on a closing bracket that doesn't close the innermost one of these open ones
 abbrev pub mismatch : ℕ → List ℕ → ValidationResult
-mismatch closing [] = Invalid (Some (unpaired closing))
+mismatch closing [] = Invalid (Some (message_of_unpaired closing))
 mismatch closing (opening ∷ others) = Invalid (Some (not_closed opening))
 
 abbrev pub closes_innermost : ℕ → List ℕ → Bool
@@ -85,7 +86,8 @@ InvalidIsLost =
 -- Either all before it is balanced, so it is unpaired; or the innermost open bracket is of another
 -- kind, so that one isn't closed
 abbrev pub NamesWhatFails : List ℕ → ℕ → List ℕ → Type 0
-NamesWhatFails before closing message = (Balanced all_kinds before × (message ≡ unpaired closing))
+NamesWhatFails before closing
+    message = (Balanced all_kinds before × (message ≡ message_of_unpaired closing))
     ⊎ ((front : List ℕ) × (opening : ℕ) × (inner : List ℕ) × (more : List ℕ)
     × (before ≡ front ++ (opening ∷ inner)) × (is_opening opening ≡ true)
     × Balanced all_kinds inner × (partner opening ≢ closing) × (message ≡ not_closed opening)

@@ -6,7 +6,7 @@ use Rattle.line_config.specs.Feed.{Feed}
 use Rattle.line_config.specs.declared.device.Last.TheVariants.{End, Failed}
 use Rattle.line_config.specs.declared.errors.ReadlineError.{ReadlineError}
 use Rattle.line_config.specs.declared.errors.ReadlineError.TheVariants.{Memory, NotUtf8, Reader}
-use Rattle.line_help.specs.HistoryText.{ReadsGood, entries_of, has_bad_row, left_by_load, says_reader, text_rows}
+use Rattle.line_help.specs.HistoryText.{ReadsGood, entries_of, has_bad_row, rest_after_load, says_reader, text_rows}
 
 -- why a row gives no word: it isn't UTF-8, or else memory ran out
 abbrev pub word_fault : List ℕ → ReadlineError
@@ -31,7 +31,8 @@ pub record LoadsWords (old new : Feed) (result : Result (Vec (String Global)) Re
   pub words : IsTrue new.told → IfOk result (λ words. map string_bytes words.items
       ≡ entries_of false (rows_to_come old))
   pub fault : IsTrue new.told → IfErr result (IsWordFault old new)
-  pub left : IsTrue new.told → result ≢ Err Memory → new.coming ≡ left_by_load old.last old.coming
+  pub left : IsTrue new.told → result ≢ Err Memory → new.coming
+      ≡ rest_after_load old.last old.coming
   pub refused : IfErr result (λ e. (e ≡ Memory) ⊎ ((e ≡ NotUtf8) ⊎ (e ≡ Reader)))
   pub failure : new.failed ≡ says_reader result
   pub told : IsTrue new.told → IsTrue old.told

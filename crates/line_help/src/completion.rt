@@ -1,11 +1,20 @@
 //! Completion: what may replace the word before the cursor.
+
+pub mod common_prefix;
+pub mod file_names;
+pub mod quotes;
+pub mod whole_words;
+pub mod word_before;
+pub mod word_completer;
+pub mod word_list;
+
 ghost use Rattle.std.specs.Prelude.{◌≡◌, ◌≤◌, ℕ, List, ⊤, IfOk, IfErr, IsCharBoundary, box_value};
 ghost use Rattle.line_buffer.specs.Line.{Line};
 ghost use Rattle.line_config.specs.declared.errors.HookFault.TheVariants.{Memory};
 ghost use Rattle.line_help.specs.Completion.{Offered, Completion, text_offered, nothing_offered, completion_by, Updates};
 ghost use Rattle.line_keys.specs.Replies.{Reply, Replies, gives, gives_at_once, itself};
 
-use crate::context::Context;
+use crate::helpers::context::Context;
 use crate::history::History;
 use line_buffer::{ChangeListener, LineBuffer};
 use line_config::HookFault;

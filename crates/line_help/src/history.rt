@@ -1,10 +1,21 @@
 //! The trait of histories.
+
+pub(crate) mod entry;
+pub(crate) mod escapes;
+pub mod file_history;
+pub(crate) mod found;
+pub mod history_iter;
+pub mod memory_history;
+pub(crate) mod rows;
+pub mod search;
+pub(crate) mod space;
+
 ghost use Rattle.std.specs.Prelude.{◌≡◌, ◌==◌, ℕ, List, [], length, not, IsTrue, IfOk, IfErr, OnOk, OnErr, option_map, string_bytes, true, false};
 ghost use Rattle.line_config.specs.declared.errors.ReadlineError.TheVariants.{Memory};
-ghost use Rattle.line_help.specs.History.{Settings, ignored, added, newest};
-ghost use Rattle.line_help.specs.Search.{Finds, hit_of, entry_at, searched};
+ghost use Rattle.line_help.specs.History.{Settings, ignores_line, entries_after, newest};
+ghost use Rattle.line_help.specs.Search.{Finds, hit_of, entry_at, search_hit};
 
-use crate::search::{SearchDirection, SearchResult};
+use crate::history::search::{SearchDirection, SearchResult};
 use line_config::ReadlineError;
 use std::alloc::Global;
 
@@ -25,24 +36,25 @@ pub trait History: Drop {
     /// that isn't ignored takes memory.
     fn add(&mut self, alloc: Global, line: &str) -> Result<bool, ReadlineError>
         ensures answer { IfOk result (λ b. b
-            ≡ not (ignored (settings self.old) (entries self.old) line.now)) }
+            ≡ not (ignores_line (settings self.old) (entries self.old) line.now)) }
         ensures entries { OnOk result (entries self.new
-            ≡ added (settings self.old) (entries self.old) line.now) }
+            ≡ entries_after (settings self.old) (entries self.old) line.now) }
         ensures kept { OnErr result (entries self.new ≡ entries self.old) }
         ensures settings { settings self.new ≡ settings self.old }
         ensures fault { IfErr result (λ e. (e ≡ Memory)
-            × IsTrue (not (ignored (settings self.old) (entries self.old) line.now))) };
+            × IsTrue (not (ignores_line (settings self.old) (entries self.old) line.now))) };
 
     /// The same for an owned line, whose text isn't copied.
     fn add_owned(&mut self, alloc: Global, line: String) -> Result<bool, ReadlineError>
         ensures answer { IfOk result (λ b. b
-            ≡ not (ignored (settings self.old) (entries self.old) (string_bytes line))) }
+            ≡ not (ignores_line (settings self.old) (entries self.old) (string_bytes line))) }
         ensures entries { OnOk result (entries self.new
-            ≡ added (settings self.old) (entries self.old) (string_bytes line)) }
+            ≡ entries_after (settings self.old) (entries self.old) (string_bytes line)) }
         ensures kept { OnErr result (entries self.new ≡ entries self.old) }
         ensures settings { settings self.new ≡ settings self.old }
         ensures fault { IfErr result (λ e. (e ≡ Memory)
-            × IsTrue (not (ignored (settings self.old) (entries self.old) (string_bytes line)))) };
+            × IsTrue (not (ignores_line (settings self.old) (entries self.old)
+            (string_bytes line)))) };
 
     /// The number of entries.
     fn len(&self) -> usize
@@ -75,7 +87,7 @@ pub trait History: Drop {
     /// The nearest entry that contains the term, from the entry at `start` on in the direction.
     /// `None` for an empty term, and if `start` is past the last entry.
     fn search(&self, term: &str, start: usize, dir: SearchDirection) -> Option<SearchResult<'_>>
-        ensures { Finds (searched false term.now start dir) (entries self.now) result };
+        ensures { Finds (search_hit false term.now start dir) (entries self.now) result };
 
     /// The same for an entry that begins with the term.
     fn starts_with(
@@ -84,5 +96,5 @@ pub trait History: Drop {
         start: usize,
         dir: SearchDirection,
     ) -> Option<SearchResult<'_>>
-        ensures { Finds (searched true term.now start dir) (entries self.now) result };
+        ensures { Finds (search_hit true term.now start dir) (entries self.now) result };
 }

@@ -3,7 +3,7 @@
 ghost use Rattle.line_help.specs.Completion.{EscapesComeBack, CommonBeginningIsLongest};
 ghost use Rattle.line_help.specs.Quotes.{UnclosedQuoteIsOpen};
 ghost use Rattle.line_help.specs.Search.{NearestIsFound};
-ghost use Rattle.line_help.specs.Course.{Reload, ReloadAppended, TextKeepsUp};
+ghost use Rattle.line_help.specs.HistoryCourse.{Reload, ReloadAppended, TextKeepsUp};
 ghost use Rattle.line_help.specs.Brackets.{OpeningIsMatched, ClosingIsMatched};
 ghost use Rattle.line_help.specs.Validation.{ValidIsBalanced, IncompleteIsBegun, InvalidIsLost, MessageNames};
 

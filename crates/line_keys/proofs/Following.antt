@@ -6,19 +6,19 @@ use Rattle.line_config.specs.declared.errors.ReadlineError.TheVariants.{Eof, Int
 use Rattle.line_keys.specs.declared.command.Cmd.{Cmd}
 use Rattle.line_keys.specs.declared.key.KeyEvent.{KeyEvent}
 use Rattle.line_keys.specs.declared.events.Event.TheVariants.{Any}
-use Rattle.line_keys.specs.Answers.{Custom, Decides, HandlerFails, IsRefusalOf, answer_by}
-use Rattle.line_config.specs.Scripts.{Ends, Asks, Goes}
-use Rattle.line_keys.specs.Coming.{Coming, key_at, paste_at, from_key_at, made_of}
+use Rattle.line_keys.specs.CustomBindings.{Custom, BindingAnswers, HandlerFails, IsRefusalOf, answer_by}
+use Rattle.script.specs.Scripts.{Ends, Asks, Goes}
+use Rattle.line_keys.specs.Coming.{Coming, key_at, paste_at, from_key_at, answer_map}
 use Rattle.line_keys.specs.Commands.{holds_text, Copied}
-use Rattle.line_keys.specs.Custom.{Situation, custom_answer, or_any, shown_for}
+use Rattle.line_keys.specs.CustomKeys.{Situation, custom_answer, or_any, handler_arguments_for}
 use Rattle.line_keys.specs.Events.{single}
-use Rattle.line_keys.specs.Feeds.{IsReaderRefusal, KeyFeed, InputItem, InputOf, Key, Paste, item_at, behind, ReadAs, ReadsBy}
+use Rattle.line_keys.specs.KeyFeeds.{IsReaderRefusal, KeyFeed, InputItem, InputOf, Key, Paste, item_at, behind, ReadAs, ReadsBy}
 use Rattle.line_keys.specs.Refreshing.{Shown, Ask, KnownDisplay, Draws, IsDrawFault}
 use Rattle.line_keys.specs.Handling.{Meaning}
-use Rattle.line_keys.specs.Phrases.{Input, KeyAsk, Answer, Steps, Part, Needs, Shows, Reads, Becomes, Refuses, Upto, steps, answered, needs_if, needing, granted, with_read, with_key, with_paste, from_key, asking, becoming, decided_by, deciding, kept_by, shown_by, after, and_then}
-use Rattle.line_config.proofs.ScriptLaws.{ok_not_err, value_or, fault_or, err_in}
-use Rattle.line_keys.specs.Replies.{Reply, fails, taking}
-use Rattle.line_keys.specs.Follows.{Stage, stage, KeyMade, key_world, Happens, Follows, Because, Undrawn, silent}
+use Rattle.line_keys.specs.PhraseScripts.{Input, KeyAsk, Answer, KeyScript, PhrasePart, Needs, Shows, Reads, Becomes, Refuses, Upto, steps, answer_part, needs_if, memory_then, copy_of_command, with_read, with_key, with_paste, from_key, show_then, keep_then, script_if_answered, reply_then, input_after_ask, shown_after_ask, after, and_then}
+use Rattle.script.proofs.ScriptLaws.{ok_not_err, value_or, fault_or, err_in}
+use Rattle.line_keys.specs.Replies.{Reply, fails, with_memory}
+use Rattle.line_keys.specs.Follows.{Stage, stage, KeyMade, key_world, Happens, Follows, Because, CutDrawing, silent}
 
 err_same : {X Y : Type 0} (e f : ReadlineError) → err_in X e ≡ Err f → err_in Y e ≡ Err f
 err_same {X} e f is = ap (λ (r : Result X ReadlineError). Err (fault_or Memory r)) is
@@ -43,7 +43,7 @@ module _ {S : Type 0} (d : KnownDisplay S) (custom : Custom) (w : S) (f : KeyFee
   reader_because Memory is why = tt
   reader_because _ is why = absurd is
 
-  pub display_because : (e : ReadlineError) → IsDrawFault e → Undrawn d w e → Because d custom w f e
+  pub display_because : (e : ReadlineError) → IsDrawFault e → CutDrawing d w e → Because d custom w f e
   display_because DisplayFault is why = why
   display_because Helper is why = why
   display_because Memory is why = tt
@@ -67,21 +67,21 @@ silent_because d custom w f HistoryText why = elim why [ ]
 
 -- ---- steps by how often they may read
 
-abbrev Goes_by : {S X : Type 0} → KnownDisplay S → Steps X → Stage S → Result X ReadlineError → Stage S → Type 0
+abbrev Goes_by : {S X : Type 0} → KnownDisplay S → KeyScript X → Stage S → Result X ReadlineError → Stage S → Type 0
 Goes_by d p s r t = Goes (key_world d) p s r t
 
 -- ---- one part after another
 
 module _ {S : Type 0} (d : KnownDisplay S) where
   -- what is tracked of a stage is what it has
-  tracked : (ask : KeyAsk) (x : Answer ask) (s t : Stage S) → KeyMade d s ask x t → (kept_by ask s.input ≡ t.input) × (shown_by ask x (d.shown s.wrt) ≡ d.shown t.wrt)
+  tracked : (ask : KeyAsk) (x : Answer ask) (s t : Stage S) → KeyMade d s ask x t → (input_after_ask ask s.input ≡ t.input) × (shown_after_ask ask x (d.shown s.wrt) ≡ d.shown t.wrt)
   tracked Needs x s t made = (ap (λ (u : Stage S). u.input) (sym made), ap (λ (u : Stage S). d.shown u.wrt) (sym made))
   tracked (Shows ask) x s t made = (ap (λ (u : Stage S). u.input) (sym made.2), made.1)
   tracked (Refuses why) x s t made = absurd made
   tracked (Reads item) x s t made = (ap (λ (u : Stage S). u.input) (sym made.1), ap (λ (u : Stage S). d.shown u.wrt) (sym made.1))
   tracked (Becomes kept) x s t made = (ap (λ (u : Stage S). u.input) (sym made), ap (λ (u : Stage S). d.shown u.wrt) (sym made))
 
-  goes_ok : {X Y : Type 0} (next : X → Input → Shown → Steps Y) (p : Steps X) (x : X) (r : Result Y ReadlineError) (s t u : Stage S)
+  goes_ok : {X Y : Type 0} (next : X → Input → Shown → KeyScript Y) (p : KeyScript X) (x : X) (r : Result Y ReadlineError) (s t u : Stage S)
       → Goes_by d p s (Ok x) t → Goes_by d (next x t.input (d.shown t.wrt)) t r u → Goes_by d (after next s.input (d.shown s.wrt) p) s r u
   goes_ok next (Ends y) x r s t u is later = rw (ap (value_or x) is.0, is.1) at later
   goes_ok next (Asks ask more) x r s t u (inl (y, v, made, goes)) later =
@@ -90,23 +90,23 @@ module _ {S : Type 0} (d : KnownDisplay S) where
         y,
         v,
         made,
-        subst (λ (i : Input). Goes_by d (after next i (shown_by ask y (d.shown s.wrt)) (more y)) v r u) (sym is.0)
+        subst (λ (i : Input). Goes_by d (after next i (shown_after_ask ask y (d.shown s.wrt)) (more y)) v r u) (sym is.0)
             (subst (λ (a : Shown). Goes_by d (after next v.input a (more y)) v r u) (sym is.1) (goes_ok next (more y) x r v t u goes later)),
       )
   goes_ok next (Asks ask more) x r s t u (inr (e, cut, is)) later = ok_not_err x e is
 
-  goes_err : {X Y : Type 0} (next : X → Input → Shown → Steps Y) (p : Steps X) (e : ReadlineError) (i : Input) (a : Shown) (s t : Stage S)
+  goes_err : {X Y : Type 0} (next : X → Input → Shown → KeyScript Y) (p : KeyScript X) (e : ReadlineError) (i : Input) (a : Shown) (s t : Stage S)
       → Goes_by d p s (Err e) t → Goes_by d (after next i a p) s (Err e) t
   goes_err next (Ends y) e i a s t is = ok_not_err y e (sym is.0)
-  goes_err next (Asks ask more) e i a s t (inl (y, v, made, goes)) = inl (y, v, made, goes_err next (more y) e (kept_by ask i) (shown_by ask y a) v t goes)
+  goes_err next (Asks ask more) e i a s t (inl (y, v, made, goes)) = inl (y, v, made, goes_err next (more y) e (input_after_ask ask i) (shown_after_ask ask y a) v t goes)
   goes_err next (Asks ask more) e i a s t (inr (f, cut, is)) = inr (f, cut, err_same e f is)
 
-  needs_on : {X : Type 0} (b : Bool) (p : Steps X) (s t : Stage S) (r : Result X ReadlineError) → Goes_by d p s r t → Goes_by d (needs_if b p) s r t
+  needs_on : {X : Type 0} (b : Bool) (p : KeyScript X) (s t : Stage S) (r : Result X ReadlineError) → Goes_by d p s r t → Goes_by d (needs_if b p) s r t
   needs_on true p s t r goes = inl (tt, s, refl, goes)
   needs_on false p s t r goes = goes
 
 module _ {S X Y : Type 0} (d : KnownDisplay S) (custom : Custom) where
-  pub then_stops : (s : Part X) (next : X → Input → Shown → Part Y) (w w' : S) (i i' : Input) (f f' : KeyFeed) (e : ReadlineError) → Follows d custom s w i w' i' f f' (Err e)
+  pub then_stops : (s : PhrasePart X) (next : X → Input → Shown → PhrasePart Y) (w w' : S) (i i' : Input) (f f' : KeyFeed) (e : ReadlineError) → Follows d custom s w i w' i' f f' (Err e)
       → Follows d custom (and_then i (d.shown w) s next) w i w' i' f f' (Err e)
   unfolding Happens and_then
   then_stops s next w w' i i' f f' e follows = record {
@@ -118,7 +118,7 @@ module _ {S X Y : Type 0} (d : KnownDisplay S) (custom : Custom) where
     reason = follows.reason;
   }
 
-  pub then_follows : (s : Part X) (next : X → Input → Shown → Part Y) (x : X) (w w1 w2 : S) (i i1 i2 : Input) (f f1 f2 : KeyFeed) (r : Result Y ReadlineError) → Follows d custom s w i w1 i1 f f1 (Ok x)
+  pub then_follows : (s : PhrasePart X) (next : X → Input → Shown → PhrasePart Y) (x : X) (w w1 w2 : S) (i i1 i2 : Input) (f f1 f2 : KeyFeed) (r : Result Y ReadlineError) → Follows d custom s w i w1 i1 f f1 (Ok x)
       → Follows d custom (next x i1 (d.shown w1)) w1 i1 w2 i2 f1 f2 r → Follows d custom (and_then i (d.shown w) s next) w i w2 i2 f f2 r
   unfolding Happens and_then
   then_follows s next x w w1 w2 i i1 i2 f f1 f2 r first second = record {
@@ -134,10 +134,10 @@ module _ {S X Y : Type 0} (d : KnownDisplay S) (custom : Custom) where
 -- ---- steps
 
 module _ {S X : Type 0} (d : KnownDisplay S) (custom : Custom) where
-  pub ends_follow : (s : Part X) (w : S) (i : Input) (f : KeyFeed) (x : X) → s ≡ answered x → Follows d custom s w i w i f f (Ok x)
-  unfolding Happens answered
+  pub ends_follow : (s : PhrasePart X) (w : S) (i : Input) (f : KeyFeed) (x : X) → s ≡ answer_part x → Follows d custom s w i w i f f (Ok x)
+  unfolding Happens answer_part
   ends_follow s w i f x is = record {
-    goes = λ told n more. subst (λ (p : Part X). Goes_by d (steps p n) (stage w i f.coming) (Ok x) (stage w i f.coming)) (sym is) (refl, refl);
+    goes = λ told n more. subst (λ (p : PhrasePart X). Goes_by d (steps p n) (stage w i f.coming) (Ok x) (stage w i f.coming)) (sym is) (refl, refl);
     told = λ told. told;
     keeps = le_refl _;
     mode = refl;
@@ -145,9 +145,9 @@ module _ {S X : Type 0} (d : KnownDisplay S) (custom : Custom) where
   }
 
   -- memory that is taken on a condition
-  pub needing_follows : (b : Bool) (s : Part X) (w w' : S) (i i' : Input) (f f' : KeyFeed) (r : Result X ReadlineError) → Follows d custom s w i w' i' f f' r
-      → Follows d custom (needing b s) w i w' i' f f' r
-  unfolding Happens needing
+  pub needing_follows : (b : Bool) (s : PhrasePart X) (w w' : S) (i i' : Input) (f f' : KeyFeed) (r : Result X ReadlineError) → Follows d custom s w i w' i' f f' r
+      → Follows d custom (memory_then b s) w i w' i' f f' r
+  unfolding Happens memory_then
   needing_follows b s w w' i i' f f' r follows = record {
     goes = λ told n more. needs_on d b (steps s n) (stage w i f.coming) (stage w' i' f'.coming) r (follows.goes told n more);
     told = follows.told;
@@ -156,8 +156,8 @@ module _ {S X : Type 0} (d : KnownDisplay S) (custom : Custom) where
     reason = follows.reason;
   }
 
-  pub needed_follows : (b : Bool) (s : Part X) (w : S) (i : Input) (f : KeyFeed) (e : ReadlineError) → e ≡ Memory → IsTrue b → Follows d custom (needing b s) w i w i f f (Err e)
-  unfolding Happens needing
+  pub needed_follows : (b : Bool) (s : PhrasePart X) (w : S) (i : Input) (f : KeyFeed) (e : ReadlineError) → e ≡ Memory → IsTrue b → Follows d custom (memory_then b s) w i w i f f (Err e)
+  unfolding Happens memory_then
   needed_follows true s w i f e is taken = record {
     goes = λ told n more. inr (Memory, (refl, refl), ap Err is);
     told = λ told. told;
@@ -168,16 +168,16 @@ module _ {S X : Type 0} (d : KnownDisplay S) (custom : Custom) where
   needed_follows false s w i f e is taken = absurd (true≢false (sym taken))
 
   -- out of memory, if some is taken
-  pub memory_follows : (s : Part X) (w : S) (i : Input) (f : KeyFeed) (e : ReadlineError) → e ≡ Memory → Follows d custom (needing true s) w i w i f f (Err e)
+  pub memory_follows : (s : PhrasePart X) (w : S) (i : Input) (f : KeyFeed) (e : ReadlineError) → e ≡ Memory → Follows d custom (memory_then true s) w i w i f f (Err e)
   memory_follows s w i f e is = needed_follows true s w i f e is refl
 
-  pub as_follows : (s t : Part X) (w w' : S) (i i' : Input) (f f' : KeyFeed) (r : Result X ReadlineError) → Follows d custom t w i w' i' f f' r → s ≡ t → Follows d custom s w i w' i' f f' r
-  as_follows s t w w' i i' f f' r follows is = subst (λ (u : Part X). Follows d custom u w i w' i' f f' r) (sym is) follows
+  pub as_follows : (s t : PhrasePart X) (w w' : S) (i i' : Input) (f f' : KeyFeed) (r : Result X ReadlineError) → Follows d custom t w i w' i' f f' r → s ≡ t → Follows d custom s w i w' i' f f' r
+  as_follows s t w w' i i' f f' r follows is = subst (λ (u : PhrasePart X). Follows d custom u w i w' i' f f' r) (sym is) follows
 
   -- what is kept changes, but never between Emacs and Vi
-  pub becomes_follows : (s : Part X) (w w' : S) (i j i' : Input) (f f' : KeyFeed) (r : Result X ReadlineError) → j.mode ≡ i.mode → Follows d custom s w j w' i' f f' r
-      → Follows d custom (becoming j s) w i w' i' f f' r
-  unfolding Happens becoming
+  pub becomes_follows : (s : PhrasePart X) (w w' : S) (i j i' : Input) (f f' : KeyFeed) (r : Result X ReadlineError) → j.mode ≡ i.mode → Follows d custom s w j w' i' f f' r
+      → Follows d custom (keep_then j s) w i w' i' f f' r
+  unfolding Happens keep_then
   becomes_follows s w w' i j i' f f' r same follows = record {
     goes = λ told n more. inl (tt, stage w j f.coming, refl, follows.goes told n more);
     told = follows.told;
@@ -191,7 +191,7 @@ module _ {S : Type 0} (d : KnownDisplay S) (w : S) where
   abbrev drawn_on : Stage ⊤ → Stage S
   drawn_on s = stage w s.input s.coming
 
-  silent_goes : {X : Type 0} (p : Steps X) (s t : Stage ⊤) (r : Result X ReadlineError) → Goes_by silent p s r t → Goes_by d p (drawn_on s) r (drawn_on t)
+  silent_goes : {X : Type 0} (p : KeyScript X) (s t : Stage ⊤) (r : Result X ReadlineError) → Goes_by silent p s r t → Goes_by d p (drawn_on s) r (drawn_on t)
   silent_goes (Ends answer) s t r is = (is.0, ap drawn_on is.1)
   silent_goes (Asks Needs more) s t r (inl (x, u, made, goes)) = inl (x, drawn_on u, ap drawn_on made, silent_goes (more x) u t r goes)
   silent_goes (Asks Needs more) s t r (inr (e, cut, is)) = inr (e, (cut.0, ap drawn_on cut.1), is)
@@ -209,7 +209,7 @@ silent_reason : {S X : Type 0} (d : KnownDisplay S) (custom : Custom) (w : S) (f
 silent_reason d custom w f (Ok x) why = tt
 silent_reason d custom w f (Err e) why = silent_because d custom w f e why
 
-pub silent_follows : {S X : Type 0} (d : KnownDisplay S) (custom : Custom) (s : Part X) (w : S) (i i' : Input) (f f' : KeyFeed) (r : Result X ReadlineError) → Follows silent custom s tt i tt i' f f' r
+pub silent_follows : {S X : Type 0} (d : KnownDisplay S) (custom : Custom) (s : PhrasePart X) (w : S) (i i' : Input) (f f' : KeyFeed) (r : Result X ReadlineError) → Follows silent custom s tt i tt i' f f' r
     → Follows d custom s w i w i' f f' r
 unfolding Happens
 silent_follows d custom s w i i' f f' r quiet = record {
@@ -222,7 +222,7 @@ silent_follows d custom s w i i' f f' r quiet = record {
 
 -- ---- reads
 
-module _ {S Y : Type 0} (d : KnownDisplay S) (item : InputItem) (next : InputOf item → Part Y) where
+module _ {S Y : Type 0} (d : KnownDisplay S) (item : InputItem) (next : InputOf item → PhrasePart Y) where
   stops_by : (b : ℕ) (w : S) (i : Input) (c c' : Coming) (e : ReadlineError) → ReadAs item (item_at item c) (behind item c) (Err e) c' → (n : ℕ) → b < n
       → Goes_by d (steps (with_read item next) n) (stage w i c) (Err e) (stage w i c')
   unfolding with_read
@@ -262,25 +262,25 @@ module _ {S Y : Type 0} (d : KnownDisplay S) (item : InputItem) (next : InputOf 
   }
 
 module _ {S Y : Type 0} (d : KnownDisplay S) (custom : Custom) where
-  pub no_key : (next : KeyEvent → Part Y) (w : S) (i : Input) (f f' : KeyFeed) (e : ReadlineError) → ReadsBy Key key_at f f' (Err e) → Follows d custom (with_key next) w i w i f f' (Err e)
+  pub no_key : (next : KeyEvent → PhrasePart Y) (w : S) (i : Input) (f f' : KeyFeed) (e : ReadlineError) → ReadsBy Key key_at f f' (Err e) → Follows d custom (with_key next) w i w i f f' (Err e)
   no_key next w i f f' e reads = read_stops d Key next custom w i f f' e reads
 
-  pub key_follows : (next : KeyEvent → Part Y) (k : KeyEvent) (w w' : S) (i i' : Input) (f f1 f2 : KeyFeed) (r : Result Y ReadlineError) → ReadsBy Key key_at f f1 (Ok k)
+  pub key_follows : (next : KeyEvent → PhrasePart Y) (k : KeyEvent) (w w' : S) (i i' : Input) (f f1 f2 : KeyFeed) (r : Result Y ReadlineError) → ReadsBy Key key_at f f1 (Ok k)
       → Follows d custom (next k) w i w' i' f1 f2 r → Follows d custom (with_key next) w i w' i' f f2 r
   key_follows next k w w' i i' f f1 f2 r first second = read_follows d Key next custom k w w' i i' f f1 f2 r first second
 
-  pub no_paste : (next : List ℕ → Part Y) (w : S) (i : Input) (f f' : KeyFeed) (e : ReadlineError) → ReadsBy Paste paste_at f f' (Err e) → Follows d custom (with_paste next) w i w i f f' (Err e)
+  pub no_paste : (next : List ℕ → PhrasePart Y) (w : S) (i : Input) (f f' : KeyFeed) (e : ReadlineError) → ReadsBy Paste paste_at f f' (Err e) → Follows d custom (with_paste next) w i w i f f' (Err e)
   no_paste next w i f f' e reads = read_stops d Paste next custom w i f f' e reads
 
-  pub paste_follows : (next : List ℕ → Part Y) (text : List ℕ) (w w' : S) (i i' : Input) (f f1 f2 : KeyFeed) (r : Result Y ReadlineError) → ReadsBy Paste paste_at f f1 (Ok text)
+  pub paste_follows : (next : List ℕ → PhrasePart Y) (text : List ℕ) (w w' : S) (i i' : Input) (f f1 f2 : KeyFeed) (r : Result Y ReadlineError) → ReadsBy Paste paste_at f f1 (Ok text)
       → Follows d custom (next text) w i w' i' f1 f2 r → Follows d custom (with_paste next) w i w' i' f f2 r
   paste_follows next text w w' i i' f f1 f2 r first second = read_follows d Paste next custom text w w' i i' f f1 f2 r first second
 
 -- a read that is the whole part
 module _ {S X : Type 0} (d : KnownDisplay S) (g : KeyEvent → X) where
-  made_by : (q : Result KeyEvent ReadlineError) (w : S) (i : Input) (c c' : Coming) (r : Result X ReadlineError) (n : ℕ) → key_at c ≡ q → r ≡ made_of g q → c' ≡ behind Key c
+  made_by : (q : Result KeyEvent ReadlineError) (w : S) (i : Input) (c c' : Coming) (r : Result X ReadlineError) (n : ℕ) → key_at c ≡ q → r ≡ answer_map g q → c' ≡ behind Key c
       → Goes_by d (steps (from_key g) (suc n)) (stage w i c) r (stage w i c')
-  unfolding from_key with_read answered
+  unfolding from_key with_read answer_part
   made_by (Ok k) w i c c' r n is made rest = inl (k, stage w i c', (is, ap (stage w i) rest), (made, refl))
   made_by (Err e) w i c c' r n is made rest = inr (e, inl (is, ap (stage w i) rest), made)
 
@@ -307,9 +307,9 @@ module _ {S X : Type 0} (d : KnownDisplay S) (g : KeyEvent → X) where
 
 -- ---- asks
 
-module _ {S A Y : Type 0} (d : KnownDisplay S) (custom : Custom) (ask : Ask) (next : Shown → Part Y) where
-  pub ask_stops : (w w' : S) (i : Input) (f : KeyFeed) (e : ReadlineError) → Draws {A = A} d ask w w' (Err e) → Follows d custom (asking ask next) w i w' i f f (Err e)
-  unfolding Happens asking
+module _ {S A Y : Type 0} (d : KnownDisplay S) (custom : Custom) (ask : Ask) (next : Shown → PhrasePart Y) where
+  pub ask_stops : (w w' : S) (i : Input) (f : KeyFeed) (e : ReadlineError) → Draws {A = A} d ask w w' (Err e) → Follows d custom (show_then ask next) w i w' i f f (Err e)
+  unfolding Happens show_then
   ask_stops w w' i f e draws = record {
     goes = λ told n more. inr (e, (draws.err.0, draws.err.1, refl), refl);
     told = λ told. told;
@@ -319,8 +319,8 @@ module _ {S A Y : Type 0} (d : KnownDisplay S) (custom : Custom) (ask : Ask) (ne
   }
 
   pub ask_follows : (u : A) (w w1 w2 : S) (i i2 : Input) (f f2 : KeyFeed) (r : Result Y ReadlineError) → Draws d ask w w1 (Ok u) → Follows d custom (next (d.shown w1)) w1 i w2 i2 f f2 r
-      → Follows d custom (asking ask next) w i w2 i2 f f2 r
-  unfolding Happens asking
+      → Follows d custom (show_then ask next) w i w2 i2 f f2 r
+  unfolding Happens show_then
   ask_follows u w w1 w2 i i2 f f2 r first second = record {
     goes = λ told n more. inl (d.shown w1, stage w1 i f.coming, (first.ok, refl, refl), second.goes told n more);
     told = second.told;
@@ -331,9 +331,9 @@ module _ {S A Y : Type 0} (d : KnownDisplay S) (custom : Custom) (ask : Ask) (ne
 
 -- ---- what a binding answers
 
-module _ {S X Y : Type 0} (d : KnownDisplay S) (custom : Custom) (next : X → Part Y) (reply : Reply X) where
-  abbrev decided : Option X → Part Y
-  decided o = Upto (λ n. decided_by (λ x. steps (next x) n) o)
+module _ {S X Y : Type 0} (d : KnownDisplay S) (custom : Custom) (next : X → PhrasePart Y) (reply : Reply X) where
+  abbrev decided : Option X → PhrasePart Y
+  decided o = Upto (λ n. script_if_answered (λ x. steps (next x) n) o)
 
   failing : (o : Option X) (w : S) (i : Input) (f : KeyFeed) → IsTrue (is_none o) → HandlerFails custom → Follows d custom (decided o) w i w i f f (Err Handler)
   unfolding Happens
@@ -347,46 +347,46 @@ module _ {S X Y : Type 0} (d : KnownDisplay S) (custom : Custom) (next : X → P
   failing (Some x) w i f is why = absurd (true≢false (sym is))
 
   pub decides_stop : (w : S) (i : Input) (f : KeyFeed) (e : ReadlineError) → (IsTrue (fails reply) → HandlerFails custom) → IsRefusalOf reply e
-      → Follows d custom (deciding next reply) w i w i f f (Err e)
-  unfolding needing deciding
+      → Follows d custom (reply_then next reply) w i w i f f (Err e)
+  unfolding memory_then reply_then
   decides_stop w i f Handler why is = needing_follows d custom reply.takes (decided reply.answer) w w i i f f (Err Handler) (failing reply.answer w i f is (why is))
   decides_stop w i f Memory why is = needed_follows d custom reply.takes (decided reply.answer) w i f Memory refl is
   decides_stop w i f _ why is = absurd is
 
   -- a part is what its steps are
-  upto_steps : (p : Part Y) → Upto (steps p) ≡ p
+  upto_steps : (p : PhrasePart Y) → Upto (steps p) ≡ p
   upto_steps (Upto made) = refl
 
-  eta_follows : (p : Part Y) (w w' : S) (i i' : Input) (f f' : KeyFeed) (r : Result Y ReadlineError) → Follows d custom p w i w' i' f f' r → Follows d custom (Upto (steps p)) w i w' i' f f' r
+  eta_follows : (p : PhrasePart Y) (w w' : S) (i i' : Input) (f f' : KeyFeed) (r : Result Y ReadlineError) → Follows d custom p w i w' i' f f' r → Follows d custom (Upto (steps p)) w i w' i' f f' r
   eta_follows p w w' i i' f f' r follows = as_follows d custom (Upto (steps p)) p w w' i i' f f' r follows (upto_steps p)
 
   led_on : (o : Option X) (x : X) (w w' : S) (i i' : Input) (f f' : KeyFeed) (r : Result Y ReadlineError) → o ≡ Some x
       → Follows d custom (next x) w i w' i' f f' r → Follows d custom (decided o) w i w' i' f f' r
   led_on o x w w' i i' f f' r is later = subst (λ (q : Option X). Follows d custom (decided q) w i w' i' f f' r) (sym is) (eta_follows (next x) w w' i i' f f' r later)
 
-  pub decides_follow : (x : X) (w w' : S) (i i' : Input) (f f' : KeyFeed) (r : Result Y ReadlineError) → Decides reply (Ok x)
-      → Follows d custom (next x) w i w' i' f f' r → Follows d custom (deciding next reply) w i w' i' f f' r
-  unfolding needing deciding
+  pub decides_follow : (x : X) (w w' : S) (i i' : Input) (f f' : KeyFeed) (r : Result Y ReadlineError) → BindingAnswers reply (Ok x)
+      → Follows d custom (next x) w i w' i' f f' r → Follows d custom (reply_then next reply) w i w' i' f f' r
+  unfolding memory_then reply_then
   decides_follow x w w' i i' f f' r decides later =
       needing_follows d custom reply.takes (decided reply.answer) w w' i i' f f' r (led_on reply.answer x w w' i i' f f' r decides.answer later)
 
 -- whose failure it is: of the key's own binding, or of that of any key
-fails_any : (s : Situation) (k : KeyEvent) (any : Option Meaning) → s.custom.answers Any ≡ any → IsTrue (fails (answer_by (option_map (λ meaning t. taking (meaning t)) any) (shown_for s (single k)))) → HandlerFails s.custom
-fails_any s k (Some meaning) is why = (Any, shown_for s (single k), subst (λ o. IsTrue (fails (answer_by o (shown_for s (single k))))) (sym is) why)
+fails_any : (s : Situation) (k : KeyEvent) (any : Option Meaning) → s.custom.answers Any ≡ any → IsTrue (fails (answer_by (option_map (λ meaning t. with_memory (meaning t)) any) (handler_arguments_for s (single k)))) → HandlerFails s.custom
+fails_any s k (Some meaning) is why = (Any, handler_arguments_for s (single k), subst (λ o. IsTrue (fails (answer_by o (handler_arguments_for s (single k))))) (sym is) why)
 fails_any s k None is why = absurd (true≢false (sym why))
 
-fails_by : (s : Situation) (k : KeyEvent) (own : Option Meaning) → s.custom.answers (single k) ≡ own → IsTrue (fails (answer_by (or_any s.custom own) (shown_for s (single k)))) → HandlerFails s.custom
-fails_by s k (Some meaning) is why = (single k, shown_for s (single k), subst (λ o. IsTrue (fails (answer_by o (shown_for s (single k))))) (sym is) why)
+fails_by : (s : Situation) (k : KeyEvent) (own : Option Meaning) → s.custom.answers (single k) ≡ own → IsTrue (fails (answer_by (or_any s.custom own) (handler_arguments_for s (single k)))) → HandlerFails s.custom
+fails_by s k (Some meaning) is why = (single k, handler_arguments_for s (single k), subst (λ o. IsTrue (fails (answer_by o (handler_arguments_for s (single k))))) (sym is) why)
 fails_by s k None is why = fails_any s k (s.custom.answers Any) refl why
 
-pub key_stops : {S Y : Type 0} (d : KnownDisplay S) (s : Situation) (k : KeyEvent) (next : Option Cmd → Part Y) (w : S) (i : Input) (f : KeyFeed) (e : ReadlineError) → Decides (custom_answer s k) (Err e)
-    → Follows d s.custom (deciding next (custom_answer s k)) w i w i f f (Err e)
+pub key_stops : {S Y : Type 0} (d : KnownDisplay S) (s : Situation) (k : KeyEvent) (next : Option Cmd → PhrasePart Y) (w : S) (i : Input) (f : KeyFeed) (e : ReadlineError) → BindingAnswers (custom_answer s k) (Err e)
+    → Follows d s.custom (reply_then next (custom_answer s k)) w i w i f f (Err e)
 key_stops d s k next w i f e decides = decides_stop d s.custom next (custom_answer s k) w i f e (fails_by s k (s.custom.answers (single k)) refl) decides.refusal
 
 -- ---- a command that is made of another one
 
 pub granted_follows : {S : Type 0} (d : KnownDisplay S) (custom : Custom) (cmd : Cmd) (w : S) (i : Input) (f : KeyFeed) (r : Result Cmd ReadlineError) → Copied cmd r
-    → Follows d custom (granted cmd) w i w i f f r
+    → Follows d custom (copy_of_command cmd) w i w i f f r
 granted_follows d custom cmd w i f (Ok c) copied =
-    needing_follows d custom (holds_text cmd) (answered cmd) w w i i f f (Ok c) (ends_follow d custom (answered cmd) w i f c (ap (λ (y : Cmd). answered y) (sym copied.ok)))
-granted_follows d custom cmd w i f (Err e) copied = needed_follows d custom (holds_text cmd) (answered cmd) w i f e copied.err.0 copied.err.1
+    needing_follows d custom (holds_text cmd) (answer_part cmd) w w i i f f (Ok c) (ends_follow d custom (answer_part cmd) w i f c (ap (λ (y : Cmd). answer_part y) (sym copied.ok)))
+granted_follows d custom cmd w i f (Err e) copied = needed_follows d custom (holds_text cmd) (answer_part cmd) w i f e copied.err.0 copied.err.1

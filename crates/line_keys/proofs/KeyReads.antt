@@ -5,8 +5,8 @@ use Rattle.line_config.specs.declared.errors.ReadlineError.{ReadlineError}
 use Rattle.line_keys.specs.declared.key.KeyEvent.{KeyEvent}
 use Rattle.line_keys.specs.declared.tty.Event.{Event}
 use Rattle.line_keys.specs.declared.tty.Event.TheVariants.{KeyPress}
-use Rattle.line_keys.specs.Coming.{Coming, key_at, from_key_at, press_at, made_of}
-use Rattle.line_keys.specs.Feeds.{KeyFeed, InputItem, Key, behind, ReadAs, ReadsBy}
+use Rattle.line_keys.specs.Coming.{Coming, key_at, from_key_at, press_at, answer_map}
+use Rattle.line_keys.specs.KeyFeeds.{KeyFeed, InputItem, Key, behind, ReadAs, ReadsBy}
 
 abbrev is_ok : {A : Type 0} → Result A ReadlineError → Bool
 is_ok (Ok x) = true
@@ -16,17 +16,17 @@ abbrev of_press : Result Event ReadlineError → Result KeyEvent ReadlineError
 of_press (Ok (KeyPress k)) = Ok k
 of_press (Err e) = Err e
 
-press_of : (r : Result KeyEvent ReadlineError) → of_press (made_of KeyPress r) ≡ r
+press_of : (r : Result KeyEvent ReadlineError) → of_press (answer_map KeyPress r) ≡ r
 press_of (Ok k) = refl
 press_of (Err e) = refl
 
 made_as : {X Y : Type 0} (g : X → Y) (item : InputItem) (given result : Result X ReadlineError) (rest c : Coming)
-    → ReadAs item given rest result c → ReadAs item (made_of g given) rest (made_of g result) c
-made_as g item given result rest c (inl is) = inl (ap (made_of g) is.0, is.1)
-made_as g item given result rest c (inr (e, left, fault, is, final)) = inr (e, left, fault, ap (made_of g) is, final)
+    → ReadAs item given rest result c → ReadAs item (answer_map g given) rest (answer_map g result) c
+made_as g item given result rest c (inl is) = inl (ap (answer_map g) is.0, is.1)
+made_as g item given result rest c (inr (e, left, fault, is, final)) = inr (e, left, fault, ap (answer_map g) is, final)
 
 press_as : (given : Result KeyEvent ReadlineError) (result : Result Event ReadlineError) (rest c : Coming)
-    → ReadAs Key (made_of KeyPress given) rest result c → ReadAs Key given rest (of_press result) c
+    → ReadAs Key (answer_map KeyPress given) rest result c → ReadAs Key given rest (of_press result) c
 press_as given result rest c (inl is) = inl (ap of_press is.0 ∙ press_of given, is.1)
 press_as given result rest c (inr (e, left, fault, is, final)) = inr (e, left, fault, ap of_press is, final)
 

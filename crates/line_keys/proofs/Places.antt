@@ -10,7 +10,7 @@ use Rattle.std.proofs.lemmas.List.Sums.{position_or_len_is}
 use Rattle.std.proofs.lemmas.Option.{slice_get-get_or, slice_get_past}
 use Rattle.std.proofs.lemmas.Bool.Decides.{nat_tests}
 use Rattle.line_keys.specs.declared.events.Event.{Event}
-use Rattle.line_keys.specs.Bound.{same_event, find, has_event, put_at, less_at, AreDistinct, IsNormal, AreNormal, IsMap}
+use Rattle.line_keys.specs.Bound.{same_event, find, has_event, map_with, less_at, AreDistinct, IsNormal, AreNormal, IsMap}
 use Rattle.line_keys.proofs.SameEventsLemmas.{same_event-decides}
 
 -- ---- lists and tests of any kind
@@ -113,7 +113,7 @@ module _ {H : Type 0} (e : Event) (entries : List (Event × H)) where
       (find_past (has_event o) entries i b d (other e o (get_or entries i d).0 (here i d at) is) (other e o b.0 (kept ∙ here i d at) is))
 
   pub bound_at_place : (i : ℕ) (d b : Event × H) → position (has_event e) entries ≡ Some i → b.0 ≡ (get_or entries i d).0
-      → (o : Event) → find o (set entries i b) ≡ put_at e b.1 (λ x. find x entries) o
+      → (o : Event) → find o (set entries i b) ≡ map_with e b.1 (λ x. find x entries) o
   bound_at_place i d b at kept o = set_by o i d b (same_event e o) refl at kept
 
   -- a new entry after the others
@@ -129,7 +129,7 @@ module _ {H : Type 0} (e : Event) (entries : List (Event × H)) where
       ap (option_map (λ (x : Event × H). x.1)) (find-append (has_event o) entries (b ∷ []) ∙ rw fails (or_nothing (first_passing (has_event o) entries)))
 
   pub bound_behind : (b : Event × H) → position (has_event e) entries ≡ None → b.0 ≡ e
-      → (o : Event) → find o (entries ++ b ∷ []) ≡ put_at e b.1 (λ x. find x entries) o
+      → (o : Event) → find o (entries ++ b ∷ []) ≡ map_with e b.1 (λ x. find x entries) o
   bound_behind b at new o = pushed_by o b (same_event e o) refl at new
 
   -- the entry taken out

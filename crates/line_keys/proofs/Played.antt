@@ -2,11 +2,11 @@
 -- what was asked of the display in order, and the remaining input.
 use Rattle.std.specs.Prelude.{List, [], ◌∷◌, Result, Ok, Err}
 use Rattle.line_config.specs.declared.errors.ReadlineError.{ReadlineError}
-use Rattle.line_config.specs.Played.{Played as PlayedBy, played as played_by}
+use Rattle.script.specs.Played.{Played as PlayedBy, play_of as played_by}
 use Rattle.line_keys.specs.Coming.{Coming}
-use Rattle.line_keys.specs.Feeds.{item_at, behind}
+use Rattle.line_keys.specs.KeyFeeds.{item_at, behind}
 use Rattle.line_keys.specs.Follows.{Stage, stage}
-use Rattle.line_keys.specs.Phrases.{Input, KeyAsk, Answer, Steps, Needs, Shows, Reads, Becomes, Refuses}
+use Rattle.line_keys.specs.PhraseScripts.{Input, KeyAsk, Answer, KeyScript, Needs, Shows, Reads, Becomes, Refuses}
 use Rattle.line_keys.specs.Refreshing.{Shown, Ask}
 
 pub record Played (X : Type 0) : Type 0 where
@@ -28,7 +28,7 @@ left_of s (Reads item) = record s { coming = behind item s.coming }
 left_of s (Becomes input) = record s { input = input }
 left_of s ask = s
 
-abbrev pub played_all : {X : Type 0} → Shown → Input → Coming → Steps X → PlayedBy KeyAsk (Stage Shown) ReadlineError X
+abbrev pub played_all : {X : Type 0} → Shown → Input → Coming → KeyScript X → PlayedBy KeyAsk (Stage Shown) ReadlineError X
 played_all shown input c steps = played_by (record { answer = answer_of; left = left_of }) steps (stage shown input c)
 
 abbrev shown_asks : List KeyAsk → List Ask
@@ -36,7 +36,7 @@ shown_asks [] = []
 shown_asks (Shows ask ∷ asks) = ask ∷ shown_asks asks
 shown_asks (ask ∷ asks) = shown_asks asks
 
-abbrev pub played : {X : Type 0} → Shown → Input → Coming → Steps X → Played X
+abbrev pub played : {X : Type 0} → Shown → Input → Coming → KeyScript X → Played X
 played shown input c steps =
     let p = played_all shown input c steps in
     record { answer = p.answer; input = p.rest.input; asks = shown_asks p.asks; rest = p.rest.coming }

@@ -6,13 +6,13 @@ use Rattle.line_config.specs.declared.settings.EditMode.{EditMode}
 use Rattle.line_keys.specs.declared.key.KeyCode.{KeyCode}
 use Rattle.line_keys.specs.declared.key.KeyEvent.{KeyEvent}
 use Rattle.line_keys.specs.declared.command.Cmd.{Cmd}
-use Rattle.line_keys.specs.declared.keymap.common.Action.{Action as CommonKey}
-use Rattle.line_keys.specs.declared.keymap.common.Action.TheVariants.{Give as GiveCommon}
-use Rattle.line_keys.specs.declared.keymap.emacs.Action.{Action as EmacsKey}
-use Rattle.line_keys.specs.declared.keymap.emacs.Action.TheVariants.{Give as GiveEmacs}
+use Rattle.line_keys.specs.declared.keymap.common.CommonAction.{CommonAction as CommonKey}
+use Rattle.line_keys.specs.declared.keymap.common.CommonAction.TheVariants.{Give as GiveCommon}
+use Rattle.line_keys.specs.declared.keymap.emacs.EmacsAction.{EmacsAction as EmacsKey}
+use Rattle.line_keys.specs.declared.keymap.emacs.EmacsAction.TheVariants.{Give as GiveEmacs}
 use Rattle.line_keys.specs.declared.keymap.vi.motion.Motion.{Motion as MotionKey}
-use Rattle.line_keys.specs.declared.keymap.vi.table.Action.{Action as ActionKey}
-use Rattle.line_keys.specs.declared.keymap.vi.table.Action.TheVariants.{Give}
+use Rattle.line_keys.specs.declared.keymap.vi.table.ViAction.{ViAction as ActionKey}
+use Rattle.line_keys.specs.declared.keymap.vi.table.ViAction.TheVariants.{Give}
 use Rattle.line_keys.specs.Common.{common_command_rows, common_reading_rows, common_action}
 use Rattle.line_keys.specs.Emacs.{typed_rows, emacs_command_rows, emacs_reading_rows, emacs_action}
 use Rattle.line_keys.specs.Refreshing.{Shown}

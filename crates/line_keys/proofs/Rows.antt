@@ -11,8 +11,8 @@ use Rattle.line_keys.specs.declared.events.Event.TheVariants.{KeySeq}
 use Rattle.line_keys.specs.Keys.{modifiers_of, none, ctrl, alt, key_with, key_of, normal}
 use Rattle.line_keys.specs.Events.{normal_event, single}
 use Rattle.line_keys.specs.Bound.{find, begins}
-use Rattle.line_keys.specs.Coming.{Coming, Pasted, CutOff, End, key_at, paste_at, left_by}
-use Rattle.line_keys.specs.Redone.{redone}
+use Rattle.line_keys.specs.Coming.{Coming, Pasted, CutOff, End, key_at, paste_at, coming_after_error}
+use Rattle.line_keys.specs.Redone.{command_anew}
 use Rattle.line_keys.specs.Common.{signal_of}
 
 -- ---- keys: 27 is Esc, 9 is Tab, 97 is `a`, 65 is `A`
@@ -83,19 +83,19 @@ six_bindings = refl
 
 -- ---- commands repeated: 120 is `x`
 
-a_count_is_put_in : redone (Some 3) None (SelfInsert 1 120) ≡ SelfInsert 3 120
+a_count_is_put_in : command_anew (Some 3) None (SelfInsert 1 120) ≡ SelfInsert 3 120
 a_count_is_put_in = refl
 
-typed_with_what_followed : redone None (Some (codes "xyz")) (SelfInsert 2 120) ≡ Insert 2 (codes "xyz")
+typed_with_what_followed : command_anew None (Some (codes "xyz")) (SelfInsert 2 120) ≡ Insert 2 (codes "xyz")
 typed_with_what_followed = refl
 
-a_kill_with_another_count : redone (Some 4) None (Kill (BackwardChar 1)) ≡ Kill (BackwardChar 4)
+a_kill_with_another_count : command_anew (Some 4) None (Kill (BackwardChar 1)) ≡ Kill (BackwardChar 4)
 a_kill_with_another_count = refl
 
-typed_over : redone (Some 4) (Some (codes "abc")) (Replace (ForwardChar 0) None) ≡ Replace (ForwardChar 3) (Some (codes "abc"))
+typed_over : command_anew (Some 4) (Some (codes "abc")) (Replace (ForwardChar 0) None) ≡ Replace (ForwardChar 3) (Some (codes "abc"))
 typed_over = refl
 
-changed_to_the_end : redone (Some 4) (Some (codes "abc")) (Replace EndOfLine None) ≡ Replace EndOfLine (Some (codes "abc"))
+changed_to_the_end : command_anew (Some 4) (Some (codes "abc")) (Replace EndOfLine None) ≡ Replace EndOfLine (Some (codes "abc"))
 changed_to_the_end = refl
 
 -- ---- what comes
@@ -103,10 +103,10 @@ changed_to_the_end = refl
 no_key_in_a_paste : (bytes text : List ℕ) (rest : Coming) → key_at (Pasted bytes text rest) ≡ Err PasteOutOfPlace
 no_key_in_a_paste bytes text rest = refl
 
-refused_for_good : (left : List ℕ) → key_at (left_by PasteOutOfPlace left) ≡ Err PasteOutOfPlace
+refused_for_good : (left : List ℕ) → key_at (coming_after_error PasteOutOfPlace left) ≡ Err PasteOutOfPlace
 refused_for_good left = refl
 
-the_end_stays : (left : List ℕ) → key_at (left_by Eof left) ≡ Err Eof
+the_end_stays : (left : List ℕ) → key_at (coming_after_error Eof left) ≡ Err Eof
 the_end_stays left = refl
 
 a_cut_paste : (bytes left : List ℕ) → paste_at (CutOff bytes End left) ≡ Err Eof

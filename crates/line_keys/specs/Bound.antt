@@ -21,8 +21,8 @@ abbrev pub begins : {H : Type 0} → List KeyEvent → List (Event × H) → Boo
 begins keys entries = list_any (λ b. begins_with keys b.0) entries
 
 -- the map with this value at this event
-abbrev pub put_at : {H : Type 0} → Event → H → (Event → Option H) → Event → Option H
-put_at e value map other = if same_event e other then Some value else map other
+abbrev pub map_with : {H : Type 0} → Event → H → (Event → Option H) → Event → Option H
+map_with e value map other = if same_event e other then Some value else map other
 
 -- the map without this event
 abbrev pub less_at : {H : Type 0} → Event → (Event → Option H) → Event → Option H

@@ -7,7 +7,7 @@ use Rattle.line_buffer.specs.declared.types.Movement.TheVariants.{BackwardChar, 
 use Rattle.line_keys.specs.declared.command.Cmd.{Cmd}
 use Rattle.line_keys.specs.declared.command.Cmd.TheVariants.{ClearScreen, Dedent, Indent, Insert, Kill, Move, Noop, ReplaceChar, Replace, SelfInsert, Suspend, ViYankTo, Yank, YankPop}
 
-pub record Standing : Type 0 where
+pub record CmdFlags : Type 0 where
   -- the ring is reset before it: a run of kills ends, and a yank can't be popped any more
   pub resets_ring : Bool
   -- it changes the text, and can be repeated
@@ -15,8 +15,8 @@ pub record Standing : Type 0 where
   -- it can be repeated
   pub repeats : Bool
 
-abbrev pub marked : Bool → Bool → Bool → Standing
-marked resets change repeats = record {
+abbrev pub flags_by : Bool → Bool → Bool → CmdFlags
+flags_by resets change repeats = record {
   resets_ring = resets;
   is_change = change;
   repeats = repeats;
@@ -29,22 +29,22 @@ is_by_char (ForwardChar n) = true
 is_by_char m = false
 
 --                                       resets the ring, is a change, repeats
-abbrev pub standing : Cmd → Standing
-standing ClearScreen = marked false false false
-standing (Dedent m) = marked true true true
-standing (Indent m) = marked true true true
-standing (Insert n t) = marked true true true
-standing (Kill m) = marked (is_by_char m) true true
-standing (Move m) = marked true false true
-standing Noop = marked false false false
-standing (ReplaceChar n c) = marked true true true
-standing (Replace m t) = marked false true true
-standing (SelfInsert n c) = marked true true true
-standing Suspend = marked false false false
-standing (ViYankTo m) = marked true true true
-standing (Yank n a) = marked false true true
-standing YankPop = marked false false false
-standing cmd = marked true false false
+abbrev pub flags_of : Cmd → CmdFlags
+flags_of ClearScreen = flags_by false false false
+flags_of (Dedent m) = flags_by true true true
+flags_of (Indent m) = flags_by true true true
+flags_of (Insert n t) = flags_by true true true
+flags_of (Kill m) = flags_by (is_by_char m) true true
+flags_of (Move m) = flags_by true false true
+flags_of Noop = flags_by false false false
+flags_of (ReplaceChar n c) = flags_by true true true
+flags_of (Replace m t) = flags_by false true true
+flags_of (SelfInsert n c) = flags_by true true true
+flags_of Suspend = flags_by false false false
+flags_of (ViYankTo m) = flags_by true true true
+flags_of (Yank n a) = flags_by false true true
+flags_of YankPop = flags_by false false false
+flags_of cmd = flags_by true false false
 
 -- it contains a text, so each copy of it takes memory
 abbrev pub holds_text : Cmd → Bool

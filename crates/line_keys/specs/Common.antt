@@ -10,24 +10,24 @@ use Rattle.line_keys.specs.declared.command.Cmd.{Cmd}
 use Rattle.line_keys.specs.declared.command.Cmd.TheVariants.{AcceptOrInsertLine, EndOfFile, ForwardSearchHistory, LineDownOrNextHistory, LineUpOrPreviousHistory, Move, Noop, ReverseSearchHistory, TransposeChars, Undo, Unknown, Yank, Interrupt, Suspend}
 use Rattle.line_keys.specs.declared.key.KeyCode.TheVariants.{BracketedPasteStart, Delete, Down, End, Enter, Home, Left, Right, UnknownEscSeq, Up, Char}
 use Rattle.line_keys.specs.declared.key.KeyEvent.{KeyEvent}
-use Rattle.line_keys.specs.Custom.{Situation, custom_answer, followed}
-use Rattle.line_keys.specs.declared.keymap.common.Action.{Action}
-use Rattle.line_keys.specs.declared.keymap.common.Action.TheVariants.{Give, Paste, Quote}
+use Rattle.line_keys.specs.CustomKeys.{Situation, custom_answer, key_sequence}
+use Rattle.line_keys.specs.declared.keymap.common.CommonAction.{CommonAction}
+use Rattle.line_keys.specs.declared.keymap.common.CommonAction.TheVariants.{Give, Paste, Quote}
 use Rattle.line_keys.specs.declared.keymap.custom.Followed.{Followed}
 use Rattle.line_keys.specs.declared.keymap.custom.Followed.TheVariants.{Bound, Unbound}
 use Rattle.line_keys.specs.Keys.{none, ctrl}
 use Rattle.line_keys.specs.Modes.{is_emacs}
-use Rattle.line_keys.specs.Phrases.{Part, answered, and_then, deciding}
-use Rattle.line_keys.specs.Quoting.{pasted, quoting}
+use Rattle.line_keys.specs.PhraseScripts.{PhrasePart, answer_part, and_then, reply_then}
+use Rattle.line_keys.specs.Quoting.{quote_of_paste, quote_part}
 use Rattle.line_keys.specs.Redone.{anew_or}
 use Rattle.line_keys.specs.Refreshing.{Shown}
-use Rattle.line_keys.specs.Tables.{Row, always, by_count, by_sign, moves, kills, named, char, only, look}
+use Rattle.line_keys.specs.Tables.{Row, always, by_count, by_sign, moves, kills, key_named, char, only, look}
 
 -- 5C is the backslash
 abbrev pub signal_rows : List (Row Cmd)
 signal_rows =
     char (codes "C") ctrl (always Interrupt)
-    ∷ named (Char 0x5C) ctrl (always Interrupt)
+    ∷ key_named (Char 0x5C) ctrl (always Interrupt)
     ∷ char (codes "Z") ctrl (always Suspend)
     ∷ char (codes "D") ctrl (always EndOfFile)
     ∷ []
@@ -44,15 +44,15 @@ at_hint shown = shown.hinted && (shown.place == length shown.line)
 
 -- ---- the table
 
-abbrev pub common_command_rows : EditMode → Shown → List (Row Action)
+abbrev pub common_command_rows : EditMode → Shown → List (Row CommonAction)
 common_command_rows mode shown =
-    named Home none (always (Give (Move BeginningOfLine)))
-    ∷ named End none (always (Give (Move EndOfLine)))
-    ∷ named Left none (moves Give BackwardChar ForwardChar)
-    ∷ named Right none (moves Give ForwardChar BackwardChar)
-    ∷ named Up none (always (Give (LineUpOrPreviousHistory 1)))
-    ∷ named Down none (always (Give (LineDownOrNextHistory 1)))
-    ∷ named Delete none (kills Give ForwardChar BackwardChar)
+    key_named Home none (always (Give (Move BeginningOfLine)))
+    ∷ key_named End none (always (Give (Move EndOfLine)))
+    ∷ key_named Left none (moves Give BackwardChar ForwardChar)
+    ∷ key_named Right none (moves Give ForwardChar BackwardChar)
+    ∷ key_named Up none (always (Give (LineUpOrPreviousHistory 1)))
+    ∷ key_named Down none (always (Give (LineDownOrNextHistory 1)))
+    ∷ key_named Delete none (kills Give ForwardChar BackwardChar)
     ∷ only (has_text shown && is_emacs mode)
     (char (codes "D") ctrl (kills Give ForwardChar BackwardChar))
     ∷ only (has_text shown) (char (codes "D") ctrl (always (Give EndOfFile)))
@@ -61,26 +61,26 @@ common_command_rows mode shown =
     ∷ char (codes "Y") ctrl (by_sign (λ n. Give (Yank n Before)) (λ n. Give Unknown))
     ∷ char (codes "T") ctrl (always (Give TransposeChars))
     ∷ char (codes "_") ctrl (by_count (λ n. Give (Undo n)))
-    ∷ named Enter none (always (Give (AcceptOrInsertLine true)))
+    ∷ key_named Enter none (always (Give (AcceptOrInsertLine true)))
     ∷ char (codes "J") ctrl (always (Give (AcceptOrInsertLine true)))
     ∷ char (codes "M") ctrl (always (Give (AcceptOrInsertLine true)))
     ∷ char (codes "R") ctrl (always (Give ReverseSearchHistory))
     ∷ char (codes "S") ctrl (always (Give ForwardSearchHistory))
-    ∷ named UnknownEscSeq none (always (Give Noop))
+    ∷ key_named UnknownEscSeq none (always (Give Noop))
     ∷ []
 
-abbrev pub common_reading_rows : List (Row Action)
+abbrev pub common_reading_rows : List (Row CommonAction)
 common_reading_rows =
-    named BracketedPasteStart none (always Paste)
+    key_named BracketedPasteStart none (always Paste)
     ∷ char (codes "Q") ctrl (always Quote)
     ∷ char (codes "V") ctrl (always Quote)
     ∷ []
 
-abbrev pub common_rows : EditMode → Shown → List (Row Action)
+abbrev pub common_rows : EditMode → Shown → List (Row CommonAction)
 common_rows mode shown = common_command_rows mode shown ++ common_reading_rows
 
 -- the action of a key in both modes, if it has a row
-unfoldable pub common_action : EditMode → Shown → ℕ → Bool → KeyEvent → Option Action
+unfoldable pub common_action : EditMode → Shown → ℕ → Bool → KeyEvent → Option CommonAction
 common_action mode shown n positive k = look n positive k (common_rows mode shown)
 
 -- ---- a key without a row
@@ -90,16 +90,17 @@ abbrev pub bound_command : Followed → Cmd
 bound_command (Bound cmd) = cmd
 bound_command (Unbound second) = Unknown
 
-abbrev pub sequence : Situation → KeyEvent → Part Cmd
-sequence s k = and_then s.input s.shown (followed s k) (λ f input shown. answered (bound_command f))
+abbrev pub sequence : Situation → KeyEvent → PhrasePart Cmd
+sequence s k = and_then s.input s.shown (key_sequence s k)
+    (λ f input shown. answer_part (bound_command f))
 
-abbrev pub common_done : Situation → KeyEvent → Option Action → Part Cmd
-common_done s k (Some (Give cmd)) = answered cmd
-common_done s k (Some Paste) = pasted
-common_done s k (Some Quote) = quoting s.input
+abbrev pub common_done : Situation → KeyEvent → Option CommonAction → PhrasePart Cmd
+common_done s k (Some (Give cmd)) = answer_part cmd
+common_done s k (Some Paste) = quote_of_paste
+common_done s k (Some Quote) = quote_part s.input
 common_done s k None = sequence s k
 
-abbrev pub common : Situation → KeyEvent → Part Cmd
+abbrev pub common : Situation → KeyEvent → PhrasePart Cmd
 common s k = common_done s k (common_action s.input.mode s.shown s.n s.positive k)
 
 -- ---- before the tables
@@ -113,16 +114,17 @@ if_empty shown cmd = cmd
 abbrev pub terminal_command : Shown → KeyEvent → Option Cmd
 terminal_command shown k = if_empty shown (signal_of k)
 
-abbrev pub command_or : Part Cmd → Option Cmd → Part Cmd
-command_or other (Some cmd) = answered cmd
+abbrev pub command_or : PhrasePart Cmd → Option Cmd → PhrasePart Cmd
+command_or other (Some cmd) = answer_part cmd
 command_or other None = other
 
 -- a bound command is repeated with this count, if there is one
-abbrev pub bound_or : Option ℕ → Situation → Part Cmd → Option Cmd → Part Cmd
-bound_or new s other (Some cmd) = anew_or cmd new s.shown cmd
-bound_or new s other None = other
+abbrev pub binding_or : Option ℕ → Situation → PhrasePart Cmd → Option Cmd → PhrasePart Cmd
+binding_or new s other (Some cmd) = anew_or cmd new s.shown cmd
+binding_or new s other None = other
 
 -- a custom binding comes first, then the terminal's, then the table
-abbrev pub decided : Option ℕ → Situation → KeyEvent → Part Cmd → Part Cmd
-decided new s k table =
-    deciding (bound_or new s (command_or table (terminal_command s.shown k))) (custom_answer s k)
+abbrev pub decision_of : Option ℕ → Situation → KeyEvent → PhrasePart Cmd → PhrasePart Cmd
+decision_of new s k table =
+    reply_then (binding_or new s (command_or table (terminal_command s.shown k)))
+    (custom_answer s k)

@@ -9,20 +9,20 @@ use Rattle.line_keys.specs.declared.command.Cmd.{Cmd}
 use Rattle.line_keys.specs.declared.command.Cmd.TheVariants.{Abort, BeginningOfHistory, CapitalizeWord, ClearScreen, Complete, CompleteBackward, CompleteHint, DowncaseWord, EndOfHistory, Kill, Move, NextHistory, PreviousHistory, SelfInsert, TransposeWords, Undo, Unknown, UpcaseWord, YankPop}
 use Rattle.line_keys.specs.declared.key.KeyCode.TheVariants.{BackTab, Backspace, Esc, Left, Right, Tab}
 use Rattle.line_keys.specs.declared.key.KeyEvent.{KeyEvent}
-use Rattle.line_keys.specs.Answers.{Custom}
-use Rattle.line_keys.specs.Common.{at_hint, common, decided}
-use Rattle.line_keys.specs.Counts.{Counted, counted_key, how_often, is_plus}
-use Rattle.line_keys.specs.Custom.{Situation, situation, followed}
+use Rattle.line_keys.specs.CustomBindings.{Custom}
+use Rattle.line_keys.specs.Common.{at_hint, common, decision_of}
+use Rattle.line_keys.specs.Counts.{Counted, count_and_key, how_often, is_plus}
+use Rattle.line_keys.specs.CustomKeys.{Situation, situation, key_sequence}
 use Rattle.line_keys.specs.declared.keymap.custom.Followed.{Followed}
 use Rattle.line_keys.specs.declared.keymap.custom.Followed.TheVariants.{Bound, Unbound}
-use Rattle.line_keys.specs.declared.keymap.emacs.Action.{Action}
-use Rattle.line_keys.specs.declared.keymap.emacs.Action.TheVariants.{Give, Seek, LeadOn}
+use Rattle.line_keys.specs.declared.keymap.emacs.EmacsAction.{EmacsAction}
+use Rattle.line_keys.specs.declared.keymap.emacs.EmacsAction.TheVariants.{Give, Seek, LeadOn}
 use Rattle.line_keys.specs.declared.keymap.vi.motion.Search.TheVariants.{ForwardBefore, Backward}
 use Rattle.line_keys.specs.Keys.{none, ctrl, alt, ctrl_alt, char_with}
-use Rattle.line_keys.specs.Phrases.{Input, Part, Phrase, answered, from_key, and_then}
+use Rattle.line_keys.specs.PhraseScripts.{Input, PhrasePart, Phrase, answer_part, from_key, and_then}
 use Rattle.line_keys.specs.Refreshing.{Shown}
 use Rattle.line_keys.specs.Tables.{Row, always, by_count, by_sign, moves, kills}
-use Rattle.line_keys.specs.Tables.{named, char, each_char, only, look}
+use Rattle.line_keys.specs.Tables.{key_named, char, each_char, only, look}
 use Rattle.line_keys.specs.ViSearches.{search_of}
 
 -- back over words, and forward over them
@@ -34,10 +34,10 @@ ahead n = ForwardWord n AfterEnd EmacsWord
 
 -- ---- the table
 
-abbrev pub typed_rows : List (Row Action)
+abbrev pub typed_rows : List (Row EmacsAction)
 typed_rows = each_char none (λ c. by_sign (λ n. Give (SelfInsert n c)) (λ n. Give Unknown)) ∷ []
 
-abbrev pub emacs_command_rows : Shown → List (Row Action)
+abbrev pub emacs_command_rows : Shown → List (Row EmacsAction)
 emacs_command_rows shown =
     char (codes "A") ctrl (always (Give (Move BeginningOfLine)))
     ∷ char (codes "E") ctrl (always (Give (Move EndOfLine)))
@@ -45,16 +45,16 @@ emacs_command_rows shown =
     ∷ char (codes "F") ctrl (moves Give ForwardChar BackwardChar)
     ∷ char (codes "B") alt (moves Give back ahead)
     ∷ char (codes "b") alt (moves Give back ahead)
-    ∷ named Left alt (moves Give back ahead)
-    ∷ named Left ctrl (moves Give back ahead)
+    ∷ key_named Left alt (moves Give back ahead)
+    ∷ key_named Left ctrl (moves Give back ahead)
     ∷ char (codes "F") alt (moves Give ahead back)
     ∷ char (codes "f") alt (moves Give ahead back)
-    ∷ named Right alt (moves Give ahead back)
-    ∷ named Right ctrl (moves Give ahead back)
+    ∷ key_named Right alt (moves Give ahead back)
+    ∷ key_named Right ctrl (moves Give ahead back)
     ∷ char (codes "H") ctrl (kills Give BackwardChar ForwardChar)
-    ∷ named Backspace none (kills Give BackwardChar ForwardChar)
+    ∷ key_named Backspace none (kills Give BackwardChar ForwardChar)
     ∷ char (codes "K") ctrl (kills Give (λ n. EndOfLine) (λ n. BeginningOfLine))
-    ∷ named Backspace alt (kills Give back ahead)
+    ∷ key_named Backspace alt (kills Give back ahead)
     ∷ char (codes "D") alt (kills Give ahead back)
     ∷ char (codes "d") alt (kills Give ahead back)
     ∷ char (codes "Y") alt (always (Give YankPop))
@@ -67,10 +67,10 @@ emacs_command_rows shown =
     ∷ char (codes "l") alt (always (Give DowncaseWord))
     ∷ char (codes "U") alt (always (Give UpcaseWord))
     ∷ char (codes "u") alt (always (Give UpcaseWord))
-    ∷ named Tab none (by_sign (λ n. Give Complete) (λ n. Give CompleteBackward))
+    ∷ key_named Tab none (by_sign (λ n. Give Complete) (λ n. Give CompleteBackward))
     ∷ char (codes "I") ctrl (by_sign (λ n. Give Complete) (λ n. Give CompleteBackward))
-    ∷ named BackTab none (always (Give CompleteBackward))
-    ∷ only (at_hint shown) (named Right none (always (Give CompleteHint)))
+    ∷ key_named BackTab none (always (Give CompleteBackward))
+    ∷ only (at_hint shown) (key_named Right none (always (Give CompleteHint)))
     ∷ char (codes "N") ctrl (always (Give NextHistory))
     ∷ char (codes "P") ctrl (always (Give PreviousHistory))
     ∷ char (codes "<") alt (always (Give BeginningOfHistory))
@@ -78,10 +78,10 @@ emacs_command_rows shown =
     ∷ char (codes "L") ctrl (always (Give ClearScreen))
     ∷ char (codes "G") ctrl (always (Give Abort))
     ∷ char (codes "G") ctrl_alt (always (Give Abort))
-    ∷ named Esc none (always (Give Abort))
+    ∷ key_named Esc none (always (Give Abort))
     ∷ []
 
-abbrev pub emacs_reading_rows : List (Row Action)
+abbrev pub emacs_reading_rows : List (Row EmacsAction)
 emacs_reading_rows =
     char (codes "]") ctrl
     (by_sign (λ n. Seek ForwardBefore) (λ n. Seek Backward))
@@ -90,20 +90,20 @@ emacs_reading_rows =
     ∷ char (codes "X") ctrl (always LeadOn)
     ∷ []
 
-abbrev pub emacs_rows : Shown → List (Row Action)
+abbrev pub emacs_rows : Shown → List (Row EmacsAction)
 emacs_rows shown = typed_rows ++ (emacs_command_rows shown ++ emacs_reading_rows)
 
 -- the key after C-X
 abbrev pub second_rows : List (Row Cmd)
 second_rows =
     char (codes "U") ctrl (by_count Undo)
-    ∷ named Backspace none (by_sign (λ n. Kill BeginningOfLine) (λ n. Kill EndOfLine))
+    ∷ key_named Backspace none (by_sign (λ n. Kill BeginningOfLine) (λ n. Kill EndOfLine))
     ∷ char (codes "G") ctrl (always Abort)
-    ∷ named Esc none (always Abort)
+    ∷ key_named Esc none (always Abort)
     ∷ []
 
 -- the action of a key, if it has a row
-unfoldable pub emacs_action : Shown → ℕ → Bool → KeyEvent → Option Action
+unfoldable pub emacs_action : Shown → ℕ → Bool → KeyEvent → Option EmacsAction
 emacs_action shown n positive k = look n positive k (emacs_rows shown)
 
 -- ---- keys after which more is read
@@ -117,27 +117,27 @@ abbrev pub second_command : ℕ → Bool → KeyEvent → Cmd
 second_command n positive k = unwrap_or (look n positive k second_rows) Unknown
 
 -- after an unbound sequence its second key decides; it is read now if it wasn't
-abbrev pub after_first_key : ℕ → Bool → Followed → Part Cmd
-after_first_key n positive (Bound cmd) = answered cmd
-after_first_key n positive (Unbound (Some k)) = answered (second_command n positive k)
+abbrev pub after_first_key : ℕ → Bool → Followed → PhrasePart Cmd
+after_first_key n positive (Bound cmd) = answer_part cmd
+after_first_key n positive (Unbound (Some k)) = answer_part (second_command n positive k)
 after_first_key n positive (Unbound None) = from_key (second_command n positive)
 
-abbrev pub emacs_done : Situation → KeyEvent → Option Action → Part Cmd
-emacs_done s k (Some (Give cmd)) = answered cmd
+abbrev pub emacs_done : Situation → KeyEvent → Option EmacsAction → PhrasePart Cmd
+emacs_done s k (Some (Give cmd)) = answer_part cmd
 emacs_done s k (Some (Seek search)) =
     from_key (λ next. move_to_char s.n (search_of search) (char_with none next))
 emacs_done s k (Some LeadOn) =
-    and_then s.input s.shown (followed s k) (λ f input shown. after_first_key s.n s.positive f)
+    and_then s.input s.shown (key_sequence s k) (λ f input shown. after_first_key s.n s.positive f)
 emacs_done s k None = common s k
 
 -- ---- a key
 
-abbrev pub emacs_command : Situation → KeyEvent → Part Cmd
+abbrev pub emacs_command : Situation → KeyEvent → PhrasePart Cmd
 emacs_command s k = emacs_done s k (emacs_action s.shown s.n s.positive k)
 
 -- a bound command is repeated as often as the count says
-abbrev pub emacs_decided : Situation → KeyEvent → Part Cmd
-emacs_decided s k = decided (Some s.n) s k (emacs_command s k)
+abbrev pub emacs_decided : Situation → KeyEvent → PhrasePart Cmd
+emacs_decided s k = decision_of (Some s.n) s k (emacs_command s k)
 
 -- the key after a count
 abbrev pub emacs_counted : Custom → Counted → Input → Shown → Phrase
@@ -147,4 +147,4 @@ emacs_counted custom f input shown =
 -- the phrase whose first key is k
 abbrev pub emacs_phrase : Custom → Input → Shown → KeyEvent → Phrase
 emacs_phrase custom input shown k =
-    and_then input shown (counted_key input.mode k) (emacs_counted custom)
+    and_then input shown (count_and_key input.mode k) (emacs_counted custom)

@@ -5,12 +5,13 @@ use Rattle.line_config.specs.declared.config.Config.{Config}
 use Rattle.line_keys.specs.declared.command.Cmd.TheVariants.{Noop}
 use Rattle.line_keys.specs.declared.command.InputMode.TheVariants.{Insert}
 use Rattle.line_keys.specs.declared.keymap.InputState.{InputState}
-use Rattle.line_keys.specs.Answers.{Custom, Decides, custom_of}
-use Rattle.line_keys.specs.Custom.{Situation, situation}
-use Rattle.line_keys.specs.Feeds.{KeyFeed}
+use Rattle.line_keys.specs.declared.keymap.count.SignedCount.{SignedCount}
+use Rattle.line_keys.specs.CustomBindings.{Custom, BindingAnswers, custom_of}
+use Rattle.line_keys.specs.CustomKeys.{Situation, situation}
+use Rattle.line_keys.specs.KeyFeeds.{KeyFeed}
 use Rattle.line_keys.specs.Follows.{Follows}
 use Rattle.line_keys.specs.Handling.{Meaning}
-use Rattle.line_keys.specs.Phrases.{Input, Part}
+use Rattle.line_keys.specs.PhraseScripts.{Input, PhrasePart}
 use Rattle.line_keys.specs.Refreshing.{Shown, KnownDisplay}
 use Rattle.line_keys.specs.Replies.{Reply}
 
@@ -42,13 +43,23 @@ new_input config = record {
 
 -- a binding is called, and replies as the situation says
 abbrev pub DecidesIn : {D A : Type 0} → (Situation → Reply A) → InputState D → (D → Meaning) → Shown
-    → ℕ → Bool → Result A ReadlineError → Type 0
-DecidesIn reply s means shown n positive result =
-    Decides (reply (situation_in s means shown n positive)) result
+    → SignedCount → Result A ReadlineError → Type 0
+DecidesIn reply s means shown count result =
+    BindingAnswers (reply (situation_in s means shown count.n count.positive)) result
+
+-- the part that bindings, memory and line say is followed
+abbrev pub FollowsOn : {D S X : Type 0} → (Custom → Input → Shown → PhrasePart X)
+    → (state state' : InputState D) → (D → Meaning) → KnownDisplay S → (wrt wrt' : S)
+    → KeyFeed → KeyFeed → Result X ReadlineError → Type 0
+FollowsOn part state state' means display wrt wrt' feed feed' result =
+    let custom = custom_in state means in
+    let input = input_of state in
+    Follows display custom (part custom input (display.shown wrt))
+    wrt input wrt' (input_of state') feed feed' result
 
 -- the part that the situation says is followed; nothing is remembered, and the display isn't called
-abbrev pub FollowsIn : {D S X : Type 0} → (Situation → Part X) → InputState D → (D → Meaning)
-    → KnownDisplay S → S → ℕ → Bool → KeyFeed → KeyFeed → Result X ReadlineError → Type 0
-FollowsIn part state means display wrt n positive feed feed' result =
-    let s = situation_in state means (display.shown wrt) n positive in
+abbrev pub FollowsIn : {D S X : Type 0} → (Situation → PhrasePart X) → InputState D → (D → Meaning)
+    → KnownDisplay S → S → SignedCount → KeyFeed → KeyFeed → Result X ReadlineError → Type 0
+FollowsIn part state means display wrt count feed feed' result =
+    let s = situation_in state means (display.shown wrt) count.n count.positive in
     Follows display s.custom (part s) wrt s.input wrt s.input feed feed' result

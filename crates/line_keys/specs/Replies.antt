@@ -22,8 +22,8 @@ gives_unless failing answer =
     record { answer = if failing then None else Some answer; takes = true }
 
 -- a reply whose call takes memory
-abbrev pub taking : {A : Type 0} → Reply A → Reply A
-taking reply = record reply { takes = true }
+abbrev pub with_memory : {A : Type 0} → Reply A → Reply A
+with_memory reply = record reply { takes = true }
 
 abbrev pub fails : {A : Type 0} → Reply A → Bool
 fails reply = is_none reply.answer

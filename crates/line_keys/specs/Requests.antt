@@ -15,16 +15,18 @@ abbrev pub Asked : Type 0 → Type 1
 Asked S = S → Request → S → Type 0
 
 -- requests of one kind, as many as there may be, lead from the first state to the second
-pub data Asks {S : Type 0} (asked : Asked S) (Is : Request → Type 0) (s : S) : S → Type 0 where
-  nothing : Asks asked Is s s
-  then : (r : Request) (t u : S) → Asks asked Is s t → Is r → asked t r u → Asks asked Is s u
+pub data AsksInOrder {S : Type 0} (asked : Asked S) (Is : Request → Type 0) (s : S) : S
+    → Type 0 where
+  nothing : AsksInOrder asked Is s s
+  then : (r : Request) (t u : S) → AsksInOrder asked Is s t → Is r → asked t r u
+      → AsksInOrder asked Is s u
 
 -- one request, then others of one kind
 pub record Begins {S : Type 0} (asked : Asked S) (r : Request) (Is : Request → Type 0)
     (s t : S) : Type 0 where
   pub begun : S
   pub first : asked s r begun
-  pub later : Asks asked Is begun t
+  pub later : AsksInOrder asked Is begun t
 
 -- a key, with this flag
 abbrev pub IsKey : Bool → Request → Type 0

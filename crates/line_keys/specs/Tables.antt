@@ -72,8 +72,8 @@ char_of (Char c) = c
 char_of code = 0
 
 -- a key with a name
-abbrev pub named : {X : Type 0} → KeyCode → Modifiers → Giving X → Row X
-named code modifiers gives = record {
+abbrev pub key_named : {X : Type 0} → KeyCode → Modifiers → Giving X → Row X
+key_named code modifiers gives = record {
   fits = is_code code;
   modifiers = modifiers;
   stands = true;
@@ -86,7 +86,7 @@ first_of (c ∷ cs) = c
 
 -- a character's key
 abbrev pub char : {X : Type 0} → List ℕ → Modifiers → Giving X → Row X
-char text modifiers gives = named (Char (first_of text)) modifiers gives
+char text modifiers gives = key_named (Char (first_of text)) modifiers gives
 
 -- the key of each character; what the row gives depends on it
 abbrev pub each_char : {X : Type 0} → Modifiers → (ℕ → Giving X) → Row X

@@ -11,12 +11,12 @@ use Rattle.line_keys.specs.declared.keymap.vi.motion.Motion.TheVariants.{Go, See
 use Rattle.line_keys.specs.declared.keymap.vi.motion.Search.TheVariants.{Forward, ForwardBefore, Backward, BackwardAfter}
 use Rattle.std.specs.Option.{option_or}
 use Rattle.line_keys.specs.Keys.{key_with, none, ctrl}
-use Rattle.line_keys.specs.Phrases.{Input, Part, answered, with_key, and_then}
-use Rattle.line_keys.specs.Tables.{Row, always, by_count, named, char, look}
+use Rattle.line_keys.specs.PhraseScripts.{Input, PhrasePart, answer_part, with_key, and_then}
+use Rattle.line_keys.specs.Tables.{Row, always, by_count, key_named, char, look}
 use Rattle.line_keys.specs.Refreshing.{Shown}
 use Rattle.line_keys.specs.SameKeys.{same_key}
-use Rattle.line_keys.specs.Counts.{Counted, counted_key, multiplied}
-use Rattle.line_keys.specs.ViSearches.{opposite_of, searching, sought}
+use Rattle.line_keys.specs.Counts.{Counted, count_and_key, count_times}
+use Rattle.line_keys.specs.ViSearches.{opposite_of, search_movement, search_of_next_key}
 
 abbrev pub motion_rows : List (Row Motion)
 motion_rows =
@@ -25,7 +25,7 @@ motion_rows =
     ∷ char (codes "^") none (always (Go ViFirstPrint))
     ∷ char (codes "h") none (by_count (λ n. Go (BackwardChar n)))
     ∷ char (codes "H") ctrl (by_count (λ n. Go (BackwardChar n)))
-    ∷ named Backspace none (by_count (λ n. Go (BackwardChar n)))
+    ∷ key_named Backspace none (by_count (λ n. Go (BackwardChar n)))
     ∷ char (codes "l") none (by_count (λ n. Go (ForwardChar n)))
     ∷ char (codes " ") none (by_count (λ n. Go (ForwardChar n)))
     ∷ char (codes "w") none (by_count (λ n. Go (ForwardWord n Start Vi)))
@@ -59,30 +59,30 @@ motion_of changing n k =
     else look n true k motion_rows
 
 -- a key that is no motion gives none, and neither does a search if none is remembered
-abbrev pub motion_done : ℕ → Input → Option Motion → Part (Option Movement)
-motion_done n input (Some (Go movement)) = answered (Some movement)
-motion_done n input (Some (Seek search)) = sought search n input
-motion_done n input (Some Again) = answered (searching n input.search)
-motion_done n input (Some Back) = answered (searching n (opposite_of input.search))
-motion_done n input None = answered None
+abbrev pub motion_done : ℕ → Input → Option Motion → PhrasePart (Option Movement)
+motion_done n input (Some (Go movement)) = answer_part (Some movement)
+motion_done n input (Some (Seek search)) = search_of_next_key search n input
+motion_done n input (Some Again) = answer_part (search_movement n input.search)
+motion_done n input (Some Back) = answer_part (search_movement n (opposite_of input.search))
+motion_done n input None = answer_part None
 
 -- c
 abbrev pub change : KeyEvent
 change = key_with (Char 0x63) none
 
-abbrev pub motion_by : KeyEvent → ℕ → Input → KeyEvent → Part (Option Movement)
+abbrev pub motion_by : KeyEvent → ℕ → Input → KeyEvent → PhrasePart (Option Movement)
 motion_by operator n input k = motion_done n input (motion_of (same_key operator change) n k)
 
 -- a second count is multiplied by the operator's
-abbrev pub counted_motion : KeyEvent → ℕ → Counted → Input → Shown → Part (Option Movement)
-counted_motion operator n f input shown = motion_by operator (multiplied n f.0) input f.1
+abbrev pub motion_with_count : KeyEvent → ℕ → Counted → Input → Shown → PhrasePart (Option Movement)
+motion_with_count operator n f input shown = motion_by operator (count_times n f.0) input f.1
 
 -- the operator's key again stands for the row
-abbrev pub motion_after : KeyEvent → ℕ → Input → Shown → KeyEvent → Part (Option Movement)
+abbrev pub motion_after : KeyEvent → ℕ → Input → Shown → KeyEvent → PhrasePart (Option Movement)
 motion_after operator n input shown k =
-    if same_key k operator then answered (Some WholeLine)
-    else and_then input shown (counted_key input.mode k) (counted_motion operator n)
+    if same_key k operator then answer_part (Some WholeLine)
+    else and_then input shown (count_and_key input.mode k) (motion_with_count operator n)
 
 -- the motion after an operator's key, if the operator has this count
-abbrev pub vi_motion : KeyEvent → ℕ → Input → Shown → Part (Option Movement)
+abbrev pub vi_motion : KeyEvent → ℕ → Input → Shown → PhrasePart (Option Movement)
 vi_motion operator n input shown = with_key (motion_after operator n input shown)

@@ -7,7 +7,7 @@ use Rattle.line_buffer.specs.declared.types.Movement.TheVariants.{ViCharSearch}
 use Rattle.line_keys.specs.declared.keymap.vi.motion.Search.{Search}
 use Rattle.line_keys.specs.declared.keymap.vi.motion.Search.TheVariants as search
 use Rattle.line_keys.specs.Keys.{none, char_with}
-use Rattle.line_keys.specs.Phrases.{Input, Part, answered, becoming, with_key}
+use Rattle.line_keys.specs.PhraseScripts.{Input, PhrasePart, answer_part, keep_then, with_key}
 
 abbrev pub search_of : Search → ℕ → CharSearch
 search_of search.Forward = Forward
@@ -26,16 +26,16 @@ opposite_of (Some s) = Some (opposite s)
 opposite_of None = None
 
 -- the movement by a search, if there is one
-abbrev pub searching : ℕ → Option CharSearch → Option Movement
-searching n s = option_map (λ x. ViCharSearch n x) s
+abbrev pub search_movement : ℕ → Option CharSearch → Option Movement
+search_movement n s = option_map (λ x. ViCharSearch n x) s
 
 -- a search that names its character is remembered
-abbrev pub found : Search → ℕ → Input → Option ℕ → Part (Option Movement)
-found way n input (Some c) =
-    becoming (record input { search = Some (search_of way c) })
-    (answered (Some (ViCharSearch n (search_of way c))))
-found way n input None = answered None
+abbrev pub search_part : Search → ℕ → Input → Option ℕ → PhrasePart (Option Movement)
+search_part way n input (Some c) =
+    keep_then (record input { search = Some (search_of way c) })
+    (answer_part (Some (ViCharSearch n (search_of way c))))
+search_part way n input None = answer_part None
 
 -- the movement to a character, which is that of the next key
-abbrev pub sought : Search → ℕ → Input → Part (Option Movement)
-sought way n input = with_key (λ k. found way n input (char_with none k))
+abbrev pub search_of_next_key : Search → ℕ → Input → PhrasePart (Option Movement)
+search_of_next_key way n input = with_key (λ k. search_part way n input (char_with none k))

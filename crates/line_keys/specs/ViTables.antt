@@ -11,9 +11,9 @@ use Rattle.line_keys.specs.declared.command.SearchAgain.TheVariants.{Same, Oppos
 use Rattle.line_keys.specs.declared.key.KeyCode.TheVariants.{BackTab, Backspace, End, Esc, Right, Tab}
 use Rattle.line_keys.specs.declared.key.KeyEvent.{KeyEvent}
 use Rattle.line_keys.specs.declared.keymap.vi.motion.Search.TheVariants.{Forward, ForwardBefore, Backward, BackwardAfter}
-use Rattle.line_keys.specs.declared.keymap.vi.table.Action.{Action}
-use Rattle.line_keys.specs.declared.keymap.vi.table.Action.TheVariants as action
-use Rattle.line_keys.specs.declared.keymap.vi.table.Action.TheVariants.{Give}
+use Rattle.line_keys.specs.declared.keymap.vi.table.ViAction.{ViAction}
+use Rattle.line_keys.specs.declared.keymap.vi.table.ViAction.TheVariants as action
+use Rattle.line_keys.specs.declared.keymap.vi.table.ViAction.TheVariants.{Give}
 use Rattle.line_keys.specs.declared.keymap.vi.table.InsertAction.{InsertAction}
 use Rattle.line_keys.specs.declared.keymap.vi.table.InsertAction.TheVariants as inserting
 use Rattle.line_keys.specs.declared.keymap.vi.table.Operator.TheVariants as operators
@@ -21,7 +21,7 @@ use Rattle.line_keys.specs.Common.{at_hint}
 use Rattle.line_keys.specs.Keys.{none, ctrl, alt}
 use Rattle.line_keys.specs.Refreshing.{Shown}
 use Rattle.line_keys.specs.Tables.{Row, always, by_count}
-use Rattle.line_keys.specs.Tables.{named, char, each_char, only, look}
+use Rattle.line_keys.specs.Tables.{key_named, char, each_char, only, look}
 
 -- ---- insert mode
 
@@ -30,13 +30,13 @@ abbrev pub vi_insert_rows : Bool → Shown → List (Row InsertAction)
 vi_insert_rows modal shown =
     each_char none (λ c. always (inserting.Typed c))
     ∷ char (codes "H") ctrl (always (inserting.Give (Kill (BackwardChar 1))))
-    ∷ named Backspace none (always (inserting.Give (Kill (BackwardChar 1))))
-    ∷ named Tab none (always (inserting.Give Complete))
+    ∷ key_named Backspace none (always (inserting.Give (Kill (BackwardChar 1))))
+    ∷ key_named Tab none (always (inserting.Give Complete))
     ∷ char (codes "I") ctrl (always (inserting.Give Complete))
-    ∷ named BackTab none (always (inserting.Give CompleteBackward))
-    ∷ only (at_hint shown) (named Right none (always (inserting.Give CompleteHint)))
+    ∷ key_named BackTab none (always (inserting.Give CompleteBackward))
+    ∷ only (at_hint shown) (key_named Right none (always (inserting.Give CompleteHint)))
     ∷ only modal (char (codes "G") ctrl (always (inserting.Give Abort)))
-    ∷ named Esc none (always (inserting.Leave (Move (BackwardChar 1))))
+    ∷ key_named Esc none (always (inserting.Leave (Move (BackwardChar 1))))
     ∷ each_char alt (λ c. always (inserting.Command c))
     ∷ []
 
@@ -47,11 +47,11 @@ insert_action modal shown k = look 1 true k (vi_insert_rows modal shown)
 -- ---- command mode
 
 -- motions; up and down lead to the history if there is no further row
-abbrev pub vi_move_rows : List (Row Action)
+abbrev pub vi_move_rows : List (Row ViAction)
 vi_move_rows =
     char (codes "h") none (by_count (λ n. Give (Move (BackwardChar n))))
     ∷ char (codes "H") ctrl (by_count (λ n. Give (Move (BackwardChar n))))
-    ∷ named Backspace none (by_count (λ n. Give (Move (BackwardChar n))))
+    ∷ key_named Backspace none (by_count (λ n. Give (Move (BackwardChar n))))
     ∷ char (codes "l") none (by_count (λ n. Give (Move (ForwardChar n))))
     ∷ char (codes " ") none (by_count (λ n. Give (Move (ForwardChar n))))
     ∷ char (codes "w") none (by_count (λ n. Give (Move (ForwardWord n Start Vi))))
@@ -62,7 +62,7 @@ vi_move_rows =
     ∷ char (codes "E") none (by_count (λ n. Give (Move (ForwardWord n BeforeEnd Big))))
     ∷ char (codes "0") none (always (Give (Move BeginningOfLine)))
     ∷ char (codes "$") none (always (Give (Move EndOfLine)))
-    ∷ named End none (always (Give (Move EndOfLine)))
+    ∷ key_named End none (always (Give (Move EndOfLine)))
     ∷ char (codes "^") none (always (Give (Move ViFirstPrint)))
     ∷ char (codes "j") none (by_count (λ n. Give (LineDownOrNextHistory n)))
     ∷ char (codes "+") none (by_count (λ n. Give (LineDownOrNextHistory n)))
@@ -71,7 +71,7 @@ vi_move_rows =
     ∷ []
 
 -- edits without a motion, and other rows
-abbrev pub vi_edit_rows : Bool → List (Row Action)
+abbrev pub vi_edit_rows : Bool → List (Row ViAction)
 vi_edit_rows modal =
     char (codes "x") none (by_count (λ n. Give (Kill (ForwardChar n))))
     ∷ char (codes "X") none (by_count (λ n. Give (Kill (BackwardChar n))))
@@ -86,11 +86,11 @@ vi_edit_rows modal =
     ∷ char (codes "P") ctrl (always (Give PreviousHistory))
     ∷ char (codes "L") ctrl (always (Give ClearScreen))
     ∷ char (codes "G") ctrl (always (Give Abort))
-    ∷ named Esc none (always (Give Noop))
+    ∷ key_named Esc none (always (Give Noop))
     ∷ []
 
 -- keys that leave command mode
-abbrev pub vi_turn_rows : Bool → List (Row Action)
+abbrev pub vi_turn_rows : Bool → List (Row ViAction)
 vi_turn_rows modal =
     char (codes "i") none (always (action.Insert Noop))
     ∷ char (codes "I") none (always (action.Insert (Move BeginningOfLine)))
@@ -107,7 +107,7 @@ vi_turn_rows modal =
     ∷ []
 
 -- keys after which more is read, or which use the last search or change
-abbrev pub vi_reading_rows : List (Row Action)
+abbrev pub vi_reading_rows : List (Row ViAction)
 vi_reading_rows =
     char (codes "f") none (always (action.Search Forward))
     ∷ char (codes "F") none (always (action.Search Backward))
@@ -124,17 +124,17 @@ vi_reading_rows =
     ∷ char (codes "c") none (always (action.Operate operators.Change))
     ∷ []
 
-abbrev pub vi_command_rows : Bool → List (Row Action)
+abbrev pub vi_command_rows : Bool → List (Row ViAction)
 vi_command_rows modal =
     vi_move_rows ++ (vi_edit_rows modal ++ (vi_turn_rows modal ++ vi_reading_rows))
 
 -- the action of a key in command mode, if it has a row
-unfoldable pub action_of : Bool → ℕ → KeyEvent → Option Action
+unfoldable pub action_of : Bool → ℕ → KeyEvent → Option ViAction
 action_of modal n k = look n true k (vi_command_rows modal)
 
 -- the key after `r`
-abbrev pub replacing_rows : List (Row Cmd)
-replacing_rows =
+abbrev pub replace_rows : List (Row Cmd)
+replace_rows =
     each_char none (λ c. by_count (λ n. ReplaceChar n c))
-    ∷ named Esc none (always Noop)
+    ∷ key_named Esc none (always Noop)
     ∷ []

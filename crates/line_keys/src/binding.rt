@@ -4,7 +4,7 @@ ghost use Rattle.std.specs.Prelude.{◌≡◌, ◌↔◌, ◌++◌, List, IsTrue
 ghost use Rattle.line_keys.specs.declared.key.KeyEvent.{KeyEvent};
 ghost use Rattle.line_keys.specs.declared.events.Event.{Event};
 ghost use Rattle.line_keys.specs.declared.events.Event.TheVariants.{KeySeq};
-ghost use Rattle.line_keys.specs.Bound.{find, has_event, begins, put_at, less_at, IsMap, IsNormal};
+ghost use Rattle.line_keys.specs.Bound.{find, has_event, begins, map_with, less_at, IsMap, IsNormal};
 ghost use Rattle.line_keys.specs.Events.{normal_event, single};
 
 use crate::events::Event;
@@ -62,7 +62,7 @@ impl<H: Drop> EventMap<H> {
         ensures old { IfOk result (λ old. old ≡ find (normal_event event) self.old) }
         ensures bound { let before = λ (o : Event). find o self.old in
             OnOk result ((e : Event)
-            → find e self.new ≡ put_at (normal_event event) handler before e) }
+            → find e self.new ≡ map_with (normal_event event) handler before e) }
         ensures refused { IfErr result (λ e. (e ≡ ReadlineError.Memory)
             × (find (normal_event event) self.old ≡ None)) }
         ensures kept { OnErr result (self.new ≡ self.old) }
@@ -112,7 +112,7 @@ impl<H: Drop> EventMap<H> {
         self.some_begins(keys)
     }
 
-    // Whether the event of some entry starts with these keys.
+    /// Whether the event of some entry starts with these keys.
     fn some_begins(&self, keys: &[KeyEvent]) -> bool
         ensures { result ≡ begins keys.now self.now }
     {
@@ -120,21 +120,21 @@ impl<H: Drop> EventMap<H> {
     }
 }
 
-// The index of an event.
+/// The index of an event.
 fn place<H>(entries: &[(Event, H)], event: &Event) -> Option<usize>
     ensures { result ≡ position (has_event event.now) entries.now }
 {
     entries.iter().position(|b| b.0 == *event)
 }
 
-// The index of a key's event.
+/// The index of a key's event.
 fn place_of_key<H>(entries: &[(Event, H)], key: KeyEvent) -> Option<usize>
     ensures { result ≡ position (has_event (single key)) entries.now }
 {
     entries.iter().position(|b| b.0.is_key(key))
 }
 
-// Binds an event, and returns its old binding.
+/// Binds an event, and returns its old binding.
 fn bind_in<H: Drop>(
     entries: &mut Vec<(Event, H)>,
     event: Event,
@@ -142,7 +142,7 @@ fn bind_in<H: Drop>(
 ) -> Result<Option<H>, ReadlineError>
     ensures old { IfOk result (λ old. old ≡ find event entries.old.items) }
     ensures bound { let before = λ (o : Event). find o entries.old.items in
-        OnOk result ((e : Event) → find e entries.new.items ≡ put_at event handler before e) }
+        OnOk result ((e : Event) → find e entries.new.items ≡ map_with event handler before e) }
     ensures refused { IfErr result (λ e. (e ≡ ReadlineError.Memory)
         × (find event entries.old.items ≡ None)) }
     ensures kept { OnErr result (entries.new.items ≡ entries.old.items) }
@@ -160,7 +160,7 @@ fn bind_in<H: Drop>(
     }
 }
 
-// Removes the binding of an event, and returns it.
+/// Removes the binding of an event, and returns it.
 fn unbind_in<H: Drop>(entries: &mut Vec<(Event, H)>, event: Event) -> Option<H>
     ensures old { result ≡ find event entries.old.items }
     ensures unbound { let before = λ (o : Event). find o entries.old.items in

@@ -2,7 +2,7 @@
 
 ghost use Rattle.std.specs.Prelude.{◌≡◌, IfOk, IfErr, IsSome};
 ghost use Rattle.line_config.specs.declared.errors.ReadlineError.{ReadlineError};
-ghost use Rattle.line_keys.specs.Redone.{recounted};
+ghost use Rattle.line_keys.specs.Redone.{movement_with_count};
 
 use crate::texts::Text;
 use line_buffer::{Anchor, Movement, RepeatCount};
@@ -109,7 +109,7 @@ pub enum Cmd {
 }
 
 impl Cmd {
-    ghost use Rattle.line_keys.specs.Commands.{standing, Copied};
+    ghost use Rattle.line_keys.specs.Commands.{flags_of, Copied};
 
     /// A copy of the command. Only its text takes memory.
     pub fn try_clone(&self, alloc: Global) -> Result<Self, ReadlineError>
@@ -174,7 +174,7 @@ impl Cmd {
     /// Whether the kill ring is reset before this command: a run of kills ends, and a yanked text
     /// can't be replaced any more.
     pub const fn should_reset_kill_ring(&self) -> bool
-        ensures { result ≡ (standing self.now).resets_ring }
+        ensures { result ≡ (flags_of self.now).resets_ring }
     {
         match self {
             Cmd::Kill(Movement::BackwardChar(_) | Movement::ForwardChar(_)) => true,
@@ -191,7 +191,7 @@ impl Cmd {
 
     /// Whether the command changes the text in a way that Vi's `.` can repeat.
     pub const fn is_repeatable_change(&self) -> bool
-        ensures { result ≡ (standing self.now).is_change }
+        ensures { result ≡ (flags_of self.now).is_change }
     {
         matches!(
             self,
@@ -209,7 +209,7 @@ impl Cmd {
 
     /// Whether the command can be repeated: a move, or a change that Vi's `.` repeats.
     pub const fn is_repeatable(&self) -> bool
-        ensures { result ≡ (standing self.now).repeats }
+        ensures { result ≡ (flags_of self.now).repeats }
     {
         match self {
             Cmd::Move(_) => true,
@@ -231,7 +231,7 @@ fn copied(alloc: Global, text: &Option<Text>) -> Result<Option<Text>, ReadlineEr
 
 /// The movement with a new count, if one is given and the movement has a count.
 pub(crate) fn recounted(movement: &Movement, new: Option<RepeatCount>) -> Movement
-    ensures { result ≡ recounted new movement.now }
+    ensures { result ≡ movement_with_count new movement.now }
 {
     match movement {
         Movement::WholeLine => Movement::WholeLine,

@@ -23,11 +23,12 @@ pub struct EventContext<'r> {
 }
 
 impl<'r> EventContext<'r> {
-    ghost use Rattle.line_keys.specs.Handling.{seen_in, seen_of};
+    ghost use Rattle.line_keys.specs.Handling.{handler_view_in, handler_view_of};
 
     /// The state of a line, in these modes.
     pub fn new<W: Refresher>(mode: EditMode, input_mode: InputMode, wrt: &'r W) -> Self
-        ensures { seen_in result ≡ seen_of mode input_mode (W.display.shown wrt.now) }
+        ensures { handler_view_in result ≡ handler_view_of mode input_mode
+            (W.display.shown wrt.now) }
     {
         EventContext {
             mode,
@@ -84,7 +85,7 @@ impl<'r> EventContext<'r> {
 
 /// A binding whose command depends on the editor's state.
 pub trait ConditionalEventHandler: Drop {
-    ghost use Rattle.line_keys.specs.Handling.{showing};
+    ghost use Rattle.line_keys.specs.Handling.{handler_arguments};
 
     ghost meaning: { Self → Meaning };
 
@@ -101,7 +102,8 @@ pub trait ConditionalEventHandler: Drop {
         positive: bool,
         ctx: &EventContext<'_>,
     ) -> Result<Option<Cmd>, HookFault>
-        ensures { Replies (meaning self.now (showing evt.now n positive ctx.now)) itself result };
+        ensures { Replies (meaning self.now (handler_arguments evt.now n positive ctx.now)) itself
+            result };
 }
 
 /// The binding of an event.
@@ -115,8 +117,8 @@ pub enum EventHandler {
 
 /// A type that decides on a command: an `EventHandler`, or a stand-in for one.
 pub trait Decides: Drop {
-    ghost use Rattle.line_keys.specs.Answers.{Decides as Decision};
-    ghost use Rattle.line_keys.specs.Handling.{showing};
+    ghost use Rattle.line_keys.specs.CustomBindings.{BindingAnswers as Decision};
+    ghost use Rattle.line_keys.specs.Handling.{handler_arguments};
 
     ghost decides: { Self → Meaning };
 
@@ -130,11 +132,12 @@ pub trait Decides: Drop {
         positive: bool,
         ctx: &EventContext<'_>,
     ) -> Result<Option<Cmd>, ReadlineError>
-        ensures { Decision (decides self.now (showing evt.now n positive ctx.now)) result };
+        ensures { Decision (decides self.now (handler_arguments evt.now n positive ctx.now))
+            result };
 }
 
 impl Decides for EventHandler {
-    ghost use Rattle.line_keys.specs.Answers.{handler_meaning};
+    ghost use Rattle.line_keys.specs.CustomBindings.{handler_meaning};
 
     ghost decides = { handler_meaning (λ b. (ConditionalEventHandler-box b).meaning b.value) };
 

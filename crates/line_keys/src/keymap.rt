@@ -1,17 +1,18 @@
 //! From keys to commands, in Emacs and in Vi mode.
+#![tactic(auto, using(crate::proofs::Steps::calls))]
 
+// The actions of the tables are public: proofs of the crates above go through them.
 pub mod common;
-pub mod count;
+mod count;
 pub mod custom;
 pub mod emacs;
-pub mod quoted;
+mod quoted;
 pub mod vi;
 
 ghost use Rattle.std.specs.Prelude.{◌≡◌, ◌<◌, OnOk, MatchResult, None};
 ghost use Rattle.line_keys.specs.Coming.{key_at};
-ghost use Rattle.line_keys.specs.Feeds.{Key, ReadsBy};
-ghost use Rattle.line_keys.specs.Follows.{Follows};
-ghost use Rattle.line_keys.specs.Requests.{Asks, Begins, IsLater, abort_in, first_request};
+ghost use Rattle.line_keys.specs.KeyFeeds.{Key, ReadsBy};
+ghost use Rattle.line_keys.specs.Requests.{AsksInOrder, Begins, IsLater, abort_in, first_request};
 
 use crate::binding::EventMap;
 use crate::command::{Cmd, InputMode};
@@ -29,19 +30,19 @@ pub struct InputState<'b, D: Decides = EventHandler> {
     pub(crate) mode: EditMode,
     custom_bindings: &'b EventMap<D>,
     pub(crate) input_mode: InputMode,
-    // Vi's last change.
+    /// Vi's last change.
     last_cmd: Cmd,
-    // Vi's last search for a character.
+    /// Vi's last search for a character.
     last_char_search: Option<CharSearch>,
-    // Whether the commands act that go on over several keys.
+    /// Whether the commands act that go on over several keys.
     pub(crate) modal_commands: bool,
 }
 
 impl<'b, D: Decides> InputState<'b, D> {
     ghost use Rattle.line_keys.specs.declared.command.Cmd.TheVariants.{Noop};
     ghost use Rattle.line_keys.specs.declared.command.InputMode.TheVariants.{Command, Insert};
-    ghost use Rattle.line_keys.specs.InputStates.{input_of, custom_in, new_input};
-    ghost use Rattle.line_keys.specs.Phrase.{phrase, phrase_from};
+    ghost use Rattle.line_keys.specs.InputStates.{FollowsOn, input_of, new_input};
+    ghost use Rattle.line_keys.specs.NextPhrase.{phrase, phrase_from};
     ghost use Rattle.line_keys.specs.Modes.{is_emacs, is_vi_command};
 
     /// A state with the mode and the modal commands of the configuration, and an empty memory.
@@ -81,7 +82,6 @@ impl<'b, D: Decides> InputState<'b, D> {
     ///
     /// `single_esc_abort` is passed to the reader. If `ignore_external_print` is set, the first key
     /// is read as a key, otherwise as a report of the terminal.
-    #[tactic(auto, using(crate::proofs::Steps::one_key))]
     pub fn next_cmd<R: RawReader, W: Refresher>(
         &mut self,
         alloc: Global,
@@ -90,10 +90,9 @@ impl<'b, D: Decides> InputState<'b, D> {
         single_esc_abort: bool,
         ignore_external_print: bool,
     ) -> Result<Cmd, ReadlineError>
-        ensures phrase { let custom = custom_in self.old D.decides in
-            let input = input_of self.old in
-            Follows W.display custom (phrase custom input (W.display.shown wrt.old))
-            wrt.old input wrt.new (input_of self.new) (R.feed rdr.old) (R.feed rdr.new) result }
+        ensures phrase { FollowsOn phrase
+            self.old self.new D.decides W.display wrt.old wrt.new
+            (R.feed rdr.old) (R.feed rdr.new) result }
         ensures bindings { self.new.custom_bindings ≡ self.old.custom_bindings }
         ensures asks { let flag = abort_in self.old.mode single_esc_abort in
             let first = first_request flag ignore_external_print in
@@ -105,8 +104,7 @@ impl<'b, D: Decides> InputState<'b, D> {
         self.begun(alloc, rdr, wrt, key)
     }
 
-    // The command that starts with this key.
-    #[tactic(auto, using(crate::proofs::Following::as_follows))]
+    /// The command that starts with this key.
     fn begun<R: RawReader, W: Refresher>(
         &mut self,
         alloc: Global,
@@ -114,12 +112,10 @@ impl<'b, D: Decides> InputState<'b, D> {
         wrt: &mut W,
         key: KeyEvent,
     ) -> Result<Cmd, ReadlineError>
-        ensures phrase { let custom = custom_in self.old D.decides in
-            let input = input_of self.old in
-            let shown = W.display.shown wrt.old in
-            Follows W.display custom (phrase_from input.mode custom input shown key)
-            wrt.old input wrt.new (input_of self.new) (R.feed rdr.old) (R.feed rdr.new) result }
-        ensures asks { Asks R.asked IsLater rdr.old rdr.new }
+        ensures phrase { FollowsOn (λ custom input shown. phrase_from input.mode custom input shown key)
+            self.old self.new D.decides W.display wrt.old wrt.new
+            (R.feed rdr.old) (R.feed rdr.new) result }
+        ensures asks { AsksInOrder R.asked IsLater rdr.old rdr.new }
         ensures bindings { self.new.custom_bindings ≡ self.old.custom_bindings }
     {
         match self.mode {
@@ -128,7 +124,7 @@ impl<'b, D: Decides> InputState<'b, D> {
         }
     }
 
-    // Only Emacs's keys need not wait after Esc.
+    /// Only Emacs's keys need not wait after Esc.
     fn single_esc_abort(&self, single_esc_abort: bool) -> bool
         ensures { result ≡ abort_in self.now.mode single_esc_abort }
     {
@@ -140,7 +136,6 @@ impl<'b, D: Decides> InputState<'b, D> {
 }
 
 /// The first key of a command.
-#[tactic(auto, using(crate::proofs::KeyReads::key_of_press, crate::proofs::KeyReads::no_press))]
 fn first_key<R: RawReader>(
     rdr: &mut R,
     single_esc_abort: bool,

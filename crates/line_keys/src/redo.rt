@@ -3,7 +3,7 @@
 ghost use Rattle.std.specs.Prelude.{◌≡◌, length, min, unwrap_or, []};
 ghost use Rattle.line_keys.specs.declared.command.Cmd.TheVariants.{Noop, Replace};
 ghost use Rattle.line_keys.specs.Commands.{Copied};
-ghost use Rattle.line_keys.specs.Redone.{anew, redone, typed_anew, covered};
+ghost use Rattle.line_keys.specs.Redone.{anew, command_anew, insertion_anew, range_anew};
 
 use crate::command::{Cmd, recounted};
 use crate::refresh::Refresher;
@@ -60,7 +60,7 @@ impl Cmd {
         wrt: &W,
     ) -> Result<Self, ReadlineError>
         ensures { let last = (W.display.shown wrt.now).last_insert in
-            Copied (redone new last self.now) result }
+            Copied (command_anew new last self.now) result }
     {
         let anew = match self {
             Cmd::Dedent(movement) => Cmd::Dedent(recounted(movement, new)),
@@ -82,9 +82,9 @@ impl Cmd {
     }
 }
 
-// The typed character, with the text typed after it.
+/// The typed character, with the text typed after it.
 fn typed(n: RepeatCount, c: char, last: Option<Text>) -> Cmd
-    ensures { result ≡ typed_anew n c last }
+    ensures { result ≡ insertion_anew n c last }
 {
     match last {
         Some(text) => Cmd::Insert(n, text),
@@ -92,9 +92,9 @@ fn typed(n: RepeatCount, c: char, last: Option<Text>) -> Cmd
     }
 }
 
-// A replacement by the text that was typed over it.
+/// A replacement by the text that was typed over it.
 fn typed_over(movement: &Movement, new: Option<RepeatCount>, last: Option<Text>) -> Cmd
-    ensures { result ≡ Replace (covered new last movement.now) last }
+    ensures { result ≡ Replace (range_anew new last movement.now) last }
 {
     let covered = match movement {
         Movement::ForwardChar(0) => Movement::ForwardChar(bytes_in(&last)),
@@ -103,7 +103,7 @@ fn typed_over(movement: &Movement, new: Option<RepeatCount>, last: Option<Text>)
     Cmd::Replace(covered, last)
 }
 
-// The number of bytes of the text, at most the greatest count.
+/// The number of bytes of the text, at most the greatest count.
 fn bytes_in(last: &Option<Text>) -> RepeatCount
     ensures { result ≡ min (length (unwrap_or last.now [])) 65535 }
 {

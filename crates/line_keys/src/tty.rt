@@ -2,7 +2,7 @@
 
 ghost use Rattle.std.specs.Prelude.{◌≡◌, Option};
 ghost use Rattle.line_keys.specs.Coming.{key_at, press_at, paste_at};
-ghost use Rattle.line_keys.specs.Feeds.{KeyFeed, Key, Paste, ReadsBy, SomeRead};
+ghost use Rattle.line_keys.specs.KeyFeeds.{KeyFeed, Key, Paste, ReadsBy, SomeRead};
 ghost use Rattle.line_keys.specs.Requests.{Asked, NextKey, WaitForInput, NextChar, PastedText};
 ghost use Rattle.line_keys.specs.Common.{signal_of};
 

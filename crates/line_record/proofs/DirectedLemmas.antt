@@ -5,7 +5,7 @@ use Rattle.std.specs.List.{prefix_len}
 use Rattle.std.proofs.lemmas.Bool.{ltb-true, ltb-false}
 use Rattle.std.proofs.lemmas.List.{get_or-take, get_or-reverse, length-reverse, length-take-le}
 use Rattle.std.proofs.lemmas.Str.{IsUtf8-take, IsUtf8-drop, IsCharBoundary-start, IsCharBoundary-end, IsCharBoundary-before_ascii, IsCharBoundary-from_rest}
-use Rattle.line_buffer.specs.declared.range.Span.{Span}
+use Rattle.line_buffer.specs.declared.range.TextSpan.{TextSpan}
 use Rattle.line_buffer.specs.declared.types.CharSearch.TheVariants.{Forward as Onto, ForwardBefore, Backward as BackOnto, BackwardAfter}
 use Rattle.line_buffer.specs.declared.types.Direction.TheVariants.{Forward, Backward}
 use Rattle.line_buffer.specs.declared.types.Movement.{Movement}
@@ -23,19 +23,19 @@ use Rattle.line_buffer.proofs.RowLemmas.{prefix_len-stops, row_end-boundary, row
 use Rattle.line_buffer.proofs.StopLemmas.{All-stops_back, All-stops_forward, nth-boundary}
 use Rattle.line_record.specs.Laws.{is_directed}
 
-pub record Onward (l : Line) (span : Span) : Type 0 where
+pub record Onward (l : Line) (span : TextSpan) : Type 0 where
   pub direction : span.direction ≡ Forward
   pub from : span.from ≡ l.place
   pub later : l.place ≤ span.upto
   pub end : IsCharBoundary l.text span.upto
 
-pub record Back (l : Line) (span : Span) : Type 0 where
+pub record Back (l : Line) (span : TextSpan) : Type 0 where
   pub direction : span.direction ≡ Backward
   pub upto : span.upto ≡ l.place
   pub earlier : span.from ≤ l.place
   pub start : IsCharBoundary l.text span.from
 
-abbrev pub IsDirected : Line → Span → Type 0
+abbrev pub IsDirected : Line → TextSpan → Type 0
 IsDirected l span = Onward l span ⊎ Back l span
 
 onward : (l : Line) (upto : ℕ) → l.place ≤ upto → IsCharBoundary l.text upto → IsDirected l (from_cursor upto l)
@@ -48,13 +48,13 @@ some_mapped : {A B : Type 0} (f : A → B) (P : A → Type 0) (Q : B → Type 0)
 some_mapped f P Q None k h = tt
 some_mapped f P Q (Some x) k h = k x h
 
-one_of_two : (l : Line) (a b : Bool) (x y : Span) → (a ≡ true → IsDirected l x) → (a ≡ false → b ≡ true → IsDirected l y)
+one_of_two : (l : Line) (a b : Bool) (x y : TextSpan) → (a ≡ true → IsDirected l x) → (a ≡ false → b ≡ true → IsDirected l y)
     → IfSome (if a then Some x else (if b then Some y else None)) (IsDirected l)
 one_of_two l true b x y p q = p refl
 one_of_two l false true x y p q = q refl refl
 one_of_two l false false x y p q = tt
 
-one_or_none : (l : Line) (a : Bool) (x : Span) → (a ≡ false → IsDirected l x) → IfSome (if a then None else Some x) (IsDirected l)
+one_or_none : (l : Line) (a : Bool) (x : TextSpan) → (a ≡ false → IsDirected l x) → IfSome (if a then None else Some x) (IsDirected l)
 one_or_none l true x p = tt
 one_or_none l false x p = p refl
 

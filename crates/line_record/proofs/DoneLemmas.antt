@@ -5,9 +5,9 @@ use Rattle.std.specs.Prelude.{nat_lt, if◌then◌else◌, unwrap_or, slice_get,
 use Rattle.std.proofs.lemmas.Bool.Decides.{nat_tests}
 use Rattle.std.proofs.lemmas.List.{take-append-drop, take-take, take_at, drop_at, take_min, drop_all, length-reverse, length-drop, length-take-le, reverse-append, reverse-reverse}
 use Rattle.line_record.specs.Change.{Change}
-use Rattle.line_record.specs.Items.{Item, Items, done_held, DoneStand, gathered, group_of, EndedBy, truncated}
+use Rattle.line_record.specs.Items.{Item, Items, items_with_texts, DoneStand, changes_of_all, group_of, EndedBy, first_items}
 use Rattle.line_record.specs.Items.Item.{Open, Lone, Group}
-use Rattle.line_record.specs.Steps.{record_of, oldest_mark, IsRecord, mark_within}
+use Rattle.line_record.specs.LogSteps.{record_of, oldest_mark, IsRecord, mark_within}
 use Rattle.line_record.proofs.EndLemmas.{EndedAs, has_open, gather, gather-reverse, closing, unmarked, ended_nothing, mark_none, none_marked}
 use Rattle.line_record.proofs.StepsLemmas.{newest_item}
 
@@ -109,7 +109,7 @@ kept_reverse xs n =
 
 pub record Kept (items : List Item) (d n kept : ℕ) (mark : Option ℕ) (s : Items) : Type 0 where
   pub is : IsRecord (take kept items) kept (mark_within mark kept)
-  pub value : record_of (take kept items) kept ≡ truncated n s
+  pub value : record_of (take kept items) kept ≡ first_items n s
 
 first_kept : (items : List Item) (d n kept : ℕ) → kept ≡ min n d → d ≤ length items → take kept items ≡ take n (take d items)
 first_kept items d n kept is h =
@@ -131,7 +131,7 @@ kept_first items d n kept mark s view is h =
             ∙ ap oldest_mark (sym left ∙ ap reverse (sym again));
       };
       value = record_same (reverse (take kept (take kept items))) (drop kept (take kept items)) (drop (length done - n) done) [] (ap reverse again ∙ left) (drop_all kept (take kept items) (omega (arith, count)))
-          ∙ ap (truncated n) view;
+          ∙ ap (first_items n) view;
     }
 
 -- the marks are closed
@@ -161,8 +161,8 @@ mark_split (Group c cs ∷ items) i e =
 pub mark_below : (items : List Item) (n i : ℕ) → IsRecord items n (Some i) → i < n
 mark_below items n i h = omega (arith, mark_bound (reverse (take n items)) i (sym h.marked), count_done items n h.inside)
 
-pub closed_marks : (items new : List Item) (n i : ℕ) (closed : Bool) → IsRecord items n (Some i) → closed ≡ is_some (slice_get (gathered (drop i (take n items))) 0)
-    → reverse new ≡ group_of (gathered (drop i (take n items))) (reverse (take i items)) → (text : List ℕ) → EndedBy closed (reverse (take n items)) (reverse new) text
+pub closed_marks : (items new : List Item) (n i : ℕ) (closed : Bool) → IsRecord items n (Some i) → closed ≡ is_some (slice_get (changes_of_all (drop i (take n items))) 0)
+    → reverse new ≡ group_of (changes_of_all (drop i (take n items))) (reverse (take i items)) → (text : List ℕ) → EndedBy closed (reverse (take n items)) (reverse new) text
 closed_marks items new n i closed h answer left text =
     let below : i < n = mark_below items n i h in
     let s = mark_split (reverse (take n items)) i (sym h.marked) in
@@ -172,14 +172,14 @@ closed_marks items new n i closed h answer left text =
     let count : length (reverse s.older) ≡ i = length-reverse s.older ∙ s.count in
     let back : drop i (take n items) ≡ Open ∷ reverse s.newer = ap (drop i) first ∙ drop_at (reverse s.older) (Open ∷ reverse s.newer) i count in
     let front : take i items ≡ reverse s.older = sym (take-take i n items (omega (arith, below))) ∙ ap (take i) first ∙ take_at (reverse s.older) (Open ∷ reverse s.newer) i count in
-    let group : gathered (drop i (take n items)) ≡ gather s.newer = ap gathered back ∙ sym (gather-reverse (reverse s.newer)) ∙ ap gather (reverse-reverse s.newer) in
+    let group : changes_of_all (drop i (take n items)) ≡ gather s.newer = ap changes_of_all back ∙ sym (gather-reverse (reverse s.newer)) ∙ ap gather (reverse-reverse s.newer) in
     let older : reverse (take i items) ≡ s.older = ap reverse front ∙ reverse-reverse s.older in
     let e : EndedAs (reverse (take n items)) (gather s.newer) (group_of (gather s.newer) s.older) text =
     subst (λ xs. EndedAs xs (gather s.newer) (group_of (gather s.newer) s.older) text) (sym s.whole) (closing s.newer s.older text s.free) in
     let after : reverse new ≡ group_of (gather s.newer) s.older = left ∙ ap (λ g. group_of g (reverse (take i items))) group ∙ ap (group_of (gather s.newer)) older in
     record {
       answer = answer ∙ ap (λ g. is_some (slice_get g 0)) group ∙ e.closes;
-      held = ap (λ xs. done_held xs text) after ∙ e.held;
+      held = ap (λ xs. items_with_texts xs text) after ∙ e.held;
       stand = λ k. subst (λ xs. DoneStand xs text) (sym after) (e.stand k);
     }
 
@@ -187,7 +187,7 @@ group_unmarked : (group : List Change) (older : List Item) → oldest_mark older
 group_unmarked [] older h = h
 group_unmarked (c ∷ cs) older h = h
 
-pub closed_unmarked : (items new : List Item) (n i : ℕ) → IsRecord items n (Some i) → reverse new ≡ group_of (gathered (drop i (take n items))) (reverse (take i items)) → oldest_mark (reverse new) ≡ None
+pub closed_unmarked : (items new : List Item) (n i : ℕ) → IsRecord items n (Some i) → reverse new ≡ group_of (changes_of_all (drop i (take n items))) (reverse (take i items)) → oldest_mark (reverse new) ≡ None
 closed_unmarked items new n i h left =
     let below : i < n = mark_below items n i h in
     let s = mark_split (reverse (take n items)) i (sym h.marked) in
@@ -196,8 +196,8 @@ closed_unmarked items new n i h left =
     ∙ append_assoc (reverse s.older) (Open ∷ []) (reverse s.newer) in
     let count : length (reverse s.older) ≡ i = length-reverse s.older ∙ s.count in
     let front : take i items ≡ reverse s.older = sym (take-take i n items (omega (arith, below))) ∙ ap (take i) first ∙ take_at (reverse s.older) (Open ∷ reverse s.newer) i count in
-    ap oldest_mark (left ∙ ap (group_of (gathered (drop i (take n items)))) (ap reverse front ∙ reverse-reverse s.older))
-    ∙ group_unmarked (gathered (drop i (take n items))) s.older (none_marked s.older s.free)
+    ap oldest_mark (left ∙ ap (group_of (changes_of_all (drop i (take n items)))) (ap reverse front ∙ reverse-reverse s.older))
+    ∙ group_unmarked (changes_of_all (drop i (take n items))) s.older (none_marked s.older s.free)
 
 pub no_marks : (items new : List Item) (n : ℕ) → IsRecord items n None → new ≡ take n items → (text : List ℕ) → EndedBy false (reverse (take n items)) (reverse new) text
 no_marks items new n h same text =

@@ -2,12 +2,12 @@
 use Rattle.std.proofs.Common.{◌≡◌, ℕ, zero, suc, take, ◌||◌, Bool, true, false, List, [], ◌∷◌, ◌++◌, reverse, refl, sym, ap, subst, ◌∙◌, None, append_assoc}
 use Rattle.std.specs.Prelude.{if◌then◌else◌, is_some, slice_get}
 use Rattle.std.proofs.lemmas.List.{append-nil, reverse-append}
-use Rattle.line_record.specs.Change.{Change, newest_of, all_taken_back, AllStandIn, undo_place, taken_back, StandsIn}
-use Rattle.line_record.specs.Held.{Held, has_mark, closes, grouped, ended}
-use Rattle.line_record.specs.Held.Held.{Stepped}
-use Rattle.line_record.specs.Items.{Item, changes_of, before_item, done_held, DoneStand, gathered, group_of, last_changes, EndedBy}
+use Rattle.line_record.specs.Change.{Change, newest_of, all_taken_back, AllStandIn, undo_place, text_after_undo, StandsIn}
+use Rattle.line_record.specs.Held.{HeldItem, has_mark, closes, group_with_change, record_after_close}
+use Rattle.line_record.specs.Held.HeldItem.{Stepped}
+use Rattle.line_record.specs.Items.{Item, changes_of, before_item, items_with_texts, DoneStand, changes_of_all, group_of, last_changes, EndedBy}
 use Rattle.line_record.specs.Items.Item.{Open, Lone, Group}
-use Rattle.line_record.specs.Steps.{oldest_mark, is_open, item_from}
+use Rattle.line_record.specs.LogSteps.{oldest_mark, is_open, item_from}
 
 pub has_open : List Item → Bool
 has_open [] = false
@@ -20,7 +20,7 @@ gather (x ∷ items) = gather items ++ changes_of x
 
 all_taken_back-append : (cs ds : List Change) (text : List ℕ) → all_taken_back (cs ++ ds) text ≡ all_taken_back cs (all_taken_back ds text)
 all_taken_back-append [] ds text = refl
-all_taken_back-append (c ∷ cs) ds text = ap (taken_back c) (all_taken_back-append cs ds text)
+all_taken_back-append (c ∷ cs) ds text = ap (text_after_undo c) (all_taken_back-append cs ds text)
 
 AllStandIn-append : (cs ds : List Change) (text : List ℕ) → AllStandIn cs (all_taken_back ds text) → AllStandIn ds text → AllStandIn (cs ++ ds) text
 AllStandIn-append [] ds text h k = k
@@ -32,72 +32,72 @@ newest_of-append g c (h ∷ gs) cs = newest_of-append h c gs cs
 
 -- what closing a group leaves
 pub record EndedAs (items : List Item) (group : List Change) (after : List Item) (text : List ℕ) : Type 0 where
-  pub held : done_held after text ≡ ended (done_held items text)
-  pub closes : is_some (slice_get group 0) ≡ closes (done_held items text)
+  pub held : items_with_texts after text ≡ record_after_close (items_with_texts items text)
+  pub closes : is_some (slice_get group 0) ≡ closes (items_with_texts items text)
   pub stand : DoneStand items text → DoneStand after text
 
-free_mark : (items : List Item) (text : List ℕ) → has_open items ≡ false → has_mark (done_held items text) ≡ false
+free_mark : (items : List Item) (text : List ℕ) → has_open items ≡ false → has_mark (items_with_texts items text) ≡ false
 unfolding has_open
 free_mark [] text h = refl
 free_mark (Open ∷ items) text h = cc
 free_mark (Lone c ∷ items) text h = free_mark items (before_item (Lone c) text) h
 free_mark (Group c cs ∷ items) text h = free_mark items (before_item (Group c cs) text) h
 
-marked : (newer older : List Item) (text : List ℕ) → has_mark (done_held (newer ++ (Open ∷ older)) text) ≡ true
+marked : (newer older : List Item) (text : List ℕ) → has_mark (items_with_texts (newer ++ (Open ∷ older)) text) ≡ true
 marked [] older text = refl
 marked (Open ∷ newer) older text = refl
 marked (Lone c ∷ newer) older text = marked newer older (before_item (Lone c) text)
 marked (Group c cs ∷ newer) older text = marked newer older (before_item (Group c cs) text)
 
 -- a step ends by what is held below it
-ended_step : Bool → Bool → List ℕ → ℕ → Change → Bool → List Held → List Held → List Held
+ended_step : Bool → Bool → List ℕ → ℕ → Change → Bool → List HeldItem → List HeldItem → List HeldItem
 ended_step a b text place newest joinable held below =
-    if a then grouped newest below else if b then Stepped text place newest false ∷ below else Stepped text place newest joinable ∷ held
+    if a then group_with_change newest below else if b then Stepped text place newest false ∷ below else Stepped text place newest joinable ∷ held
 
-ended_step_is : (text : List ℕ) (place : ℕ) (newest : Change) (joinable : Bool) (held below : List Held) (a b : Bool) → closes held ≡ a → has_mark held ≡ b → ended held ≡ below
-    → ended (Stepped text place newest joinable ∷ held) ≡ ended_step a b text place newest joinable held below
+ended_step_is : (text : List ℕ) (place : ℕ) (newest : Change) (joinable : Bool) (held below : List HeldItem) (a b : Bool) → closes held ≡ a → has_mark held ≡ b → record_after_close held ≡ below
+    → record_after_close (Stepped text place newest joinable ∷ held) ≡ ended_step a b text place newest joinable held below
 unfolding ended_step
 ended_step_is text place newest joinable held below a b x y z =
-    ap (λ k. ended_step k (has_mark held) text place newest joinable held (ended held)) x
-    ∙ ap (λ k. ended_step a k text place newest joinable held (ended held)) y
+    ap (λ k. ended_step k (has_mark held) text place newest joinable held (record_after_close held)) x
+    ∙ ap (λ k. ended_step a k text place newest joinable held (record_after_close held)) y
     ∙ ap (ended_step a b text place newest joinable held) z
 
-free_closes : (items : List Item) (text : List ℕ) → has_open items ≡ false → closes (done_held items text) ≡ false
+free_closes : (items : List Item) (text : List ℕ) → has_open items ≡ false → closes (items_with_texts items text) ≡ false
 unfolding has_open
 free_closes [] text h = refl
 free_closes (Open ∷ items) text h = cc
 free_closes (Lone c ∷ items) text h = free_mark items (before_item (Lone c) text) h
 free_closes (Group c cs ∷ items) text h = free_mark items (before_item (Group c cs) text) h
 
-free_ended : (items : List Item) (text : List ℕ) → has_open items ≡ false → ended (done_held items text) ≡ done_held items text
+free_ended : (items : List Item) (text : List ℕ) → has_open items ≡ false → record_after_close (items_with_texts items text) ≡ items_with_texts items text
 unfolding has_open ended_step
 free_ended [] text h = refl
 free_ended (Open ∷ items) text h = cc
 free_ended (Lone c ∷ items) text h =
     let t = before_item (Lone c) text in
-    ended_step_is t (undo_place c) c true (done_held items t) _ false false (free_closes items t h) (free_mark items t h) refl
+    ended_step_is t (undo_place c) c true (items_with_texts items t) _ false false (free_closes items t h) (free_mark items t h) refl
 free_ended (Group c cs ∷ items) text h =
     let t = before_item (Group c cs) text in
-    ended_step_is t (undo_place c) (newest_of c cs) false (done_held items t) _ false false (free_closes items t h) (free_mark items t h) refl
+    ended_step_is t (undo_place c) (newest_of c cs) false (items_with_texts items t) _ false false (free_closes items t h) (free_mark items t h) refl
 
 pub unmarked : (items : List Item) (text : List ℕ) → has_open items ≡ false → EndedAs items [] items text
 unmarked items text h = record { held = sym (free_ended items text h); closes = sym (free_closes items text h); stand = λ k. k }
 
 -- one more step of the group, on the changes that were gathered below it
-closing_step : (c : Change) (cs group : List Change) (joinable : Bool) (rest older : List Item) (text : List ℕ) → has_mark (done_held rest (all_taken_back (c ∷ cs) text)) ≡ true
+closing_step : (c : Change) (cs group : List Change) (joinable : Bool) (rest older : List Item) (text : List ℕ) → has_mark (items_with_texts rest (all_taken_back (c ∷ cs) text)) ≡ true
     → EndedAs rest group (group_of group older) (all_taken_back (c ∷ cs) text)
-    → done_held (group_of (group ++ (c ∷ cs)) older) text
-    ≡ ended (Stepped (all_taken_back (c ∷ cs) text) (undo_place c) (newest_of c cs) joinable ∷ done_held rest (all_taken_back (c ∷ cs) text))
+    → items_with_texts (group_of (group ++ (c ∷ cs)) older) text
+    ≡ record_after_close (Stepped (all_taken_back (c ∷ cs) text) (undo_place c) (newest_of c cs) joinable ∷ items_with_texts rest (all_taken_back (c ∷ cs) text))
 unfolding ended_step
 closing_step c cs [] joinable rest older text m e =
     let t = all_taken_back (c ∷ cs) text in
-    sym (ended_step_is t (undo_place c) (newest_of c cs) joinable (done_held rest t) _ false true (sym e.closes) m (sym e.held))
+    sym (ended_step_is t (undo_place c) (newest_of c cs) joinable (items_with_texts rest t) _ false true (sym e.closes) m (sym e.held))
 closing_step c cs (g ∷ gs) joinable rest older text m e =
     let t = all_taken_back (c ∷ cs) text in
     let below : all_taken_back (gs ++ (c ∷ cs)) text ≡ all_taken_back gs t = all_taken_back-append gs (c ∷ cs) text in
-    ap (λ u. Stepped (taken_back g u) (undo_place g) (newest_of g (gs ++ (c ∷ cs))) false ∷ done_held older (taken_back g u)) below
-    ∙ ap (λ n. Stepped (taken_back g (all_taken_back gs t)) (undo_place g) n false ∷ done_held older (taken_back g (all_taken_back gs t))) (newest_of-append g c gs cs)
-    ∙ sym (ended_step_is t (undo_place c) (newest_of c cs) joinable (done_held rest t) _ true true (sym e.closes) m (sym e.held))
+    ap (λ u. Stepped (text_after_undo g u) (undo_place g) (newest_of g (gs ++ (c ∷ cs))) false ∷ items_with_texts older (text_after_undo g u)) below
+    ∙ ap (λ n. Stepped (text_after_undo g (all_taken_back gs t)) (undo_place g) n false ∷ items_with_texts older (text_after_undo g (all_taken_back gs t))) (newest_of-append g c gs cs)
+    ∙ sym (ended_step_is t (undo_place c) (newest_of c cs) joinable (items_with_texts rest t) _ true true (sym e.closes) m (sym e.held))
 
 closing_stand : (c : Change) (cs group : List Change) (rest older : List Item) (text : List ℕ) → EndedAs rest group (group_of group older) (all_taken_back (c ∷ cs) text)
     → AllStandIn (c ∷ cs) text → DoneStand rest (all_taken_back (c ∷ cs) text) → DoneStand (group_of (group ++ (c ∷ cs)) older) text
@@ -139,7 +139,7 @@ unfolding gather
 gather-push [] x = sym (append-nil (changes_of x))
 gather-push (y ∷ items) x = ap (λ cs. cs ++ changes_of y) (gather-push items x) ∙ append_assoc (changes_of x) (gather items) (changes_of y)
 
-pub gather-reverse : (items : List Item) → gather (reverse items) ≡ gathered items
+pub gather-reverse : (items : List Item) → gather (reverse items) ≡ changes_of_all items
 unfolding gather
 gather-reverse [] = refl
 gather-reverse (x ∷ items) = ap gather (reverse-append (x ∷ []) items) ∙ gather-push (reverse items) x ∙ ap (λ cs. changes_of x ++ cs) (gather-reverse items)

@@ -4,7 +4,7 @@ use Rattle.std.specs.Prelude.{IsUtf8, IsCharBoundary}
 use Rattle.std.proofs.Math.Seq.{take-append_seam, drop-append_seam, drop-append-add}
 use Rattle.std.proofs.lemmas.List.{take-append-drop, length-take-le, drop-drop}
 use Rattle.std.proofs.lemmas.Str.{IsUtf8-nil, IsUtf8-append, IsUtf8-take, IsUtf8-drop, IsUtf8-between, IsCharBoundary-at_seam}
-use Rattle.line_record.specs.Change.{StandsAt, exchanged_at}
+use Rattle.line_record.specs.Change.{StandsAt, text_with_exchange}
 
 -- a text in three parts, the first two of which end between characters
 pub record Parts (at : ℕ) (part text : List ℕ) : Type 0 where
@@ -16,7 +16,7 @@ pub record Parts (at : ℕ) (part text : List ℕ) : Type 0 where
   pub rest_utf8 : IsUtf8 rest
   pub part_utf8 : IsUtf8 part
 
-exchanged_parts : (front part rest other : List ℕ) → exchanged_at (length front) part other (front ++ (part ++ rest)) ≡ front ++ (other ++ rest)
+exchanged_parts : (front part rest other : List ℕ) → text_with_exchange (length front) part other (front ++ (part ++ rest)) ≡ front ++ (other ++ rest)
 exchanged_parts front part rest other =
     let a : take (length front) (front ++ (part ++ rest)) ≡ front = take-append_seam front (part ++ rest) in
     let b : drop (length front + length part) (front ++ (part ++ rest)) ≡ rest = drop-append-add front (part ++ rest) (length part) ∙ drop-append_seam part rest in
@@ -50,32 +50,32 @@ parts_of at part other text s u =
 
 -- the text after an exchange, from which it can be exchanged back
 pub record Exchanged (at : ℕ) (from to text : List ℕ) : Type 0 where
-  pub stand : StandsAt at to from (exchanged_at at from to text)
-  pub back : exchanged_at at to from (exchanged_at at from to text) ≡ text
-  pub utf8 : IsUtf8 (exchanged_at at from to text)
+  pub stand : StandsAt at to from (text_with_exchange at from to text)
+  pub back : text_with_exchange at to from (text_with_exchange at from to text) ≡ text
+  pub utf8 : IsUtf8 (text_with_exchange at from to text)
 
 pub exchanged : (at : ℕ) (from to text : List ℕ) → StandsAt at from to text → IsUtf8 text → Exchanged at from to text
 exchanged at from to text s u =
     let p = parts_of at from to text s u in
-    let now : exchanged_at at from to text ≡ p.front ++ (to ++ p.rest) =
-    ap (exchanged_at at from to) p.whole ∙ ap (λ k. exchanged_at k from to (p.front ++ (from ++ p.rest))) (sym p.place) ∙ exchanged_parts p.front from p.rest to in
+    let now : text_with_exchange at from to text ≡ p.front ++ (to ++ p.rest) =
+    ap (text_with_exchange at from to) p.whole ∙ ap (λ k. text_with_exchange k from to (p.front ++ (from ++ p.rest))) (sym p.place) ∙ exchanged_parts p.front from p.rest to in
     record {
       stand = subst (λ t. StandsAt at to from t) (sym now) (subst (λ k. StandsAt k to from (p.front ++ (to ++ p.rest))) p.place (stand_parts p.front to p.rest from s.utf8 p.rest_utf8 p.part_utf8));
-      back = ap (exchanged_at at to from) now ∙ ap (λ k. exchanged_at k to from (p.front ++ (to ++ p.rest))) (sym p.place) ∙ exchanged_parts p.front to p.rest from ∙ sym p.whole;
+      back = ap (text_with_exchange at to from) now ∙ ap (λ k. text_with_exchange k to from (p.front ++ (to ++ p.rest))) (sym p.place) ∙ exchanged_parts p.front to p.rest from ∙ sym p.whole;
       utf8 = subst IsUtf8 (sym now) (IsUtf8-append p.front (to ++ p.rest) p.front_utf8 (IsUtf8-append to p.rest s.utf8 p.rest_utf8));
     }
 
 -- an exchange of `other` for `more` right after `now`, which stands where `was` stood: both are one exchange
 pub record Joined (at : ℕ) (was now longer_was longer_now before after : List ℕ) (place : ℕ) : Type 0 where
   pub stand : StandsAt place longer_now longer_was after
-  pub back : exchanged_at place longer_now longer_was after ≡ exchanged_at at now was before
+  pub back : text_with_exchange place longer_now longer_was after ≡ text_with_exchange at now was before
 
 joined_parts : (front now other rest was more : List ℕ) → IsUtf8 now → IsUtf8 rest → IsUtf8 was → IsUtf8 other → IsUtf8 more
     → Joined (length front) was now (was ++ other) (now ++ more) (front ++ (now ++ (other ++ rest))) (front ++ (now ++ (more ++ rest))) (length front)
 joined_parts front now other rest was more un ur uw uo um = record {
   stand = subst (λ t. StandsAt (length front) (now ++ more) (was ++ other) (front ++ t)) (append_assoc now more rest)
       (stand_parts front (now ++ more) rest (was ++ other) (IsUtf8-append now more un um) ur (IsUtf8-append was other uw uo));
-  back = ap (λ t. exchanged_at (length front) (now ++ more) (was ++ other) (front ++ t)) (sym (append_assoc now more rest))
+  back = ap (λ t. text_with_exchange (length front) (now ++ more) (was ++ other) (front ++ t)) (sym (append_assoc now more rest))
       ∙ exchanged_parts front (now ++ more) rest (was ++ other)
       ∙ ap (λ t. front ++ t) (append_assoc was other rest)
       ∙ sym (exchanged_parts front now (other ++ rest) was);
@@ -90,19 +90,19 @@ at_part : (at : ℕ) (part text : List ℕ) → (p : Parts at part text) → dro
 at_part at part text p = ap (λ k. drop k text) (sym p.place) ∙ ap (drop (length p.front)) p.whole ∙ drop-append_seam p.front (part ++ p.rest)
 
 pub joined_right : (at : ℕ) (was now other more before : List ℕ) → StandsAt at now was before → IsUtf8 before → StandsAt (at + length now) other more before
-    → Joined at was now (was ++ other) (now ++ more) before (exchanged_at (at + length now) other more before) at
+    → Joined at was now (was ++ other) (now ++ more) before (text_with_exchange (at + length now) other more before) at
 joined_right at was now other more before s u t =
     let p = parts_of at now was before s u in
     let q = parts_of (at + length now) other more before t u in
     let behind : p.rest ≡ other ++ q.rest = sym (after_part at now before p) ∙ at_part (at + length now) other before q in
     let whole : before ≡ p.front ++ (now ++ (other ++ q.rest)) = p.whole ∙ ap (λ r. p.front ++ (now ++ r)) behind in
     let seam : at + length now ≡ length (p.front ++ now) = sym (length-append p.front now ∙ ap (λ k. k + length now) p.place) in
-    let after : exchanged_at (at + length now) other more before ≡ p.front ++ (now ++ (more ++ q.rest)) =
-    ap (exchanged_at (at + length now) other more) (whole ∙ sym (append_assoc p.front now (other ++ q.rest)))
-    ∙ ap (λ k. exchanged_at k other more ((p.front ++ now) ++ (other ++ q.rest))) seam
+    let after : text_with_exchange (at + length now) other more before ≡ p.front ++ (now ++ (more ++ q.rest)) =
+    ap (text_with_exchange (at + length now) other more) (whole ∙ sym (append_assoc p.front now (other ++ q.rest)))
+    ∙ ap (λ k. text_with_exchange k other more ((p.front ++ now) ++ (other ++ q.rest))) seam
     ∙ exchanged_parts (p.front ++ now) other q.rest more
     ∙ append_assoc p.front now (more ++ q.rest) in
-    subst (λ b. Joined at was now (was ++ other) (now ++ more) b (exchanged_at (at + length now) other more before) at) (sym whole)
+    subst (λ b. Joined at was now (was ++ other) (now ++ more) b (text_with_exchange (at + length now) other more before) at) (sym whole)
     (subst (λ a. Joined at was now (was ++ other) (now ++ more) (p.front ++ (now ++ (other ++ q.rest))) a at) (sym after)
     (subst (λ k. Joined k was now (was ++ other) (now ++ more) (p.front ++ (now ++ (other ++ q.rest))) (p.front ++ (now ++ (more ++ q.rest))) k) p.place
     (joined_parts p.front now other q.rest was more p.part_utf8 q.rest_utf8 s.utf8 q.part_utf8 t.utf8)))
@@ -116,17 +116,17 @@ joined_left_parts front other rest was ur uw uo = record {
       ∙ ap (λ t. front ++ t) (append_assoc other was rest)
       ∙ sym (append_assoc front other (was ++ rest))
       ∙ sym (exchanged_parts (front ++ other) [] rest was)
-      ∙ ap (exchanged_at (length (front ++ other)) [] was) (append_assoc front other rest);
+      ∙ ap (text_with_exchange (length (front ++ other)) [] was) (append_assoc front other rest);
 }
 
 pub joined_left : (at place : ℕ) (was other before : List ℕ) → StandsAt place [] was before → IsUtf8 before → StandsAt at other [] before → at + length other ≡ place
-    → Joined place was [] (other ++ was) [] before (exchanged_at at other [] before) at
+    → Joined place was [] (other ++ was) [] before (text_with_exchange at other [] before) at
 joined_left at place was other before s u t e =
     let q = parts_of at other [] before t u in
     let seam : length (q.front ++ other) ≡ place = length-append q.front other ∙ ap (λ k. k + length other) q.place ∙ e in
-    let after : exchanged_at at other [] before ≡ q.front ++ q.rest =
-    ap (exchanged_at at other []) q.whole ∙ ap (λ k. exchanged_at k other [] (q.front ++ (other ++ q.rest))) (sym q.place) ∙ exchanged_parts q.front other q.rest [] in
-    subst (λ b. Joined place was [] (other ++ was) [] b (exchanged_at at other [] before) at) (sym q.whole)
+    let after : text_with_exchange at other [] before ≡ q.front ++ q.rest =
+    ap (text_with_exchange at other []) q.whole ∙ ap (λ k. text_with_exchange k other [] (q.front ++ (other ++ q.rest))) (sym q.place) ∙ exchanged_parts q.front other q.rest [] in
+    subst (λ b. Joined place was [] (other ++ was) [] b (text_with_exchange at other [] before) at) (sym q.whole)
     (subst (λ a. Joined place was [] (other ++ was) [] (q.front ++ (other ++ q.rest)) a at) (sym after)
     (subst (λ k. Joined place was [] (other ++ was) [] (q.front ++ (other ++ q.rest)) (q.front ++ q.rest) k) q.place
     (subst (λ k. Joined k was [] (other ++ was) [] (q.front ++ (other ++ q.rest)) (q.front ++ q.rest) (length q.front)) seam

@@ -6,9 +6,9 @@ use Rattle.std.proofs.lemmas.List.{append-nil, drop_all, take_all, take_at, take
 use Rattle.std.proofs.lemmas.Str.{IsUtf8-drop, IsCharBoundary-at_seam}
 use borrow.Rule.Slice.PartMut.{post_of}
 use Rattle.line_buffer.specs.Line.{Line}
-use Rattle.line_record.specs.Change.{Change, StandsAt, exchanged_at}
-use Rattle.line_record.specs.Gap.{seamed, detached, taking_over}
-use Rattle.line_record.specs.Items.{Items, taken_back_in, made_anew_in, lines_back, lines_ahead, UndoesItems, last_changes}
+use Rattle.line_record.specs.Change.{Change, StandsAt, text_with_exchange}
+use Rattle.line_record.specs.Gap.{text_around_gap, without_limits, with_text_of}
+use Rattle.line_record.specs.Items.{Items, line_after_undo, line_after_redo, lines_back, lines_ahead, UndoesItems, last_changes}
 use Rattle.line_record.proofs.Exchange.{exchanged}
 
 -- a list whose second part was turned round, as a vector sees it
@@ -30,15 +30,15 @@ last_part xs d size count is long =
     take_all (length d - (size - count)) (drop (size - count) d) (omega (arith, length-drop (size - count) d)) ∙ ap (drop (size - count)) is ∙ ap (λ n. drop (n - count) xs) long
 
 -- the seam after it
-pub moved_on : (xs ys : List ℕ) (to size : ℕ) → size ≡ length xs → size ≤ to → to ≤ length (seamed xs ys)
-    → (xs ++ reverse (drop (length ys - (to - size)) ys) ≡ take to (seamed xs ys)) × (reverse (take (length ys - (to - size)) ys) ≡ drop to (seamed xs ys))
+pub moved_on : (xs ys : List ℕ) (to size : ℕ) → size ≡ length xs → size ≤ to → to ≤ length (text_around_gap xs ys)
+    → (xs ++ reverse (drop (length ys - (to - size)) ys) ≡ take to (text_around_gap xs ys)) × (reverse (take (length ys - (to - size)) ys) ≡ drop to (text_around_gap xs ys))
 moved_on xs ys to size is more inside =
     let n = length ys - (to - size) in
     let kept = take n ys in
     let passed = drop n ys in
     let parts : kept ++ passed ≡ ys = take-append-drop n ys in
     let turned : reverse ys ≡ reverse passed ++ reverse kept = ap reverse (sym parts) ∙ reverse-append kept passed in
-    let whole : seamed xs ys ≡ (xs ++ reverse passed) ++ reverse kept = ap (λ l. xs ++ l) turned ∙ sym (append_assoc xs (reverse passed) (reverse kept)) in
+    let whole : text_around_gap xs ys ≡ (xs ++ reverse passed) ++ reverse kept = ap (λ l. xs ++ l) turned ∙ sym (append_assoc xs (reverse passed) (reverse kept)) in
     let long : length (xs ++ reverse passed) ≡ to =
     omega (arith, is, more, inside, length-append xs (reverse passed), length-reverse passed, length-drop n ys, length-append xs (reverse ys), length-reverse ys) in (
       sym (ap (take to) whole ∙ ap (λ k. take k ((xs ++ reverse passed) ++ reverse kept)) (sym long) ∙ take-append_seam (xs ++ reverse passed) (reverse kept)),
@@ -47,40 +47,40 @@ moved_on xs ys to size is more inside =
 
 -- a text before the seam exchanged for another
 pub record Seam (front after : List ℕ) : Type 0 where
-  pub utf8 : IsUtf8 (seamed front after)
-  pub place : IsCharBoundary (seamed front after) (length front)
+  pub utf8 : IsUtf8 (text_around_gap front after)
+  pub place : IsCharBoundary (text_around_gap front after) (length front)
 
 pub seam_exchanged : (at upto : ℕ) (from to text front after : List ℕ) → upto ≡ at + length from → front ≡ take at (take upto text) ++ to → reverse after ≡ drop upto text
     → StandsAt at from to text → IsUtf8 text → Seam front after
 seam_exchanged at upto from to text front after is before behind s u =
     let first : take at (take upto text) ≡ take at text = take-take at upto text (omega (arith, is)) in
-    let whole : seamed front after ≡ exchanged_at at from to text =
+    let whole : text_around_gap front after ≡ text_with_exchange at from to text =
     ap (λ l. l ++ reverse after) (before ∙ ap (λ l. l ++ to) first) ∙ ap (λ l. (take at text ++ to) ++ l) (behind ∙ ap (λ k. drop k text) is) in
     let rest : IsUtf8 (reverse after) = subst IsUtf8 (sym (behind ∙ ap (λ k. drop k text) is)) (IsUtf8-drop text (at + length from) u s.end) in
     record {
       utf8 = subst IsUtf8 (sym whole) (exchanged at from to text s u).utf8;
-      place = IsCharBoundary-at_seam (seamed front after) front (reverse after) refl rest;
+      place = IsCharBoundary-at_seam (text_around_gap front after) front (reverse after) refl rest;
     }
 
 -- the seam moved alone
-pub seam_moved : (upto : ℕ) (text front after : List ℕ) → front ≡ take upto text → reverse after ≡ drop upto text → seamed front after ≡ text
+pub seam_moved : (upto : ℕ) (text front after : List ℕ) → front ≡ take upto text → reverse after ≡ drop upto text → text_around_gap front after ≡ text
 seam_moved upto text front after before behind =
     ap (λ l. l ++ reverse after) before ∙ ap (λ l. take upto text ++ l) behind ∙ take-append-drop upto text
 
 -- a line that takes over what was made of its text and cursor alone
-back_over : (cs : List Change) (l m : Line) → lines_back cs (taking_over l m) ≡ taking_over l (lines_back cs m)
+back_over : (cs : List Change) (l m : Line) → lines_back cs (with_text_of l m) ≡ with_text_of l (lines_back cs m)
 back_over [] l m = refl
-back_over (c ∷ cs) l m = ap (taken_back_in c) (back_over cs l m)
+back_over (c ∷ cs) l m = ap (line_after_undo c) (back_over cs l m)
 
-ahead_over : (cs : List Change) (l m : Line) → lines_ahead cs (taking_over l m) ≡ taking_over l (lines_ahead cs m)
+ahead_over : (cs : List Change) (l m : Line) → lines_ahead cs (with_text_of l m) ≡ with_text_of l (lines_ahead cs m)
 ahead_over [] l m = refl
-ahead_over (c ∷ cs) l m = ahead_over cs l (made_anew_in c m)
+ahead_over (c ∷ cs) l m = ahead_over cs l (line_after_redo c m)
 
-pub back_apart : (cs : List Change) (l : Line) → taking_over l (lines_back cs (detached l)) ≡ lines_back cs l
-back_apart cs l = sym (back_over cs l (detached l))
+pub back_apart : (cs : List Change) (l : Line) → with_text_of l (lines_back cs (without_limits l)) ≡ lines_back cs l
+back_apart cs l = sym (back_over cs l (without_limits l))
 
-pub ahead_apart : (cs : List Change) (l : Line) → taking_over l (lines_ahead cs (detached l)) ≡ lines_ahead cs l
-ahead_apart cs l = sym (ahead_over cs l (detached l))
+pub ahead_apart : (cs : List Change) (l : Line) → with_text_of l (lines_ahead cs (without_limits l)) ≡ lines_ahead cs l
+ahead_apart cs l = sym (ahead_over cs l (without_limits l))
 
 -- a failure that leaves the line as it was: none of the changes is undone
 pub nothing_undone : {E : Type 0} (n : ℕ) (old new : Items) (before after : Line) (e : E) (result : Result Bool E) → IsErrAnd result (λ x. x ≡ e) → 0 < length (last_changes n old.done) → after ≡ before

@@ -8,22 +8,22 @@ use Rattle.std.proofs.Math.Seq.{get_or-append_seam}
 use Rattle.std.proofs.lemmas.Str.{IsUtf8-nil, IsUtf8-append, IsUtf8-between}
 use Rattle.std.proofs.lemmas.Bool.{eqb-true, ltb-true, ltb-false}
 use Rattle.std.proofs.lemmas.Bool.Decides.{nat_tests}
-use Rattle.line_buffer.specs.declared.range.Span.{Span}
+use Rattle.line_buffer.specs.declared.range.TextSpan.{TextSpan}
 use Rattle.line_buffer.specs.declared.types.Mode.{Mode}
 use Rattle.line_buffer.specs.declared.types.Mode.TheVariants.{Append, Prepend}
 use Rattle.line_buffer.specs.declared.types.Movement.{Movement}
 use Rattle.line_buffer.specs.declared.types.Movement.TheVariants.{WholeLine, BeginningOfLine, EndOfLine, BackwardWord, ForwardWord, ViCharSearch, ViFirstPrint, BackwardChar, ForwardChar, LineUp, LineDown, WholeBuffer, BeginningOfBuffer, EndOfBuffer}
-use Rattle.line_buffer.specs.Event.Event.{StartKilling, StopKilling}
-use Rattle.line_buffer.specs.Insertions.{yank, insertion_of, no_insertion, put_at_cursor}
-use Rattle.line_buffer.specs.Line.{Line, cut_out}
+use Rattle.line_buffer.specs.Event.ChangeEvent.{StartKilling, StopKilling}
+use Rattle.line_buffer.specs.Insertions.{yank, insertion_of, no_insertion, with_text_at_cursor}
+use Rattle.line_buffer.specs.Line.{Line, without_range}
 use Rattle.line_buffer.specs.Range.{range_of, deletion_events, deletion_line, kill_events, kill_line}
 use Rattle.line_buffer.specs.Replay.{insertion}
 use Rattle.line_buffer.proofs.InsertionLemmas.{one_insertion}
 use Rattle.line_record.specs.declared.kill_ring.Action.{Action}
 use Rattle.line_record.specs.declared.kill_ring.Action.TheVariants.{Other, Kill, Yank}
-use Rattle.line_record.specs.Change.{StandsAt, exchanged_at}
+use Rattle.line_record.specs.Change.{StandsAt, text_with_exchange}
 use Rattle.line_record.specs.Laws.{is_directed, AllDirected, line_killed, ring_killed, some_taken, KillsComeBack}
-use Rattle.line_record.specs.Ring.{Ring, IsRing, joined_text, slot_after, put_text, killed, killed_after, killed_anew, mode_of, ring_all}
+use Rattle.line_record.specs.Ring.{Ring, IsRing, joined_text, slot_after, slots_with_text, ring_with_kill, ring_with_kill_after, ring_with_new_kill, mode_of, ring_all}
 use Rattle.line_record.proofs.DirectedLemmas.{Onward, Back, IsDirected, directed}
 use Rattle.line_record.proofs.Exchange.{exchanged, joined_right, joined_left}
 
@@ -32,7 +32,7 @@ record Restores (first : List ℕ) (l : Line) (text : List ℕ) : Type 0 where
   utf8 : IsUtf8 l.text
   cursor : IsCharBoundary l.text l.place
   text_utf8 : IsUtf8 text
-  restored : exchanged_at l.place [] text l.text ≡ first
+  restored : text_with_exchange l.place [] text l.text ≡ first
   growth : l.growth ≡ true
 
 stands_at_cursor : (text : List ℕ) (at : ℕ) (put : List ℕ) → IsCharBoundary text at → IsUtf8 put → StandsAt at [] put text
@@ -58,18 +58,18 @@ part_stands text from upto order b e =
     )
 
 -- the line after a part of it was taken
-taken : Span → Line → Line
-taken span l = cut_out span.from span.upto l
+taken : TextSpan → Line → Line
+taken span l = without_range span.from span.upto l
 
-mode_text : Span → Line → List ℕ → List ℕ
+mode_text : TextSpan → Line → List ℕ → List ℕ
 mode_text span l text = joined_text (mode_of span.direction) (slice_range l.text span.from span.upto) text
 
-restores_onward : (first : List ℕ) (l : Line) (text : List ℕ) (span : Span) → Restores first l text → Onward l span → Restores first (taken span l) (mode_text span l text)
+restores_onward : (first : List ℕ) (l : Line) (text : List ℕ) (span : TextSpan) → Restores first l text → Onward l span → Restores first (taken span l) (mode_text span l text)
 unfolding taken mode_text
 restores_onward first l text span r h =
     let part : List ℕ = slice_range l.text l.place span.upto in
     let p = part_stands l.text l.place span.upto h.later r.cursor h.end in
-    let cut : replace_range l.text l.place span.upto [] ≡ exchanged_at l.place part [] l.text = ap (λ k. replace_range l.text l.place k []) (sym p.0) in
+    let cut : replace_range l.text l.place span.upto [] ≡ text_with_exchange l.place part [] l.text = ap (λ k. replace_range l.text l.place k []) (sym p.0) in
     let x = exchanged l.place part [] l.text p.1 r.utf8 in
     let at : l.place + 0 ≡ l.place = add-zero l.place in
     let stands : StandsAt (l.place + 0) part [] l.text = subst (λ k. StandsAt k part [] l.text) (sym at) p.1 in
@@ -80,18 +80,18 @@ restores_onward first l text span r h =
       utf8 = subst IsUtf8 (sym cut) x.utf8;
       cursor = subst (λ t. IsCharBoundary t l.place) (sym cut) x.stand.start;
       text_utf8 = IsUtf8-append text part r.text_utf8 part_utf8;
-      restored = ap (exchanged_at l.place [] (text ++ part)) (cut ∙ ap (λ k. exchanged_at k part [] l.text) (sym at)) ∙ j.back ∙ r.restored;
+      restored = ap (text_with_exchange l.place [] (text ++ part)) (cut ∙ ap (λ k. text_with_exchange k part [] l.text) (sym at)) ∙ j.back ∙ r.restored;
       growth = r.growth;
     } in
-    subst (λ k. Restores first (cut_out k span.upto l) (joined_text (mode_of span.direction) (slice_range l.text k span.upto) text)) (sym h.from)
-    (subst (λ d. Restores first (cut_out l.place span.upto l) (joined_text (mode_of d) part text)) (sym h.direction) same)
+    subst (λ k. Restores first (without_range k span.upto l) (joined_text (mode_of span.direction) (slice_range l.text k span.upto) text)) (sym h.from)
+    (subst (λ d. Restores first (without_range l.place span.upto l) (joined_text (mode_of d) part text)) (sym h.direction) same)
 
-restores_back : (first : List ℕ) (l : Line) (text : List ℕ) (span : Span) → Restores first l text → Back l span → Restores first (taken span l) (mode_text span l text)
+restores_back : (first : List ℕ) (l : Line) (text : List ℕ) (span : TextSpan) → Restores first l text → Back l span → Restores first (taken span l) (mode_text span l text)
 unfolding taken mode_text
 restores_back first l text span r h =
     let part : List ℕ = slice_range l.text span.from l.place in
     let p = part_stands l.text span.from l.place h.earlier h.start r.cursor in
-    let cut : replace_range l.text span.from l.place [] ≡ exchanged_at span.from part [] l.text = ap (λ k. replace_range l.text span.from k []) (sym p.0) in
+    let cut : replace_range l.text span.from l.place [] ≡ text_with_exchange span.from part [] l.text = ap (λ k. replace_range l.text span.from k []) (sym p.0) in
     let x = exchanged span.from part [] l.text p.1 r.utf8 in
     let j = joined_left span.from l.place text part l.text (stands_at_cursor l.text l.place text r.cursor r.text_utf8) r.utf8 p.1 p.0 in
     let part_utf8 : IsUtf8 part = IsUtf8-between l.text span.from l.place r.utf8 h.earlier h.start r.cursor in
@@ -100,13 +100,13 @@ restores_back first l text span r h =
       utf8 = subst IsUtf8 (sym cut) x.utf8;
       cursor = subst (λ t. IsCharBoundary t span.from) (sym cut) x.stand.start;
       text_utf8 = IsUtf8-append part text part_utf8 r.text_utf8;
-      restored = ap (exchanged_at span.from [] (part ++ text)) cut ∙ j.back ∙ r.restored;
+      restored = ap (text_with_exchange span.from [] (part ++ text)) cut ∙ j.back ∙ r.restored;
       growth = r.growth;
     } in
-    subst (λ k. Restores first (cut_out span.from k l) (joined_text (mode_of span.direction) (slice_range l.text span.from k) text)) (sym h.upto)
-    (subst (λ d. Restores first (cut_out span.from l.place l) (joined_text (mode_of d) part text)) (sym h.direction) same)
+    subst (λ k. Restores first (without_range span.from k l) (joined_text (mode_of span.direction) (slice_range l.text span.from k) text)) (sym h.upto)
+    (subst (λ d. Restores first (without_range span.from l.place l) (joined_text (mode_of d) part text)) (sym h.direction) same)
 
-restores_more : (first : List ℕ) (l : Line) (text : List ℕ) (span : Span) → Restores first l text → IsDirected l span → Restores first (taken span l) (mode_text span l text)
+restores_more : (first : List ℕ) (l : Line) (text : List ℕ) (span : TextSpan) → Restores first l text → IsDirected l span → Restores first (taken span l) (mode_text span l text)
 restores_more first l text span r (inl h) = restores_onward first l text span r h
 restores_more first l text span r (inr h) = restores_back first l text span r h
 
@@ -129,20 +129,20 @@ RingHolds false r text = Fresh r text
 
 -- a kill between its marks
 marked_kill : List ℕ → Mode → Ring → Ring
-marked_kill text mode r = record (killed text mode (record r { killing = true })) { killing = false }
+marked_kill text mode r = record (ring_with_kill text mode (record r { killing = true })) { killing = false }
 
 not_zero : (n : ℕ) → 0 < n → (n == 0) ≡ false
 not_zero n h = grind (arith, nat_tests)
 
-has_size : (text : List ℕ) (mode : Mode) (r : Ring) → 0 < r.size → killed text mode r ≡ killed_after r.last text mode r
-has_size text mode r h = ap (λ b. if b then record r { last = Kill } else killed_after r.last text mode r) (not_zero r.size h)
+has_size : (text : List ℕ) (mode : Mode) (r : Ring) → 0 < r.size → ring_with_kill text mode r ≡ ring_with_kill_after r.last text mode r
+has_size text mode r h = ap (λ b. if b then record r { last = Kill } else ring_with_kill_after r.last text mode r) (not_zero r.size h)
 
 killed_more : (r : Ring) (text more : List ℕ) (mode : Mode) → Killed r text → Killed (marked_kill more mode r) (joined_text mode more text)
 unfolding marked_kill
 killed_more r text more mode k =
     let s : Ring = record r { killing = true } in
-    let e : killed more mode s ≡ record s { slots = slice_set r.slots r.place (joined_text mode more (slice_index_or r.slots r.place [])) } =
-    has_size more mode s k.size ∙ ap (λ a. killed_after a more mode s) k.last in
+    let e : ring_with_kill more mode s ≡ record s { slots = slice_set r.slots r.place (joined_text mode more (slice_index_or r.slots r.place [])) } =
+    has_size more mode s k.size ∙ ap (λ a. ring_with_kill_after a more mode s) k.last in
     let made : Killed (record s { slots = slice_set r.slots r.place (joined_text mode more (slice_index_or r.slots r.place [])); killing = false }) (joined_text mode more text) = record {
       last = k.last;
       size = k.size;
@@ -160,14 +160,14 @@ next_inside count size place last r = by_tests (count == 0) (place + 1 == size) 
     by_tests false true e = omega arith
     by_tests false false e = let some : 0 < count = grind (arith, e, nat_tests) in let i : place < count = r.inside some in omega (arith, i)
 
-put_length : (i : ℕ) (text : List ℕ) (slots : List (List ℕ)) → i ≤ length slots → i < length (put_text i text slots)
+put_length : (i : ℕ) (text : List ℕ) (slots : List (List ℕ)) → i ≤ length slots → i < length (slots_with_text i text slots)
 put_length i text slots h = by_test (nat_lt i (length slots)) refl
   where
     by_test : (b : Bool) → nat_lt i (length slots) ≡ b → i < length (if b then slice_set slots i text else slots ++ text ∷ [])
     by_test true e = let k : i < length slots = ltb-true i (length slots) e in omega (arith, k, length-set slots i text)
     by_test false e = omega (arith, h, length-append slots (text ∷ []))
 
-put_slot : (i : ℕ) (text : List ℕ) (slots : List (List ℕ)) → i ≤ length slots → slice_index_or (put_text i text slots) i [] ≡ text
+put_slot : (i : ℕ) (text : List ℕ) (slots : List (List ℕ)) → i ≤ length slots → slice_index_or (slots_with_text i text slots) i [] ≡ text
 put_slot i text slots h = by_test (nat_lt i (length slots)) refl
   where
     by_test : (b : Bool) → nat_lt i (length slots) ≡ b → slice_index_or (if b then slice_set slots i text else slots ++ text ∷ []) i [] ≡ text
@@ -176,7 +176,7 @@ put_slot i text slots h = by_test (nat_lt i (length slots)) refl
         let k : i ≡ length slots = omega (arith, h, ltb-false i (length slots) e) in
         ap (λ j. slice_index_or (slots ++ text ∷ []) j []) k ∙ get_or-append_seam slots text [] []
 
-anew : (a : Action) (r : Ring) (text : List ℕ) (mode : Mode) → a ≢ Kill → killed_after a text mode r ≡ killed_anew text r
+anew : (a : Action) (r : Ring) (text : List ℕ) (mode : Mode) → a ≢ Kill → ring_with_kill_after a text mode r ≡ ring_with_new_kill text r
 anew Other r text mode h = refl
 anew (Yank n) r text mode h = refl
 anew Kill r text mode h = absurd (h refl)
@@ -190,9 +190,9 @@ unfolding marked_kill
 killed_first r text more mode f =
     let s : Ring = record r { killing = true } in
     let next : ℕ = slot_after (length r.slots) r.size r.place in
-    let e : killed more mode s ≡ killed_anew more s = has_size more mode s f.size ∙ anew r.last s more mode f.last in
+    let e : ring_with_kill more mode s ≡ ring_with_new_kill more s = has_size more mode s f.size ∙ anew r.last s more mode f.last in
     let within = next_inside (length r.slots) r.size r.place r.last f.ring in
-    let made : Killed (record (killed_anew more s) { killing = false }) (joined_text mode more text) = record {
+    let made : Killed (record (ring_with_new_kill more s) { killing = false }) (joined_text mode more text) = record {
       last = refl;
       size = f.size;
       inside = put_length next more r.slots within;
@@ -233,7 +233,7 @@ record Run (some : Bool) (first : List ℕ) (l : Line) (r : Ring) : Type 0 where
   ring : RingHolds some r text
 
 -- one kill
-one_kill : (o : Option Span) (some : Bool) (first : List ℕ) (l : Line) (r : Ring) → IfSome o (IsDirected l) → Run some first l r
+one_kill : (o : Option TextSpan) (some : Bool) (first : List ℕ) (l : Line) (r : Ring) → IfSome o (IsDirected l) → Run some first l r
     → Run (some || is_some o) first (deletion_line o l) (ring_all (StartKilling ∷ (deletion_events o l ++ (StopKilling ∷ []))) r)
 unfolding RingHolds taken mode_text marked_kill
 one_kill None true first l r h run = record { text = run.text; line = run.line; ring = only_marked true r run.text run.ring }
@@ -269,13 +269,13 @@ nothing_there : {A : Type 0} (xs : List A) → (length xs == 0) ≡ true → xs 
 nothing_there [] h = refl
 nothing_there (x ∷ xs) h = absurd (omega (arith, eqb-true (length (x ∷ xs)) 0 h))
 
-nothing_put : (text : List ℕ) (at : ℕ) → exchanged_at at [] [] text ≡ text
+nothing_put : (text : List ℕ) (at : ℕ) → text_with_exchange at [] [] text ≡ text
 nothing_put text at =
     ap (λ x. x ++ drop (at + 0) text) (append-nil (take at text)) ∙ ap (λ k. take at text ++ drop k text) (add-zero at) ∙ take-append-drop at text
 
 put_in_room : (g : Bool) (text : List ℕ) (l : Line) → g ≡ true
-    → (if g || nat_le (length l.text + length text) l.limit then record { answer = Some (l.place == length l.text); events = insertion l.place text ∷ []; line = put_at_cursor text l } else no_insertion l).line.text
-    ≡ exchanged_at l.place [] text l.text
+    → (if g || nat_le (length l.text + length text) l.limit then record { answer = Some (l.place == length l.text); events = insertion l.place text ∷ []; line = with_text_at_cursor text l } else no_insertion l).line.text
+    ≡ text_with_exchange l.place [] text l.text
 put_in_room true text l e = ap (λ k. replace_range l.text l.place k text) (sym (add-zero l.place))
 put_in_room false text l e = cc
 
@@ -284,7 +284,7 @@ yanked_back : (first : List ℕ) (l : Line) (text : List ℕ) → Restores first
 yanked_back first l text r = by_test (length text == 0) refl
   where
     by_test : (b : Bool) → (length text == 0) ≡ b → (if b then no_insertion l else insertion_of text 1 l).line.text ≡ first
-    by_test true e = sym (nothing_put l.text l.place) ∙ ap (λ t. exchanged_at l.place [] t l.text) (sym (nothing_there text e)) ∙ r.restored
+    by_test true e = sym (nothing_put l.text l.place) ∙ ap (λ t. text_with_exchange l.place [] t l.text) (sym (nothing_there text e)) ∙ r.restored
     by_test false e = sym (ap (λ x. x.line.text) (one_insertion text 1 l refl)) ∙ put_in_room l.growth text l r.growth ∙ r.restored
 
 pub kills_come_back : KillsComeBack

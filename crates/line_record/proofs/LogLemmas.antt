@@ -6,25 +6,25 @@ use Rattle.std.proofs.lemmas.List.{take-take, take_at, drop_at, take-map, drop-m
 use Rattle.std.proofs.lemmas.List.Elements.{All-take, All-drop}
 use Rattle.std.proofs.lemmas.Str.{IsUtf8-append, IsUtf8-between, IsCharBoundary-from_take}
 use Rattle.unicode_segmentation.proofs.TextLemmas.{take_split, length-slice_range}
-use Rattle.line_buffer.specs.Event.{Event}
-use Rattle.line_record.specs.declared.entry.Entry.{Entry}
+use Rattle.line_buffer.specs.Event.{ChangeEvent}
+use Rattle.line_record.specs.declared.entry.LoggedChange.{LoggedChange}
 use Rattle.line_record.specs.declared.entry.Kind.{Kind}
 use Rattle.line_record.specs.declared.entry.Kind.TheVariants.{Insertion, Deletion, Replacement}
-use Rattle.line_record.specs.Change.{Change, removed_of, added_of, AllFitIn}
-use Rattle.line_record.specs.Held.{joined_to}
+use Rattle.line_record.specs.Change.{Change, old_text_of, new_text_of, AllFitIn}
+use Rattle.line_record.specs.Held.{join_of}
 use Rattle.line_buffer.specs.Line.{Line}
 use Rattle.line_record.specs.Items.{lines_ahead}
 use Rattle.line_record.proofs.StepLemmas.{ahead_turn, AheadTurn}
-use Rattle.line_record.specs.Logged.{Adjoin, place_of_span, edit_from, edit_in, edits_in, Spelt, IsLog, grown_old, grown, joined_at, change_told}
+use Rattle.line_record.specs.Logged.{Adjoin, place_of_span, edit_from, edit_in, edits_in, Spelt, IsLog, old_text_with, change_with_text, join_at, change_told}
 use Rattle.line_record.proofs.SpanLemmas.{take_lower, slice_same, adjoin_cut, adjoin_at, place_le, place_fits, adjoin_push, adjoin_kept, views_kept}
 
-abbrev from_of : Entry → ℕ
+abbrev from_of : LoggedChange → ℕ
 from_of x = x.start
 
-abbrev to_of : Entry → ℕ
+abbrev to_of : LoggedChange → ℕ
 to_of x = x.end
 
-pub spelt_kept : (x : Entry) (xs ys : List ℕ) → x.start ≤ x.end → take x.end xs ≡ take x.end ys → Spelt xs x → Spelt ys x
+pub spelt_kept : (x : LoggedChange) (xs ys : List ℕ) → x.start ≤ x.end → take x.end xs ≡ take x.end ys → Spelt xs x → Spelt ys x
 spelt_kept x xs ys le e h = record {
   removed = h.removed;
   added = h.added;
@@ -34,17 +34,17 @@ spelt_kept x xs ys le e h = record {
   after = subst IsUtf8 e h.after;
 }
 
-pub edit_kept : (x : Entry) (xs ys : List ℕ) → x.start ≤ x.end → take x.end xs ≡ take x.end ys → Spelt xs x → edit_in ys x ≡ edit_in xs x
+pub edit_kept : (x : LoggedChange) (xs ys : List ℕ) → x.start ≤ x.end → take x.end xs ≡ take x.end ys → Spelt xs x → edit_in ys x ≡ edit_in xs x
 edit_kept x xs ys le e h =
     ap (λ r. edit_from x.kind x.at r (slice_range ys x.middle x.end)) (sym (slice_same x.start x.middle xs ys h.removed (take_lower x.middle x.end xs ys h.added e)))
     ∙ ap (λ a. edit_from x.kind x.at (slice_range xs x.start x.middle) a) (sym (slice_same x.middle x.end xs ys h.added e))
 
 -- the first n changes, in any text that begins as theirs do
-pub record Kept (text : List ℕ) (entries : List Entry) (n : ℕ) (after : List ℕ) : Type 0 where
+pub record Kept (text : List ℕ) (entries : List LoggedChange) (n : ℕ) (after : List ℕ) : Type 0 where
   pub laid : Adjoin from_of to_of Spelt after 0 (take n entries) (place_of_span from_of entries n (length text))
   pub edits : edits_in after (take n entries) ≡ take n (edits_in text entries)
 
-pub log_kept : (text after : List ℕ) (entries : List Entry) (n place : ℕ) → IsLog text entries → place ≡ place_of_span from_of entries n (length text) → take place text ≡ take place after
+pub log_kept : (text after : List ℕ) (entries : List LoggedChange) (n place : ℕ) → IsLog text entries → place ≡ place_of_span from_of entries n (length text) → take place text ≡ take place after
     → Kept text entries n after
 log_kept text after entries n place h is e =
     let p = place_of_span from_of entries n (length text) in
@@ -55,20 +55,20 @@ log_kept text after entries n place h is e =
       edits = views_kept from_of to_of Spelt edit_in edit_kept text after (take n entries) 0 p cut same ∙ sym (take-map (edit_in text) n entries);
     }
 
-pub place_inside : (text : List ℕ) (entries : List Entry) (n : ℕ) → IsLog text entries → place_of_span from_of entries n (length text) ≤ length text
+pub place_inside : (text : List ℕ) (entries : List LoggedChange) (n : ℕ) → IsLog text entries → place_of_span from_of entries n (length text) ≤ length text
 place_inside text entries n h = place_le from_of to_of Spelt n text entries 0 (length text) h
 
-pub utf8_upto : (text : List ℕ) (entries : List Entry) (n : ℕ) → IsUtf8 text → IsLog text entries → IsUtf8 (take (place_of_span from_of entries n (length text)) text)
+pub utf8_upto : (text : List ℕ) (entries : List LoggedChange) (n : ℕ) → IsUtf8 text → IsLog text entries → IsUtf8 (take (place_of_span from_of entries n (length text)) text)
 utf8_upto text entries n u h =
     place_fits from_of to_of Spelt (λ k. IsUtf8 (take k text)) text (λ s f. f.before) n entries 0 (length text) (subst IsUtf8 (sym (take-length text)) u) h
 
-pub place_between : (text : List ℕ) (entries : List Entry) (n place : ℕ) → IsUtf8 text → IsLog text entries → place ≡ place_of_span from_of entries n (length text) → IsCharBoundary text place
+pub place_between : (text : List ℕ) (entries : List LoggedChange) (n place : ℕ) → IsUtf8 text → IsLog text entries → place ≡ place_of_span from_of entries n (length text) → IsCharBoundary text place
 place_between text entries n place u h is =
     subst (IsCharBoundary text) (sym is)
     (IsCharBoundary-from_take text (place_of_span from_of entries n (length text)) u (place_inside text entries n h) (utf8_upto text entries n u h))
 
 -- cut off
-pub log_cut : (text after : List ℕ) (entries left : List Entry) (n place : ℕ) → IsLog text entries → place ≡ place_of_span from_of entries n (length text) → after ≡ take place text → left ≡ take n entries
+pub log_cut : (text after : List ℕ) (entries left : List LoggedChange) (n place : ℕ) → IsLog text entries → place ≡ place_of_span from_of entries n (length text) → after ≡ take place text → left ≡ take n entries
     → IsLog after left × (edits_in after left ≡ take n (edits_in text entries))
 log_cut text after entries left n place h is cut kept =
     let inside : place ≤ length text = omega (arith, is, place_inside text entries n h) in
@@ -78,7 +78,7 @@ log_cut text after entries left n place h is cut kept =
     (subst (λ es. IsLog after es) (sym kept) (subst (λ m. Adjoin from_of to_of Spelt after 0 (take n entries) m) (sym is ∙ sym count) k.laid), ap (edits_in after) kept ∙ k.edits)
 
 -- one more
-pub log_pushed : (text after : List ℕ) (entries : List Entry) (n : ℕ) (x : Entry) → IsLog text entries → x.start ≡ place_of_span from_of entries n (length text) → take x.start text ≡ take x.start after
+pub log_pushed : (text after : List ℕ) (entries : List LoggedChange) (n : ℕ) (x : LoggedChange) → IsLog text entries → x.start ≡ place_of_span from_of entries n (length text) → take x.start text ≡ take x.start after
     → Spelt after x → x.end ≡ length after → IsLog after (take n entries ++ (x ∷ [])) × (edits_in after (take n entries ++ (x ∷ [])) ≡ take n (edits_in text entries) ++ (edit_in after x ∷ []))
 log_pushed text after entries n x h is same spelt end =
     let k = log_kept text after entries n x.start h is same in (
@@ -88,11 +88,11 @@ log_pushed text after entries n x h is same spelt end =
     )
 
 -- an entry by the texts that stand there
-pub record Placed (text removed added : List ℕ) (x : Entry) : Type 0 where
+pub record Placed (text removed added : List ℕ) (x : LoggedChange) : Type 0 where
   pub spelt : Spelt text x
   pub edit : edit_in text x ≡ edit_from x.kind x.at removed added
 
-pub placed : (text front removed added : List ℕ) (x : Entry) → text ≡ front ++ (removed ++ added) → x.start ≡ length front → x.middle ≡ length front + length removed → x.end ≡ length text
+pub placed : (text front removed added : List ℕ) (x : LoggedChange) → text ≡ front ++ (removed ++ added) → x.start ≡ length front → x.middle ≡ length front + length removed → x.end ≡ length text
     → IsUtf8 front → IsUtf8 removed → IsUtf8 added → Placed text removed added x
 placed text front removed added x whole start middle end f r a =
     let joined : text ≡ (front ++ removed) ++ added = whole ∙ sym (append_assoc front removed added) in
@@ -119,11 +119,11 @@ placed text front removed added x whole start middle end f r a =
     }
 
 -- one more by the texts that are put in after the first n
-pub record Put (text : List ℕ) (entries : List Entry) (n : ℕ) (edit : Change) (after : List ℕ) (entries_after : List Entry) : Type 0 where
+pub record Put (text : List ℕ) (entries : List LoggedChange) (n : ℕ) (edit : Change) (after : List ℕ) (entries_after : List LoggedChange) : Type 0 where
   pub log : IsLog after entries_after
   pub edits : edits_in after entries_after ≡ take n (edits_in text entries) ++ (edit ∷ [])
 
-pub log_put : (text after removed added : List ℕ) (entries entries_after : List Entry) (n : ℕ) (x : Entry) → IsLog text entries → IsUtf8 text
+pub log_put : (text after removed added : List ℕ) (entries entries_after : List LoggedChange) (n : ℕ) (x : LoggedChange) → IsLog text entries → IsUtf8 text
     → x.start ≡ place_of_span from_of entries n (length text) → after ≡ take x.start text ++ (removed ++ added) → x.middle ≡ x.start + length removed → x.end ≡ length after
     → IsUtf8 removed → IsUtf8 added → entries_after ≡ take n entries ++ (x ∷ []) → Put text entries n (edit_from x.kind x.at removed added) after entries_after
 log_put text after removed added entries entries_after n x h u is whole middle end r a new =
@@ -139,18 +139,18 @@ log_put text after removed added entries entries_after n x h u is whole middle e
     }
 
 -- the place by what the code reads
-pub place_is : (text : List ℕ) (seen entries : List Entry) (n place count : ℕ) → place ≡ place_of_span from_of seen n count → seen ≡ entries → count ≡ length text
+pub place_is : (text : List ℕ) (seen entries : List LoggedChange) (n place count : ℕ) → place ≡ place_of_span from_of seen n count → seen ≡ entries → count ≡ length text
     → place ≡ place_of_span from_of entries n (length text)
 place_is text seen entries n place count is same long =
     is ∙ ap (λ es. place_of_span from_of es n count) same ∙ ap (place_of_span from_of entries n) long
 
 -- the entry of an index
-pub record EntryAt (text : List ℕ) (entries : List Entry) (n : ℕ) (x : Entry) : Type 0 where
+pub record EntryAt (text : List ℕ) (entries : List LoggedChange) (n : ℕ) (x : LoggedChange) : Type 0 where
   pub spelt : Spelt text x
   pub place : x.start ≡ place_of_span from_of entries n (length text)
   pub edit : (d : Change) → get_or (edits_in text entries) n d ≡ edit_in text x
 
-pub entry_at : (text : List ℕ) (entries : List Entry) (n : ℕ) (x : Entry) → IsLog text entries → n < length entries → x ≡ get_or entries n x → EntryAt text entries n x
+pub entry_at : (text : List ℕ) (entries : List LoggedChange) (n : ℕ) (x : LoggedChange) → IsLog text entries → n < length entries → x ≡ get_or entries n x → EntryAt text entries n x
 entry_at text entries n x h inside is =
     let s = adjoin_at from_of to_of Spelt n text entries 0 (length text) x h inside in
     record {
@@ -160,12 +160,12 @@ entry_at text entries n x h inside is =
     }
 
 -- where the texts of an entry begin and end
-pub record CutsAt (text : List ℕ) (x : Entry) : Type 0 where
+pub record CutsAt (text : List ℕ) (x : LoggedChange) : Type 0 where
   pub start : IsCharBoundary text x.start
   pub middle : IsCharBoundary text x.middle
   pub end : IsCharBoundary text x.end
 
-pub cuts_at : (text : List ℕ) (x : Entry) → IsUtf8 text → Spelt text x → CutsAt text x
+pub cuts_at : (text : List ℕ) (x : LoggedChange) → IsUtf8 text → Spelt text x → CutsAt text x
 cuts_at text x u s = record {
   start = IsCharBoundary-from_take text x.start u (omega (arith, s.removed, s.added, s.inside)) s.before;
   middle = IsCharBoundary-from_take text x.middle u (omega (arith, s.added, s.inside)) s.between;
@@ -181,14 +181,14 @@ grown_after : (f o a r d : List ℕ) → (((f ++ o) ++ r) ++ a) ++ d ≡ f ++ ((
 grown_after f o a r d =
     append_assoc ((f ++ o) ++ r) a d ∙ ap (λ t. t ++ (a ++ d)) (append_assoc f o r) ∙ append_assoc f (o ++ r) (a ++ d)
 
-pub grown_from : (at place : ℕ) (before : Bool) (kind : Kind) (r d o a : List ℕ) → edit_from kind at (grown_old before r o) (a ++ d) ≡ grown at before r d (edit_from kind place o a)
+pub grown_from : (at place : ℕ) (before : Bool) (kind : Kind) (r d o a : List ℕ) → edit_from kind at (old_text_with before r o) (a ++ d) ≡ change_with_text at before r d (edit_from kind place o a)
 grown_from at place before Insertion r d o a = refl
 grown_from at place before Deletion r d o a = refl
 grown_from at place before Replacement r d o a = refl
 
-grown_text : (before : Bool) (text : List ℕ) (x : Entry) (r d : List ℕ) (place : ℕ) → Spelt text x → place ≡ (if before then x.start else x.middle)
+grown_text : (before : Bool) (text : List ℕ) (x : LoggedChange) (r d : List ℕ) (place : ℕ) → Spelt text x → place ≡ (if before then x.start else x.middle)
     → ((take place (take x.end text) ++ r) ++ drop place (take x.end text)) ++ d
-    ≡ take x.start text ++ (grown_old before r (slice_range text x.start x.middle) ++ (slice_range text x.middle x.end ++ d))
+    ≡ take x.start text ++ (old_text_with before r (slice_range text x.start x.middle) ++ (slice_range text x.middle x.end ++ d))
 grown_text true text x r d place s is =
     let all = take x.end text in
     let o = slice_range text x.start x.middle in
@@ -211,11 +211,11 @@ grown_text false text x r d place s is =
     let rest : drop place all ≡ a = ap (drop place) split ∙ drop_at (f ++ o) a place count in
     ap (λ t. ((t ++ r) ++ drop place all) ++ d) front ∙ ap (λ t. (((f ++ o) ++ r) ++ t) ++ d) rest ∙ grown_after f o a r d
 
-old_utf8 : (before : Bool) (r o : List ℕ) → IsUtf8 r → IsUtf8 o → IsUtf8 (grown_old before r o)
+old_utf8 : (before : Bool) (r o : List ℕ) → IsUtf8 r → IsUtf8 o → IsUtf8 (old_text_with before r o)
 old_utf8 true r o u v = IsUtf8-append r o u v
 old_utf8 false r o u v = IsUtf8-append o r v u
 
-old_length : (before : Bool) (r o : List ℕ) → length (grown_old before r o) ≡ length o + length r
+old_length : (before : Bool) (r o : List ℕ) → length (old_text_with before r o) ≡ length o + length r
 old_length true r o = omega (arith, length-append r o)
 old_length false r o = length-append o r
 
@@ -223,19 +223,19 @@ between_utf8 : (text : List ℕ) (i j : ℕ) → IsUtf8 text → IsCharBoundary 
 between_utf8 text i j u b c le = IsUtf8-between text i j u le b c
 
 -- the entry of an index takes more in
-pub log_grown : (text after r d : List ℕ) (entries entries_after : List Entry) (n at place middle end : ℕ) (before : Bool) (x : Entry) → IsLog text entries → IsUtf8 text
+pub log_grown : (text after r d : List ℕ) (entries entries_after : List LoggedChange) (n at place middle end : ℕ) (before : Bool) (x : LoggedChange) → IsLog text entries → IsUtf8 text
     → EntryAt text entries n x → place ≡ (if before then x.start else x.middle) → after ≡ ((take place (take x.end text) ++ r) ++ drop place (take x.end text)) ++ d
     → middle ≡ x.middle + length r → end ≡ length after → IsUtf8 r → IsUtf8 d
     → entries_after ≡ take n entries ++ ((record { kind = x.kind; at = at; start = x.start; middle = middle; end = end }) ∷ [])
-    → Put text entries n (grown at before r d (edit_in text x)) after entries_after
+    → Put text entries n (change_with_text at before r d (edit_in text x)) after entries_after
 log_grown text after r d entries entries_after n at place middle end before x h u e is whole mid long ru du new =
-    let y : Entry = record { kind = x.kind; at = at; start = x.start; middle = middle; end = end } in
+    let y : LoggedChange = record { kind = x.kind; at = at; start = x.start; middle = middle; end = end } in
     let o = slice_range text x.start x.middle in
     let a = slice_range text x.middle x.end in
     let c = cuts_at text x u e.spelt in
     let count : length o ≡ x.middle - x.start = length-slice_range text x.start x.middle (omega (arith, e.spelt.added, e.spelt.inside)) in
-    let old : middle ≡ x.start + length (grown_old before r o) = omega (arith, mid, count, old_length before r o, e.spelt.removed) in
-    let p = log_put text after (grown_old before r o) (a ++ d) entries entries_after n y h u e.place (whole ∙ grown_text before text x r d place e.spelt is) old long
+    let old : middle ≡ x.start + length (old_text_with before r o) = omega (arith, mid, count, old_length before r o, e.spelt.removed) in
+    let p = log_put text after (old_text_with before r o) (a ++ d) entries entries_after n y h u e.place (whole ∙ grown_text before text x r d place e.spelt is) old long
     (old_utf8 before r o ru (between_utf8 text x.start x.middle u c.start c.middle e.spelt.removed))
     (IsUtf8-append a d (between_utf8 text x.middle x.end u c.middle c.end e.spelt.added) du) new in
     subst (λ g. Put text entries n g after entries_after) (grown_from at x.at before x.kind r d o a) p
@@ -245,10 +245,10 @@ mapped_twice f g None = refl
 mapped_twice f g (Some x) = refl
 
 -- a join by its index
-pub joined_at_is : (e : Event) (n : ℕ) (edits : List Change) (d : Change) → n < length edits → joined_at e n edits ≡ option_map (λ j. take n edits ++ (j ∷ [])) (joined_to e (get_or edits n d))
+pub joined_at_is : (e : ChangeEvent) (n : ℕ) (edits : List Change) (d : Change) → n < length edits → join_at e n edits ≡ option_map (λ j. take n edits ++ (j ∷ [])) (join_of e (get_or edits n d))
 joined_at_is e n [] d h = absurd (omega (arith, h))
 joined_at_is e zero (c ∷ edits) d h = refl
-joined_at_is e (suc n) (c ∷ edits) d h = ap (option_map (λ es. c ∷ es)) (joined_at_is e n edits d (omega (arith, h))) ∙ mapped_twice (λ j. take n edits ++ (j ∷ [])) (λ es. c ∷ es) (joined_to e (get_or edits n d))
+joined_at_is e (suc n) (c ∷ edits) d h = ap (option_map (λ es. c ∷ es)) (joined_at_is e n edits d (omega (arith, h))) ∙ mapped_twice (λ j. take n edits ++ (j ∷ [])) (λ es. c ∷ es) (join_of e (get_or edits n d))
 
 pub all_before : {A : Type 0} (P : A → Type 0) (all earlier : List A) (x : A) → all ≡ earlier ++ (x ∷ []) → All P all → All P earlier
 all_before P all earlier x is h =
@@ -259,23 +259,23 @@ all_last P all earlier x is h =
     subst P (get_or_push earlier x x (length earlier) refl) (subst (All P) is h (length earlier) x (omega (arith, length_push earlier x)))
 
 -- several entries
-pub all_spelt : (text : List ℕ) (entries : List Entry) → IsLog text entries → All (Spelt text) entries
+pub all_spelt : (text : List ℕ) (entries : List LoggedChange) → IsLog text entries → All (Spelt text) entries
 all_spelt text entries h = λ k d l. (adjoin_at from_of to_of Spelt k text entries 0 (length text) d h l).fits
 
-pub range_spelt : (text : List ℕ) (entries : List Entry) (first last : ℕ) → IsLog text entries → All (Spelt text) (slice_range entries first last)
+pub range_spelt : (text : List ℕ) (entries : List LoggedChange) (first last : ℕ) → IsLog text entries → All (Spelt text) (slice_range entries first last)
 range_spelt text entries first last h = All-take (Spelt text) (last - first) (drop first entries) (All-drop (Spelt text) first entries (all_spelt text entries h))
 
-pub range_edits : (text : List ℕ) (entries : List Entry) (first last : ℕ) → edits_in text (slice_range entries first last) ≡ slice_range (edits_in text entries) first last
+pub range_edits : (text : List ℕ) (entries : List LoggedChange) (first last : ℕ) → edits_in text (slice_range entries first last) ≡ slice_range (edits_in text entries) first last
 range_edits text entries first last =
     sym (take-map (edit_in text) (last - first) (drop first entries)) ∙ ap (take (last - first)) (sym (drop-map (edit_in text) first entries))
 
-pub range_seen : (text seen_text : List ℕ) (entries seen : List Entry) (edits : List Change) (first last : ℕ) → seen_text ≡ text → seen ≡ entries → edits_in text entries ≡ edits
+pub range_seen : (text seen_text : List ℕ) (entries seen : List LoggedChange) (edits : List Change) (first last : ℕ) → seen_text ≡ text → seen ≡ entries → edits_in text entries ≡ edits
     → edits_in seen_text (slice_range seen first last) ≡ slice_range edits first last
 range_seen text seen_text entries seen edits first last t e is =
-    ap (λ (u : List ℕ). edits_in u (slice_range seen first last)) t ∙ ap (λ (es : List Entry). edits_in text (slice_range es first last)) e
+    ap (λ (u : List ℕ). edits_in u (slice_range seen first last)) t ∙ ap (λ (es : List LoggedChange). edits_in text (slice_range es first last)) e
     ∙ range_edits text entries first last ∙ ap (λ (es : List Change). slice_range es first last) is
 
-pub entries_inside : (text : List ℕ) (entries : List Entry) (edits : List Change) (n : ℕ) → edits_in text entries ≡ edits → n < length edits → n < length entries
+pub entries_inside : (text : List ℕ) (entries : List LoggedChange) (edits : List Change) (n : ℕ) → edits_in text entries ≡ edits → n < length edits → n < length entries
 entries_inside text entries edits n is h = omega (arith, h, ap length is, length-map entries (edit_in text))
 
 -- a turn of making anew, where the change is read from its list
@@ -284,15 +284,15 @@ pub ahead_entry : {A : Type 0} (f : A → Change) (xs : List A) (i : ℕ) (d : A
 ahead_entry f xs i d first l inside line fit = ahead_turn f xs i (get_or xs i d) first l inside (get_or_default xs i d (get_or xs i d) inside) line fit
 
 -- a join, as it was found
-pub record Read (e : Event) (text : List ℕ) (entries : List Entry) (edits : List Change) (n : ℕ) (x : Entry) (o : Option (ℕ × Bool)) : Type 0 where
+pub record Read (e : ChangeEvent) (text : List ℕ) (entries : List LoggedChange) (edits : List Change) (n : ℕ) (x : LoggedChange) (o : Option (ℕ × Bool)) : Type 0 where
   pub here : EntryAt text entries n x
   pub view : edits_in text entries ≡ edits
   pub inside : n < length edits
-  pub joins : joined_to e (edit_in text x) ≡ option_map (λ j. grown j.0 j.1 (removed_of (change_told e)) (added_of (change_told e)) (edit_in text x)) o
+  pub joins : join_of e (edit_in text x) ≡ option_map (λ j. change_with_text j.0 j.1 (old_text_of (change_told e)) (new_text_of (change_told e)) (edit_in text x)) o
 
-pub read : (e : Event) (text : List ℕ) (entries : List Entry) (edits : List Change) (n : ℕ) (x : Entry) (o : Option (ℕ × Bool)) → IsLog text entries → edits_in text entries ≡ edits → n < length edits
+pub read : (e : ChangeEvent) (text : List ℕ) (entries : List LoggedChange) (edits : List Change) (n : ℕ) (x : LoggedChange) (o : Option (ℕ × Bool)) → IsLog text entries → edits_in text entries ≡ edits → n < length edits
     → x ≡ get_or entries n x
-    → ((r a : List ℕ) → length a ≡ x.end - x.middle → joined_to e (edit_from x.kind x.at r a) ≡ option_map (λ j. grown j.0 j.1 (removed_of (change_told e)) (added_of (change_told e)) (edit_from x.kind x.at r a)) o)
+    → ((r a : List ℕ) → length a ≡ x.end - x.middle → join_of e (edit_from x.kind x.at r a) ≡ option_map (λ j. change_with_text j.0 j.1 (old_text_of (change_told e)) (new_text_of (change_told e)) (edit_from x.kind x.at r a)) o)
     → Read e text entries edits n x o
 read e text entries edits n x o h view inside is joins =
     let here = entry_at text entries n x h (entries_inside text entries edits n view inside) is in
@@ -303,33 +303,33 @@ read e text entries edits n x o h view inside is joins =
       joins = joins (slice_range text x.start x.middle) (slice_range text x.middle x.end) (length-slice_range text x.middle x.end here.spelt.inside);
     }
 
-pub was_read : (e : Event) (text : List ℕ) (entries : List Entry) (edits : List Change) (n : ℕ) (x : Entry) (o : Option (ℕ × Bool)) → Read e text entries edits n x o
-    → joined_at e n edits ≡ option_map (λ j. take n edits ++ (grown j.0 j.1 (removed_of (change_told e)) (added_of (change_told e)) (edit_in text x) ∷ [])) o
+pub was_read : (e : ChangeEvent) (text : List ℕ) (entries : List LoggedChange) (edits : List Change) (n : ℕ) (x : LoggedChange) (o : Option (ℕ × Bool)) → Read e text entries edits n x o
+    → join_at e n edits ≡ option_map (λ j. take n edits ++ (change_with_text j.0 j.1 (old_text_of (change_told e)) (new_text_of (change_told e)) (edit_in text x) ∷ [])) o
 was_read e text entries edits n x o r =
     let d = edit_in text x in
     joined_at_is e n edits d r.inside
-    ∙ ap (λ y. option_map (λ j. take n edits ++ (j ∷ [])) (joined_to e y)) (ap (λ es. get_or es n d) (sym r.view) ∙ r.here.edit d)
-    ∙ ap (option_map (λ j. take n edits ++ (j ∷ []))) r.joins ∙ mapped_twice (λ (j : ℕ × Bool). grown j.0 j.1 (removed_of (change_told e)) (added_of (change_told e)) d) (λ j. take n edits ++ (j ∷ [])) o
+    ∙ ap (λ y. option_map (λ j. take n edits ++ (j ∷ [])) (join_of e y)) (ap (λ es. get_or es n d) (sym r.view) ∙ r.here.edit d)
+    ∙ ap (option_map (λ j. take n edits ++ (j ∷ []))) r.joins ∙ mapped_twice (λ (j : ℕ × Bool). change_with_text j.0 j.1 (old_text_of (change_told e)) (new_text_of (change_told e)) d) (λ j. take n edits ++ (j ∷ [])) o
 
-pub join_none : (e : Event) (text : List ℕ) (entries : List Entry) (edits : List Change) (n : ℕ) (x : Entry) (o : Option (ℕ × Bool)) → Read e text entries edits n x o → o ≡ None → joined_at e n edits ≡ None
-join_none e text entries edits n x o r is = was_read e text entries edits n x o r ∙ ap (option_map (λ j. take n edits ++ (grown j.0 j.1 (removed_of (change_told e)) (added_of (change_told e)) (edit_in text x) ∷ []))) is
+pub join_none : (e : ChangeEvent) (text : List ℕ) (entries : List LoggedChange) (edits : List Change) (n : ℕ) (x : LoggedChange) (o : Option (ℕ × Bool)) → Read e text entries edits n x o → o ≡ None → join_at e n edits ≡ None
+join_none e text entries edits n x o r is = was_read e text entries edits n x o r ∙ ap (option_map (λ j. take n edits ++ (change_with_text j.0 j.1 (old_text_of (change_told e)) (new_text_of (change_told e)) (edit_in text x) ∷ []))) is
 
-pub join_made : (e : Event) (text : List ℕ) (entries : List Entry) (edits after : List Change) (n : ℕ) (x : Entry) (o : Option (ℕ × Bool)) (at : ℕ) (before : Bool) (removed added : List ℕ)
-    → Read e text entries edits n x o → o ≡ Some (at, before) → ((d : Change) → after ≡ take n edits ++ (grown at before removed added (get_or edits n d) ∷ []))
-    → removed ≡ removed_of (change_told e) → added ≡ added_of (change_told e) → joined_at e n edits ≡ Some after
+pub join_made : (e : ChangeEvent) (text : List ℕ) (entries : List LoggedChange) (edits after : List Change) (n : ℕ) (x : LoggedChange) (o : Option (ℕ × Bool)) (at : ℕ) (before : Bool) (removed added : List ℕ)
+    → Read e text entries edits n x o → o ≡ Some (at, before) → ((d : Change) → after ≡ take n edits ++ (change_with_text at before removed added (get_or edits n d) ∷ []))
+    → removed ≡ old_text_of (change_told e) → added ≡ new_text_of (change_told e) → join_at e n edits ≡ Some after
 join_made e text entries edits after n x o at before removed added r is new re ad =
     let d = edit_in text x in
     let now : get_or edits n d ≡ d = ap (λ es. get_or es n d) (sym r.view) ∙ r.here.edit d in
-    was_read e text entries edits n x o r ∙ ap (option_map (λ j. take n edits ++ (grown j.0 j.1 (removed_of (change_told e)) (added_of (change_told e)) d ∷ []))) is
-    ∙ sym (ap Some (new d ∙ ap (λ y. take n edits ++ (grown at before removed added y ∷ [])) now ∙ ap (λ t. take n edits ++ (grown at before t added d ∷ [])) re
-    ∙ ap (λ t. take n edits ++ (grown at before (removed_of (change_told e)) t d ∷ [])) ad))
+    was_read e text entries edits n x o r ∙ ap (option_map (λ j. take n edits ++ (change_with_text j.0 j.1 (old_text_of (change_told e)) (new_text_of (change_told e)) d ∷ []))) is
+    ∙ sym (ap Some (new d ∙ ap (λ y. take n edits ++ (change_with_text at before removed added y ∷ [])) now ∙ ap (λ t. take n edits ++ (change_with_text at before t added d ∷ [])) re
+    ∙ ap (λ t. take n edits ++ (change_with_text at before (old_text_of (change_told e)) t d ∷ [])) ad))
 
-pub entry_seen : (text : List ℕ) (entries : List Entry) (edits : List Change) (n : ℕ) (x : Entry) → IsLog text entries → edits_in text entries ≡ edits → n < length edits → x ≡ get_or entries n x
+pub entry_seen : (text : List ℕ) (entries : List LoggedChange) (edits : List Change) (n : ℕ) (x : LoggedChange) → IsLog text entries → edits_in text entries ≡ edits → n < length edits → x ≡ get_or entries n x
     → EntryAt text entries n x
 entry_seen text entries edits n x h view inside is = entry_at text entries n x h (entries_inside text entries edits n view inside) is
 
 -- where a text is put in
-pub place_in_cut : (text : List ℕ) (x : Entry) (before : Bool) (place : ℕ) → IsUtf8 text → Spelt text x → place ≡ (if before then x.start else x.middle) → IsCharBoundary (take x.end text) place
+pub place_in_cut : (text : List ℕ) (x : LoggedChange) (before : Bool) (place : ℕ) → IsUtf8 text → Spelt text x → place ≡ (if before then x.start else x.middle) → IsCharBoundary (take x.end text) place
 place_in_cut text x true place u s is =
     subst (IsCharBoundary (take x.end text)) (sym is)
     (IsCharBoundary-from_take (take x.end text) x.start s.after (omega (arith, length-take-le x.end text s.inside, s.removed, s.added))

@@ -3,16 +3,16 @@ use Rattle.std.proofs.Common.{◌≡◌, ℕ, ◌+◌, ◌==◌, ◌&&◌, not, 
 use Rattle.std.specs.Prelude.{IsUtf8, encode_utf8, if◌then◌else◌}
 use Rattle.std.proofs.lemmas.List.{append-nil, take-append-drop}
 use Rattle.unicode_segmentation.specs.Segments.{is_alphanumeric}
-use Rattle.line_buffer.specs.Event.{Event}
-use Rattle.line_buffer.specs.Event.Event.{StartKilling, StopKilling, Delete, InsertChar, InsertStr, Replace}
+use Rattle.line_buffer.specs.Event.{ChangeEvent}
+use Rattle.line_buffer.specs.Event.ChangeEvent.{StartKilling, StopKilling, Delete, InsertChar, InsertStr, Replace}
 use Rattle.line_buffer.specs.Replay.{Swaps}
 use Rattle.line_buffer.specs.declared.types.Direction.{Direction}
-use Rattle.line_record.specs.Change.{Change, place_of, removed_of, added_of, taken_back, exchanged_at, StandsAt, StandsIn}
+use Rattle.line_record.specs.Change.{Change, place_of, old_text_of, new_text_of, text_after_undo, text_with_exchange, StandsAt, StandsIn}
 use Rattle.line_record.specs.Change.Change.{Inserted, Deleted, Replaced}
-use Rattle.line_record.specs.Held.{Held, step_of, stepped, stepped_on, stepped_if, recorded_in, change_of, joined_to, is_one_alphanumeric}
-use Rattle.line_record.specs.Items.{Item, Items, done_held, DoneStand, ItemsStand, held_on, ahead_on, noted, noted_on, noted_if, told_of, ahead_after, Recorded, RecordedIn}
+use Rattle.line_record.specs.Held.{HeldItem, step_of, steps_with_change, steps_with_join, steps_with_change_if, record_after_event, change_of, join_of, is_one_alphanumeric}
+use Rattle.line_record.specs.Items.{Item, Items, items_with_texts, DoneStand, ItemsStand, record_on, ahead_on, items_with_change, items_with_join, items_with_change_if, items_after_event, ahead_after, RecordsEvent, RecordsEventIn}
 use Rattle.line_record.specs.Items.Item.{Open, Lone, Group}
-use Rattle.line_record.specs.Steps.{event_of}
+use Rattle.line_record.specs.LogSteps.{event_of}
 use Rattle.line_record.specs.declared.report.Report.{Report}
 use Rattle.line_record.specs.declared.report.Report.TheVariants as told
 use Rattle.line_record.proofs.Exchange.{exchanged, Joined, joined_right, joined_left}
@@ -20,45 +20,45 @@ use Rattle.line_record.proofs.Exchange.{exchanged, Joined, joined_right, joined_
 -- the text before it was changed stands after the change
 pub record Follows (c : Change) (before after : List ℕ) : Type 0 where
   pub stand : StandsIn c after
-  pub back : taken_back c after ≡ before
+  pub back : text_after_undo c after ≡ before
 
-pub record Noted (items : List Item) (texts : List Held) (after : List ℕ) : Type 0 where
+pub record Noted (items : List Item) (texts : List HeldItem) (after : List ℕ) : Type 0 where
   pub stand : DoneStand items after
-  pub held : done_held items after ≡ texts
+  pub held : items_with_texts items after ≡ texts
 
 noted_new : (c : Change) (items : List Item) (before after : List ℕ) → Follows c before after → DoneStand items before
-    → Noted (Lone c ∷ items) (step_of c before ∷ done_held items before) after
+    → Noted (Lone c ∷ items) (step_of c before ∷ items_with_texts items before) after
 noted_new c items before after f s = record {
   stand = ((f.stand, tt), subst (DoneStand items) (sym f.back) s);
-  held = ap (λ t. step_of c t ∷ done_held items t) f.back;
+  held = ap (λ t. step_of c t ∷ items_with_texts items t) f.back;
 }
 
 -- what joins a change d leaves the text before d
-Joins : Event → List ℕ → List ℕ → Type 0
-Joins e before after = (d g : Change) → joined_to e d ≡ Some g → StandsIn d before → Follows g (taken_back d before) after
+Joins : ChangeEvent → List ℕ → List ℕ → Type 0
+Joins e before after = (d g : Change) → join_of e d ≡ Some g → StandsIn d before → Follows g (text_after_undo d before) after
 
-noted_joined : (e : Event) (c d : Change) (items : List Item) (before after : List ℕ) (o : Option Change) → joined_to e d ≡ o → Follows c before after → Joins e before after
+noted_joined : (e : ChangeEvent) (c d : Change) (items : List Item) (before after : List ℕ) (o : Option Change) → join_of e d ≡ o → Follows c before after → Joins e before after
     → DoneStand (Lone d ∷ items) before
-    → Noted (noted_on o c d items) (stepped_on o c before (taken_back d before) (step_of d (taken_back d before)) (done_held items (taken_back d before))) after
+    → Noted (items_with_join o c d items) (steps_with_join o c before (text_after_undo d before) (step_of d (text_after_undo d before)) (items_with_texts items (text_after_undo d before))) after
 unfolding Joins
-noted_joined e c d items before after (Some g) is f j s = noted_new g items (taken_back d before) after (j d g is s.0.0) s.1
+noted_joined e c d items before after (Some g) is f j s = noted_new g items (text_after_undo d before) after (j d g is s.0.0) s.1
 noted_joined e c d items before after None is f j s = noted_new c (Lone d ∷ items) before after f s
 
-noted_step : (e : Event) (c : Change) (items : List Item) (before after : List ℕ) → Follows c before after → Joins e before after → DoneStand items before
-    → Noted (noted e c items) (stepped e c before (done_held items before)) after
+noted_step : (e : ChangeEvent) (c : Change) (items : List Item) (before after : List ℕ) → Follows c before after → Joins e before after → DoneStand items before
+    → Noted (items_with_change e c items) (steps_with_change e c before (items_with_texts items before)) after
 noted_step e c [] before after f j s = noted_new c [] before after f s
 noted_step e c (Open ∷ items) before after f j s = noted_new c (Open ∷ items) before after f s
 noted_step e c (Group d ds ∷ items) before after f j s = noted_new c (Group d ds ∷ items) before after f s
-noted_step e c (Lone d ∷ items) before after f j s = noted_joined e c d items before after (joined_to e d) refl f j s
+noted_step e c (Lone d ∷ items) before after f j s = noted_joined e c d items before after (join_of e d) refl f j s
 
 -- a change that an event tells of
-follows : (c : Change) (before after : List ℕ) → StandsAt (place_of c) (removed_of c) (added_of c) before → IsUtf8 before
-    → after ≡ exchanged_at (place_of c) (removed_of c) (added_of c) before → Follows c before after
+follows : (c : Change) (before after : List ℕ) → StandsAt (place_of c) (old_text_of c) (new_text_of c) before → IsUtf8 before
+    → after ≡ text_with_exchange (place_of c) (old_text_of c) (new_text_of c) before → Follows c before after
 follows c before after s u e =
-    let x = exchanged (place_of c) (removed_of c) (added_of c) before s u in
+    let x = exchanged (place_of c) (old_text_of c) (new_text_of c) before s u in
     record {
       stand = subst (StandsIn c) (sym e) x.stand;
-      back = ap (taken_back c) e ∙ x.back;
+      back = ap (text_after_undo c) e ∙ x.back;
     }
 
 stands_from_swaps : {at : ℕ} {from to before after : List ℕ} → Swaps at from to before after → StandsAt at from to before
@@ -73,11 +73,11 @@ some_if : {A : Type 0} (b : Bool) (x g : A) → (if b then Some x else None) ≡
 some_if true x g e = (refl, cc)
 some_if false x g e = cc
 
-from_joined : {at : ℕ} {was now before longer : List ℕ} (g : Change) (after : List ℕ) → Joined at was now (removed_of g) (added_of g) before longer (place_of g)
-    → after ≡ longer → Follows g (exchanged_at at now was before) after
+from_joined : {at : ℕ} {was now before longer : List ℕ} (g : Change) (after : List ℕ) → Joined at was now (old_text_of g) (new_text_of g) before longer (place_of g)
+    → after ≡ longer → Follows g (text_with_exchange at now was before) after
 from_joined g after j e = record {
   stand = subst (StandsIn g) (sym e) j.stand;
-  back = ap (taken_back g) e ∙ j.back;
+  back = ap (text_after_undo g) e ∙ j.back;
 }
 
 joins_char : (at c : ℕ) (before after : List ℕ) → IsUtf8 before → Swaps at [] (encode_utf8 c) before after → Joins (InsertChar at c) before after
@@ -86,9 +86,9 @@ joins_char at c before after u w (Inserted place text) g e s =
     let h = some_if (is_alphanumeric c && (at == place + length text)) (Inserted place (text ++ encode_utf8 c)) g e in
     let i : at ≡ place + length text = eqb-true at (place + length text) (both (is_alphanumeric c) (at == place + length text) h.0) in
     let t : StandsAt (place + length text) [] (encode_utf8 c) before = subst (λ k. StandsAt k [] (encode_utf8 c) before) i (stands_from_swaps w) in
-    let x : Follows (Inserted place (text ++ encode_utf8 c)) (taken_back (Inserted place text) before) after =
-    from_joined (Inserted place (text ++ encode_utf8 c)) after (joined_right place [] text [] (encode_utf8 c) before s u t) (w.becomes ∙ ap (λ k. exchanged_at k [] (encode_utf8 c) before) i) in
-    subst (λ y. Follows y (taken_back (Inserted place text) before) after) h.1 x
+    let x : Follows (Inserted place (text ++ encode_utf8 c)) (text_after_undo (Inserted place text) before) after =
+    from_joined (Inserted place (text ++ encode_utf8 c)) after (joined_right place [] text [] (encode_utf8 c) before s u t) (w.becomes ∙ ap (λ k. text_with_exchange k [] (encode_utf8 c) before) i) in
+    subst (λ y. Follows y (text_after_undo (Inserted place text) before) after) h.1 x
 joins_char at c before after u w (Deleted place text) g e s = cc
 joins_char at c before after u w (Replaced place was is) g e s = cc
 
@@ -98,21 +98,21 @@ joins_replacement at removed added before after u w (Replaced place was is) g e 
     let h = some_if (at == place + length is) (Replaced place (was ++ removed) (is ++ added)) g e in
     let i : at ≡ place + length is = eqb-true at (place + length is) h.0 in
     let t : StandsAt (place + length is) removed added before = subst (λ k. StandsAt k removed added before) i (stands_from_swaps w) in
-    let x : Follows (Replaced place (was ++ removed) (is ++ added)) (taken_back (Replaced place was is) before) after =
-    from_joined (Replaced place (was ++ removed) (is ++ added)) after (joined_right place was is removed added before s u t) (w.becomes ∙ ap (λ k. exchanged_at k removed added before) i) in
-    subst (λ y. Follows y (taken_back (Replaced place was is) before) after) h.1 x
+    let x : Follows (Replaced place (was ++ removed) (is ++ added)) (text_after_undo (Replaced place was is) before) after =
+    from_joined (Replaced place (was ++ removed) (is ++ added)) after (joined_right place was is removed added before s u t) (w.becomes ∙ ap (λ k. text_with_exchange k removed added before) i) in
+    subst (λ y. Follows y (text_after_undo (Replaced place was is) before) after) h.1 x
 joins_replacement at removed added before after u w (Inserted place text) g e s = cc
 joins_replacement at removed added before after u w (Deleted place text) g e s = cc
 
 deletion_ahead : (at place : ℕ) (removed deleted before after : List ℕ) → IsUtf8 before → Swaps at removed [] before after → StandsIn (Deleted place deleted) before
-    → at ≡ place → Follows (Deleted place (deleted ++ removed)) (taken_back (Deleted place deleted) before) after
+    → at ≡ place → Follows (Deleted place (deleted ++ removed)) (text_after_undo (Deleted place deleted) before) after
 deletion_ahead at place removed deleted before after u w s i =
     let j : at ≡ place + 0 = i ∙ sym (add-zero place) in
     let t : StandsAt (place + 0) removed [] before = subst (λ k. StandsAt k removed [] before) j (stands_from_swaps w) in
-    from_joined (Deleted place (deleted ++ removed)) after (joined_right place deleted [] removed [] before s u t) (w.becomes ∙ ap (λ k. exchanged_at k removed [] before) j)
+    from_joined (Deleted place (deleted ++ removed)) after (joined_right place deleted [] removed [] before s u t) (w.becomes ∙ ap (λ k. text_with_exchange k removed [] before) j)
 
 deletion_behind : (at place : ℕ) (removed deleted before after : List ℕ) → IsUtf8 before → Swaps at removed [] before after → StandsIn (Deleted place deleted) before
-    → at + length removed ≡ place → Follows (Deleted at (removed ++ deleted)) (taken_back (Deleted place deleted) before) after
+    → at + length removed ≡ place → Follows (Deleted at (removed ++ deleted)) (text_after_undo (Deleted place deleted) before) after
 deletion_behind at place removed deleted before after u w s i =
     from_joined (Deleted at (removed ++ deleted)) after (joined_left at place deleted removed before s u (stands_from_swaps w) i) w.becomes
 
@@ -131,7 +131,7 @@ tested_deletion false x g e = cc
 joins_deletion : (at : ℕ) (removed : List ℕ) (direction : Direction) (before after : List ℕ) → IsUtf8 before → Swaps at removed [] before after → Joins (Delete at removed direction) before after
 unfolding Joins
 joins_deletion at removed direction before after u w (Deleted place deleted) g e s =
-    chosen_deletion (at == place) (at + length removed == place) at place removed deleted g (λ y. Follows y (taken_back (Deleted place deleted) before) after) refl refl
+    chosen_deletion (at == place) (at + length removed == place) at place removed deleted g (λ y. Follows y (text_after_undo (Deleted place deleted) before) after) refl refl
     (deletion_ahead at place removed deleted before after u w s)
     (deletion_behind at place removed deleted before after u w s)
     (tested_deletion (is_one_alphanumeric removed) _ g e)
@@ -144,21 +144,21 @@ joins_text at text before after d g e s = cc
 
 -- the event's change, if it tells of one, follows the text before it and joins as it should; where it tells of none, the
 -- text stays
-Changes : Event → List ℕ → List ℕ → Option Change → Type 0
+Changes : ChangeEvent → List ℕ → List ℕ → Option Change → Type 0
 Changes e before after None = after ≡ before
 Changes e before after (Some c) = Follows c before after × Joins e before after
 
-noted_any : (e : Event) (o : Option Change) (items : List Item) (before after : List ℕ) → Changes e before after o → DoneStand items before
-    → Noted (noted_if e o items) (stepped_if e o before (done_held items before)) after
+noted_any : (e : ChangeEvent) (o : Option Change) (items : List Item) (before after : List ℕ) → Changes e before after o → DoneStand items before
+    → Noted (items_with_change_if e o items) (steps_with_change_if e o before (items_with_texts items before)) after
 unfolding Changes
-noted_any e None items before after h s = record { stand = subst (DoneStand items) (sym h) s; held = ap (done_held items) h }
+noted_any e None items before after h s = record { stand = subst (DoneStand items) (sym h) s; held = ap (items_with_texts items) h }
 noted_any e (Some c) items before after h s = noted_step e c items before after h.0 h.1 s
 
-recorded_told : (e : Event) (s : Items) (before after : List ℕ) → Noted (noted_if e (change_of e) s.done) (recorded_in e before (done_held s.done before)) after → ahead_after e (ahead_on s before) ≡ []
-    → Recorded e before after s (told_of e s)
+recorded_told : (e : ChangeEvent) (s : Items) (before after : List ℕ) → Noted (items_with_change_if e (change_of e) s.done) (record_after_event e before (items_with_texts s.done before)) after → ahead_after e (ahead_on s before) ≡ []
+    → RecordsEvent e before after s (items_after_event e s)
 recorded_told e s before after n a = record { stand = (n.stand, tt); held = n.held; ahead = sym a }
 
-swapped : (c : Change) (before after : List ℕ) → IsUtf8 before → Swaps (place_of c) (removed_of c) (added_of c) before after → Follows c before after
+swapped : (c : Change) (before after : List ℕ) → IsUtf8 before → Swaps (place_of c) (old_text_of c) (new_text_of c) before after → Follows c before after
 swapped c before after u w = follows c before after (stands_from_swaps w) u w.becomes
 
 no_length : {A : Type 0} (xs : List A) → (length xs == 0) ≡ true → xs ≡ []
@@ -167,7 +167,7 @@ no_length (x ∷ xs) h = absurd (omega (arith, eqb-true (length (x ∷ xs)) 0 h)
 
 nothing_swapped : (at : ℕ) (from to before after : List ℕ) → (length from == 0) ≡ true → (length to == 0) ≡ true → Swaps at from to before after → after ≡ before
 nothing_swapped at from to before after f t w =
-    w.becomes ∙ ap (λ x. exchanged_at at x to before) (no_length from f) ∙ ap (λ x. exchanged_at at [] x before) (no_length to t)
+    w.becomes ∙ ap (λ x. text_with_exchange at x to before) (no_length from f) ∙ ap (λ x. text_with_exchange at [] x before) (no_length to t)
     ∙ ap (λ x. x ++ drop (at + 0) before) (append-nil (take at before)) ∙ ap (λ k. take at before ++ drop k before) (add-zero at) ∙ take-append-drop at before
 
 changes_deletion : (at : ℕ) (text : List ℕ) (direction : Direction) (before after : List ℕ) (b : Bool) → (length text == 0) ≡ b → IsUtf8 before → Swaps at text [] before after
@@ -193,25 +193,25 @@ changes_char : (at c : ℕ) (before after : List ℕ) → IsUtf8 before → Swap
 unfolding Changes
 changes_char at c before after u w = (swapped (Inserted at (encode_utf8 c)) before after u w, joins_char at c before after u w)
 
-recorded_same : (e : Event) (s : Items) (before after : List ℕ) → ItemsStand s before → after ≡ before → recorded_in e before (held_on s before) ≡ held_on s before
-    → ahead_after e (ahead_on s before) ≡ ahead_on s before → Recorded e before after s s
+recorded_same : (e : ChangeEvent) (s : Items) (before after : List ℕ) → ItemsStand s before → after ≡ before → record_after_event e before (record_on s before) ≡ record_on s before
+    → ahead_after e (ahead_on s before) ≡ ahead_on s before → RecordsEvent e before after s s
 recorded_same e s before after h i r a = record {
   stand = subst (ItemsStand s) (sym i) h;
-  held = ap (held_on s) i ∙ sym r;
+  held = ap (record_on s) i ∙ sym r;
   ahead = ap (ahead_on s) i ∙ sym a;
 }
 
 -- the record after an event; the marks of killing are nothing to it
-abbrev pub record_after : Event → Items → Items
+abbrev pub record_after : ChangeEvent → Items → Items
 record_after StartKilling s = s
 record_after StopKilling s = s
-record_after (Delete at text direction) s = told_of (Delete at text direction) s
-record_after (InsertChar at c) s = told_of (InsertChar at c) s
-record_after (InsertStr at text) s = told_of (InsertStr at text) s
-record_after (Replace at before after) s = told_of (Replace at before after) s
+record_after (Delete at text direction) s = items_after_event (Delete at text direction) s
+record_after (InsertChar at c) s = items_after_event (InsertChar at c) s
+record_after (InsertStr at text) s = items_after_event (InsertStr at text) s
+record_after (Replace at before after) s = items_after_event (Replace at before after) s
 
 -- noting an event is what the record of texts asks for
-pub noted_recorded : (e : Event) (s : Items) → RecordedIn s e (record_after e s)
+pub noted_recorded : (e : ChangeEvent) (s : Items) → RecordsEventIn s e (record_after e s)
 noted_recorded StartKilling s = record { on = λ before after h u w. recorded_same StartKilling s before after h w refl refl }
 noted_recorded StopKilling s = record { on = λ before after h u w. recorded_same StopKilling s before after h w refl refl }
 noted_recorded (Delete at text direction) s = record {
@@ -232,8 +232,8 @@ noted_recorded (Replace at from to) s = record {
 }
 
 -- noting what is told
-pub reported : (r : Report) (s t : Items) → t ≡ told_of (event_of r) s → RecordedIn s (event_of r) t
-reported (told.Char at c) s t e = subst (RecordedIn s (InsertChar at c)) (sym e) (noted_recorded (InsertChar at c) s)
-reported (told.Text at text) s t e = subst (RecordedIn s (InsertStr at text.now)) (sym e) (noted_recorded (InsertStr at text.now) s)
-reported (told.Deletion at text direction) s t e = subst (RecordedIn s (Delete at text.now direction)) (sym e) (noted_recorded (Delete at text.now direction) s)
-reported (told.Replacement at removed added) s t e = subst (RecordedIn s (Replace at removed.now added.now)) (sym e) (noted_recorded (Replace at removed.now added.now) s)
+pub reported : (r : Report) (s t : Items) → t ≡ items_after_event (event_of r) s → RecordsEventIn s (event_of r) t
+reported (told.Char at c) s t e = subst (RecordsEventIn s (InsertChar at c)) (sym e) (noted_recorded (InsertChar at c) s)
+reported (told.Text at text) s t e = subst (RecordsEventIn s (InsertStr at text.now)) (sym e) (noted_recorded (InsertStr at text.now) s)
+reported (told.Deletion at text direction) s t e = subst (RecordsEventIn s (Delete at text.now direction)) (sym e) (noted_recorded (Delete at text.now direction) s)
+reported (told.Replacement at removed added) s t e = subst (RecordsEventIn s (Replace at removed.now added.now)) (sym e) (noted_recorded (Replace at removed.now added.now) s)

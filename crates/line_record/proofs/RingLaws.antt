@@ -6,12 +6,12 @@ use Rattle.std.proofs.lemmas.Option.{slice_get-get_or}
 use Rattle.std.proofs.Math.Seq.{take-nil, take-append_seam, drop-append_seam, get_or-append_seam, set-append_seam}
 use Rattle.std.proofs.lemmas.Bool.{eqb-true}
 use Rattle.std.proofs.lemmas.Bool.Decides.{nat_tests}
-use Rattle.line_buffer.specs.Event.{Event}
-use Rattle.line_buffer.specs.Event.Event.{StartKilling, StopKilling, Delete, InsertChar, InsertStr, Replace}
+use Rattle.line_buffer.specs.Event.{ChangeEvent}
+use Rattle.line_buffer.specs.Event.ChangeEvent.{StartKilling, StopKilling, Delete, InsertChar, InsertStr, Replace}
 use Rattle.line_buffer.specs.declared.types.Mode.{Mode}
 use Rattle.line_record.specs.declared.kill_ring.Action.{Action}
 use Rattle.line_record.specs.declared.kill_ring.Action.TheVariants.{Other, Kill, Yank}
-use Rattle.line_record.specs.Ring.{RingCall, Kills, no_kills, run_with, kill_taken, kills_heard, kills_after, all_kills_after, ring_after, ring_after_all, Ring, new_ring, joined_text, slot_after, put_text, killed, killed_after, killed_anew, mode_of, yanked, ring_step}
+use Rattle.line_record.specs.Ring.{RingCall, Kills, no_kills, run_with, kill_taken, kills_heard, kills_after, all_kills_after, ring_after, ring_after_all, Ring, new_ring, joined_text, slot_after, slots_with_text, ring_with_kill, ring_with_kill_after, ring_with_new_kill, mode_of, ring_after_yank, ring_step}
 use Rattle.line_record.specs.Ring.RingCall.{Taken, Heard, Ended, Lent}
 use Rattle.line_record.specs.Laws.{RingHoldsTheLastRuns}
 use Rattle.line_record.proofs.RingLemmas.{put_there}
@@ -114,7 +114,7 @@ split [] newest = record { first = newest; others = []; are = refl }
 split (x ∷ front) newest = record { first = x; others = front ++ (newest ∷ []); are = refl }
 
 round_again : (n : ℕ) (text : List ℕ) (runs slots : List (List ℕ)) (place : ℕ) → Filled (suc n) runs slots place → place + 1 ≡ suc n
-    → Filled (suc n) (text ∷ runs) (put_text 0 text slots) 0
+    → Filled (suc n) (text ∷ runs) (slots_with_text 0 text slots) 0
 round_again n text runs slots place f e =
     let count : length slots ≡ length f.front + suc (length f.rest) = ap length f.are ∙ length-append f.front (f.newest ∷ f.rest) in
     let none : length f.rest ≡ 0 = omega (arith, count, f.here, f.few, e) in
@@ -135,8 +135,8 @@ round_again n text runs slots place f e =
       few = omega (arith, others);
       runs_are = ap (λ xs. text ∷ xs) (all_but_last n (reverse s.others) s.first runs turned (length-reverse s.others ∙ others));
     } in
-    let put : put_text 0 text (s.first ∷ s.others) ≡ text ∷ s.others = sym (put_there 0 text (s.first ∷ s.others) (omega arith)) in
-    subst (λ xs. Filled (suc n) (text ∷ runs) (put_text 0 text xs) 0) (sym are) (subst (λ xs. Filled (suc n) (text ∷ runs) xs 0) (sym put) filled)
+    let put : slots_with_text 0 text (s.first ∷ s.others) ≡ text ∷ s.others = sym (put_there 0 text (s.first ∷ s.others) (omega arith)) in
+    subst (λ xs. Filled (suc n) (text ∷ runs) (slots_with_text 0 text xs) 0) (sym are) (subst (λ xs. Filled (suc n) (text ∷ runs) xs 0) (sym put) filled)
   where
     empty : (xs : List (List ℕ)) → length xs ≡ 0 → xs ≡ []
     empty [] h = refl
@@ -144,7 +144,7 @@ round_again n text runs slots place f e =
 
 -- a kill that takes the slot after the current one
 next_slot : (n : ℕ) (text : List ℕ) (runs slots : List (List ℕ)) (place : ℕ) (f : Filled (suc n) runs slots place) → (place + 1 ≡ suc n → ⊥)
-    → (rest : List (List ℕ)) → rest ≡ f.rest → Filled (suc n) (text ∷ runs) (put_text (place + 1) text slots) (place + 1)
+    → (rest : List (List ℕ)) → rest ≡ f.rest → Filled (suc n) (text ∷ runs) (slots_with_text (place + 1) text slots) (place + 1)
 next_slot n text runs slots place f e [] is =
     let before : List (List ℕ) = f.front ++ (f.newest ∷ []) in
     let are : slots ≡ before = f.are ∙ ap (λ xs. f.front ++ (f.newest ∷ xs)) (sym is) in
@@ -154,8 +154,8 @@ next_slot n text runs slots place f e [] is =
     reverse-append f.front (f.newest ∷ []) ∙ sym (append-nil (f.newest ∷ reverse f.front)) ∙ ap (λ xs. (f.newest ∷ reverse f.front) ++ reverse xs) is ∙ f.runs_are in
     let fewer : length (reverse before) ≤ n = omega (arith, length-reverse before, count, within, e) in
     let last : nat_lt (place + 1) (length before) ≡ false = grind (arith, count, nat_tests) in
-    let put : put_text (place + 1) text slots ≡ before ++ (text ∷ []) =
-    ap (put_text (place + 1) text) are ∙ ap (λ b. if b then slice_set before (place + 1) text else before ++ text ∷ []) last in
+    let put : slots_with_text (place + 1) text slots ≡ before ++ (text ∷ []) =
+    ap (slots_with_text (place + 1) text) are ∙ ap (λ b. if b then slice_set before (place + 1) text else before ++ text ∷ []) last in
     let filled : Filled (suc n) (text ∷ runs) (before ++ (text ∷ [])) (place + 1) = record {
       front = before;
       newest = text;
@@ -179,7 +179,7 @@ next_slot n text runs slots place f e (y ∷ ys) is =
     let size : length (reverse before ++ reverse ys) ≡ n =
     omega (arith, length-append (reverse before) (reverse ys), length-reverse before, length-reverse ys, count, parts, whole) in
     let inside : nat_lt (place + 1) (length slots) ≡ true = grind (arith, parts, nat_tests) in
-    let put : put_text (place + 1) text slots ≡ before ++ (text ∷ ys) =
+    let put : slots_with_text (place + 1) text slots ≡ before ++ (text ∷ ys) =
     ap (λ b. if b then slice_set slots (place + 1) text else slots ++ text ∷ []) inside ∙ ap (λ xs. slice_set xs (place + 1) text) are
     ∙ ap (λ i. slice_set (before ++ (y ∷ ys)) i text) (sym count) ∙ set-append_seam before y ys text in
     let same : length (before ++ (text ∷ ys)) ≡ suc n = length-append before (text ∷ ys) ∙ sym (length-append before (y ∷ ys)) ∙ ap length (sym are) ∙ whole in
@@ -200,14 +200,14 @@ next_slot n text runs slots place f e (y ∷ ys) is =
 
 -- a kill that joins none
 anew : (n : ℕ) (text : List ℕ) (runs slots : List (List ℕ)) (place : ℕ) → Filled (suc n) runs slots place
-    → Filled (suc n) (text ∷ runs) (put_text (slot_after (length slots) (suc n) place) text slots) (slot_after (length slots) (suc n) place)
+    → Filled (suc n) (text ∷ runs) (slots_with_text (slot_after (length slots) (suc n) place) text slots) (slot_after (length slots) (suc n) place)
 anew n text runs slots place f = by_tests (length slots == 0) (place + 1 == suc n) refl refl
   where
     some : length slots ≡ length f.front + suc (length f.rest)
     some = ap length f.are ∙ length-append f.front (f.newest ∷ f.rest)
 
     by_tests : (a b : Bool) → (length slots == 0) ≡ a → (place + 1 == suc n) ≡ b
-        → Filled (suc n) (text ∷ runs) (put_text (if a then 0 else (if b then 0 else place + 1)) text slots) (if a then 0 else (if b then 0 else place + 1))
+        → Filled (suc n) (text ∷ runs) (slots_with_text (if a then 0 else (if b then 0 else place + 1)) text slots) (if a then 0 else (if b then 0 else place + 1))
     by_tests true b h k = absurd (let none : length slots ≡ 0 = eqb-true (length slots) 0 h in omega (arith, none, some))
     by_tests false true h k = round_again n text runs slots place f (eqb-true (place + 1) (suc n) k)
     by_tests false false h k = next_slot n text runs slots place f (λ e. grind (arith, e, k, nat_tests)) f.rest refl
@@ -226,7 +226,7 @@ first_kill n text = record {
 
 -- what a kill that joins none leaves of runs, slots and place
 PutIn : ℕ → ℕ → List ℕ → List (List ℕ) → List (List ℕ) → ℕ → Type 0
-PutIn n size text runs slots place = Filled (suc n) (text ∷ runs) (put_text (slot_after (length slots) size place) text slots) (slot_after (length slots) size place)
+PutIn n size text runs slots place = Filled (suc n) (text ∷ runs) (slots_with_text (slot_after (length slots) size place) text slots) (slot_after (length slots) size place)
 
 put_in_empty : (n size : ℕ) (text : List ℕ) (runs slots : List (List ℕ)) (place : ℕ) (running : Bool) → Empty runs slots place running → PutIn n size text runs slots place
 unfolding PutIn
@@ -237,7 +237,7 @@ put_in_filled : (n size : ℕ) (text : List ℕ) (runs slots : List (List ℕ)) 
 unfolding PutIn
 put_in_filled n size text runs slots place is f = subst (λ k. PutIn n k text runs slots place) (sym is) (anew n text runs slots place f)
 
-kill_anew : (n : ℕ) (text : List ℕ) (mode : Mode) (k : Kills) (r : Ring) → Holds (suc n) k r → k.running ≡ false → Holds (suc n) (kill_taken text mode k) (killed_anew text r)
+kill_anew : (n : ℕ) (text : List ℕ) (mode : Mode) (k : Kills) (r : Ring) → Holds (suc n) k r → k.running ≡ false → Holds (suc n) (kill_taken text mode k) (ring_with_new_kill text r)
 unfolding is_kill PutIn
 kill_anew n text mode k r h stopped =
     let put : PutIn n r.size text k.runs r.slots r.place =
@@ -247,7 +247,7 @@ kill_anew n text mode k r h stopped =
       sized = h.sized;
       killing = h.killing;
       running = refl;
-      slots = inr (subst (λ b. Filled (suc n) (run_with b text mode k.runs) (put_text next text r.slots) next) (sym stopped) put);
+      slots = inr (subst (λ b. Filled (suc n) (run_with b text mode k.runs) (slots_with_text next text r.slots) next) (sym stopped) put);
     }
 
 goes_on : {running : Bool} → running ≡ true → running ≡ false → ⊥
@@ -257,7 +257,7 @@ goes_on {running} e k = true_is_not (sym e ∙ k)
     true_is_not h = cc
 
 kill_joined : (n : ℕ) (text : List ℕ) (mode : Mode) (k : Kills) (r : Ring) → Holds (suc n) k r → r.last ≡ Kill
-    → Holds (suc n) (kill_taken text mode k) (killed_after Kill text mode r)
+    → Holds (suc n) (kill_taken text mode k) (ring_with_kill_after Kill text mode r)
 unfolding is_kill
 kill_joined n text mode k r h last =
     let kill : is_kill r.last ≡ true = ap is_kill last in
@@ -272,17 +272,17 @@ kill_joined n text mode k r h last =
       slots = inr (subst (λ b. Filled (suc n) (run_with b text mode k.runs) longer r.place) (sym going) put);
     }
 
-kill_holds : (n : ℕ) (text : List ℕ) (mode : Mode) (k : Kills) (r : Ring) → Holds (suc n) k r → Holds (suc n) (kill_taken text mode k) (killed text mode r)
+kill_holds : (n : ℕ) (text : List ℕ) (mode : Mode) (k : Kills) (r : Ring) → Holds (suc n) k r → Holds (suc n) (kill_taken text mode k) (ring_with_kill text mode r)
 unfolding is_kill
 kill_holds n text mode k r h = subst (Holds (suc n) (kill_taken text mode k)) (sym is) (by_last r.last refl)
   where
     has_slots : (suc n == 0) ≡ false
     has_slots = grind (arith, nat_tests)
 
-    is : killed text mode r ≡ killed_after r.last text mode r
-    is = ap (λ b. if b then record r { last = Kill } else killed_after r.last text mode r) (ap (λ s. s == 0) h.sized ∙ has_slots)
+    is : ring_with_kill text mode r ≡ ring_with_kill_after r.last text mode r
+    is = ap (λ b. if b then record r { last = Kill } else ring_with_kill_after r.last text mode r) (ap (λ s. s == 0) h.sized ∙ has_slots)
 
-    by_last : (a : Action) → r.last ≡ a → Holds (suc n) (kill_taken text mode k) (killed_after a text mode r)
+    by_last : (a : Action) → r.last ≡ a → Holds (suc n) (kill_taken text mode k) (ring_with_kill_after a text mode r)
     by_last Other e = kill_anew n text mode k r h (sym h.running ∙ ap is_kill e)
     by_last (Yank count) e = kill_anew n text mode k r h (sym h.running ∙ ap is_kill e)
     by_last Kill e = kill_joined n text mode k r h e
@@ -294,21 +294,21 @@ stopped_slots (inl e) = inl (record { none = e.none; no_slots = e.no_slots; star
 stopped_slots (inr f) = inr f
 
 delete_holds : (n : ℕ) (b : Bool) (text : List ℕ) (mode : Mode) (k : Kills) (r : Ring) → Holds (suc n) k r
-    → Holds (suc n) (if b then kill_taken text mode k else k) (if b then killed text mode r else r)
+    → Holds (suc n) (if b then kill_taken text mode k else k) (if b then ring_with_kill text mode r else r)
 delete_holds n true text mode k r h = kill_holds n text mode k r h
 delete_holds n false text mode k r h = h
 
-heard_holds : (n : ℕ) (e : Event) (k : Kills) (r : Ring) → Holds (suc n) k r → Holds (suc n) (kills_heard e k) (ring_step e r)
+heard_holds : (n : ℕ) (e : ChangeEvent) (k : Kills) (r : Ring) → Holds (suc n) k r → Holds (suc n) (kills_heard e k) (ring_step e r)
 heard_holds n StartKilling k r h = record { sized = h.sized; killing = refl; running = h.running; slots = h.slots }
 heard_holds n StopKilling k r h = record { sized = h.sized; killing = refl; running = h.running; slots = h.slots }
 heard_holds n (Delete at text direction) k r h =
-    subst (λ b. Holds (suc n) (kills_heard (Delete at text direction) k) (if b then killed text (mode_of direction) r else r)) (sym h.killing)
+    subst (λ b. Holds (suc n) (kills_heard (Delete at text direction) k) (if b then ring_with_kill text (mode_of direction) r else r)) (sym h.killing)
     (delete_holds n k.killing text (mode_of direction) k r h)
 heard_holds n (InsertChar at c) k r h = h
 heard_holds n (InsertStr at text) k r h = h
 heard_holds n (Replace at removed added) k r h = h
 
-lent_holds : (n : ℕ) (k : Kills) (r : Ring) → Holds (suc n) k r → Holds (suc n) (record k { running = false }) (yanked r)
+lent_holds : (n : ℕ) (k : Kills) (r : Ring) → Holds (suc n) k r → Holds (suc n) (record k { running = false }) (ring_after_yank r)
 unfolding is_kill
 lent_holds n k r h = by_slots (length r.slots == 0) refl
   where

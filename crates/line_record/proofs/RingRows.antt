@@ -3,9 +3,9 @@ use Rattle.std.proofs.Common.{◌≡◌, ℕ, List, [], ◌∷◌, Option, Some,
 use Rattle.std.specs.Prelude.{codes, slice_get}
 use Rattle.line_buffer.specs.declared.types.Mode.TheVariants.{Append, Prepend}
 use Rattle.line_record.specs.declared.kill_ring.Action.TheVariants.{Other}
-use Rattle.line_buffer.specs.Event.Event.{StartKilling, StopKilling, Delete, InsertChar}
+use Rattle.line_buffer.specs.Event.ChangeEvent.{StartKilling, StopKilling, Delete, InsertChar}
 use Rattle.line_buffer.specs.declared.types.Direction.TheVariants.{Forward, Backward}
-use Rattle.line_record.specs.Ring.{RingCall, no_kills, all_kills_after, ring_after_all, newest_first, Ring, new_ring, killed, yanked, turned, exchanged}
+use Rattle.line_record.specs.Ring.{RingCall, no_kills, all_kills_after, ring_after_all, newest_first, Ring, new_ring, ring_with_kill, ring_after_yank, ring_after_turn, yank_exchange}
 use Rattle.line_record.specs.Ring.RingCall.{Taken, Heard, Ended, Lent}
 
 abbrev ended_run : Ring → Ring
@@ -15,28 +15,28 @@ abbrev lent : Ring → Option (List ℕ)
 lent r = slice_get r.slots r.place
 
 abbrev two_kills : Ring
-two_kills = yanked (killed (codes "c") Append (ended_run (killed (codes "ab") Append (new_ring 2))))
+two_kills = ring_after_yank (ring_with_kill (codes "c") Append (ended_run (ring_with_kill (codes "ab") Append (new_ring 2))))
 
 the_newest_is_yanked : lent two_kills ≡ Some (codes "c")
 the_newest_is_yanked = refl
 
-the_older_comes_next : exchanged two_kills ≡ Some (1, codes "ab")
+the_older_comes_next : yank_exchange two_kills ≡ Some (1, codes "ab")
 the_older_comes_next = refl
 
-the_ring_comes_round : exchanged (turned two_kills) ≡ Some (2, codes "c")
+the_ring_comes_round : yank_exchange (ring_after_turn two_kills) ≡ Some (2, codes "c")
 the_ring_comes_round = refl
 
-kills_in_a_row_join : lent (killed (codes "c") Append (killed (codes "a") Prepend (killed (codes "b") Append (new_ring 3)))) ≡ Some (codes "abc")
+kills_in_a_row_join : lent (ring_with_kill (codes "c") Append (ring_with_kill (codes "a") Prepend (ring_with_kill (codes "b") Append (new_ring 3)))) ≡ Some (codes "abc")
 kills_in_a_row_join = refl
 
-a_ring_of_none_keeps_nothing : lent (killed (codes "a") Append (new_ring 0)) ≡ None
+a_ring_of_none_keeps_nothing : lent (ring_with_kill (codes "a") Append (new_ring 0)) ≡ None
 a_ring_of_none_keeps_nothing = refl
 
-a_full_ring_forgets_the_oldest : (killed (codes "c") Append (ended_run (killed (codes "b") Append (ended_run (killed (codes "a") Append (new_ring 2)))))).slots
+a_full_ring_forgets_the_oldest : (ring_with_kill (codes "c") Append (ended_run (ring_with_kill (codes "b") Append (ended_run (ring_with_kill (codes "a") Append (new_ring 2)))))).slots
     ≡ codes "c" ∷ (codes "b" ∷ [])
 a_full_ring_forgets_the_oldest = refl
 
-nothing_turns_without_a_yank : exchanged (killed (codes "a") Append (new_ring 2)) ≡ None
+nothing_turns_without_a_yank : yank_exchange (ring_with_kill (codes "a") Append (new_ring 2)) ≡ None
 nothing_turns_without_a_yank = refl
 
 -- a run of two kills, a kill by itself, and a run of a deletion on and a deletion back between the marks of killing, with a letter

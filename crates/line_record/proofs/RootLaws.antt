@@ -1,28 +1,28 @@
 -- A record that is undone altogether gives the text that it began on.
 use Rattle.std.proofs.Common.{◌≡◌, ℕ, zero, suc, Bool, true, false, List, [], ◌∷◌, length, drop, Option, Some, None, refl, sym, ap, subst, ◌∙◌}
 use Rattle.std.specs.Prelude.{if◌then◌else◌}
-use Rattle.line_buffer.specs.Event.{Event}
-use Rattle.line_buffer.specs.Event.Event.{StartKilling, StopKilling, Delete, InsertChar, InsertStr, Replace}
-use Rattle.line_buffer.specs.Replay.{replayed}
+use Rattle.line_buffer.specs.Event.{ChangeEvent}
+use Rattle.line_buffer.specs.Event.ChangeEvent.{StartKilling, StopKilling, Delete, InsertChar, InsertStr, Replace}
+use Rattle.line_buffer.specs.Replay.{text_after_event}
 use Rattle.line_record.specs.Change.{Change}
-use Rattle.line_record.specs.Held.{Held, Undone, text_of, change_of, joined_to, stepped, stepped_on, stepped_if, has_mark, closes, grouped, ended, text_back, ahead_back, held_ahead}
-use Rattle.line_record.specs.Held.Held.{Opened, Stepped}
+use Rattle.line_record.specs.Held.{HeldItem, Undone, text_of, change_of, join_of, steps_with_change, steps_with_join, steps_with_change_if, has_mark, closes, group_with_change, record_after_close, text_back, ahead_back, record_ahead}
+use Rattle.line_record.specs.Held.HeldItem.{Opened, Stepped}
 use Rattle.line_record.specs.Items.{ahead_after}
-use Rattle.line_record.specs.Course.{RecordCall, Course, begun_with, after_call, after_calls, text_ahead}
-use Rattle.line_record.specs.Course.RecordCall.{Told, Begun, Ended, TakenBack, MadeAnew}
+use Rattle.line_record.specs.RecordCourse.{RecordCall, RecordCourse, new_course, after_call, after_calls, text_ahead}
+use Rattle.line_record.specs.RecordCourse.RecordCall.{Told, Begun, Ended, TakenBack, MadeAnew}
 use Rattle.line_record.specs.Laws.{UndoOfAllGivesTheFirstText}
 use Rattle.line_record.proofs.GroupLaws.{unchanged}
 
 -- the text before everything
-abbrev root : List Held → List ℕ → List ℕ
+abbrev root : List HeldItem → List ℕ → List ℕ
 root held text = text_back (length held) held text
 
 -- a mark stands on the text that it was set at, since no change lies between
-MarkSits : Held → List ℕ → Type 0
+MarkSits : HeldItem → List ℕ → Type 0
 MarkSits (Opened earlier) text = text ≡ earlier
 MarkSits (Stepped earlier place newest joinable) text = Unit {0}
 
-MarksSit : List Held → List ℕ → Type 0
+MarksSit : List HeldItem → List ℕ → Type 0
 MarksSit [] text = Unit {0}
 MarksSit (h ∷ held) text = MarkSits h text × MarksSit held (text_of h)
 
@@ -31,34 +31,34 @@ AheadFits : List Undone → List ℕ → Type 0
 AheadFits [] text = Unit {0}
 AheadFits (u ∷ ahead) text = (text_of u.held ≡ text) × MarkSits u.held u.text × AheadFits ahead u.text
 
-record Rooted (first : List ℕ) (held : List Held) (ahead : List Undone) (text : List ℕ) : Type 0 where
+record Rooted (first : List ℕ) (held : List HeldItem) (ahead : List Undone) (text : List ℕ) : Type 0 where
   begun : root held text ≡ first
   marks : MarksSit held text
   fits : AheadFits ahead text
 
 -- an event
-record HeldRooted (first : List ℕ) (held : List Held) (text : List ℕ) : Type 0 where
+record HeldRooted (first : List ℕ) (held : List HeldItem) (text : List ℕ) : Type 0 where
   begun : root held text ≡ first
   marks : MarksSit held text
 
-stepped_on_rooted : (o : Option Change) (c d : Change) (place : ℕ) (first text after earlier : List ℕ) (held : List Held) → HeldRooted first (Stepped earlier place d true ∷ held) text
-    → HeldRooted first (stepped_on o c text earlier (Stepped earlier place d true) held) after
+stepped_on_rooted : (o : Option Change) (c d : Change) (place : ℕ) (first text after earlier : List ℕ) (held : List HeldItem) → HeldRooted first (Stepped earlier place d true ∷ held) text
+    → HeldRooted first (steps_with_join o c text earlier (Stepped earlier place d true) held) after
 unfolding MarkSits MarksSit
 stepped_on_rooted (Some g) c d place first text after earlier held h = record { begun = h.begun; marks = h.marks }
 stepped_on_rooted None c d place first text after earlier held h = record { begun = h.begun; marks = (tt, h.marks) }
 
-stepped_rooted : (e : Event) (c : Change) (first text after : List ℕ) (held : List Held) → HeldRooted first held text → HeldRooted first (stepped e c text held) after
+stepped_rooted : (e : ChangeEvent) (c : Change) (first text after : List ℕ) (held : List HeldItem) → HeldRooted first held text → HeldRooted first (steps_with_change e c text held) after
 unfolding MarkSits MarksSit
 stepped_rooted e c first text after [] h = record { begun = h.begun; marks = (tt, h.marks) }
 stepped_rooted e c first text after (Opened earlier ∷ held) h = record { begun = h.begun; marks = (tt, h.marks) }
 stepped_rooted e c first text after (Stepped earlier place d false ∷ held) h = record { begun = h.begun; marks = (tt, h.marks) }
-stepped_rooted e c first text after (Stepped earlier place d true ∷ held) h = stepped_on_rooted (joined_to e d) c d place first text after earlier held h
+stepped_rooted e c first text after (Stepped earlier place d true ∷ held) h = stepped_on_rooted (join_of e d) c d place first text after earlier held h
 
-told_rooted : (e : Event) (o : Option Change) (first text : List ℕ) (held : List Held) → change_of e ≡ o → HeldRooted first held text → HeldRooted first (stepped_if e o text held) (replayed e text)
-told_rooted e (Some c) first text held is h = stepped_rooted e c first text (replayed e text) held h
+told_rooted : (e : ChangeEvent) (o : Option Change) (first text : List ℕ) (held : List HeldItem) → change_of e ≡ o → HeldRooted first held text → HeldRooted first (steps_with_change_if e o text held) (text_after_event e text)
+told_rooted e (Some c) first text held is h = stepped_rooted e c first text (text_after_event e text) held h
 told_rooted e None first text held is h = subst (HeldRooted first held) (sym (unchanged e text is)) h
 
-ahead_told : (e : Event) (ahead : List Undone) (text : List ℕ) → AheadFits ahead text → AheadFits (ahead_after e ahead) (replayed e text)
+ahead_told : (e : ChangeEvent) (ahead : List Undone) (text : List ℕ) → AheadFits ahead text → AheadFits (ahead_after e ahead) (text_after_event e text)
 unfolding AheadFits
 ahead_told StartKilling ahead text h = h
 ahead_told StopKilling ahead text h = h
@@ -68,53 +68,53 @@ ahead_told (InsertStr at added) ahead text h = tt
 ahead_told (Replace at removed added) ahead text h = tt
 
 -- the end of a group
-record StepFirst (held : List Held) : Type 0 where
+record StepFirst (held : List HeldItem) : Type 0 where
   text : List ℕ
   place : ℕ
   newest : Change
   joinable : Bool
-  older : List Held
+  older : List HeldItem
   are : held ≡ Stepped text place newest joinable ∷ older
 
-step_first : (b : Bool) (text : List ℕ) (place : ℕ) (newest : Change) (joinable : Bool) (held : List Held) → closes held ≡ b → has_mark held ≡ true → (b ≡ true → StepFirst (ended held))
-    → StepFirst (ended (Stepped text place newest joinable ∷ held))
+step_first : (b : Bool) (text : List ℕ) (place : ℕ) (newest : Change) (joinable : Bool) (held : List HeldItem) → closes held ≡ b → has_mark held ≡ true → (b ≡ true → StepFirst (record_after_close held))
+    → StepFirst (record_after_close (Stepped text place newest joinable ∷ held))
 step_first true text place newest joinable held is m below =
     let s = below refl in
     record { text = s.text; place = s.place; newest = newest; joinable = false; older = s.older; are = rw (is, s.are) }
 step_first false text place newest joinable held is m below =
-    record { text = text; place = place; newest = newest; joinable = false; older = ended held; are = rw (is, m) }
+    record { text = text; place = place; newest = newest; joinable = false; older = record_after_close held; are = rw (is, m) }
 
-closed_first : (held : List Held) → closes held ≡ true → StepFirst (ended held)
+closed_first : (held : List HeldItem) → closes held ≡ true → StepFirst (record_after_close held)
 closed_first [] h = cc
 closed_first (Opened text ∷ held) h = closed_first held h
 closed_first (Stepped text place newest joinable ∷ held) h = step_first (closes held) text place newest joinable held refl h (closed_first held)
 
-grouped_rooted : (first earlier text : List ℕ) (newest : Change) (held : List Held) → StepFirst held → HeldRooted first held earlier → HeldRooted first (grouped newest held) text
+grouped_rooted : (first earlier text : List ℕ) (newest : Change) (held : List HeldItem) → StepFirst held → HeldRooted first held earlier → HeldRooted first (group_with_change newest held) text
 unfolding MarkSits MarksSit
 grouped_rooted first earlier text newest held s h =
     let k : HeldRooted first (Stepped s.text s.place s.newest s.joinable ∷ s.older) earlier = subst (λ x. HeldRooted first x earlier) s.are h in
     let made : HeldRooted first (Stepped s.text s.place newest false ∷ s.older) text = record { begun = k.begun; marks = (tt, k.marks.1) } in
-    subst (λ x. HeldRooted first (grouped newest x) text) (sym s.are) made
+    subst (λ x. HeldRooted first (group_with_change newest x) text) (sym s.are) made
 
-step_ended : (a b : Bool) (first text earlier : List ℕ) (place : ℕ) (newest : Change) (joinable : Bool) (held : List Held) → closes held ≡ a
-    → HeldRooted first (ended held) earlier → HeldRooted first held earlier
-    → HeldRooted first (if a then grouped newest (ended held) else if b then Stepped earlier place newest false ∷ ended held else Stepped earlier place newest joinable ∷ held) text
+step_ended : (a b : Bool) (first text earlier : List ℕ) (place : ℕ) (newest : Change) (joinable : Bool) (held : List HeldItem) → closes held ≡ a
+    → HeldRooted first (record_after_close held) earlier → HeldRooted first held earlier
+    → HeldRooted first (if a then group_with_change newest (record_after_close held) else if b then Stepped earlier place newest false ∷ record_after_close held else Stepped earlier place newest joinable ∷ held) text
 unfolding MarkSits MarksSit
-step_ended true b first text earlier place newest joinable held is below whole = grouped_rooted first earlier text newest (ended held) (closed_first held is) below
+step_ended true b first text earlier place newest joinable held is below whole = grouped_rooted first earlier text newest (record_after_close held) (closed_first held is) below
 step_ended false true first text earlier place newest joinable held is below whole = record { begun = below.begun; marks = (tt, below.marks) }
 step_ended false false first text earlier place newest joinable held is below whole = record { begun = whole.begun; marks = (tt, whole.marks) }
 
-ended_rooted : (first : List ℕ) (held : List Held) (text : List ℕ) → HeldRooted first held text → HeldRooted first (ended held) text
+ended_rooted : (first : List ℕ) (held : List HeldItem) (text : List ℕ) → HeldRooted first held text → HeldRooted first (record_after_close held) text
 unfolding MarkSits MarksSit
 ended_rooted first [] text h = h
 ended_rooted first (Opened earlier ∷ held) text h =
-    subst (HeldRooted first (ended held)) (sym h.marks.0) (ended_rooted first held earlier (record { begun = h.begun; marks = h.marks.1 }))
+    subst (HeldRooted first (record_after_close held)) (sym h.marks.0) (ended_rooted first held earlier (record { begun = h.begun; marks = h.marks.1 }))
 ended_rooted first (Stepped earlier place newest joinable ∷ held) text h =
     let whole : HeldRooted first held earlier = record { begun = h.begun; marks = h.marks.1 } in
     step_ended (closes held) (has_mark held) first text earlier place newest joinable held refl (ended_rooted first held earlier whole) whole
 
 -- items undone, and one redone
-back_rooted : (n : ℕ) (first : List ℕ) (held : List Held) (ahead : List Undone) (text : List ℕ) → Rooted first held ahead text
+back_rooted : (n : ℕ) (first : List ℕ) (held : List HeldItem) (ahead : List Undone) (text : List ℕ) → Rooted first held ahead text
     → Rooted first (drop n held) (ahead_back n held text ahead) (text_back n held text)
 unfolding MarksSit AheadFits
 back_rooted zero first held ahead text r = r
@@ -122,7 +122,7 @@ back_rooted (suc n) first [] ahead text r = r
 back_rooted (suc n) first (h ∷ held) ahead text r =
     back_rooted n first held (record { held = h; text = text } ∷ ahead) (text_of h) (record { begun = r.begun; marks = r.marks.1; fits = (refl, r.marks.0, r.fits) })
 
-call_rooted : (call : RecordCall) (first : List ℕ) (c : Course) → Rooted first c.held c.ahead c.text
+call_rooted : (call : RecordCall) (first : List ℕ) (c : RecordCourse) → Rooted first c.held c.ahead c.text
     → Rooted first (after_call call c).held (after_call call c).ahead (after_call call c).text
 unfolding MarkSits MarksSit AheadFits
 call_rooted (Told e) first c r =
@@ -136,7 +136,7 @@ call_rooted (TakenBack n) first c r = back_rooted n first c.held c.ahead c.text 
 call_rooted MadeAnew first c r = anew c.ahead r.fits
   where
     anew : (ahead : List Undone) → AheadFits ahead c.text
-        → Rooted first (held_ahead ahead c.held) (drop 1 ahead) (text_ahead ahead c.text)
+        → Rooted first (record_ahead ahead c.held) (drop 1 ahead) (text_ahead ahead c.text)
     anew [] k = record { begun = r.begun; marks = r.marks; fits = tt }
     anew (u ∷ ahead) k = record {
       begun = ap (root c.held) k.0 ∙ r.begun;
@@ -144,7 +144,7 @@ call_rooted MadeAnew first c r = anew c.ahead r.fits
       fits = k.2;
     }
 
-calls_rooted : (calls : List RecordCall) (first : List ℕ) (c : Course) → Rooted first c.held c.ahead c.text
+calls_rooted : (calls : List RecordCall) (first : List ℕ) (c : RecordCourse) → Rooted first c.held c.ahead c.text
     → Rooted first (after_calls calls c).held (after_calls calls c).ahead (after_calls calls c).text
 unfolding after_calls
 calls_rooted [] first c r = r
@@ -155,4 +155,4 @@ unfolding MarksSit AheadFits
 start_rooted text = record { begun = refl; marks = tt; fits = tt }
 
 pub undo_of_all_gives_the_first_text : UndoOfAllGivesTheFirstText
-undo_of_all_gives_the_first_text calls text = (calls_rooted calls text (begun_with text) (start_rooted text)).begun
+undo_of_all_gives_the_first_text calls text = (calls_rooted calls text (new_course text) (start_rooted text)).begun

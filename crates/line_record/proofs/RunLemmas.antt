@@ -1,40 +1,40 @@
 -- The record of texts after several events, of the record alone or as a part of a listener.
 use Rattle.std.proofs.Common.{◌≡◌, ℕ, List, [], ◌∷◌, refl, sym, ap, subst, ◌∙◌, inl, inr}
 use Rattle.std.specs.Prelude.{IsUtf8}
-use Rattle.line_buffer.specs.Event.{Event}
-use Rattle.line_buffer.specs.Event.Event.{StartKilling, StopKilling, Delete, InsertChar, InsertStr, Replace}
-use Rattle.line_buffer.specs.Replay.{replayed, replayed_all, Swaps, Replays, ReplaysAll, TakesAll, Reports, StopsAmong, wants_or}
-use Rattle.line_record.specs.Held.{Held, Undone, recorded_in}
-use Rattle.line_record.specs.Items.{Items, ItemsStand, held_on, ahead_on, ahead_after, RecordedIn, record_refuses}
-use Rattle.line_record.specs.Course.{recorded_all, ahead_all}
+use Rattle.line_buffer.specs.Event.{ChangeEvent}
+use Rattle.line_buffer.specs.Event.ChangeEvent.{StartKilling, StopKilling, Delete, InsertChar, InsertStr, Replace}
+use Rattle.line_buffer.specs.Replay.{text_after_event, text_after_events, Swaps, Replays, ReplaysAll, TakesAll, Reports, StopsAmong, wants_or}
+use Rattle.line_record.specs.Held.{HeldItem, Undone, record_after_event}
+use Rattle.line_record.specs.Items.{Items, ItemsStand, record_on, ahead_on, ahead_after, RecordsEventIn, record_refuses}
+use Rattle.line_record.specs.RecordCourse.{record_after_events, ahead_all}
 use Rattle.line_record.proofs.Exchange.{exchanged}
 
-pub replayed_all-nil : (text : List ℕ) → replayed_all [] text ≡ text
-unfolding replayed_all
+pub replayed_all-nil : (text : List ℕ) → text_after_events [] text ≡ text
+unfolding text_after_events
 replayed_all-nil text = refl
 
-pub replayed_all-cons : (e : Event) (es : List Event) (text : List ℕ) → replayed_all (e ∷ es) text ≡ replayed_all es (replayed e text)
-unfolding replayed_all
+pub replayed_all-cons : (e : ChangeEvent) (es : List ChangeEvent) (text : List ℕ) → text_after_events (e ∷ es) text ≡ text_after_events es (text_after_event e text)
+unfolding text_after_events
 replayed_all-cons e es text = refl
 
-pub recorded_all-nil : (text : List ℕ) (held : List Held) → recorded_all [] text held ≡ held
-unfolding recorded_all
+pub recorded_all-nil : (text : List ℕ) (held : List HeldItem) → record_after_events [] text held ≡ held
+unfolding record_after_events
 recorded_all-nil text held = refl
 
-pub recorded_all-cons : (e : Event) (es : List Event) (text : List ℕ) (held : List Held) → recorded_all (e ∷ es) text held ≡ recorded_all es (replayed e text) (recorded_in e text held)
-unfolding recorded_all
+pub recorded_all-cons : (e : ChangeEvent) (es : List ChangeEvent) (text : List ℕ) (held : List HeldItem) → record_after_events (e ∷ es) text held ≡ record_after_events es (text_after_event e text) (record_after_event e text held)
+unfolding record_after_events
 recorded_all-cons e es text held = refl
 
 pub ahead_all-nil : (ahead : List Undone) → ahead_all [] ahead ≡ ahead
 unfolding ahead_all
 ahead_all-nil ahead = refl
 
-pub ahead_all-cons : (e : Event) (es : List Event) (ahead : List Undone) → ahead_all (e ∷ es) ahead ≡ ahead_all es (ahead_after e ahead)
+pub ahead_all-cons : (e : ChangeEvent) (es : List ChangeEvent) (ahead : List Undone) → ahead_all (e ∷ es) ahead ≡ ahead_all es (ahead_after e ahead)
 unfolding ahead_all
 ahead_all-cons e es ahead = refl
 
 -- the text that an event leaves
-pub replayed_is : (e : Event) (before after : List ℕ) → Replays e before after → after ≡ replayed e before
+pub replayed_is : (e : ChangeEvent) (before after : List ℕ) → Replays e before after → after ≡ text_after_event e before
 replayed_is StartKilling before after r = r
 replayed_is StopKilling before after r = r
 replayed_is (Delete at text direction) before after r = r.becomes
@@ -46,7 +46,7 @@ swapped_utf8 : {at : ℕ} {from to before after : List ℕ} → IsUtf8 before �
 swapped_utf8 {at} {from} {to} {before} {after} u w =
     subst IsUtf8 (sym w.becomes) (exchanged at from to before (record { start = w.start; end = w.end; bytes = w.stands; utf8 = w.text }) u).utf8
 
-pub replayed_utf8 : (e : Event) (before after : List ℕ) → IsUtf8 before → Replays e before after → IsUtf8 after
+pub replayed_utf8 : (e : ChangeEvent) (before after : List ℕ) → IsUtf8 before → Replays e before after → IsUtf8 after
 replayed_utf8 StartKilling before after u r = subst IsUtf8 (sym r) u
 replayed_utf8 StopKilling before after u r = subst IsUtf8 (sym r) u
 replayed_utf8 (Delete at text direction) before after u r = swapped_utf8 u r
@@ -55,43 +55,43 @@ replayed_utf8 (InsertStr at text) before after u r = swapped_utf8 u r
 replayed_utf8 (Replace at from to) before after u r = swapped_utf8 u r
 
 -- the record after events, and what can be redone
-pub record RecordedAll (events : List Event) (s t : Items) (before after : List ℕ) : Type 0 where
+pub record RecordedAll (events : List ChangeEvent) (s t : Items) (before after : List ℕ) : Type 0 where
   pub stand : ItemsStand t after
-  pub held : held_on t after ≡ recorded_all events before (held_on s before)
+  pub held : record_on t after ≡ record_after_events events before (record_on s before)
   pub ahead : ahead_on t after ≡ ahead_all events (ahead_on s before)
-  pub text : after ≡ replayed_all events before
+  pub text : after ≡ text_after_events events before
   pub utf8 : IsUtf8 after
 
 -- a listener of which the record is a part
-module _ {S : Type 0} (takes : S → Event → S → Type 0) (part : S → Items) (takes_part : (s : S) (e : Event) (t : S) → takes s e t → RecordedIn (part s) e (part t)) where
-  pub all_recorded : (events : List Event) (s t : S) (before after : List ℕ) → TakesAll takes s events t → ReplaysAll events before after
+module _ {S : Type 0} (takes : S → ChangeEvent → S → Type 0) (part : S → Items) (takes_part : (s : S) (e : ChangeEvent) (t : S) → takes s e t → RecordsEventIn (part s) e (part t)) where
+  pub all_recorded : (events : List ChangeEvent) (s t : S) (before after : List ℕ) → TakesAll takes s events t → ReplaysAll events before after
       → ItemsStand (part s) before → IsUtf8 before → RecordedAll events (part s) (part t) before after
   all_recorded [] s t before after told replays h u = record {
     stand = subst (λ x. ItemsStand (part x) after) (sym told) (subst (ItemsStand (part s)) (sym replays) h);
-    held = ap (λ x. held_on (part x) after) told ∙ ap (held_on (part s)) replays ∙ sym (recorded_all-nil before (held_on (part s) before));
+    held = ap (λ x. record_on (part x) after) told ∙ ap (record_on (part s)) replays ∙ sym (recorded_all-nil before (record_on (part s) before));
     ahead = ap (λ x. ahead_on (part x) after) told ∙ ap (ahead_on (part s)) replays ∙ sym (ahead_all-nil (ahead_on (part s) before));
     text = replays ∙ sym (replayed_all-nil before);
     utf8 = subst IsUtf8 (sym replays) u;
   }
   all_recorded (e ∷ es) s t before after (v, told, more) (between, replays, later) h u =
       let first = (takes_part s e v told).on before between h u replays in
-      let is : between ≡ replayed e before = replayed_is e before between replays in
+      let is : between ≡ text_after_event e before = replayed_is e before between replays in
       let rest = all_recorded es v t between after more later first.stand (replayed_utf8 e before between u replays) in
       record {
         stand = rest.stand;
-        held = rest.held ∙ ap (recorded_all es between) first.held ∙ ap (λ x. recorded_all es x (recorded_in e before (held_on (part s) before))) is
-            ∙ sym (recorded_all-cons e es before (held_on (part s) before));
+        held = rest.held ∙ ap (record_after_events es between) first.held ∙ ap (λ x. record_after_events es x (record_after_event e before (record_on (part s) before))) is
+            ∙ sym (recorded_all-cons e es before (record_on (part s) before));
         ahead = rest.ahead ∙ ap (ahead_all es) first.ahead ∙ sym (ahead_all-cons e es (ahead_on (part s) before));
-        text = rest.text ∙ ap (replayed_all es) is ∙ sym (replayed_all-cons e es before);
+        text = rest.text ∙ ap (text_after_events es) is ∙ sym (replayed_all-cons e es before);
         utf8 = rest.utf8;
       }
 
-  pub part_told : {events : List Event} {s t : S} {before after : List ℕ} → ItemsStand (part s) before → IsUtf8 before → Reports takes events s t before after
+  pub part_told : {events : List ChangeEvent} {s t : S} {before after : List ℕ} → ItemsStand (part s) before → IsUtf8 before → Reports takes events s t before after
       → RecordedAll events (part s) (part t) before after
   part_told {events} {s} {t} {before} {after} h u r = all_recorded events s t before after r.told r.replays h u
 
   -- after a failure the record is that of the events that the line made, and of what closed the call
-  pub part_stopped : {closing events : List Event} {s t : S} {before after : List ℕ} → (refuses : S → Event → S → Type 0) → ((x : S) (e : Event) (y : S) → refuses x e y → part y ≡ part x)
+  pub part_stopped : {closing events : List ChangeEvent} {s t : S} {before after : List ℕ} → (refuses : S → ChangeEvent → S → Type 0) → ((x : S) (e : ChangeEvent) (y : S) → refuses x e y → part y ≡ part x)
       → ItemsStand (part s) before → IsUtf8 before → (p : StopsAmong takes (wants_or refuses) closing events s t before after)
       → RecordedAll closing (part p.between) (part t) after after × RecordedAll p.done (part s) (part p.between) before after
   part_stopped {closing} {events} {s} {t} {before} {after} refuses refuses_part h u p =
@@ -101,24 +101,20 @@ module _ {S : Type 0} (takes : S → Event → S → Type 0) (part : S → Items
       (subst (λ x. RecordedAll closing x (part t) after after) same after_all, done)
 
 -- the record alone
-pub told_stand : {events : List Event} {s t : Items} {before after : List ℕ} → ItemsStand s before → IsUtf8 before → Reports RecordedIn events s t before after → ItemsStand t after
-told_stand h u r = (part_told RecordedIn (λ x. x) (λ s e t k. k) h u r).stand
+pub told_stand : {events : List ChangeEvent} {s t : Items} {before after : List ℕ} → ItemsStand s before → IsUtf8 before → Reports RecordsEventIn events s t before after → ItemsStand t after
+told_stand h u r = (part_told RecordsEventIn (λ x. x) (λ s e t k. k) h u r).stand
 
-pub told_held : {events : List Event} {s t : Items} {before after : List ℕ} → ItemsStand s before → IsUtf8 before → Reports RecordedIn events s t before after
-    → held_on t after ≡ recorded_all events before (held_on s before)
-told_held h u r = (part_told RecordedIn (λ x. x) (λ s e t k. k) h u r).held
+pub told_held : {events : List ChangeEvent} {s t : Items} {before after : List ℕ} → ItemsStand s before → IsUtf8 before → Reports RecordsEventIn events s t before after
+    → record_on t after ≡ record_after_events events before (record_on s before)
+told_held h u r = (part_told RecordsEventIn (λ x. x) (λ s e t k. k) h u r).held
 
-pub told_ahead : {events : List Event} {s t : Items} {before after : List ℕ} → ItemsStand s before → IsUtf8 before → Reports RecordedIn events s t before after
-    → ahead_on t after ≡ ahead_all events (ahead_on s before)
-told_ahead h u r = (part_told RecordedIn (λ x. x) (λ s e t k. k) h u r).ahead
-
-pub stopped_stand : {closing events : List Event} {s t : Items} {before after : List ℕ} → ItemsStand s before → IsUtf8 before
-    → StopsAmong RecordedIn (wants_or record_refuses) closing events s t before after → ItemsStand t after
-stopped_stand h u p = (part_stopped RecordedIn (λ x. x) (λ s e t k. k) record_refuses (λ x e y k. k.0) h u p).0.stand
+pub stopped_stand : {closing events : List ChangeEvent} {s t : Items} {before after : List ℕ} → ItemsStand s before → IsUtf8 before
+    → StopsAmong RecordsEventIn (wants_or record_refuses) closing events s t before after → ItemsStand t after
+stopped_stand h u p = (part_stopped RecordsEventIn (λ x. x) (λ s e t k. k) record_refuses (λ x e y k. k.0) h u p).0.stand
 
 -- what each event keeps, a run keeps
-pub kept_by_all : {S : Type 0} (takes : S → Event → S → Type 0) (Kept : S → S → Type 0) → ((s : S) → Kept s s) → ((s t u : S) → Kept s t → Kept t u → Kept s u)
-    → ((s : S) (e : Event) (t : S) → takes s e t → Kept s t) → (events : List Event) (s t : S) → TakesAll takes s events t → Kept s t
+pub kept_by_all : {S : Type 0} (takes : S → ChangeEvent → S → Type 0) (Kept : S → S → Type 0) → ((s : S) → Kept s s) → ((s t u : S) → Kept s t → Kept t u → Kept s u)
+    → ((s : S) (e : ChangeEvent) (t : S) → takes s e t → Kept s t) → (events : List ChangeEvent) (s t : S) → TakesAll takes s events t → Kept s t
 kept_by_all takes Kept same chained step [] s t told = subst (Kept s) (sym told) (same s)
 kept_by_all takes Kept same chained step (e ∷ es) s t (v, told, more) =
     chained s v t (step s e v told) (kept_by_all takes Kept same chained step es v t more)

@@ -4,20 +4,20 @@ use Rattle.std.proofs.Math.Seq.{take-append_seam, drop-append_seam, take-suc}
 use Rattle.std.proofs.lemmas.List.{take-append-drop, drop-map, map-append, length-map, get_or-map}
 use Rattle.line_buffer.specs.Line.{Line}
 use Rattle.line_record.specs.Change.{Change, all_taken_back, all_made_anew, AllStandIn, AllFitIn, StandsIn, FitsIn}
-use Rattle.line_record.specs.Items.{lines_back, lines_ahead, taken_back_in, made_anew_in}
+use Rattle.line_record.specs.Items.{lines_back, lines_ahead, line_after_undo, line_after_redo}
 
 pub lines_back_text : (cs : List Change) (l : Line) → (lines_back cs l).text ≡ all_taken_back cs l.text
 lines_back_text [] l = refl
-lines_back_text (c ∷ cs) l = ap (λ t. (taken_back_in c (record l { text = t })).text) (lines_back_text cs l)
+lines_back_text (c ∷ cs) l = ap (λ t. (line_after_undo c (record l { text = t })).text) (lines_back_text cs l)
 
 pub lines_ahead_text : (cs : List Change) (l : Line) → (lines_ahead cs l).text ≡ all_made_anew cs l.text
 lines_ahead_text [] l = refl
-lines_ahead_text (c ∷ cs) l = lines_ahead_text cs (made_anew_in c l)
+lines_ahead_text (c ∷ cs) l = lines_ahead_text cs (line_after_redo c l)
 
 -- of a line except its place
 pub lines_back_but_place : (cs : List Change) (l : Line) (p : ℕ) → record (lines_back cs l) { place = p } ≡ record l { text = all_taken_back cs l.text; place = p }
 lines_back_but_place [] l p = refl
-lines_back_but_place (c ∷ cs) l p = ap (λ m. record (taken_back_in c m) { place = p }) (lines_back_but_place cs l p)
+lines_back_but_place (c ∷ cs) l p = ap (λ m. record (line_after_undo c m) { place = p }) (lines_back_but_place cs l p)
 
 pub AllStandIn-drop : (n : ℕ) (cs : List Change) (text : List ℕ) → AllStandIn cs text → AllStandIn (drop n cs) text
 AllStandIn-drop zero cs text h = h
@@ -26,13 +26,13 @@ AllStandIn-drop (suc n) (c ∷ cs) text h = AllStandIn-drop n cs text h.1
 
 pub lines_ahead-append : (cs ds : List Change) (l : Line) → lines_ahead (cs ++ ds) l ≡ lines_ahead ds (lines_ahead cs l)
 lines_ahead-append [] ds l = refl
-lines_ahead-append (c ∷ cs) ds l = lines_ahead-append cs ds (made_anew_in c l)
+lines_ahead-append (c ∷ cs) ds l = lines_ahead-append cs ds (line_after_redo c l)
 
 -- the newest of the changes that are left is undone
 pub record BackTurn {A : Type 0} (f : A → Change) (xs earlier : List A) (x : A) (first l : Line) : Type 0 where
   pub stands : StandsIn (f x) l.text
   pub left : earlier ≡ take (length earlier) xs
-  pub line : taken_back_in (f x) l ≡ lines_back (drop (length earlier) (map f xs)) first
+  pub line : line_after_undo (f x) l ≡ lines_back (drop (length earlier) (map f xs)) first
 
 pub back_turn : {A : Type 0} (f : A → Change) (xs left earlier : List A) (x : A) (first l : Line) → left ≡ take (length left) xs → left ≡ earlier ++ (x ∷ [])
     → l ≡ lines_back (drop (length left) (map f xs)) first → AllStandIn (map f xs) first.text → BackTurn f xs earlier x first l
@@ -49,14 +49,14 @@ back_turn f xs left earlier x first l is cases line stand =
       stands = subst (StandsIn (f x)) (sym (ap (λ m. m.text) here ∙ lines_back_text (map f rest) first))
           (subst (λ cs. AllStandIn cs first.text) from (AllStandIn-drop (length earlier) (map f xs) first.text stand)).0;
       left = sym (ap (take (length earlier)) whole ∙ take-append_seam earlier (x ∷ rest));
-      line = ap (taken_back_in (f x)) here ∙ sym (ap (λ cs. lines_back cs first) from);
+      line = ap (line_after_undo (f x)) here ∙ sym (ap (λ cs. lines_back cs first) from);
     }
 
 -- the oldest of the changes that are left is redone
 pub record AheadTurn {A : Type 0} (f : A → Change) (xs : List A) (i : ℕ) (x : A) (first l : Line) : Type 0 where
   pub fits : FitsIn (f x) l.text
-  pub line : made_anew_in (f x) l ≡ lines_ahead (take (i + 1) (map f xs)) first
-  pub fit : (after : Line) → after ≡ made_anew_in (f x) l → AllFitIn (drop (i + 1) (map f xs)) after.text
+  pub line : line_after_redo (f x) l ≡ lines_ahead (take (i + 1) (map f xs)) first
+  pub fit : (after : Line) → after ≡ line_after_redo (f x) l → AllFitIn (drop (i + 1) (map f xs)) after.text
 
 pub ahead_turn : {A : Type 0} (f : A → Change) (xs : List A) (i : ℕ) (x : A) (first l : Line) → i < length xs → x ≡ get_or xs i x
     → l ≡ lines_ahead (take i (map f xs)) first → AllFitIn (drop i (map f xs)) l.text → AheadTurn f xs i x first l
@@ -70,6 +70,6 @@ ahead_turn f xs i x first l inside is line fit =
     let both = subst (λ cs. AllFitIn cs l.text) from fit in
     record {
       fits = both.0;
-      line = ap (made_anew_in (f x)) line ∙ sym (lines_ahead-append (take i (map f xs)) (f x ∷ []) first) ∙ sym (ap (λ cs. lines_ahead cs first) upto);
+      line = ap (line_after_redo (f x)) line ∙ sym (lines_ahead-append (take i (map f xs)) (f x ∷ []) first) ∙ sym (ap (λ cs. lines_ahead cs first) upto);
       fit = λ after e. subst (λ (m : Line). AllFitIn (drop (i + 1) (map f xs)) m.text) (sym e) both.1;
     }

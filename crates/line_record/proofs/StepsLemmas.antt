@@ -6,13 +6,13 @@ use Rattle.std.proofs.lemmas.Bool.Decides.{nat_tests}
 use Rattle.std.proofs.lemmas.List.{take-take, take_min, take_at, drop_at, take-map, drop-map, get_or-map, get_or-take, get_or-drop, length-map, length-append, length-take, length-drop, length-take-le, map_push, reverse-append, take_more, take_more_set, drop-drop}
 use Rattle.line_record.specs.declared.steps.Step.{Step}
 use Rattle.line_record.specs.Change.{Change}
-use Rattle.line_buffer.specs.Event.{Event}
+use Rattle.line_buffer.specs.Event.{ChangeEvent}
 use Rattle.line_record.specs.Change.Change.{Inserted}
-use Rattle.line_record.specs.Held.{joined_to, inserted_by}
-use Rattle.line_record.specs.Logged.{joined_at, Adjoin, place_of_span}
-use Rattle.line_record.specs.Items.{Item, changes_of, gathered, group_of}
+use Rattle.line_record.specs.Held.{join_of, text_inserted_by}
+use Rattle.line_record.specs.Logged.{join_at, Adjoin, place_of_span}
+use Rattle.line_record.specs.Items.{Item, changes_of, changes_of_all, group_of}
 use Rattle.line_record.specs.Items.Item.{Open, Lone}
-use Rattle.line_record.specs.Steps.{item_in, items_in, AreSteps, item_from, item_inserted, is_open, joined_item, joined_items}
+use Rattle.line_record.specs.LogSteps.{item_in, items_in, AreSteps, item_from, item_inserted, is_open, join_of_item, join_of_items}
 use Rattle.line_record.proofs.EndLemmas.{changes_of-item_from, group_pushed}
 use Rattle.line_record.proofs.LogLemmas.{mapped_twice, joined_at_is}
 use Rattle.line_record.proofs.StoredLemmas.{before_last, inserted_last}
@@ -152,10 +152,10 @@ slice_split xs i j k le more =
     ∙ ap (λ ys. slice_range xs i j ++ take (k - j) ys) (drop-drop (j - i) i xs ∙ ap (λ n. drop n xs) b))
 
 -- the changes of steps that adjoin
-pub gathered_spans : (edits : List Change) (steps : List Step) (from to : ℕ) → Adjoin first_of last_of Any edits from steps to → gathered (items_in edits steps) ≡ slice_range edits from to
+pub gathered_spans : (edits : List Change) (steps : List Step) (from to : ℕ) → Adjoin first_of last_of Any edits from steps to → changes_of_all (items_in edits steps) ≡ slice_range edits from to
 gathered_spans edits [] from to h = sym (ap (slice_range edits from) (sym h) ∙ no_slice edits from)
 gathered_spans edits (s ∷ steps) from to h =
-    ap (λ cs. cs ++ gathered (items_in edits steps)) (changes_of-item_from s.closed (slice_range edits s.first s.last) ∙ ap (λ k. slice_range edits k s.last) h.0)
+    ap (λ cs. cs ++ changes_of_all (items_in edits steps)) (changes_of-item_from s.closed (slice_range edits s.first s.last) ∙ ap (λ k. slice_range edits k s.last) h.0)
     ∙ ap (λ cs. slice_range edits from s.last ++ cs) (gathered_spans edits steps s.last to h.3)
     ∙ slice_split edits from s.last to h.1 (adjoin_le first_of last_of Any edits steps s.last to h.3)
 
@@ -186,20 +186,20 @@ marks edits steps items n s h =
 
 -- the text that a step's newest change put in
 pub step_inserted : (edits : List Change) (steps : List Step) (items : List Item) (n : ℕ) (s : Step) (d : Change) → StepAt edits steps items n s → s.first < s.last
-    → item_inserted (get_or items n Open) ≡ inserted_by (get_or edits (s.last - 1) d)
+    → item_inserted (get_or items n Open) ≡ text_inserted_by (get_or edits (s.last - 1) d)
 step_inserted edits steps items n s d h some =
     let cs = slice_range edits s.first s.last in
     let count : length cs ≡ s.last - s.first = slice_length edits s.first s.last h.inside in
     let at : s.first + (length cs - 1) ≡ s.last - 1 = omega (arith, count, some) in
     ap item_inserted h.item ∙ ap (λ xs. item_inserted (item_from s.closed xs)) (before_last cs d (omega (arith, count, some)))
     ∙ inserted_last s.closed (take (length cs - 1) cs) (get_or cs (length cs - 1) d)
-    ∙ ap inserted_by (get_or-take (s.last - s.first) (drop s.first edits) (length cs - 1) d (omega (arith, count, some)) ∙ get_or-drop s.first edits (length cs - 1) d ∙ ap (λ k. get_or edits k d) at)
+    ∙ ap text_inserted_by (get_or-take (s.last - s.first) (drop s.first edits) (length cs - 1) d (omega (arith, count, some)) ∙ get_or-drop s.first edits (length cs - 1) d ∙ ap (λ k. get_or edits k d) at)
 
 -- the newest of some items
 pub newest_item : (items : List Item) (n : ℕ) → n < length items → reverse (take (n + 1) items) ≡ get_or items n Open ∷ reverse (take n items)
 newest_item items n h = ap reverse (take_more items n Open h) ∙ reverse-append (take n items) (get_or items n Open ∷ [])
 
-not_lone : (e : Event) (closed : Bool) (cs : List Change) → (not closed && (length cs == 1)) ≡ false → joined_item e (item_from closed cs) ≡ None
+not_lone : (e : ChangeEvent) (closed : Bool) (cs : List Change) → (not closed && (length cs == 1)) ≡ false → join_of_item e (item_from closed cs) ≡ None
 not_lone e true [] h = refl
 not_lone e false [] h = refl
 not_lone e true (c ∷ []) h = refl
@@ -221,17 +221,17 @@ lone_from : (closed : Bool) (n : ℕ) (j : Change) → (not closed && (n == 1)) 
 lone_from true n j h = cc
 lone_from false n j h = refl
 
-pub joins_none : (e : Event) (edits : List Change) (steps : List Step) (items : List Item) (n : ℕ) (s : Step) → StepAt edits steps items n s → n < length items
-    → (not s.closed && (s.last - s.first == 1)) ≡ false → joined_items e (reverse (take (n + 1) items)) ≡ None
+pub joins_none : (e : ChangeEvent) (edits : List Change) (steps : List Step) (items : List Item) (n : ℕ) (s : Step) → StepAt edits steps items n s → n < length items
+    → (not s.closed && (s.last - s.first == 1)) ≡ false → join_of_items e (reverse (take (n + 1) items)) ≡ None
 joins_none e edits steps items n s h inside lone =
-    ap (joined_items e) (newest_item items n inside)
-    ∙ ap (option_map (λ y. y ∷ reverse (take n items))) (ap (joined_item e) h.item
+    ap (join_of_items e) (newest_item items n inside)
+    ∙ ap (option_map (λ y. y ∷ reverse (take n items))) (ap (join_of_item e) h.item
     ∙ not_lone e s.closed (slice_range edits s.first s.last) (ap (λ k. not s.closed && (k == 1)) (slice_length edits s.first s.last h.inside) ∙ lone))
 
 -- a lone step is joined as its change is
-joins_lone : (e : Event) (edits : List Change) (steps : List Step) (items : List Item) (n : ℕ) (s : Step) (d : Change) → StepAt edits steps items n s → n < length items
+joins_lone : (e : ChangeEvent) (edits : List Change) (steps : List Step) (items : List Item) (n : ℕ) (s : Step) (d : Change) → StepAt edits steps items n s → n < length items
     → (not s.closed && (s.last - s.first == 1)) ≡ true
-    → joined_items e (reverse (take (n + 1) items)) ≡ option_map (λ j. Lone j ∷ reverse (take n items)) (joined_to e (get_or edits s.first d))
+    → join_of_items e (reverse (take (n + 1) items)) ≡ option_map (λ j. Lone j ∷ reverse (take n items)) (join_of e (get_or edits s.first d))
 joins_lone e edits steps items n s d h inside lone =
     let cs = slice_range edits s.first s.last in
     let count : length cs ≡ s.last - s.first = slice_length edits s.first s.last h.inside in
@@ -240,9 +240,9 @@ joins_lone e edits steps items n s d h inside lone =
     let at : s.first + 0 ≡ s.first = omega arith in
     let read : get_or cs 0 d ≡ get_or edits s.first d =
     get_or-take (s.last - s.first) (drop s.first edits) 0 d (omega (arith, one)) ∙ get_or-drop s.first edits 0 d ∙ ap (λ k. get_or edits k d) at in
-    ap (joined_items e) (newest_item items n inside)
-    ∙ ap (λ x. option_map (λ y. y ∷ reverse (take n items)) (joined_item e x)) (h.item ∙ is_lone s.closed cs d here ∙ ap Lone read)
-    ∙ mapped_twice Lone (λ y. y ∷ reverse (take n items)) (joined_to e (get_or edits s.first d))
+    ap (join_of_items e) (newest_item items n inside)
+    ∙ ap (λ x. option_map (λ y. y ∷ reverse (take n items)) (join_of_item e x)) (h.item ∙ is_lone s.closed cs d here ∙ ap Lone read)
+    ∙ mapped_twice Lone (λ y. y ∷ reverse (take n items)) (join_of e (get_or edits s.first d))
 
 no_join : (J : Option (List Change)) (f : Change → List Change) (g : Change → List Item) (o : Option Change) → J ≡ option_map f o → false ≡ is_some J → (J ≡ None) × (option_map g o ≡ None)
 no_join J f g None e h = (e, refl)
@@ -253,31 +253,31 @@ a_join : (J : Option (List Change)) (f : Change → List Change) (g : Change →
 a_join J f g None e h = cc
 a_join J f g (Some j) e h = (j, e, refl)
 
-pub record LeftAlone (e : Event) (edits after : List Change) (items : List Item) (n : ℕ) : Type 0 where
+pub record LeftAlone (e : ChangeEvent) (edits after : List Change) (items : List Item) (n : ℕ) : Type 0 where
   pub same : after ≡ edits
-  pub none : joined_items e (reverse (take (n + 1) items)) ≡ None
+  pub none : join_of_items e (reverse (take (n + 1) items)) ≡ None
 
-pub left_alone : (e : Event) (edits after : List Change) (steps : List Step) (items : List Item) (n : ℕ) (s : Step) → StepAt edits steps items n s → n < length items
-    → (not s.closed && (s.last - s.first == 1)) ≡ true → false ≡ is_some (joined_at e s.first edits) → after ≡ unwrap_or (joined_at e s.first edits) edits → LeftAlone e edits after items n
+pub left_alone : (e : ChangeEvent) (edits after : List Change) (steps : List Step) (items : List Item) (n : ℕ) (s : Step) → StepAt edits steps items n s → n < length items
+    → (not s.closed && (s.last - s.first == 1)) ≡ true → false ≡ is_some (join_at e s.first edits) → after ≡ unwrap_or (join_at e s.first edits) edits → LeftAlone e edits after items n
 left_alone e edits after steps items n s h inside lone answer value =
     let d = Inserted 0 [] in
     let one : s.last - s.first ≡ 1 = lone_count s.closed (s.last - s.first) lone in
-    let j = no_join (joined_at e s.first edits) (λ j. take s.first edits ++ (j ∷ [])) (λ j. Lone j ∷ reverse (take n items)) (joined_to e (get_or edits s.first d))
+    let j = no_join (join_at e s.first edits) (λ j. take s.first edits ++ (j ∷ [])) (λ j. Lone j ∷ reverse (take n items)) (join_of e (get_or edits s.first d))
     (joined_at_is e s.first edits d (omega (arith, one, h.inside))) answer in
     record { same = value ∙ ap (λ o. unwrap_or o edits) j.0; none = joins_lone e edits steps items n s d h inside lone ∙ j.1 }
 
-pub record JoinedOn (e : Event) (edits after : List Change) (steps left : List Step) (items : List Item) (n : ℕ) : Type 0 where
+pub record JoinedOn (e : ChangeEvent) (edits after : List Change) (steps left : List Step) (items : List Item) (n : ℕ) : Type 0 where
   pub are : AreSteps after left
-  pub joined : joined_items e (reverse (take (n + 1) items)) ≡ Some (reverse (items_in after left))
+  pub joined : join_of_items e (reverse (take (n + 1) items)) ≡ Some (reverse (items_in after left))
 
-pub joined_on : (e : Event) (edits after : List Change) (steps left : List Step) (items : List Item) (n : ℕ) (s : Step) → AreSteps edits steps → items_in edits steps ≡ items → StepAt edits steps items n s
-    → s ≡ get_or steps n s → n < length items → (not s.closed && (s.last - s.first == 1)) ≡ true → true ≡ is_some (joined_at e s.first edits)
-    → after ≡ unwrap_or (joined_at e s.first edits) edits → left ≡ take (n + 1) steps → JoinedOn e edits after steps left items n
+pub joined_on : (e : ChangeEvent) (edits after : List Change) (steps left : List Step) (items : List Item) (n : ℕ) (s : Step) → AreSteps edits steps → items_in edits steps ≡ items → StepAt edits steps items n s
+    → s ≡ get_or steps n s → n < length items → (not s.closed && (s.last - s.first == 1)) ≡ true → true ≡ is_some (join_at e s.first edits)
+    → after ≡ unwrap_or (join_at e s.first edits) edits → left ≡ take (n + 1) steps → JoinedOn e edits after steps left items n
 joined_on e edits after steps left items n s are view h is inside lone answer value cut =
     let d = Inserted 0 [] in
     let one : s.last - s.first ≡ 1 = lone_count s.closed (s.last - s.first) lone in
     let long : s.last ≡ suc s.first = omega (arith, one) in
-    let j = a_join (joined_at e s.first edits) (λ j. take s.first edits ++ (j ∷ [])) (λ j. Lone j ∷ reverse (take n items)) (joined_to e (get_or edits s.first d))
+    let j = a_join (join_at e s.first edits) (λ j. take s.first edits ++ (j ∷ [])) (λ j. Lone j ∷ reverse (take n items)) (join_of e (get_or edits s.first d))
     (joined_at_is e s.first edits d (omega (arith, one, h.inside))) answer in
     let put : after ≡ take s.first edits ++ (j.0 ∷ []) = value ∙ ap (λ o. unwrap_or o edits) j.1 in
     let count : length (take s.first edits) ≡ s.first = length-take-le s.first edits (omega (arith, h.inside, h.order)) in
@@ -293,7 +293,7 @@ joined_on e edits after steps left items n s are view h is inside lone answer va
 
 -- the steps from an index on as one
 pub record ClosedFrom (edits : List Change) (steps : List Step) (items : List Item) (n index : ℕ) (a b : Step) : Type 0 where
-  pub group : gathered (drop index (take n items)) ≡ slice_range edits a.first b.last
+  pub group : changes_of_all (drop index (take n items)) ≡ slice_range edits a.first b.last
   pub order : a.first ≤ b.last
   pub end : b.last ≡ place_of_span first_of steps n (length edits)
 
@@ -310,22 +310,22 @@ closed_from edits steps items n index last a b are view ha hb next order is =
     let back : Adjoin first_of last_of Any edits a.first (drop index (take n steps)) b.last =
     subst (λ m. Adjoin first_of last_of Any edits m (drop index (take n steps)) b.last) place (adjoin_drop first_of last_of Any index edits (take n steps) 0 b.last front) in
     record {
-      group = ap (λ xs. gathered (drop index (take n xs))) (sym view) ∙ ap (λ xs. gathered (drop index xs)) (take-map (item_in edits) n steps)
-          ∙ ap gathered (drop-map (item_in edits) index (take n steps)) ∙ gathered_spans edits (drop index (take n steps)) a.first b.last back;
+      group = ap (λ xs. changes_of_all (drop index (take n xs))) (sym view) ∙ ap (λ xs. changes_of_all (drop index xs)) (take-map (item_in edits) n steps)
+          ∙ ap changes_of_all (drop-map (item_in edits) index (take n steps)) ∙ gathered_spans edits (drop index (take n steps)) a.first b.last back;
       order = adjoin_le first_of last_of Any edits (drop index (take n steps)) a.first b.last back;
       end = end;
     }
 
 -- the number of their changes
 pub changes_counted : (edits : List Change) (steps : List Step) (items : List Item) (first end n : ℕ) (a b : Step) → AreSteps edits steps → items_in edits steps ≡ items → n ≡ min end (length items)
-    → first < n → a ≡ get_or steps first a → b ≡ get_or steps (n - 1) b → (a.first ≤ b.last) × (b.last - a.first ≡ length (gathered (drop first (take end items))))
+    → first < n → a ≡ get_or steps first a → b ≡ get_or steps (n - 1) b → (a.first ≤ b.last) × (b.last - a.first ≡ length (changes_of_all (drop first (take end items))))
 changes_counted edits steps items first end n a b are view is order at_a at_b =
     let inside : n ≤ length items = omega (arith, is) in
     let ha = step_at edits steps items first a are view (omega (arith, order, inside)) at_a in
     let hb = step_at edits steps items (n - 1) b are view (omega (arith, order, inside)) at_b in
     let c = closed_from edits steps items n first (n - 1) a b are view ha hb (omega (arith, order)) order at_a in
     let same : take n items ≡ take end items = ap (λ k. take k items) is ∙ take_min end items in
-    (c.order, sym (ap (λ xs. length (gathered (drop first xs))) (sym same) ∙ ap length c.group ∙ slice_length edits a.first b.last hb.inside))
+    (c.order, sym (ap (λ xs. length (changes_of_all (drop first xs))) (sym same) ∙ ap length c.group ∙ slice_length edits a.first b.last hb.inside))
 
 pub group_none : (edits : List Change) (group : List Change) (i j : ℕ) → group ≡ slice_range edits i j → i ≡ j → group ≡ []
 group_none edits group i j is e = is ∙ ap (slice_range edits i) (sym e) ∙ no_slice edits i
@@ -342,7 +342,7 @@ group_some edits group i j is less inside =
 pub group_pushed_on : (edits after : List Change) (steps new : List Step) (items : List Item) (n index : ℕ) (a b : Step) → AreSteps edits steps → items_in edits steps ≡ items → StepAt edits steps items index a
     → ClosedFrom edits steps items n index a b → a.first < b.last → b.last ≤ length edits → after ≡ take b.last edits
     → new ≡ take index steps ++ ((record { closed = true; first = a.first; last = b.last }) ∷ [])
-    → AreSteps after new × (reverse (items_in after new) ≡ group_of (gathered (drop index (take n items))) (reverse (take index items)))
+    → AreSteps after new × (reverse (items_in after new) ≡ group_of (changes_of_all (drop index (take n items))) (reverse (take index items)))
 group_pushed_on edits after steps new items n index a b are view ha h less inside cut pushed =
     let s : Step = record { closed = true; first = a.first; last = b.last } in
     let same : take b.last edits ≡ take b.last after = sym (ap (take b.last) cut ∙ take-take b.last b.last edits (omega arith)) in
@@ -357,7 +357,7 @@ group_pushed_on edits after steps new items n index a b are view ha h less insid
 
 pub group_gone : (edits after : List Change) (steps left : List Step) (items : List Item) (n index : ℕ) (a b : Step) → AreSteps edits steps → items_in edits steps ≡ items → StepAt edits steps items index a
     → ClosedFrom edits steps items n index a b → a.first ≡ b.last → after ≡ take b.last edits → left ≡ take index steps
-    → AreSteps after left × (reverse (items_in after left) ≡ group_of (gathered (drop index (take n items))) (reverse (take index items)))
+    → AreSteps after left × (reverse (items_in after left) ≡ group_of (changes_of_all (drop index (take n items))) (reverse (take index items)))
 group_gone edits after steps left items n index a b are view ha h same cut kept =
     let p = steps_cut edits after steps left index a.first are ha.place (cut ∙ ap (λ k. take k edits) (sym same)) kept in
     (p.are, ap reverse (p.items ∙ ap (take index) view) ∙ sym (ap (λ g. group_of g (reverse (take index items))) (group_none edits _ a.first b.last h.group same)))

@@ -3,10 +3,10 @@ use Rattle.std.proofs.Common.{◌≡◌, ℕ, zero, suc, ◌-◌, ◌<◌, Bool,
 use Rattle.std.proofs.Math.Seq.{take-suc, take-length, drop-append_seam}
 use Rattle.std.proofs.lemmas.List.{take-append-drop, length-map, map-append, map_push, length-reverse, reverse-append, length-drop}
 use Rattle.line_record.specs.Change.{Change, newest_of}
-use Rattle.line_record.specs.Held.{text_of, text_back, text_kept, first_held, inserted_by}
-use Rattle.line_record.specs.Items.{Item, before_item, holding, done_held, DoneStand, Items, ItemsStand, held_on, truncated}
+use Rattle.line_record.specs.Held.{text_of, text_back, text_kept, first_held, text_inserted_by}
+use Rattle.line_record.specs.Items.{Item, before_item, item_with_text, items_with_texts, DoneStand, Items, ItemsStand, record_on, first_items}
 use Rattle.line_record.specs.Items.Item.{Open, Lone, Group}
-use Rattle.line_record.specs.Steps.{item_from, item_inserted}
+use Rattle.line_record.specs.LogSteps.{item_from, item_inserted}
 
 pub before_last : {A : Type 0} (xs : List A) (d : A) → 0 < length xs → xs ≡ take (length xs - 1) xs ++ (get_or xs (length xs - 1) d ∷ [])
 before_last xs d h =
@@ -34,49 +34,49 @@ first_kept f xs n =
     ap (λ k. k - n) (length-reverse_map f xs) ∙ sym (length-reverse_map f (drop n xs) ∙ length-drop n xs) in
     sym (ap (λ k. drop k (reverse (map f xs))) count ∙ ap (drop (length newer)) split ∙ drop-append_seam newer older)
 
-pub text_of-holding : (x : Item) (text : List ℕ) → text_of (holding x text) ≡ text
+pub text_of-holding : (x : Item) (text : List ℕ) → text_of (item_with_text x text) ≡ text
 text_of-holding Open text = refl
 text_of-holding (Lone c) text = refl
 text_of-holding (Group c cs) text = refl
 
-pub length-done_held : (items : List Item) (text : List ℕ) → length (done_held items text) ≡ length items
+pub length-done_held : (items : List Item) (text : List ℕ) → length (items_with_texts items text) ≡ length items
 length-done_held [] text = refl
 length-done_held (x ∷ items) text = ap suc (length-done_held items (before_item x text))
 
 -- the items that are left when some were taken off
-pub done_held-drop : (k : ℕ) (items : List Item) (text : List ℕ) → done_held (drop k items) (text_back k (done_held items text) text) ≡ drop k (done_held items text)
+pub done_held-drop : (k : ℕ) (items : List Item) (text : List ℕ) → items_with_texts (drop k items) (text_back k (items_with_texts items text) text) ≡ drop k (items_with_texts items text)
 done_held-drop zero items text = refl
 done_held-drop (suc k) [] text = refl
 done_held-drop (suc k) (x ∷ items) text =
-    ap (λ t. done_held (drop k items) (text_back k (done_held items (before_item x text)) t)) (text_of-holding x (before_item x text)) ∙ done_held-drop k items (before_item x text)
+    ap (λ t. items_with_texts (drop k items) (text_back k (items_with_texts items (before_item x text)) t)) (text_of-holding x (before_item x text)) ∙ done_held-drop k items (before_item x text)
 
-pub DoneStand-drop : (k : ℕ) (items : List Item) (text : List ℕ) → DoneStand items text → DoneStand (drop k items) (text_back k (done_held items text) text)
+pub DoneStand-drop : (k : ℕ) (items : List Item) (text : List ℕ) → DoneStand items text → DoneStand (drop k items) (text_back k (items_with_texts items text) text)
 DoneStand-drop zero items text h = h
 DoneStand-drop (suc k) [] text h = h
 DoneStand-drop (suc k) (x ∷ items) text h =
-    subst (λ t. DoneStand (drop k items) (text_back k (done_held items (before_item x text)) t)) (sym (text_of-holding x (before_item x text))) (DoneStand-drop k items (before_item x text) h.1)
+    subst (λ t. DoneStand (drop k items) (text_back k (items_with_texts items (before_item x text)) t)) (sym (text_of-holding x (before_item x text))) (DoneStand-drop k items (before_item x text) h.1)
 
 newest_of-push : (c d : Change) (cs : List Change) → newest_of c (cs ++ (d ∷ [])) ≡ d
 newest_of-push c d [] = refl
 newest_of-push c d (e ∷ cs) = newest_of-push e d cs
 
 -- the newest change says what an item put in
-pub inserted_last : (closed : Bool) (cs : List Change) (d : Change) → item_inserted (item_from closed (cs ++ (d ∷ []))) ≡ inserted_by d
+pub inserted_last : (closed : Bool) (cs : List Change) (d : Change) → item_inserted (item_from closed (cs ++ (d ∷ []))) ≡ text_inserted_by d
 inserted_last true [] d = refl
 inserted_last false [] d = refl
 inserted_last true (c ∷ []) d = refl
 inserted_last false (c ∷ []) d = refl
-inserted_last true (c ∷ (e ∷ cs)) d = ap inserted_by (newest_of-push e d cs)
-inserted_last false (c ∷ (e ∷ cs)) d = ap inserted_by (newest_of-push e d cs)
+inserted_last true (c ∷ (e ∷ cs)) d = ap text_inserted_by (newest_of-push e d cs)
+inserted_last false (c ∷ (e ∷ cs)) d = ap text_inserted_by (newest_of-push e d cs)
 
-pub truncated_held : (n : ℕ) (s : Items) (text : List ℕ) (t : Items) → t ≡ truncated n s → held_on t (text_kept n (held_on s text) text) ≡ first_held n (held_on s text)
+pub truncated_held : (n : ℕ) (s : Items) (text : List ℕ) (t : Items) → t ≡ first_items n s → record_on t (text_kept n (record_on s text) text) ≡ first_held n (record_on s text)
 truncated_held n s text t e =
-    ap (λ x. held_on x (text_kept n (held_on s text) text)) e
-    ∙ ap (λ k. done_held (drop (k - n) s.done) (text_kept n (held_on s text) text)) (sym (length-done_held s.done text))
-    ∙ done_held-drop (length (held_on s text) - n) s.done text
+    ap (λ x. record_on x (text_kept n (record_on s text) text)) e
+    ∙ ap (λ k. items_with_texts (drop (k - n) s.done) (text_kept n (record_on s text) text)) (sym (length-done_held s.done text))
+    ∙ done_held-drop (length (record_on s text) - n) s.done text
 
-pub truncated_stand : (n : ℕ) (s : Items) (text : List ℕ) (t : Items) → t ≡ truncated n s → ItemsStand s text → ItemsStand t (text_kept n (held_on s text) text)
+pub truncated_stand : (n : ℕ) (s : Items) (text : List ℕ) (t : Items) → t ≡ first_items n s → ItemsStand s text → ItemsStand t (text_kept n (record_on s text) text)
 truncated_stand n s text t e h =
-    let P : ℕ → Type 0 = λ k. DoneStand (drop (k - n) s.done) (text_kept n (held_on s text) text) in
-    subst (λ x. ItemsStand x (text_kept n (held_on s text) text)) (sym e)
-    (subst P (length-done_held s.done text) (DoneStand-drop (length (held_on s text) - n) s.done text h.0), tt)
+    let P : ℕ → Type 0 = λ k. DoneStand (drop (k - n) s.done) (text_kept n (record_on s text) text) in
+    subst (λ x. ItemsStand x (text_kept n (record_on s text) text)) (sym e)
+    (subst P (length-done_held s.done text) (DoneStand-drop (length (record_on s text) - n) s.done text h.0), tt)

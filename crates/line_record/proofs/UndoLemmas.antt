@@ -8,9 +8,9 @@ use Rattle.std.proofs.Math.Nat.{sub-zero}
 use Rattle.std.proofs.Math.Bool.{or_assoc}
 use Rattle.std.specs.Prelude.{IsErrAnd, IsUtf8}
 use Rattle.line_buffer.specs.Line.{Line}
-use Rattle.line_record.specs.Change.{Change, place_of, removed_of, added_of, taken_back, made_anew, redo_place, StandsIn, all_taken_back, all_made_anew, AllStandIn, AllFitIn, newest_of}
-use Rattle.line_record.specs.Held.{Held, is_step, undone_line, line_back, has_step, ahead_back, remade_line, line_ahead, has_step_ahead, held_ahead}
-use Rattle.line_record.specs.Items.{Item, Items, changes_of, before_item, after_item, holding, done_held, undone_ahead, DoneStand, UndoneFit, ItemsStand, held_on, ahead_on, taken_back_in, made_anew_in, lines_back, lines_ahead, nearest_changes, undo_one, redo_one, is_step_item, nearest_is_change, UndoesItems, last_changes, BackInPart, gathered}
+use Rattle.line_record.specs.Change.{Change, place_of, old_text_of, new_text_of, text_after_undo, text_after_redo, redo_place, StandsIn, all_taken_back, all_made_anew, AllStandIn, AllFitIn, newest_of}
+use Rattle.line_record.specs.Held.{HeldItem, is_step, line_before_item, line_back, has_step, ahead_back, line_after_item, line_ahead, has_step_ahead, record_ahead}
+use Rattle.line_record.specs.Items.{Item, Items, changes_of, before_item, after_item, item_with_text, items_with_texts, ahead_with_texts, DoneStand, UndoneFit, ItemsStand, record_on, ahead_on, line_after_undo, line_after_redo, lines_back, lines_ahead, nearest_changes, undo_one, redo_one, is_step_item, nearest_is_change, UndoesItems, last_changes, CutUndo, changes_of_all}
 use Rattle.line_record.specs.Items.Item.{Open, Lone, Group}
 use Rattle.line_record.proofs.EndLemmas.{gather, gather-reverse, last_changes_are}
 use Rattle.line_record.proofs.Exchange.{exchanged}
@@ -48,7 +48,7 @@ undo_many_is (suc n) (x ∷ items) undone =
 
 lines_back-append : (cs ds : List Change) (l : Line) → lines_back (cs ++ ds) l ≡ lines_back cs (lines_back ds l)
 lines_back-append [] ds l = refl
-lines_back-append (c ∷ cs) ds l = ap (taken_back_in c) (lines_back-append cs ds l)
+lines_back-append (c ∷ cs) ds l = ap (line_after_undo c) (lines_back-append cs ds l)
 
 many_back_is : (n : ℕ) (items : List Item) (l : Line) → many_back n items l ≡ lines_back (last_changes n items) l
 many_back_is zero items l = refl
@@ -92,7 +92,7 @@ part_of (suc n) (suc k) j (x ∷ items) l less some inside =
       line = rest.line ∙ sym (lines_back-append rest.back cs l);
     }
 
-part_is : (n k j : ℕ) (items : List Item) (l left : Line) → k < n → 0 < j → j ≤ length (nearest_changes (drop k items)) → left ≡ part_back k j items l → BackInPart (last_changes n items) l left
+part_is : (n k j : ℕ) (items : List Item) (l left : Line) → k < n → 0 < j → j ≤ length (nearest_changes (drop k items)) → left ≡ part_back k j items l → CutUndo (last_changes n items) l left
 part_is n k j items l left less some inside is =
     let p = part_of n k j items l less some inside in
     record {
@@ -117,14 +117,14 @@ last_reversed n steps = elim (dec_le n (length steps)) [
 ]
 
 -- the last of the items that are done, among all items
-pub last_changes_of : (items : List Item) (done n first : ℕ) → done ≤ length items → first ≡ done - n → last_changes n (reverse (take done items)) ≡ gathered (drop first (take done items))
+pub last_changes_of : (items : List Item) (done n first : ℕ) → done ≤ length items → first ≡ done - n → last_changes n (reverse (take done items)) ≡ changes_of_all (drop first (take done items))
 last_changes_of items done n first inside is =
     let steps = take done items in
     let from : length steps - n ≡ first = omega (arith, is, length-take-le done items inside) in
-    last_changes_are n (reverse steps) ∙ ap gather (last_reversed n steps) ∙ gather-reverse (drop (length steps - n) steps) ∙ ap (λ k. gathered (drop k steps)) from
+    last_changes_are n (reverse steps) ∙ ap gather (last_reversed n steps) ∙ gather-reverse (drop (length steps - n) steps) ∙ ap (λ k. changes_of_all (drop k steps)) from
 
 -- the nearest item that is undone, among all items
-pub some_ahead : (items : List Item) (done end : ℕ) → end ≤ done + 1 → 0 < length (gathered (drop done (take end items))) → 0 < length (nearest_changes (drop done items))
+pub some_ahead : (items : List Item) (done end : ℕ) → end ≤ done + 1 → 0 < length (changes_of_all (drop done (take end items))) → 0 < length (nearest_changes (drop done items))
 some_ahead [] zero zero le some = some
 some_ahead [] zero (suc end) le some = some
 some_ahead [] (suc done) zero le some = some
@@ -145,7 +145,7 @@ pub was_taken_back : (cs : List Change) (text : List ℕ) → AllStandIn cs text
 was_taken_back [] text h u = record { utf8 = u; fit = tt; back = refl }
 was_taken_back (c ∷ cs) text h u =
     let below = was_taken_back cs text h.1 u in
-    let x = exchanged (place_of c) (added_of c) (removed_of c) (all_taken_back cs text) h.0 below.utf8 in
+    let x = exchanged (place_of c) (new_text_of c) (old_text_of c) (all_taken_back cs text) h.0 below.utf8 in
     record {
       utf8 = x.utf8;
       fit = (x.stand, subst (AllFitIn cs) (sym x.back) below.fit);
@@ -160,38 +160,38 @@ record MadeAnew (cs : List Change) (text : List ℕ) : Type 0 where
 was_made_anew : (cs : List Change) (text : List ℕ) → AllFitIn cs text → IsUtf8 text → MadeAnew cs text
 was_made_anew [] text h u = record { stand = tt; back = refl }
 was_made_anew (c ∷ cs) text h u =
-    let x = exchanged (place_of c) (removed_of c) (added_of c) text h.0 u in
-    let above = was_made_anew cs (made_anew c text) h.1 x.utf8 in
+    let x = exchanged (place_of c) (old_text_of c) (new_text_of c) text h.0 u in
+    let above = was_made_anew cs (text_after_redo c text) h.1 x.utf8 in
     record {
       stand = (subst (StandsIn c) (sym above.back) x.stand, above.stand);
-      back = ap (taken_back c) above.back ∙ x.back;
+      back = ap (text_after_undo c) above.back ∙ x.back;
     }
 
-item_back : (x : Item) (l : Line) → lines_back (changes_of x) l ≡ undone_line (holding x (before_item x l.text)) l
+item_back : (x : Item) (l : Line) → lines_back (changes_of x) l ≡ line_before_item (item_with_text x (before_item x l.text)) l
 item_back Open l = refl
 item_back (Lone c) l = refl
-item_back (Group c cs) l = ap (taken_back_in c) (lines_back_but_place cs l 0)
+item_back (Group c cs) l = ap (line_after_undo c) (lines_back_but_place cs l 0)
 
 group_ahead : (c : Change) (cs : List Change) (l : Line) → lines_ahead (c ∷ cs) l ≡ record l { text = all_made_anew (c ∷ cs) l.text; place = redo_place (newest_of c cs) }
 group_ahead c [] l = refl
-group_ahead c (d ∷ cs) l = group_ahead d cs (made_anew_in c l)
+group_ahead c (d ∷ cs) l = group_ahead d cs (line_after_redo c l)
 
-item_ahead : (x : Item) (l : Line) → lines_ahead (changes_of x) l ≡ remade_line (record { held = holding x l.text; text = after_item x l.text }) l
+item_ahead : (x : Item) (l : Line) → lines_ahead (changes_of x) l ≡ line_after_item (record { held = item_with_text x l.text; text = after_item x l.text }) l
 item_ahead Open l = refl
 item_ahead (Lone c) l = refl
 item_ahead (Group c cs) l = group_ahead c cs l
 
-is_step-holding : (x : Item) (text : List ℕ) → is_step_item x ≡ is_step (holding x text)
+is_step-holding : (x : Item) (text : List ℕ) → is_step_item x ≡ is_step (item_with_text x text)
 is_step-holding Open text = refl
 is_step-holding (Lone c) text = refl
 is_step-holding (Group c cs) text = refl
 
 -- several items undone
 pub record UndoneBy (n : ℕ) (done undone : List Item) (l : Line) : Type 0 where
-  pub line : many_back n done l ≡ line_back n (done_held done l.text) l
-  pub held : done_held (undo_many n done undone).done (many_back n done l).text ≡ drop n (done_held done l.text)
-  pub answer : many_change n done ≡ has_step n (done_held done l.text)
-  pub ahead : undone_ahead (undo_many n done undone).undone (many_back n done l).text ≡ ahead_back n (done_held done l.text) l.text (undone_ahead undone l.text)
+  pub line : many_back n done l ≡ line_back n (items_with_texts done l.text) l
+  pub held : items_with_texts (undo_many n done undone).done (many_back n done l).text ≡ drop n (items_with_texts done l.text)
+  pub answer : many_change n done ≡ has_step n (items_with_texts done l.text)
+  pub ahead : ahead_with_texts (undo_many n done undone).undone (many_back n done l).text ≡ ahead_back n (items_with_texts done l.text) l.text (ahead_with_texts undone l.text)
   pub stand : DoneStand (undo_many n done undone).done (many_back n done l).text
   pub fit : UndoneFit undone l.text → UndoneFit (undo_many n done undone).undone (many_back n done l).text
 
@@ -201,18 +201,18 @@ undone_by (suc n) [] undone l h u = record { line = refl; held = refl; answer = 
 undone_by (suc n) (x ∷ items) undone l h u =
     let below : Line = lines_back (changes_of x) l in
     let t : List ℕ = before_item x l.text in
-    let k : Held = holding x t in
+    let k : HeldItem = item_with_text x t in
     let e : below.text ≡ t = lines_back_text (changes_of x) l in
     let was = was_taken_back (changes_of x) l.text h.0 u in
     let rest = undone_by n items (x ∷ undone) below (subst (DoneStand items) (sym e) h.1) (subst IsUtf8 (sym e) was.utf8) in
     record {
-      line = rest.line ∙ ap (λ s. line_back n (done_held items s) below) e ∙ ap (line_back n (done_held items t)) (item_back x l);
-      held = rest.held ∙ ap (λ s. drop n (done_held items s)) e;
-      answer = ap (λ b. b || many_change n items) (is_step-holding x t) ∙ ap (λ b. is_step k || b) (rest.answer ∙ ap (λ s. has_step n (done_held items s)) e);
+      line = rest.line ∙ ap (λ s. line_back n (items_with_texts items s) below) e ∙ ap (line_back n (items_with_texts items t)) (item_back x l);
+      held = rest.held ∙ ap (λ s. drop n (items_with_texts items s)) e;
+      answer = ap (λ b. b || many_change n items) (is_step-holding x t) ∙ ap (λ b. is_step k || b) (rest.answer ∙ ap (λ s. has_step n (items_with_texts items s)) e);
       ahead = rest.ahead
-          ∙ ap (λ s. ahead_back n (done_held items s) s (record { held = holding x s; text = after_item x s } ∷ undone_ahead undone (after_item x s))) e
-          ∙ ap (λ s. ahead_back n (done_held items t) t (record { held = k; text = s } ∷ undone_ahead undone s)) was.back
-          ∙ ap (λ s. ahead_back n (done_held items t) s (record { held = k; text = l.text } ∷ undone_ahead undone l.text)) (sym (text_of-holding x t));
+          ∙ ap (λ s. ahead_back n (items_with_texts items s) s (record { held = item_with_text x s; text = after_item x s } ∷ ahead_with_texts undone (after_item x s))) e
+          ∙ ap (λ s. ahead_back n (items_with_texts items t) t (record { held = k; text = s } ∷ ahead_with_texts undone s)) was.back
+          ∙ ap (λ s. ahead_back n (items_with_texts items t) s (record { held = k; text = l.text } ∷ ahead_with_texts undone l.text)) (sym (text_of-holding x t));
       stand = rest.stand;
       fit = λ f. rest.fit (subst (AllFitIn (changes_of x)) (sym e) was.fit, subst (UndoneFit undone) (sym was.back ∙ sym (ap (after_item x) e)) f);
     }
@@ -324,10 +324,10 @@ nothing_left end counter first now next before after later undone u is items lin
 
 -- an undo by its definition
 pub record UndoneAs (n : ℕ) (first last : Items) (before after : Line) (undone : Bool) : Type 0 where
-  pub answer : undone ≡ has_step n (held_on first before.text)
-  pub line : after ≡ line_back n (held_on first before.text) before
-  pub held : held_on last after.text ≡ drop n (held_on first before.text)
-  pub ahead : ahead_on last after.text ≡ ahead_back n (held_on first before.text) before.text (ahead_on first before.text)
+  pub answer : undone ≡ has_step n (record_on first before.text)
+  pub line : after ≡ line_back n (record_on first before.text) before
+  pub held : record_on last after.text ≡ drop n (record_on first before.text)
+  pub ahead : ahead_on last after.text ≡ ahead_back n (record_on first before.text) before.text (ahead_on first before.text)
   pub stand : ItemsStand last after.text
 
 pub undone_as : {E : Type 0} (n : ℕ) (first last : Items) (before after : Line) (undone : Bool) → UndoesItems {E = E} n first last before after (Ok undone) → ItemsStand first before.text → IsUtf8 before.text
@@ -341,7 +341,7 @@ undone_as n first last before after undone f h u =
     record {
       answer = f.answer ∙ sym (many_change_is n first.done) ∙ x.answer;
       line = line ∙ x.line;
-      held = ap (λ s. held_on s after.text) items ∙ ap (λ (l : Line). held_on many l.text) line ∙ x.held;
+      held = ap (λ s. record_on s after.text) items ∙ ap (λ (l : Line). record_on many l.text) line ∙ x.held;
       ahead = ap (λ s. ahead_on s after.text) items ∙ ap (λ (l : Line). ahead_on many l.text) line ∙ x.ahead;
       stand = subst (λ s. ItemsStand s after.text) (sym items) (subst (λ (l : Line). ItemsStand many l.text) (sym line) (x.stand, x.fit h.1));
     }
@@ -353,13 +353,13 @@ nearest_part (suc j) [] l = refl
 nearest_part j (x ∷ items) l = refl
 
 part_left : (end counter : ℕ) (first now : Items) (before after left : Line) (undone : Bool) → Undoing end counter first now before after undone → counter < end
-    → BackInPart (nearest_changes now.done) after left → BackInPart (last_changes end first.done) before left
+    → CutUndo (nearest_changes now.done) after left → CutUndo (last_changes end first.done) before left
 part_left end counter first now before after left undone u less p =
     part_is end counter p.left first.done before left less p.some (omega (arith, p.inside, ap (λ items. length (nearest_changes items)) u.left))
     (p.line ∙ nearest_part p.left now.done after ∙ u.part 0 p.left ∙ ap (λ k. part_back k p.left first.done before) (add-zero counter))
 
 pub undoes_in_part : {E : Type 0} (end counter : ℕ) (first now next : Items) (before after left : Line) (undone : Bool) (e : E) (result : Result Bool E) → IsErrAnd result (λ x. x ≡ e)
-    → Undoing end counter first now before after undone → counter < end → BackInPart (nearest_changes now.done) after left → UndoesItems end first next before left result
+    → Undoing end counter first now before after undone → counter < end → CutUndo (nearest_changes now.done) after left → UndoesItems end first next before left result
 undoes_in_part end counter first now next before after left undone e (Ok b) is u less part = absurd is
 undoes_in_part end counter first now next before after left undone e (Err x) is u less part =
     record { answer = tt; items = tt; back = record { line = tt; part = part_left end counter first now before after left undone u less part } }
@@ -367,7 +367,7 @@ undoes_in_part end counter first now next before after left undone e (Err x) is 
 -- a redo by its definition
 pub record RedoneAs (first last : Items) (before after : Line) : Type 0 where
   pub line : after ≡ line_ahead (ahead_on first before.text) before
-  pub held : held_on last after.text ≡ held_ahead (ahead_on first before.text) (held_on first before.text)
+  pub held : record_on last after.text ≡ record_ahead (ahead_on first before.text) (record_on first before.text)
   pub ahead : ahead_on last after.text ≡ drop 1 (ahead_on first before.text)
   pub stand : ItemsStand last after.text
   pub answer : (b : Bool) → Some b ≡ nearest_is_change first.undone → b ≡ has_step_ahead (ahead_on first before.text)
@@ -380,9 +380,9 @@ redone_on done (x ∷ items) l h f u =
     let made = was_made_anew (changes_of x) l.text f.0 u in
     record {
       line = item_ahead x l;
-      held = ap (λ s. holding x (before_item x s) ∷ done_held done (before_item x s)) e
-          ∙ ap (λ s. holding x s ∷ done_held done s) made.back;
-      ahead = ap (undone_ahead items) e;
+      held = ap (λ s. item_with_text x (before_item x s) ∷ items_with_texts done (before_item x s)) e
+          ∙ ap (λ s. item_with_text x s ∷ items_with_texts done s) made.back;
+      ahead = ap (ahead_with_texts items) e;
       stand = subst (λ s. (AllStandIn (changes_of x) s × DoneStand done (before_item x s)) × UndoneFit items s) (sym e) ((made.stand, subst (DoneStand done) (sym made.back) h), f.1);
       answer = λ b i. (let same : b ≡ is_step_item x = cc in same) ∙ is_step-holding x l.text;
     }

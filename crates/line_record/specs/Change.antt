@@ -13,34 +13,34 @@ place_of (Deleted at text) = at
 place_of (Replaced at before after) = at
 
 -- the old text at its place
-abbrev pub removed_of : Change → List ℕ
-removed_of (Inserted at text) = []
-removed_of (Deleted at text) = text
-removed_of (Replaced at before after) = before
+abbrev pub old_text_of : Change → List ℕ
+old_text_of (Inserted at text) = []
+old_text_of (Deleted at text) = text
+old_text_of (Replaced at before after) = before
 
 -- the new text at its place
-abbrev pub added_of : Change → List ℕ
-added_of (Inserted at text) = text
-added_of (Deleted at text) = []
-added_of (Replaced at before after) = after
+abbrev pub new_text_of : Change → List ℕ
+new_text_of (Inserted at text) = text
+new_text_of (Deleted at text) = []
+new_text_of (Replaced at before after) = after
 
 -- a text at a place replaced by another
-abbrev pub exchanged_at : ℕ → List ℕ → List ℕ → List ℕ → List ℕ
-exchanged_at at from to text = replace_range text at (at + length from) to
+abbrev pub text_with_exchange : ℕ → List ℕ → List ℕ → List ℕ → List ℕ
+text_with_exchange at from to text = replace_range text at (at + length from) to
 
-abbrev pub taken_back : Change → List ℕ → List ℕ
-taken_back c text = exchanged_at (place_of c) (added_of c) (removed_of c) text
+abbrev pub text_after_undo : Change → List ℕ → List ℕ
+text_after_undo c text = text_with_exchange (place_of c) (new_text_of c) (old_text_of c) text
 
-abbrev pub made_anew : Change → List ℕ → List ℕ
-made_anew c text = exchanged_at (place_of c) (removed_of c) (added_of c) text
+abbrev pub text_after_redo : Change → List ℕ → List ℕ
+text_after_redo c text = text_with_exchange (place_of c) (old_text_of c) (new_text_of c) text
 
 -- the cursor after the restored text, or at the place of an insertion
 abbrev pub undo_place : Change → ℕ
-undo_place c = place_of c + length (removed_of c)
+undo_place c = place_of c + length (old_text_of c)
 
 -- the cursor after the text that was inserted again, or at the place of a deletion
 abbrev pub redo_place : Change → ℕ
-redo_place c = place_of c + length (added_of c)
+redo_place c = place_of c + length (new_text_of c)
 
 -- a text is at a place, on character boundaries, and another may replace it
 pub record StandsAt (at : ℕ) (from to text : List ℕ) : Type 0 where
@@ -51,16 +51,16 @@ pub record StandsAt (at : ℕ) (from to text : List ℕ) : Type 0 where
 
 -- the change can be undone on the text
 abbrev pub StandsIn : Change → List ℕ → Type 0
-StandsIn c text = StandsAt (place_of c) (added_of c) (removed_of c) text
+StandsIn c text = StandsAt (place_of c) (new_text_of c) (old_text_of c) text
 
 -- the change can be redone on the text
 abbrev pub FitsIn : Change → List ℕ → Type 0
-FitsIn c text = StandsAt (place_of c) (removed_of c) (added_of c) text
+FitsIn c text = StandsAt (place_of c) (old_text_of c) (new_text_of c) text
 
 -- the text before several changes, given in the order in which they were made
 abbrev pub all_taken_back : List Change → List ℕ → List ℕ
 all_taken_back [] text = text
-all_taken_back (c ∷ cs) text = taken_back c (all_taken_back cs text)
+all_taken_back (c ∷ cs) text = text_after_undo c (all_taken_back cs text)
 
 abbrev pub AllStandIn : List Change → List ℕ → Type 0
 AllStandIn [] text = Unit {0}
@@ -69,11 +69,11 @@ AllStandIn (c ∷ cs) text = StandsIn c (all_taken_back cs text) × AllStandIn c
 -- the text after several changes
 abbrev pub all_made_anew : List Change → List ℕ → List ℕ
 all_made_anew [] text = text
-all_made_anew (c ∷ cs) text = all_made_anew cs (made_anew c text)
+all_made_anew (c ∷ cs) text = all_made_anew cs (text_after_redo c text)
 
 abbrev pub AllFitIn : List Change → List ℕ → Type 0
 AllFitIn [] text = Unit {0}
-AllFitIn (c ∷ cs) text = FitsIn c text × AllFitIn cs (made_anew c text)
+AllFitIn (c ∷ cs) text = FitsIn c text × AllFitIn cs (text_after_redo c text)
 
 -- the newest of several changes
 abbrev pub newest_of : Change → List Change → Change

@@ -3,13 +3,13 @@ use Rattle.std.specs.Prelude.{ℕ, false, List, ◌++◌, reverse}
 use Rattle.line_buffer.specs.Line.{Line}
 
 -- the bytes before a gap, and those after it in reverse
-abbrev pub seamed : List ℕ → List ℕ → List ℕ
-seamed before after = before ++ reverse after
+abbrev pub text_around_gap : List ℕ → List ℕ → List ℕ
+text_around_gap before after = before ++ reverse after
 
 -- only the text and the cursor
-abbrev pub detached : Line → Line
-detached l = record { text = l.text; place = l.place; growth = false; limit = 0 }
+abbrev pub without_limits : Line → Line
+without_limits l = record { text = l.text; place = l.place; growth = false; limit = 0 }
 
 -- a line with another one's text and cursor
-abbrev pub taking_over : Line → Line → Line
-taking_over l m = record l { text = m.text; place = m.place }
+abbrev pub with_text_of : Line → Line → Line
+with_text_of l m = record l { text = m.text; place = m.place }

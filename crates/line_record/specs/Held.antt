@@ -2,8 +2,8 @@
 use Rattle.std.specs.Prelude.{ℕ, zero, suc, ◌+◌, ◌==◌, ◌&&◌, ◌||◌, not, Bool, true, false, if◌then◌else◌, List, [], ◌∷◌, ◌++◌, ◌-◌, drop, length, encode_utf8, Option, Some, None}
 use Rattle.unicode_segmentation.specs.Grapheme.{graphemes}
 use Rattle.unicode_segmentation.specs.Segments.{is_alphanumeric}
-use Rattle.line_buffer.specs.Event.{Event}
-use Rattle.line_buffer.specs.Event.Event.{Delete, InsertChar, InsertStr, Replace}
+use Rattle.line_buffer.specs.Event.{ChangeEvent}
+use Rattle.line_buffer.specs.Event.ChangeEvent.{Delete, InsertChar, InsertStr, Replace}
 use Rattle.line_buffer.specs.Line.{Line}
 use Rattle.line_buffer.specs.Words.{is_alphanumeric_cluster}
 use Rattle.line_record.specs.Change.{Change, undo_place, redo_place}
@@ -11,11 +11,11 @@ use Rattle.line_record.specs.Change.Change.{Inserted, Deleted, Replaced}
 
 -- an open mark keeps the text at which it was set. A step keeps the text before it, the place that
 -- an undo restores, its newest change, and whether a change may be joined to that one
-pub data Held : Type 0 where
-  Opened : (text : List ℕ) → Held
-  Stepped : (text : List ℕ) (place : ℕ) (newest : Change) (joinable : Bool) → Held
+pub data HeldItem : Type 0 where
+  Opened : (text : List ℕ) → HeldItem
+  Stepped : (text : List ℕ) (place : ℕ) (newest : Change) (joinable : Bool) → HeldItem
 
-abbrev pub text_of : Held → List ℕ
+abbrev pub text_of : HeldItem → List ℕ
 text_of (Opened text) = text
 text_of (Stepped text place newest joinable) = text
 
@@ -24,7 +24,7 @@ abbrev pub is_one_alphanumeric : List ℕ → Bool
 is_one_alphanumeric text = (length (graphemes true text) == 1) && is_alphanumeric_cluster text
 
 -- the change that an event reports, if it isn't empty
-abbrev pub change_of : Event → Option Change
+abbrev pub change_of : ChangeEvent → Option Change
 change_of (Delete at text direction) = if length text == 0 then None else Some (Deleted at text)
 change_of (InsertChar at c) = Some (Inserted at (encode_utf8 c))
 change_of (InsertStr at text) = if length text == 0 then None else Some (Inserted at text)
@@ -33,132 +33,134 @@ change_of (Replace at before after) =
 change_of mark = None
 
 -- an alphanumeric character typed right after an insertion
-abbrev pub joined_char : ℕ → ℕ → Change → Option Change
-joined_char at c (Inserted place text) =
+abbrev pub join_of_char : ℕ → ℕ → Change → Option Change
+join_of_char at c (Inserted place text) =
     if is_alphanumeric c && (at == place + length text)
     then Some (Inserted place (text ++ encode_utf8 c)) else None
-joined_char at c other = None
+join_of_char at c other = None
 
 -- an alphanumeric cluster deleted right after a deletion, or right before it
-abbrev pub joined_deletion : ℕ → List ℕ → Change → Option Change
-joined_deletion at text (Deleted place deleted) =
+abbrev pub join_of_deletion : ℕ → List ℕ → Change → Option Change
+join_of_deletion at text (Deleted place deleted) =
     if not (is_one_alphanumeric text) then None
     else if at == place then Some (Deleted place (deleted ++ text))
     else if at + length text == place then Some (Deleted at (text ++ deleted))
     else None
-joined_deletion at text other = None
+join_of_deletion at text other = None
 
 -- a replacement right after another
-abbrev pub joined_replacement : ℕ → List ℕ → List ℕ → Change → Option Change
-joined_replacement at before after (Replaced place was is) =
+abbrev pub join_of_replacement : ℕ → List ℕ → List ℕ → Change → Option Change
+join_of_replacement at before after (Replaced place was is) =
     if at == place + length is then Some (Replaced place (was ++ before) (is ++ after)) else None
-joined_replacement at before after other = None
+join_of_replacement at before after other = None
 
 -- the change of an event and the change right before it as one, if they can be joined
-abbrev pub joined_to : Event → Change → Option Change
-joined_to (Delete at text direction) d = joined_deletion at text d
-joined_to (InsertChar at c) d = joined_char at c d
-joined_to (Replace at before after) d = joined_replacement at before after d
-joined_to e d = None
+abbrev pub join_of : ChangeEvent → Change → Option Change
+join_of (Delete at text direction) d = join_of_deletion at text d
+join_of (InsertChar at c) d = join_of_char at c d
+join_of (Replace at before after) d = join_of_replacement at before after d
+join_of e d = None
 
 -- a step of one change
-abbrev pub step_of : Change → List ℕ → Held
+abbrev pub step_of : Change → List ℕ → HeldItem
 step_of c text = Stepped text (undo_place c) c true
 
 -- a joined change adds no step and keeps the step's text
-abbrev pub stepped_on : Option Change → Change → List ℕ → List ℕ → Held → List Held → List Held
-stepped_on (Some joined) c text earlier newest held = step_of joined earlier ∷ held
-stepped_on None c text earlier newest held = step_of c text ∷ (newest ∷ held)
+abbrev pub steps_with_join : Option Change → Change → List ℕ → List ℕ → HeldItem → List HeldItem
+    → List HeldItem
+steps_with_join (Some joined) c text earlier newest held = step_of joined earlier ∷ held
+steps_with_join None c text earlier newest held = step_of c text ∷ (newest ∷ held)
 
-abbrev pub stepped : Event → Change → List ℕ → List Held → List Held
-stepped e c text (Stepped earlier place d true ∷ held) =
-    stepped_on (joined_to e d) c text earlier (Stepped earlier place d true) held
-stepped e c text (Stepped earlier place d false ∷ held) =
+abbrev pub steps_with_change : ChangeEvent → Change → List ℕ → List HeldItem → List HeldItem
+steps_with_change e c text (Stepped earlier place d true ∷ held) =
+    steps_with_join (join_of e d) c text earlier (Stepped earlier place d true) held
+steps_with_change e c text (Stepped earlier place d false ∷ held) =
     step_of c text ∷ (Stepped earlier place d false ∷ held)
-stepped e c text (Opened earlier ∷ held) = step_of c text ∷ (Opened earlier ∷ held)
-stepped e c text [] = step_of c text ∷ []
+steps_with_change e c text (Opened earlier ∷ held) = step_of c text ∷ (Opened earlier ∷ held)
+steps_with_change e c text [] = step_of c text ∷ []
 
-abbrev pub stepped_if : Event → Option Change → List ℕ → List Held → List Held
-stepped_if e None text held = held
-stepped_if e (Some c) text held = stepped e c text held
+abbrev pub steps_with_change_if : ChangeEvent → Option Change → List ℕ → List HeldItem
+    → List HeldItem
+steps_with_change_if e None text held = held
+steps_with_change_if e (Some c) text held = steps_with_change e c text held
 
 -- the record after an event on the text
-abbrev pub recorded_in : Event → List ℕ → List Held → List Held
-recorded_in e text held = stepped_if e (change_of e) text held
+abbrev pub record_after_event : ChangeEvent → List ℕ → List HeldItem → List HeldItem
+record_after_event e text held = steps_with_change_if e (change_of e) text held
 
 -- some mark is open
-abbrev pub has_mark : List Held → Bool
+abbrev pub has_mark : List HeldItem → Bool
 has_mark [] = false
 has_mark (Opened text ∷ held) = true
 has_mark (Stepped text place newest joinable ∷ held) = has_mark held
 
 -- a step is newer than the oldest open mark
-abbrev pub closes : List Held → Bool
+abbrev pub closes : List HeldItem → Bool
 closes [] = false
 closes (Opened text ∷ held) = closes held
 closes (Stepped text place newest joinable ∷ held) = has_mark held
 
 -- a newer change added to the step that closes a group
-abbrev pub grouped : Change → List Held → List Held
-grouped c [] = []
-grouped c (Opened text ∷ held) = Opened text ∷ held
-grouped c (Stepped text place newest joinable ∷ held) = Stepped text place c false ∷ held
+abbrev pub group_with_change : Change → List HeldItem → List HeldItem
+group_with_change c [] = []
+group_with_change c (Opened text ∷ held) = Opened text ∷ held
+group_with_change c (Stepped text place newest joinable ∷ held) = Stepped text place c false ∷ held
 
 -- the marks are closed: they go, and the steps newer than the oldest of them become one, to which
 -- nothing is joined
-abbrev pub ended : List Held → List Held
-ended [] = []
-ended (Opened text ∷ held) = ended held
-ended (Stepped text place newest joinable ∷ held) =
-    if closes held then grouped newest (ended held)
-    else if has_mark held then Stepped text place newest false ∷ ended held
+abbrev pub record_after_close : List HeldItem → List HeldItem
+record_after_close [] = []
+record_after_close (Opened text ∷ held) = record_after_close held
+record_after_close (Stepped text place newest joinable ∷ held) =
+    if closes held then group_with_change newest (record_after_close held)
+    else if has_mark held then Stepped text place newest false ∷ record_after_close held
     else Stepped text place newest joinable ∷ held
 
 -- undo by some items: the text of the last of them, and the place of the last step among them
-abbrev pub undone_line : Held → Line → Line
-undone_line (Opened text) l = record l { text = text }
-undone_line (Stepped text place newest joinable) l = record l { text = text; place = place }
+abbrev pub line_before_item : HeldItem → Line → Line
+line_before_item (Opened text) l = record l { text = text }
+line_before_item (Stepped text place newest joinable) l = record l { text = text; place = place }
 
-abbrev pub is_step : Held → Bool
+abbrev pub is_step : HeldItem → Bool
 is_step (Opened text) = false
 is_step (Stepped text place newest joinable) = true
 
-abbrev pub line_back : ℕ → List Held → Line → Line
+abbrev pub line_back : ℕ → List HeldItem → Line → Line
 line_back zero held l = l
 line_back (suc n) [] l = l
-line_back (suc n) (h ∷ held) l = line_back n held (undone_line h l)
+line_back (suc n) (h ∷ held) l = line_back n held (line_before_item h l)
 
-abbrev pub text_back : ℕ → List Held → List ℕ → List ℕ
+abbrev pub text_back : ℕ → List HeldItem → List ℕ → List ℕ
 text_back zero held text = text
 text_back (suc n) [] text = text
 text_back (suc n) (h ∷ held) text = text_back n held (text_of h)
 
 -- the first n items, and the last text that the last of them had
-abbrev pub first_held : ℕ → List Held → List Held
+abbrev pub first_held : ℕ → List HeldItem → List HeldItem
 first_held n held = drop (length held - n) held
 
-abbrev pub text_kept : ℕ → List Held → List ℕ → List ℕ
+abbrev pub text_kept : ℕ → List HeldItem → List ℕ → List ℕ
 text_kept n held text = text_back (length held - n) held text
 
-abbrev pub has_step : ℕ → List Held → Bool
+abbrev pub has_step : ℕ → List HeldItem → Bool
 has_step zero held = false
 has_step (suc n) [] = false
 has_step (suc n) (h ∷ held) = is_step h || has_step n held
 
 -- an undone item: as it was held, and the text after its redo
 pub record Undone : Type 0 where
-  pub held : Held
+  pub held : HeldItem
   pub text : List ℕ
 
-abbrev pub ahead_back : ℕ → List Held → List ℕ → List Undone → List Undone
+abbrev pub ahead_back : ℕ → List HeldItem → List ℕ → List Undone → List Undone
 ahead_back zero held text ahead = ahead
 ahead_back (suc n) [] text ahead = ahead
 ahead_back (suc n) (h ∷ held) text ahead =
     ahead_back n held (text_of h) (record { held = h; text = text } ∷ ahead)
 
 -- the redo of an item: a step's cursor goes after its newest change, a mark leaves it
-abbrev pub remade_line : Undone → Line → Line
-remade_line u l =
+abbrev pub line_after_item : Undone → Line → Line
+line_after_item u l =
     elim u.held [
       | Opened text ↦ record l { text = u.text }
       | Stepped text place newest joinable ↦
@@ -167,23 +169,23 @@ remade_line u l =
 
 abbrev pub line_ahead : List Undone → Line → Line
 line_ahead [] l = l
-line_ahead (u ∷ ahead) l = remade_line u l
+line_ahead (u ∷ ahead) l = line_after_item u l
 
 abbrev pub has_step_ahead : List Undone → Bool
 has_step_ahead [] = false
 has_step_ahead (u ∷ ahead) = is_step u.held
 
-abbrev pub held_ahead : List Undone → List Held → List Held
-held_ahead [] held = held
-held_ahead (u ∷ ahead) held = u.held ∷ held
+abbrev pub record_ahead : List Undone → List HeldItem → List HeldItem
+record_ahead [] held = held
+record_ahead (u ∷ ahead) held = u.held ∷ held
 
 -- the text that was inserted last, if the newest item inserted one
-abbrev pub inserted_by : Change → Option (List ℕ)
-inserted_by (Inserted at text) = Some text
-inserted_by (Deleted at text) = None
-inserted_by (Replaced at before after) = Some after
+abbrev pub text_inserted_by : Change → Option (List ℕ)
+text_inserted_by (Inserted at text) = Some text
+text_inserted_by (Deleted at text) = None
+text_inserted_by (Replaced at before after) = Some after
 
-abbrev pub last_inserted : List Held → Option (List ℕ)
+abbrev pub last_inserted : List HeldItem → Option (List ℕ)
 last_inserted [] = None
 last_inserted (Opened text ∷ held) = None
-last_inserted (Stepped text place newest joinable ∷ held) = inserted_by newest
+last_inserted (Stepped text place newest joinable ∷ held) = text_inserted_by newest

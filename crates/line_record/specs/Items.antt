@@ -1,13 +1,13 @@
 -- The record's value: the changes done and undone, each side nearest first, and the texts that they
 -- stand for on a line's text. Also the effect of undo and redo on the record and its line.
 use Rattle.std.specs.Prelude.{◌≡◌, ◌<◌, ◌≤◌, ℕ, Bool, true, false, List, [], ◌∷◌, ◌++◌, drop, length, ◌-◌, Option, Some, None, is_some, IsUtf8, zero, suc, take, reverse, Result, IfOk, OnOk, OnErr}
-use Rattle.line_buffer.specs.Event.{Event}
-use Rattle.line_buffer.specs.Event.Event.{StartKilling, StopKilling}
+use Rattle.line_buffer.specs.Event.{ChangeEvent}
+use Rattle.line_buffer.specs.Event.ChangeEvent.{StartKilling, StopKilling}
 use Rattle.line_buffer.specs.Line.{Line}
 use Rattle.line_buffer.specs.Replay.{Replays}
-use Rattle.line_record.specs.Change.{Change, undo_place, redo_place, taken_back, made_anew, all_taken_back, AllStandIn, all_made_anew, AllFitIn, newest_of, StandsAt}
-use Rattle.line_record.specs.Held.{Held, Undone, step_of, change_of, joined_to, recorded_in, ended, closes}
-use Rattle.line_record.specs.Held.Held.{Opened, Stepped}
+use Rattle.line_record.specs.Change.{Change, undo_place, redo_place, text_after_undo, text_after_redo, all_taken_back, AllStandIn, all_made_anew, AllFitIn, newest_of, StandsAt}
+use Rattle.line_record.specs.Held.{HeldItem, Undone, step_of, change_of, join_of, record_after_event, record_after_close, closes}
+use Rattle.line_record.specs.Held.HeldItem.{Opened, Stepped}
 use Rattle.std.specs.Coded.{Unit-prop, ×_prop}
 use Rattle.std.proofs.Props.{props}
 use Rattle.std.specs.List.{list_any}
@@ -38,37 +38,38 @@ abbrev pub after_item : Item → List ℕ → List ℕ
 after_item x text = all_made_anew (changes_of x) text
 
 -- the line after the undo of a change, the cursor at the change's place
-abbrev pub taken_back_in : Change → Line → Line
-taken_back_in c l = record l { text = taken_back c l.text; place = undo_place c }
+abbrev pub line_after_undo : Change → Line → Line
+line_after_undo c l = record l { text = text_after_undo c l.text; place = undo_place c }
 
-abbrev pub made_anew_in : Change → Line → Line
-made_anew_in c l = record l { text = made_anew c l.text; place = redo_place c }
+abbrev pub line_after_redo : Change → Line → Line
+line_after_redo c l = record l { text = text_after_redo c l.text; place = redo_place c }
 
 -- the line after the undo of several changes, the newest first
 abbrev pub lines_back : List Change → Line → Line
 lines_back [] l = l
-lines_back (c ∷ cs) l = taken_back_in c (lines_back cs l)
+lines_back (c ∷ cs) l = line_after_undo c (lines_back cs l)
 
 -- the line after the redo of several changes, the oldest first
 abbrev pub lines_ahead : List Change → Line → Line
 lines_ahead [] l = l
-lines_ahead (c ∷ cs) l = lines_ahead cs (made_anew_in c l)
+lines_ahead (c ∷ cs) l = lines_ahead cs (line_after_redo c l)
 
 -- an item, with the text before it
-abbrev pub holding : Item → List ℕ → Held
-holding Open text = Opened text
-holding (Lone c) text = step_of c text
-holding (Group c cs) text = Stepped text (undo_place c) (newest_of c cs) false
+abbrev pub item_with_text : Item → List ℕ → HeldItem
+item_with_text Open text = Opened text
+item_with_text (Lone c) text = step_of c text
+item_with_text (Group c cs) text = Stepped text (undo_place c) (newest_of c cs) false
 
-abbrev pub done_held : List Item → List ℕ → List Held
-done_held [] text = []
-done_held (x ∷ items) text = holding x (before_item x text) ∷ done_held items (before_item x text)
+abbrev pub items_with_texts : List Item → List ℕ → List HeldItem
+items_with_texts [] text = []
+items_with_texts (x ∷ items) text = item_with_text x (before_item x text) ∷ items_with_texts items
+    (before_item x text)
 
-abbrev pub undone_ahead : List Item → List ℕ → List Undone
-undone_ahead [] text = []
-undone_ahead (x ∷ items) text =
-    record { held = holding x text; text = after_item x text }
-    ∷ undone_ahead items (after_item x text)
+abbrev pub ahead_with_texts : List Item → List ℕ → List Undone
+ahead_with_texts [] text = []
+ahead_with_texts (x ∷ items) text =
+    record { held = item_with_text x text; text = after_item x text }
+    ∷ ahead_with_texts items (after_item x text)
 
 abbrev pub DoneStand : List Item → List ℕ → Type 0
 DoneStand [] text = Unit {0}
@@ -83,21 +84,21 @@ abbrev pub ItemsStand : Items → List ℕ → Type 0
 ItemsStand s text = DoneStand s.done text × UndoneFit s.undone text
 
 -- the record of texts, on the line's text
-abbrev pub held_on : Items → List ℕ → List Held
-held_on s text = done_held s.done text
+abbrev pub record_on : Items → List ℕ → List HeldItem
+record_on s text = items_with_texts s.done text
 
 -- what can be redone, on the line's text
 abbrev pub ahead_on : Items → List ℕ → List Undone
-ahead_on s text = undone_ahead s.undone text
+ahead_on s text = ahead_with_texts s.undone text
 
 -- a mark set
-abbrev pub opened : Items → Items
-opened s = record { done = Open ∷ s.done; undone = [] }
+abbrev pub items_with_mark : Items → Items
+items_with_mark s = record { done = Open ∷ s.done; undone = [] }
 
 -- the changes of several items, the oldest item first
-abbrev pub gathered : List Item → List Change
-gathered [] = []
-gathered (x ∷ items) = changes_of x ++ gathered items
+abbrev pub changes_of_all : List Item → List Change
+changes_of_all [] = []
+changes_of_all (x ∷ items) = changes_of x ++ changes_of_all items
 
 -- changes as a closed group after older items
 abbrev pub group_of : List Change → List Item → List Item
@@ -106,13 +107,13 @@ group_of (c ∷ cs) older = Group c cs ∷ older
 
 -- closing the marks leaves other items, which hold the requested texts
 pub record EndedBy (closed : Bool) (items after : List Item) (text : List ℕ) : Type 0 where
-  pub answer : closed ≡ closes (done_held items text)
-  pub held : done_held after text ≡ ended (done_held items text)
+  pub answer : closed ≡ closes (items_with_texts items text)
+  pub held : items_with_texts after text ≡ record_after_close (items_with_texts items text)
   pub stand : DoneStand items text → DoneStand after text
 
 -- the first items kept
-abbrev pub truncated : ℕ → Items → Items
-truncated n s = record { done = drop (length s.done - n) s.done; undone = [] }
+abbrev pub first_items : ℕ → Items → Items
+first_items n s = record { done = drop (length s.done - n) s.done; undone = [] }
 
 -- the nearest item done moves to the undone
 abbrev pub undo_one : List Item → List Item → Items
@@ -139,41 +140,41 @@ nearest_is_change [] = None
 nearest_is_change (x ∷ items) = Some (is_step_item x)
 
 -- a change noted after the items done
-abbrev pub noted_on : Option Change → Change → Change → List Item → List Item
-noted_on (Some joined) c d items = Lone joined ∷ items
-noted_on None c d items = Lone c ∷ (Lone d ∷ items)
+abbrev pub items_with_join : Option Change → Change → Change → List Item → List Item
+items_with_join (Some joined) c d items = Lone joined ∷ items
+items_with_join None c d items = Lone c ∷ (Lone d ∷ items)
 
-abbrev pub noted : Event → Change → List Item → List Item
-noted e c (Lone d ∷ items) = noted_on (joined_to e d) c d items
-noted e c items = Lone c ∷ items
+abbrev pub items_with_change : ChangeEvent → Change → List Item → List Item
+items_with_change e c (Lone d ∷ items) = items_with_join (join_of e d) c d items
+items_with_change e c items = Lone c ∷ items
 
-abbrev pub noted_if : Event → Option Change → List Item → List Item
-noted_if e None items = items
-noted_if e (Some c) items = noted e c items
+abbrev pub items_with_change_if : ChangeEvent → Option Change → List Item → List Item
+items_with_change_if e None items = items
+items_with_change_if e (Some c) items = items_with_change e c items
 
 -- a recorded event: the undone changes can't be redone any more
-abbrev pub told_of : Event → Items → Items
-told_of e s = record { done = noted_if e (change_of e) s.done; undone = [] }
+abbrev pub items_after_event : ChangeEvent → Items → Items
+items_after_event e s = record { done = items_with_change_if e (change_of e) s.done; undone = [] }
 
 -- recording a change that isn't empty may fail, and the record stays as it was
-abbrev pub record_refuses : Items → Event → Items → Type 0
+abbrev pub record_refuses : Items → ChangeEvent → Items → Type 0
 record_refuses s e t = (t ≡ s) × (is_some (change_of e) ≡ true)
 
-abbrev pub ahead_after : Event → List Undone → List Undone
+abbrev pub ahead_after : ChangeEvent → List Undone → List Undone
 ahead_after StartKilling ahead = ahead
 ahead_after StopKilling ahead = ahead
 ahead_after e ahead = []
 
 -- the effect of an event on the record: if its changes can be undone and redone, they still can be
 -- after it, and the record of texts follows
-pub record Recorded (e : Event) (before after : List ℕ) (s t : Items) : Type 0 where
+pub record RecordsEvent (e : ChangeEvent) (before after : List ℕ) (s t : Items) : Type 0 where
   pub stand : ItemsStand t after
-  pub held : held_on t after ≡ recorded_in e before (held_on s before)
+  pub held : record_on t after ≡ record_after_event e before (record_on s before)
   pub ahead : ahead_on t after ≡ ahead_after e (ahead_on s before)
 
-pub record RecordedIn (s : Items) (e : Event) (t : Items) : Type 0 where
+pub record RecordsEventIn (s : Items) (e : ChangeEvent) (t : Items) : Type 0 where
   pub on : (before after : List ℕ) → ItemsStand s before → IsUtf8 before → Replays e before after
-      → Recorded e before after s t
+      → RecordsEvent e before after s t
 
 StandsAt-prop : (at : ℕ) (from to text : List ℕ) → IsProp (StandsAt at from to text)
 StandsAt-prop at from to text = Prim.hlevel props
@@ -186,7 +187,7 @@ AllStandIn-prop (c ∷ cs) text =
 AllFitIn-prop : (cs : List Change) (text : List ℕ) → IsProp (AllFitIn cs text)
 AllFitIn-prop [] text = Unit-prop
 AllFitIn-prop (c ∷ cs) text =
-    ×_prop (StandsAt-prop _ _ _ text) (AllFitIn-prop cs (made_anew c text))
+    ×_prop (StandsAt-prop _ _ _ text) (AllFitIn-prop cs (text_after_redo c text))
 
 DoneStand-prop : (items : List Item) (text : List ℕ) → IsProp (DoneStand items text)
 DoneStand-prop [] text = Unit-prop
@@ -202,7 +203,7 @@ pub ItemsStand-prop : (s : Items) (text : List ℕ) → IsProp (ItemsStand s tex
 ItemsStand-prop s text = ×_prop (DoneStand-prop s.done text) (UndoneFit-prop s.undone text)
 
 -- the newest of several changes were undone; at least one, the first, was not
-pub record BackInPart (changes : List Change) (before after : Line) : Type 0 where
+pub record CutUndo (changes : List Change) (before after : Line) : Type 0 where
   pub left : ℕ
   pub some : 0 < left
   pub inside : left ≤ length changes
@@ -218,7 +219,7 @@ pub record AnewInPart (changes : List Change) (before after : Line) : Type 0 whe
 pub record TakesBack {A E : Type 0} (changes : List Change) (before after : Line)
     (result : Result A E) : Type 0 where
   pub line : OnOk result (after ≡ lines_back changes before)
-  pub part : OnErr result (BackInPart changes before after)
+  pub part : OnErr result (CutUndo changes before after)
 
 -- changes are redone, the oldest first, all or some
 pub record MakesAnew {A E : Type 0} (changes : List Change) (before after : Line)

@@ -6,18 +6,18 @@ use Rattle.line_buffer.specs.Range.{range_of, kill_events, kill_line}
 use Rattle.line_buffer.specs.declared.types.Movement.{Movement}
 use Rattle.line_buffer.specs.declared.types.Movement.TheVariants.{EndOfLine, BeginningOfLine, EndOfBuffer, BeginningOfBuffer, BackwardWord, ForwardWord, ViCharSearch}
 use Rattle.line_record.specs.declared.kill_ring.Action.TheVariants.{Kill}
-use Rattle.line_record.specs.Held.{Held, Undone, text_back, ended, closes, has_mark, line_back, line_ahead, ahead_back, held_ahead}
-use Rattle.line_record.specs.Held.Held.{Opened}
-use Rattle.line_record.specs.Items.{Item, Items, ItemsStand, held_on, after_item}
-use Rattle.line_record.specs.Course.{RecordCall, Course, begun_with, after_call, after_calls, IsAmong}
-use Rattle.line_record.specs.Course.RecordCall.{Told, Begun, Ended, TakenBack}
+use Rattle.line_record.specs.Held.{HeldItem, Undone, text_back, record_after_close, closes, has_mark, line_back, line_ahead, ahead_back, record_ahead}
+use Rattle.line_record.specs.Held.HeldItem.{Opened}
+use Rattle.line_record.specs.Items.{Item, Items, ItemsStand, record_on, after_item}
+use Rattle.line_record.specs.RecordCourse.{RecordCall, RecordCourse, new_course, after_call, after_calls, IsAmong}
+use Rattle.line_record.specs.RecordCourse.RecordCall.{Told, Begun, Ended, TakenBack}
 use Rattle.line_record.specs.Ring.{RingCall, no_kills, all_kills_after, ring_after_all, newest_first, Ring, IsRing, new_ring, ring_all}
 
 -- whatever is done to a line with a new record, an undo leaves a text that the line had before
 abbrev pub UndoLeavesAnEarlierText : Type 0
 UndoLeavesAnEarlierText =
     (calls : List RecordCall) (text : List ℕ) (n : ℕ) →
-    let c = after_calls calls (begun_with text) in
+    let c = after_calls calls (new_course text) in
     IsAmong (text_back n c.held c.text) c.seen
 
 -- undoing everything restores the text that the line had when its record was new; so a record
@@ -25,7 +25,7 @@ UndoLeavesAnEarlierText =
 abbrev pub UndoOfAllGivesTheFirstText : Type 0
 UndoOfAllGivesTheFirstText =
     (calls : List RecordCall) (text : List ℕ) →
-    let c = after_calls calls (begun_with text) in
+    let c = after_calls calls (new_course text) in
     text_back (length c.held) c.held c.text ≡ text
 
 -- the text after all items, made on a text
@@ -37,12 +37,13 @@ text_after_all (x ∷ items) text = after_item x (text_after_all items text)
 abbrev pub RecordGivesTheText : Type 0
 RecordGivesTheText =
     (s : Items) (text : List ℕ) → ItemsStand s text → IsUtf8 text →
-    text_after_all s.done (text_back (length (held_on s text)) (held_on s text) text) ≡ text
+    text_after_all s.done (text_back (length (record_on s text)) (record_on s text) text) ≡ text
 
 -- a group in which nothing was recorded leaves the record as it was
 abbrev pub EmptyGroupLeavesNothing : Type 0
 EmptyGroupLeavesNothing =
-    (text : List ℕ) (held : List Held) → has_mark held ≡ false → (ended (Opened text ∷ held) ≡ held)
+    (text : List ℕ) (held : List HeldItem) → has_mark held ≡ false →
+    (record_after_close (Opened text ∷ held) ≡ held)
     × (closes (Opened text ∷ held) ≡ false)
 
 -- calls that leave a group open: events, and marks set inside it
@@ -59,7 +60,7 @@ AllStayOpen (call ∷ calls) = (stays_open call ≡ true) × AllStayOpen calls
 -- before the group
 abbrev pub UndoTakesTheGroupBack : Type 0
 UndoTakesTheGroupBack =
-    (c : Course) (calls : List RecordCall) → has_mark c.held ≡ false → AllStayOpen calls →
+    (c : RecordCourse) (calls : List RecordCall) → has_mark c.held ≡ false → AllStayOpen calls →
     let inside = after_calls calls (after_call Begun c) in
     let undone = after_call (TakenBack 1) (after_call Ended inside) in
     closes inside.held ≡ true → (undone.text ≡ c.text) × (undone.held ≡ c.held)
@@ -67,10 +68,10 @@ UndoTakesTheGroupBack =
 -- redoing what was undone last restores the text and the record from before
 abbrev pub RedoGivesTheTextBack : Type 0
 RedoGivesTheTextBack =
-    (h : Held) (held : List Held) (ahead : List Undone) (l : Line) →
+    (h : HeldItem) (held : List HeldItem) (ahead : List Undone) (l : Line) →
     let undone = ahead_back 1 (h ∷ held) l.text ahead in
     ((line_ahead undone (line_back 1 (h ∷ held) l)).text ≡ l.text)
-    × (held_ahead undone held ≡ h ∷ held)
+    × (record_ahead undone held ≡ h ∷ held)
 
 -- kills from the cursor or up to it
 abbrev pub is_directed : Movement → Bool

@@ -1,5 +1,5 @@
 pub mod Change
-pub mod Course
+pub mod RecordCourse
 pub mod Gap
 pub mod Held
 pub mod Items
@@ -7,5 +7,5 @@ pub mod Laws
 pub mod Logged
 pub mod Ring
 pub mod RingLends
-pub mod Steps
+pub mod LogSteps
 pub mod Together

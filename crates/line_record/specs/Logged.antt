@@ -1,11 +1,11 @@
 -- The meaning of the entries of a log.
 use Rattle.std.specs.Prelude.{◌≤◌, ℕ, zero, suc, Bool, if◌then◌else◌, List, [], ◌∷◌, ◌++◌, map, take, length, slice_range, encode_utf8, Option, None, option_map, IsUtf8, ◌≡◌, slice_get, unwrap_or}
-use Rattle.line_buffer.specs.Event.{Event}
-use Rattle.line_buffer.specs.Event.Event.{Delete, InsertChar, InsertStr, Replace}
+use Rattle.line_buffer.specs.Event.{ChangeEvent}
+use Rattle.line_buffer.specs.Event.ChangeEvent.{Delete, InsertChar, InsertStr, Replace}
 use Rattle.line_record.specs.Change.{Change}
 use Rattle.line_record.specs.Change.Change.{Inserted, Deleted, Replaced}
-use Rattle.line_record.specs.Held.{joined_to}
-use Rattle.line_record.specs.declared.entry.Entry.{Entry}
+use Rattle.line_record.specs.Held.{join_of}
+use Rattle.line_record.specs.declared.entry.LoggedChange.{LoggedChange}
 use Rattle.line_record.specs.declared.entry.Kind.{Kind}
 use Rattle.line_record.specs.declared.entry.Kind.TheVariants.{Insertion, Deletion, Replacement}
 
@@ -26,15 +26,15 @@ edit_from Insertion at removed added = Inserted at added
 edit_from Deletion at removed added = Deleted at removed
 edit_from Replacement at removed added = Replaced at removed added
 
-abbrev pub edit_in : List ℕ → Entry → Change
+abbrev pub edit_in : List ℕ → LoggedChange → Change
 edit_in text x =
     edit_from x.kind x.at (slice_range text x.start x.middle) (slice_range text x.middle x.end)
 
-abbrev pub edits_in : List ℕ → List Entry → List Change
+abbrev pub edits_in : List ℕ → List LoggedChange → List Change
 edits_in text entries = map (edit_in text) entries
 
 -- the old text comes before the new one, and each is on character boundaries
-pub record Spelt (text : List ℕ) (x : Entry) : Type 0 where
+pub record Spelt (text : List ℕ) (x : LoggedChange) : Type 0 where
   pub removed : x.start ≤ x.middle
   pub added : x.middle ≤ x.end
   pub inside : x.end ≤ length text
@@ -43,11 +43,11 @@ pub record Spelt (text : List ℕ) (x : Entry) : Type 0 where
   pub after : IsUtf8 (take x.end text)
 
 -- the entries' spans adjoin in their order and cover the text
-abbrev pub IsLog : List ℕ → List Entry → Type 0
+abbrev pub IsLog : List ℕ → List LoggedChange → Type 0
 IsLog text entries = Adjoin (λ x. x.start) (λ x. x.end) Spelt text 0 entries (length text)
 
 -- the change that an event reports, even an empty one
-abbrev pub change_told : Event → Change
+abbrev pub change_told : ChangeEvent → Change
 change_told (InsertChar at c) = Inserted at (encode_utf8 c)
 change_told (InsertStr at text) = Inserted at text
 change_told (Delete at text direction) = Deleted at text
@@ -55,17 +55,18 @@ change_told (Replace at before after) = Replaced at before after
 change_told mark = Inserted 0 []
 
 -- a change with more text: the old text before or after its own, the new text after its own
-abbrev pub grown_old : Bool → List ℕ → List ℕ → List ℕ
-grown_old before removed text = if before then removed ++ text else text ++ removed
+abbrev pub old_text_with : Bool → List ℕ → List ℕ → List ℕ
+old_text_with before removed text = if before then removed ++ text else text ++ removed
 
-abbrev pub grown : ℕ → Bool → List ℕ → List ℕ → Change → Change
-grown at before removed added (Inserted place text) = Inserted at (text ++ added)
-grown at before removed added (Deleted place text) = Deleted at (grown_old before removed text)
-grown at before removed added (Replaced place was is) =
-    Replaced at (grown_old before removed was) (is ++ added)
+abbrev pub change_with_text : ℕ → Bool → List ℕ → List ℕ → Change → Change
+change_with_text at before removed added (Inserted place text) = Inserted at (text ++ added)
+change_with_text at before removed added (Deleted place text) = Deleted at
+    (old_text_with before removed text)
+change_with_text at before removed added (Replaced place was is) =
+    Replaced at (old_text_with before removed was) (is ++ added)
 
 -- the changes up to that of an index, to which an event's change is joined, if possible
-abbrev pub joined_at : Event → ℕ → List Change → Option (List Change)
-joined_at e n [] = None
-joined_at e zero (d ∷ edits) = option_map (λ j. j ∷ []) (joined_to e d)
-joined_at e (suc n) (d ∷ edits) = option_map (λ es. d ∷ es) (joined_at e n edits)
+abbrev pub join_at : ChangeEvent → ℕ → List Change → Option (List Change)
+join_at e n [] = None
+join_at e zero (d ∷ edits) = option_map (λ j. j ∷ []) (join_of e d)
+join_at e (suc n) (d ∷ edits) = option_map (λ es. d ∷ es) (join_at e n edits)

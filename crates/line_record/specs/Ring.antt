@@ -3,8 +3,8 @@
 -- slots.
 use Rattle.std.specs.Prelude.{◌≡◌, ℕ, ◌+◌, ◌-◌, ◌==◌, ◌<◌, ◌≤◌, Bool, true, false, List, [], ◌∷◌, ◌++◌, length, if◌then◌else◌, nat_lt, Option, Some, None, slice_set, slice_index_or, suc, take, drop, reverse}
 use Rattle.std.specs.List.{fold}
-use Rattle.line_buffer.specs.Event.{Event}
-use Rattle.line_buffer.specs.Event.Event.{StartKilling, StopKilling, Delete}
+use Rattle.line_buffer.specs.Event.{ChangeEvent}
+use Rattle.line_buffer.specs.Event.ChangeEvent.{StartKilling, StopKilling, Delete}
 use Rattle.line_buffer.specs.declared.types.Direction.{Direction}
 use Rattle.line_buffer.specs.declared.types.Direction.TheVariants.{Forward, Backward}
 use Rattle.line_buffer.specs.declared.types.Mode.{Mode}
@@ -26,8 +26,13 @@ pub record IsRing (count size place : ℕ) (last : Action) : Type 0 where
   pub start : count ≡ 0 → place ≡ 0
   pub some : last ≡ Kill → 0 < size → 0 < count
 
+-- a ring that holds these texts, with that slot current and without a preceding kill
+abbrev pub ring_of : List (List ℕ) → ℕ → ℕ → Ring
+ring_of slots size place =
+    record { slots = slots; size = size; place = place; last = Other; killing = false }
+
 abbrev pub new_ring : ℕ → Ring
-new_ring size = record { slots = []; size = size; place = 0; last = Other; killing = false }
+new_ring size = ring_of [] size 0
 
 -- a text joined to the text in a slot
 abbrev pub joined_text : Mode → List ℕ → List ℕ → List ℕ
@@ -39,32 +44,32 @@ abbrev pub slot_after : ℕ → ℕ → ℕ → ℕ
 slot_after count size place = if count == 0 then 0 else if place + 1 == size then 0 else place + 1
 
 -- a text stored in a slot, or after the last one
-abbrev pub put_text : ℕ → List ℕ → List (List ℕ) → List (List ℕ)
-put_text place text slots =
+abbrev pub slots_with_text : ℕ → List ℕ → List (List ℕ) → List (List ℕ)
+slots_with_text place text slots =
     if nat_lt place (length slots) then slice_set slots place text else slots ++ text ∷ []
 
-abbrev pub killed_anew : List ℕ → Ring → Ring
-killed_anew text r =
+abbrev pub ring_with_new_kill : List ℕ → Ring → Ring
+ring_with_new_kill text r =
     let next = slot_after (length r.slots) r.size r.place in
-    record r { slots = put_text next text r.slots; place = next; last = Kill }
+    record r { slots = slots_with_text next text r.slots; place = next; last = Kill }
 
-abbrev pub killed_after : Action → List ℕ → Mode → Ring → Ring
-killed_after Kill text mode r =
+abbrev pub ring_with_kill_after : Action → List ℕ → Mode → Ring → Ring
+ring_with_kill_after Kill text mode r =
     record r {
       slots = slice_set r.slots r.place
           (joined_text mode text (slice_index_or r.slots r.place []));
     }
-killed_after last text mode r = killed_anew text r
+ring_with_kill_after last text mode r = ring_with_new_kill text r
 
 -- a kill after a kill is joined to the text of its slot, any other takes the next slot; a ring
 -- without slots keeps nothing
-abbrev pub killed : List ℕ → Mode → Ring → Ring
-killed text mode r =
-    if r.size == 0 then record r { last = Kill } else killed_after r.last text mode r
+abbrev pub ring_with_kill : List ℕ → Mode → Ring → Ring
+ring_with_kill text mode r =
+    if r.size == 0 then record r { last = Kill } else ring_with_kill_after r.last text mode r
 
 -- the current slot was lent
-abbrev pub yanked : Ring → Ring
-yanked r =
+abbrev pub ring_after_yank : Ring → Ring
+ring_after_yank r =
     if length r.slots == 0 then r
     else record r { last = Yank (length (slice_index_or r.slots r.place [])) }
 
@@ -72,54 +77,55 @@ yanked r =
 abbrev pub slot_before : ℕ → ℕ → ℕ
 slot_before count place = if place == 0 then count - 1 else place - 1
 
-abbrev pub turned_back : Ring → Ring
-turned_back r = yanked (record r { place = slot_before (length r.slots) r.place })
+abbrev pub ring_one_slot_back : Ring → Ring
+ring_one_slot_back r = ring_after_yank (record r { place = slot_before (length r.slots) r.place })
 
 -- a ring turns only after a yank
-abbrev pub turned_after : Action → Ring → Ring
-turned_after (Yank count) r = if length r.slots == 0 then r else turned_back r
-turned_after last r = r
+abbrev pub ring_after_turn_from : Action → Ring → Ring
+ring_after_turn_from (Yank count) r = if length r.slots == 0 then r else ring_one_slot_back r
+ring_after_turn_from last r = r
 
-abbrev pub turned : Ring → Ring
-turned r = turned_after r.last r
+abbrev pub ring_after_turn : Ring → Ring
+ring_after_turn r = ring_after_turn_from r.last r
 
 -- the length of the yanked text, and the text that replaces it
-abbrev pub exchanged_after : Action → Ring → Option (ℕ × List ℕ)
-exchanged_after (Yank count) r =
+abbrev pub yank_exchange_after : Action → Ring → Option (ℕ × List ℕ)
+yank_exchange_after (Yank count) r =
     if length r.slots == 0 then None
     else Some (count, slice_index_or r.slots (slot_before (length r.slots) r.place) [])
-exchanged_after last r = None
+yank_exchange_after last r = None
 
-abbrev pub exchanged : Ring → Option (ℕ × List ℕ)
-exchanged r = exchanged_after r.last r
+abbrev pub yank_exchange : Ring → Option (ℕ × List ℕ)
+yank_exchange r = yank_exchange_after r.last r
 
 abbrev pub mode_of : Direction → Mode
 mode_of Forward = Append
 mode_of Backward = Prepend
 
 -- deletions are kills between the two marks of killing
-abbrev pub ring_step : Event → Ring → Ring
+abbrev pub ring_step : ChangeEvent → Ring → Ring
 ring_step StartKilling r = record r { killing = true }
 ring_step StopKilling r = record r { killing = false }
-ring_step (Delete at text direction) r = if r.killing then killed text (mode_of direction) r else r
+ring_step (Delete at text direction) r = if r.killing then ring_with_kill text
+    (mode_of direction) r else r
 ring_step e r = r
 
 -- a ring that has slots keeps texts deleted between the two marks
-abbrev pub Keeps : Event → Ring → Type 0
+abbrev pub Keeps : ChangeEvent → Ring → Type 0
 Keeps (Delete at text direction) r = (r.killing ≡ true) × (0 < r.size)
 Keeps e r = ⊥
 
 -- it fails only on what it would keep, and stays as it was
-abbrev pub ring_refuses : Ring → Event → Ring → Type 0
+abbrev pub ring_refuses : Ring → ChangeEvent → Ring → Type 0
 ring_refuses r e q = (q ≡ r) × Keeps e r
 
-abbrev pub ring_all : List Event → Ring → Ring
+abbrev pub ring_all : List ChangeEvent → Ring → Ring
 ring_all events r = fold (λ s e. ring_step e s) r events
 
 -- the calls of a ring, except the one that turns it
 pub data RingCall : Type 0 where
   Taken : (text : List ℕ) (mode : Mode) → RingCall
-  Heard : (event : Event) → RingCall
+  Heard : (event : ChangeEvent) → RingCall
   Ended : RingCall
   Lent : RingCall
 
@@ -142,7 +148,7 @@ abbrev pub kill_taken : List ℕ → Mode → Kills → Kills
 kill_taken text mode k =
     record { runs = run_with k.running text mode k.runs; running = true; killing = k.killing }
 
-abbrev pub kills_heard : Event → Kills → Kills
+abbrev pub kills_heard : ChangeEvent → Kills → Kills
 kills_heard StartKilling k = record k { killing = true }
 kills_heard StopKilling k = record k { killing = false }
 kills_heard (Delete at text direction) k =
@@ -160,10 +166,10 @@ all_kills_after (call ∷ calls) k = all_kills_after calls (kills_after call k)
 
 -- the effect of the same calls on a ring
 abbrev pub ring_after : RingCall → Ring → Ring
-ring_after (Taken text mode) r = killed text mode r
+ring_after (Taken text mode) r = ring_with_kill text mode r
 ring_after (Heard e) r = ring_step e r
 ring_after Ended r = record r { last = Other }
-ring_after Lent r = yanked r
+ring_after Lent r = ring_after_yank r
 
 unfoldable pub ring_after_all : List RingCall → Ring → Ring
 ring_after_all [] r = r

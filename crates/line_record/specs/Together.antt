@@ -1,10 +1,10 @@
 -- Two listeners that are notified in turn: the effect of an event on both, and of an error of one.
 use Rattle.std.specs.Prelude.{◌≡◌, ◌⊎◌, ℕ, List, IsUtf8}
-use Rattle.line_buffer.specs.Event.{Event}
+use Rattle.line_buffer.specs.Event.{ChangeEvent}
 use Rattle.line_buffer.specs.Replay.{StopsAmong, wants_or}
 use Rattle.line_record.specs.declared.joined.Joined.{Joined}
-use Rattle.line_record.specs.Items.{Items, ItemsStand, RecordedIn, record_refuses, held_on, ahead_on}
-use Rattle.line_record.specs.Course.{recorded_all, ahead_all}
+use Rattle.line_record.specs.Items.{Items, ItemsStand, RecordsEventIn, record_refuses, record_on, ahead_on}
+use Rattle.line_record.specs.RecordCourse.{record_after_events, ahead_all}
 use Rattle.std.specs.Borrow.{MutBor}
 
 pub record SameNames {A B : Type 0} (first : MutBor A) (second : MutBor B) (first_after : MutBor A)
@@ -13,15 +13,16 @@ pub record SameNames {A B : Type 0} (first : MutBor A) (second : MutBor B) (firs
   pub second_same : second_after.ghost_name ≡ second.ghost_name
 
 module _ {A B : Type 0} where
-  abbrev pub joined_takes : (A → Event → A → Type 0) → (B → Event → B → Type 0) → Joined A B → Event
+  abbrev pub joined_takes : (A → ChangeEvent → A → Type 0) → (B → ChangeEvent → B → Type 0)
+      → Joined A B → ChangeEvent
       → Joined A B → Type 0
   joined_takes first second s e t =
       SameNames s.first s.second t.first t.second
       × (first s.first.now e t.first.now × second s.second.now e t.second.now)
 
   -- the first one fails, and the second isn't notified; or the second one fails
-  abbrev pub joined_refuses : (A → Event → A → Type 0) → (A → Event → A → Type 0)
-      → (B → Event → B → Type 0) → Joined A B → Event → Joined A B → Type 0
+  abbrev pub joined_refuses : (A → ChangeEvent → A → Type 0) → (A → ChangeEvent → A → Type 0)
+      → (B → ChangeEvent → B → Type 0) → Joined A B → ChangeEvent → Joined A B → Type 0
   joined_refuses first first_refuses second_refuses s e t =
       SameNames s.first s.second t.first t.second
       × ((first_refuses s.first.now e t.first.now × (t.second.now ≡ s.second.now))
@@ -29,21 +30,22 @@ module _ {A B : Type 0} where
 
 -- a failed call of several events, seen from a record that is notified last: it holds exactly the
 -- changes that the line made, and what can be redone after them
-pub record HoldsWhatWasMade {S : Type 0} {takes refuses : S → Event → S
-    → Type 0} {closing events : List Event} {s t : S} {before after : List ℕ}
+pub record HoldsWhatWasMade {S : Type 0} {takes refuses : S → ChangeEvent → S
+    → Type 0} {closing events : List ChangeEvent} {s t : S} {before after : List ℕ}
     (part : S → Items) (call : StopsAmong takes refuses closing events s t before after) : Type 0
   where
     pub stand : ItemsStand (part t) after
-    pub held : held_on (part t) after
-        ≡ recorded_all closing after (recorded_all call.done before (held_on (part s) before))
+    pub held : record_on (part t) after
+        ≡ record_after_events closing after
+        (record_after_events call.done before (record_on (part s) before))
     pub ahead : ahead_on (part t) after
         ≡ ahead_all closing (ahead_all call.done (ahead_on (part s) before))
 
-abbrev pub RefusalsLeaveNoUnmadeChange : {A : Type 0} → (A → Event → A → Type 0)
-    → (A → Event → A → Type 0) → Type 0
+abbrev pub RefusalsLeaveNoUnmadeChange : {A : Type 0} → (A → ChangeEvent → A → Type 0)
+    → (A → ChangeEvent → A → Type 0) → Type 0
 RefusalsLeaveNoUnmadeChange {A} first first_refuses =
-    (closing events : List Event) (s t : Joined A Items) (before after : List ℕ)
+    (closing events : List ChangeEvent) (s t : Joined A Items) (before after : List ℕ)
     → ItemsStand s.second.now before → IsUtf8 before
-    → (call : StopsAmong (joined_takes first RecordedIn)
+    → (call : StopsAmong (joined_takes first RecordsEventIn)
     (wants_or (joined_refuses first first_refuses record_refuses)) closing events s t before after)
     → HoldsWhatWasMade (λ j. j.second.now) call

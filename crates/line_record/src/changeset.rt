@@ -21,7 +21,7 @@ impl Model for Changeset {
 
     ghost Value = { Items };
 
-    ghost use Rattle.line_record.specs.Steps.{record_of, IsRecord};
+    ghost use Rattle.line_record.specs.LogSteps.{record_of, IsRecord};
 
     ghost view = { λ c. record_of c.steps c.done };
 
@@ -30,11 +30,11 @@ impl Model for Changeset {
 
 impl Changeset {
     ghost use Rattle.std.specs.Prelude.{◌≡◌, ◌-◌, ℕ, true, [], List, length, drop, is_some, IfOk, IsOkAnd, OnOk, OnErr, option_map, option_copied, string_bytes};
-    ghost use Rattle.line_buffer.specs.Event.Event.{InsertChar, InsertStr, Delete, Replace};
+    ghost use Rattle.line_buffer.specs.Event.ChangeEvent.{InsertChar, InsertStr, Delete, Replace};
     ghost use Rattle.line_buffer.specs.declared.types.Direction.TheVariants.{Forward};
-    ghost use Rattle.line_record.specs.Held.{ended, closes, last_inserted, first_held, text_kept};
-    ghost use Rattle.line_record.specs.Items.{no_items, opened, truncated, told_of, ItemsStand, RecordedIn, record_refuses, held_on};
-    ghost use Rattle.line_record.specs.Steps.{event_of};
+    ghost use Rattle.line_record.specs.Held.{record_after_close, closes, last_inserted, first_held, text_kept};
+    ghost use Rattle.line_record.specs.Items.{no_items, items_with_mark, first_items, items_after_event, ItemsStand, RecordsEventIn, record_refuses, record_on};
+    ghost use Rattle.line_record.specs.LogSteps.{event_of};
 
     /// An empty record. It allocates nothing yet and never fails. It returns a `Result` like
     /// rustyline's other constructors of the editor's parts, which may all run out of memory.
@@ -62,8 +62,8 @@ impl Changeset {
     /// Sets the mark that begins a group. Returns the number of items before it: steps and open
     /// marks.
     pub fn begin(&mut self, alloc: Global) -> Result<usize, OutOfMemory>
-        ensures answer { IfOk result (λ n. (text : List ℕ) → n ≡ length (held_on self.old text)) }
-        ensures value { OnOk result (self.new ≡ opened self.old) }
+        ensures answer { IfOk result (λ n. (text : List ℕ) → n ≡ length (record_on self.old text)) }
+        ensures value { OnOk result (self.new ≡ items_with_mark self.old) }
         ensures kept { OnErr result (self.new ≡ self.old) }
     {
         let before = self.done;
@@ -77,9 +77,9 @@ impl Changeset {
     /// Returns whether there is such a step, and never fails.
     pub fn end(&mut self, alloc: Global) -> Result<bool, OutOfMemory>
         ensures answer { IsOkAnd result (λ closed. (text : List ℕ) → ItemsStand self.old text
-            → closed ≡ closes (held_on self.old text)) }
+            → closed ≡ closes (record_on self.old text)) }
         ensures held { (text : List ℕ) → ItemsStand self.old text → ItemsStand self.new text
-            × (held_on self.new text ≡ ended (held_on self.old text)) }
+            × (record_on self.new text ≡ record_after_close (record_on self.old text)) }
         ensures cleared { self.new.undone ≡ [] }
     {
         let closed = close(&mut self.steps, self.done, self.mark);
@@ -90,11 +90,12 @@ impl Changeset {
 
     /// Keeps the first `n` items: steps and open marks.
     pub fn truncate(&mut self, n: usize)
-        ensures value { self.new ≡ truncated n self.old }
-        ensures held { (text : List ℕ) → held_on self.new (text_kept n (held_on self.old text) text)
-            ≡ first_held n (held_on self.old text) }
+        ensures value { self.new ≡ first_items n self.old }
+        ensures held { (text : List ℕ) → record_on self.new
+            (text_kept n (record_on self.old text) text)
+            ≡ first_held n (record_on self.old text) }
         ensures stand { (text : List ℕ) → ItemsStand self.old text → ItemsStand self.new
-            (text_kept n (held_on self.old text) text) }
+            (text_kept n (record_on self.old text) text) }
     {
         let kept = n.min(self.done);
         self.steps.truncate(kept);
@@ -105,9 +106,9 @@ impl Changeset {
     /// A copy of the text that was inserted last; `None` if the last item is a mark or a deletion.
     pub fn last_insert(&self, alloc: Global) -> Result<Option<String>, OutOfMemory>
         ensures text { IfOk result (λ o. (text : List ℕ) → option_map string_bytes o
-            ≡ last_inserted (held_on self.now text)) }
+            ≡ last_inserted (record_on self.now text)) }
         ensures some { OnErr result ((text : List ℕ)
-            → is_some (last_inserted (held_on self.now text)) ≡ true) }
+            → is_some (last_inserted (record_on self.now text)) ≡ true) }
     {
         let Some(text) = self.last_insert_text() else {
             return Ok(None);
@@ -117,7 +118,7 @@ impl Changeset {
 
     /// `last_insert`, borrowed.
     pub fn last_insert_text(&self) -> Option<&str>
-        ensures { (text : List ℕ) → option_copied result ≡ last_inserted (held_on self.now text) }
+        ensures { (text : List ℕ) → option_copied result ≡ last_inserted (record_on self.now text) }
     {
         match self.done.checked_sub(1) {
             Some(last) => self.steps.inserted(last),
@@ -127,8 +128,8 @@ impl Changeset {
 
     /// Records the insertion of a character at `idx`.
     pub fn insert(&mut self, alloc: Global, idx: usize, c: char) -> Result<(), OutOfMemory>
-        ensures ok { OnOk result (self.new ≡ told_of (InsertChar idx c) self.old) }
-        ensures recorded { OnOk result (RecordedIn self.old (InsertChar idx c) self.new) }
+        ensures ok { OnOk result (self.new ≡ items_after_event (InsertChar idx c) self.old) }
+        ensures recorded { OnOk result (RecordsEventIn self.old (InsertChar idx c) self.new) }
         ensures refused { OnErr result (record_refuses self.old (InsertChar idx c) self.new) }
     {
         self.note(alloc, Report::Char { at: idx, c })
@@ -136,8 +137,8 @@ impl Changeset {
 
     /// Records the insertion of a text at `idx`.
     pub fn insert_str(&mut self, alloc: Global, idx: usize, text: &str) -> Result<(), OutOfMemory>
-        ensures ok { OnOk result (self.new ≡ told_of (InsertStr idx text.now) self.old) }
-        ensures recorded { OnOk result (RecordedIn self.old (InsertStr idx text.now) self.new) }
+        ensures ok { OnOk result (self.new ≡ items_after_event (InsertStr idx text.now) self.old) }
+        ensures recorded { OnOk result (RecordsEventIn self.old (InsertStr idx text.now) self.new) }
         ensures refused { OnErr result (record_refuses self.old (InsertStr idx text.now) self.new) }
     {
         self.note(alloc, Report::Text { at: idx, text })
@@ -145,8 +146,9 @@ impl Changeset {
 
     /// Records the deletion of a text at `idx`.
     pub fn delete(&mut self, alloc: Global, idx: usize, text: &str) -> Result<(), OutOfMemory>
-        ensures ok { OnOk result (self.new ≡ told_of (Delete idx text.now Forward) self.old) }
-        ensures recorded { OnOk result (RecordedIn self.old (Delete idx text.now Forward)
+        ensures ok { OnOk result
+            (self.new ≡ items_after_event (Delete idx text.now Forward) self.old) }
+        ensures recorded { OnOk result (RecordsEventIn self.old (Delete idx text.now Forward)
             self.new) }
         ensures refused { OnErr result (record_refuses self.old
             (Delete idx text.now Forward) self.new) }
@@ -170,8 +172,9 @@ impl Changeset {
         removed: &str,
         added: &str,
     ) -> Result<(), OutOfMemory>
-        ensures ok { OnOk result (self.new ≡ told_of (Replace idx removed.now added.now) self.old) }
-        ensures recorded { OnOk result (RecordedIn self.old (Replace idx removed.now added.now)
+        ensures ok { OnOk result
+            (self.new ≡ items_after_event (Replace idx removed.now added.now) self.old) }
+        ensures recorded { OnOk result (RecordsEventIn self.old (Replace idx removed.now added.now)
             self.new) }
         ensures refused { OnErr result (record_refuses self.old
             (Replace idx removed.now added.now) self.new) }
@@ -188,8 +191,8 @@ impl Changeset {
 
     /// Records a change, joined to the change before it if the two can be joined.
     pub(crate) fn note(&mut self, alloc: Global, report: Report<'_>) -> Result<(), OutOfMemory>
-        ensures ok { OnOk result (self.new ≡ told_of (event_of report.entry) self.old) }
-        ensures recorded { OnOk result (RecordedIn self.old (event_of report.entry) self.new) }
+        ensures ok { OnOk result (self.new ≡ items_after_event (event_of report.entry) self.old) }
+        ensures recorded { OnOk result (RecordsEventIn self.old (event_of report.entry) self.new) }
         ensures refused { OnErr result (record_refuses self.old (event_of report.entry) self.new) }
     {
         self.steps.note(self.done, report)?;
@@ -200,7 +203,7 @@ impl Changeset {
 
 ghost use Rattle.std.specs.Prelude.{◌≡◌, ℕ, List, take, reverse, None};
 ghost use Rattle.line_record.specs.Items.{EndedBy};
-ghost use Rattle.line_record.specs.Steps as marked;
+ghost use Rattle.line_record.specs.LogSteps as marked;
 
 /// Closes the open marks of the first `done` steps; `mark` is the oldest of them. Returns false if
 /// nothing was recorded since.

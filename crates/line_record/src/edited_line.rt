@@ -7,7 +7,7 @@ use std::alloc::Global;
 pub trait EditedLine {
     ghost use Rattle.std.specs.Prelude.{◌≡◌, ◌+◌, length, OnOk, OnErr};
     ghost use Rattle.line_buffer.specs.Line.{Line};
-    ghost use Rattle.line_record.specs.Change.{StandsAt, exchanged_at};
+    ghost use Rattle.line_record.specs.Change.{StandsAt, text_with_exchange};
 
     ghost value: { Self → Line };
 
@@ -21,7 +21,7 @@ pub trait EditedLine {
     ) -> Result<(), OutOfMemory>
         requires { StandsAt at from.now to.now (value self.old).text }
         ensures line { OnOk result (value self.new ≡ record (value self.old) {
-          text = exchanged_at at from.now to.now (value self.old).text;
+          text = text_with_exchange at from.now to.now (value self.old).text;
           place = at + length to.now;
         }) }
         ensures kept { OnErr result (value self.new ≡ value self.old) };

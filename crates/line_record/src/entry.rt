@@ -17,7 +17,7 @@ pub enum Kind {
 /// A change: its place in the line and its ranges of the log, all in bytes. The old text is from
 /// `start` to `middle`, the new one from there to `end`.
 #[derive(Clone, Copy, Debug)]
-pub struct Entry {
+pub struct LoggedChange {
     pub kind: Kind,
     pub at: usize,
     pub start: usize,
@@ -25,13 +25,13 @@ pub struct Entry {
     pub end: usize,
 }
 
-impl Entry {
+impl LoggedChange {
     ghost use Rattle.std.specs.Prelude.{◌≡◌, ◌≤◌, ◌-◌, ℕ, List, length, OnOk, OnErr, option_copied, option_map, if◌then◌else◌};
-    ghost use Rattle.line_record.specs.Change.{removed_of, added_of, StandsIn, FitsIn};
-    ghost use Rattle.line_record.specs.Held.{joined_to, inserted_by};
-    ghost use Rattle.line_record.specs.Items.{taken_back_in, made_anew_in};
-    ghost use Rattle.line_record.specs.Logged.{edit_from, edit_in, Spelt, change_told, grown};
-    ghost use Rattle.line_record.specs.Steps.{event_of};
+    ghost use Rattle.line_record.specs.Change.{old_text_of, new_text_of, StandsIn, FitsIn};
+    ghost use Rattle.line_record.specs.Held.{join_of, text_inserted_by};
+    ghost use Rattle.line_record.specs.Items.{line_after_undo, line_after_redo};
+    ghost use Rattle.line_record.specs.Logged.{edit_from, edit_in, Spelt, change_told, change_with_text};
+    ghost use Rattle.line_record.specs.LogSteps.{event_of};
 
     /// Where more of the old text is added: before it, or after it.
     pub fn seam(&self, before: bool) -> usize
@@ -42,7 +42,7 @@ impl Entry {
 
     fn removed<'a>(&self, log: &'a str) -> &'a str
         requires { Spelt log.now self.now }
-        ensures { result.now ≡ removed_of (edit_in log.now self.now) }
+        ensures { result.now ≡ old_text_of (edit_in log.now self.now) }
     {
         match self.kind {
             Kind::Insertion => "",
@@ -52,7 +52,7 @@ impl Entry {
 
     fn added<'a>(&self, log: &'a str) -> &'a str
         requires { Spelt log.now self.now }
-        ensures { result.now ≡ added_of (edit_in log.now self.now) }
+        ensures { result.now ≡ new_text_of (edit_in log.now self.now) }
     {
         match self.kind {
             Kind::Deletion => "",
@@ -63,7 +63,7 @@ impl Entry {
     /// The text that this change inserted, or `None` if it is a deletion.
     pub fn inserted<'a>(&self, log: &'a str) -> Option<&'a str>
         requires { Spelt log.now self.now }
-        ensures { option_copied result ≡ inserted_by (edit_in log.now self.now) }
+        ensures { option_copied result ≡ text_inserted_by (edit_in log.now self.now) }
     {
         match self.kind {
             Kind::Deletion => None,
@@ -80,7 +80,7 @@ impl Entry {
     ) -> Result<(), OutOfMemory>
         requires spelt { Spelt log.now self.now }
         requires stands { StandsIn (edit_in log.now self.now) (L.value line.old).text }
-        ensures line { OnOk result (L.value line.new ≡ taken_back_in (edit_in log.now self.now)
+        ensures line { OnOk result (L.value line.new ≡ line_after_undo (edit_in log.now self.now)
             (L.value line.old)) }
         ensures kept { OnErr result (L.value line.new ≡ L.value line.old) }
     {
@@ -96,7 +96,7 @@ impl Entry {
     ) -> Result<(), OutOfMemory>
         requires spelt { Spelt log.now self.now }
         requires fits { FitsIn (edit_in log.now self.now) (L.value line.old).text }
-        ensures line { OnOk result (L.value line.new ≡ made_anew_in (edit_in log.now self.now)
+        ensures line { OnOk result (L.value line.new ≡ line_after_redo (edit_in log.now self.now)
             (L.value line.old)) }
         ensures kept { OnErr result (L.value line.new ≡ L.value line.old) }
     {
@@ -108,9 +108,10 @@ impl Entry {
     pub fn joined(&self, report: Report<'_>) -> Option<(usize, bool)>
         requires { self.now.middle ≤ self.now.end }
         ensures { (removed added : List ℕ) → length added ≡ self.now.end - self.now.middle →
-            joined_to (event_of report.entry) (edit_from self.now.kind self.now.at removed added)
-            ≡ option_map (λ j. grown j.0 j.1 (removed_of (change_told (event_of report.entry)))
-            (added_of (change_told (event_of report.entry)))
+            join_of (event_of report.entry) (edit_from self.now.kind self.now.at removed added)
+            ≡ option_map (λ j. change_with_text j.0 j.1
+            (old_text_of (change_told (event_of report.entry)))
+            (new_text_of (change_told (event_of report.entry)))
             (edit_from self.now.kind self.now.at removed added)) result }
     {
         let added = self.end - self.middle;
@@ -153,7 +154,7 @@ fn follows(place: usize, before: usize, length: usize) -> bool
 pub(crate) fn take_back<L: EditedLine>(
     alloc: Global,
     log: &str,
-    entries: &[Entry],
+    entries: &[LoggedChange],
     line: &mut L,
 ) -> Result<(), OutOfMemory>
     requires spelt { All (Spelt log.now) entries.now }
@@ -173,7 +174,7 @@ pub(crate) fn take_back<L: EditedLine>(
 pub(crate) fn make_anew<L: EditedLine>(
     alloc: Global,
     log: &str,
-    entries: &[Entry],
+    entries: &[LoggedChange],
     line: &mut L,
 ) -> Result<(), OutOfMemory>
     requires spelt { All (Spelt log.now) entries.now }

@@ -40,8 +40,8 @@ impl Model for KillRing {
 }
 
 impl KillRing {
-    ghost use Rattle.std.specs.Prelude.{◌≡◌, IfOk, OnOk, OnErr, ◌<◌, ◌≤◌, length, map, option_copied, option_map, slice_get, string_bytes};
-    ghost use Rattle.line_record.specs.Ring.{new_ring, slot_after, killed, yanked, turned, exchanged};
+    ghost use Rattle.std.specs.Prelude.{◌≡◌, IfOk, OnOk, OnErr, ◌<◌, ◌≤◌, ◌-◌, length, map, option_copied, option_map, slice_get, string_bytes};
+    ghost use Rattle.line_record.specs.Ring.{new_ring, ring_of, slot_after, ring_with_kill, ring_after_yank, ring_after_turn, yank_exchange};
     ghost use Rattle.line_record.specs.declared.kill_ring.Action.TheVariants.{Other};
     ghost use Rattle.std.specs.Borrow.{sem};
     ghost use Rattle.line_record.specs.RingLends.{ends_as};
@@ -61,6 +61,22 @@ impl KillRing {
         })
     }
 
+    /// A ring of `size` slots that holds these texts. The slot at `place` is the current one, and
+    /// the next kill starts a new slot. Without texts the place is 0.
+    pub fn from_slots(slots: Vec<String>, size: usize, place: usize) -> Self
+        requires few { length slots.items ≤ size }
+        requires inside { place ≤ length slots.items - 1 }
+        ensures { result ≡ ring_of (map string_bytes slots.items) size place }
+    {
+        KillRing {
+            slots,
+            size,
+            index: place,
+            last_action: Action::Other,
+            killing: false,
+        }
+    }
+
     /// Ends a run of kills: the next kill starts a new slot.
     pub fn reset(&mut self)
         ensures { self.new ≡ record self.old { last = Other } }
@@ -70,7 +86,7 @@ impl KillRing {
 
     /// Stores a killed text. A kill right after a kill is joined to its text.
     pub fn kill(&mut self, alloc: Global, text: &str, mode: Mode) -> Result<(), OutOfMemory>
-        ensures ok { OnOk result (self.new ≡ killed text.now mode self.old) }
+        ensures ok { OnOk result (self.new ≡ ring_with_kill text.now mode self.old) }
         ensures kept { OnErr result (self.new ≡ self.old) }
         ensures refused { OnErr result (0 < self.old.size) }
     {
@@ -117,7 +133,7 @@ impl KillRing {
     /// Borrows the text of the current slot.
     pub fn yank(&mut self) -> Option<&str>
         ensures value { option_copied result ≡ slice_get self.old.slots self.old.place }
-        ensures* ring { sem 𝓛 (ends_as self.entry (yanked self.old)) }
+        ensures* ring { sem 𝓛 (ends_as self.entry (ring_after_yank self.old)) }
     {
         if self.slots.is_empty() {
             return None;
@@ -129,8 +145,8 @@ impl KillRing {
     /// After a yank, turns one slot back and borrows its text. Also returns the number of bytes
     /// that the last yank returned.
     pub fn yank_pop(&mut self) -> Option<(usize, &str)>
-        ensures value { option_map (λ p. (p.0, p.1.now)) result ≡ exchanged self.old }
-        ensures* ring { sem 𝓛 (ends_as self.entry (turned self.old)) }
+        ensures value { option_map (λ p. (p.0, p.1.now)) result ≡ yank_exchange self.old }
+        ensures* ring { sem 𝓛 (ends_as self.entry (ring_after_turn self.old)) }
     {
         let Action::Yank(count) = self.last_action else {
             return None;
@@ -149,7 +165,7 @@ impl KillRing {
 }
 
 ghost use Rattle.std.specs.Prelude.{◌≡◌, ◌<◌, ◌≤◌, map, [], length, string_bytes, slice_set, slice_index_or, vec_len, OnOk, OnErr};
-ghost use Rattle.line_record.specs.Ring.{joined_text, put_text};
+ghost use Rattle.line_record.specs.Ring.{joined_text, slots_with_text};
 
 /// Joins a text to the text in a slot.
 fn join_slot(
@@ -190,7 +206,7 @@ fn put_slot(
     text: &str,
 ) -> Result<(), OutOfMemory>
     requires { index ≤ vec_len slots.old }
-    ensures ok { OnOk result (map string_bytes slots.new.items ≡ put_text index text.now
+    ensures ok { OnOk result (map string_bytes slots.new.items ≡ slots_with_text index text.now
         (map string_bytes slots.old.items)) }
     ensures kept { OnErr result (map string_bytes slots.new.items ≡ map string_bytes
         slots.old.items) }

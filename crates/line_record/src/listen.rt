@@ -6,9 +6,9 @@ use line_buffer::{ChangeListener, DeleteListener, Direction, OutOfMemory};
 use std::alloc::Global;
 
 impl DeleteListener for Changeset {
-    ghost use Rattle.line_record.specs.Items.{RecordedIn, record_refuses};
+    ghost use Rattle.line_record.specs.Items.{RecordsEventIn, record_refuses};
 
-    ghost takes = { RecordedIn };
+    ghost takes = { RecordsEventIn };
 
     ghost refuses = { record_refuses };
 
@@ -40,7 +40,7 @@ impl ChangeListener for Changeset {
     }
 
     fn insert_str(&mut self, alloc: Global, idx: usize, text: &str) -> Result<(), OutOfMemory> {
-        self.note(alloc, Report::Text { at: idx, text })
+        self.insert_str(alloc, idx, text)
     }
 
     fn replace(
@@ -50,13 +50,6 @@ impl ChangeListener for Changeset {
         removed: &str,
         added: &str,
     ) -> Result<(), OutOfMemory> {
-        self.note(
-            alloc,
-            Report::Replacement {
-                at: idx,
-                removed,
-                added,
-            },
-        )
+        self.replace(alloc, idx, removed, added)
     }
 }

@@ -1,7 +1,7 @@
 //! The texts of recorded changes, one after the other.
 
 use crate::edited_line::EditedLine;
-use crate::entry::{Entry, Kind, make_anew, take_back};
+use crate::entry::{Kind, LoggedChange, make_anew, take_back};
 use crate::report::Report;
 use line_buffer::OutOfMemory;
 use std::alloc::Global;
@@ -9,12 +9,12 @@ use std::marker::Model;
 
 /// The changes of a record, the oldest first, with all their texts in one string.
 #[derive(Debug, Drop)]
-pub struct Log {
+pub struct TextLog {
     text: String,
-    entries: Vec<Entry>,
+    entries: Vec<LoggedChange>,
 }
 
-impl Model for Log {
+impl Model for TextLog {
     ghost use Rattle.std.specs.Prelude.{List, string_bytes};
     ghost use Rattle.line_record.specs.Change.{Change};
 
@@ -27,18 +27,18 @@ impl Model for Log {
     ghost invariant = { λ l. IsLog (string_bytes l.text) l.entries.items };
 }
 
-impl Log {
+impl TextLog {
     ghost use Rattle.std.specs.Prelude.{◌≡◌, ◌<◌, ◌≤◌, ◌++◌, [], ◌∷◌, length, take, slice_range, slice_index_or, IfOk, OnOk, OnErr, is_some, unwrap_or, option_copied};
     ghost use Rattle.line_record.specs.Change.{Change, AllStandIn, AllFitIn};
-    ghost use Rattle.line_record.specs.Held.{inserted_by};
-    ghost use Rattle.line_record.specs.Logged.{edit_from, grown, joined_at};
-    ghost use Rattle.line_record.specs.Steps.{event_of};
+    ghost use Rattle.line_record.specs.Held.{text_inserted_by};
+    ghost use Rattle.line_record.specs.Logged.{edit_from, change_with_text, join_at};
+    ghost use Rattle.line_record.specs.LogSteps.{event_of};
     ghost use Rattle.line_record.specs.Items.{TakesBack, MakesAnew};
 
     pub fn new(alloc: Global) -> Self
         ensures { result ≡ [] }
     {
-        Log {
+        TextLog {
             text: String::new(alloc),
             entries: Vec::new(alloc),
         }
@@ -51,7 +51,7 @@ impl Log {
         let text = String::from_str(alloc, &self.text)?;
         let mut entries = Vec::with_capacity(alloc, self.entries.len())?;
         entries.extend_from_slice(&self.entries)?;
-        Ok(Log { text, entries })
+        Ok(TextLog { text, entries })
     }
 
     /// The number of changes.
@@ -95,7 +95,7 @@ impl Log {
         let middle = self.text.len();
         self.text.push_str(added)?;
         let end = self.text.len();
-        self.entries.push(Entry {
+        self.entries.push(LoggedChange {
             kind,
             at,
             start,
@@ -110,9 +110,9 @@ impl Log {
     pub fn join(&mut self, index: usize, report: Report<'_>) -> Result<bool, OutOfMemory>
         requires { index < length self.old }
         ensures answer { IfOk result (λ joined. joined
-            ≡ is_some (joined_at (event_of report.entry) index self.old)) }
+            ≡ is_some (join_at (event_of report.entry) index self.old)) }
         ensures value { OnOk result (self.new
-            ≡ unwrap_or (joined_at (event_of report.entry) index self.old) self.old) }
+            ≡ unwrap_or (join_at (event_of report.entry) index self.old) self.old) }
         ensures kept { OnErr result (self.new ≡ self.old) }
     {
         let Some((at, before)) = self.entries[index].joined(report) else {
@@ -135,7 +135,8 @@ impl Log {
     ) -> Result<(), OutOfMemory>
         requires { index < length self.old }
         ensures ok { OnOk result ((d : Change) → self.new ≡ take index self.old
-            ++ grown at before removed.now added.now (slice_index_or self.old index d) ∷ []) }
+            ++ change_with_text at before removed.now added.now (slice_index_or self.old index d)
+            ∷ []) }
         ensures kept { OnErr result (self.new ≡ self.old) }
     {
         let last = self.entries[index];
@@ -148,7 +149,7 @@ impl Log {
         put_in(&mut self.text, last.seam(before), removed)?;
         self.text.push_str(added)?;
         let end = self.text.len();
-        self.entries.push(Entry {
+        self.entries.push(LoggedChange {
             at,
             middle: last.middle + removed.len(),
             end,
@@ -161,7 +162,7 @@ impl Log {
     pub fn inserted(&self, index: usize) -> Option<&str>
         requires { index < length self.now }
         ensures { (d : Change) → option_copied result
-            ≡ inserted_by (slice_index_or self.now index d) }
+            ≡ text_inserted_by (slice_index_or self.now index d) }
     {
         self.entries[index].inserted(&self.text)
     }
@@ -224,7 +225,7 @@ fn put_in(text: &mut String, at: usize, added: &str) -> Result<(), OutOfMemory>
 }
 
 /// Where the entry of an index begins; the end of all entries if there is none.
-fn place(entries: &[Entry], n: usize, end: usize) -> usize
+fn place(entries: &[LoggedChange], n: usize, end: usize) -> usize
     ensures { result ≡ place_of_span (λ x. x.start) entries.now n end }
 {
     match entries.get(n) {

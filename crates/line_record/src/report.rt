@@ -29,9 +29,9 @@ pub enum Report<'a> {
 impl<'a> Report<'a> {
     ghost use Rattle.std.specs.Prelude.{◌≡◌, Some, true, not, is_some};
     ghost use Rattle.line_record.specs.Held.{change_of};
-    ghost use Rattle.line_record.specs.Change.{place_of, removed_of, added_of};
+    ghost use Rattle.line_record.specs.Change.{place_of, old_text_of, new_text_of};
     ghost use Rattle.line_record.specs.Logged.{edit_from, change_told};
-    ghost use Rattle.line_record.specs.Steps.{event_of};
+    ghost use Rattle.line_record.specs.LogSteps.{event_of};
 
     /// Whether nothing is inserted and nothing deleted.
     pub fn is_empty(self) -> bool
@@ -49,7 +49,7 @@ impl<'a> Report<'a> {
     pub fn kind(self) -> Kind
         ensures { let told = change_told (event_of self.entry) in
             is_some (change_of (event_of self.entry)) ≡ true → change_of (event_of self.entry)
-            ≡ Some (edit_from result (place_of told) (removed_of told) (added_of told)) }
+            ≡ Some (edit_from result (place_of told) (old_text_of told) (new_text_of told)) }
     {
         match self {
             Report::Char { .. } | Report::Text { .. } => Kind::Insertion,
@@ -71,7 +71,7 @@ impl<'a> Report<'a> {
 
     /// The deleted text.
     pub fn removed(self) -> &'a str
-        ensures { result.now ≡ removed_of (change_told (event_of self.entry)) }
+        ensures { result.now ≡ old_text_of (change_told (event_of self.entry)) }
     {
         match self {
             Report::Char { .. } | Report::Text { .. } => "",
@@ -82,7 +82,7 @@ impl<'a> Report<'a> {
 
     /// The inserted text; `room` is a buffer for the text of a character.
     pub fn added(self, room: &'a mut [u8; 4]) -> &'a str
-        ensures { result.now ≡ added_of (change_told (event_of self.entry)) }
+        ensures { result.now ≡ new_text_of (change_told (event_of self.entry)) }
     {
         match self {
             Report::Char { c, .. } => c.encode_utf8(room),

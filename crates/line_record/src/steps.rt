@@ -1,7 +1,7 @@
 //! The steps of a record over one log: open marks, single changes and closed groups.
 
 use crate::edited_line::EditedLine;
-use crate::log::Log;
+use crate::log::TextLog;
 use crate::report::Report;
 use line_buffer::OutOfMemory;
 use std::alloc::Global;
@@ -31,7 +31,7 @@ impl Step {
 /// Steps, the oldest first, with their changes.
 #[derive(Debug, Drop)]
 pub struct Steps {
-    log: Log,
+    log: TextLog,
     steps: Vec<Step>,
 }
 
@@ -41,7 +41,7 @@ impl Model for Steps {
 
     ghost Value = { List Item };
 
-    ghost use Rattle.line_record.specs.Steps.{items_in, AreSteps};
+    ghost use Rattle.line_record.specs.LogSteps.{items_in, AreSteps};
 
     ghost view = { λ s. items_in s.log s.steps.items };
 
@@ -52,15 +52,15 @@ impl Steps {
     ghost use Rattle.std.specs.Prelude.{◌≡◌, ◌+◌, ◌<◌, ◌≤◌, ◌++◌, true, [], ◌∷◌, length, take, drop, reverse, slice_get, slice_index_or, IfOk, OnOk, OnErr, Some, is_some, option_map, option_copied};
     ghost use Rattle.line_record.specs.Change.{AllStandIn, AllFitIn};
     ghost use Rattle.line_record.specs.Held.{change_of};
-    ghost use Rattle.line_record.specs.Items.{changes_of, is_step_item, gathered, group_of, noted_if, TakesBack, MakesAnew};
+    ghost use Rattle.line_record.specs.Items.{changes_of, is_step_item, changes_of_all, group_of, items_with_change_if, TakesBack, MakesAnew};
     ghost use Rattle.line_record.specs.Items.Item.{Open, Lone};
-    ghost use Rattle.line_record.specs.Steps.{JoinedIn, event_of, is_open, joined_items, item_inserted};
+    ghost use Rattle.line_record.specs.LogSteps.{JoinedIn, event_of, is_open, join_of_items, item_inserted};
 
     pub fn new(alloc: Global) -> Self
         ensures { result ≡ [] }
     {
         Steps {
-            log: Log::new(alloc),
+            log: TextLog::new(alloc),
             steps: Vec::new(alloc),
         }
     }
@@ -112,7 +112,7 @@ impl Steps {
     /// can be joined.
     pub fn note(&mut self, n: usize, report: Report<'_>) -> Result<(), OutOfMemory>
         requires { n ≤ length self.old }
-        ensures ok { OnOk result (reverse self.new ≡ noted_if (event_of report.entry)
+        ensures ok { OnOk result (reverse self.new ≡ items_with_change_if (event_of report.entry)
             (change_of (event_of report.entry)) (reverse (take n self.old))) }
         ensures kept { OnErr result (self.new ≡ self.old) }
         ensures some { OnErr result (is_some (change_of (event_of report.entry)) ≡ true) }
@@ -154,9 +154,9 @@ impl Steps {
     fn join(&mut self, index: usize, report: Report<'_>) -> Result<bool, OutOfMemory>
         requires { index < length self.old }
         ensures answer { IfOk result (λ joined. joined ≡ is_some
-            (joined_items (event_of report.entry) (reverse (take (index + 1) self.old)))) }
+            (join_of_items (event_of report.entry) (reverse (take (index + 1) self.old)))) }
         ensures value { OnOk result (JoinedIn
-            (joined_items (event_of report.entry) (reverse (take (index + 1) self.old)))
+            (join_of_items (event_of report.entry) (reverse (take (index + 1) self.old)))
             self.old self.new) }
         ensures kept { OnErr result (self.new ≡ self.old) }
     {
@@ -176,8 +176,9 @@ impl Steps {
     pub fn close(&mut self, n: usize, index: usize) -> bool
         requires order { index < n }
         requires inside { n ≤ length self.old }
-        ensures answer { result ≡ is_some (slice_get (gathered (drop index (take n self.old))) 0) }
-        ensures items { reverse self.new ≡ group_of (gathered (drop index (take n self.old)))
+        ensures answer { result ≡ is_some
+            (slice_get (changes_of_all (drop index (take n self.old))) 0) }
+        ensures items { reverse self.new ≡ group_of (changes_of_all (drop index (take n self.old)))
             (reverse (take index self.old)) }
     {
         let (first, last) = (self.steps[index].first, self.steps[n - 1].last);
@@ -207,7 +208,7 @@ impl Steps {
 
     /// The number of changes of the steps from `first` up to `end`.
     pub fn change_count(&self, first: usize, end: usize) -> usize
-        ensures { result ≡ length (gathered (drop first (take end self.now))) }
+        ensures { result ≡ length (changes_of_all (drop first (take end self.now))) }
     {
         let end = end.min(self.len());
         if first >= end {

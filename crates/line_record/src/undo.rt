@@ -11,8 +11,8 @@ const FEW: usize = 8;
 
 impl Changeset {
     ghost use Rattle.std.specs.Prelude.{◌≡◌, ◌<◌, max, length, drop, IfOk, OnOk, OnErr};
-    ghost use Rattle.line_record.specs.Held.{line_back, has_step, ahead_back, line_ahead, has_step_ahead, held_ahead};
-    ghost use Rattle.line_record.specs.Items.{no_items, undo_one, nearest_changes, nearest_is_change, BackInPart, AnewInPart, ItemsStand, DoneStand, UndoneFit, held_on, ahead_on, TakesBack, UndoesItems, RedoesItem, last_changes};
+    ghost use Rattle.line_record.specs.Held.{line_back, has_step, ahead_back, line_ahead, has_step_ahead, record_ahead};
+    ghost use Rattle.line_record.specs.Items.{no_items, undo_one, nearest_changes, nearest_is_change, CutUndo, AnewInPart, ItemsStand, DoneStand, UndoneFit, record_on, ahead_on, TakesBack, UndoesItems, RedoesItem, last_changes};
 
     /// Undoes the last `n` items: steps and open marks. 0 acts as 1. Returns whether a step was
     /// among them. The cursor goes to the place of their oldest change, after the text that was
@@ -25,16 +25,17 @@ impl Changeset {
     ) -> Result<bool, OutOfMemory>
         requires { ItemsStand self.old line.old.text }
         ensures answer { IfOk result (λ b. b ≡ has_step (max n 1)
-            (held_on self.old line.old.text)) }
-        ensures line { OnOk result (line.new ≡ line_back (max n 1) (held_on self.old line.old.text)
+            (record_on self.old line.old.text)) }
+        ensures line { OnOk result
+            (line.new ≡ line_back (max n 1) (record_on self.old line.old.text)
             line.old) }
-        ensures held { OnOk result (held_on self.new line.new.text ≡ drop (max n 1)
-            (held_on self.old line.old.text)) }
+        ensures held { OnOk result (record_on self.new line.new.text ≡ drop (max n 1)
+            (record_on self.old line.old.text)) }
         ensures ahead { OnOk result (ahead_on self.new line.new.text ≡ ahead_back (max n 1)
-            (held_on self.old line.old.text) line.old.text (ahead_on self.old line.old.text)) }
+            (record_on self.old line.old.text) line.old.text (ahead_on self.old line.old.text)) }
         ensures stand { ItemsStand self.new line.new.text }
         ensures refused { OnErr result (self.new ≡ no_items) }
-        ensures part { OnErr result (BackInPart (last_changes (max n 1) self.old.done) line.old
+        ensures part { OnErr result (CutUndo (last_changes (max n 1) self.old.done) line.old
             line.new) }
     {
         // Its contract says that the text is UTF-8.
@@ -135,8 +136,8 @@ impl Changeset {
         ensures answer { IfOk result (λ b. b ≡ has_step_ahead (ahead_on self.old line.old.text)) }
         ensures line { OnOk result (line.new ≡ line_ahead (ahead_on self.old line.old.text)
             line.old) }
-        ensures held { OnOk result (held_on self.new line.new.text ≡ held_ahead
-            (ahead_on self.old line.old.text) (held_on self.old line.old.text)) }
+        ensures held { OnOk result (record_on self.new line.new.text ≡ record_ahead
+            (ahead_on self.old line.old.text) (record_on self.old line.old.text)) }
         ensures ahead { OnOk result (ahead_on self.new line.new.text ≡ drop 1
             (ahead_on self.old line.old.text)) }
         ensures stand { ItemsStand self.new line.new.text }

@@ -11,12 +11,12 @@ use Rattle.std.proofs.lemmas.List.{drop_all}
 use Rattle.line_screen.specs.Display.{is_printable}
 use Rattle.line_screen.specs.Drawing.{Widths, is_letter, drawn_item, split_rows, text_items}
 use Rattle.line_screen.specs.Drawing.DrawnItem.{NewRow, Letter}
-use Rattle.line_screen.specs.Colours.{Span, span_of, spans_from, spans_in, all_spans, IsFirstSpan, skip, PaintedItem, all_unpainted, shaded, painted_letters, painted_after, painted_clusters, painted_row, painted_rows, painted_behind, painted_text, next_painted, spans_behind, bare_letters}
+use Rattle.line_screen.specs.Colours.{SgrSpan, span_of, spans_from, spans_in, all_spans, IsFirstSpan, skip, PaintedItem, all_unpainted, letters_in_style, painted_letters, items_painted_after, painted_clusters, painted_row, painted_rows, rows_painted_behind, painted_text, next_painted, spans_behind, bare_letters}
 use Rattle.line_screen.specs.Colours.PaintedItem.{Bare}
 use Rattle.line_screen.proofs.StyledTextLemmas.{bare_of, text_unpainted}
 use Rattle.line_screen.specs.declared.drawing.painted.Spans as spans
-use Rattle.line_help.specs.declared.style.Span as span
-use Rattle.line_help.specs.declared.style.Mark.{Mark}
+use Rattle.line_help.specs.declared.helpers.style.Span as span
+use Rattle.line_help.specs.declared.helpers.style.Mark.{Mark}
 use Rattle.line_help.specs.Paints.{IsNextSpan, first_mark}
 
 more_than : (n m : ℕ) → nat_le n m ≡ false → m ≤ n
@@ -37,15 +37,15 @@ drop_fewer n xs = elim (by_test (nat_le n (length xs))) [
 ]
 
 -- the letters of the first span are next
-pub span_next : (spans behind : List Span) (s : Span) (letters front back : List ℕ) (count : ℕ) → spans ≡ s ∷ behind → count ≡ min s.len (length letters)
+pub span_next : (spans behind : List SgrSpan) (s : SgrSpan) (letters front back : List ℕ) (count : ℕ) → spans ≡ s ∷ behind → count ≡ min s.len (length letters)
     → front ≡ take count letters → back ≡ drop count letters
-    → painted_letters spans letters ≡ shaded s.style front ++ painted_letters behind back
+    → painted_letters spans letters ≡ letters_in_style s.style front ++ painted_letters behind back
 span_next spans behind s letters front back count is counted front_is back_is =
     let f : front ≡ take s.len letters = front_is ∙ ap (λ k. take k letters) counted ∙ take_fewer s.len letters in
     let b : back ≡ drop s.len letters = back_is ∙ ap (λ k. drop k letters) counted ∙ drop_fewer s.len letters in
     ap (λ ss. painted_letters ss letters) is
-    ∙ ap (λ xs. shaded s.style xs ++ painted_letters behind (drop s.len letters)) (sym f)
-    ∙ ap (λ xs. shaded s.style front ++ painted_letters behind xs) (sym b)
+    ∙ ap (λ xs. letters_in_style s.style xs ++ painted_letters behind (drop s.len letters)) (sym f)
+    ∙ ap (λ xs. letters_in_style s.style front ++ painted_letters behind xs) (sym b)
 
 -- nothing is left of a span that was returned
 pub asked : (paints : Mark → List span.Span) (left : spans.Spans) (next : Option (span.Span × Mark)) → left.first ≡ None → IsNextSpan paints left.mark next → IsFirstSpan paints left next
@@ -66,24 +66,24 @@ drop_none : (n : ℕ) → let none : List ℕ = [] in drop n none ≡ none
 drop_none zero = refl
 drop_none (suc n) = refl
 
-no_letter_left : (spans : List Span) → painted_letters spans [] ≡ []
+no_letter_left : (spans : List SgrSpan) → painted_letters spans [] ≡ []
 no_letter_left [] = refl
 no_letter_left (s ∷ spans) =
-    ap (λ xs. shaded s.style xs ++ painted_letters spans (drop s.len [])) (take_none s.len)
+    ap (λ xs. letters_in_style s.style xs ++ painted_letters spans (drop s.len [])) (take_none s.len)
     ∙ ap (painted_letters spans) (drop_none s.len) ∙ no_letter_left spans
 
 -- without letters nothing is left, whatever spans follow
-pub no_letters : (spans : List Span) (letters : List ℕ) → (length letters == 0) ≡ true → painted_letters spans letters ≡ []
+pub no_letters : (spans : List SgrSpan) (letters : List ℕ) → (length letters == 0) ≡ true → painted_letters spans letters ≡ []
 no_letters spans [] none = no_letter_left spans
 no_letters spans (c ∷ letters) none = let zero = eqb-true (length (c ∷ letters)) 0 none in absurd (omega arith)
 
 -- the next cluster is no letter
-pub next_other : (wide : Widths) (spans later : List Span) (letters g : List ℕ) (before left : List (List ℕ)) → before ≡ g ∷ left → is_letter g ≡ false → later ≡ skip (length g) (skip (length letters) spans)
-    → painted_clusters wide spans letters before ≡ painted_after wide spans letters g ++ painted_clusters wide later [] left
+pub next_other : (wide : Widths) (spans later : List SgrSpan) (letters g : List ℕ) (before left : List (List ℕ)) → before ≡ g ∷ left → is_letter g ≡ false → later ≡ skip (length g) (skip (length letters) spans)
+    → painted_clusters wide spans letters before ≡ items_painted_after wide spans letters g ++ painted_clusters wide later [] left
 next_other wide spans later letters g before left is other later_is =
     ap (painted_clusters wide spans letters) is
-    ∙ ap (λ b. if b then painted_clusters wide spans (letters ++ g) left else (painted_after wide spans letters g ++ painted_clusters wide (skip (length g) (skip (length letters) spans)) [] left)) other
-    ∙ ap (λ ss. painted_after wide spans letters g ++ painted_clusters wide ss [] left) (sym later_is)
+    ∙ ap (λ b. if b then painted_clusters wide spans (letters ++ g) left else (items_painted_after wide spans letters g ++ painted_clusters wide (skip (length g) (skip (length letters) spans)) [] left)) other
+    ∙ ap (λ ss. items_painted_after wide spans letters g ++ painted_clusters wide ss [] left) (sym later_is)
 
 -- the letters of a row that aren't sent yet, before its other bytes, which are the clusters that are left; and what holds of them
 pub record RowSoFar (rest tail : List ℕ) (left : List (List ℕ)) (Holds : List ℕ → Type 0) : Type 0 where
@@ -104,23 +104,23 @@ module _ (rest tail : List ℕ) (left : List (List ℕ)) (Holds : List ℕ → T
 
 -- ---- rows
 
-abbrev pub painted_left : Widths → Bool → List Span → List (List ℕ) → List PaintedItem
+abbrev pub painted_left : Widths → Bool → List SgrSpan → List (List ℕ) → List PaintedItem
 painted_left wide true spans rows = painted_rows wide spans rows
-painted_left wide false spans rows = painted_behind wide spans rows
+painted_left wide false spans rows = rows_painted_behind wide spans rows
 
-abbrev pub painted_from : Widths → List ℕ → Bool → List Span → ℕ → List PaintedItem
+abbrev pub painted_from : Widths → List ℕ → Bool → List SgrSpan → ℕ → List PaintedItem
 painted_from wide text is_first spans n = painted_left wide is_first spans (drop n (split_rows text))
 
-row_step : (wide : Widths) (is_first : Bool) (spans : List Span) (row : List ℕ) (rows : List (List ℕ))
+row_step : (wide : Widths) (is_first : Bool) (spans : List SgrSpan) (row : List ℕ) (rows : List (List ℕ))
     → painted_left wide is_first spans (row ∷ rows) ≡ next_painted wide is_first spans row ++ painted_left wide false (spans_behind is_first spans row) rows
 row_step wide true spans row rows = refl
 row_step wide false spans row rows = refl
 
-row_none : (wide : Widths) (is_first : Bool) (spans : List Span) → painted_left wide is_first spans [] ≡ []
+row_none : (wide : Widths) (is_first : Bool) (spans : List SgrSpan) → painted_left wide is_first spans [] ≡ []
 row_none wide true spans = refl
 row_none wide false spans = refl
 
-pub rows_take : (wide : Widths) (text : List ℕ) (is_first : Bool) (spans later : List Span) (n m : ℕ) (row : List ℕ) → n < length (split_rows text) → row ≡ get_or (split_rows text) n row → m ≡ n + 1 → later ≡ spans_behind is_first spans row
+pub rows_take : (wide : Widths) (text : List ℕ) (is_first : Bool) (spans later : List SgrSpan) (n m : ℕ) (row : List ℕ) → n < length (split_rows text) → row ≡ get_or (split_rows text) n row → m ≡ n + 1 → later ≡ spans_behind is_first spans row
     → painted_from wide text is_first spans n ≡ next_painted wide is_first spans row ++ painted_from wide text false later m
 rows_take wide text is_first spans later n m row low is more later_is =
     let rest : drop (n + 1) (split_rows text) ≡ drop m (split_rows text) = ap (λ k. drop k (split_rows text)) (sym more) in
@@ -128,7 +128,7 @@ rows_take wide text is_first spans later n m row low is more later_is =
     ap (painted_left wide is_first spans) (split ∙ ap (λ rs. row ∷ rs) rest) ∙ row_step wide is_first spans row (drop m (split_rows text))
     ∙ ap (λ ss. next_painted wide is_first spans row ++ painted_left wide false ss (drop m (split_rows text))) (sym later_is)
 
-pub rows_end : (wide : Widths) (text : List ℕ) (is_first : Bool) (spans : List Span) (n : ℕ) → drop n (split_rows text) ≡ [] → painted_from wide text is_first spans n ≡ []
+pub rows_end : (wide : Widths) (text : List ℕ) (is_first : Bool) (spans : List SgrSpan) (n : ℕ) → drop n (split_rows text) ≡ [] → painted_from wide text is_first spans n ≡ []
 rows_end wide text is_first spans n h = ap (painted_left wide is_first spans) h ∙ row_none wide is_first spans
 
 -- ---- printable ASCII is one row
@@ -142,11 +142,11 @@ one_row (c ∷ cs) h =
     let parts = and_parts (is_printable c) (list_all is_printable cs) h in
     slice_split-cons_no (λ x. x == 0x0A) c cs (no_newline c parts.0) ∙ ap (onto_first c) (one_row cs parts.1)
 
-text_letters : (wide : Widths) (spans : List Span) (text : List ℕ) → list_all is_printable text ≡ true → painted_text wide spans text ≡ painted_letters spans text
+text_letters : (wide : Widths) (spans : List SgrSpan) (text : List ℕ) → list_all is_printable text ≡ true → painted_text wide spans text ≡ painted_letters spans text
 text_letters wide spans text h = ap (painted_rows wide spans) (one_row text h) ∙ append-nil (painted_row wide spans text)
     ∙ ap (λ b. if b then painted_letters spans text else painted_clusters wide spans [] (graphemes true text)) h
 
-pub no_text : (wide : Widths) (spans : List Span) (text : List ℕ) → true ≡ (length text == 0) → painted_text wide spans text ≡ []
+pub no_text : (wide : Widths) (spans : List SgrSpan) (text : List ℕ) → true ≡ (length text == 0) → painted_text wide spans text ≡ []
 no_text wide spans [] none = text_letters wide spans [] refl ∙ no_letter_left spans
 no_text wide spans (c ∷ text) none = let zero = eqb-true (length (c ∷ text)) 0 (sym none) in absurd (omega arith)
 
@@ -182,14 +182,14 @@ module _ (wide : Widths) where
   row_plain : (row : List ℕ) → Plain (painted_row wide [] row)
   row_plain row = plain_if (list_all is_printable row) (bare_letters row) (painted_clusters wide [] [] (graphemes true row)) (letters_plain row) (clusters_plain [] (graphemes true row))
 
-  behind_plain : (rows : List (List ℕ)) → Plain (painted_behind wide [] rows)
+  behind_plain : (rows : List (List ℕ)) → Plain (rows_painted_behind wide [] rows)
   behind_plain [] = refl
-  behind_plain (row ∷ rows) = ap (λ xs. Bare NewRow ∷ xs) (plain_append (painted_row wide [] row) (painted_behind wide [] rows) (row_plain row) (behind_plain rows))
+  behind_plain (row ∷ rows) = ap (λ xs. Bare NewRow ∷ xs) (plain_append (painted_row wide [] row) (rows_painted_behind wide [] rows) (row_plain row) (behind_plain rows))
 
   rows_plain : (rows : List (List ℕ)) → Plain (painted_rows wide [] rows)
   rows_plain [] = refl
-  rows_plain (row ∷ rows) = plain_append (painted_row wide [] row) (painted_behind wide [] rows) (row_plain row) (behind_plain rows)
+  rows_plain (row ∷ rows) = plain_append (painted_row wide [] row) (rows_painted_behind wide [] rows) (row_plain row) (behind_plain rows)
 
-  pub bare_text : (spans : List Span) (text : List ℕ) → [] ≡ spans → map Bare (text_items wide text) ≡ painted_text wide spans text
+  pub bare_text : (spans : List SgrSpan) (text : List ℕ) → [] ≡ spans → map Bare (text_items wide text) ≡ painted_text wide spans text
   bare_text spans text none =
       sym (rows_plain (split_rows text) ∙ ap (map Bare) (text_unpainted wide [] text refl)) ∙ ap (λ ss. painted_text wide ss text) none

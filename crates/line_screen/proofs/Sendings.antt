@@ -6,7 +6,7 @@ use Rattle.std.proofs.lemmas.Bool.{ne_eqb}
 use Rattle.line_config.specs.declared.device.DeviceFailed.{DeviceFailed}
 use Rattle.line_config.specs.Sending.{Takes, TakesSome, Sends}
 use Rattle.line_config.proofs.Taking.{takes_then, some_of_more, some_then, sends_then, sends_cut}
-use Rattle.line_screen.specs.Drawing.{control_sequence, no_style, left_col, break_if, break_unless, fitted_col, fenced, sent_one, col_after_one, SendsTo}
+use Rattle.line_screen.specs.Drawing.{control_sequence, no_style, left_col, break_if, break_unless, fitted_col, cluster_in_fence, bytes_of_item, col_after_one, SendsTo}
 use Rattle.line_screen.specs.Drawing.DrawnItem.{Cluster}
 
 module _ {D : Type 0} (held : D → List ℕ) (failed : D → Bool) where
@@ -66,20 +66,20 @@ module _ {D : Type 0} (held : D → List ℕ) (failed : D → Bool) where
     next = col_after_one columns (Cluster cluster width) col
 
     abbrev SendsCluster : D → D → Result ℕ DeviceFailed → Type 0
-    SendsCluster a b r = SendsTo (sent_one columns (Cluster cluster width) col) next columns held failed a b r
+    SendsCluster a b r = SendsTo (bytes_of_item columns (Cluster cluster width) col) next columns held failed a b r
 
     pub roomless : (Q : DeviceFailed → Type 0) {a b : D} {r : Result ℕ DeviceFailed} → IsErrAnd r Q → IsTrue (failed b) → TakesSome held a b room → SendsCluster a b r
-    roomless Q {a = a} {b = b} refused fails some = sends_to_cut Q next columns (room ++ fenced cluster) full refused fails (some_of_more held a b room (fenced cluster) some)
+    roomless Q {a = a} {b = b} refused fails some = sends_to_cut Q next columns (room ++ cluster_in_fence cluster) full refused fails (some_of_more held a b room (cluster_in_fence cluster) some)
 
     pub textless : (Q : DeviceFailed → Type 0) {a b c : D} {r : Result ℕ DeviceFailed} → IsErrAnd r Q
-        → Takes held a b room → IsTrue (failed c) → TakesSome held b c (fenced cluster) → SendsCluster a c r
+        → Takes held a b room → IsTrue (failed c) → TakesSome held b c (cluster_in_fence cluster) → SendsCluster a c r
     textless Q {a = a} {b = b} {c = c} refused took fails some =
-        sends_to_cut Q next columns (room ++ fenced cluster) full refused fails (some_then held a b c room (fenced cluster) took some)
+        sends_to_cut Q next columns (room ++ cluster_in_fence cluster) full refused fails (some_then held a b c room (cluster_in_fence cluster) took some)
 
-    pub whole : {a b c d : D} {r : Result ℕ DeviceFailed} → Takes held a b room → failed b ≡ failed a → Takes held b c (fenced cluster) → failed c ≡ failed b
+    pub whole : {a b c d : D} {r : Result ℕ DeviceFailed} → Takes held a b room → failed b ≡ failed a → Takes held b c (cluster_in_fence cluster) → failed c ≡ failed b
         → SendsTo full next columns held failed c d r → SendsCluster a d r
     whole {a = a} {b = b} {c = c} took works took_text works_on s =
-        sends_to_then next columns (room ++ fenced cluster) full (takes_then held a b c room (fenced cluster) took took_text) (works_on ∙ works) s
+        sends_to_then next columns (room ++ cluster_in_fence cluster) full (takes_then held a b c room (cluster_in_fence cluster) took took_text) (works_on ∙ works) s
 
 -- parts that each begin without style, and the end
 pub shown_parts : (prompt line info : List ℕ)

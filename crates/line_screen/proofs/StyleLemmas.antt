@@ -4,15 +4,15 @@ use Rattle.std.proofs.lemmas.Bool.{and_from, eqb-true, ne_eqb}
 use Rattle.std.proofs.lemmas.Bool.Decides.{nat_tests}
 use Rattle.std.proofs.lemmas.Fmt.{decimal_by_steps, decimal_digit, decimal_step}
 use Rattle.std.proofs.lemmas.List.Folds.{list_all-append}
-use Rattle.line_help.specs.declared.style.Colour.{Colour}
-use Rattle.line_help.specs.declared.style.Colour.TheVariants.{Terminal, Basic, Bright, Palette, Rgb}
-use Rattle.line_help.specs.declared.style.Hue.{Hue}
-use Rattle.line_help.specs.declared.style.Hue.TheVariants as hues
-use Rattle.line_help.specs.declared.style.Span as span
-use Rattle.line_help.specs.declared.style.Style.{Style}
+use Rattle.line_help.specs.declared.helpers.style.Colour.{Colour}
+use Rattle.line_help.specs.declared.helpers.style.Colour.TheVariants.{Terminal, Basic, Bright, Palette, Rgb}
+use Rattle.line_help.specs.declared.helpers.style.Hue.{Hue}
+use Rattle.line_help.specs.declared.helpers.style.Hue.TheVariants as hues
+use Rattle.line_help.specs.declared.helpers.style.Span as span
+use Rattle.line_help.specs.declared.helpers.style.Style.{Style}
 use Rattle.line_config.specs.Sending.{Sends}
 use Rattle.line_editor.specs.Sights.{PartSpans}
-use Rattle.line_screen.specs.Calls.{styles_of}
+use Rattle.line_screen.specs.ScreenCalls.{styles_of}
 use Rattle.line_screen.specs.Display.{is_parameter}
 use Rattle.line_screen.specs.Drawing.{no_style}
 use Rattle.line_screen.specs.Colours.{AreStyles, is_style, are_styles, span_of, style_bytes}

@@ -6,12 +6,12 @@ use Rattle.std.proofs.lemmas.List.{drop-drop, length-append, map-append}
 use Rattle.std.proofs.lemmas.List.Concat.{flat_map-append}
 use Rattle.unicode_segmentation.specs.Grapheme.{graphemes}
 use Rattle.line_buffer.specs.declared.layout.Position.{Position}
-use Rattle.line_screen.specs.Colours.{Span, is_style, are_styles, skip, first_style, PaintedItem, unpainted, all_unpainted, bare_letters, shaded, painted_letters, painted_item, painted_after, painted_clusters, painted_row, painted_behind, painted_rows, painted_text, painted}
+use Rattle.line_screen.specs.Colours.{SgrSpan, is_style, are_styles, skip, first_style, PaintedItem, items_without_style, all_unpainted, bare_letters, letters_in_style, painted_letters, painted_item, items_painted_after, painted_clusters, painted_row, rows_painted_behind, painted_rows, painted_text, bytes_of_all_painted}
 use Rattle.line_screen.specs.Colours.PaintedItem.{Bare, Begins, Shaded, Fenced, Padded}
-use Rattle.line_screen.specs.Display.{Placed, DisplayReading, read, is_printable}
-use Rattle.line_screen.specs.Drawing.{Widths, DrawnItem, is_letter, is_tab, drawn_cluster, drawn_other, drawn_item, row_items, join_rows, split_rows, text_items, lay_one, after_one, place_after}
+use Rattle.line_screen.specs.Display.{Placed, DisplayReading, reading_after_bytes, is_printable}
+use Rattle.line_screen.specs.Drawing.{Widths, DrawnItem, is_letter, is_tab, drawn_cluster, item_of_cluster, drawn_item, row_items, join_rows, split_rows, text_items, lay_one, after_one, place_after}
 use Rattle.line_screen.specs.Drawing.DrawnItem.{NewRow, Letter, Cluster, Tab}
-use Rattle.line_screen.specs.StyledTexts.{byte_styles, first_of, StyledItem, row_clusters, styled_clusters, styled_behind, styled_rows, styled_text, lay}
+use Rattle.line_screen.specs.StyledTexts.{byte_styles, first_of, StyledItem, row_clusters, styled_clusters, rows_styled_behind, styled_rows, styled_text, lay}
 use Rattle.line_screen.proofs.Draws.{D, Open, Ready, AllFit, AllPainted, AllPens, pen_after_one, pen_after, lay_painted, draws}
 
 -- ---- the items with styles of what is drawn
@@ -51,7 +51,7 @@ bare_are (Padded style apart ∷ xs) = ap (λ ys. Tab apart ∷ ys) (bare_are xs
 
 pub bare_of : (xs ys : List PaintedItem) → all_unpainted (xs ++ ys) ≡ all_unpainted xs ++ all_unpainted ys
 bare_of [] ys = refl
-bare_of (x ∷ xs) ys = ap (λ zs. unpainted x ++ zs) (bare_of xs ys) ∙ sym (append_assoc (unpainted x) (all_unpainted xs) (all_unpainted ys))
+bare_of (x ∷ xs) ys = ap (λ zs. items_without_style x ++ zs) (bare_of xs ys) ∙ sym (append_assoc (items_without_style x) (all_unpainted xs) (all_unpainted ys))
 
 -- ---- parts of a text, with their items; styles are styles, and none stands after a part
 
@@ -131,7 +131,7 @@ shades style (c ∷ letters) is =
     let more = shades style letters is in
     record { items = ap (λ ys. with_style style (Letter c) ∷ ys) more.items; styled = (is, more.styled); pens = (refl, more.pens); ends = more.ends }
 
-draw_shaded : (style letters : List ℕ) → is_style style ≡ true → Draw (shaded style letters) (of_style style letters)
+draw_shaded : (style letters : List ℕ) → is_style style ≡ true → Draw (letters_in_style style letters) (of_style style letters)
 draw_shaded style [] is = draw_none
 draw_shaded [] (c ∷ letters) is = draw_letters (c ∷ letters)
 draw_shaded (p ∷ style) (c ∷ letters) is =
@@ -144,7 +144,7 @@ span_letters zero style styles letters = refl
 span_letters (suc n) style styles [] = refl
 span_letters (suc n) style styles (c ∷ letters) = ap (λ ys. with_style style (Letter c) ∷ ys) (span_letters n style styles letters)
 
-draw_spans : (spans : List Span) (letters : List ℕ) → are_styles spans ≡ true → Draw (painted_letters spans letters) (styled_letters (byte_styles spans) letters)
+draw_spans : (spans : List SgrSpan) (letters : List ℕ) → are_styles spans ≡ true → Draw (painted_letters spans letters) (styled_letters (byte_styles spans) letters)
 draw_spans [] letters h = draw_as (draw_letters letters) (plain_letters letters)
 draw_spans (s ∷ spans) letters h =
     let parts = and_parts (is_style s.style) (are_styles spans) h in
@@ -170,12 +170,12 @@ drop_none : (n : ℕ) → drop {A = List ℕ} n [] ≡ []
 drop_none zero = refl
 drop_none (suc n) = refl
 
-skip_if : (n : ℕ) (s : Span) (spans : List Span) (b : Bool) → nat_lt n s.len ≡ b → byte_styles (skip (n - s.len) spans) ≡ drop (n - s.len) (byte_styles spans)
+skip_if : (n : ℕ) (s : SgrSpan) (spans : List SgrSpan) (b : Bool) → nat_lt n s.len ≡ b → byte_styles (skip (n - s.len) spans) ≡ drop (n - s.len) (byte_styles spans)
     → byte_styles (if b then (record { len = s.len - n; style = s.style } ∷ spans) else skip (n - s.len) spans) ≡ drop n (byte_styles (s ∷ spans))
 skip_if n s spans true e h = drop_span n s.len s.style (byte_styles spans) (ltb-true n s.len e)
 skip_if n s spans false e h = h ∙ drop_past n s.len s.style (byte_styles spans) (ltb-false n s.len e)
 
-skip_is : (n : ℕ) (spans : List Span) → byte_styles (skip n spans) ≡ drop n (byte_styles spans)
+skip_is : (n : ℕ) (spans : List SgrSpan) → byte_styles (skip n spans) ≡ drop n (byte_styles spans)
 skip_is n [] = sym (drop_none n)
 skip_is n (s ∷ spans) = skip_if n s spans (nat_lt n s.len) refl (skip_is (n - s.len) spans)
 
@@ -183,26 +183,26 @@ first_if : (len : ℕ) (style : List ℕ) (styles : List (List ℕ)) (first : Li
 first_if zero style styles first h = h
 first_if (suc len) style styles first h = ap (λ b. if b then first else style) (ne_eqb (suc len) 0 (λ e. absurd (omega (arith, e))))
 
-first_is : (spans : List Span) → first_style spans ≡ first_of (byte_styles spans)
+first_is : (spans : List SgrSpan) → first_style spans ≡ first_of (byte_styles spans)
 first_is [] = refl
 first_is (s ∷ spans) = first_if s.len s.style (byte_styles spans) (first_style spans) (first_is spans)
 
-left_if : (n : ℕ) (s : Span) (spans : List Span) → is_style s.style ≡ true → are_styles spans ≡ true → are_styles (skip (n - s.len) spans) ≡ true → (b : Bool)
+left_if : (n : ℕ) (s : SgrSpan) (spans : List SgrSpan) → is_style s.style ≡ true → are_styles spans ≡ true → are_styles (skip (n - s.len) spans) ≡ true → (b : Bool)
     → are_styles (if b then (record { len = s.len - n; style = s.style } ∷ spans) else skip (n - s.len) spans) ≡ true
 left_if n s spans is h k true = and_from _ _ is h
 left_if n s spans is h k false = k
 
-skip_styles : (n : ℕ) (spans : List Span) → are_styles spans ≡ true → are_styles (skip n spans) ≡ true
+skip_styles : (n : ℕ) (spans : List SgrSpan) → are_styles spans ≡ true → are_styles (skip n spans) ≡ true
 skip_styles n [] h = refl
 skip_styles n (s ∷ spans) h =
     let parts = and_parts (is_style s.style) (are_styles spans) h in
     left_if n s spans parts.0 parts.1 (skip_styles (n - s.len) spans parts.1) (nat_lt n s.len)
 
-style_if : (s : Span) (spans : List Span) → is_style s.style ≡ true → is_style (first_style spans) ≡ true → (b : Bool) → is_style (if b then first_style spans else s.style) ≡ true
+style_if : (s : SgrSpan) (spans : List SgrSpan) → is_style s.style ≡ true → is_style (first_style spans) ≡ true → (b : Bool) → is_style (if b then first_style spans else s.style) ≡ true
 style_if s spans is h true = h
 style_if s spans is h false = is
 
-first_is_style : (spans : List Span) → are_styles spans ≡ true → is_style (first_style spans) ≡ true
+first_is_style : (spans : List SgrSpan) → are_styles spans ≡ true → is_style (first_style spans) ≡ true
 first_is_style [] h = refl
 first_is_style (s ∷ spans) h =
     let parts = and_parts (is_style s.style) (are_styles spans) h in
@@ -229,11 +229,11 @@ tab_stays : (wide : List ℕ → Option ℕ) (apart : ℕ) (bytes : List ℕ) (b
 tab_stays wide apart bytes true = refl
 tab_stays wide apart bytes false = cluster_stays bytes (wide bytes)
 
-other_stays : (wide : List ℕ → Option ℕ) (tab : Option ℕ) (bytes : List ℕ) → is_new_row (drawn_other wide tab bytes) ≡ false
+other_stays : (wide : List ℕ → Option ℕ) (tab : Option ℕ) (bytes : List ℕ) → is_new_row (item_of_cluster wide tab bytes) ≡ false
 other_stays wide None bytes = cluster_stays bytes (wide bytes)
 other_stays wide (Some apart) bytes = tab_stays wide apart bytes (is_tab bytes)
 
-letter_stays : (wide : Widths) (bytes : List ℕ) (b : Bool) → is_new_row (if b then Letter (slice_index bytes 0) else drawn_other wide.cluster wide.tab bytes) ≡ false
+letter_stays : (wide : Widths) (bytes : List ℕ) (b : Bool) → is_new_row (if b then Letter (slice_index bytes 0) else item_of_cluster wide.cluster wide.tab bytes) ≡ false
 letter_stays wide bytes true = refl
 letter_stays wide bytes false = other_stays wide.cluster wide.tab bytes
 
@@ -249,10 +249,10 @@ one_letter styles (c ∷ (d ∷ cs)) h = absurd (omega (arith, h))
 
 module _ (wide : Widths) where
   letter_item : (cluster : List ℕ) → is_letter cluster ≡ true → Letter (slice_index cluster 0) ≡ drawn_item wide cluster
-  letter_item cluster h = ap (λ b. if b then Letter (slice_index cluster 0) else drawn_other wide.cluster wide.tab cluster) (sym h)
+  letter_item cluster h = ap (λ b. if b then Letter (slice_index cluster 0) else item_of_cluster wide.cluster wide.tab cluster) (sym h)
 
-  draw_after : (spans : List Span) (letters cluster : List ℕ) → are_styles spans ≡ true
-      → Draw (painted_after wide spans letters cluster) (styled_letters (byte_styles spans) letters ++ with_style (first_of (drop (length letters) (byte_styles spans))) (drawn_item wide cluster) ∷ [])
+  draw_after : (spans : List SgrSpan) (letters cluster : List ℕ) → are_styles spans ≡ true
+      → Draw (items_painted_after wide spans letters cluster) (styled_letters (byte_styles spans) letters ++ with_style (first_of (drop (length letters) (byte_styles spans))) (drawn_item wide cluster) ∷ [])
   draw_after spans letters cluster are =
       let left = skip (length letters) spans in
       let style : first_style left ≡ first_of (drop (length letters) (byte_styles spans)) = first_is left ∙ ap first_of (skip_is (length letters) spans) in
@@ -261,12 +261,12 @@ module _ (wide : Widths) where
       (ap (λ s. with_style s (drawn_item wide cluster) ∷ []) style))
 
   abbrev Clusters : List (List ℕ) → Type 0
-  Clusters clusters = (spans : List Span) (letters : List ℕ) → are_styles spans ≡ true
+  Clusters clusters = (spans : List SgrSpan) (letters : List ℕ) → are_styles spans ≡ true
       → Draw (painted_clusters wide spans letters clusters) (styled_letters (byte_styles spans) letters ++ styled_clusters wide (drop (length letters) (byte_styles spans)) clusters)
 
-  clusters_if : (cluster : List ℕ) (clusters : List (List ℕ)) → Clusters clusters → (spans : List Span) (letters : List ℕ) → are_styles spans ≡ true → (b : Bool) → is_letter cluster ≡ b
+  clusters_if : (cluster : List ℕ) (clusters : List (List ℕ)) → Clusters clusters → (spans : List SgrSpan) (letters : List ℕ) → are_styles spans ≡ true → (b : Bool) → is_letter cluster ≡ b
       → Draw (if b then painted_clusters wide spans (letters ++ cluster) clusters
-      else (painted_after wide spans letters cluster ++ painted_clusters wide (skip (length cluster) (skip (length letters) spans)) [] clusters))
+      else (items_painted_after wide spans letters cluster ++ painted_clusters wide (skip (length cluster) (skip (length letters) spans)) [] clusters))
       (styled_letters (byte_styles spans) letters ++ styled_clusters wide (drop (length letters) (byte_styles spans)) (cluster ∷ clusters))
   clusters_if cluster clusters more spans letters are true e =
       let styles = byte_styles spans in
@@ -300,15 +300,15 @@ module _ (wide : Widths) where
       let parts = and_parts (is_printable c) (list_all is_printable row) h in
       ap₂ (λ i ys. with_style (first_of styles) i ∷ ys) (letter_item (c ∷ []) parts.0) (singles (drop 1 styles) row parts.1)
 
-  row_if : (spans : List Span) (row : List ℕ) → are_styles spans ≡ true → (b : Bool) → list_all is_printable row ≡ b
+  row_if : (spans : List SgrSpan) (row : List ℕ) → are_styles spans ≡ true → (b : Bool) → list_all is_printable row ≡ b
       → Draw (if b then painted_letters spans row else painted_clusters wide spans [] (graphemes true row)) (styled_clusters wide (byte_styles spans) (if b then map (λ c. c ∷ []) row else graphemes true row))
   row_if spans row are true e = draw_as (draw_spans spans row are) (singles (byte_styles spans) row e)
   row_if spans row are false e = draw_clusters (graphemes true row) spans [] are
 
-  draw_row : (spans : List Span) (styles : List (List ℕ)) (row : List ℕ) → are_styles spans ≡ true → byte_styles spans ≡ styles → Draw (painted_row wide spans row) (styled_clusters wide styles (row_clusters row))
+  draw_row : (spans : List SgrSpan) (styles : List (List ℕ)) (row : List ℕ) → are_styles spans ≡ true → byte_styles spans ≡ styles → Draw (painted_row wide spans row) (styled_clusters wide styles (row_clusters row))
   draw_row spans styles row are same = draw_as (row_if spans row are (list_all is_printable row) refl) (ap (λ s. styled_clusters wide s (row_clusters row)) same)
 
-  draw_behind : (spans : List Span) (styles : List (List ℕ)) (rows : List (List ℕ)) → are_styles spans ≡ true → byte_styles spans ≡ styles → Draw (painted_behind wide spans rows) (styled_behind wide styles rows)
+  draw_behind : (spans : List SgrSpan) (styles : List (List ℕ)) (rows : List (List ℕ)) → are_styles spans ≡ true → byte_styles spans ≡ styles → Draw (rows_painted_behind wide spans rows) (rows_styled_behind wide styles rows)
   draw_behind spans styles [] are same = draw_none
   draw_behind spans styles (row ∷ rows) are same =
       let here = skip 1 spans in
@@ -318,13 +318,13 @@ module _ (wide : Widths) where
       (draw_append (draw_row here (drop 1 styles) row here_are here_is)
       (draw_behind (skip (length row) here) (drop (length row) (drop 1 styles)) rows (skip_styles (length row) here here_are) (skip_is (length row) here ∙ ap (drop (length row)) here_is)))
 
-  draw_rows : (spans : List Span) (rows : List (List ℕ)) → are_styles spans ≡ true → Draw (painted_rows wide spans rows) (styled_rows wide (byte_styles spans) rows)
+  draw_rows : (spans : List SgrSpan) (rows : List (List ℕ)) → are_styles spans ≡ true → Draw (painted_rows wide spans rows) (styled_rows wide (byte_styles spans) rows)
   draw_rows spans [] are = draw_none
   draw_rows spans (row ∷ rows) are =
       draw_append (draw_row spans (byte_styles spans) row are refl)
       (draw_behind (skip (length row) spans) (drop (length row) (byte_styles spans)) rows (skip_styles (length row) spans are) (skip_is (length row) spans))
 
-  pub draw_text : (spans : List Span) (text : List ℕ) → are_styles spans ≡ true → Draw (painted_text wide spans text) (styled_text wide spans text)
+  pub draw_text : (spans : List SgrSpan) (text : List ℕ) → are_styles spans ≡ true → Draw (painted_text wide spans text) (styled_text wide spans text)
   draw_text spans text are = draw_rows spans (split_rows text) are
 
   -- ---- items with and without styles
@@ -347,24 +347,24 @@ module _ (wide : Widths) where
   row_bare : (styles : List (List ℕ)) (row : List ℕ) → bare_items (styled_clusters wide styles (row_clusters row)) ≡ row_items wide row
   row_bare styles row = clusters_bare styles (row_clusters row) ∙ items_if row (list_all is_printable row) refl
 
-  behind_bare : (styles : List (List ℕ)) (rows : List (List ℕ)) → bare_items (styled_behind wide styles rows) ≡ flat_map (λ r. NewRow ∷ row_items wide r) rows
+  behind_bare : (styles : List (List ℕ)) (rows : List (List ℕ)) → bare_items (rows_styled_behind wide styles rows) ≡ flat_map (λ r. NewRow ∷ row_items wide r) rows
   behind_bare styles [] = refl
   behind_bare styles (row ∷ rows) =
       let later = drop (length row) (drop 1 styles) in
-      ap (λ ys. NewRow ∷ ys) (map-append (λ (x : StyledItem). x.item) (styled_clusters wide (drop 1 styles) (row_clusters row)) (styled_behind wide later rows)
+      ap (λ ys. NewRow ∷ ys) (map-append (λ (x : StyledItem). x.item) (styled_clusters wide (drop 1 styles) (row_clusters row)) (rows_styled_behind wide later rows)
       ∙ ap₂ ◌++◌ (row_bare (drop 1 styles) row) (behind_bare later rows))
 
   rows_bare : (styles : List (List ℕ)) (rows : List (List ℕ)) → bare_items (styled_rows wide styles rows) ≡ join_rows wide rows
   rows_bare styles [] = refl
   rows_bare styles (row ∷ rows) =
       let later = drop (length row) styles in
-      map-append (λ (x : StyledItem). x.item) (styled_clusters wide styles (row_clusters row)) (styled_behind wide later rows)
+      map-append (λ (x : StyledItem). x.item) (styled_clusters wide styles (row_clusters row)) (rows_styled_behind wide later rows)
       ∙ ap₂ ◌++◌ (row_bare styles row) (behind_bare later rows)
 
-  pub items_of : (spans : List Span) (text : List ℕ) → map (λ x. x.item) (styled_text wide spans text) ≡ text_items wide text
+  pub items_of : (spans : List SgrSpan) (text : List ℕ) → map (λ x. x.item) (styled_text wide spans text) ≡ text_items wide text
   items_of spans text = rows_bare (byte_styles spans) (split_rows text)
 
-  pub text_unpainted : (spans : List Span) (text : List ℕ) → are_styles spans ≡ true → all_unpainted (painted_text wide spans text) ≡ text_items wide text
+  pub text_unpainted : (spans : List SgrSpan) (text : List ℕ) → are_styles spans ≡ true → all_unpainted (painted_text wide spans text) ≡ text_items wide text
   text_unpainted spans text are = bare_are (painted_text wide spans text) ∙ ap bare_items (draw_text spans text are).items ∙ items_of spans text
 
   -- without spans no item has a style
@@ -383,20 +383,20 @@ module _ (wide : Widths) where
   clusters_plain styles [] h = refl
   clusters_plain styles (c ∷ cs) h = ap₂ (λ s ys. with_style s (drawn_item wide c) ∷ ys) (ap first_of h) (clusters_plain (drop (length c) styles) cs (none_left (length c) styles h))
 
-  behind_plain : (styles : List (List ℕ)) (rows : List (List ℕ)) → styles ≡ [] → styled_behind wide styles rows ≡ plain (styled_behind wide styles rows)
+  behind_plain : (styles : List (List ℕ)) (rows : List (List ℕ)) → styles ≡ [] → rows_styled_behind wide styles rows ≡ plain (rows_styled_behind wide styles rows)
   behind_plain styles [] h = refl
   behind_plain styles (row ∷ rows) h =
       let next = drop 1 styles in
       let later = drop (length row) next in
       let none = none_left 1 styles h in
       ap (λ ys. with_style [] NewRow ∷ ys)
-      (plain_append (styled_clusters wide next (row_clusters row)) (styled_behind wide later rows) (clusters_plain next (row_clusters row) none) (behind_plain later rows (none_left (length row) next none)))
+      (plain_append (styled_clusters wide next (row_clusters row)) (rows_styled_behind wide later rows) (clusters_plain next (row_clusters row) none) (behind_plain later rows (none_left (length row) next none)))
 
   rows_plain : (rows : List (List ℕ)) → styled_rows wide [] rows ≡ plain (styled_rows wide [] rows)
   rows_plain [] = refl
   rows_plain (row ∷ rows) =
       let later = drop (length row) [] in
-      plain_append (styled_clusters wide [] (row_clusters row)) (styled_behind wide later rows) (clusters_plain [] (row_clusters row) refl) (behind_plain later rows (drop_none (length row)))
+      plain_append (styled_clusters wide [] (row_clusters row)) (rows_styled_behind wide later rows) (clusters_plain [] (row_clusters row) refl) (behind_plain later rows (drop_none (length row)))
 
   pub plain_styled : (text : List ℕ) → styled_text wide [] text ≡ map (λ item. record { item = item; style = [] }) (text_items wide text)
   plain_styled text = rows_plain (split_rows text) ∙ ap (map (with_style [])) (items_of [] text)
@@ -412,19 +412,19 @@ module _ (columns : ℕ) (wide : Widths) where
   painted_from (Fenced style bytes width ∷ xs) h k = ((k.0, h.0), painted_from xs h.1 k.1)
   painted_from (Padded style apart ∷ xs) h k = (k.0, painted_from xs h.1 k.1)
 
-  pub text_painted : (spans : List Span) (text : List ℕ) → are_styles spans ≡ true → AllFit columns wide.cluster (text_items wide text) → AllPainted columns wide.cluster (painted_text wide spans text)
+  pub text_painted : (spans : List SgrSpan) (text : List ℕ) → are_styles spans ≡ true → AllFit columns wide.cluster (text_items wide text) → AllPainted columns wide.cluster (painted_text wide spans text)
   text_painted spans text are fits =
       painted_from (painted_text wide spans text) (subst (AllFit columns wide.cluster) (sym (text_unpainted wide spans text are)) fits) (draw_text wide spans text are).styled
 
   -- no style stands before it, nor after it
-  pub text_draws : (spans : List Span) (text : List ℕ) → are_styles spans ≡ true → AllFit columns wide.cluster (text_items wide text)
+  pub text_draws : (spans : List SgrSpan) (text : List ℕ) → are_styles spans ≡ true → AllFit columns wide.cluster (text_items wide text)
       → (r : DisplayReading) (xs : List Placed) (at : Position) → Ready columns r (D xs at [])
-      → Ready columns (read columns wide.cluster r (painted columns (painted_text wide spans text) at.col)) (D (xs ++ lay columns (styled_text wide spans text) at) (place_after columns (text_items wide text) at) [])
+      → Ready columns (reading_after_bytes columns wide.cluster r (bytes_of_all_painted columns (painted_text wide spans text) at.col)) (D (xs ++ lay columns (styled_text wide spans text) at) (place_after columns (text_items wide text) at) [])
   text_draws spans text are fits r xs at h =
       let items = painted_text wide spans text in
       let draw = draw_text wide spans text are in
       let done = draws columns wide.cluster items r (D xs at []) (record { stands = h.stands; clear = h.clear; inside = h.inside }) (text_painted spans text are fits) draw.pens in
-      let after = read columns wide.cluster r (painted columns items at.col) in
+      let after = reading_after_bytes columns wide.cluster r (bytes_of_all_painted columns items at.col) in
       let last : Open columns after (D (xs ++ lay columns (styled_text wide spans text) at) (place_after columns (text_items wide text) at) []) =
       subst (λ pen. Open columns after (D (xs ++ lay columns (styled_text wide spans text) at) (place_after columns (text_items wide text) at) pen)) draw.ends
       (subst (λ is. Open columns after (D (xs ++ lay columns (styled_text wide spans text) at) (place_after columns is at) (pen_after [] items))) (text_unpainted wide spans text are)

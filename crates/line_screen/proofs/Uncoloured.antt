@@ -12,17 +12,17 @@ use Rattle.line_buffer.specs.declared.layout.Layout.{Layout}
 use Rattle.line_buffer.specs.declared.layout.Position.{Position}
 use Rattle.line_config.specs.declared.settings.BellStyle.{BellStyle}
 use Rattle.line_config.specs.declared.settings.BellStyle.TheVariants as Bells
-use Rattle.line_editor.specs.Calls.{Call, Ruler}
-use Rattle.line_editor.specs.Calls.Call.{Draw, Move, Write, Beep, ClearScreen, ClearRows, ClearToEol, MoveAndClearToEol, ToLeftmost, Help}
-use Rattle.line_editor.specs.Redraws.{Redraw, Asked, asked_by, full, info_text, may_type, may_take, moved_by_call, nothing_asked, typed_short, taken_short}
-use Rattle.line_editor.specs.Redraws.Redraw.{Drawn, Moved, Typed, Taken, Bared, ToEnd, Beeped, Cleared}
+use Rattle.line_editor.specs.RenderCalls.{Call, Ruler}
+use Rattle.line_editor.specs.RenderCalls.Call.{Draw, Move, Write, Beep, ClearScreen, ClearRows, ClearToEol, MoveAndClearToEol, InsertChar, MoveAndDelete, ToLeftmost, Help}
+use Rattle.line_editor.specs.Redraws.{Redraw, RedrawCalls, calls_of_redraw, full, info_text, may_type, may_take, may_put_in, may_take_out, move_call, nothing_asked, char_call, erase_call, put_in_short, taken_out_short}
+use Rattle.line_editor.specs.Redraws.Redraw.{Drawn, Moved, Typed, Taken, PutIn, TakenOut, Bared, ToEnd, Beeped, Cleared}
 use Rattle.line_editor.specs.Values.{shown_marks}
-use Rattle.line_screen.specs.Calls.{Screen, bytes_of, bell_bytes, old_row, drawing_bytes, ruler_of}
-use Rattle.line_screen.specs.Chain.{View, Good, Inside, Replaces, LeadsView}
+use Rattle.line_screen.specs.ScreenCalls.{Screen, bytes_of, bell_bytes, old_row, drawing_bytes, ruler_of}
+use Rattle.line_screen.specs.Chain.{View, Good, Inside, Replaces, LeadsView, TakesOut, finish_of}
 use Rattle.line_screen.specs.ColourLaws.{BeginsNoStyle, has_no_marks, UnmarkedCallsBeginNone, ScreensWithoutColours, Uncoloured}
 use Rattle.line_screen.specs.Colours.{no_styles}
 use Rattle.line_screen.specs.Display.{Placed, is_text}
-use Rattle.line_screen.specs.Drawing.{DrawnItem, Widths, blanks, text_items, no_style, break_if, break_unless, fitted_col, fenced, sent_one, col_after_one, sent, col_after, control_sequence, erase_to_end, erase_to_row_end, row_move, col_move, move_bytes, clearing_bytes, shown_text, drawing}
+use Rattle.line_screen.specs.Drawing.{DrawnItem, Widths, blanks, text_items, no_style, break_if, break_unless, fitted_col, cluster_in_fence, bytes_of_item, col_after_one, bytes_of_items, col_after, control_sequence, erase_to_end, erase_to_row_end, open_cell, take_cells_out, row_move, col_move, move_bytes, clearing_bytes, shown_text, drawing}
 use Rattle.line_screen.specs.Drawing.DrawnItem.{NewRow, Letter, Cluster, Tab}
 use Rattle.line_screen.specs.Laws.{widths}
 use Rattle.line_screen.specs.Measure.{cluster_width, widths_by}
@@ -30,7 +30,9 @@ use Rattle.line_screen.proofs.Standing.{printable_text}
 use Rattle.line_screen.proofs.Draws.{Fits, AllFit}
 use Rattle.line_screen.proofs.Fitting.{items_fit}
 use Rattle.line_screen.proofs.LawLemmas.{calls_lead}
-use Rattle.line_screen.proofs.Leading.{no_styles_are, redraw_drawable}
+use Rattle.line_screen.proofs.Leading.{no_styles_are, redraw_drawable, letter_small}
+use Rattle.std.specs.Prelude.{encode_utf8}
+use Rattle.std.proofs.lemmas.Str.{encode_ascii}
 
 -- ---- sequences that begin otherwise
 
@@ -159,24 +161,24 @@ blanks_free : (n : ℕ) → IsFree (blanks n)
 blanks_free zero = refl
 blanks_free (suc n) = blanks_free n
 
-fenced_free : (bytes : List ℕ) → list_all is_text bytes ≡ true → IsFree (fenced bytes)
+fenced_free : (bytes : List ℕ) → list_all is_text bytes ≡ true → IsFree (cluster_in_fence bytes)
 fenced_free bytes h = free_then (no_style ++ bytes) no_style (free_then no_style bytes refl (text_free bytes h)) refl
 
-one_free : (columns : ℕ) (wide : List ℕ → Option ℕ) (item : DrawnItem) (col : ℕ) → Fits columns wide item → IsFree (sent_one columns item col)
+one_free : (columns : ℕ) (wide : List ℕ → Option ℕ) (item : DrawnItem) (col : ℕ) → Fits columns wide item → IsFree (bytes_of_item columns item col)
 one_free columns wide NewRow col h = refl
 one_free columns wide (Letter c) col h = free_then (c ∷ []) (break_if (col + 1 == columns)) (letter_free c h) (break_free (col + 1 == columns))
 one_free columns wide (Cluster bytes width) col h =
     let before = break_unless (nat_le (col + width) columns) in
     let full = fitted_col columns width col + width == columns in
-    free_then (before ++ fenced bytes) (break_if full) (free_then before (fenced bytes) (unless_free (nat_le (col + width) columns)) (fenced_free bytes h.text)) (break_free full)
+    free_then (before ++ cluster_in_fence bytes) (break_if full) (free_then before (cluster_in_fence bytes) (unless_free (nat_le (col + width) columns)) (fenced_free bytes h.text)) (break_free full)
 one_free columns wide (Tab apart) col h =
     let width = tab_width columns apart col in
     free_then (blanks width) (break_if (col + width == columns)) (blanks_free width) (break_free (col + width == columns))
 
-items_free : (columns : ℕ) (wide : List ℕ → Option ℕ) (items : List DrawnItem) (col : ℕ) → AllFit columns wide items → IsFree (sent columns items col)
+items_free : (columns : ℕ) (wide : List ℕ → Option ℕ) (items : List DrawnItem) (col : ℕ) → AllFit columns wide items → IsFree (bytes_of_items columns items col)
 items_free columns wide [] col h = refl
 items_free columns wide (item ∷ items) col h =
-    free_then (sent_one columns item col) (sent columns items (col_after_one columns item col)) (one_free columns wide item col h.0) (items_free columns wide items (col_after_one columns item col) h.1)
+    free_then (bytes_of_item columns item col) (bytes_of_items columns items (col_after_one columns item col)) (one_free columns wide item col h.0) (items_free columns wide items (col_after_one columns item col) h.1)
 
 -- ---- drawings
 
@@ -187,16 +189,16 @@ module _ (mode : GraphemeClusterMode) (tab : Option ℕ) (columns : ℕ) (some :
   abbrev wide : Widths
   wide = widths_by mode tab columns
 
-  part_free : (text : List ℕ) (col : ℕ) → IsFree (sent columns (text_items wide text) col)
+  part_free : (text : List ℕ) (col : ℕ) → IsFree (bytes_of_items columns (text_items wide text) col)
   part_free text col = items_free columns (cluster_width mode columns) (text_items wide text) col (items_fit mode tab columns some text)
 
   shown_free : (prompt line info : List ℕ) → IsFree (shown_text columns wide prompt line info)
   shown_free prompt line info =
       let a_end = col_after columns (text_items wide prompt) 0 in
       let b_end = col_after columns (text_items wide line) a_end in
-      let a = sent columns (text_items wide prompt) 0 in
-      let b = sent columns (text_items wide line) a_end in
-      let c = sent columns (text_items wide info) b_end in
+      let a = bytes_of_items columns (text_items wide prompt) 0 in
+      let b = bytes_of_items columns (text_items wide line) a_end in
+      let c = bytes_of_items columns (text_items wide info) b_end in
       let first = free_then no_style a refl (part_free prompt 0) in
       let second = free_then (no_style ++ a ++ no_style) b (then_plain (no_style ++ a) first) (part_free line a_end) in
       let third = free_then (no_style ++ a ++ no_style ++ b ++ no_style) c (then_plain (no_style ++ a ++ no_style ++ b) second) (part_free info b_end) in
@@ -229,6 +231,9 @@ bell_free Bells.Audible = refl
 bell_free Bells.None = refl
 bell_free Bells.Visible = refl
 
+cut_small : (s : Screen) → s.columns < 2 ^ 64 → (a b : View) (count : ℕ) → TakesOut s.columns (widths s) count a b → count < 2 ^ 64
+cut_small s few a b count h = let room = h.room in let inside = h.inside in omega arith
+
 call_free : (s : Screen) → 1 ≤ s.columns → s.columns < 2 ^ 64 → (a b : View) (call : Call) → Inside s.columns a.place → LeadsView s.columns (widths s) a call b → has_no_marks call ≡ true → IsFree (bytes_of s call)
 call_free s some few a b (Draw prompt text place info old new None) here h plain =
     let able = redraw_drawable s some a b prompt text (info_text info) no_styles new.end new.cursor no_styles_are h.1 in
@@ -243,6 +248,10 @@ call_free s some few a b (ClearRows layout) here h plain = clearing_free layout.
 call_free s some few a b ClearToEol here h plain = refl
 call_free s some few a b (MoveAndClearToEol old new) here h plain =
     free_then (move_bytes old new) erase_to_row_end (move_free s.mode s.tab s.columns some few old new (subst (Inside s.columns) (sym h.1.old_is) here) h.1.inside) refl
+call_free s some few a b (InsertChar c) here h plain = free_then open_cell (encode_utf8 c) refl (subst IsFree (sym (encode_ascii c (letter_small c h.printable))) (letter_free c h.printable))
+call_free s some few a b (MoveAndDelete old new count) here h plain =
+    free_then (move_bytes old new) (take_cells_out count) (move_free s.mode s.tab s.columns some few old new (subst (Inside s.columns) (sym h.1.old_is) here) h.1.inside)
+    (control_free count 0x50 (cut_small s few h.0 b count h.2) refl)
 call_free s some few a b ToLeftmost here h plain = refl
 call_free s some few a b (Help fails) here h plain = refl
 
@@ -259,27 +268,30 @@ unmarked_begin_none s low high calls bytes over a b g h plain = free_begins_none
 
 -- ---- screens without colours
 
-abbrev all_plain : Asked → Bool
+abbrev all_plain : RedrawCalls → Bool
 all_plain x = list_all has_no_marks x.calls
 
-either_plain : (b : Bool) (x y : Asked) → all_plain x ≡ true → all_plain y ≡ true → all_plain (if b then x else y) ≡ true
+either_plain : (b : Bool) (x y : RedrawCalls) → all_plain x ≡ true → all_plain y ≡ true → all_plain (if b then x else y) ≡ true
 either_plain true x y h k = h
 either_plain false x y h k = k
 
-asked_plain : (r : Ruler) (l : Layout) (x : Redraw) → all_plain (asked_by r None l x) ≡ true
+asked_plain : (r : Ruler) (l : Layout) (x : Redraw) → all_plain (calls_of_redraw r None l x) ≡ true
 asked_plain r l (Drawn prompt given text place info) = refl
-asked_plain r l (Moved text place) = let cursor = r.measure (take place text) l.prompt_size in either_plain (same_cell l.cursor cursor) (nothing_asked l) (moved_by_call l cursor) refl refl
-asked_plain r l (Typed prompt c text place) = either_plain (may_type r l) (typed_short l c) (full r None l prompt true text place None) refl refl
-asked_plain r l (Taken prompt count text place) = either_plain (may_take l count) (taken_short l count) (full r None l prompt true text place None) refl refl
+asked_plain r l (Moved text place) = let cursor = r.measure (take place text) l.prompt_size in either_plain (same_cell l.cursor cursor) (nothing_asked l) (move_call l cursor) refl refl
+asked_plain r l (Typed prompt c text place) = either_plain (may_type r l) (char_call l c) (full r None l prompt true text place None) refl refl
+asked_plain r l (Taken prompt count text place) = either_plain (may_take l count) (erase_call l count) (full r None l prompt true text place None) refl refl
+asked_plain r l (PutIn prompt c text place) = either_plain (may_put_in r l) (put_in_short l c) (full r None l prompt true text place None) refl refl
+asked_plain r l (TakenOut prompt count text place) =
+    let at = r.measure (take place text) l.prompt_size in either_plain (may_take_out l at count) (taken_out_short l at count) (full r None l prompt true text place None) refl refl
 asked_plain r l (Bared prompt text place) = either_plain l.default_prompt (nothing_asked l) (full r None l prompt true text place None) refl refl
-asked_plain r l ToEnd = either_plain (same_cell l.cursor l.end) (nothing_asked l) (moved_by_call l l.end) refl refl
+asked_plain r l ToEnd = either_plain (same_cell l.cursor l.end) (nothing_asked l) (move_call l l.end) refl refl
 asked_plain r l Beeped = refl
 asked_plain r l Cleared = refl
 
 screens_without_colours : ScreensWithoutColours
 screens_without_colours s e prompt helping entries config v l x =
     let none = ap (λ b. if b then helping.marks else None) e in
-    subst (λ m. all_plain (asked_by (ruler_of s) (shown_marks v m) l x) ≡ true) (sym none) (asked_plain (ruler_of s) l x)
+    subst (λ m. all_plain (calls_of_redraw (ruler_of s) (shown_marks v m) l x) ≡ true) (sym none) (asked_plain (ruler_of s) l x)
 
 pub uncoloured : Uncoloured
 uncoloured = (unmarked_begin_none, screens_without_colours)

@@ -3,15 +3,15 @@ use Rattle.std.specs.Prelude.{◌≡◌, ◌≢◌, ℕ, ◌≤◌, List, [], �
 use Rattle.std.specs.List.{flat_map, FoldsTo, list_all}
 use Rattle.line_buffer.specs.declared.layout.Layout.{Layout}
 use Rattle.line_config.specs.declared.config.Config.{Config}
-use Rattle.line_editor.specs.Calls.{Call}
-use Rattle.line_editor.specs.Calls.Call.{Draw}
-use Rattle.line_editor.specs.Redraws.{Redraw, asked_by}
-use Rattle.line_editor.specs.Running.{Helping, setting_by}
+use Rattle.line_editor.specs.RenderCalls.{Call}
+use Rattle.line_editor.specs.RenderCalls.Call.{Draw}
+use Rattle.line_editor.specs.Redraws.{Redraw, calls_of_redraw}
+use Rattle.line_editor.specs.LineRun.{Helping, setting_by}
 use Rattle.line_editor.specs.Values.{Value, shown_marks}
-use Rattle.line_help.specs.declared.style.Style.{Style}
-use Rattle.line_screen.specs.Calls.{Screen, bytes_of, ruler_of}
+use Rattle.line_help.specs.declared.helpers.style.Style.{Style}
+use Rattle.line_screen.specs.ScreenCalls.{Screen, bytes_of, ruler_of}
 use Rattle.line_screen.specs.Chain.{Picture, View, Good, LeadsView, cells_of, finish_of}
-use Rattle.line_screen.specs.Colours.{AreStyles, is_style, painted_shown}
+use Rattle.line_screen.specs.Colours.{AreStyles, is_style, bytes_of_painted_texts}
 use Rattle.line_screen.specs.Display.{Placed, meaning}
 use Rattle.line_screen.specs.Laws.{widths}
 use Rattle.line_screen.specs.Styles.{numbers}
@@ -22,7 +22,7 @@ abbrev pub ColoursStand : Type 0
 ColoursStand =
     (s : Screen) → 2 ≤ s.columns → s.columns ≤ 1000 → (v : Picture) → AreStyles v.styles
     → meaning s.columns (widths s).cluster
-    (painted_shown s.columns (widths s) v.styles v.prompt v.line v.info)
+    (bytes_of_painted_texts s.columns (widths s) v.styles v.prompt v.line v.info)
     ≡ Some (record {
       placed = cells_of s.columns (widths s) v;
       cursor = finish_of s.columns (widths s) v;
@@ -60,7 +60,7 @@ ScreensWithoutColours =
     → (prompt : List ℕ) (helping : Helping) (entries : List (List ℕ)) (config : Config)
     → let marks = (setting_by (ruler_of s) prompt helping entries config).marks in
     (v : Value) (l : Layout) (x : Redraw)
-    → list_all has_no_marks (asked_by (ruler_of s) (shown_marks v marks) l x).calls ≡ true
+    → list_all has_no_marks (calls_of_redraw (ruler_of s) (shown_marks v marks) l x).calls ≡ true
 
 abbrev pub Uncoloured : Type 0
 Uncoloured = UnmarkedCallsBeginNone × ScreensWithoutColours

@@ -7,22 +7,22 @@ use Rattle.line_buffer.specs.declared.layout.Position.{Position}
 use Rattle.line_buffer.specs.Tabs.{tab_width}
 use Rattle.line_screen.specs.Display.{is_printable, is_parameter}
 use Rattle.line_config.specs.declared.device.DeviceFailed.{DeviceFailed}
-use Rattle.line_help.specs.declared.style.Mark.{Mark}
-use Rattle.line_help.specs.declared.style.Part.{Part}
-use Rattle.line_help.specs.declared.style.Span as span
+use Rattle.line_help.specs.declared.helpers.style.Mark.{Mark}
+use Rattle.line_help.specs.declared.helpers.style.Part.{Part}
+use Rattle.line_help.specs.declared.helpers.style.Span as span
 use Rattle.line_help.specs.Paints.{Marks, first_mark}
 use Rattle.line_screen.specs.declared.drawing.painted.Brush as brush
 use Rattle.line_screen.specs.declared.drawing.painted.Spans as spans
 use Rattle.line_screen.specs.declared.drawing.coloured.Painting as painting
 use Rattle.line_screen.specs.Styles.{numbers}
-use Rattle.line_screen.specs.Drawing.{SendsTo, DrawnItem, Widths, blanks, is_letter, drawn_item, split_rows, row_break, no_style, break_if, break_unless, fitted_col, sent_one, col_after, clearing_bytes, move_bytes}
+use Rattle.line_screen.specs.Drawing.{SendsTo, DrawnItem, Widths, blanks, is_letter, drawn_item, split_rows, row_break, no_style, break_if, break_unless, fitted_col, bytes_of_item, col_after, clearing_bytes, move_bytes}
 use Rattle.line_screen.specs.Drawing.DrawnItem.{NewRow, Letter, Cluster, Tab}
 
 -- ---- styles
 
 -- so many bytes of a text have this style: the rest of the control sequence SGR after its 0, as
 -- `;1;34`; nothing: no style
-pub record Span : Type 0 where
+pub record SgrSpan : Type 0 where
   pub len : ℕ
   pub style : List ℕ
 
@@ -30,17 +30,17 @@ pub record Span : Type 0 where
 abbrev pub is_style : List ℕ → Bool
 is_style style = list_all is_parameter style
 
-abbrev pub are_styles : List Span → Bool
+abbrev pub are_styles : List SgrSpan → Bool
 are_styles spans = list_all (λ s. is_style s.style) spans
 
 -- what is left of them after so many bytes
-abbrev pub skip : ℕ → List Span → List Span
+abbrev pub skip : ℕ → List SgrSpan → List SgrSpan
 skip n [] = []
 skip n (s ∷ spans) = if nat_lt n s.len then (record { len = s.len - n; style = s.style } ∷ spans)
     else skip (n - s.len) spans
 
 -- the style of the first byte; what stands after the last span has none
-abbrev pub first_style : List Span → List ℕ
+abbrev pub first_style : List SgrSpan → List ℕ
 first_style [] = []
 first_style (s ∷ spans) = if s.len == 0 then first_style spans else s.style
 
@@ -61,78 +61,78 @@ pub data PaintedItem : Type 0 where
   Padded : (style : List ℕ) (apart : ℕ) → PaintedItem
 
 -- the same without styles
-abbrev pub unpainted : PaintedItem → List DrawnItem
-unpainted (Bare item) = item ∷ []
-unpainted (Begins style) = []
-unpainted (Shaded style c) = Letter c ∷ []
-unpainted (Fenced style bytes width) = Cluster bytes width ∷ []
-unpainted (Padded style apart) = Tab apart ∷ []
+abbrev pub items_without_style : PaintedItem → List DrawnItem
+items_without_style (Bare item) = item ∷ []
+items_without_style (Begins style) = []
+items_without_style (Shaded style c) = Letter c ∷ []
+items_without_style (Fenced style bytes width) = Cluster bytes width ∷ []
+items_without_style (Padded style apart) = Tab apart ∷ []
 
 abbrev pub all_unpainted : List PaintedItem → List DrawnItem
-all_unpainted xs = flat_map unpainted xs
+all_unpainted xs = flat_map items_without_style xs
 
 abbrev pub bare_letters : List ℕ → List PaintedItem
 bare_letters letters = map (λ c. Bare (Letter c)) letters
 
 -- letters of one style, between its beginning and its end
-abbrev pub shaded : List ℕ → List ℕ → List PaintedItem
-shaded style [] = []
-shaded [] (c ∷ letters) = bare_letters (c ∷ letters)
-shaded (p ∷ style) (c ∷ letters) =
+abbrev pub letters_in_style : List ℕ → List ℕ → List PaintedItem
+letters_in_style style [] = []
+letters_in_style [] (c ∷ letters) = bare_letters (c ∷ letters)
+letters_in_style (p ∷ style) (c ∷ letters) =
     Begins (p ∷ style) ∷ (map (Shaded (p ∷ style)) (c ∷ letters) ++ Begins [] ∷ [])
 
 -- a row of printable ASCII, span by span
-abbrev pub painted_letters : List Span → List ℕ → List PaintedItem
+abbrev pub painted_letters : List SgrSpan → List ℕ → List PaintedItem
 painted_letters [] letters = bare_letters letters
 painted_letters (s ∷ spans) letters =
-    shaded s.style (take s.len letters) ++ painted_letters spans (drop s.len letters)
+    letters_in_style s.style (take s.len letters) ++ painted_letters spans (drop s.len letters)
 
 -- a cluster has the style of its first byte
 abbrev pub painted_item : List ℕ → DrawnItem → List PaintedItem
 painted_item [] item = Bare item ∷ []
 painted_item (p ∷ style) NewRow = Bare NewRow ∷ []
-painted_item (p ∷ style) (Letter c) = shaded (p ∷ style) (c ∷ [])
+painted_item (p ∷ style) (Letter c) = letters_in_style (p ∷ style) (c ∷ [])
 painted_item (p ∷ style) (Cluster bytes width) = Fenced (p ∷ style) bytes width ∷ []
 painted_item (p ∷ style) (Tab apart) = Padded (p ∷ style) apart ∷ []
 
 -- letters, and a cluster after them
-abbrev pub painted_after : Widths → List Span → List ℕ → List ℕ → List PaintedItem
-painted_after wide spans letters cluster = painted_letters spans letters
+abbrev pub items_painted_after : Widths → List SgrSpan → List ℕ → List ℕ → List PaintedItem
+items_painted_after wide spans letters cluster = painted_letters spans letters
     ++ painted_item (first_style (skip (length letters) spans)) (drawn_item wide cluster)
 
 -- the clusters of a row, after letters: letters side by side are drawn span by span, too
-abbrev pub painted_clusters : Widths → List Span → List ℕ → List (List ℕ)
+abbrev pub painted_clusters : Widths → List SgrSpan → List ℕ → List (List ℕ)
     → List PaintedItem
 painted_clusters wide spans letters [] = painted_letters spans letters
 painted_clusters wide spans letters (cluster ∷ clusters) =
     if is_letter cluster then painted_clusters wide spans (letters ++ cluster) clusters
-    else (painted_after wide spans letters cluster
+    else (items_painted_after wide spans letters cluster
     ++ painted_clusters wide (skip (length cluster) (skip (length letters) spans)) [] clusters)
 
-abbrev pub painted_row : Widths → List Span → List ℕ → List PaintedItem
+abbrev pub painted_row : Widths → List SgrSpan → List ℕ → List PaintedItem
 painted_row wide spans row =
     if list_all is_printable row then painted_letters spans row
     else painted_clusters wide spans [] (graphemes true row)
 
-abbrev pub painted_behind : Widths → List Span → List (List ℕ) → List PaintedItem
-painted_behind wide spans [] = []
-painted_behind wide spans (row ∷ rows) = Bare NewRow ∷ (painted_row wide (skip 1 spans) row
-    ++ painted_behind wide (skip (length row) (skip 1 spans)) rows)
+abbrev pub rows_painted_behind : Widths → List SgrSpan → List (List ℕ) → List PaintedItem
+rows_painted_behind wide spans [] = []
+rows_painted_behind wide spans (row ∷ rows) = Bare NewRow ∷ (painted_row wide (skip 1 spans) row
+    ++ rows_painted_behind wide (skip (length row) (skip 1 spans)) rows)
 
-abbrev pub painted_rows : Widths → List Span → List (List ℕ) → List PaintedItem
+abbrev pub painted_rows : Widths → List SgrSpan → List (List ℕ) → List PaintedItem
 painted_rows wide spans [] = []
 painted_rows wide spans (row ∷ rows) =
-    painted_row wide spans row ++ painted_behind wide (skip (length row) spans) rows
+    painted_row wide spans row ++ rows_painted_behind wide (skip (length row) spans) rows
 
-abbrev pub painted_text : Widths → List Span → List ℕ → List PaintedItem
+abbrev pub painted_text : Widths → List SgrSpan → List ℕ → List PaintedItem
 painted_text wide spans text = painted_rows wide spans (split_rows text)
 
 -- the first row, or a row after another, and what is left of the spans after it
-abbrev pub next_painted : Widths → Bool → List Span → List ℕ → List PaintedItem
+abbrev pub next_painted : Widths → Bool → List SgrSpan → List ℕ → List PaintedItem
 next_painted wide is_first spans row = if is_first then painted_row wide spans row
     else (Bare NewRow ∷ painted_row wide (skip 1 spans) row)
 
-abbrev pub spans_behind : Bool → List Span → List ℕ → List Span
+abbrev pub spans_behind : Bool → List SgrSpan → List ℕ → List SgrSpan
 spans_behind is_first spans row = skip (length row) (if is_first then spans else skip 1 spans)
 
 -- ---- the bytes that draw them
@@ -141,29 +141,30 @@ spans_behind is_first spans row = skip (length row) (if is_first then spans else
 abbrev pub shaded_break : List ℕ → Bool → List ℕ
 shaded_break style b = if b then no_style ++ row_break ++ style_bytes style else []
 
-abbrev pub painted_one : ℕ → PaintedItem → ℕ → List ℕ
-painted_one columns (Bare item) col = sent_one columns item col
-painted_one columns (Begins style) col = style_bytes style
-painted_one columns (Shaded style c) col = c ∷ shaded_break style (col + 1 == columns)
-painted_one columns (Fenced style bytes width) col =
+abbrev pub bytes_of_painted : ℕ → PaintedItem → ℕ → List ℕ
+bytes_of_painted columns (Bare item) col = bytes_of_item columns item col
+bytes_of_painted columns (Begins style) col = style_bytes style
+bytes_of_painted columns (Shaded style c) col = c ∷ shaded_break style (col + 1 == columns)
+bytes_of_painted columns (Fenced style bytes width) col =
     break_unless (nat_le (col + width) columns) ++ (style_bytes style ++ bytes ++ no_style)
     ++ break_if (fitted_col columns width col + width == columns)
-painted_one columns (Padded style apart) col =
+bytes_of_painted columns (Padded style apart) col =
     let width = tab_width columns apart col in
     (style_bytes style ++ blanks width ++ no_style) ++ break_if (col + width == columns)
 
-abbrev pub painted : ℕ → List PaintedItem → ℕ → List ℕ
-painted columns [] col = []
-painted columns (x ∷ xs) col =
-    painted_one columns x col ++ painted columns xs (col_after columns (unpainted x) col)
+abbrev pub bytes_of_all_painted : ℕ → List PaintedItem → ℕ → List ℕ
+bytes_of_all_painted columns [] col = []
+bytes_of_all_painted columns (x ∷ xs) col =
+    bytes_of_painted columns x col ++ bytes_of_all_painted columns xs
+    (col_after columns (items_without_style x) col)
 
 -- ---- whole drawings
 
 -- the styles of prompt, line, and the hint or message after it
 pub record Styles : Type 0 where
-  pub prompt : List Span
-  pub line : List Span
-  pub info : List Span
+  pub prompt : List SgrSpan
+  pub line : List SgrSpan
+  pub info : List SgrSpan
 
 abbrev pub no_styles : Styles
 no_styles = record { prompt = []; line = []; info = [] }
@@ -173,27 +174,28 @@ pub record AreStyles (styles : Styles) : Type 0 where
   pub line : are_styles styles.line ≡ true
   pub info : are_styles styles.info ≡ true
 
-abbrev pub painted_three : ℕ → List PaintedItem → List PaintedItem → List PaintedItem → List ℕ
-painted_three columns a b c =
+abbrev pub bytes_of_three_painted : ℕ → List PaintedItem → List PaintedItem → List PaintedItem
+    → List ℕ
+bytes_of_three_painted columns a b c =
     let end_a = col_after columns (all_unpainted a) 0 in
-    no_style ++ painted columns a 0
-    ++ no_style ++ painted columns b end_a
-    ++ no_style ++ painted columns c (col_after columns (all_unpainted b) end_a)
+    no_style ++ bytes_of_all_painted columns a 0
+    ++ no_style ++ bytes_of_all_painted columns b end_a
+    ++ no_style ++ bytes_of_all_painted columns c (col_after columns (all_unpainted b) end_a)
     ++ no_style
 
-abbrev pub painted_shown : ℕ → Widths → Styles → List ℕ → List ℕ → List ℕ → List ℕ
-painted_shown columns wide styles prompt line info = painted_three columns
+abbrev pub bytes_of_painted_texts : ℕ → Widths → Styles → List ℕ → List ℕ → List ℕ → List ℕ
+bytes_of_painted_texts columns wide styles prompt line info = bytes_of_three_painted columns
     (painted_text wide styles.prompt prompt) (painted_text wide styles.line line)
     (painted_text wide styles.info info)
 
 abbrev pub painted_drawing : ℕ → Widths → Styles → List ℕ → List ℕ → List ℕ → Position
     → Position → List ℕ
 painted_drawing columns wide styles prompt line info finish cursor =
-    painted_shown columns wide styles prompt line info ++ move_bytes finish cursor
+    bytes_of_painted_texts columns wide styles prompt line info ++ move_bytes finish cursor
 
-abbrev pub painted_full : ℕ → Widths → Styles → ℕ → List ℕ → List ℕ → List ℕ
+abbrev pub painted_full_drawing : ℕ → Widths → Styles → ℕ → List ℕ → List ℕ → List ℕ
     → Position → Position → List ℕ
-painted_full columns wide styles old_row prompt line info finish cursor =
+painted_full_drawing columns wide styles old_row prompt line info finish cursor =
     clearing_bytes old_row ++ painted_drawing columns wide styles prompt line info finish cursor
 
 abbrev pub painted_bytes : ℕ → Widths → Styles → Option ℕ → List ℕ → List ℕ → List ℕ
@@ -201,11 +203,11 @@ abbrev pub painted_bytes : ℕ → Widths → Styles → Option ℕ → List ℕ
 painted_bytes columns wide styles None prompt line info finish cursor =
     painted_drawing columns wide styles prompt line info finish cursor
 painted_bytes columns wide styles (Some row) prompt line info finish cursor =
-    painted_full columns wide styles row prompt line info finish cursor
+    painted_full_drawing columns wide styles row prompt line info finish cursor
 
 -- ---- the spans of a highlighter
 
-abbrev pub span_of : span.Span → Span
+abbrev pub span_of : span.Span → SgrSpan
 span_of s = record { len = s.len; style = numbers s.style }
 
 -- the spans of a text from a mark on, if there is a highlighter
@@ -216,18 +218,18 @@ paints_by (Some m) part text from = m.paints part text from
 abbrev pub brush_paints : {H : Type 0} → (H → Marks) → brush.Brush H → Mark → List span.Span
 brush_paints marks b from = paints_by (option_map marks (option_copied b.highlighter)) b.part b.text.now from
 
-abbrev pub all_spans : (Mark → List span.Span) → List Span
+abbrev pub all_spans : (Mark → List span.Span) → List SgrSpan
 all_spans paints = map span_of (paints first_mark)
 
-abbrev pub spans_from : Option span.Span → List Span → List Span
+abbrev pub spans_from : Option span.Span → List SgrSpan → List SgrSpan
 spans_from None rest = rest
 spans_from (Some s) rest = span_of s ∷ rest
 
 -- the remaining spans: what is left of one, and those from a mark on
-abbrev pub spans_in : (Mark → List span.Span) → spans.Spans → List Span
+abbrev pub spans_in : (Mark → List span.Span) → spans.Spans → List SgrSpan
 spans_in paints s = spans_from s.first (map span_of (paints s.mark))
 
-abbrev pub brush_spans : {H : Type 0} → (H → Marks) → brush.Brush H → List Span
+abbrev pub brush_spans : {H : Type 0} → (H → Marks) → brush.Brush H → List SgrSpan
 brush_spans marks b = all_spans (brush_paints marks b)
 
 abbrev pub styles_in : {H : Type 0} → (H → Marks) → painting.Painting H → Styles
@@ -245,7 +247,7 @@ end_of columns xs col = col_after columns (all_unpainted xs) col
 abbrev pub SendsPainted : {D : Type 0} → List PaintedItem → ℕ → ℕ → (D → List ℕ) → (D → Bool) → D → D
     → Result ℕ DeviceFailed → Type 0
 SendsPainted xs start columns held failed old new result =
-    SendsTo (painted columns xs start)
+    SendsTo (bytes_of_all_painted columns xs start)
     (col_after columns (all_unpainted xs) start) columns held failed old new result
 
 -- the first of the remaining spans, and the mark from which the others follow; none if nothing

@@ -1,7 +1,7 @@
 -- The meaning of bytes on a display: the part of ECMA-48 that a line editor sends. The display has
 -- unlimited rows of `columns` columns. `wide` says of a text whether it is one cluster that fits on
 -- a row, and how many columns it takes.
-use Rattle.std.specs.Prelude.{ℕ, ◌+◌, ◌-◌, ◌*◌, ◌==◌, nat_lt, nat_le, Bool, true, not, ◌&&◌, ◌||◌, List, [], ◌∷◌, ◌++◌, length, Option, Some, None, if◌then◌else◌}
+use Rattle.std.specs.Prelude.{ℕ, ◌+◌, ◌-◌, ◌*◌, ◌==◌, nat_lt, nat_le, Bool, true, not, ◌&&◌, ◌||◌, List, [], ◌∷◌, ◌++◌, length, map, Option, Some, None, if◌then◌else◌}
 use Rattle.std.specs.List.{list_all, filter}
 use Rattle.line_buffer.specs.Cells.{origin}
 use Rattle.line_buffer.specs.declared.layout.Position.{Position}
@@ -50,13 +50,19 @@ touches at width p =
 abbrev pub right : ℕ → Position → Position
 right width at = record { col = at.col + width; row = at.row }
 
-abbrev pub placed_at : List ℕ → List ℕ → ℕ → Position → Placed
-placed_at style bytes width at =
+abbrev pub cluster_placed_at : List ℕ → List ℕ → ℕ → Position → Placed
+cluster_placed_at style bytes width at =
     record { row = at.row; col = at.col; width = width; bytes = bytes; style = style }
+
+-- a new cluster at this place, after those that end before it
+abbrev pub placed_in : Position → Placed → List Placed → List Placed
+placed_in at new [] = new ∷ []
+placed_in at new (p ∷ ps) =
+    if ends_before at p then p ∷ placed_in at new ps else (new ∷ (p ∷ ps))
 
 abbrev pub put_down : ℕ → List ℕ → Display → Display
 put_down width run d = record {
-  placed = d.placed ++ placed_at d.pen run width d.cursor ∷ [];
+  placed = placed_in d.cursor (cluster_placed_at d.pen run width d.cursor) d.placed;
   cursor = right width d.cursor;
   pen = d.pen;
 }
@@ -139,8 +145,8 @@ abbrev pub stays_in_row : Position → Placed → Bool
 stays_in_row at p = not (p.row == at.row) || nat_le (p.col + p.width) at.col
 
 -- the display after an erasure, if the cursor is inside no cluster and no style stands
-abbrev pub erased : (Position → Placed → Bool) → Display → DisplayReading
-erased stays d =
+abbrev pub reading_after_erasure : (Position → Placed → Bool) → Display → DisplayReading
+reading_after_erasure stays d =
     if list_all (λ p. not (is_cut d.cursor p)) d.placed && is_plain_pen d
     then Text (record {
       placed = filter (stays d.cursor) d.placed;
@@ -149,21 +155,67 @@ erased stays d =
     }) []
     else Lost
 
+-- in a place's row, and not before the place
+abbrev pub is_in_rest : Position → Placed → Bool
+is_in_rest at p = (p.row == at.row) && nat_lt at.col (p.col + p.width)
+
+-- the rest of the row goes a cell to the right, if that leaves all of it in the row
+abbrev pub goes_right : Position → Placed → Placed
+goes_right at p = if is_in_rest at p then record p { col = p.col + 1 } else p
+
+abbrev pub can_go_right : ℕ → Position → Placed → Bool
+can_go_right columns at p =
+    not (is_cut at p) && (not (is_in_rest at p) || nat_lt (p.col + p.width) columns)
+
+abbrev pub cell_opened : ℕ → Display → DisplayReading
+cell_opened columns d =
+    if list_all (can_go_right columns d.cursor) d.placed && is_plain_pen d
+    then Text (record {
+      placed = map (goes_right d.cursor) d.placed;
+      cursor = d.cursor;
+      pen = d.pen;
+    }) []
+    else Lost
+
+-- the first `count` cells of the rest of the row go, and what follows them goes that far to the left
+abbrev pub is_taken_out : ℕ → Position → Placed → Bool
+is_taken_out count at p = is_in_rest at p && not (is_in_rest (right count at) p)
+
+abbrev pub goes_left : ℕ → Position → Placed → Placed
+goes_left count at p =
+    if is_in_rest (right count at) p then record p { col = p.col - count } else p
+
+abbrev pub can_go_left : ℕ → Position → Placed → Bool
+can_go_left count at p = not (is_cut at p) && not (is_cut (right count at) p)
+
+abbrev pub cells_taken_out : ℕ → ℕ → Display → DisplayReading
+cells_taken_out columns count d =
+    if nat_le (d.cursor.col + count) columns
+    && (list_all (can_go_left count d.cursor) d.placed && is_plain_pen d)
+    then Text (record {
+      placed = map (goes_left count d.cursor)
+          (filter (λ p. not (is_taken_out count d.cursor p)) d.placed);
+      cursor = d.cursor;
+      pen = d.pen;
+    }) []
+    else Lost
+
 -- ESC [ m (SGR) ends the style that stands, ESC [ 0 ; .. m sets one. ESC [ J (ED) keeps everything
 -- that begins before the cursor. ESC [ K (EL) keeps everything except what ends after the cursor in
--- its row. ESC [ H (CUP) goes to the first cell
+-- its row. ESC [ H (CUP) goes to the first cell. ESC [ @ (ICH) opens a cell at the cursor
 abbrev pub plain_sequence : ℕ → Display → ℕ → DisplayReading
 plain_sequence columns d byte =
     if byte == 0x6D then Text (with_pen [] d) []
     else if byte == 0x30 then Style d []
     else if not (is_inside columns d) then Lost
-    else if byte == 0x4A then erased starts_before d
-    else if byte == 0x4B then erased stays_in_row d
+    else if byte == 0x4A then reading_after_erasure starts_before d
+    else if byte == 0x4B then reading_after_erasure stays_in_row d
     else if byte == 0x48 then Text (at_cursor origin d) []
+    else if byte == 0x40 then cell_opened columns d
     else Lost
 
 -- ESC [ n A (CUU) up, B (CUD) down, C (CUF) right, D (CUB) left, without leaving the display; there
--- is no last row
+-- is no last row. ESC [ n P (DCH) takes cells out of the cursor's row
 abbrev pub moves_inside : ℕ → Position → ℕ → ℕ → Bool
 moves_inside columns at count final =
     if final == 0x41 then nat_le count at.row
@@ -171,8 +223,8 @@ moves_inside columns at count final =
     else if final == 0x43 then nat_lt (at.col + count) columns
     else (final == 0x44) && nat_le count at.col
 
-abbrev pub moved_by : Position → ℕ → ℕ → Position
-moved_by at count final =
+abbrev pub position_after_move : Position → ℕ → ℕ → Position
+position_after_move at count final =
     if final == 0x41 then record { col = at.col; row = at.row - count }
     else if final == 0x42 then record { col = at.col; row = at.row + count }
     else if final == 0x43 then record { col = at.col + count; row = at.row }
@@ -181,7 +233,8 @@ moved_by at count final =
 abbrev pub numbered_sequence : ℕ → Display → ℕ → ℕ → DisplayReading
 numbered_sequence columns d count final =
     if is_inside columns d && moves_inside columns d.cursor count final
-    then Text (at_cursor (moved_by d.cursor count final) d) []
+    then Text (at_cursor (position_after_move d.cursor count final) d) []
+    else if is_inside columns d && (final == 0x50) then cells_taken_out columns count d
     else Lost
 
 -- the parameters of a style: digits and semicolons
@@ -211,20 +264,22 @@ step columns wide (Number d count) byte =
 step columns wide (Style d parameters) byte = style_sequence d parameters byte
 step columns wide Lost byte = Lost
 
-abbrev pub read : ℕ → (List ℕ → Option ℕ) → DisplayReading → List ℕ → DisplayReading
-read columns wide r [] = r
-read columns wide r (byte ∷ bytes) = read columns wide (step columns wide r byte) bytes
+abbrev pub reading_after_bytes : ℕ → (List ℕ → Option ℕ) → DisplayReading → List ℕ → DisplayReading
+reading_after_bytes columns wide r [] = r
+reading_after_bytes columns wide r (byte ∷ bytes) = reading_after_bytes columns wide
+    (step columns wide r byte) bytes
 
-abbrev pub settled : ℕ → (List ℕ → Option ℕ) → DisplayReading → Option Display
-settled columns wide (Text d run) = put_run columns wide run d
-settled columns wide reading = None
+abbrev pub display_of_reading : ℕ → (List ℕ → Option ℕ) → DisplayReading → Option Display
+display_of_reading columns wide (Text d run) = put_run columns wide run d
+display_of_reading columns wide reading = None
 
 abbrev pub start : DisplayReading
 start = Text blank []
 
 -- the meaning of bytes on a blank display, if they have one
 abbrev pub meaning : ℕ → (List ℕ → Option ℕ) → List ℕ → Option Display
-meaning columns wide bytes = settled columns wide (read columns wide start bytes)
+meaning columns wide bytes = display_of_reading columns wide
+    (reading_after_bytes columns wide start bytes)
 
 -- a cell of a display: blank, the first of a cluster, or a further one
 pub data Cell : Type 0 where

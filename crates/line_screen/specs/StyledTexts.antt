@@ -3,13 +3,13 @@ use Rattle.std.specs.Prelude.{true, ℕ, replicate, List, [], ◌∷◌, ◌++�
 use Rattle.std.specs.List.{flat_map, list_all}
 use Rattle.unicode_segmentation.specs.Grapheme.{graphemes}
 use Rattle.line_buffer.specs.declared.layout.Position.{Position}
-use Rattle.line_screen.specs.Colours.{Span}
+use Rattle.line_screen.specs.Colours.{SgrSpan}
 use Rattle.line_screen.specs.Display.{Placed, is_printable}
 use Rattle.line_screen.specs.Drawing.{Widths, DrawnItem, drawn_item, split_rows, lay_one, after_one}
 use Rattle.line_screen.specs.Drawing.DrawnItem.{NewRow}
 
 -- of each byte of a text; those after the last span have none
-abbrev pub byte_styles : List Span → List (List ℕ)
+abbrev pub byte_styles : List SgrSpan → List (List ℕ)
 byte_styles spans = flat_map (λ s. replicate s.len s.style) spans
 
 abbrev pub first_of : List (List ℕ) → List ℕ
@@ -33,20 +33,20 @@ styled_clusters wide styles (cluster ∷ clusters) =
     ∷ styled_clusters wide (drop (length cluster) styles) clusters
 
 -- rows after another row; the newline before each has a style that is drawn nowhere
-abbrev pub styled_behind : Widths → List (List ℕ) → List (List ℕ) → List StyledItem
-styled_behind wide styles [] = []
-styled_behind wide styles (row ∷ rows) =
+abbrev pub rows_styled_behind : Widths → List (List ℕ) → List (List ℕ) → List StyledItem
+rows_styled_behind wide styles [] = []
+rows_styled_behind wide styles (row ∷ rows) =
     record { item = NewRow; style = [] }
     ∷ (styled_clusters wide (drop 1 styles) (row_clusters row)
-    ++ styled_behind wide (drop (length row) (drop 1 styles)) rows)
+    ++ rows_styled_behind wide (drop (length row) (drop 1 styles)) rows)
 
 abbrev pub styled_rows : Widths → List (List ℕ) → List (List ℕ) → List StyledItem
 styled_rows wide styles [] = []
 styled_rows wide styles (row ∷ rows) =
     styled_clusters wide styles (row_clusters row)
-    ++ styled_behind wide (drop (length row) styles) rows
+    ++ rows_styled_behind wide (drop (length row) styles) rows
 
-abbrev pub styled_text : Widths → List Span → List ℕ → List StyledItem
+abbrev pub styled_text : Widths → List SgrSpan → List ℕ → List StyledItem
 styled_text wide spans text = styled_rows wide (byte_styles spans) (split_rows text)
 
 -- the cells that they take

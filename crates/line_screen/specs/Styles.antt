@@ -1,10 +1,10 @@
 -- The numbers of a style in the control sequence SGR (ECMA-48, 8.3.117).
 use Rattle.std.specs.Prelude.{ℕ, ◌+◌, ◌%◌, ◌==◌, ◌&&◌, not, Bool, true, false, List, [], ◌∷◌, ◌++◌, decimal, if◌then◌else◌}
-use Rattle.line_help.specs.declared.style.Hue.{Hue}
-use Rattle.line_help.specs.declared.style.Hue.TheVariants as hues
-use Rattle.line_help.specs.declared.style.Colour.{Colour}
-use Rattle.line_help.specs.declared.style.Colour.TheVariants.{Terminal, Basic, Bright, Palette, Rgb}
-use Rattle.line_help.specs.declared.style.Style.{Style}
+use Rattle.line_help.specs.declared.helpers.style.Hue.{Hue}
+use Rattle.line_help.specs.declared.helpers.style.Hue.TheVariants as hues
+use Rattle.line_help.specs.declared.helpers.style.Colour.{Colour}
+use Rattle.line_help.specs.declared.helpers.style.Colour.TheVariants.{Terminal, Basic, Bright, Palette, Rgb}
+use Rattle.line_help.specs.declared.helpers.style.Style.{Style}
 
 abbrev pub hue_number : Hue → ℕ
 hue_number hues.Black = 0

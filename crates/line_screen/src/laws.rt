@@ -2,8 +2,8 @@
 
 ghost use Rattle.line_screen.specs.Input.{EncodedCharsAreRead, CharsAreEncoded};
 ghost use Rattle.line_screen.specs.KeyGrammar.{WholeKeysStay, PastedTextIsBeforeItsMark, PastedTextIsCutOff, ControlIsOneKey};
-ghost use Rattle.line_screen.specs.Laws.{TypingLeads, KillingLeads, FullDrawingShows, PlainDrawingsAreDrawings, StartIsEmpty, CallsLead, ChainsLead, PlaceIsFree, LineEndsAnywhere, EndedLineStays, MeasuresGoOn, ShownIsMeant, CellsAreShown};
-ghost use Rattle.line_screen.specs.Calls.{ReadsFindNothingWaiting};
+ghost use Rattle.line_screen.specs.Laws.{TypingLeads, KillingLeads, PuttingInLeads, TakingOutLeads, FullDrawingShows, PlainDrawingsAreDrawings, StartIsEmpty, CallsLead, ChainsLead, PlaceIsFree, LineEndsAnywhere, EndedLineStays, MeasuresGoOn, ShownIsMeant, CellsAreShown};
+ghost use Rattle.line_screen.specs.ScreenCalls.{ReadsFindNothingWaiting};
 ghost use Rattle.line_screen.specs.ColourLaws.{ColoursStand, NumbersAreStyles, Uncoloured};
 
 use line_config::Sink;
@@ -42,7 +42,7 @@ pub fn start()
 
 /// Each call leads from a display that shows one view to one that shows the next, if it is allowed
 /// there. The calls are a drawing, a move, the insertion of one byte, the erasure of a row's end, a
-/// beep, a clearing and CR LF.
+/// character put into a row, characters taken out of one, a beep, a clearing and CR LF.
 pub fn calls()
     ensures { CallsLead }
 {}
@@ -63,6 +63,18 @@ pub fn short_insertions()
 /// line without it.
 pub fn short_kills()
     ensures { KillingLeads }
+{}
+
+/// If the editor puts a character into its row, this leads to the line with it. Cursor and end go
+/// one cell on.
+pub fn row_insertions()
+    ensures { PuttingInLeads }
+{}
+
+/// If the editor takes characters out of their row, this leads to the line without them. The end
+/// goes back by as many cells.
+pub fn row_kills()
+    ensures { TakingOutLeads }
 {}
 
 /// Calls one after the other lead from what is shown before them to what is shown after them. The

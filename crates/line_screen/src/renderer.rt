@@ -1,14 +1,16 @@
 //! The renderer: the calls by which an editor draws.
 
 ghost use Rattle.std.specs.Prelude.{◌≡◌, ◌≤◌, ◌++◌, ◌∷◌, [], IsTrue, OnOk, OnErr, IfErr, false};
-ghost use Rattle.line_screen.specs.Calls.{Screen, screen_of, sink_of, canvas_of, display_answer, styles_by};
+ghost use Rattle.line_screen.specs.ScreenCalls.{Screen, screen_of, sink_of, canvas_of, display_answer, styles_by};
 ghost use Rattle.line_screen.specs.Colours.{styles_in};
 ghost use Rattle.line_editor.specs.Values.{seen_marks};
 
 use crate::drawing::coloured::{Painting, paint};
 use crate::drawing::painted::Brush;
-use crate::drawing::sequences::{clear, go, move_and_erase, send_flushed};
-use crate::drawing::whole::{Shown, draw};
+use crate::drawing::sequences::{
+    clear, go, move_and_erase, move_and_take_out, put_in_row, send_flushed,
+};
+use crate::drawing::whole::{DrawnTexts, draw};
 use crate::grid::Grid;
 use crate::measuring::{measure_in, measure_on};
 use line_buffer::{GraphemeClusterMode, Layout, LineBuffer, Position, TabStops, Unit};
@@ -134,7 +136,7 @@ impl<D: Sink + Drop> Renderer for ScreenRenderer<D> {
             let painting = painting_of(highlighter, marked, told, prompt, line, info, new_layout);
             return answer(paint(&mut self.sink, grid, row, &painting));
         }
-        let shown = Shown {
+        let shown = DrawnTexts {
             prompt,
             line: line.as_str(),
             info,
@@ -172,6 +174,20 @@ impl<D: Sink + Drop> Renderer for ScreenRenderer<D> {
     /// The bytes of both are passed on together.
     fn move_and_clear_to_eol(&mut self, old: Position, new: Position) -> Result<(), ReadlineError> {
         answer(move_and_erase(&mut self.sink, old, new))
+    }
+
+    fn insert_char(&mut self, ch: char) -> Result<(), ReadlineError> {
+        answer(put_in_row(&mut self.sink, ch))
+    }
+
+    /// The bytes of both are passed on together.
+    fn move_and_delete_chars(
+        &mut self,
+        old: Position,
+        new: Position,
+        count: Unit,
+    ) -> Result<(), ReadlineError> {
+        answer(move_and_take_out(&mut self.sink, old, new, count))
     }
 
     /// Writes nothing: no call leaves the cursor elsewhere.

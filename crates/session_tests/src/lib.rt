@@ -1,15 +1,10 @@
-//! The promises of `keyline` at work: worked sessions, and sessions over failing devices.
+//! Whole sessions written as rows of text: the words of a row, what plays it, and the tests of
+//! `keyline`.
 #![tactic(auto)]
 
 #[cfg(test)]
-mod completing;
-#[cfg(test)]
-mod faults;
-#[cfg(test)]
-mod fixtures;
-#[cfg(test)]
-mod reading;
+mod calls;
+pub mod rows;
 #[cfg(test)]
 mod sessions;
-#[cfg(test)]
-mod styles;
+pub mod words;

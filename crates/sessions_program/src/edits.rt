@@ -1,6 +1,7 @@
 //! Each edit of a line, each call of the undo record and of the kill ring, and each call of a
 //! history. The listener of an edit makes its events on its own text. A row for each says whether
-//! it succeeded or failed, and whether its result is right. `tests/edit_growth.py` runs this with
+//! it succeeded or failed, and whether its result is right. `tests/program/edit_allocations.py`
+//! runs this with
 //! each allocation failing in turn.
 
 pub(crate) mod commands;

@@ -1,6 +1,7 @@
 //! Without an argument, plays the sessions in the files of `data/`, prints each session that
 //! differs from its row, and their number, makes each edit, and then draws a line. With the
-//! argument `each`, prints the result of each session read from standard input. With `growths`,
+//! argument `each`, prints the result of each session read from standard input. With
+//! `failed-allocations`,
 //! plays the sessions in which each allocation is to fail, and prints for each whether one did.
 //! With `calls`, makes each edit. With a name in `.txt`, plays the sessions of that file. With
 //! another name, draws the line of that name.
@@ -14,12 +15,12 @@ mod drawings;
 mod edits;
 
 use anyhow::Result;
-use session_rows::each::told_of_each;
-use session_rows::play::{Played, play};
-use session_rows::refusals::{play_grown, play_refused};
+use session_tests::rows::each::told_of_each;
+use session_tests::rows::play::{Played, play};
+use session_tests::rows::refusals::{play_grown, play_refused};
 use std::{env, fs, io};
 
-const FILES: [&str; 10] = [
+const FILES: [&str; 11] = [
     "rows.txt",
     "emacs.txt",
     "vi.txt",
@@ -28,6 +29,7 @@ const FILES: [&str; 10] = [
     "candidates.txt",
     "colours.txt",
     "tabs.txt",
+    "partial.txt",
     "faults.txt",
     REFUSED,
 ];
@@ -111,7 +113,7 @@ fn play_all(rt: &HostRuntime) -> Result<()> {
 fn play_named(rt: &HostRuntime, name: &str) -> Result<()> {
     match name {
         "each" => tell_each(rt),
-        "growths" => grow(rt),
+        "failed-allocations" => grow(rt),
         "calls" => Ok(edits::check_all(rt)?),
         name if name.ends_with(".txt") => play_told(rt, name),
         name => drawings::draw_named(rt, name),

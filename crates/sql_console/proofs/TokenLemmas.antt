@@ -1,6 +1,6 @@
 -- The tokens of a text from a place on are the one that begins there, and those after it.
 use Rattle.std.proofs.Common.{◌≡◌, ℕ, zero, suc, ◌+◌, ◌-◌, ◌<◌, ◌≤◌, List, [], ◌∷◌, length, drop, refl, ap, sym, subst, arith}
-use Rattle.line_help.specs.declared.style.Span.{Span}
+use Rattle.line_help.specs.declared.helpers.style.Span.{Span}
 use Rattle.sql_console.specs.Tokens.{first_token, tokens_from}
 
 behind : (len c : ℕ) (text : List ℕ) → 1 ≤ len → tokens_from (len - 1) text ≡ tokens_from len (c ∷ text)

@@ -2,8 +2,8 @@
 use Rattle.std.specs.Prelude.{ℕ, ◌-◌, ◌==◌, ◌||◌, ◌&&◌, Bool, not, if◌then◌else◌, List, length, slice_index}
 use Rattle.std.specs.Prelude.{Option, None, Some, codes}
 use Rattle.line_help.specs.Hints.{Hinted}
-use Rattle.line_help.specs.declared.validate.ValidationResult.{ValidationResult}
-use Rattle.line_help.specs.declared.validate.ValidationResult.TheVariants.{Incomplete, Valid}
+use Rattle.line_help.specs.declared.helpers.validate.ValidationResult.{ValidationResult}
+use Rattle.line_help.specs.declared.helpers.validate.ValidationResult.TheVariants.{Incomplete, Valid}
 
 -- a semicolon, or a newline, which is before an empty row
 abbrev pub ends_line : ℕ → Bool

@@ -3,21 +3,21 @@ use Rattle.std.specs.Prelude.{ℕ, zero, suc, ◌+◌, ◌-◌, ◌==◌, ◌||�
 use Rattle.std.specs.Char.{is_ascii_digit, is_ascii_alphanumeric}
 use Rattle.std.specs.List.{list_any, prefix_len}
 use Rattle.std.specs.Str.{str_eq_ignore_ascii_case}
-use Rattle.line_help.specs.declared.style.Colour.TheVariants.{Basic}
-use Rattle.line_help.specs.declared.style.Hue.{Hue}
-use Rattle.line_help.specs.declared.style.Hue.TheVariants.{Blue, Cyan, Green, Magenta}
-use Rattle.line_help.specs.declared.style.Mark.{Mark}
-use Rattle.line_help.specs.declared.style.Part.{Part}
-use Rattle.line_help.specs.declared.style.Part.TheVariants.{Line}
-use Rattle.line_help.specs.declared.style.Span.{Span}
-use Rattle.line_help.specs.declared.style.Style.{Style}
+use Rattle.line_help.specs.declared.helpers.style.Colour.TheVariants.{Basic}
+use Rattle.line_help.specs.declared.helpers.style.Hue.{Hue}
+use Rattle.line_help.specs.declared.helpers.style.Hue.TheVariants.{Blue, Cyan, Green, Magenta}
+use Rattle.line_help.specs.declared.helpers.style.Mark.{Mark}
+use Rattle.line_help.specs.declared.helpers.style.Part.{Part}
+use Rattle.line_help.specs.declared.helpers.style.Part.TheVariants.{Line}
+use Rattle.line_help.specs.declared.helpers.style.Span.{Span}
+use Rattle.line_help.specs.declared.helpers.style.Style.{Style}
 use Rattle.line_help.specs.Paints.{plain, standard_paints}
 use Rattle.sql_console.specs.declared.tokens.Class.{Class}
 use Rattle.sql_console.specs.declared.tokens.Class.TheVariants.{Word, Quoted, Row}
 use Rattle.sqlite_syntax.specs.declared.token.TheConstants.{KEYWORDS}
 
-abbrev pub coloured : Hue → Style
-coloured hue = record plain { text = Basic hue }
+abbrev pub style_with_hue : Hue → Style
+style_with_hue hue = record plain { text = Basic hue }
 
 abbrev pub is_in : Class → ℕ → Bool
 is_in Word c = is_ascii_alphanumeric c || (c == 0x5F || (c == 0x2E || nat_le 0x80 c))
@@ -34,17 +34,17 @@ is_keyword word = list_any (λ k. str_eq_ignore_ascii_case k.0.now word) KEYWORD
 -- a number, which begins with a digit, is magenta, a keyword bold and blue
 abbrev pub word_style : List ℕ → Style
 word_style word =
-    if is_ascii_digit (slice_index word 0) then coloured Magenta
-    else if is_keyword word then record (coloured Blue) { bold = true } else plain
+    if is_ascii_digit (slice_index word 0) then style_with_hue Magenta
+    else if is_keyword word then record (style_with_hue Blue) { bold = true } else plain
 
 -- how a text begins: with a string up to its quote, which is green; with a comment up to the row's
 -- end, which is cyan; with a word; or with another byte, which is plain
 unfoldable pub first_token : List ℕ → Span
 first_token text =
     if slice_index text 0 == 0x27
-    then record { len = min (length text) (past Quoted text 1 + 1); style = coloured Green }
+    then record { len = min (length text) (past Quoted text 1 + 1); style = style_with_hue Green }
     else if (slice_index text 0 == 0x2D) && (nat_lt 1 (length text) && (slice_index text 1 == 0x2D))
-    then record { len = past Row text 0; style = coloured Cyan }
+    then record { len = past Row text 0; style = style_with_hue Cyan }
     else if is_in Word (slice_index text 0)
     then record { len = past Word text 0; style = word_style (take (past Word text 0) text) }
     else record { len = 1; style = plain }

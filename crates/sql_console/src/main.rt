@@ -66,7 +66,9 @@ fn converse(rt: &HostRuntime, editor: &mut Editor) -> Result<()> {
             Request::Unknown(word) => requests::refuse(rt, word)?,
             Request::Statement(sql) => answer::print(rt, &mut conn, sql)?,
         }
-        editor.set_helper(Some(helper(answer::tables(rt.alloc(), &mut conn))));
+        editor
+            .session
+            .set_helper(Some(helper(answer::tables(rt.alloc(), &mut conn))));
         text.clear();
     }
     Ok(())

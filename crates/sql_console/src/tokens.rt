@@ -4,7 +4,7 @@ ghost use Rattle.std.specs.Prelude.{◌≡◌, ◌<◌, ◌≤◌, length, slice
 ghost use Rattle.std.specs.List.{list_any};
 ghost use Rattle.std.specs.Str.{str_eq_ignore_ascii_case};
 ghost use Rattle.line_help.specs.Paints.{IsNextSpan};
-ghost use Rattle.sql_console.specs.Tokens.{coloured, first_token, is_in, is_keyword, past, tokens_from, word_style};
+ghost use Rattle.sql_console.specs.Tokens.{style_with_hue, first_token, is_in, is_keyword, past, tokens_from, word_style};
 
 use keyline::{Colour, Hue, Mark, Span, Style};
 use sqlite_syntax::token::{KEYWORDS, Kind};
@@ -73,7 +73,7 @@ fn is_keyword(word: &[u8]) -> bool
 }
 
 fn coloured(hue: Hue) -> Style
-    ensures { result ≡ coloured hue }
+    ensures { result ≡ style_with_hue hue }
 {
     Style {
         text: Colour::Basic(hue),

@@ -1,4 +1,4 @@
 pub mod Handlers
 pub mod Reading
 pub mod Typing
-pub mod Listening
+pub mod Asking

@@ -50,7 +50,7 @@ pub struct KeyList<'t> {
 }
 
 impl<'t> KeyList<'t> {
-    ghost use Rattle.line_keys.specs.Feeds.{IsReaderRefusal};
+    ghost use Rattle.line_keys.specs.KeyFeeds.{IsReaderRefusal};
     ghost use Rattle.stand_ins.specs.Reading.{key_list_coming};
     ghost use Rattle.stand_ins.specs.Typing.{coming_after};
 

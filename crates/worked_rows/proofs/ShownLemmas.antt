@@ -3,13 +3,13 @@ use Rattle.std.proofs.Common.{◌≡◌, ℕ, suc, Bool, true, false, nat_eq, na
 use Rattle.std.proofs.lemmas.Bool.{and_parts, eqb-true, false≢true}
 use Rattle.std.proofs.lemmas.Slice.Eq.{bytes_eq-Decides}
 use Rattle.line_buffer.specs.declared.layout.Position.{Position}
-use Rattle.line_editor.specs.Calls.{Marks}
+use Rattle.line_editor.specs.RenderCalls.{Marks}
 use Rattle.line_editor.specs.Redraws.{Redraw}
 use Rattle.line_editor.specs.Sights.{sight_with}
-use Rattle.line_screen.specs.Calls.{Screen}
+use Rattle.line_screen.specs.ScreenCalls.{Screen}
 use Rattle.line_screen.specs.Display.{Display, Placed}
-use Rattle.keyline.specs.Events.{Event, Begins, Breaks, Draws, Hears, Helped, Keeps, Rests, Takes, Writes}
-use Rattle.keyline.specs.Shows.{EachShown, Face, HasMeaning, MomentShown, below, blank, broken, drawn_on}
+use Rattle.keyline.specs.Events.{SessionEvent, Begins, Breaks, Draws, Hears, Helped, Keeps, Rests, Takes, Writes}
+use Rattle.keyline.specs.Shows.{EachShown, Face, HasMeaning, MomentShown, below, blank, face_on_new_row, face_with_drawing}
 use Rattle.worked_rows.specs.Playing.{Row, agrees, course_of, differing, screen_in}
 use Rattle.worked_rows.specs.Showing.{AllShown, EachFaceShown, all_broken, all_drawn, all_mean, all_rest, all_rested, each_shown, has_above, is_row_shown, is_shown, meaning_of, rested, same_cells, same_placed, same_position, session_shown, short, unshown}
 
@@ -69,27 +69,27 @@ meaning-is f None is h = absurd (false≢true h)
 meaning-is f (Some d) is h = record { display = d; means = is; over_is = cells-are _ _ h }
 
 -- a new row has a meaning, and the next line begins below it
-break-is : (f : Face) (later : List Event) (o : Option Display) → meaning_of f ≡ o → has_above f o ≡ true
+break-is : (f : Face) (later : List SessionEvent) (o : Option Display) → meaning_of f ≡ o → has_above f o ≡ true
     → EachShown (rested f o) later → (m : HasMeaning f) × EachShown (below f m.display) later
 break-is f later None is h x = absurd (false≢true h)
 break-is f later (Some d) is h x = (record { display = d; means = is; over_is = cells-are _ _ h }, x)
 
 -- ---- of all of them
 
-all-so : (fs : List Face) (a b : List Event) → ((f : Face) → EachShown f a → EachShown f b)
+all-so : (fs : List Face) (a b : List SessionEvent) → ((f : Face) → EachShown f a → EachShown f b)
     → EachFaceShown fs a → EachFaceShown fs b
 all-so [] a b so h = tt
 all-so (f ∷ fs) a b so h = (so f h.0, all-so fs a b so h.1)
 
-draws-are : (marks : Option Marks) (redraw : Redraw) (sent : List (List ℕ)) (later : List Event) (fs : List Face)
+draws-are : (marks : Option Marks) (redraw : Redraw) (sent : List (List ℕ)) (later : List SessionEvent) (fs : List Face)
     → all_mean (all_drawn marks redraw sent fs) ≡ true → EachFaceShown (all_drawn marks redraw sent fs) later
     → EachFaceShown fs (Draws marks redraw sent ∷ later)
 draws-are marks redraw sent later [] h x = tt
 draws-are marks redraw sent later (f ∷ fs) h x =
     let p = and_parts _ _ h in
-    ((λ low. (meaning-is (drawn_on f marks redraw sent) _ refl p.0, x.0)), draws-are marks redraw sent later fs p.1 x.1)
+    ((λ low. (meaning-is (face_with_drawing f marks redraw sent) _ refl p.0, x.0)), draws-are marks redraw sent later fs p.1 x.1)
 
-rests-are : (marks : Option Marks) (given : Bool) (prompt text : List ℕ) (place : ℕ) (later : List Event) (fs : List Face)
+rests-are : (marks : Option Marks) (given : Bool) (prompt text : List ℕ) (place : ℕ) (later : List SessionEvent) (fs : List Face)
     → all_rest fs marks given prompt text place ≡ true → EachFaceShown fs later
     → EachFaceShown fs (Rests marks given prompt text place ∷ later)
 rests-are marks given prompt text place later [] h x = tt
@@ -99,15 +99,15 @@ rests-are marks given prompt text place later (f ∷ fs) h x =
       rests-are marks given prompt text place later fs p.1 x.1,
     )
 
-breaks-are : (later : List Event) (fs : List Face)
+breaks-are : (later : List SessionEvent) (fs : List Face)
     → all_mean (all_broken fs) ≡ true → EachFaceShown (all_rested (all_broken fs)) later
     → EachFaceShown fs (Breaks ∷ later)
 breaks-are later [] h x = tt
 breaks-are later (f ∷ fs) h x =
     let p = and_parts _ _ h in
-    (break-is (broken f) later _ refl p.0 x.0, breaks-are later fs p.1 x.1)
+    (break-is (face_on_new_row f) later _ refl p.0 x.0, breaks-are later fs p.1 x.1)
 
-faces-are : (events : List Event) (fs : List Face) → each_shown fs events ≡ true → EachFaceShown fs events
+faces-are : (events : List SessionEvent) (fs : List Face) → each_shown fs events ≡ true → EachFaceShown fs events
 faces-are [] [] h = tt
 faces-are [] (f ∷ fs) h = (tt, faces-are [] fs refl)
 faces-are (Begins s ∷ later) fs h =
@@ -126,7 +126,7 @@ faces-are (Hears item ∷ later) fs h = all-so fs later (Hears item ∷ later) (
 faces-are (Keeps line ∷ later) fs h = all-so fs later (Keeps line ∷ later) (λ f y. y) (faces-are later fs h)
 faces-are (Writes line ∷ later) fs h = all-so fs later (Writes line ∷ later) (λ f y. y) (faces-are later fs h)
 
-pub session-is : (s : Screen) (events : List Event) → session_shown events ≡ true → EachShown (blank s) events
+pub session-is : (s : Screen) (events : List SessionEvent) → session_shown events ≡ true → EachShown (blank s) events
 session-is s [] h = absurd (false≢true h)
 session-is s (Begins t ∷ later) h =
     let x = (faces-are later (blank t ∷ []) h).0 in

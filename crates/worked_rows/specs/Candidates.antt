@@ -1,14 +1,13 @@
--- The rows of candidates.txt; tests/worked_rows.py writes them.
+-- The rows of candidates.txt; tests/definition/worked_rows.py writes them.
 use Rattle.line_config.specs.declared.errors.ReadlineError.TheVariants.{Interrupted}
-use Rattle.line_keys.specs.declared.key.KeyCode.TheVariants.{Esc}
 use Rattle.std.specs.Prelude.{List, [], ◌∷◌, ◌++◌, None, Some, true, false, codes, encode_utf8_all}
 use Rattle.worked_rows.specs.Playing.{Row, row}
-use Rattle.worked_rows.specs.Settings.{Settings, aide, aide_ending, at_once, limited, listed, modal, plain, vi}
+use Rattle.worked_rows.specs.Settings.{Settings, aide, aide_ending, at_once, limited, listed, modal, partial, plain, vi}
 
--- modal listed words:alpha,alpine
+-- modal partial listed words:alpha,alpine
 abbrev pub settings_7 : Settings
 settings_7 = record plain {
-  config = listed (modal plain.config);
+  config = listed (partial (modal plain.config));
   helping = aide false (Some ((codes "alpha") ∷ (codes "alpine") ∷ []));
 }
 
@@ -87,14 +86,14 @@ row_14 = record (row 14 settings_7 (codes "alp\t\th\t\r") (codes "alpha\n")) {
       codes "\r\n\r\u{1b}[J\u{1b}[m> \u{1b}[m\u{1b}[m\u{1b}[m\r\n");
 }
 
--- alp Tab Tab Left X Enter = alXp | shows {} a l p ␇ {alp␛[m␍␊alpha␍␊alpine␛[m␛[2A␛[1D {alp} ␛[1D {alXp}␛[1D ␛[1C␍␊ {} ␍␊
+-- alp Tab Tab Left X Enter = alXp | shows {} a l p ␇ {alp␛[m␍␊alpha␍␊alpine␛[m␛[2A␛[1D {alp} ␛[1D ␛[@X ␛[1C␍␊ {} ␍␊
 abbrev pub row_15 : Row
 row_15 = record (row 15 settings_7 (codes "alp\t\t\u{1b}[DX\r") (codes "alXp\n")) {
   shows = Some
       (codes "\r\u{1b}[J\u{1b}[m> \u{1b}[m\u{1b}[m\u{1b}[malp\u{7}\r\u{1b}[J\u{1b}[m> \u{1b}" ++
       codes "[malp\u{1b}[m\r\nalpha\r\nalpine\u{1b}[m\u{1b}[2A\u{1b}[1D\r\u{1b}[J\u{1b}[m> " ++
-      codes "\u{1b}[malp\u{1b}[m\u{1b}[m\u{1b}[1D\r\u{1b}[J\u{1b}[m> \u{1b}[malXp\u{1b}[m" ++
-      codes "\u{1b}[m\u{1b}[1D\u{1b}[1C\r\n\r\u{1b}[J\u{1b}[m> \u{1b}[m\u{1b}[m\u{1b}[m\r\n");
+      codes "\u{1b}[malp\u{1b}[m\u{1b}[m\u{1b}[1D\u{1b}[@X\u{1b}[1C\r\n\r\u{1b}[J\u{1b}[m> " ++
+      codes "\u{1b}[m\u{1b}[m\u{1b}[m\r\n");
 }
 
 -- alp Tab Tab Backspace Enter = al | shows {} a l p ␇ {alp␛[m␍␊alpha␍␊alpine␛[m␛[2A␛[1D {alp} ␛[1D␛[K ␍␊ {} ␍␊
@@ -310,15 +309,14 @@ row_41 = record (row 41 settings_7 (codes "al\t\t\u{1f}\u{1f}\r") (codes "\n")) 
 abbrev pub row_42 : Row
 row_42 = row 42 settings_7 (codes "x y\u{17}\t\u{17}\u{19}\r") (codes "x alp\n")
 
--- al␠x Left Left Tab Tab y Enter = alpy␠x | shows {} a l ␠ x ␛[1D ␛[1D {alp␠x}␛[2D {alp␠x␛[m␍␊alpha␍␊alpine␛[m␛[2A␛[1D {alp␠x}␛[2D {alpy␠x}␛[2D ␛[2C␍␊ {} ␍␊
+-- al␠x Left Left Tab Tab y Enter = alpy␠x | shows {} a l ␠ x ␛[1D ␛[1D {alp␠x}␛[2D {alp␠x␛[m␍␊alpha␍␊alpine␛[m␛[2A␛[1D {alp␠x}␛[2D ␛[@y ␛[2C␍␊ {} ␍␊
 abbrev pub row_45 : Row
 row_45 = record (row 45 settings_7 (codes "al x\u{1b}[D\u{1b}[D\t\ty\r") (codes "alpy x\n")) {
   shows = Some (codes "\r\u{1b}[J\u{1b}[m> \u{1b}[m\u{1b}[m\u{1b}[mal x\u{1b}[1D\u{1b}[1D\r\u{1b}[J"
       ++ codes "\u{1b}[m> \u{1b}[malp x\u{1b}[m\u{1b}[m\u{1b}[2D\r\u{1b}[J\u{1b}[m> \u{1b}[mal" ++
       codes "p x\u{1b}[m\r\nalpha\r\nalpine\u{1b}[m\u{1b}[2A\u{1b}[1D\r\u{1b}[J\u{1b}[m> " ++
-      codes "\u{1b}[malp x\u{1b}[m\u{1b}[m\u{1b}[2D\r\u{1b}[J\u{1b}[m> \u{1b}[malpy x\u{1b}" ++
-      codes "[m\u{1b}[m\u{1b}[2D\u{1b}[2C\r\n\r\u{1b}[J\u{1b}[m> \u{1b}[m\u{1b}[m\u{1b}[m\r" ++
-      codes "\n");
+      codes "\u{1b}[malp x\u{1b}[m\u{1b}[m\u{1b}[2D\u{1b}[@y\u{1b}[2C\r\n\r\u{1b}[J\u{1b}[m" ++
+      codes "> \u{1b}[m\u{1b}[m\u{1b}[m\r\n");
 }
 
 -- Paste x␊al Pasted Tab Tab Enter = x␊alp | shows {} {x␍␊al} ␛[1A{x␍␊alp} ␛[1A{x␍␊alp␛[m␍␊alpha␍␊alpine␛[m␛[2A␛[3D ␛[1A{x␍␊alp} ␍␊ {} ␍␊

@@ -1,6 +1,5 @@
--- The rows of colours.txt; tests/worked_rows.py writes them.
+-- The rows of colours.txt; tests/definition/worked_rows.py writes them.
 use Rattle.line_config.specs.declared.errors.ReadlineError.TheVariants.{Interrupted}
-use Rattle.line_keys.specs.declared.key.KeyCode.TheVariants.{Esc}
 use Rattle.std.specs.Prelude.{List, [], ◌∷◌, ◌++◌, None, Some, true, false, codes, encode_utf8_all}
 use Rattle.worked_rows.specs.Playing.{Row, row}
 use Rattle.worked_rows.specs.Settings.{Settings, aide, colours, listed, modal, plain, vi}

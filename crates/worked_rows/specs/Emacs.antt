@@ -1,6 +1,5 @@
--- The rows of emacs.txt; tests/worked_rows.py writes them.
+-- The rows of emacs.txt; tests/definition/worked_rows.py writes them.
 use Rattle.line_config.specs.declared.errors.ReadlineError.TheVariants.{Interrupted}
-use Rattle.line_keys.specs.declared.key.KeyCode.TheVariants.{Esc}
 use Rattle.std.specs.Prelude.{List, [], ◌∷◌, Some, codes, encode_utf8_all}
 use Rattle.worked_rows.specs.Playing.{Row, row}
 use Rattle.worked_rows.specs.Settings.{Settings, adding, plain}

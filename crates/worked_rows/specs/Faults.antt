@@ -1,4 +1,4 @@
--- The rows of faults.txt; tests/worked_rows.py writes them.
+-- The rows of faults.txt; tests/definition/worked_rows.py writes them.
 use Rattle.line_config.specs.declared.device.Last.TheVariants.{Failed}
 use Rattle.line_config.specs.declared.errors.ReadlineError.TheVariants.{Handler, Reader}
 use Rattle.line_keys.specs.Keys.{ctrl, key_with, none}

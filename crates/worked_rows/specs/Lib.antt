@@ -12,6 +12,7 @@ pub mod Rows
 pub mod Settings
 pub mod Showing
 pub mod Splitting
+pub mod Partial
 pub mod Tabs
 pub mod Vi
 pub mod Worked

@@ -1,17 +1,17 @@
--- The rows of modal.txt; tests/worked_rows.py writes them.
+-- The rows of modal.txt; tests/definition/worked_rows.py writes them.
 use Rattle.line_config.specs.declared.errors.ReadlineError.TheVariants.{Interrupted}
 use Rattle.line_keys.specs.Keys.{ctrl, key_with}
 use Rattle.line_keys.specs.declared.command.Cmd.TheVariants.{Abort, SelfInsert}
 use Rattle.line_keys.specs.declared.events.Event.TheVariants.{KeySeq}
-use Rattle.line_keys.specs.declared.key.KeyCode.TheVariants.{Char, Esc}
+use Rattle.line_keys.specs.declared.key.KeyCode.TheVariants.{Char}
 use Rattle.std.specs.Prelude.{List, [], ◌∷◌, ◌++◌, None, Some, true, codes, encode_utf8_all}
 use Rattle.worked_rows.specs.Playing.{Row, row}
-use Rattle.worked_rows.specs.Settings.{Settings, adding, aide, bound, command, modal, plain, vi}
+use Rattle.worked_rows.specs.Settings.{Settings, adding, aide, bound, command, modal, partial, plain, vi}
 
--- modal loaded:#V2␊git␠status␊make␠test␊git␠commit␠-m␠one␊ls␠-l␊
+-- modal partial loaded:#V2␊git␠status␊make␠test␊git␠commit␠-m␠one␊ls␠-l␊
 abbrev pub settings_7 : Settings
 settings_7 = record plain {
-  config = modal plain.config;
+  config = partial (modal plain.config);
   loaded = codes "#V2\ngit status\nmake test\ngit commit -m one\nls -l\n";
 }
 
@@ -69,7 +69,7 @@ row_11 = record (row 11 settings_7 (codes "\u{12}\u{4}") []) {
       codes "h)`': \u{1b}[m\u{1b}[m\u{1b}[m\r\u{1b}[J\u{1b}[m> \u{1b}[m\u{1b}[m\u{1b}[m\r\n");
 }
 
--- C-R ls C-D Enter = s␠-l | shows {} ''} 'l'ls␠-l}␛[5D 'ls'ls␠-l}␛[5D {ls␠-l}␛[5D {s␠-l}␛[4D ␛[4C␍␊ {} ␍␊
+-- C-R ls C-D Enter = s␠-l | shows {} ''} 'l'ls␠-l}␛[5D 'ls'ls␠-l}␛[5D {ls␠-l}␛[5D ␛[1P ␛[4C␍␊ {} ␍␊
 abbrev pub row_12 : Row
 row_12 = record (row 12 settings_7 (codes "\u{12}ls\u{4}\r") (codes "s -l\n")) {
   shows = Some
@@ -77,8 +77,8 @@ row_12 = record (row 12 settings_7 (codes "\u{12}ls\u{4}\r") (codes "s -l\n")) {
       codes "h)`': \u{1b}[m\u{1b}[m\u{1b}[m\r\u{1b}[J\u{1b}[m(reverse-i-search)`l': \u{1b}[" ++
       codes "mls -l\u{1b}[m\u{1b}[m\u{1b}[5D\r\u{1b}[J\u{1b}[m(reverse-i-search)`ls': " ++
       codes "\u{1b}[mls -l\u{1b}[m\u{1b}[m\u{1b}[5D\r\u{1b}[J\u{1b}[m> \u{1b}[mls -l\u{1b}[" ++
-      codes "m\u{1b}[m\u{1b}[5D\r\u{1b}[J\u{1b}[m> \u{1b}[ms -l\u{1b}[m\u{1b}[m\u{1b}[4D" ++
-      codes "\u{1b}[4C\r\n\r\u{1b}[J\u{1b}[m> \u{1b}[m\u{1b}[m\u{1b}[m\r\n");
+      codes "m\u{1b}[m\u{1b}[5D\u{1b}[1P\u{1b}[4C\r\n\r\u{1b}[J\u{1b}[m> \u{1b}[m\u{1b}[m" ++
+      codes "\u{1b}[m\r\n");
 }
 
 -- draft C-R ma C-E X Enter = make␠testX | shows {} d r a f t ''draft} 'm'git␠commit␠-m␠one}␛[11D 'ma'make␠test}␛[9D {make␠test}␛[9D ␛[9C X ␍␊ {} ␍␊
@@ -144,7 +144,7 @@ row_17 = record (row 17 settings_7 (codes "\u{12}mit\u{1b}") []) {
       codes "\u{1b}[J\u{1b}[m> \u{1b}[m\u{1b}[m\u{1b}[m\r\n");
 }
 
--- C-R ma ␛[999x b Enter = bmake␠test | shows {} ''} 'm'git␠commit␠-m␠one}␛[11D 'ma'make␠test}␛[9D {make␠test}␛[9D {bmake␠test}␛[9D ␛[9C␍␊ {} ␍␊
+-- C-R ma ␛[999x b Enter = bmake␠test | shows {} ''} 'm'git␠commit␠-m␠one}␛[11D 'ma'make␠test}␛[9D {make␠test}␛[9D ␛[@b ␛[9C␍␊ {} ␍␊
 abbrev pub row_18 : Row
 row_18 = record (row 18 settings_7 (codes "\u{12}ma\u{1b}[999xb\r") (codes "bmake test\n")) {
   shows = Some
@@ -152,9 +152,8 @@ row_18 = record (row 18 settings_7 (codes "\u{12}ma\u{1b}[999xb\r") (codes "bmak
       codes "h)`': \u{1b}[m\u{1b}[m\u{1b}[m\r\u{1b}[J\u{1b}[m(reverse-i-search)`m': \u{1b}[" ++
       codes "mgit commit -m one\u{1b}[m\u{1b}[m\u{1b}[11D\r\u{1b}[J\u{1b}[m(reverse-i-searc" ++
       codes "h)`ma': \u{1b}[mmake test\u{1b}[m\u{1b}[m\u{1b}[9D\r\u{1b}[J\u{1b}[m> \u{1b}[m" ++
-      codes "make test\u{1b}[m\u{1b}[m\u{1b}[9D\r\u{1b}[J\u{1b}[m> \u{1b}[mbmake test\u{1b}" ++
-      codes "[m\u{1b}[m\u{1b}[9D\u{1b}[9C\r\n\r\u{1b}[J\u{1b}[m> \u{1b}[m\u{1b}[m\u{1b}[m\r" ++
-      codes "\n");
+      codes "make test\u{1b}[m\u{1b}[m\u{1b}[9D\u{1b}[@b\u{1b}[9C\r\n\r\u{1b}[J\u{1b}[m> " ++
+      codes "\u{1b}[m\u{1b}[m\u{1b}[m\r\n");
 }
 
 -- C-R git C-R Enter = git␠status | shows {} ''} 'g'git␠commit␠-m␠one}␛[17D 'gi'git␠commit␠-m␠one}␛[17D 'git'git␠commit␠-m␠one}␛[17D 'git'git␠status}␛[10D {git␠status}␛[10D ␛[10C␍␊ {} ␍␊
@@ -362,7 +361,7 @@ row_37 = record (row 37 settings_7 (codes "\u{12}t\u{7f}\u{12}\r") (codes "\n"))
       codes "\u{1b}[m> \u{1b}[m\u{1b}[m\u{1b}[m\r\n");
 }
 
--- draft C-B C-R ma C-G X Enter = drafXt | shows {} d r a f t ␛[1D ''draft}␛[1D 'm'git␠commit␠-m␠one}␛[11D 'ma'make␠test}␛[9D {draft}␛[1D {drafXt}␛[1D ␛[1C␍␊ {} ␍␊
+-- draft C-B C-R ma C-G X Enter = drafXt | shows {} d r a f t ␛[1D ''draft}␛[1D 'm'git␠commit␠-m␠one}␛[11D 'ma'make␠test}␛[9D {draft}␛[1D ␛[@X ␛[1C␍␊ {} ␍␊
 abbrev pub row_40 : Row
 row_40 = record (row 40 settings_7 (codes "draft\u{2}\u{12}ma\u{7}X\r") (codes "drafXt\n")) {
   shows = Some
@@ -370,9 +369,8 @@ row_40 = record (row 40 settings_7 (codes "draft\u{2}\u{12}ma\u{7}X\r") (codes "
       codes "everse-i-search)`': \u{1b}[mdraft\u{1b}[m\u{1b}[m\u{1b}[1D\r\u{1b}[J\u{1b}[m(r" ++
       codes "everse-i-search)`m': \u{1b}[mgit commit -m one\u{1b}[m\u{1b}[m\u{1b}[11D\r" ++
       codes "\u{1b}[J\u{1b}[m(reverse-i-search)`ma': \u{1b}[mmake test\u{1b}[m\u{1b}[m" ++
-      codes "\u{1b}[9D\r\u{1b}[J\u{1b}[m> \u{1b}[mdraft\u{1b}[m\u{1b}[m\u{1b}[1D\r\u{1b}[J" ++
-      codes "\u{1b}[m> \u{1b}[mdrafXt\u{1b}[m\u{1b}[m\u{1b}[1D\u{1b}[1C\r\n\r\u{1b}[J\u{1b}" ++
-      codes "[m> \u{1b}[m\u{1b}[m\u{1b}[m\r\n");
+      codes "\u{1b}[9D\r\u{1b}[J\u{1b}[m> \u{1b}[mdraft\u{1b}[m\u{1b}[m\u{1b}[1D\u{1b}[@X" ++
+      codes "\u{1b}[1C\r\n\r\u{1b}[J\u{1b}[m> \u{1b}[m\u{1b}[m\u{1b}[m\r\n");
 }
 
 -- draft C-R git C-R C-G C-_ Enter = "" | shows {} d r a f t ''draft} 'g'git␠commit␠-m␠one}␛[17D 'gi'git␠commit␠-m␠one}␛[17D 'git'git␠commit␠-m␠one}␛[17D 'git'git␠status}␛[10D {draft} {} ␍␊ {} ␍␊
@@ -535,14 +533,13 @@ row_59 = record (row 59 settings_7 (codes "git\u{10}\r") (codes "ls -l\n")) {
       codes "-l\u{1b}[m\u{1b}[m\r\n\r\u{1b}[J\u{1b}[m> \u{1b}[m\u{1b}[m\u{1b}[m\r\n");
 }
 
--- git Up x Enter = gitx␠commit␠-m␠one | shows {} g i t {git␠commit␠-m␠one}␛[14D {gitx␠commit␠-m␠one}␛[14D ␛[14C␍␊ {} ␍␊
+-- git Up x Enter = gitx␠commit␠-m␠one | shows {} g i t {git␠commit␠-m␠one}␛[14D ␛[@x ␛[14C␍␊ {} ␍␊
 abbrev pub row_60 : Row
 row_60 = record (row 60 settings_7 (codes "git\u{1b}[Ax\r") (codes "gitx commit -m one\n")) {
   shows = Some
       (codes "\r\u{1b}[J\u{1b}[m> \u{1b}[m\u{1b}[m\u{1b}[mgit\r\u{1b}[J\u{1b}[m> \u{1b}[mgit" ++
-      codes " commit -m one\u{1b}[m\u{1b}[m\u{1b}[14D\r\u{1b}[J\u{1b}[m> \u{1b}[mgitx commi" ++
-      codes "t -m one\u{1b}[m\u{1b}[m\u{1b}[14D\u{1b}[14C\r\n\r\u{1b}[J\u{1b}[m> \u{1b}[m" ++
-      codes "\u{1b}[m\u{1b}[m\r\n");
+      codes " commit -m one\u{1b}[m\u{1b}[m\u{1b}[14D\u{1b}[@x\u{1b}[14C\r\n\r\u{1b}[J" ++
+      codes "\u{1b}[m> \u{1b}[m\u{1b}[m\u{1b}[m\r\n");
 }
 
 -- git Up Up C-_ Enter = git␠commit␠-m␠one | shows {} g i t {git␠commit␠-m␠one}␛[14D {git␠status}␛[7D {git␠commit␠-m␠one} ␍␊ {} ␍␊
@@ -802,10 +799,10 @@ row_90 = record (row 90 settings_7 (codes "\u{12}ma\u{1b}[200~X\u{1b}[201~\r")
           codes "\n");
     }
 
--- modal vi loaded:#V2␊git␠status␊make␠test␊git␠commit␠-m␠one␊ls␠-l␊
+-- modal partial vi loaded:#V2␊git␠status␊make␠test␊git␠commit␠-m␠one␊ls␠-l␊
 abbrev pub settings_94 : Settings
 settings_94 = record plain {
-  config = modal (vi plain.config);
+  config = partial (modal (vi plain.config));
   loaded = codes "#V2\ngit status\nmake test\ngit commit -m one\nls -l\n";
 }
 
@@ -861,7 +858,7 @@ row_97 = record (row 97 settings_94 (codes "ab\u{12}ma\u{7}X\r") (codes "abX\n")
       codes "\n");
 }
 
--- ab Esc / ma C-G x Enter = axb | shows {} a b ␛[1D ''ab}␛[1D 'm'git␠commit␠-m␠one}␛[11D 'ma'make␠test}␛[9D {ab}␛[1D {axb}␛[1D ␛[1C␍␊ {} ␍␊
+-- ab Esc / ma C-G x Enter = axb | shows {} a b ␛[1D ''ab}␛[1D 'm'git␠commit␠-m␠one}␛[11D 'ma'make␠test}␛[9D {ab}␛[1D ␛[@x ␛[1C␍␊ {} ␍␊
 abbrev pub row_98 : Row
 row_98 = record (row 98 settings_94 (codes "ab\u{1b}/ma\u{7}x\r") (codes "axb\n")) {
   shows = Some
@@ -869,9 +866,8 @@ row_98 = record (row 98 settings_94 (codes "ab\u{1b}/ma\u{7}x\r") (codes "axb\n"
       codes "rse-i-search)`': \u{1b}[mab\u{1b}[m\u{1b}[m\u{1b}[1D\r\u{1b}[J\u{1b}[m(reverse" ++
       codes "-i-search)`m': \u{1b}[mgit commit -m one\u{1b}[m\u{1b}[m\u{1b}[11D\r\u{1b}[J" ++
       codes "\u{1b}[m(reverse-i-search)`ma': \u{1b}[mmake test\u{1b}[m\u{1b}[m\u{1b}[9D\r" ++
-      codes "\u{1b}[J\u{1b}[m> \u{1b}[mab\u{1b}[m\u{1b}[m\u{1b}[1D\r\u{1b}[J\u{1b}[m> " ++
-      codes "\u{1b}[maxb\u{1b}[m\u{1b}[m\u{1b}[1D\u{1b}[1C\r\n\r\u{1b}[J\u{1b}[m> \u{1b}[m" ++
-      codes "\u{1b}[m\u{1b}[m\r\n");
+      codes "\u{1b}[J\u{1b}[m> \u{1b}[mab\u{1b}[m\u{1b}[m\u{1b}[1D\u{1b}[@x\u{1b}[1C\r\n\r" ++
+      codes "\u{1b}[J\u{1b}[m> \u{1b}[m\u{1b}[m\u{1b}[m\r\n");
 }
 
 -- Esc / ma Enter = make␠test | shows {} ''} 'm'git␠commit␠-m␠one}␛[11D 'ma'make␠test}␛[9D {make␠test}␛[9D ␛[9C␍␊ {} ␍␊
@@ -1231,9 +1227,16 @@ row_159 = record (row 159 settings_157 (codes "a\u{16}b\r") (codes "ab\n")) {
       codes "\u{1b}[m\u{1b}[m\r\n");
 }
 
+-- modal vi loaded:#V2␊git␠status␊make␠test␊git␠commit␠-m␠one␊ls␠-l␊
+abbrev pub settings_164 : Settings
+settings_164 = record plain {
+  config = modal (vi plain.config);
+  loaded = codes "#V2\ngit status\nmake test\ngit commit -m one\nls -l\n";
+}
+
 -- Esc / git Esc n Enter = git␠status | shows {} ''} 'g'git␠commit␠-m␠one}␛[17D 'gi'git␠commit␠-m␠one}␛[17D 'git'git␠commit␠-m␠one}␛[17D {git␠commit␠-m␠one}␛[17D {git␠status}␛[10D ␛[10C␍␊ {} ␍␊
 abbrev pub row_164 : Row
-row_164 = record (row 164 settings_94 (codes "\u{1b}/git\u{1b}n\r") (codes "git status\n")) {
+row_164 = record (row 164 settings_164 (codes "\u{1b}/git\u{1b}n\r") (codes "git status\n")) {
   shows = Some
       (codes "\r\u{1b}[J\u{1b}[m> \u{1b}[m\u{1b}[m\u{1b}[m\r\u{1b}[J\u{1b}[m(reverse-i-searc" ++
       codes "h)`': \u{1b}[m\u{1b}[m\u{1b}[m\r\u{1b}[J\u{1b}[m(reverse-i-search)`g': \u{1b}[" ++
@@ -1247,7 +1250,7 @@ row_164 = record (row 164 settings_94 (codes "\u{1b}/git\u{1b}n\r") (codes "git 
 
 -- Esc / git Esc n n Enter = git␠status | shows {} ''} 'g'git␠commit␠-m␠one}␛[17D 'gi'git␠commit␠-m␠one}␛[17D 'git'git␠commit␠-m␠one}␛[17D {git␠commit␠-m␠one}␛[17D {git␠status}␛[10D ␇ ␛[10C␍␊ {} ␍␊
 abbrev pub row_165 : Row
-row_165 = record (row 165 settings_94 (codes "\u{1b}/git\u{1b}nn\r") (codes "git status\n")) {
+row_165 = record (row 165 settings_164 (codes "\u{1b}/git\u{1b}nn\r") (codes "git status\n")) {
   shows = Some
       (codes "\r\u{1b}[J\u{1b}[m> \u{1b}[m\u{1b}[m\u{1b}[m\r\u{1b}[J\u{1b}[m(reverse-i-searc" ++
       codes "h)`': \u{1b}[m\u{1b}[m\u{1b}[m\r\u{1b}[J\u{1b}[m(reverse-i-search)`g': \u{1b}[" ++
@@ -1261,7 +1264,7 @@ row_165 = record (row 165 settings_94 (codes "\u{1b}/git\u{1b}nn\r") (codes "git
 
 -- Esc / git Esc n N Enter = git␠commit␠-m␠one | shows {} ''} 'g'git␠commit␠-m␠one}␛[17D 'gi'git␠commit␠-m␠one}␛[17D 'git'git␠commit␠-m␠one}␛[17D {git␠commit␠-m␠one}␛[17D {git␠status}␛[10D {git␠commit␠-m␠one}␛[17D ␛[17C␍␊ {} ␍␊
 abbrev pub row_166 : Row
-row_166 = record (row 166 settings_94 (codes "\u{1b}/git\u{1b}nN\r") (codes "git commit -m one\n")) {
+row_166 = record (row 166 settings_164 (codes "\u{1b}/git\u{1b}nN\r") (codes "git commit -m one\n")) {
   shows = Some
       (codes "\r\u{1b}[J\u{1b}[m> \u{1b}[m\u{1b}[m\u{1b}[m\r\u{1b}[J\u{1b}[m(reverse-i-searc" ++
       codes "h)`': \u{1b}[m\u{1b}[m\u{1b}[m\r\u{1b}[J\u{1b}[m(reverse-i-search)`g': \u{1b}[" ++
@@ -1276,7 +1279,7 @@ row_166 = record (row 166 settings_94 (codes "\u{1b}/git\u{1b}nN\r") (codes "git
 
 -- Esc / git Esc N Enter = git␠commit␠-m␠one | shows {} ''} 'g'git␠commit␠-m␠one}␛[17D 'gi'git␠commit␠-m␠one}␛[17D 'git'git␠commit␠-m␠one}␛[17D {git␠commit␠-m␠one}␛[17D ␇ ␛[17C␍␊ {} ␍␊
 abbrev pub row_167 : Row
-row_167 = record (row 167 settings_94 (codes "\u{1b}/git\u{1b}N\r") (codes "git commit -m one\n")) {
+row_167 = record (row 167 settings_164 (codes "\u{1b}/git\u{1b}N\r") (codes "git commit -m one\n")) {
   shows = Some
       (codes "\r\u{1b}[J\u{1b}[m> \u{1b}[m\u{1b}[m\u{1b}[m\r\u{1b}[J\u{1b}[m(reverse-i-searc" ++
       codes "h)`': \u{1b}[m\u{1b}[m\u{1b}[m\r\u{1b}[J\u{1b}[m(reverse-i-search)`g': \u{1b}[" ++
@@ -1289,7 +1292,7 @@ row_167 = record (row 167 settings_94 (codes "\u{1b}/git\u{1b}N\r") (codes "git 
 
 -- C-R st Esc n Enter = git␠status | shows {} ''} 's'ls␠-l}␛[4D 'st'make␠test}␛[2D {make␠test}␛[2D ␛[1D {git␠status}␛[6D ␛[6C␍␊ {} ␍␊
 abbrev pub row_168 : Row
-row_168 = record (row 168 settings_94 (codes "\u{12}st\u{1b}n\r") (codes "git status\n")) {
+row_168 = record (row 168 settings_164 (codes "\u{12}st\u{1b}n\r") (codes "git status\n")) {
   shows = Some
       (codes "\r\u{1b}[J\u{1b}[m> \u{1b}[m\u{1b}[m\u{1b}[m\r\u{1b}[J\u{1b}[m(reverse-i-searc" ++
       codes "h)`': \u{1b}[m\u{1b}[m\u{1b}[m\r\u{1b}[J\u{1b}[m(reverse-i-search)`s': \u{1b}[" ++
@@ -1302,7 +1305,7 @@ row_168 = record (row 168 settings_94 (codes "\u{12}st\u{1b}n\r") (codes "git st
 
 -- Esc / git Enter Esc n Enter = git␠commit␠-m␠one git␠commit␠-m␠one | shows {} ''} 'g'git␠commit␠-m␠one}␛[17D 'gi'git␠commit␠-m␠one}␛[17D 'git'git␠commit␠-m␠one}␛[17D {git␠commit␠-m␠one}␛[17D ␛[17C␍␊ {} {git␠commit␠-m␠one}␛[17D ␛[17C␍␊ {} ␍␊
 abbrev pub row_169 : Row
-row_169 = record (row 169 settings_94 (codes "\u{1b}/git\r\u{1b}n\r")
+row_169 = record (row 169 settings_164 (codes "\u{1b}/git\r\u{1b}n\r")
     (codes "git commit -m one\ngit commit -m one\n")) {
       shows = Some
           (codes "\r\u{1b}[J\u{1b}[m> \u{1b}[m\u{1b}[m\u{1b}[m\r\u{1b}[J\u{1b}[m(reverse-i-searc" ++
@@ -1318,7 +1321,7 @@ row_169 = record (row 169 settings_94 (codes "\u{1b}/git\r\u{1b}n\r")
 
 -- Esc k k k ? git Esc n N Enter = git␠status | shows {} {ls␠-l} {git␠commit␠-m␠one} {make␠test} >''make␠test} >'g'git␠commit␠-m␠one}␛[17D >'gi'git␠commit␠-m␠one}␛[17D >'git'git␠commit␠-m␠one}␛[17D {git␠commit␠-m␠one}␛[17D ␇ {git␠status}␛[10D ␛[10C␍␊ {} ␍␊
 abbrev pub row_170 : Row
-row_170 = record (row 170 settings_94 (codes "\u{1b}kkk?git\u{1b}nN\r") (codes "git status\n")) {
+row_170 = record (row 170 settings_164 (codes "\u{1b}kkk?git\u{1b}nN\r") (codes "git status\n")) {
   shows = Some
       (codes "\r\u{1b}[J\u{1b}[m> \u{1b}[m\u{1b}[m\u{1b}[m\r\u{1b}[J\u{1b}[m> \u{1b}[mls -l" ++
       codes "\u{1b}[m\u{1b}[m\r\u{1b}[J\u{1b}[m> \u{1b}[mgit commit -m one\u{1b}[m\u{1b}[m" ++
@@ -1334,7 +1337,7 @@ row_170 = record (row 170 settings_94 (codes "\u{1b}kkk?git\u{1b}nN\r") (codes "
 
 -- abc Esc / git Esc n u Enter = git␠commit␠-m␠one | shows {} a b c ␛[1D ''abc}␛[1D 'g'git␠commit␠-m␠one}␛[17D 'gi'git␠commit␠-m␠one}␛[17D 'git'git␠commit␠-m␠one}␛[17D {git␠commit␠-m␠one}␛[17D {git␠status}␛[10D {git␠commit␠-m␠one} ␍␊ {} ␍␊
 abbrev pub row_171 : Row
-row_171 = record (row 171 settings_94 (codes "abc\u{1b}/git\u{1b}nu\r")
+row_171 = record (row 171 settings_164 (codes "abc\u{1b}/git\u{1b}nu\r")
     (codes "git commit -m one\n")) {
       shows = Some
           (codes "\r\u{1b}[J\u{1b}[m> \u{1b}[m\u{1b}[m\u{1b}[mabc\u{1b}[1D\r\u{1b}[J\u{1b}[m(rev" ++
@@ -1350,11 +1353,11 @@ row_171 = record (row 171 settings_94 (codes "abc\u{1b}/git\u{1b}nu\r")
 
 -- abc Esc / git Esc n u u Enter = abc
 abbrev pub row_172 : Row
-row_172 = row 172 settings_94 (codes "abc\u{1b}/git\u{1b}nuu\r") (codes "abc\n")
+row_172 = row 172 settings_164 (codes "abc\u{1b}/git\u{1b}nuu\r") (codes "abc\n")
 
 -- Esc / git Esc n C-P Enter = ls␠-l | shows {} ''} 'g'git␠commit␠-m␠one}␛[17D 'gi'git␠commit␠-m␠one}␛[17D 'git'git␠commit␠-m␠one}␛[17D {git␠commit␠-m␠one}␛[17D {git␠status}␛[10D {ls␠-l} ␍␊ {} ␍␊
 abbrev pub row_173 : Row
-row_173 = record (row 173 settings_94 (codes "\u{1b}/git\u{1b}n\u{10}\r") (codes "ls -l\n")) {
+row_173 = record (row 173 settings_164 (codes "\u{1b}/git\u{1b}n\u{10}\r") (codes "ls -l\n")) {
   shows = Some
       (codes "\r\u{1b}[J\u{1b}[m> \u{1b}[m\u{1b}[m\u{1b}[m\r\u{1b}[J\u{1b}[m(reverse-i-searc" ++
       codes "h)`': \u{1b}[m\u{1b}[m\u{1b}[m\r\u{1b}[J\u{1b}[m(reverse-i-search)`g': \u{1b}[" ++
@@ -1369,15 +1372,15 @@ row_173 = record (row 173 settings_94 (codes "\u{1b}/git\u{1b}n\u{10}\r") (codes
 
 -- Esc / git Esc n i x Enter = xgit␠status
 abbrev pub row_174 : Row
-row_174 = row 174 settings_94 (codes "\u{1b}/git\u{1b}nix\r") (codes "xgit status\n")
+row_174 = row 174 settings_164 (codes "\u{1b}/git\u{1b}nix\r") (codes "xgit status\n")
 
 -- Esc / git Esc 3 n Enter = git␠status
 abbrev pub row_175 : Row
-row_175 = row 175 settings_94 (codes "\u{1b}/git\u{1b}3n\r") (codes "git status\n")
+row_175 = row 175 settings_164 (codes "\u{1b}/git\u{1b}3n\r") (codes "git status\n")
 
 -- Esc / git C-G Esc n Enter = git␠status | shows {} ''} 'g'git␠commit␠-m␠one}␛[17D 'gi'git␠commit␠-m␠one}␛[17D 'git'git␠commit␠-m␠one}␛[17D {} {git␠status}␛[10D ␛[10C␍␊ {} ␍␊
 abbrev pub row_176 : Row
-row_176 = record (row 176 settings_94 (codes "\u{1b}/git\u{7}\u{1b}n\r") (codes "git status\n")) {
+row_176 = record (row 176 settings_164 (codes "\u{1b}/git\u{7}\u{1b}n\r") (codes "git status\n")) {
   shows = Some
       (codes "\r\u{1b}[J\u{1b}[m> \u{1b}[m\u{1b}[m\u{1b}[m\r\u{1b}[J\u{1b}[m(reverse-i-searc" ++
       codes "h)`': \u{1b}[m\u{1b}[m\u{1b}[m\r\u{1b}[J\u{1b}[m(reverse-i-search)`g': \u{1b}[" ++
@@ -1391,7 +1394,7 @@ row_176 = record (row 176 settings_94 (codes "\u{1b}/git\u{7}\u{1b}n\r") (codes 
 
 -- Esc / g Backspace Esc n Enter = "" | shows {} ''} 'g'git␠commit␠-m␠one}␛[17D ''} {} ␇ ␍␊ {} ␍␊
 abbrev pub row_177 : Row
-row_177 = record (row 177 settings_94 (codes "\u{1b}/g\u{7f}\u{1b}n\r") (codes "\n")) {
+row_177 = record (row 177 settings_164 (codes "\u{1b}/g\u{7f}\u{1b}n\r") (codes "\n")) {
   shows = Some
       (codes "\r\u{1b}[J\u{1b}[m> \u{1b}[m\u{1b}[m\u{1b}[m\r\u{1b}[J\u{1b}[m(reverse-i-searc" ++
       codes "h)`': \u{1b}[m\u{1b}[m\u{1b}[m\r\u{1b}[J\u{1b}[m(reverse-i-search)`g': \u{1b}[" ++
@@ -1402,7 +1405,7 @@ row_177 = record (row 177 settings_94 (codes "\u{1b}/g\u{7f}\u{1b}n\r") (codes "
 
 -- Esc / zz Esc n Enter = "" | shows {} ''} !'z'} !'zz'} {} ␇ ␍␊ {} ␍␊
 abbrev pub row_178 : Row
-row_178 = record (row 178 settings_94 (codes "\u{1b}/zz\u{1b}n\r") (codes "\n")) {
+row_178 = record (row 178 settings_164 (codes "\u{1b}/zz\u{1b}n\r") (codes "\n")) {
   shows = Some
       (codes "\r\u{1b}[J\u{1b}[m> \u{1b}[m\u{1b}[m\u{1b}[m\r\u{1b}[J\u{1b}[m(reverse-i-searc" ++
       codes "h)`': \u{1b}[m\u{1b}[m\u{1b}[m\r\u{1b}[J\u{1b}[m(failed reverse-i-search)`z': " ++
@@ -1413,7 +1416,7 @@ row_178 = record (row 178 settings_94 (codes "\u{1b}/zz\u{1b}n\r") (codes "\n"))
 
 -- Esc n N Enter = "" | shows {} ␇ ␇ ␍␊ {} ␍␊
 abbrev pub row_179 : Row
-row_179 = record (row 179 settings_94 (codes "\u{1b}nN\r") (codes "\n")) {
+row_179 = record (row 179 settings_164 (codes "\u{1b}nN\r") (codes "\n")) {
   shows = Some
       (codes "\r\u{1b}[J\u{1b}[m> \u{1b}[m\u{1b}[m\u{1b}[m\u{7}\u{7}\r\n\r\u{1b}[J\u{1b}[m> " ++
       codes "\u{1b}[m\u{1b}[m\u{1b}[m\r\n");
@@ -1421,7 +1424,7 @@ row_179 = record (row 179 settings_94 (codes "\u{1b}nN\r") (codes "\n")) {
 
 -- a n N Enter = anN | shows {} a n N ␍␊ {} ␍␊
 abbrev pub row_180 : Row
-row_180 = record (row 180 settings_94 (codes "anN\r") (codes "anN\n")) {
+row_180 = record (row 180 settings_164 (codes "anN\r") (codes "anN\n")) {
   shows = Some
       (codes "\r\u{1b}[J\u{1b}[m> \u{1b}[m\u{1b}[m\u{1b}[manN\r\n\r\u{1b}[J\u{1b}[m> \u{1b}[" ++
       codes "m\u{1b}[m\u{1b}[m\r\n");
@@ -1468,9 +1471,16 @@ row_189 = record (row 189 settings_189 (codes "a\u{1b}nN\r") (codes "a\n")) {
       codes "\u{1b}[m> \u{1b}[m\u{1b}[m\u{1b}[m\r\n");
 }
 
+-- modal loaded:#V2␊git␠status␊make␠test␊git␠commit␠-m␠one␊ls␠-l␊
+abbrev pub settings_193 : Settings
+settings_193 = record plain {
+  config = modal plain.config;
+  loaded = codes "#V2\ngit status\nmake test\ngit commit -m one\nls -l\n";
+}
+
 -- ma C-R Up Enter = make␠test | shows {} m a ''ma} {ma} {make␠test}␛[7D ␛[7C␍␊ {} ␍␊
 abbrev pub row_193 : Row
-row_193 = record (row 193 settings_7 (codes "ma\u{12}\u{1b}[A\r") (codes "make test\n")) {
+row_193 = record (row 193 settings_193 (codes "ma\u{12}\u{1b}[A\r") (codes "make test\n")) {
   shows = Some
       (codes "\r\u{1b}[J\u{1b}[m> \u{1b}[m\u{1b}[m\u{1b}[mma\r\u{1b}[J\u{1b}[m(reverse-i-sea" ++
       codes "rch)`': \u{1b}[mma\u{1b}[m\u{1b}[m\r\u{1b}[J\u{1b}[m> \u{1b}[mma\u{1b}[m\u{1b}" ++

@@ -8,11 +8,11 @@ use Rattle.line_config.specs.declared.errors.ReadlineError.TheVariants.{Eof}
 use Rattle.line_help.specs.History.{Filed}
 use Rattle.line_help.specs.HistoryText.{text_to_save}
 use Rattle.line_record.specs.Ring.{new_ring}
-use Rattle.line_screen.specs.Calls.{Screen}
+use Rattle.line_screen.specs.ScreenCalls.{Screen}
 use Rattle.keyline.specs.Endings.{ending_of, ending_text}
 use Rattle.keyline.specs.Events.{Course, bytes_drawn, lines_kept, lines_written, session}
-use Rattle.keyline.specs.Plays.{loaded_from}
-use Rattle.keyline.specs.Sessions.{Given, SessionState, each, given_of, screen_by, state_over, lines_text, remembered}
+use Rattle.keyline.specs.SessionRuns.{history_loaded_from}
+use Rattle.keyline.specs.Sessions.{Given, SessionState, each, given_of, screen_by, state_over, lines_text, history_with_if}
 use Rattle.worked_rows.specs.Settings.{Settings}
 
 -- A row is known by the number of its line in the table. `lines` are the bytes of the accepted
@@ -48,7 +48,7 @@ given_in row = let s = row.settings in
     given_of s.config s.custom s.prompt (screen_in row) s.helping
 
 abbrev pub history_in : Row → Filed
-history_in row = loaded_from row.settings.config (fresh_feed row.settings.loaded End)
+history_in row = history_loaded_from row.settings.config (fresh_feed row.settings.loaded End)
 
 abbrev pub start_in : Row → SessionState
 start_in row = let s = row.settings in
@@ -62,7 +62,7 @@ abbrev pub lines_in : Course ReadlineError → List ℕ
 lines_in course = lines_text (flat_map lines_written course.events)
 
 abbrev pub saved_in : Row → Course ReadlineError → List ℕ
-saved_in row course = text_to_save (remembered row.settings.config.auto_add_history
+saved_in row course = text_to_save (history_with_if row.settings.config.auto_add_history
     (flat_map lines_kept course.events) (history_in row))
 
 abbrev pub display_in : Course ReadlineError → List ℕ

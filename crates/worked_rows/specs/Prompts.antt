@@ -1,7 +1,7 @@
--- Rows of the program with `--prompt`, by hand. tests/arguments.py plays the same.
+-- Rows of the program with `--prompt`, by hand. tests/program/arguments.py plays the same.
 use Rattle.std.specs.Prelude.{ℕ, Bool, true, false, List, [], ◌∷◌, ◌++◌, None, Some, codes, encode_utf8_all}
 use Rattle.line_config.specs.declared.settings.EditMode.TheVariants.{Emacs}
-use Rattle.keyline.specs.Program.{uncoloured}
+use Rattle.keyline.specs.Program.{config_without_colours}
 use Rattle.worked_rows.specs.Playing.{Row, row}
 use Rattle.worked_rows.specs.Settings.{Settings, by_options}
 
@@ -47,7 +47,7 @@ row_5 = shows (prompted true (codes "\u{1b}[34ma\nb\u{1b}[m> ")) 5
 -- NO_COLOR
 abbrev pub row_6 : Row
 row_6 = let settings : Settings = prompted true green in
-    shows (record settings { config = uncoloured settings.config }) 6 (codes "> ")
+    shows (record settings { config = config_without_colours settings.config }) 6 (codes "> ")
 
 -- the default profile
 abbrev pub row_7 : Row

@@ -1,8 +1,8 @@
--- The rows of refusals.txt; tests/worked_rows.py writes them.
+-- The rows of refusals.txt; tests/definition/worked_rows.py writes them.
 use Rattle.line_keys.specs.Keys.{ctrl, key_with}
 use Rattle.line_keys.specs.declared.command.Cmd.TheVariants.{YankPop}
 use Rattle.line_keys.specs.declared.events.Event.TheVariants.{KeySeq}
-use Rattle.line_keys.specs.declared.key.KeyCode.TheVariants.{Char, Esc}
+use Rattle.line_keys.specs.declared.key.KeyCode.TheVariants.{Char}
 use Rattle.std.specs.Prelude.{List, [], ◌∷◌, None, Some, true, false, codes}
 use Rattle.worked_rows.specs.Playing.{Row, row}
 use Rattle.worked_rows.specs.Settings.{Settings, adding, aide, bound, command, limited, listed, modal, plain, tabs, vi}

@@ -1,4 +1,4 @@
--- The rows of rows.txt; tests/worked_rows.py writes them.
+-- The rows of rows.txt; tests/definition/worked_rows.py writes them.
 use Rattle.line_buffer.specs.declared.types.Movement.TheVariants.{WholeLine}
 use Rattle.line_config.specs.declared.errors.ReadlineError.TheVariants.{Interrupted, NotUtf8, PasteOutOfPlace}
 use Rattle.line_keys.specs.Keys.{ctrl, key_with, none}

@@ -9,21 +9,21 @@ use Rattle.line_config.specs.declared.device.Last.TheVariants.{End}
 use Rattle.line_config.specs.declared.settings.CompletionType.TheVariants.{List as AsList}
 use Rattle.line_config.specs.declared.settings.EditMode.{EditMode}
 use Rattle.line_config.specs.declared.settings.EditMode.TheVariants.{Vi}
-use Rattle.line_editor.specs.Running.{Helping, helping_by}
+use Rattle.line_editor.specs.LineRun.{Helping, helper_from_hooks}
 use Rattle.line_help.specs.Completion.{nothing_offered, whole_word_reply}
 use Rattle.line_help.specs.Hints.{hint_of_history}
 use Rattle.line_help.specs.HistoryText.{entries_of, text_rows}
 use Rattle.line_help.specs.Paints.{standard_marks}
 use Rattle.line_help.specs.Validation.{bracket_reply}
-use Rattle.line_help.specs.declared.style.Span.{Span}
-use Rattle.line_help.specs.declared.validate.ValidationResult.TheVariants.{Valid}
-use Rattle.line_keys.specs.Answers.{Custom, custom_of}
+use Rattle.line_help.specs.declared.helpers.style.Span.{Span}
+use Rattle.line_help.specs.declared.helpers.validate.ValidationResult.TheVariants.{Valid}
+use Rattle.line_keys.specs.CustomBindings.{Custom, custom_of}
 use Rattle.line_keys.specs.Commands.{holds_text}
 use Rattle.line_keys.specs.Handling.{Meaning}
 use Rattle.line_keys.specs.Replies.{gives, gives_at_once}
 use Rattle.line_keys.specs.declared.command.Cmd.{Cmd}
 use Rattle.line_keys.specs.declared.events.Event.{Event}
-use Rattle.keyline.specs.Program.{EditHelper, edit_helping, nothing_bound, profile_of, standard_config, styled}
+use Rattle.keyline.specs.Program.{EditHelper, edit_helping, nothing_bound, profile_of, standard_config, prompt_with_spans}
 use Rattle.worked_rows.specs.Splitting.{prompt_spans, prompt_text}
 
 -- `loaded` is the text of the history, and `last` what the source of keys does after its bytes
@@ -64,7 +64,7 @@ program_helper colours spans brackets words = if brackets || is_some words || co
     then Some (record {
       completer = words;
       hinter = tt;
-      highlighter = styled spans;
+      highlighter = prompt_with_spans spans;
       validator = if brackets then Some (record {}) else None;
     })
     else None
@@ -99,6 +99,10 @@ colours config = record config { draw_colours = true }
 abbrev pub tabs : Config → Config
 tabs config = record config { draw_tabs = true }
 
+-- with changes shown in their row
+abbrev pub partial : Config → Config
+partial config = record config { partial_redraw = true }
+
 abbrev pub stopping : ℕ → Config → Config
 stopping apart config = record config { tab_stop = apart }
 
@@ -122,7 +126,7 @@ counting mode config = record config { grapheme_cluster_mode = mode }
 -- lines whose brackets are balanced, and the standard styles
 abbrev pub aide_ending : List ℕ → Bool → Option (List (List ℕ)) → Helping
 aide_ending end brackets words =
-    helping_by {H = ⊤} (λ h line pos entries place. hint_of_history line pos entries place)
+    helper_from_hooks {H = ⊤} (λ h line pos entries place. hint_of_history line pos entries place)
     (λ h text. if brackets then bracket_reply text else gives_at_once (Valid None))
     (λ h line pos entries place. option_map_or
     (λ ws. whole_word_reply (record { words = ws; end = end }) (take pos line)) words

@@ -3,13 +3,13 @@ use Rattle.std.specs.Prelude.{⊤, ℕ, ◌+◌, ◌==◌, ◌&&◌, Bool, true,
 use Rattle.std.specs.List.{filter}
 use Rattle.line_buffer.specs.declared.layout.Position.{Position}
 use Rattle.line_editor.specs.Redraws.{Redraw}
-use Rattle.line_editor.specs.Calls.{Marks}
+use Rattle.line_editor.specs.RenderCalls.{Marks}
 use Rattle.line_editor.specs.Sights.{Sight, sight_with}
 use Rattle.line_screen.specs.Chain.{above, cells_of, cursor_of, down, down_placed, from_top}
 use Rattle.line_screen.specs.Display.{Display, Placed, meaning}
 use Rattle.line_screen.specs.Laws.{widths}
-use Rattle.keyline.specs.Events.{Event, Begins, Breaks, Draws, Rests}
-use Rattle.keyline.specs.Shows.{EachShown, Face, below, blank, broken, drawn_on, picture}
+use Rattle.keyline.specs.Events.{SessionEvent, Begins, Breaks, Draws, Rests}
+use Rattle.keyline.specs.Shows.{EachShown, Face, below, blank, face_on_new_row, face_with_drawing, picture}
 use Rattle.worked_rows.specs.Playing.{Row, course_of, screen_in}
 
 abbrev pub same_position : Position → Position → Bool
@@ -65,18 +65,18 @@ all_rest (f ∷ fs) marks given prompt text place =
 abbrev pub all_drawn : Option Marks → Redraw → List (List ℕ) → List Face → List Face
 all_drawn marks redraw sent [] = []
 all_drawn marks redraw sent (f ∷ fs) =
-    drawn_on f marks redraw sent ∷ all_drawn marks redraw sent fs
+    face_with_drawing f marks redraw sent ∷ all_drawn marks redraw sent fs
 
 abbrev pub all_broken : List Face → List Face
 all_broken [] = []
-all_broken (f ∷ fs) = broken f ∷ all_broken fs
+all_broken (f ∷ fs) = face_on_new_row f ∷ all_broken fs
 
 abbrev pub all_rested : List Face → List Face
 all_rested [] = []
 all_rested (f ∷ fs) = rested f (meaning_of f) ∷ all_rested fs
 
 -- `EachShown` of each of these, event for event
-abbrev pub each_shown : List Face → List Event → Bool
+abbrev pub each_shown : List Face → List SessionEvent → Bool
 each_shown fs [] = true
 each_shown fs (Begins s ∷ later) = each_shown (blank s ∷ fs) later
 each_shown fs (Draws marks redraw sent ∷ later) =
@@ -89,11 +89,11 @@ each_shown fs (Breaks ∷ later) =
 each_shown fs (event ∷ later) = each_shown fs later
 
 -- and of a session, which begins with its first line
-abbrev pub session_shown : List Event → Bool
+abbrev pub session_shown : List SessionEvent → Bool
 session_shown (Begins s ∷ later) = each_shown (blank s ∷ []) later
 session_shown events = false
 
-abbrev pub EachFaceShown : List Face → List Event → Type 0
+abbrev pub EachFaceShown : List Face → List SessionEvent → Type 0
 EachFaceShown [] events = ⊤
 EachFaceShown (f ∷ fs) events = EachShown f events × EachFaceShown fs events
 

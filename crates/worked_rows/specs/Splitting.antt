@@ -2,8 +2,8 @@
 use Rattle.std.specs.Prelude.{ℕ, suc, ◌==◌, ◌&&◌, Bool, true, false, if◌then◌else◌, List, [], ◌∷◌}
 use Rattle.line_help.specs.Paints.{plain}
 use Rattle.line_help.specs.SplitStyles.{pieces_after, same_colour, styles_of, text_of}
-use Rattle.line_help.specs.declared.style.Span.{Span}
-use Rattle.line_help.specs.declared.style.Style.{Style}
+use Rattle.line_help.specs.declared.helpers.style.Span.{Span}
+use Rattle.line_help.specs.declared.helpers.style.Style.{Style}
 
 abbrev pub same_flag : Bool → Bool → Bool
 same_flag true b = b

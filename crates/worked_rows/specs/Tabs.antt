@@ -1,6 +1,5 @@
--- The rows of tabs.txt; tests/worked_rows.py writes them.
+-- The rows of tabs.txt; tests/definition/worked_rows.py writes them.
 use Rattle.line_buffer.specs.declared.layout.GraphemeClusterMode.TheVariants.{NoZwj, WcWidth}
-use Rattle.line_keys.specs.declared.key.KeyCode.TheVariants.{Esc}
 use Rattle.std.specs.Prelude.{List, [], ◌∷◌, ◌++◌, None, Some, true, codes, encode_utf8_all, replicate}
 use Rattle.worked_rows.specs.Playing.{Row, row}
 use Rattle.worked_rows.specs.Settings.{Settings, adding, aide, colours, counting, modal, plain, stopping, tabs, vi}

@@ -1,10 +1,10 @@
--- The rows of worked.txt; tests/worked_rows.py writes them.
+-- The rows of worked.txt; tests/definition/worked_rows.py writes them.
 use Rattle.line_buffer.specs.declared.layout.GraphemeClusterMode.TheVariants.{NoZwj}
 use Rattle.line_config.specs.declared.errors.ReadlineError.TheVariants.{Handler}
 use Rattle.line_keys.specs.Keys.{ctrl, key_with}
 use Rattle.line_keys.specs.declared.command.Cmd.TheVariants.{AcceptLine, HistorySearchBackward, SelfInsert}
 use Rattle.line_keys.specs.declared.events.Event.TheVariants.{KeySeq}
-use Rattle.line_keys.specs.declared.key.KeyCode.TheVariants.{Char, Esc}
+use Rattle.line_keys.specs.declared.key.KeyCode.TheVariants.{Char}
 use Rattle.stand_ins.specs.Handlers.{hint_or_kill, one_way}
 use Rattle.stand_ins.specs.declared.handlers.OneWay.TheVariants.{Count, Fails, Nothing}
 use Rattle.std.specs.Prelude.{List, [], ◌∷◌, ◌++◌, None, Some, true, false, codes, encode_utf8_all}

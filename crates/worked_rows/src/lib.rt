@@ -1,9 +1,9 @@
-//! Worked sessions as theorems: the rows of `crates/sessions_program/data`, which `sessions_program`
-//! and the program play, are what the definition of a session gives; and worked calls on lines, kill
-//! rings and undo records.
+//! Worked sessions as theorems: the rows of `crates/sessions_program/data`, which
+//! `sessions_program` and the program play, are what the definition of a session gives; and worked
+//! calls on lines, kill rings and undo records.
 //!
 //! The kernel computes each of them from the definitions, with no code in between. The records of
-//! the rows are written by `tests/worked_rows.py`, which also tells which row is wrong.
+//! the rows are written by `tests/definition/worked_rows.py`, which also tells which row is wrong.
 #![tactic(auto)]
 
 ghost use Rattle.std.specs.Prelude.{◌≡◌, []};
@@ -18,6 +18,7 @@ ghost use Rattle.worked_rows.specs.Prompts.{prompts_rows};
 ghost use Rattle.worked_rows.specs.Refusals.{refusals_rows};
 ghost use Rattle.worked_rows.specs.Rows.{rows_rows};
 ghost use Rattle.worked_rows.specs.Showing.{AllShown, short};
+ghost use Rattle.worked_rows.specs.Partial.{partial_rows};
 ghost use Rattle.worked_rows.specs.Tabs.{tabs_rows};
 ghost use Rattle.worked_rows.specs.Vi.{vi_rows};
 ghost use Rattle.worked_rows.specs.Worked.{worked_rows};
@@ -43,8 +44,8 @@ pub fn rows()
     ensures shown { AllShown (short rows_rows) }
 {}
 
-/// The definition gives each row of `refusals.txt`: its lines, its ending, the history's text and the
-/// display bytes. At each moment the bytes so far show prompt and line.
+/// The definition gives each row of `refusals.txt`: its lines, its ending, the history's text and
+/// the display bytes. At each moment the bytes so far show prompt and line.
 pub fn refusals()
     ensures given { differing refusals_rows ≡ [] }
     ensures shown { AllShown (short refusals_rows) }
@@ -98,6 +99,13 @@ pub fn prompts()
 pub fn tabs()
     ensures given { differing tabs_rows ≡ [] }
     ensures shown { AllShown (short tabs_rows) }
+{}
+
+/// The definition gives each row of `partial.txt`: its lines, its ending, the history's text and
+/// the display bytes. At each moment the bytes so far show prompt and line.
+pub fn partial()
+    ensures given { differing partial_rows ≡ [] }
+    ensures shown { AllShown (short partial_rows) }
 {}
 
 /// Where motions go from a place in a line.

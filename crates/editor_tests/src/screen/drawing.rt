@@ -1,12 +1,13 @@
 //! Drawings as they are written to a sink, byte by byte.
 
-use crate::screen::sinks::{FailsAfter, Gathers};
+use crate::screen::sinks::Gathers;
 use line_buffer::{GraphemeClusterMode, Layout, LineBuffer, Position};
 use line_config::{BellStyle, ReadlineError, Sink, VecSink};
 use line_editor::Renderer;
 use line_screen::{ScreenRenderer, laws};
 use stand_ins::lines::line_of;
 use stand_ins::rows::{Player, raised, rows_hold, same};
+use stand_ins::sinks::FailingSink;
 use stand_ins::tables::{meant, pictured_bytes, word_and_rest};
 use std::alloc::{AllocError, Global};
 use std::test::Fail;
@@ -239,6 +240,8 @@ const CALLS: &str = "
     audible write c     = c
     audible clear_to_eol = ␛[K
     audible move_and_clear_to_eol = ␛[2A␛[10D␛[K
+    audible insert_char = ␛[@c
+    audible move_and_delete_chars = ␛[2A␛[10D␛[3P
     audible clear_screen = ␛[H␛[J
     audible leftmost    = nothing
     audible begin       = nothing
@@ -276,6 +279,8 @@ fn call_made<Out: Renderer>(
         "beep" => screen.beep(),
         "clear_to_eol" => screen.clear_to_eol(),
         "move_and_clear_to_eol" => screen.move_and_clear_to_eol(HERE, THERE),
+        "insert_char" => screen.insert_char('c'),
+        "move_and_delete_chars" => screen.move_and_delete_chars(HERE, THERE, 3),
         "clear_screen" => screen.clear_screen(),
         "clear_rows" => screen.clear_rows(&layout),
         "leftmost" => screen.move_cursor_at_leftmost(),
@@ -320,7 +325,7 @@ fn keeps_its_size(screen: &mut ScreenRenderer<VecSink>) -> bool {
 }
 
 // Whether a failed call, and the calls after it, return the error.
-fn refused(screen: &mut ScreenRenderer<FailsAfter>, line: &LineBuffer) -> bool {
+fn refused(screen: &mut ScreenRenderer<FailingSink>, line: &LineBuffer) -> bool {
     let shown = Shown {
         prompt: "> ",
         line,
@@ -333,11 +338,11 @@ fn refused(screen: &mut ScreenRenderer<FailsAfter>, line: &LineBuffer) -> bool {
         && screen.clear_screen() == refusal
 }
 
-// Whether every call fails after so many writes.
+// Whether every call fails after so many writes, of a drawing that makes more.
 fn refusals_told(alloc: Global, writes: &str) -> Result<String, ReadlineError> {
     let line = line_of(alloc, "|e\\u{301}\\u{6F22}ab")?;
-    let writes = writes.parse().unwrap_or(u32::MAX);
-    let mut screen = screen(FailsAfter::new(writes), 4, BellStyle::Audible);
+    let writes = writes.parse().unwrap_or(usize::MAX);
+    let mut screen = screen(FailingSink::failing_at(writes), 4, BellStyle::Audible);
     let told = if refused(&mut screen, &line) {
         "refused"
     } else {
@@ -379,6 +384,8 @@ const PASSED_ON: &str = "
     clear_rows          = written
     clear_to_eol        = written
     move_and_clear_to_eol = written
+    insert_char         = written
+    move_and_delete_chars = written
     stay                = nothing
 ";
 

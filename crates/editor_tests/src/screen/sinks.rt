@@ -1,55 +1,8 @@
-//! Sinks that fail, and sinks that know what they have buffered.
+//! A sink that knows what it has buffered.
 
 ghost use Rattle.std.specs.Prelude.{[], false, if◌then◌else◌};
 
 use line_config::{DeviceFailed, Log, Sink};
-
-/// A sink that fails for good after so many writes.
-#[derive(Drop)]
-pub(crate) struct FailsAfter {
-    writes: u32,
-    taken: Log,
-    failed: bool,
-}
-
-impl FailsAfter {
-    pub(crate) fn new(writes: u32) -> Self {
-        FailsAfter {
-            writes,
-            taken: Log::new(),
-            failed: false,
-        }
-    }
-}
-
-impl Sink for FailsAfter {
-    ghost held = { λ s. s.taken.bytes };
-
-    ghost waits = { λ _. [] };
-
-    ghost has_failed = { λ s. s.failed };
-
-    fn write(&mut self, bytes: &[u8]) -> Result<(), DeviceFailed> {
-        if self.failed || self.writes == 0 {
-            self.failed = true;
-            return Err(DeviceFailed);
-        }
-        self.writes -= 1;
-        self.taken.note(&Ok(bytes.len()), bytes);
-        Ok(())
-    }
-
-    fn flush(&mut self) -> Result<(), DeviceFailed> {
-        if self.failed {
-            return Err(DeviceFailed);
-        }
-        Ok(())
-    }
-
-    fn failed(&self) -> bool {
-        self.failed
-    }
-}
 
 /// A sink that knows whether it has something buffered.
 #[derive(Drop)]

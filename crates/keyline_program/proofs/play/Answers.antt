@@ -16,7 +16,7 @@ of_keys (Err e) P keys invoked config is h = tt
 pub returns-clause-plays : goal.returns-clause-plays
 returns-clause-plays g c =
     let invoked = invoked_config c.args.invocation.now in
-    of_keys c.play_with.result _ c.reader.result invoked c.by_environment.result
+    of_keys c.play_with.result _ c.stdin.result invoked c.by_environment.result
     (subst (λ (x : Config). IsByEnvironment x c.by_environment.result) c.invoked_config.ensures c.by_environment.ensures) c.play_with.ensures.plays
 
 pub returns-clause-refused : goal.returns-clause-refused

@@ -3,7 +3,7 @@
 ghost use Rattle.std.specs.Prelude.{◌≡◌, ◌≤◌, ◌-◌, IfSome, string_bytes};
 ghost use Rattle.line_config.specs.Refusals.{OrMemory};
 ghost use Rattle.line_config.specs.declared.settings.EditMode.TheVariants.{Emacs, Vi};
-ghost use Rattle.line_keys.specs.Counts.{and_digit, begun_by, counted_on, digit_of};
+ghost use Rattle.line_keys.specs.Counts.{and_digit, count_from_key, count_with_key, digit_of};
 ghost use Rattle.line_keys.specs.Counts.{how_often, is_plus, prompt_for};
 
 use crate::flags::Modifiers;
@@ -16,6 +16,26 @@ use line_buffer::RepeatCount;
 use line_config::{EditMode, ReadlineError};
 use std::alloc::Global;
 
+/// How often a command is repeated, and whether the typed count isn't negative.
+#[derive(Clone, Copy)]
+pub(crate) struct SignedCount {
+    pub(crate) n: RepeatCount,
+    pub(crate) positive: bool,
+}
+
+impl SignedCount {
+    /// The count that was typed, if one was.
+    pub(crate) fn new(typed: Option<i16>) -> Self
+        ensures n { result.n ≡ how_often typed }
+        ensures positive { result.positive ≡ is_plus typed }
+    {
+        SignedCount {
+            n: times(typed),
+            positive: is_positive(typed),
+        }
+    }
+}
+
 /// How often a command is repeated.
 pub(crate) fn times(count: Option<i16>) -> RepeatCount
     ensures { result ≡ how_often count }
@@ -27,7 +47,7 @@ pub(crate) fn times(count: Option<i16>) -> RepeatCount
 }
 
 /// Whether a count isn't negative.
-pub(crate) fn is_positive(count: Option<i16>) -> bool
+fn is_positive(count: Option<i16>) -> bool
     ensures { result ≡ is_plus count }
 {
     match count {
@@ -36,8 +56,8 @@ pub(crate) fn is_positive(count: Option<i16>) -> bool
     }
 }
 
-// The count with one more digit. After a minus alone, which stands for -1, the digit replaces the
-// 1.
+/// The count with one more digit. After a minus alone, which stands for -1, the digit replaces the
+/// 1.
 fn with_digit(count: i16, digit: RepeatCount) -> i16
     requires { digit ≤ 9 }
     ensures { result ≡ and_digit count digit }
@@ -58,7 +78,7 @@ fn prompt(alloc: Global, count: i16) -> Result<String, ReadlineError>
     Ok(format!(in alloc; "(arg: {count}) ")?)
 }
 
-// The digit of a character.
+/// The digit of a character.
 fn digit(c: char) -> RepeatCount
     requires low { 48 ≤ c }
     requires high { c ≤ 57 }
@@ -68,9 +88,9 @@ fn digit(c: char) -> RepeatCount
     c as RepeatCount - 48
 }
 
-// The count that a key starts in Emacs mode: Alt with a digit or with a minus.
+/// The count that a key starts in Emacs mode: Alt with a digit or with a minus.
 fn emacs_begun_by(key: KeyEvent) -> Option<i16>
-    ensures { result ≡ begun_by Emacs key }
+    ensures { result ≡ count_from_key Emacs key }
 {
     match key {
         KeyEvent(KeyCode::Char('-'), Modifiers::ALT) => Some(-1),
@@ -79,9 +99,9 @@ fn emacs_begun_by(key: KeyEvent) -> Option<i16>
     }
 }
 
-// The count that a key starts in Vi's command mode: a digit other than 0.
+/// The count that a key starts in Vi's command mode: a digit other than 0.
 fn vi_begun_by(key: KeyEvent) -> Option<i16>
-    ensures { result ≡ begun_by Vi key }
+    ensures { result ≡ count_from_key Vi key }
 {
     match digit_of(key) {
         None | Some(0) => None,
@@ -89,9 +109,9 @@ fn vi_begun_by(key: KeyEvent) -> Option<i16>
     }
 }
 
-// The count that a key starts.
+/// The count that a key starts.
 fn begun_by(mode: EditMode, key: KeyEvent) -> Option<i16>
-    ensures { result ≡ begun_by mode key }
+    ensures { result ≡ count_from_key mode key }
 {
     match mode {
         EditMode::Emacs => emacs_begun_by(key),
@@ -99,9 +119,9 @@ fn begun_by(mode: EditMode, key: KeyEvent) -> Option<i16>
     }
 }
 
-// The count with one more key in Emacs mode, if the key is a digit, or a minus, which is ignored.
+/// The count with one more key in Emacs mode, if the key is a digit, or a minus, which is ignored.
 fn emacs_counted_on(count: i16, key: KeyEvent) -> Option<i16>
-    ensures { result ≡ counted_on Emacs count key }
+    ensures { result ≡ count_with_key Emacs count key }
 {
     match key {
         KeyEvent(KeyCode::Char('-'), Modifiers::NONE | Modifiers::ALT) => Some(count),
@@ -112,7 +132,7 @@ fn emacs_counted_on(count: i16, key: KeyEvent) -> Option<i16>
     }
 }
 
-// The digit of a key without modifiers.
+/// The digit of a key without modifiers.
 fn digit_of(key: KeyEvent) -> Option<RepeatCount>
     ensures value { result ≡ digit_of key }
     ensures small { IfSome result (λ d. d ≤ 9) }
@@ -123,9 +143,9 @@ fn digit_of(key: KeyEvent) -> Option<RepeatCount>
     }
 }
 
-// The count with one more key in Vi mode, if the key is a digit.
+/// The count with one more key in Vi mode, if the key is a digit.
 fn vi_counted_on(count: i16, key: KeyEvent) -> Option<i16>
-    ensures { result ≡ counted_on Vi count key }
+    ensures { result ≡ count_with_key Vi count key }
 {
     match digit_of(key) {
         Some(digit) => Some(with_digit(count, digit)),
@@ -133,9 +153,9 @@ fn vi_counted_on(count: i16, key: KeyEvent) -> Option<i16>
     }
 }
 
-// The count with one more key.
+/// The count with one more key.
 fn counted_on(mode: EditMode, count: i16, key: KeyEvent) -> Option<i16>
-    ensures { result ≡ counted_on mode count key }
+    ensures { result ≡ count_with_key mode count key }
 {
     match mode {
         EditMode::Emacs => emacs_counted_on(count, key),
@@ -144,14 +164,12 @@ fn counted_on(mode: EditMode, count: i16, key: KeyEvent) -> Option<i16>
 }
 
 impl<D: Decides> InputState<'_, D> {
-    ghost use Rattle.line_keys.specs.InputStates.{input_of, custom_in};
-    ghost use Rattle.line_keys.specs.Counts.{counted_key, counting, counted_on};
-    ghost use Rattle.line_keys.specs.Follows.{Follows};
+    ghost use Rattle.line_keys.specs.InputStates.{FollowsOn};
+    ghost use Rattle.line_keys.specs.Counts.{count_and_key, rest_of_count, count_with_key};
     ghost use Rattle.line_keys.specs.Modes.{is_emacs};
-    ghost use Rattle.line_keys.specs.Requests.{Asks, IsKey};
+    ghost use Rattle.line_keys.specs.Requests.{AsksInOrder, IsKey};
 
     /// The key; if it starts a count, the count and the key after it.
-    #[tactic(auto, using(crate::proofs::Steps::answer))]
     pub(crate) fn counted_key<R: RawReader, W: Refresher>(
         &self,
         alloc: Global,
@@ -159,11 +177,10 @@ impl<D: Decides> InputState<'_, D> {
         wrt: &mut W,
         key: KeyEvent,
     ) -> Result<(Option<i16>, KeyEvent), ReadlineError>
-        ensures phrase { let input = input_of self.now in
-            let script = counted_key input.mode key in
-            Follows W.display (custom_in self.now D.decides) script
-            wrt.old input wrt.new input (R.feed rdr.old) (R.feed rdr.new) result }
-        ensures asks { Asks R.asked (IsKey (is_emacs self.now.mode)) rdr.old rdr.new }
+        ensures phrase { FollowsOn (λ custom input shown. count_and_key input.mode key)
+            self.now self.now D.decides W.display wrt.old wrt.new
+            (R.feed rdr.old) (R.feed rdr.new) result }
+        ensures asks { AsksInOrder R.asked (IsKey (is_emacs self.now.mode)) rdr.old rdr.new }
     {
         match begun_by(self.mode, key) {
             Some(begun) => self.digit_argument(alloc, rdr, wrt, begun),
@@ -171,8 +188,7 @@ impl<D: Decides> InputState<'_, D> {
         }
     }
 
-    // The rest of a count, and the key after it.
-    #[tactic(auto, using(crate::proofs::Steps::counts))]
+    /// The rest of a count, and the key after it.
     fn digit_argument<R: RawReader, W: Refresher>(
         &self,
         alloc: Global,
@@ -180,11 +196,11 @@ impl<D: Decides> InputState<'_, D> {
         wrt: &mut W,
         begun: i16,
     ) -> Result<(Option<i16>, KeyEvent), ReadlineError>
-        ensures phrase { let input = input_of self.now in
-            let script = counting (counted_on input.mode) begun in
-            Follows W.display (custom_in self.now D.decides) script
-            wrt.old input wrt.new input (R.feed rdr.old) (R.feed rdr.new) result }
-        ensures asks { Asks R.asked (IsKey (is_emacs self.now.mode)) rdr.old rdr.new }
+        ensures phrase { FollowsOn
+            (λ custom input shown. rest_of_count (count_with_key input.mode) begun)
+            self.now self.now D.decides W.display wrt.old wrt.new
+            (R.feed rdr.old) (R.feed rdr.new) result }
+        ensures asks { AsksInOrder R.asked (IsKey (is_emacs self.now.mode)) rdr.old rdr.new }
     {
         let mut count = begun;
         loop {

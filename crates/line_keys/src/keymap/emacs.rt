@@ -5,13 +5,13 @@ ghost use Rattle.line_keys.specs.Coming.{from_key_at};
 ghost use Rattle.line_keys.specs.Keys.{none, char_with};
 ghost use Rattle.line_keys.specs.Emacs.{back, ahead, move_to_char, second_command};
 ghost use Rattle.line_keys.specs.Emacs.{emacs_command_rows, emacs_action, emacs_reading_rows, typed_rows};
-ghost use Rattle.line_keys.specs.Feeds.{Key, ReadsBy};
+ghost use Rattle.line_keys.specs.KeyFeeds.{Key, ReadsBy};
 ghost use Rattle.line_keys.specs.Refreshing.{Shown};
-ghost use Rattle.line_keys.specs.Requests.{Asks, IsLater, NextKey};
+ghost use Rattle.line_keys.specs.Requests.{AsksInOrder, IsLater, NextKey};
 ghost use Rattle.line_keys.specs.Tables.{look, first_row};
 ghost use Rattle.line_keys.specs.ViSearches.{search_of};
 ghost use Rattle.line_keys.specs.declared.command.Cmd.TheVariants.{Complete, CompleteBackward};
-ghost use Rattle.line_keys.specs.declared.keymap.emacs.Action.TheVariants.{Give};
+ghost use Rattle.line_keys.specs.declared.keymap.emacs.EmacsAction.TheVariants.{Give};
 
 use crate::command::Cmd;
 use crate::flags::Modifiers;
@@ -19,7 +19,7 @@ use crate::handler::Decides;
 use crate::key::{KeyCode, KeyEvent};
 use crate::keymap::InputState;
 use crate::keymap::common::{backward_char, by_sign, forward_char, term_binding};
-use crate::keymap::count::{is_positive, times};
+use crate::keymap::count::SignedCount;
 use crate::keymap::custom::Followed;
 use crate::keymap::vi::motion::Search;
 use crate::refresh::Refresher;
@@ -30,7 +30,7 @@ use std::alloc::Global;
 
 /// The action of a key in Emacs mode.
 #[derive(Drop)]
-pub enum Action {
+pub enum EmacsAction {
     /// Gives a command.
     Give(Cmd),
     /// Moves to the next typed character.
@@ -40,16 +40,14 @@ pub enum Action {
 }
 
 impl<D: Decides> InputState<'_, D> {
-    ghost use Rattle.line_keys.specs.InputStates.{FollowsIn, input_of, custom_in};
+    ghost use Rattle.line_keys.specs.InputStates.{FollowsIn, FollowsOn};
     ghost use Rattle.line_keys.specs.Emacs.{emacs_phrase, emacs_decided, emacs_command};
     ghost use Rattle.line_keys.specs.Emacs.{emacs_done};
-    ghost use Rattle.line_keys.specs.declared.keymap.emacs.Action.TheVariants.{LeadOn};
+    ghost use Rattle.line_keys.specs.declared.keymap.emacs.EmacsAction.TheVariants.{LeadOn};
     ghost use Rattle.std.specs.Prelude.{Some};
-    ghost use Rattle.line_keys.specs.Counts.{how_often, is_plus};
-    ghost use Rattle.line_keys.specs.Follows.{Follows};
+    ghost use Rattle.line_keys.specs.Counts.{signed_count};
 
     /// The command that starts with this key.
-    #[tactic(auto, using(crate::proofs::Steps::part_then))]
     pub(crate) fn emacs<R: RawReader, W: Refresher>(
         &self,
         alloc: Global,
@@ -57,20 +55,16 @@ impl<D: Decides> InputState<'_, D> {
         wrt: &mut W,
         key: KeyEvent,
     ) -> Result<Cmd, ReadlineError>
-        ensures phrase { let custom = custom_in self.now D.decides in
-            let input = input_of self.now in
-            let shown = W.display.shown wrt.old in
-            let script = emacs_phrase custom input shown key in
-            Follows W.display custom script
-            wrt.old input wrt.new input (R.feed rdr.old) (R.feed rdr.new) result }
-        ensures asks { Asks R.asked IsLater rdr.old rdr.new }
+        ensures phrase { FollowsOn (λ custom input shown. emacs_phrase custom input shown key)
+            self.now self.now D.decides W.display wrt.old wrt.new
+            (R.feed rdr.old) (R.feed rdr.new) result }
+        ensures asks { AsksInOrder R.asked IsLater rdr.old rdr.new }
     {
         let (count, key) = self.counted_key(alloc, rdr, wrt, key)?;
         self.emacs_decided(alloc, rdr, wrt, count, key)
     }
 
-    // The command of the key after a count.
-    #[tactic(auto, using(crate::proofs::Steps::decision))]
+    /// The command of the key after a count.
     fn emacs_decided<R: RawReader, W: Refresher>(
         &self,
         alloc: Global,
@@ -79,85 +73,74 @@ impl<D: Decides> InputState<'_, D> {
         count: Option<i16>,
         key: KeyEvent,
     ) -> Result<Cmd, ReadlineError>
-        ensures phrase { let n = how_often count in
-            FollowsIn (λ s. emacs_decided s key) self.now D.decides
-            W.display wrt.now n (is_plus count) (R.feed rdr.old) (R.feed rdr.new) result }
-        ensures asks { Asks R.asked IsLater rdr.old rdr.new }
+        ensures phrase { FollowsIn (λ s. emacs_decided s key) self.now D.decides
+            W.display wrt.now (signed_count count) (R.feed rdr.old) (R.feed rdr.new) result }
+        ensures asks { AsksInOrder R.asked IsLater rdr.old rdr.new }
     {
-        let n = times(count);
-        let positive = is_positive(count);
-        match self.custom_binding(alloc, wrt, key, n, positive)? {
-            Some(cmd) => cmd.made_anew(alloc, wrt, Some(n)),
+        let count = SignedCount::new(count);
+        match self.custom_binding(alloc, wrt, key, count)? {
+            Some(cmd) => cmd.made_anew(alloc, wrt, Some(count.n)),
             None => match term_binding(rdr, wrt, key) {
                 Some(cmd) => Ok(cmd),
-                None => self.emacs_command(alloc, rdr, wrt, key, n, positive),
+                None => self.emacs_command(alloc, rdr, wrt, key, count),
             },
         }
     }
 
-    // The action of the key's row, or the one common to both modes.
-    #[tactic(auto, using(crate::proofs::Steps::one_read))]
+    /// The action of the key's row, or the one common to both modes.
     fn emacs_command<R: RawReader, W: Refresher>(
         &self,
         alloc: Global,
         rdr: &mut R,
         wrt: &W,
         key: KeyEvent,
-        n: RepeatCount,
-        positive: bool,
+        count: SignedCount,
     ) -> Result<Cmd, ReadlineError>
         ensures phrase { FollowsIn (λ s. emacs_command s key) self.now D.decides
-            W.display wrt.now n positive (R.feed rdr.old) (R.feed rdr.new) result }
-        ensures asks { Asks R.asked IsLater rdr.old rdr.new }
+            W.display wrt.now count (R.feed rdr.old) (R.feed rdr.new) result }
+        ensures asks { AsksInOrder R.asked IsLater rdr.old rdr.new }
     {
-        match emacs_action(wrt, key, n, positive) {
-            Some(Action::Give(cmd)) => Ok(cmd),
-            Some(Action::Seek(search)) => char_search(rdr, n, search),
-            Some(Action::LeadOn) => self.ctrl_x(alloc, rdr, wrt, key, n, positive),
-            None => self.common(alloc, rdr, wrt, key, n, positive),
+        match emacs_action(wrt, key, count) {
+            Some(EmacsAction::Give(cmd)) => Ok(cmd),
+            Some(EmacsAction::Seek(search)) => char_search(rdr, count.n, search),
+            Some(EmacsAction::LeadOn) => self.ctrl_x(alloc, rdr, wrt, key, count),
+            None => self.common(alloc, rdr, wrt, key, count),
         }
     }
 
-    // The command of a custom sequence, or that of the second key, which is read if it wasn't.
-    #[tactic(auto, using(crate::proofs::Steps::part_then_read))]
+    /// The command of a custom sequence, or that of the second key, which is read if it wasn't.
     fn ctrl_x<R: RawReader, W: Refresher>(
         &self,
         alloc: Global,
         rdr: &mut R,
         wrt: &W,
         key: KeyEvent,
-        n: RepeatCount,
-        positive: bool,
+        count: SignedCount,
     ) -> Result<Cmd, ReadlineError>
         ensures phrase { FollowsIn (λ s. emacs_done s key (Some LeadOn)) self.now D.decides
-            W.display wrt.now n positive (R.feed rdr.old) (R.feed rdr.new) result }
-        ensures asks { Asks R.asked IsLater rdr.old rdr.new }
+            W.display wrt.now count (R.feed rdr.old) (R.feed rdr.new) result }
+        ensures asks { AsksInOrder R.asked IsLater rdr.old rdr.new }
     {
-        let followed = self.custom_seq_binding(alloc, rdr, wrt, key, n, positive)?;
+        let followed = self.custom_seq_binding(alloc, rdr, wrt, key, count)?;
         match followed {
             Followed::Bound(cmd) => Ok(cmd),
-            Followed::Unbound(Some(second)) => Ok(second_command(second, n, positive)),
-            Followed::Unbound(None) => read_second(rdr, n, positive),
+            Followed::Unbound(Some(second)) => Ok(second_command(second, count)),
+            Followed::Unbound(None) => read_second(rdr, count),
         }
     }
 }
 
-// The command of the second key after Ctrl-X, which is read first.
-#[tactic(auto, using(crate::proofs::KeyReads::made_of_read, crate::proofs::KeyReads::not_made))]
-fn read_second<R: RawReader>(
-    rdr: &mut R,
-    n: RepeatCount,
-    positive: bool,
-) -> Result<Cmd, ReadlineError>
-    ensures reads { let given = from_key_at (second_command n positive) in
+/// The command of the second key after Ctrl-X, which is read first.
+fn read_second<R: RawReader>(rdr: &mut R, count: SignedCount) -> Result<Cmd, ReadlineError>
+    ensures reads { let given = from_key_at (second_command count.n count.positive) in
         ReadsBy Key given (R.feed rdr.old) (R.feed rdr.new) result }
     ensures asks { R.asked rdr.old (NextKey true) rdr.new }
 {
     let second = rdr.next_key(true)?;
-    Ok(second_command(second, n, positive))
+    Ok(second_command(second, count))
 }
 
-// The character of a key without modifiers.
+/// The character of a key without modifiers.
 pub(crate) fn plain_char(key: KeyEvent) -> Option<char>
     ensures { result ≡ char_with none key }
 {
@@ -167,22 +150,26 @@ pub(crate) fn plain_char(key: KeyEvent) -> Option<char>
     }
 }
 
-// The command of the second key after Ctrl-X.
-fn second_command(key: KeyEvent, n: RepeatCount, positive: bool) -> Cmd
-    ensures { result ≡ second_command n positive key }
+/// The command of the second key after Ctrl-X.
+fn second_command(key: KeyEvent, count: SignedCount) -> Cmd
+    ensures { result ≡ second_command count.n count.positive key }
 {
     match key {
         KeyEvent(KeyCode::Char('G'), Modifiers::CTRL) | KeyEvent::ESC => Cmd::Abort,
-        KeyEvent(KeyCode::Char('U'), Modifiers::CTRL) => Cmd::Undo(n),
+        KeyEvent(KeyCode::Char('U'), Modifiers::CTRL) => Cmd::Undo(count.n),
         KeyEvent::BACKSPACE => {
-            Cmd::Kill(by_sign(positive, Movement::BeginningOfLine, Movement::EndOfLine))
+            let range = by_sign(
+                count.positive,
+                Movement::BeginningOfLine,
+                Movement::EndOfLine,
+            );
+            Cmd::Kill(range)
         }
         _ => Cmd::Unknown,
     }
 }
 
-// The move to the next typed character.
-#[tactic(auto, using(crate::proofs::KeyReads::made_of_read, crate::proofs::KeyReads::not_made))]
+/// The move to the next typed character.
 fn char_search<R: RawReader>(
     rdr: &mut R,
     n: RepeatCount,
@@ -197,7 +184,7 @@ fn char_search<R: RawReader>(
     Ok(searched(n, search, plain_char(key)))
 }
 
-// The move by a search for a character.
+/// The move by a search for a character.
 fn searched(n: RepeatCount, search: Search, sought: Option<char>) -> Cmd
     ensures { result ≡ move_to_char n (search_of search) sought }
 {
@@ -207,61 +194,57 @@ fn searched(n: RepeatCount, search: Search, sought: Option<char>) -> Cmd
     }
 }
 
-// Back over words; for a negative count, forward.
-fn back(n: RepeatCount, positive: bool) -> Movement
-    ensures { result ≡ (if positive then back n else ahead n) }
+/// Back over words; for a negative count, forward.
+fn back(count: SignedCount) -> Movement
+    ensures { result ≡ (if count.positive then back count.n else ahead count.n) }
 {
     by_sign(
-        positive,
-        Movement::BackwardWord(n, Word::Emacs),
-        Movement::ForwardWord(n, At::AfterEnd, Word::Emacs),
+        count.positive,
+        Movement::BackwardWord(count.n, Word::Emacs),
+        Movement::ForwardWord(count.n, At::AfterEnd, Word::Emacs),
     )
 }
 
-// Forward over words; for a negative count, back.
-fn ahead(n: RepeatCount, positive: bool) -> Movement
-    ensures { result ≡ (if positive then ahead n else back n) }
+/// Forward over words; for a negative count, back.
+fn ahead(count: SignedCount) -> Movement
+    ensures { result ≡ (if count.positive then ahead count.n else back count.n) }
 {
     by_sign(
-        positive,
-        Movement::ForwardWord(n, At::AfterEnd, Word::Emacs),
-        Movement::BackwardWord(n, Word::Emacs),
+        count.positive,
+        Movement::ForwardWord(count.n, At::AfterEnd, Word::Emacs),
+        Movement::BackwardWord(count.n, Word::Emacs),
     )
 }
 
-// The action of a key, if it has a row.
-#[tactic(auto, using(crate::proofs::Steps::emacs_tables))]
-fn emacs_action<W: Refresher>(
-    wrt: &W,
-    key: KeyEvent,
-    n: RepeatCount,
-    positive: bool,
-) -> Option<Action>
+/// The action of a key, if it has a row.
+fn emacs_action<W: Refresher>(wrt: &W, key: KeyEvent, count: SignedCount) -> Option<EmacsAction>
     ensures { let shown = W.display.shown wrt.now in
-        result ≡ emacs_action shown n positive key }
+        result ≡ emacs_action shown count.n count.positive key }
 {
-    if let Some(cmd) = typed_row(key, n, positive) {
-        return Some(Action::Give(cmd));
+    if let Some(cmd) = typed_row(key, count) {
+        return Some(EmacsAction::Give(cmd));
     }
-    match emacs_row(wrt, key, n, positive) {
-        Some(cmd) => Some(Action::Give(cmd)),
-        None => reading_row(key, positive),
+    match emacs_row(wrt, key, count) {
+        Some(cmd) => Some(EmacsAction::Give(cmd)),
+        None => reading_row(key, count.positive),
     }
 }
 
-// The row of characters.
-fn typed_row(key: KeyEvent, n: RepeatCount, positive: bool) -> Option<Cmd>
-    ensures { option_map Give result ≡ look n positive key typed_rows }
+/// The row of characters.
+fn typed_row(key: KeyEvent, count: SignedCount) -> Option<Cmd>
+    ensures { option_map Give result ≡ look count.n count.positive key typed_rows }
 {
     match key {
-        KeyEvent(KeyCode::Char(c), Modifiers::NONE) if positive => Some(Cmd::SelfInsert(n, c)),
+        KeyEvent(KeyCode::Char(c), Modifiers::NONE) if count.positive => {
+            Some(Cmd::SelfInsert(count.n, c))
+        }
         KeyEvent(KeyCode::Char(_), Modifiers::NONE) => Some(Cmd::Unknown),
         _ => None,
     }
 }
 
-// The rows of keys after which more is read.
-fn reading_row(key: KeyEvent, positive: bool) -> Option<Action>
+/// The rows of keys after which more is read.
+fn reading_row(key: KeyEvent, positive: bool) -> Option<EmacsAction>
     ensures { (n : ℕ) → result ≡ look n positive key emacs_reading_rows }
 {
     use KeyCode as K;
@@ -269,25 +252,25 @@ fn reading_row(key: KeyEvent, positive: bool) -> Option<Action>
     use Modifiers as M;
 
     match key {
-        E(K::Char(']'), M::CTRL) if positive => Some(Action::Seek(Search::ForwardBefore)),
-        E(K::Char(']'), M::CTRL) => Some(Action::Seek(Search::Backward)),
-        E(K::Char(']'), M::CTRL_ALT) if positive => Some(Action::Seek(Search::Backward)),
-        E(K::Char(']'), M::CTRL_ALT) => Some(Action::Seek(Search::ForwardBefore)),
-        E(K::Char('X'), M::CTRL) => Some(Action::LeadOn),
+        E(K::Char(']'), M::CTRL) if positive => Some(EmacsAction::Seek(Search::ForwardBefore)),
+        E(K::Char(']'), M::CTRL) => Some(EmacsAction::Seek(Search::Backward)),
+        E(K::Char(']'), M::CTRL_ALT) if positive => Some(EmacsAction::Seek(Search::Backward)),
+        E(K::Char(']'), M::CTRL_ALT) => Some(EmacsAction::Seek(Search::ForwardBefore)),
+        E(K::Char('X'), M::CTRL) => Some(EmacsAction::LeadOn),
         _ => None,
     }
 }
 
-// The rows of commands.
-fn emacs_row<W: Refresher>(wrt: &W, key: KeyEvent, n: RepeatCount, positive: bool) -> Option<Cmd>
+/// The rows of commands.
+fn emacs_row<W: Refresher>(wrt: &W, key: KeyEvent, count: SignedCount) -> Option<Cmd>
     ensures { let rows = emacs_command_rows (W.display.shown wrt.now) in
-        option_map Give result ≡ look n positive key rows }
+        option_map Give result ≡ look count.n count.positive key rows }
 {
     let KeyEvent(code, modifiers) = key;
     match modifiers {
-        Modifiers::NONE => plain_row(wrt, code, n, positive),
-        Modifiers::CTRL => ctrl_row(code, n, positive),
-        Modifiers::ALT => alt_row(code, n, positive),
+        Modifiers::NONE => plain_row(wrt, code, count),
+        Modifiers::CTRL => ctrl_row(code, count),
+        Modifiers::ALT => alt_row(code, count),
         Modifiers::CTRL_ALT => match code {
             KeyCode::Char('G') => Some(Cmd::Abort),
             _ => None,
@@ -296,69 +279,73 @@ fn emacs_row<W: Refresher>(wrt: &W, key: KeyEvent, n: RepeatCount, positive: boo
     }
 }
 
-// The rows without modifiers. A hint is accepted if the cursor is right before it.
-fn plain_row<W: Refresher>(wrt: &W, code: KeyCode, n: RepeatCount, positive: bool) -> Option<Cmd>
+/// The rows without modifiers. A hint is accepted if the cursor is right before it.
+fn plain_row<W: Refresher>(wrt: &W, code: KeyCode, count: SignedCount) -> Option<Cmd>
     ensures { let rows = emacs_command_rows (W.display.shown wrt.now) in
-        option_map Give result ≡ first_row n positive code 0 rows }
+        option_map Give result ≡ first_row count.n count.positive code 0 rows }
 {
     match code {
         KeyCode::Esc => Some(Cmd::Abort),
-        KeyCode::Backspace => Some(Cmd::Kill(backward_char(n, positive))),
+        KeyCode::Backspace => Some(Cmd::Kill(backward_char(count))),
         KeyCode::BackTab => Some(Cmd::CompleteBackward),
-        KeyCode::Tab => Some(completion(positive)),
+        KeyCode::Tab => Some(completion(count.positive)),
         KeyCode::Right if wrt.has_hint() && wrt.is_cursor_at_end() => Some(Cmd::CompleteHint),
         _ => None,
     }
 }
 
-// The rows with Ctrl.
-fn ctrl_row(code: KeyCode, n: RepeatCount, positive: bool) -> Option<Cmd>
-    ensures { (shown : Shown)
-        → option_map Give result ≡ first_row n positive code 8 (emacs_command_rows shown) }
+/// The rows with Ctrl.
+fn ctrl_row(code: KeyCode, count: SignedCount) -> Option<Cmd>
+    ensures { (shown : Shown) → let rows = emacs_command_rows shown in
+        option_map Give result ≡ first_row count.n count.positive code 8 rows }
 {
     match code {
         KeyCode::Char('A') => Some(Cmd::Move(Movement::BeginningOfLine)),
-        KeyCode::Char('B') => Some(Cmd::Move(backward_char(n, positive))),
+        KeyCode::Char('B') => Some(Cmd::Move(backward_char(count))),
         KeyCode::Char('E') => Some(Cmd::Move(Movement::EndOfLine)),
-        KeyCode::Char('F') => Some(Cmd::Move(forward_char(n, positive))),
+        KeyCode::Char('F') => Some(Cmd::Move(forward_char(count))),
         KeyCode::Char('G') => Some(Cmd::Abort),
-        KeyCode::Char('H') => Some(Cmd::Kill(backward_char(n, positive))),
-        KeyCode::Char('I') => Some(completion(positive)),
+        KeyCode::Char('H') => Some(Cmd::Kill(backward_char(count))),
+        KeyCode::Char('I') => Some(completion(count.positive)),
         KeyCode::Char('K') => {
-            let range = by_sign(positive, Movement::EndOfLine, Movement::BeginningOfLine);
+            let range = by_sign(
+                count.positive,
+                Movement::EndOfLine,
+                Movement::BeginningOfLine,
+            );
             Some(Cmd::Kill(range))
         }
         KeyCode::Char('L') => Some(Cmd::ClearScreen),
         KeyCode::Char('N') => Some(Cmd::NextHistory),
         KeyCode::Char('P') => Some(Cmd::PreviousHistory),
-        KeyCode::Left => Some(Cmd::Move(back(n, positive))),
-        KeyCode::Right => Some(Cmd::Move(ahead(n, positive))),
+        KeyCode::Left => Some(Cmd::Move(back(count))),
+        KeyCode::Right => Some(Cmd::Move(ahead(count))),
         _ => None,
     }
 }
 
-// The rows with Alt.
-fn alt_row(code: KeyCode, n: RepeatCount, positive: bool) -> Option<Cmd>
-    ensures { (shown : Shown)
-        → option_map Give result ≡ first_row n positive code 4 (emacs_command_rows shown) }
+/// The rows with Alt.
+fn alt_row(code: KeyCode, count: SignedCount) -> Option<Cmd>
+    ensures { (shown : Shown) → let rows = emacs_command_rows shown in
+        option_map Give result ≡ first_row count.n count.positive code 4 rows }
 {
     match code {
-        KeyCode::Backspace => Some(Cmd::Kill(back(n, positive))),
+        KeyCode::Backspace => Some(Cmd::Kill(back(count))),
         KeyCode::Char('<') => Some(Cmd::BeginningOfHistory),
         KeyCode::Char('>') => Some(Cmd::EndOfHistory),
-        KeyCode::Char('B' | 'b') | KeyCode::Left => Some(Cmd::Move(back(n, positive))),
+        KeyCode::Char('B' | 'b') | KeyCode::Left => Some(Cmd::Move(back(count))),
         KeyCode::Char('C' | 'c') => Some(Cmd::CapitalizeWord),
-        KeyCode::Char('D' | 'd') => Some(Cmd::Kill(ahead(n, positive))),
-        KeyCode::Char('F' | 'f') | KeyCode::Right => Some(Cmd::Move(ahead(n, positive))),
+        KeyCode::Char('D' | 'd') => Some(Cmd::Kill(ahead(count))),
+        KeyCode::Char('F' | 'f') | KeyCode::Right => Some(Cmd::Move(ahead(count))),
         KeyCode::Char('L' | 'l') => Some(Cmd::DowncaseWord),
-        KeyCode::Char('T' | 't') => Some(Cmd::TransposeWords(n)),
+        KeyCode::Char('T' | 't') => Some(Cmd::TransposeWords(count.n)),
         KeyCode::Char('U' | 'u') => Some(Cmd::UpcaseWord),
         KeyCode::Char('Y' | 'y') => Some(Cmd::YankPop),
         _ => None,
     }
 }
 
-// Completes forward; for a negative count, backward.
+/// Completes forward; for a negative count, backward.
 fn completion(positive: bool) -> Cmd
     ensures { result ≡ (if positive then Complete else CompleteBackward) }
 {

@@ -15,21 +15,20 @@ use std::alloc::Global;
 impl<D: Decides> InputState<'_, D> {
     ghost use Rattle.line_keys.specs.Follows.{Follows, silent};
     ghost use Rattle.line_keys.specs.InputStates.{input_of, custom_in};
-    ghost use Rattle.line_keys.specs.Quoting.{quoting};
-    ghost use Rattle.line_keys.specs.Requests.{Asks, IsLater};
+    ghost use Rattle.line_keys.specs.Quoting.{quote_part};
+    ghost use Rattle.line_keys.specs.Requests.{AsksInOrder, IsLater};
 
     /// The insertion of the character of the next key, if the setting is on and text can be typed.
     /// A pasted text that the key announces is inserted instead.
-    #[tactic(auto, using(crate::proofs::Steps::quoting))]
     pub(crate) fn quoting<R: RawReader>(
         &self,
         alloc: Global,
         rdr: &mut R,
     ) -> Result<Cmd, ReadlineError>
         ensures phrase { let input = input_of self.now in
-            Follows silent (custom_in self.now D.decides) (quoting input)
+            Follows silent (custom_in self.now D.decides) (quote_part input)
             tt input tt input (R.feed rdr.old) (R.feed rdr.new) result }
-        ensures asks { Asks R.asked IsLater rdr.old rdr.new }
+        ensures asks { AsksInOrder R.asked IsLater rdr.old rdr.new }
     {
         if !self.modal_commands || self.is_vi_cmd_mode() {
             return Ok(Cmd::QuotedInsert);
@@ -43,14 +42,14 @@ impl<D: Decides> InputState<'_, D> {
     }
 }
 
-// Whether a key announces a pasted text.
+/// Whether a key announces a pasted text.
 fn is_paste_start(key: KeyEvent) -> bool
     ensures { result ≡ is_paste_start key }
 {
     matches!(key, KeyEvent(KeyCode::BracketedPasteStart, Modifiers::NONE))
 }
 
-// The command of a quoted key: its character, as it was sent, is inserted.
+/// The command of a quoted key: its character, as it was sent, is inserted.
 fn quoted_command(key: KeyEvent) -> Cmd
     ensures { result ≡ quoted_command key }
 {
@@ -65,7 +64,7 @@ fn quoted_command(key: KeyEvent) -> Cmd
     }
 }
 
-// The control character that a character with Ctrl was sent as.
+/// The control character that a character with Ctrl was sent as.
 fn control(c: char) -> Cmd
     ensures { result ≡ control_of c }
 {

@@ -1,14 +1,14 @@
 //! The keys of Vi mode.
 
-pub mod count;
+mod count;
 pub mod motion;
 pub mod table;
 
 ghost use Rattle.std.specs.Prelude.{◌≡◌, true, false};
 ghost use Rattle.line_keys.specs.Coming.{from_key_at};
-ghost use Rattle.line_keys.specs.Feeds.{Key, ReadsBy};
-ghost use Rattle.line_keys.specs.Requests.{Asks, IsLater, NextKey};
-ghost use Rattle.line_keys.specs.Vi.{move_or, key_replacement, typed_in};
+ghost use Rattle.line_keys.specs.KeyFeeds.{Key, ReadsBy};
+ghost use Rattle.line_keys.specs.Requests.{AsksInOrder, IsLater, NextKey};
+ghost use Rattle.line_keys.specs.Vi.{move_or, key_replacement, char_command};
 
 use crate::command::{Cmd, InputMode};
 use crate::flags::Modifiers;
@@ -16,28 +16,28 @@ use crate::handler::Decides;
 use crate::key::{KeyCode, KeyEvent};
 use crate::keymap::InputState;
 use crate::keymap::common::term_binding;
-use crate::keymap::count::times;
+use crate::keymap::count::{SignedCount, times};
 use crate::keymap::vi::count::typed_count;
 use crate::keymap::vi::motion::{opposite, searching};
-use crate::keymap::vi::table::{Action, InsertAction, Operator, vi_command_row, vi_insert_row};
+use crate::keymap::vi::table::{InsertAction, Operator, ViAction, vi_command_row, vi_insert_row};
 use crate::refresh::Refresher;
 use crate::tty::RawReader;
 use line_buffer::{Movement, RepeatCount};
 use line_config::ReadlineError;
 use std::alloc::Global;
 
+#[tactic(auto, using(crate::proofs::Steps::calls), unfolding(crate::specs::Vi::vi_command, crate::specs::Vi::vi_counted, crate::specs::Vi::command_table, crate::specs::Vi::vi_insert, crate::specs::Vi::insert_table))]
 impl<D: Decides> InputState<'_, D> {
-    ghost use Rattle.line_keys.specs.Commands.{standing};
+    ghost use Rattle.line_keys.specs.Commands.{flags_of};
     ghost use Rattle.line_keys.specs.Counts.{how_often, typed_count};
-    ghost use Rattle.line_keys.specs.Follows.{Follows};
-    ghost use Rattle.line_keys.specs.InputStates.{input_of, custom_in, situation_in};
-    ghost use Rattle.line_keys.specs.Phrases.{and_then, becoming};
-    ghost use Rattle.line_keys.specs.Vi.{Remembers, changed, changes, command_of, command_table, entered, insert_table};
-    ghost use Rattle.line_keys.specs.Vi.{is_new, operation, typed, vi_command, vi_counted};
+    ghost use Rattle.line_keys.specs.CustomKeys.{situation};
+    ghost use Rattle.line_keys.specs.InputStates.{FollowsOn, input_of};
+    ghost use Rattle.line_keys.specs.PhraseScripts.{and_then, keep_then};
+    ghost use Rattle.line_keys.specs.Vi.{Remembers, change_part, changes, command_of, command_table, insert_mode_if, insert_table};
+    ghost use Rattle.line_keys.specs.Vi.{is_new, operation, insert_part, vi_command, vi_counted};
     ghost use Rattle.line_keys.specs.Vi.{vi_insert, vi_phrase};
 
     /// The command that starts with this key.
-    #[tactic(auto, using(crate::proofs::Following::as_follows))]
     pub(crate) fn vi<R: RawReader, W: Refresher>(
         &mut self,
         alloc: Global,
@@ -45,12 +45,10 @@ impl<D: Decides> InputState<'_, D> {
         wrt: &mut W,
         key: KeyEvent,
     ) -> Result<Cmd, ReadlineError>
-        ensures phrase { let script = vi_phrase (custom_in self.old D.decides)
-            (input_of self.old) (W.display.shown wrt.old) key in
-            Follows W.display (custom_in self.old D.decides) script
-            wrt.old (input_of self.old) wrt.new (input_of self.new)
+        ensures phrase { FollowsOn (λ custom input shown. vi_phrase custom input shown key)
+            self.old self.new D.decides W.display wrt.old wrt.new
             (R.feed rdr.old) (R.feed rdr.new) result }
-        ensures asks { Asks R.asked IsLater rdr.old rdr.new }
+        ensures asks { AsksInOrder R.asked IsLater rdr.old rdr.new }
         ensures bindings { self.new.custom_bindings ≡ self.old.custom_bindings }
     {
         match self.input_mode {
@@ -59,8 +57,7 @@ impl<D: Decides> InputState<'_, D> {
         }
     }
 
-    // The command that starts with this key in command mode.
-    #[tactic(auto, using(crate::proofs::Steps::part_then), unfolding(crate::specs::Vi::vi_command))]
+    /// The command that starts with this key in command mode.
     fn vi_command<R: RawReader, W: Refresher>(
         &mut self,
         alloc: Global,
@@ -68,20 +65,17 @@ impl<D: Decides> InputState<'_, D> {
         wrt: &mut W,
         key: KeyEvent,
     ) -> Result<Cmd, ReadlineError>
-        ensures phrase { let script = vi_command (custom_in self.old D.decides) key
-            (input_of self.old) (W.display.shown wrt.old) in
-            Follows W.display (custom_in self.old D.decides) script
-            wrt.old (input_of self.old) wrt.new (input_of self.new)
+        ensures phrase { FollowsOn (λ custom. vi_command custom key)
+            self.old self.new D.decides W.display wrt.old wrt.new
             (R.feed rdr.old) (R.feed rdr.new) result }
-        ensures asks { Asks R.asked IsLater rdr.old rdr.new }
+        ensures asks { AsksInOrder R.asked IsLater rdr.old rdr.new }
         ensures bindings { self.new.custom_bindings ≡ self.old.custom_bindings }
     {
         let (count, key) = self.counted_key(alloc, rdr, wrt, key)?;
         self.vi_counted(alloc, rdr, wrt, count, key)
     }
 
-    // The command of the key after a count.
-    #[tactic(auto, using(crate::proofs::Steps::decision), unfolding(crate::specs::Vi::vi_counted))]
+    /// The command of the key after a count.
     fn vi_counted<R: RawReader, W: Refresher>(
         &mut self,
         alloc: Global,
@@ -90,15 +84,17 @@ impl<D: Decides> InputState<'_, D> {
         count: Option<i16>,
         key: KeyEvent,
     ) -> Result<Cmd, ReadlineError>
-        ensures phrase { let script = vi_counted (custom_in self.old D.decides) (count, key)
-            (input_of self.old) (W.display.shown wrt.old) in
-            Follows W.display (custom_in self.old D.decides) script
-            wrt.old (input_of self.old) wrt.new (input_of self.new)
+        ensures phrase { FollowsOn (λ custom. vi_counted custom (count, key))
+            self.old self.new D.decides W.display wrt.old wrt.new
             (R.feed rdr.old) (R.feed rdr.new) result }
-        ensures asks { Asks R.asked IsLater rdr.old rdr.new }
+        ensures asks { AsksInOrder R.asked IsLater rdr.old rdr.new }
         ensures bindings { self.new.custom_bindings ≡ self.old.custom_bindings }
     {
-        match self.custom_binding(alloc, wrt, key, times(count), true)? {
+        let plus = SignedCount {
+            n: times(count),
+            positive: true,
+        };
+        match self.custom_binding(alloc, wrt, key, plus)? {
             Some(cmd) => cmd.made_anew(alloc, wrt, typed_count(count)),
             None => match term_binding(rdr, wrt, key) {
                 Some(cmd) => Ok(cmd),
@@ -107,8 +103,7 @@ impl<D: Decides> InputState<'_, D> {
         }
     }
 
-    // The command of the table. A change is remembered.
-    #[tactic(auto, using(crate::proofs::Steps::part_remembered))]
+    /// The command of the table. A change is remembered.
     fn vi_changed<R: RawReader, W: Refresher>(
         &mut self,
         alloc: Global,
@@ -117,22 +112,19 @@ impl<D: Decides> InputState<'_, D> {
         count: Option<i16>,
         key: KeyEvent,
     ) -> Result<Cmd, ReadlineError>
-        ensures phrase { let n = how_often count in
-            let s = situation_in self.old D.decides (W.display.shown wrt.old) n true in
-            let table = command_table (typed_count count) s key in
-            let script = and_then s.input s.shown table changed in
-            Follows W.display (custom_in self.old D.decides) script
-            wrt.old (input_of self.old) wrt.new (input_of self.new)
+        ensures phrase { FollowsOn (λ custom input shown.
+            let s = situation custom input shown (how_often count) true in
+            and_then input shown (command_table (typed_count count) s key) change_part)
+            self.old self.new D.decides W.display wrt.old wrt.new
             (R.feed rdr.old) (R.feed rdr.new) result }
-        ensures asks { Asks R.asked IsLater rdr.old rdr.new }
+        ensures asks { AsksInOrder R.asked IsLater rdr.old rdr.new }
         ensures bindings { self.new.custom_bindings ≡ self.old.custom_bindings }
     {
         let cmd = self.vi_done(alloc, rdr, wrt, count, key)?;
         self.changed_by(alloc, cmd)
     }
 
-    // The action of the key's row, or the one common to both modes.
-    #[tactic(auto, using(crate::proofs::Steps::action), unfolding(crate::specs::Vi::command_table))]
+    /// The action of the key's row, or the one common to both modes.
     fn vi_done<R: RawReader, W: Refresher>(
         &mut self,
         alloc: Global,
@@ -141,47 +133,49 @@ impl<D: Decides> InputState<'_, D> {
         count: Option<i16>,
         key: KeyEvent,
     ) -> Result<Cmd, ReadlineError>
-        ensures phrase { let new = typed_count count in
-            let n = how_often count in
-            let s = situation_in self.old D.decides (W.display.shown wrt.old) n true in
-            let script = command_table new s key in
-            Follows W.display (custom_in self.old D.decides) script
-            wrt.old (input_of self.old) wrt.new (input_of self.new)
+        ensures phrase { FollowsOn (λ custom input shown.
+            let s = situation custom input shown (how_often count) true in
+            command_table (typed_count count) s key)
+            self.old self.new D.decides W.display wrt.old wrt.new
             (R.feed rdr.old) (R.feed rdr.new) result }
-        ensures asks { Asks R.asked IsLater rdr.old rdr.new }
+        ensures asks { AsksInOrder R.asked IsLater rdr.old rdr.new }
         ensures bindings { self.new.custom_bindings ≡ self.old.custom_bindings }
     {
         let n = times(count);
         match vi_command_row(self.modal_commands, key, n) {
-            Some(Action::Give(cmd)) => Ok(cmd),
-            Some(Action::Insert(cmd)) => {
+            Some(ViAction::Give(cmd)) => Ok(cmd),
+            Some(ViAction::Insert(cmd)) => {
                 self.input_mode = InputMode::Insert;
                 wrt.doing_insert()?;
                 Ok(cmd)
             }
-            Some(Action::Turn(mode, cmd)) => {
+            Some(ViAction::Turn(mode, cmd)) => {
                 self.input_mode = mode;
                 Ok(cmd)
             }
-            Some(Action::Operate(operator)) => self.vi_operation(alloc, rdr, wrt, key, n, operator),
-            Some(Action::Search(search)) => {
+            Some(ViAction::Operate(operator)) => self.vi_operation(
+                alloc, rdr, wrt, key, n, operator,
+            ),
+            Some(ViAction::Search(search)) => {
                 let movement = self.vi_char_search(rdr, search, n)?;
                 Ok(move_or(Cmd::Unknown, movement))
             }
-            Some(Action::Again) => Ok(move_or(Cmd::Noop, searching(n, self.last_char_search))),
-            Some(Action::Back) => {
+            Some(ViAction::Again) => Ok(move_or(Cmd::Noop, searching(n, self.last_char_search))),
+            Some(ViAction::Back) => {
                 let search = opposite(self.last_char_search);
                 Ok(move_or(Cmd::Noop, searching(n, search)))
             }
-            Some(Action::Repeat) => self.last_cmd.repeated(alloc, wrt, typed_count(count)),
-            Some(Action::Replace) => replacement(rdr, n),
-            None => self.common(alloc, rdr, wrt, key, n, true),
+            Some(ViAction::Repeat) => self.last_cmd.repeated(alloc, wrt, typed_count(count)),
+            Some(ViAction::Replace) => replacement(rdr, n),
+            None => {
+                let plus = SignedCount { n, positive: true };
+                self.common(alloc, rdr, wrt, key, plus)
+            }
         }
     }
 
-    // The command of an operator with its motion. A change switches to insert mode before its
-    // motion is read.
-    #[tactic(auto, using(crate::proofs::Steps::operation))]
+    /// The command of an operator with its motion. A change switches to insert mode before its
+    /// motion is read.
     fn vi_operation<R: RawReader, W: Refresher>(
         &mut self,
         alloc: Global,
@@ -191,14 +185,13 @@ impl<D: Decides> InputState<'_, D> {
         n: RepeatCount,
         operator: Operator,
     ) -> Result<Cmd, ReadlineError>
-        ensures phrase { let within = entered (changes operator) (input_of self.old) in
-            let s = situation_in self.old D.decides (W.display.shown wrt.old) n true in
-            let made = operation s key (command_of operator) within in
-            let script = becoming within made in
-            Follows W.display (custom_in self.old D.decides) script
-            wrt.old (input_of self.old) wrt.new (input_of self.new)
+        ensures phrase { FollowsOn (λ custom input shown.
+            let s = situation custom input shown n true in
+            let within = insert_mode_if (changes operator) input in
+            keep_then within (operation s key (command_of operator) within))
+            self.old self.new D.decides W.display wrt.old wrt.new
             (R.feed rdr.old) (R.feed rdr.new) result }
-        ensures asks { Asks R.asked IsLater rdr.old rdr.new }
+        ensures asks { AsksInOrder R.asked IsLater rdr.old rdr.new }
         ensures bindings { self.new.custom_bindings ≡ self.old.custom_bindings }
     {
         self.enter(operator);
@@ -207,7 +200,7 @@ impl<D: Decides> InputState<'_, D> {
     }
 
     fn enter(&mut self, operator: Operator)
-        ensures input { input_of self.new ≡ entered (changes operator) (input_of self.old) }
+        ensures input { input_of self.new ≡ insert_mode_if (changes operator) (input_of self.old) }
         ensures bindings { self.new.custom_bindings ≡ self.old.custom_bindings }
     {
         match operator {
@@ -216,9 +209,9 @@ impl<D: Decides> InputState<'_, D> {
         }
     }
 
-    // Each change is remembered as the last one.
+    /// Each change is remembered as the last one.
     fn changed_by(&mut self, alloc: Global, cmd: Cmd) -> Result<Cmd, ReadlineError>
-        ensures remembers { let is = (standing cmd).is_change in
+        ensures remembers { let is = (flags_of cmd).is_change in
             Remembers is cmd (input_of self.old) (input_of self.new) result }
         ensures bindings { self.new.custom_bindings ≡ self.old.custom_bindings }
     {
@@ -228,8 +221,7 @@ impl<D: Decides> InputState<'_, D> {
         Ok(cmd)
     }
 
-    // The command that starts with this key in insert and replace mode.
-    #[tactic(auto, using(crate::proofs::Steps::decision), unfolding(crate::specs::Vi::vi_insert))]
+    /// The command that starts with this key in insert and replace mode.
     fn vi_insert<R: RawReader, W: Refresher>(
         &mut self,
         alloc: Global,
@@ -237,15 +229,17 @@ impl<D: Decides> InputState<'_, D> {
         wrt: &mut W,
         key: KeyEvent,
     ) -> Result<Cmd, ReadlineError>
-        ensures phrase { let script = vi_insert (custom_in self.old D.decides) key
-            (input_of self.old) (W.display.shown wrt.old) in
-            Follows W.display (custom_in self.old D.decides) script
-            wrt.old (input_of self.old) wrt.new (input_of self.new)
+        ensures phrase { FollowsOn (λ custom. vi_insert custom key)
+            self.old self.new D.decides W.display wrt.old wrt.new
             (R.feed rdr.old) (R.feed rdr.new) result }
-        ensures asks { Asks R.asked IsLater rdr.old rdr.new }
+        ensures asks { AsksInOrder R.asked IsLater rdr.old rdr.new }
         ensures bindings { self.new.custom_bindings ≡ self.old.custom_bindings }
     {
-        match self.custom_binding(alloc, wrt, key, 0, true)? {
+        let untyped = SignedCount {
+            n: 0,
+            positive: true,
+        };
+        match self.custom_binding(alloc, wrt, key, untyped)? {
             Some(cmd) => cmd.made_anew(alloc, wrt, None),
             None => match term_binding(rdr, wrt, key) {
                 Some(cmd) => Ok(cmd),
@@ -254,8 +248,7 @@ impl<D: Decides> InputState<'_, D> {
         }
     }
 
-    // The command of the table. A new change is remembered.
-    #[tactic(auto, using(crate::proofs::Steps::part_remembered))]
+    /// The command of the table. A new change is remembered.
     fn vi_typed<R: RawReader, W: Refresher>(
         &mut self,
         alloc: Global,
@@ -263,22 +256,18 @@ impl<D: Decides> InputState<'_, D> {
         wrt: &mut W,
         key: KeyEvent,
     ) -> Result<Cmd, ReadlineError>
-        ensures phrase { let shown = W.display.shown wrt.old in
-            let input = input_of self.old in
-            let table = insert_table (custom_in self.old D.decides) input shown key in
-            let script = and_then input shown table typed in
-            Follows W.display (custom_in self.old D.decides) script
-            wrt.old (input_of self.old) wrt.new (input_of self.new)
+        ensures phrase { FollowsOn (λ custom input shown.
+            and_then input shown (insert_table custom input shown key) insert_part)
+            self.old self.new D.decides W.display wrt.old wrt.new
             (R.feed rdr.old) (R.feed rdr.new) result }
-        ensures asks { Asks R.asked IsLater rdr.old rdr.new }
+        ensures asks { AsksInOrder R.asked IsLater rdr.old rdr.new }
         ensures bindings { self.new.custom_bindings ≡ self.old.custom_bindings }
     {
         let cmd = self.vi_inserted(alloc, rdr, wrt, key)?;
         self.typed_by(alloc, cmd)
     }
 
-    // The action of the key's row, or the one common to both modes.
-    #[tactic(auto, using(crate::proofs::Steps::leaving), unfolding(crate::specs::Vi::insert_table))]
+    /// The action of the key's row, or the one common to both modes.
     fn vi_inserted<R: RawReader, W: Refresher>(
         &mut self,
         alloc: Global,
@@ -286,12 +275,10 @@ impl<D: Decides> InputState<'_, D> {
         wrt: &mut W,
         key: KeyEvent,
     ) -> Result<Cmd, ReadlineError>
-        ensures phrase { let script = insert_table (custom_in self.old D.decides)
-            (input_of self.old) (W.display.shown wrt.old) key in
-            Follows W.display (custom_in self.old D.decides) script
-            wrt.old (input_of self.old) wrt.new (input_of self.new)
+        ensures phrase { FollowsOn (λ custom input shown. insert_table custom input shown key)
+            self.old self.new D.decides W.display wrt.old wrt.new
             (R.feed rdr.old) (R.feed rdr.new) result }
-        ensures asks { Asks R.asked IsLater rdr.old rdr.new }
+        ensures asks { AsksInOrder R.asked IsLater rdr.old rdr.new }
         ensures bindings { self.new.custom_bindings ≡ self.old.custom_bindings }
     {
         match vi_insert_row(self.modal_commands, wrt, key) {
@@ -307,11 +294,17 @@ impl<D: Decides> InputState<'_, D> {
                 wrt.done_inserting()?;
                 self.vi_command(alloc, rdr, wrt, KeyEvent(KeyCode::Char(c), Modifiers::NONE))
             }
-            None => self.common(alloc, rdr, wrt, key, 1, true),
+            None => {
+                let once = SignedCount {
+                    n: 1,
+                    positive: true,
+                };
+                self.common(alloc, rdr, wrt, key, once)
+            }
         }
     }
 
-    // Each change is remembered as the last one, except for typed characters that continue it.
+    /// Each change is remembered as the last one, except for typed characters that continue it.
     fn typed_by(&mut self, alloc: Global, cmd: Cmd) -> Result<Cmd, ReadlineError>
         ensures remembers { let is = is_new cmd (input_of self.old) in
             Remembers is cmd (input_of self.old) (input_of self.new) result }
@@ -333,9 +326,9 @@ fn move_or(other: Cmd, movement: Option<Movement>) -> Cmd
     }
 }
 
-// The command of a typed character.
+/// The command of a typed character.
 fn typed_in(mode: InputMode, c: char) -> Cmd
-    ensures { result ≡ typed_in mode c }
+    ensures { result ≡ char_command mode c }
 {
     match mode {
         InputMode::Replace => Cmd::Overwrite(c),
@@ -343,8 +336,7 @@ fn typed_in(mode: InputMode, c: char) -> Cmd
     }
 }
 
-// The next typed character replaces those under the cursor.
-#[tactic(auto, using(crate::proofs::KeyReads::made_of_read, crate::proofs::KeyReads::not_made))]
+/// The next typed character replaces those under the cursor.
 fn replacement<R: RawReader>(rdr: &mut R, n: RepeatCount) -> Result<Cmd, ReadlineError>
     ensures reads { let given = from_key_at (key_replacement n) in
         ReadsBy Key given (R.feed rdr.old) (R.feed rdr.new) result }
@@ -354,7 +346,7 @@ fn replacement<R: RawReader>(rdr: &mut R, n: RepeatCount) -> Result<Cmd, Readlin
     Ok(replaced_by(key, n))
 }
 
-// The command of the key after the one for replacing.
+/// The command of the key after the one for replacing.
 fn replaced_by(key: KeyEvent, n: RepeatCount) -> Cmd
     ensures { result ≡ key_replacement n key }
 {

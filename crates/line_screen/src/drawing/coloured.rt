@@ -2,7 +2,7 @@
 
 ghost use Rattle.std.specs.Prelude.{◌≡◌, ◌<◌, ◌++◌, [], IsTrue, OnOk, OnErr, IfOk, map};
 ghost use Rattle.line_screen.specs.Drawing.{no_style, SendsTo};
-ghost use Rattle.line_screen.specs.Colours.{painted, painted_text, end_of, brush_spans, styles_in, painted_shown, painted_drawing, painted_full, painted_bytes};
+ghost use Rattle.line_screen.specs.Colours.{bytes_of_all_painted, painted_text, end_of, brush_spans, styles_in, bytes_of_painted_texts, painted_drawing, painted_full_drawing, painted_bytes};
 ghost use Rattle.line_screen.specs.Measure.{widths_by};
 ghost use Rattle.line_config.specs.Sending.{Sends};
 
@@ -32,7 +32,7 @@ fn send_part<D: Sink, H: Highlighter>(
 ) -> Result<Unit, DeviceFailed>
     requires inside { start < grid.columns }
     ensures { SendsTo
-        (no_style ++ painted grid.columns
+        (no_style ++ bytes_of_all_painted grid.columns
         (painted_text (widths_by grid.mode grid.tab grid.columns)
         (brush_spans H.marks brush.now) brush.now.text.now) start)
         (end_of grid.columns
@@ -53,7 +53,7 @@ fn send_end<D: Sink, H: Highlighter>(
 ) -> Result<(), DeviceFailed>
     requires inside { start < grid.columns }
     ensures { Sends D.held D.has_failed
-        ((no_style ++ painted grid.columns
+        ((no_style ++ bytes_of_all_painted grid.columns
         (painted_text (widths_by grid.mode grid.tab grid.columns)
         (brush_spans H.marks info.now) info.now.text.now) start) ++ no_style)
         sink.old sink.new result }
@@ -72,7 +72,7 @@ fn send_texts<D: Sink, H: Highlighter>(
     painting: &Painting<'_, H>,
 ) -> Result<(), DeviceFailed>
     ensures { Sends D.held D.has_failed
-        (painted_shown grid.columns (widths_by grid.mode grid.tab grid.columns)
+        (bytes_of_painted_texts grid.columns (widths_by grid.mode grid.tab grid.columns)
         (styles_in H.marks painting.now)
         painting.now.prompt.text.now painting.now.line.text.now painting.now.info.text.now)
         sink.old sink.new result }
@@ -125,7 +125,7 @@ fn draw_over<D: Sink, H: Highlighter>(
     painting: &Painting<'_, H>,
 ) -> Result<(), DeviceFailed>
     ensures sends { Sends D.held D.has_failed
-        (painted_full grid.columns (widths_by grid.mode grid.tab grid.columns)
+        (painted_full_drawing grid.columns (widths_by grid.mode grid.tab grid.columns)
         (styles_in H.marks painting.now) row
         painting.now.prompt.text.now painting.now.line.text.now painting.now.info.text.now
         painting.now.end painting.now.cursor)

@@ -5,7 +5,7 @@ ghost use Rattle.unicode_segmentation.specs.Grapheme.{graphemes};
 ghost use Rattle.line_screen.specs.Drawing.{left_col, drawn_item, SendsTo, col_after, break_if, break_unless, fitted_col, col_after_one, no_style};
 ghost use Rattle.line_screen.specs.Drawing.DrawnItem.{Cluster, Tab};
 ghost use Rattle.line_screen.specs.Measure.{widths_by};
-ghost use Rattle.line_screen.specs.Colours.{end_of, painted, style_bytes, shaded_break, shaded, painted_letters, painted_after, painted_clusters, painted_row, painted_text, painted_item, painted_one, SendsPainted, spans_in, span_of, brush_paints, brush_spans, first_style, skip, next_painted, spans_behind, IsFirstSpan};
+ghost use Rattle.line_screen.specs.Colours.{end_of, bytes_of_all_painted, style_bytes, shaded_break, letters_in_style, painted_letters, items_painted_after, painted_clusters, painted_row, painted_text, painted_item, bytes_of_painted, SendsPainted, spans_in, span_of, brush_paints, brush_spans, first_style, skip, next_painted, spans_behind, IsFirstSpan};
 ghost use Rattle.line_screen.specs.Styles.{numbers};
 ghost use Rattle.line_help.specs.Paints.{IsNextSpan, first_mark};
 ghost use Rattle.line_screen.specs.Colours.PaintedItem.{Shaded, Fenced, Padded};
@@ -196,7 +196,8 @@ fn send_shades_end<D: Sink>(
 ) -> Result<Unit, DeviceFailed>
     requires inside { col < grid.columns }
     ensures { SendsTo
-        (painted grid.columns (map (Shaded (numbers style)) letters.now) col ++ no_style)
+        (bytes_of_all_painted grid.columns (map (Shaded (numbers style)) letters.now) col
+        ++ no_style)
         (end_of grid.columns (map (Shaded (numbers style)) letters.now) col)
         grid.columns D.held D.has_failed sink.old sink.new result }
 {
@@ -217,7 +218,7 @@ fn send_shaded<D: Sink>(
     letters: &[u8],
 ) -> Result<Unit, DeviceFailed>
     requires inside { col < grid.columns }
-    ensures { SendsPainted (shaded (numbers style) letters.now) col
+    ensures { SendsPainted (letters_in_style (numbers style) letters.now) col
         grid.columns D.held D.has_failed sink.old sink.new result }
 {
     if is_plain(style) {
@@ -281,7 +282,7 @@ fn send_tinted<D: Sink>(
 ) -> Result<Unit, DeviceFailed>
     requires inside { col < grid.columns }
     requires narrow { width ≤ grid.columns }
-    ensures { SendsTo (painted_one grid.columns (Fenced (numbers style) cluster.now width) col)
+    ensures { SendsTo (bytes_of_painted grid.columns (Fenced (numbers style) cluster.now width) col)
         (col_after_one grid.columns (Cluster cluster.now width) col)
         grid.columns D.held D.has_failed sink.old sink.new result }
 {
@@ -299,7 +300,7 @@ fn send_padded<D: Sink>(
     apart: u8,
 ) -> Result<Unit, DeviceFailed>
     requires inside { col < grid.columns }
-    ensures { SendsTo (painted_one grid.columns (Padded (numbers style) apart) col)
+    ensures { SendsTo (bytes_of_painted grid.columns (Padded (numbers style) apart) col)
         (col_after_one grid.columns (Tab apart) col)
         grid.columns D.held D.has_failed sink.old sink.new result }
 {
@@ -363,7 +364,7 @@ fn send_painted_after<D: Sink, H: Highlighter>(
     cluster: &str,
 ) -> Result<Unit, DeviceFailed>
     requires inside { start < grid.columns }
-    ensures { SendsPainted (painted_after (widths_by grid.mode grid.tab grid.columns)
+    ensures { SendsPainted (items_painted_after (widths_by grid.mode grid.tab grid.columns)
         (spans_in (brush_paints H.marks brush.now) spans) letters.now cluster.now) start
         grid.columns D.held D.has_failed sink.old sink.new result }
 {

@@ -5,7 +5,7 @@ ghost use Rattle.std.specs.Prelude.{◌≡◌, ◌≤◌, ◌<◌, ◌∷◌, �
 ghost use Rattle.std.specs.List.{list_all};
 ghost use Rattle.unicode_segmentation.specs.Grapheme.{graphemes};
 ghost use Rattle.line_screen.specs.Display.{is_printable};
-ghost use Rattle.line_screen.specs.Drawing.{drawn_item, row_items, next_items, text_items, break_if, break_unless, left_col, fitted_col, fenced, sent_one, col_after_one, sent, col_after, SendsTo, SendsItems};
+ghost use Rattle.line_screen.specs.Drawing.{drawn_item, row_items, next_items, text_items, break_if, break_unless, left_col, fitted_col, cluster_in_fence, bytes_of_item, col_after_one, bytes_of_items, col_after, SendsTo, SendsItems};
 ghost use Rattle.line_screen.specs.Drawing.DrawnItem.{Letter, Cluster, Tab};
 ghost use Rattle.line_screen.specs.Measure.{widths_by};
 ghost use Rattle.line_config.specs.Sending.{Sends};
@@ -55,7 +55,7 @@ pub(crate) fn make_room<D: Sink>(
 /// The text of a cluster between two sequences without effect. A cluster of two or three bytes, as
 /// most letters have, is one write.
 fn send_fenced<D: Sink>(sink: &mut D, cluster: &str) -> Result<(), DeviceFailed>
-    ensures { Sends D.held D.has_failed (fenced cluster.now) sink.old sink.new result }
+    ensures { Sends D.held D.has_failed (cluster_in_fence cluster.now) sink.old sink.new result }
 {
     let bytes = cluster.as_bytes();
     if let [a, b] = *bytes {
@@ -78,7 +78,7 @@ fn send_wide<D: Sink>(
 ) -> Result<Unit, DeviceFailed>
     requires inside { col < grid.columns }
     requires narrow { width ≤ grid.columns }
-    ensures { SendsTo (sent_one grid.columns (Cluster cluster.now width) col)
+    ensures { SendsTo (bytes_of_item grid.columns (Cluster cluster.now width) col)
         (col_after_one grid.columns (Cluster cluster.now width) col)
         grid.columns D.held D.has_failed sink.old sink.new result }
 {
@@ -111,7 +111,7 @@ pub(crate) fn send_tab<D: Sink>(
     apart: u8,
 ) -> Result<Unit, DeviceFailed>
     requires inside { col < grid.columns }
-    ensures { SendsTo (sent_one grid.columns (Tab apart) col)
+    ensures { SendsTo (bytes_of_item grid.columns (Tab apart) col)
         (col_after_one grid.columns (Tab apart) col)
         grid.columns D.held D.has_failed sink.old sink.new result }
 {
@@ -128,7 +128,7 @@ fn send_cluster<D: Sink>(
     cluster: &str,
 ) -> Result<Unit, DeviceFailed>
     requires inside { col < grid.columns }
-    ensures { SendsTo (sent_one grid.columns
+    ensures { SendsTo (bytes_of_item grid.columns
         (drawn_item (widths_by grid.mode grid.tab grid.columns) cluster.now) col)
         (col_after_one grid.columns
         (drawn_item (widths_by grid.mode grid.tab grid.columns) cluster.now) col)
@@ -189,7 +189,7 @@ fn send_clusters<D: Sink>(
 #[tactic(auto, using(crate::proofs::WideLemmas::known_items))]
 fn send_char<D: Sink>(sink: &mut D, grid: Grid, col: Unit, c: char) -> Result<Unit, DeviceFailed>
     requires inside { col < grid.columns }
-    ensures { SendsTo (sent_one grid.columns
+    ensures { SendsTo (bytes_of_item grid.columns
         (drawn_item (widths_by grid.mode grid.tab grid.columns) (encode_utf8 c)) col)
         (col_after_one grid.columns
         (drawn_item (widths_by grid.mode grid.tab grid.columns) (encode_utf8 c)) col)
@@ -259,6 +259,27 @@ fn send_next_row<D: Sink>(
     send_row(sink, grid, 0, row)
 }
 
+/// A text row by row. Not inlined, so that `send_text` needs no frame for it if all is one row.
+#[inline(never)]
+fn send_rows<D: Sink>(
+    sink: &mut D,
+    grid: Grid,
+    start: Unit,
+    text: &str,
+) -> Result<Unit, DeviceFailed>
+    requires inside { start < grid.columns }
+    ensures { SendsItems (text_items (widths_by grid.mode grid.tab grid.columns) text.now) start
+        grid.columns D.held D.has_failed sink.old sink.new result }
+{
+    let mut col = start;
+    let mut is_first = true;
+    for row in text.split('\n') {
+        col = send_next_row(sink, grid, col, is_first, row)?;
+        is_first = false;
+    }
+    Ok(col)
+}
+
 /// A text from a column on. A text of printable ASCII is one row, and isn't examined further.
 #[tactic(auto, using(crate::proofs::Items::letter_items))]
 pub(crate) fn send_text<D: Sink>(
@@ -274,11 +295,5 @@ pub(crate) fn send_text<D: Sink>(
     if is_printable_text(text) {
         return send_letters(sink, grid, start, text.as_bytes());
     }
-    let mut col = start;
-    let mut is_first = true;
-    for row in text.split('\n') {
-        col = send_next_row(sink, grid, col, is_first, row)?;
-        is_first = false;
-    }
-    Ok(col)
+    send_rows(sink, grid, start, text)
 }

@@ -22,6 +22,7 @@ fn answer(alloc: Global, config: &Config, name: &str) -> Result<String, AllocErr
         "history_ignore_space" => shown(alloc, config.history_ignore_space()),
         "keyseq_timeout" => shown(alloc, config.keyseq_timeout()),
         "edit_mode" => shown(alloc, config.edit_mode()),
+        "modal_commands" => shown(alloc, config.modal_commands()),
         "auto_add_history" => shown(alloc, config.auto_add_history()),
         "tab_stop" => shown(alloc, config.tab_stop()),
         "indent_size" => shown(alloc, config.indent_size()),
@@ -41,6 +42,7 @@ fn drawing_answer(alloc: Global, config: &Config, name: &str) -> Result<String, 
         "color_mode" => shown(alloc, config.color_mode()),
         "draw_colours" => shown(alloc, config.draw_colours()),
         "draw_tabs" => shown(alloc, config.draw_tabs()),
+        "partial_redraw" => shown(alloc, config.partial_redraw()),
         "drawn_tab_stop" => shown(alloc, config.drawn_tab_stop()),
         "grapheme_cluster_mode" => shown(alloc, config.grapheme_cluster_mode()),
         _ => terminal_answer(alloc, config, name),
@@ -85,11 +87,13 @@ const DEFAULTS: &str = "
     completion_prompt_limit = 100
     keyseq_timeout = None
     edit_mode = Emacs
+    modal_commands = false
     auto_add_history = false
     bell_style = Audible
     color_mode = Enabled
     draw_colours = false
     draw_tabs = false
+    partial_redraw = false
     drawn_tab_stop = None
     grapheme_cluster_mode = Unicode
     behavior = Stdio
@@ -139,6 +143,7 @@ fn set_all<C: Configurer>(holder: &mut C) -> Result<(), ReadlineError> {
 
 fn set_editing<C: Configurer>(holder: &mut C) {
     holder.set_history_ignore_space(true);
+    holder.set_modal_commands(true);
     holder.set_auto_add_history(true);
     holder.set_edit_mode(EditMode::Vi);
     holder.set_keyseq_timeout(Some(7));
@@ -154,6 +159,7 @@ fn set_drawing<C: Configurer>(holder: &mut C) {
     holder.set_color_mode(ColorMode::Forced);
     holder.set_draw_colours(true);
     holder.set_draw_tabs(true);
+    holder.set_partial_redraw(true);
     holder.set_grapheme_cluster_mode(GraphemeClusterMode::NoZwj);
 }
 
@@ -173,11 +179,13 @@ const ALL_SET: &str = "
     completion_prompt_limit = 7
     keyseq_timeout = Some(7)
     edit_mode = Vi
+    modal_commands = true
     auto_add_history = true
     bell_style = Visible
     color_mode = Forced
     draw_colours = true
     draw_tabs = true
+    partial_redraw = true
     drawn_tab_stop = Some(4)
     grapheme_cluster_mode = NoZwj
     tab_stop = 4
@@ -228,6 +236,7 @@ fn build_editing(builder: Builder) -> Builder {
         .history_ignore_space(true)
         .edit_mode(EditMode::Vi)
         .keyseq_timeout(Some(7))
+        .modal_commands(true)
         .auto_add_history(true)
         .behavior(Behavior::PreferTerm)
         .tab_stop(4)
@@ -246,6 +255,7 @@ fn build_drawing(builder: Builder) -> Builder {
         .color_mode(ColorMode::Forced)
         .draw_colours(true)
         .draw_tabs(true)
+        .partial_redraw(true)
         .grapheme_cluster_mode(GraphemeClusterMode::NoZwj)
 }
 

@@ -6,7 +6,7 @@ use crate::keys::telling::line_marked;
 use crate::keys::typing::keys_named;
 use line_config::{Config, EditMode, ReadlineError};
 use line_keys::{InputState, KeyEvent};
-use stand_ins::listener::{Listener, requests_in_words};
+use stand_ins::asked_keys::{AskedKeys, requests_in_words};
 use stand_ins::refreshers::PlainLine;
 use stand_ins::rows::{Player, raised, rows_hold};
 use std::alloc::Global;
@@ -23,7 +23,7 @@ struct Flags {
 fn take_commands(
     alloc: Global,
     state: &mut InputState<'_>,
-    reader: &mut Listener<'_>,
+    reader: &mut AskedKeys<'_>,
     line: &mut PlainLine,
     flags: Flags,
 ) -> Result<(), ReadlineError> {
@@ -47,7 +47,7 @@ fn asked(desk: &Desk<'_>, flags: Flags, keys: &[KeyEvent]) -> Result<String, Rea
         .build();
     let mut state = InputState::new(alloc, &config, &desk.bindings)?;
     let mut line = line_marked(alloc, desk.line)?;
-    let mut reader = Listener::new(alloc, keys);
+    let mut reader = AskedKeys::new(alloc, keys);
     take_commands(alloc, &mut state, &mut reader, &mut line, flags)?;
     raised(requests_in_words(alloc, reader.requests()))
 }

@@ -1,5 +1,7 @@
 //! The kill ring. A row is a call and its answer, if it has one.
 
+ghost use Rattle.std.specs.Prelude.{◌≤◌};
+
 use crate::record::undo::edited;
 use line_buffer::{DeleteListener, Direction, Mode, OutOfMemory};
 use line_record::KillRing;
@@ -156,4 +158,45 @@ fn a_ring_of_many(rt: HostRuntime) -> Result<(), Fail> {
     rows_hold(rt.alloc(), &mut played, "yank = 60\nyank_pop = 2 59")?;
     assert!(rt; popped_often(&mut played.ring, 58));
     rows_hold(rt.alloc(), &mut played, "yank_pop = 1 60")
+}
+
+/// A ring of three slots that holds two texts, with the one at this place current.
+fn ring_of_two(alloc: Global, place: usize) -> Result<Played, OutOfMemory>
+    requires { place ≤ 1 }
+{
+    let mut slots = Vec::new(alloc);
+    slots.push(String::from_str(alloc, "a")?)?;
+    slots.push(String::from_str(alloc, "bc")?)?;
+    Ok(Played {
+        ring: KillRing::from_slots(slots, 3, place),
+    })
+}
+
+#[test]
+fn rings_of_slots(rt: HostRuntime) -> Result<(), Fail> {
+    let alloc = rt.alloc();
+    let last = "
+        yank_pop = none
+        kill d
+        yank = d
+        yank_pop = 1 bc
+        yank_pop = 2 a
+        yank_pop = 1 d
+        ";
+    rows_hold(alloc, &mut ring_of_two(alloc, 1)?, last)?;
+    let first = "
+        yank = a
+        yank_pop = 1 bc
+        reset
+        kill d
+        yank_pop = none
+        yank = d
+        ";
+    rows_hold(alloc, &mut ring_of_two(alloc, 0)?, first)?;
+    let none = KillRing::from_slots(Vec::new(alloc), 3, 0);
+    rows_hold(
+        alloc,
+        &mut Played { ring: none },
+        "yank = none\nkill d\nyank = d",
+    )
 }

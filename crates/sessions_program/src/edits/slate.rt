@@ -131,6 +131,13 @@ impl Slate {
             .is_ok()
     }
 
+    fn kills_range(&mut self, movement: &Movement) -> bool {
+        let span = self.recorded.line.range_of(movement);
+        self.recorded
+            .kill_range(self.alloc, &mut self.ring, movement, span)
+            .is_ok()
+    }
+
     fn moves_rows(&mut self, movement: &Movement, dedent: bool) -> bool {
         self.recorded
             .indent(self.alloc, movement, INDENT, dedent)
@@ -142,6 +149,7 @@ impl Slate {
         let movement = movement_named(self.alloc, words)?;
         match name {
             "kill" => Some(self.kills(&movement)),
+            "kill_range" => Some(self.kills_range(&movement)),
             "indent" => Some(self.moves_rows(&movement, false)),
             "dedent" => Some(self.moves_rows(&movement, true)),
             _ => None,
@@ -154,7 +162,7 @@ impl Slate {
             "at" => Some(self.stands_at(usize::from(n))),
             "tighten" => Some(self.tighten().is_ok()),
             "redo" => Some(self.redo()),
-            "kill" | "indent" | "dedent" => self.makes_over(name, text),
+            "kill" | "kill_range" | "indent" | "dedent" => self.makes_over(name, text),
             "transpose_chars" | "transpose_words" | "edit_word" | "undo" => {
                 self.rewords(name, n, text)
             }

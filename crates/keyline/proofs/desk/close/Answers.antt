@@ -1,24 +1,26 @@
--- The new row after an ending failed.
-use Rattle.std.proofs.Common.{rules, ◌∙◌, ap}
+-- Its end was drawn or cut, and an accepted line was written or torn.
+use Rattle.std.proofs.Common.{ap, subst, sym}
 use Rattle.std.specs.Prelude.{string_bytes}
-use Rattle.line_keys.specs.Coming.{made_of}
 use Rattle.std.proofs.lemmas.Result.{err_from_is_err_and}
-use Rattle.line_screen.proofs.WaitingLemmas.{unsent_rests}
-use Rattle.keyline.proofs.CloseLemmas.{breaks_by, closes_other, closes_undrawn}
+use Rattle.line_keys.specs.Coming.{answer_map}
+use Rattle.keyline.specs.SessionEffects.{EndIsCut}
+use Rattle.keyline.proofs.CloseLemmas.{closes_accepted, closes_cut, closes_refused}
 use Rattle.keyline.proofs.desk.close.Goals as goal
 
-pub returns-in_err-write_and_flush-in-Err-clause-closes : goal.returns-in_err-write_and_flush-in-Err-clause-closes
-returns-in_err-write_and_flush-in-Err-clause-closes g c =
+pub returns-in_err-end_line-clause-closes : goal.returns-in_err-end_line-clause-closes
+returns-in_err-end_line-clause-closes g c =
     let p = err_from_is_err_and c.from_residual.result c.from_residual.ensures.1 in
-    closes_undrawn g.D.Sink.held g.D.Sink.has_failed g.L.Sink.held g.L.Sink.has_failed
-    c.args.adds _ _ _ _ _ _ p.0 (breaks_by _ c.args.outcome c.in-Err.why c.breaks_after.result c.in-Err.is c.breaks_after.ensures c.if-breaks_after.true)
-    (ap (made_of string_bytes) p.1) (p.2 ∙ c.in_err-write_and_flush-in-Err.ensures.fault) c.in_err-write_and_flush-in-Err.ensures.failed c.in_err-write_and_flush-in-Err.ensures.refused.begins
+    closes_cut g.D.Sink.held g.D.Sink.has_failed g.L.Sink.held g.L.Sink.has_failed
+    c.args.adds _ _ _ c.args.lines.now _ _ _ p.0 (ap (answer_map string_bytes) p.1)
+    (subst (EndIsCut g.D.Sink.held g.D.Sink.has_failed c.args.adds _ _ _ _ _) (sym p.2) c.in_err-end_line.ensures.ends)
 
-pub returns-in_err-write_and_flush-in-Err-clause-passes : goal.returns-in_err-write_and_flush-in-Err-clause-passes
-returns-in_err-write_and_flush-in-Err-clause-passes g c = λ none. unsent_rests g.D.Sink.held g.D.Sink.waits g.D.Sink.has_failed _ _ _ c.in_err-write_and_flush-in-Err.ensures.refused
+pub returns-in-Ok-clause-closes : goal.returns-in-Ok-clause-closes
+returns-in-Ok-clause-closes g c =
+    closes_accepted g.D.Sink.held g.D.Sink.has_failed g.L.Sink.held g.L.Sink.has_failed
+    c.args.adds (string_bytes c.in-Ok.text) _ _ _ c.args.lines.now _ _ _ c.hand_out.result (ap (answer_map string_bytes) c.in-Ok.is)
+    c.in_ok-end_line.ensures.ends c.hand_out.ensures.sends c.hand_out.ensures.fault c.hand_out.ensures.same
 
--- no line was accepted
-pub returns-after-breaks_after-clause-closes : goal.returns-after-breaks_after-clause-closes
-returns-after-breaks_after-clause-closes g c =
-    rw c.in-Err.is
-    (closes_other g.D.Sink.held g.D.Sink.has_failed g.L.Sink.held g.L.Sink.has_failed c.args.adds c.in-Err.why _ _ c.args.lines.now c.args.history.now (search rules) (search rules) (search rules))
+pub returns-in-Err-clause-closes : goal.returns-in-Err-clause-closes
+returns-in-Err-clause-closes g c =
+    closes_refused g.D.Sink.held g.D.Sink.has_failed g.L.Sink.held g.L.Sink.has_failed
+    c.args.adds c.in-Err.why _ _ _ c.args.lines.now _ _ (ap (answer_map string_bytes) c.in-Err.is) c.in_ok-end_line.ensures.ends

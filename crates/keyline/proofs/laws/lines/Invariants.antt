@@ -1,15 +1,15 @@
 -- The lines so far were taken, each with what was handed in for it.
-use Rattle.line_editor.specs.Running.{helping_by}
+use Rattle.line_editor.specs.LineRun.{helper_from_hooks}
 use Rattle.keyline.specs.Desks.{desk_feed}
-use Rattle.keyline.specs.Known.{known_by}
+use Rattle.keyline.specs.KnownDevices.{devices_by}
 use Rattle.keyline.specs.Opened.{given_in, prompt_of}
 use Rattle.keyline.proofs.LinesLemmas.{Asking}
 use Rattle.keyline.proofs.laws.lines.Given as goal
 
 abbrev pub invariant-loop-prompter : goal.invariant-loop-prompter
 invariant-loop-prompter g l =
-    let k = known_by g.S.Source.feed g.D.Sink.held g.D.Sink.waits g.D.Sink.has_failed g.L.Sink.held g.L.Sink.waits g.L.Sink.has_failed in
-    let helps = helping_by g.H.Hinter.hint_of g.H.Validator.verdict_of g.H.Completer.completion_of g.H.Completer.update_of g.H.Highlighter.marks in
+    let k = devices_by g.S.Source.feed g.D.Sink.held g.D.Sink.waits g.D.Sink.has_failed g.L.Sink.held g.L.Sink.waits g.L.Sink.has_failed in
+    let helps = helper_from_hooks g.H.Hinter.hint_of g.H.Validator.verdict_of g.H.Completer.completion_of g.H.Completer.update_of g.H.Highlighter.marks in
     let first = l.fn.session in
     let now = l.session in
     let given = given_in g.B.Decides.decides helps in
@@ -17,4 +17,4 @@ invariant-loop-prompter g l =
 
 abbrev pub decreases-loop-prompter : goal.decreases-loop-prompter
 decreases-loop-prompter g l =
-    (desk_feed (known_by g.S.Source.feed g.D.Sink.held g.D.Sink.waits g.D.Sink.has_failed g.L.Sink.held g.L.Sink.waits g.L.Sink.has_failed) l.session.desk).bound
+    (desk_feed (devices_by g.S.Source.feed g.D.Sink.held g.D.Sink.waits g.D.Sink.has_failed g.L.Sink.held g.L.Sink.waits g.L.Sink.has_failed) l.session.desk).bound

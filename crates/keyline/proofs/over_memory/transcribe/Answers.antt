@@ -1,6 +1,6 @@
 -- The session that was opened and run, and what its devices hold.
 use Rattle.std.proofs.Common.{refl, sym, ap, ◌∙◌}
-use Rattle.line_keys.specs.Answers.{custom_of}
+use Rattle.line_keys.specs.CustomBindings.{custom_of}
 use Rattle.keyline.specs.Program.{word_texts}
 use Rattle.keyline.proofs.TranscriptLemmas.{transcribed}
 use Rattle.keyline.proofs.over_memory.transcribe.Goals as goal

@@ -14,7 +14,7 @@ pub returns : goal.returns
 returns c =
     line_read _ _ _ c.args.config.now c.args.options.now (word_texts c.args.words) c.args.keys.now (last_of c.args.ended) _ _ c.as_str-prompt.result.now c.helper_of-helper.result
     c.screen-out.result _ c.args.ring _ (string_bytes c.new-last_query.result) _ c.args.history _ _ _ c.run-out.result slice_source.ghosts.feed c.run-out.new.reader _
-    c.run-out.ensures refl c.in_ok-close.ensures c.screen-out.ensures.empty
+    c.run-out.ensures refl c.in_ok-end_line.ensures.ends c.screen-out.ensures.empty
     c.requires.adds refl c.as_str-prompt.ensures.value c.helper_of-helper.ensures c.screen-out.ensures.screen
     (c.new-reader.ensures.coming (ap (λ (f : Feed). f.failed) c.source_of.ensures) ∙ ap (λ (f : Feed). coming_from c.args.options.now.mode f.coming f.last) c.source_of.ensures)
     (bound_at _ _ _ c.new-reader.ensures.kept

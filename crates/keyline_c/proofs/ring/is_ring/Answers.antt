@@ -4,9 +4,9 @@ use Rattle.keyline_c.specs.Slots.{IsSlot}
 use Rattle.keyline_c.proofs.SlotLemmas.{begins_more, is_there, no_ring, ring_if, slots_count}
 use Rattle.keyline_c.proofs.ring.is_ring.Goals as goal
 
-pub returns-then-ends-gt-SLOTS : goal.returns-then-ends-gt-SLOTS
-returns-then-ends-gt-SLOTS c =
-    no_ring c.args.texts.now c.args.ends.now c.args.place (λ has. omega (arith, c.if-ends-gt-SLOTS.true, has.1.few, slots_count has.0.slots c.args.texts.now c.args.ends.now has.1.laid_out))
+pub returns-then-ends-gt-KILL_RING_SIZE : goal.returns-then-ends-gt-KILL_RING_SIZE
+returns-then-ends-gt-KILL_RING_SIZE c =
+    no_ring c.args.texts.now c.args.ends.now c.args.place (λ has. omega (arith, c.if-ends-gt-KILL_RING_SIZE.true, has.1.few, slots_count has.0.slots c.args.texts.now c.args.ends.now has.1.laid_out))
 
 pub returns-then-place-saturating_sub : goal.returns-then-place-saturating_sub
 returns-then-place-saturating_sub c =
@@ -30,5 +30,5 @@ returns c =
     let l = c.loop-end in
     let all : l.end-index ≡ length c.args.ends.now = search rules in
     let place : c.args.place ≤ length c.args.ends.now - 1 = search rules in
-    ring_if c.args.texts.now c.args.ends.now c.args.place l.start l.end-index (nat_eq l.start (length c.args.texts.now)) l.invariant all c.if-ends-gt-SLOTS.false place
+    ring_if c.args.texts.now c.args.ends.now c.args.place l.start l.end-index (nat_eq l.start (length c.args.texts.now)) l.invariant all c.if-ends-gt-KILL_RING_SIZE.false place
     (eqb-true l.start (length c.args.texts.now)) (eq-eqb l.start (length c.args.texts.now))

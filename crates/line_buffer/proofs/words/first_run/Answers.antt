@@ -6,8 +6,8 @@ use Rattle.line_buffer.proofs.words.first_run.Goals as goal
 
 pub returns-then-count-gt1 : goal.returns-then-count-gt1
 returns-then-count-gt1 c =
-    begins_in_letters c.args.word c.args.text.now c.letters_upto-count.result c.utf8.text (omega (arith, c.if-count-gt1.true)) (omega (arith, c.letters_upto-count.ensures.bound, c.as_bytes.ensures.len))
-    (ap (λ bs. list_all is_ascii_alphanumeric (take c.letters_upto-count.result bs)) (sym c.as_bytes.ensures.value) ∙ c.letters_upto-count.ensures.letters)
+    begins_in_letters c.args.word c.args.text.now c.run_upto-count.result c.utf8.text (omega (arith, c.if-count-gt1.true)) (omega (arith, c.run_upto-count.ensures.bound, c.as_bytes.ensures.len))
+    (ap (λ bs. list_all is_ascii_alphanumeric (take c.run_upto-count.result bs)) (sym c.as_bytes.ensures.value) ∙ c.run_upto-count.ensures.run)
 
 pub returns-in_err-cluster : goal.returns-in_err-cluster
 returns-in_err-cluster c = rw c.from_residual.ensures (no_first_cluster c.args.text.now c.utf8.text c.in_err-cluster.ensures.value)

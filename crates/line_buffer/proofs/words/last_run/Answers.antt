@@ -6,8 +6,8 @@ use Rattle.line_buffer.proofs.words.last_run.Goals as goal
 
 pub returns-then-start-text : goal.returns-then-start-text
 returns-then-start-text c =
-    ends_in_letters c.args.word c.args.text.now c.letters_from-start.result c.utf8.text (omega (arith, c.if-start-text.true))
-    (ap (λ bs. list_all is_ascii_alphanumeric (drop c.letters_from-start.result bs)) (sym c.as_bytes.ensures.value) ∙ c.letters_from-start.ensures.letters)
+    ends_in_letters c.args.word c.args.text.now c.run_from-start.result c.utf8.text (omega (arith, c.if-start-text.true))
+    (ap (λ bs. list_all is_ascii_alphanumeric (drop c.run_from-start.result bs)) (sym c.as_bytes.ensures.value) ∙ c.run_from-start.ensures.run)
 
 pub returns-in_err-start : goal.returns-in_err-start
 returns-in_err-start c = rw c.from_residual.ensures (no_cluster c.args.text.now c.utf8.text c.in_err-start.ensures.value)

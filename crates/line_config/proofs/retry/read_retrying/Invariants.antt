@@ -1,7 +1,7 @@
 -- What was interrupted has read nothing.
 use Rattle.std.proofs.Common.{◌≡◌}
 use Rattle.std.specs.Io.KnownBytes.{Keeps}
-use Rattle.line_config.specs.Calls.{again, move_interrupted}
+use Rattle.line_config.specs.DeviceCalls.{again, move_interrupted}
 use Rattle.line_config.specs.Recorded.{calls_of, inner_of, took}
 use Rattle.line_config.proofs.retry.read_retrying.Given as goal
 

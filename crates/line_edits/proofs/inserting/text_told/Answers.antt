@@ -1,7 +1,7 @@
 use Rattle.std.proofs.Common.{refl, ◌∙◌}
 use Rattle.line_buffer.proofs.CutLemmas.{start_replaced}
 use Rattle.line_buffer.specs.Replay.{insertion}
-use Rattle.line_record.specs.Items.{held_on}
+use Rattle.line_record.specs.Items.{record_on}
 use Rattle.line_edits.proofs.StepLemmas.{unchanged_rewrites}
 use Rattle.line_edits.proofs.WrittenLemmas.{recorded_one}
 use Rattle.line_edits.proofs.inserting.text_told.Goals as goal
@@ -16,7 +16,7 @@ returns-clause-rewrites c =
       writes = record {
         answers = refl;
         line = rw c.pos-at.ensures.value at c.in_ok-insert_str.ensures.edits.line;
-        held = rw c.pos-at.ensures.value at (told.held ∙ recorded_one (insertion c.pos-at.result c.args.text.now) c.args.line.now.text (held_on c.args.changes.now c.args.line.now.text));
+        held = rw c.pos-at.ensures.value at (told.held ∙ recorded_one (insertion c.pos-at.result c.args.text.now) c.args.line.now.text (record_on c.args.changes.now c.args.line.now.text));
         stand = told.stand;
       };
       left = tt;

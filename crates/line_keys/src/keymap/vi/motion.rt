@@ -3,7 +3,7 @@
 ghost use Rattle.std.specs.Prelude.{◌≡◌, true};
 ghost use Rattle.line_keys.specs.Tables.{look};
 ghost use Rattle.line_keys.specs.ViMotions.{motion_rows, change_motion_rows, motion_of};
-ghost use Rattle.line_keys.specs.ViSearches.{opposite_of, searching};
+ghost use Rattle.line_keys.specs.ViSearches.{opposite_of, search_movement};
 
 use crate::flags::Modifiers;
 use crate::handler::Decides;
@@ -31,7 +31,7 @@ pub enum Search {
 impl Search {
     ghost use Rattle.line_keys.specs.ViSearches.{search_of};
 
-    pub fn to(self, c: char) -> CharSearch
+    pub(crate) fn to(self, c: char) -> CharSearch
         ensures { result ≡ search_of self c }
     {
         match self {
@@ -71,12 +71,12 @@ pub(crate) fn opposite(search: Option<CharSearch>) -> Option<CharSearch>
 
 /// The movement by a search.
 pub(crate) fn searching(n: RepeatCount, search: Option<CharSearch>) -> Option<Movement>
-    ensures { result ≡ searching n search }
+    ensures { result ≡ search_movement n search }
 {
     Some(Movement::ViCharSearch(n, search?))
 }
 
-// The rows of motions.
+/// The rows of motions.
 fn motion_row(key: KeyEvent, n: RepeatCount) -> Option<Motion>
     ensures { result ≡ look n true key motion_rows }
 {
@@ -111,7 +111,7 @@ fn motion_row(key: KeyEvent, n: RepeatCount) -> Option<Motion>
     }
 }
 
-// The rows of motions of a change, which doesn't include blanks after a word.
+/// The rows of motions of a change, which doesn't include blanks after a word.
 fn change_row(key: KeyEvent, n: RepeatCount) -> Option<Motion>
     ensures { result ≡ look n true key change_motion_rows }
 {
@@ -126,7 +126,7 @@ fn change_row(key: KeyEvent, n: RepeatCount) -> Option<Motion>
     }
 }
 
-// The meaning of a key after an operator, which may be a change.
+/// The meaning of a key after an operator, which may be a change.
 #[tactic(auto, using(crate::proofs::Steps::motions), unfolding(crate::specs::ViMotions::motion_of))]
 fn motion_of(changing: bool, key: KeyEvent, n: RepeatCount) -> Option<Motion>
     ensures { result ≡ motion_of changing n key }
@@ -141,15 +141,14 @@ fn motion_of(changing: bool, key: KeyEvent, n: RepeatCount) -> Option<Motion>
 }
 
 impl<D: Decides> InputState<'_, D> {
-    ghost use Rattle.line_keys.specs.InputStates.{input_of, custom_in};
+    ghost use Rattle.line_keys.specs.InputStates.{FollowsOn, input_of, custom_in};
     ghost use Rattle.line_keys.specs.Follows.{Follows, silent};
-    ghost use Rattle.line_keys.specs.Requests.{Asks, Begins, IsKey, IsLater, NextKey};
+    ghost use Rattle.line_keys.specs.Requests.{AsksInOrder, Begins, IsKey, IsLater, NextKey};
     ghost use Rattle.std.specs.Prelude.{false};
     ghost use Rattle.line_keys.specs.ViMotions.{motion_by, vi_motion};
-    ghost use Rattle.line_keys.specs.ViSearches.{sought};
+    ghost use Rattle.line_keys.specs.ViSearches.{search_of_next_key};
 
     /// The motion after an operator's key; `None` if another key follows.
-    #[tactic(auto, using(crate::proofs::Steps::motion))]
     pub(crate) fn vi_cmd_motion<R: RawReader, W: Refresher>(
         &mut self,
         alloc: Global,
@@ -158,11 +157,9 @@ impl<D: Decides> InputState<'_, D> {
         operator: KeyEvent,
         n: RepeatCount,
     ) -> Result<Option<Movement>, ReadlineError>
-        ensures motion { let input = input_of self.old in
-            let shown = W.display.shown wrt.old in
-            let script = vi_motion operator n input shown in
-            Follows W.display (custom_in self.old D.decides) script
-            wrt.old input wrt.new (input_of self.new) (R.feed rdr.old) (R.feed rdr.new) result }
+        ensures motion { FollowsOn (λ custom. vi_motion operator n)
+            self.old self.new D.decides W.display wrt.old wrt.new
+            (R.feed rdr.old) (R.feed rdr.new) result }
         ensures asks { Begins R.asked (NextKey false) IsLater rdr.old rdr.new }
         ensures bindings { self.new.custom_bindings ≡ self.old.custom_bindings }
     {
@@ -174,8 +171,7 @@ impl<D: Decides> InputState<'_, D> {
         self.motion_by(rdr, operator, multiplied(n, second), key)
     }
 
-    // The motion of the key after a second count.
-    #[tactic(auto, using(crate::proofs::Steps::answer))]
+    /// The motion of the key after a second count.
     fn motion_by<R: RawReader>(
         &mut self,
         rdr: &mut R,
@@ -187,7 +183,7 @@ impl<D: Decides> InputState<'_, D> {
             let script = motion_by operator n input key in
             Follows silent (custom_in self.old D.decides) script
             tt input tt (input_of self.new) (R.feed rdr.old) (R.feed rdr.new) result }
-        ensures asks { Asks R.asked (IsKey false) rdr.old rdr.new }
+        ensures asks { AsksInOrder R.asked (IsKey false) rdr.old rdr.new }
         ensures bindings { self.new.custom_bindings ≡ self.old.custom_bindings }
     {
         match motion_of(operator == CHANGE, key, n) {
@@ -200,7 +196,6 @@ impl<D: Decides> InputState<'_, D> {
     }
 
     /// The movement to the next typed character. The search is remembered.
-    #[tactic(auto, using(crate::proofs::Steps::search))]
     pub(crate) fn vi_char_search<R: RawReader>(
         &mut self,
         rdr: &mut R,
@@ -208,7 +203,7 @@ impl<D: Decides> InputState<'_, D> {
         n: RepeatCount,
     ) -> Result<Option<Movement>, ReadlineError>
         ensures sought { let input = input_of self.old in
-            let script = sought search n input in
+            let script = search_of_next_key search n input in
             Follows silent (custom_in self.old D.decides) script
             tt input tt (input_of self.new) (R.feed rdr.old) (R.feed rdr.new) result }
         ensures asks { R.asked rdr.old (NextKey false) rdr.new }

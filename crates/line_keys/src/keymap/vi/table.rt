@@ -2,12 +2,12 @@
 
 ghost use Rattle.std.specs.Prelude.{◌≡◌, ℕ, None, option_map, true};
 ghost use Rattle.line_keys.specs.Tables.{look};
-ghost use Rattle.line_keys.specs.Vi.{operated};
+ghost use Rattle.line_keys.specs.Vi.{command_of_operator};
 ghost use Rattle.line_keys.specs.ViTables.{action_of, insert_action, vi_edit_rows, vi_move_rows};
 ghost use Rattle.line_keys.specs.ViTables.{vi_reading_rows, vi_turn_rows};
 ghost use Rattle.line_keys.specs.declared.command.Cmd.TheVariants.{Replace};
 ghost use Rattle.line_keys.specs.declared.command.InputMode.TheVariants.{Insert};
-ghost use Rattle.line_keys.specs.declared.keymap.vi.table.Action.TheVariants.{Give, Turn};
+ghost use Rattle.line_keys.specs.declared.keymap.vi.table.ViAction.TheVariants.{Give, Turn};
 
 use crate::command::{Cmd, InputMode, SearchAgain};
 use crate::flags::Modifiers;
@@ -18,7 +18,7 @@ use line_buffer::{Anchor, At, Movement, RepeatCount, Word};
 
 /// The action of a key in command mode.
 #[derive(Drop)]
-pub enum Action {
+pub enum ViAction {
     /// Gives a command.
     Give(Cmd),
     /// Switches to insert mode, notifies the display, and gives a command.
@@ -54,8 +54,8 @@ impl Operator {
     ghost use Rattle.line_keys.specs.Vi.{command_of};
 
     /// The operator's command for a motion.
-    pub fn command(self, motion: Option<Movement>) -> Cmd
-        ensures { result ≡ operated (command_of self) motion }
+    pub(crate) fn command(self, motion: Option<Movement>) -> Cmd
+        ensures { result ≡ command_of_operator (command_of self) motion }
     {
         let Some(movement) = motion else {
             return Cmd::Unknown;
@@ -116,7 +116,7 @@ pub(crate) fn vi_insert_row<W: Refresher>(
     }
 }
 
-// The rows of motions.
+/// The rows of motions.
 fn vi_move_row(key: KeyEvent, n: RepeatCount) -> Option<Cmd>
     ensures { option_map Give result ≡ look n true key vi_move_rows }
 {
@@ -152,7 +152,7 @@ fn vi_move_row(key: KeyEvent, n: RepeatCount) -> Option<Cmd>
     }
 }
 
-// The rows of edits without a motion, and other rows.
+/// The rows of edits without a motion, and other rows.
 fn vi_edit_row(modal: bool, key: KeyEvent, n: RepeatCount) -> Option<Cmd>
     ensures { option_map Give result ≡ look n true key (vi_edit_rows modal) }
 {
@@ -180,8 +180,8 @@ fn vi_edit_row(modal: bool, key: KeyEvent, n: RepeatCount) -> Option<Cmd>
     }
 }
 
-// The rows whose keys leave command mode.
-fn vi_turn_row(modal: bool, key: KeyEvent, n: RepeatCount) -> Option<Action>
+/// The rows whose keys leave command mode.
+fn vi_turn_row(modal: bool, key: KeyEvent, n: RepeatCount) -> Option<ViAction>
     ensures { result ≡ look n true key (vi_turn_rows modal) }
 {
     use KeyCode as K;
@@ -189,76 +189,75 @@ fn vi_turn_row(modal: bool, key: KeyEvent, n: RepeatCount) -> Option<Action>
     use Modifiers as M;
 
     match key {
-        E(K::Char('a'), M::NONE) => Some(Action::Insert(Cmd::Move(Movement::ForwardChar(n)))),
-        E(K::Char('A'), M::NONE) => Some(Action::Insert(Cmd::Move(Movement::EndOfLine))),
-        E(K::Char('i'), M::NONE) => Some(Action::Insert(Cmd::Noop)),
-        E(K::Char('I'), M::NONE) => Some(Action::Insert(Cmd::Move(Movement::BeginningOfLine))),
+        E(K::Char('a'), M::NONE) => Some(ViAction::Insert(Cmd::Move(Movement::ForwardChar(n)))),
+        E(K::Char('A'), M::NONE) => Some(ViAction::Insert(Cmd::Move(Movement::EndOfLine))),
+        E(K::Char('i'), M::NONE) => Some(ViAction::Insert(Cmd::Noop)),
+        E(K::Char('I'), M::NONE) => Some(ViAction::Insert(Cmd::Move(Movement::BeginningOfLine))),
         E(K::Char('C'), M::NONE) => Some(replacing(Movement::EndOfLine)),
         E(K::Char('s'), M::NONE) => Some(replacing(Movement::ForwardChar(n))),
         E(K::Char('S'), M::NONE) => Some(replacing(Movement::WholeLine)),
         E(K::Char('R'), M::NONE) => {
             let cmd = Cmd::Replace(Movement::ForwardChar(0), None);
-            Some(Action::Turn(InputMode::Replace, cmd))
+            Some(ViAction::Turn(InputMode::Replace, cmd))
         }
         E(K::Char('R'), M::CTRL) => {
-            Some(Action::Turn(InputMode::Insert, Cmd::ReverseSearchHistory))
+            Some(ViAction::Turn(InputMode::Insert, Cmd::ReverseSearchHistory))
         }
         E(K::Char('S'), M::CTRL) => {
-            Some(Action::Turn(InputMode::Insert, Cmd::ForwardSearchHistory))
+            Some(ViAction::Turn(InputMode::Insert, Cmd::ForwardSearchHistory))
         }
         E(K::Char('/'), M::NONE) if modal => {
-            Some(Action::Turn(InputMode::Insert, Cmd::ReverseSearchHistory))
+            Some(ViAction::Turn(InputMode::Insert, Cmd::ReverseSearchHistory))
         }
         E(K::Char('?'), M::NONE) if modal => {
-            Some(Action::Turn(InputMode::Insert, Cmd::ForwardSearchHistory))
+            Some(ViAction::Turn(InputMode::Insert, Cmd::ForwardSearchHistory))
         }
         _ => None,
     }
 }
 
-// Switches to insert mode, where typed text replaces the range.
-fn replacing(range: Movement) -> Action
+/// Switches to insert mode, where typed text replaces the range.
+fn replacing(range: Movement) -> ViAction
     ensures { result ≡ Turn Insert (Replace range None) }
 {
-    Action::Turn(InputMode::Insert, Cmd::Replace(range, None))
+    ViAction::Turn(InputMode::Insert, Cmd::Replace(range, None))
 }
 
-// The rows of keys after which more is read, or which use the last search or change.
-fn vi_reading_row(key: KeyEvent) -> Option<Action>
+/// The rows of keys after which more is read, or which use the last search or change.
+fn vi_reading_row(key: KeyEvent) -> Option<ViAction>
     ensures { (n : ℕ) → result ≡ look n true key vi_reading_rows }
 {
     let KeyEvent(KeyCode::Char(c), Modifiers::NONE) = key else {
         return None;
     };
     match c {
-        'c' => Some(Action::Operate(Operator::Change)),
-        'd' => Some(Action::Operate(Operator::Delete)),
-        'y' => Some(Action::Operate(Operator::Yank)),
-        '<' => Some(Action::Operate(Operator::Dedent)),
-        '>' => Some(Action::Operate(Operator::Indent)),
-        'f' => Some(Action::Search(Search::Forward)),
-        't' => Some(Action::Search(Search::ForwardBefore)),
-        'F' => Some(Action::Search(Search::Backward)),
-        'T' => Some(Action::Search(Search::BackwardAfter)),
-        ';' => Some(Action::Again),
-        ',' => Some(Action::Back),
-        '.' => Some(Action::Repeat),
-        'r' => Some(Action::Replace),
+        'c' => Some(ViAction::Operate(Operator::Change)),
+        'd' => Some(ViAction::Operate(Operator::Delete)),
+        'y' => Some(ViAction::Operate(Operator::Yank)),
+        '<' => Some(ViAction::Operate(Operator::Dedent)),
+        '>' => Some(ViAction::Operate(Operator::Indent)),
+        'f' => Some(ViAction::Search(Search::Forward)),
+        't' => Some(ViAction::Search(Search::ForwardBefore)),
+        'F' => Some(ViAction::Search(Search::Backward)),
+        'T' => Some(ViAction::Search(Search::BackwardAfter)),
+        ';' => Some(ViAction::Again),
+        ',' => Some(ViAction::Back),
+        '.' => Some(ViAction::Repeat),
+        'r' => Some(ViAction::Replace),
         _ => None,
     }
 }
 
 /// The action of a key in command mode, with the count. `modal` says whether the commands act that
 /// go on over several keys.
-#[tactic(auto, using(crate::proofs::Steps::tables))]
-pub(crate) fn vi_command_row(modal: bool, key: KeyEvent, n: RepeatCount) -> Option<Action>
+pub(crate) fn vi_command_row(modal: bool, key: KeyEvent, n: RepeatCount) -> Option<ViAction>
     ensures { result ≡ action_of modal n key }
 {
     if let Some(cmd) = vi_move_row(key, n) {
-        return Some(Action::Give(cmd));
+        return Some(ViAction::Give(cmd));
     }
     if let Some(cmd) = vi_edit_row(modal, key, n) {
-        return Some(Action::Give(cmd));
+        return Some(ViAction::Give(cmd));
     }
     match vi_turn_row(modal, key, n) {
         Some(action) => Some(action),

@@ -1,11 +1,11 @@
 use Rattle.std.proofs.Common.{◌∙◌}
-use Rattle.line_record.specs.declared.entry.Entry.{Entry}
+use Rattle.line_record.specs.declared.entry.LoggedChange.{LoggedChange}
 use Rattle.line_record.specs.declared.entry.Kind.TheVariants.{Insertion}
 use Rattle.line_record.specs.Logged.{edit_in}
 use Rattle.line_record.proofs.LogLemmas.{ahead_entry}
 use Rattle.line_record.proofs.entry.make_anew.Goals as goal
 
-abbrev nothing : Entry
+abbrev nothing : LoggedChange
 nothing = record { kind = Insertion; at = 0; start = 0; middle = 0; end = 0 }
 
 pub make_anew-requires-clause-fits : goal.make_anew-requires-clause-fits

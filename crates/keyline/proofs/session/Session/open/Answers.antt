@@ -1,8 +1,9 @@
 -- The devices go into their boxes, or are handed back.
 use Rattle.std.proofs.Common.{◌≡◌, ◌∙◌, false, refl, rules, subst, sym}
 use Rattle.line_help.proofs.RowLemmas.{none_read}
+use Rattle.line_screen.specs.ScreenCalls.{sink_of}
 use Rattle.line_screen.specs.Reader.{coming_in}
-use Rattle.keyline.specs.Plays.{Unopens}
+use Rattle.keyline.specs.SessionRuns.{Unopens}
 use Rattle.keyline.specs.Sessions.{coming_from}
 use Rattle.keyline.proofs.EditLemmas.{loaded_where}
 use Rattle.keyline.proofs.LinesLemmas.{along}
@@ -31,12 +32,12 @@ returns-clause-desk g c =
     record {
       loaded = loaded_where _ _ _ (λ always. always c.begin.new.source) c.in-Ok-begin.ensures.ok.history;
       ring = c.in-Ok-begin.ensures.ok.ring;
-      query = c.new-3.ensures.bytes;
+      query = c.new-4.ensures.bytes;
       coming = subst Comes devices.0 c.new-2.ensures.coming c.requires.source ∙ mode;
       source_is = c.new-2.ensures.source ∙ devices.0;
       kept = c.new-2.ensures.kept;
       screen = search rules;
-      display_is = c.set_tab_stop.ensures.sink ∙ c.set_colours.ensures.sink ∙ c.new-out.ensures.sink ∙ devices.1;
+      display_is = along c.new-3.ensures sink_of ∙ c.set_tab_stop.ensures.sink ∙ c.set_colours.ensures.sink ∙ c.new-out.ensures.sink ∙ devices.1;
       helper_is = refl;
       lines_are = devices.2;
     }

@@ -2,9 +2,9 @@ use Rattle.std.proofs.Common.{rules, ◌≡◌, sym, ap, ◌∙◌, arith, lengt
 use Rattle.std.specs.Prelude.{slice_range}
 use Rattle.std.proofs.lemmas.List.Edits.{length-between}
 use Rattle.line_buffer.specs.declared.types.Direction.TheVariants.{Forward}
-use Rattle.line_buffer.specs.Event.Event.{Delete}
+use Rattle.line_buffer.specs.Event.ChangeEvent.{Delete}
 use Rattle.line_buffer.specs.Indent.{row_event}
-use Rattle.line_buffer.specs.Replay.{deletion, insertion, carried_line}
+use Rattle.line_buffer.specs.Replay.{deletion, insertion, line_after_event}
 use Rattle.line_buffer.proofs.CutLemmas.{drop_replaced}
 use Rattle.line_buffer.proofs.gap_buffer.GapBuffer.change_row.Goals as goal
 
@@ -31,7 +31,7 @@ returns-then-dedent-clause-edits g c =
     record {
       told = search rules;
       replays = search rules;
-      line = ap (λ v. v.0) c.in_ok-remove.ensures.value ∙ ap (λ e. carried_line e c.args.self.now.0) told;
+      line = ap (λ v. v.0) c.in_ok-remove.ensures.value ∙ ap (λ e. line_after_event e c.args.self.now.0) told;
       refused = tt;
       kept = tt;
     }
@@ -42,8 +42,8 @@ returns-clause-edits g c =
     record {
       told = search rules;
       replays = search rules;
-      line = ap (λ v. v.0) {y = (carried_line (insertion gap c.args.margin.now) c.args.self.now.0, gap + length c.args.margin.now)} c.in_ok-insert.ensures.value
-          ∙ sym (ap (λ d. carried_line (row_event c.args.margin.now d gap (slice_range c.args.self.now.0.text gap c.args.end)) c.args.self.now.0) c.if-dedent.false);
+      line = ap (λ v. v.0) {y = (line_after_event (insertion gap c.args.margin.now) c.args.self.now.0, gap + length c.args.margin.now)} c.in_ok-insert.ensures.value
+          ∙ sym (ap (λ d. line_after_event (row_event c.args.margin.now d gap (slice_range c.args.self.now.0.text gap c.args.end)) c.args.self.now.0) c.if-dedent.false);
       refused = tt;
       kept = tt;
     }

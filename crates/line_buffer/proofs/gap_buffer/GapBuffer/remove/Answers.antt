@@ -1,7 +1,7 @@
 use Rattle.std.proofs.Common.{◌≡◌, ◌-◌, ◌≤◌, ◌++◌, [], length, drop, string_bytes, ap, ◌∙◌, subst, arith}
 use Rattle.std.specs.List.{replace_range}
 use Rattle.line_buffer.specs.declared.types.Direction.TheVariants.{Forward}
-use Rattle.line_buffer.specs.Replay.{deletion, carried_line}
+use Rattle.line_buffer.specs.Replay.{deletion, line_after_event}
 use Rattle.line_buffer.proofs.GapLemmas.{remove_at_seam, swaps_deletion, gapped, gap_removed}
 use Rattle.line_buffer.proofs.gap_buffer.GapBuffer.remove.Goals as goal
 
@@ -23,7 +23,7 @@ returns-clause-value g c =
     subst
     (λ v. c.gap-at.result ≡ v.1 → v.1 ≤ c.args.upto → c.args.upto ≤ length v.0.text
     → gapped (before ++ rest) (c.self.inside.pos - c.min.result) c.self.inside.can_growth c.self.inside.limit (length before)
-    ≡ (carried_line (deletion v.1 c.args.upto Forward v.0.text) v.0, v.1))
+    ≡ (line_after_event (deletion v.1 c.args.upto Forward v.0.text) v.0, v.1))
     c.self.view_is
     (λ is le within. gap_removed before after rest c.args.upto c.self.inside.pos _ c.self.inside.limit c.self.inside.can_growth le within
     (c.range_from-self-inside.ensures.value ∙ ap (λ n. drop (c.args.upto - n) after) is) (omega (arith, c.min.ensures, c.saturating_sub.ensures, is)))

@@ -2,7 +2,7 @@ use Rattle.std.proofs.lemmas.List.Edits.{length-between}
 use Rattle.std.specs.List.{replace_range}
 use Rattle.std.proofs.Common.{length, sym, ap, subst, ◌∙◌, refl, arith}
 use Rattle.std.specs.Prelude.{IsCharBoundary, slice_range}
-use Rattle.line_buffer.specs.Line.{replaced}
+use Rattle.line_buffer.specs.Line.{with_replacement}
 use Rattle.line_buffer.specs.Replay.{replacement}
 use Rattle.line_buffer.proofs.CutLemmas.{before_replaced}
 use Rattle.line_buffer.proofs.LeftLemmas.{edits_refused, stopped_first, stopped_for_memory, stopped_after_one, carried_replacement}
@@ -44,7 +44,7 @@ returns-in_err-replace-2 g c =
     let l = c.args.self.now in
     let e = c.as_str.ensures.value ∙ c.in_ok-earlier.ensures in
     edits_refused _ _ c.from_residual-in_err-replace-2.ensures.1 (stopped_after_one _ (rw e at c.in_ok-replace.ensures.told) (rw e at c.in_ok-replace.ensures.replays)
-    (c.in_ok-replace.ensures.line ∙ ap (λ x. replaced c.args.second.start c.args.second.end x l) e
+    (c.in_ok-replace.ensures.line ∙ ap (λ x. with_replacement c.args.second.start c.args.second.end x l) e
     ∙ sym (carried_replacement l c.args.second.start c.args.second.end (slice_range l.text c.args.first.start c.args.first.end) c.requires.second c.requires.second_end.0))
     (stopped_first _ _ _ _ _ _ _ _ _ refl tt
     (refused_as g.C.DeleteListener.refuses (ap (λ x. replacement c.args.first.start c.args.first.end x c.replace.new.self.text) (c.as_str-2.ensures.value ∙ c.in_ok-later.ensures)

@@ -4,7 +4,7 @@ use Rattle.std.proofs.Common.{◌≡◌, ◌++◌, ◌-◌, ◌+◌, ◌^◌, �
 use Rattle.std.specs.Io.KnownBytes.{Consumes}
 use Rattle.std.proofs.lemmas.List.{length-take, length-drop}
 use Rattle.std.proofs.lemmas.Grind.{common_steps}
-use Rattle.line_config.specs.Adapters.{gave, reader_of, unread_of}
+use Rattle.line_config.specs.Adapters.{gave, reader_of, bytes_not_given}
 use Rattle.line_config.specs.Buffer.{bytes_in}
 use Rattle.line_config.specs.Recorded.{inner_of, took}
 use Rattle.line_config.specs.declared.device.Last.TheVariants.{End, Failed}
@@ -19,7 +19,7 @@ returns-then-self-gt-MOST_BYTES-clause-reader g c =
     record {
       more = [];
       noted = sym (append-nil (gave s));
-      passed = append-nil (unread_of s);
+      passed = append-nil (bytes_not_given s);
       reader = consumes_none _ _ (keeps_same (g.R.Read.remaining (reader_of s)));
       lazy = λ some. (refl, refl);
       once = λ some. absurd (omega arith);
@@ -31,10 +31,10 @@ pub returns-then-self-gt-MOST_BYTES-clause-told : goal.returns-then-self-gt-MOST
 returns-then-self-gt-MOST_BYTES-clause-told g c =
     let s = c.args.self.now in
     let unmet : s.met ≡ None = grind (arith, common_steps) in
-    let none : unread_of s ≡ [] = c.requires in
+    let none : bytes_not_given s ≡ [] = c.requires in
     let same : Consumes (g.R.Read.remaining (reader_of s)) (g.R.Read.remaining (reader_of s)) [] = consumes_none _ _ (keeps_same (g.R.Read.remaining (reader_of s))) in
-    fills_by g.R.Read.remaining g.K.Foretold.told g.K.Foretold.left g.K.Foretold.last g.met.K.Foretold.foretells (reader_of s) (reader_of s) (gave s) (unread_of s)
-    (unread_of s) (gave s) s.met (Some Failed) s.count s.count none unmet (rw none (sym (append-nil (gave s)))) (rw none same)
+    fills_by g.R.Read.remaining g.K.Foretold.told g.K.Foretold.left g.K.Foretold.last g.met.K.Foretold.foretells (reader_of s) (reader_of s) (gave s) (bytes_not_given s)
+    (bytes_not_given s) (gave s) s.met (Some Failed) s.count s.count none unmet (rw none (sym (append-nil (gave s)))) (rw none same)
     (record { nothing = λ x is. none; end = λ is. absurd (cc) }) (λ e. (Failed, refl)) (omega (arith, ap length none))
 
 pub returns-then-is_empty-clause-told : goal.returns-then-is_empty-clause-told
@@ -48,7 +48,7 @@ returns-then-is_empty-clause-told g c =
     let len : length c.as_slice.result.now ≡ length bytes = grind (arith, common_steps) in
     let few : s.count ≤ 2 ^ 63 - 4096 = grind (arith, common_steps) in
     let fits : length bytes ≤ 4096 = omega (arith, w.ordered, w.within, length-take {A = ℕ}, length-drop {A = ℕ}) in
-    fills_by g.R.Read.remaining g.K.Foretold.told g.K.Foretold.left g.K.Foretold.last g.met.K.Foretold.foretells (reader_of s) (inner_of r) (gave s) (unread_of s) bytes
+    fills_by g.R.Read.remaining g.K.Foretold.told g.K.Foretold.left g.K.Foretold.last g.met.K.Foretold.foretells (reader_of s) (inner_of r) (gave s) (bytes_not_given s) bytes
     (took r) s.met (Some End) s.count (s.count + length c.as_slice.result.now) c.requires unmet c.fill_from.ensures.took c.fill_from.ensures.bytes
     (record { nothing = λ x is. none; end = λ is. c.in-Ok.ensures.end none (lit< tt) }) (λ e. (End, refl)) (omega (arith, len, few, fits))
 
@@ -63,7 +63,7 @@ returns-else-is_empty-clause-told g c =
     let len : length c.as_slice.result.now ≡ length bytes = grind (arith, common_steps) in
     let few : s.count ≤ 2 ^ 63 - 4096 = grind (arith, common_steps) in
     let fits : length bytes ≤ 4096 = omega (arith, w.ordered, w.within, length-take {A = ℕ}, length-drop {A = ℕ}) in
-    fills_by g.R.Read.remaining g.K.Foretold.told g.K.Foretold.left g.K.Foretold.last g.met.K.Foretold.foretells (reader_of s) (inner_of r) (gave s) (unread_of s) bytes
+    fills_by g.R.Read.remaining g.K.Foretold.told g.K.Foretold.left g.K.Foretold.last g.met.K.Foretold.foretells (reader_of s) (inner_of r) (gave s) (bytes_not_given s) bytes
     (took r) s.met s.met s.count (s.count + length c.as_slice.result.now) c.requires unmet c.fill_from.ensures.took c.fill_from.ensures.bytes
     (record { nothing = λ x is. absurd (let no = sym unmet ∙ is in cc); end = λ is. absurd (let no = sym unmet ∙ is in cc) }) (λ e. absurd (some e))
     (omega (arith, len, few, fits))
@@ -76,6 +76,6 @@ returns-in-Err-clause-told g c =
     let bytes = bytes_in w in
     let unmet : s.met ≡ None = grind (arith, common_steps) in
     let none : bytes ≡ [] = c.in-Err.ensures.err in
-    fills_by g.R.Read.remaining g.K.Foretold.told g.K.Foretold.left g.K.Foretold.last g.met.K.Foretold.foretells (reader_of s) (inner_of r) (gave s) (unread_of s) bytes
+    fills_by g.R.Read.remaining g.K.Foretold.told g.K.Foretold.left g.K.Foretold.last g.met.K.Foretold.foretells (reader_of s) (inner_of r) (gave s) (bytes_not_given s) bytes
     (took r) s.met (Some Failed) s.count s.count c.requires unmet c.fill_from.ensures.took c.fill_from.ensures.bytes
     (record { nothing = λ x is. none; end = λ is. absurd (cc) }) (λ e. (Failed, refl)) (omega (arith, ap length none))

@@ -6,7 +6,7 @@ use Rattle.line_config.proofs.BufferLemmas.{slice_range-later}
 use Rattle.line_config.proofs.NotesLemmas.{notes_then}
 use Rattle.line_config.proofs.TryLemmas.{ends_tries, write_fails}
 use Rattle.line_config.proofs.Taking.{on_err}
-use Rattle.line_config.specs.Calls.{IsWriteFailure}
+use Rattle.line_config.specs.DeviceCalls.{IsWriteFailure}
 use Rattle.line_config.proofs.buffer.Buffer.send_to.Goals as goal
 
 pub loop-self-preserved : goal.loop-self-preserved

@@ -31,7 +31,7 @@ use denote.Triple.Walked.{says, Stays, stay_ref, stay_none_ref, stay_none_slice,
 use Rattle.std.specs.declared.io.Error.{Error}
 use Rattle.std.specs.contracts.result.Result as result
 use Rattle.std.specs.contracts.io.Error as error
-use Rattle.line_config.specs.Calls.{moved, moves}
+use Rattle.line_config.specs.DeviceCalls.{bytes_moved, moves}
 use Rattle.line_config.specs.declared.log.Log.{Log}
 use Rattle.line_config.specs.contracts.log.Log as T
 use Rattle.line_config.specs.contracts.log.Log.note.Key.{name as #it}
@@ -55,7 +55,7 @@ module _ {M : Type 1} {𝓤 : Ura M} (𝓛 : Logic 𝓤) (at_mem : Memory → SP
   x = (record { ref_ptr = (b, o); ghost_name = γ; now = h }, (k, (s, tt)))
 
   abbrev h' : Log
-  h' = record { marker = h.marker; bytes = h.bytes ++ moved k.now s.now; calls = moves k.now s.now ∷ h.calls }
+  h' = record { marker = h.marker; bytes = h.bytes ++ bytes_moved k.now s.now; calls = moves k.now s.now ∷ h.calls }
 
   abbrev at : List Val × (List Val × (List Val × Unit {0}))
   at = (vptr b o ∷ [], (vptr k.ref_ptr.0 k.ref_ptr.1 ∷ [], (slice_val s.ref_ptr (length s.now) ∷ [], tt)))

@@ -32,7 +32,7 @@ use denote.Triple.Walked.{says, Stays, stay_ref, stay_none_ref, walk_of, AllGo, 
 use Rattle.std.specs.declared.io.Error.{Error}
 use Rattle.std.specs.contracts.result.Result as result
 use Rattle.std.specs.contracts.io.Error as error
-use Rattle.line_config.specs.Calls.{flushes}
+use Rattle.line_config.specs.DeviceCalls.{flushes}
 use Rattle.line_config.specs.declared.log.Log.{Log}
 use Rattle.line_config.specs.contracts.log.Log as T
 use Rattle.line_config.specs.contracts.log.Log.note_flush.Key.{name as #it}

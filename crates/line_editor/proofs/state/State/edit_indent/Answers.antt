@@ -1,7 +1,7 @@
 use Rattle.std.proofs.Common.{refl}
-use Rattle.line_edits.specs.Edits.{indenting}
-use Rattle.line_editor.specs.Drawing.{refreshed}
-use Rattle.line_editor.specs.Rewording.{indent_effect}
+use Rattle.line_edits.specs.Edits.{indent_steps}
+use Rattle.line_editor.specs.Drawing.{refresh_effect}
+use Rattle.line_editor.specs.Transforms.{indent_effect}
 use Rattle.line_editor.specs.States.{value_of}
 use Rattle.line_editor.proofs.EditLemmas.{edit_then, edit_refused}
 use Rattle.line_editor.proofs.state.State.edit_indent.Goals as goal
@@ -9,9 +9,9 @@ use Rattle.line_editor.proofs.state.State.edit_indent.Goals as goal
 pub returns-in_err-indent : goal.returns-in_err-indent
 returns-in_err-indent g c =
     let s = c.args.self.now in
-    let edit = indenting c.args.movement.now c.args.amount c.args.dedent in
+    let edit = indent_steps c.args.movement.now c.args.amount c.args.dedent in
     record {
-      does = edit_refused (indent_effect c.args.movement.now c.args.amount c.args.dedent) refreshed
+      does = edit_refused (indent_effect c.args.movement.now c.args.amount c.args.dedent) refresh_effect
           edit (value_of s) s _ _ _ _ c.from_residual.ensures.1 refl refl c.in_err-indent.ensures
           refl refl
           (record { ruler = refl; prompt = refl; history_is = refl; hooks_are = refl; marks_are = refl; config_is = refl });
@@ -20,9 +20,9 @@ returns-in_err-indent g c =
 pub returns : goal.returns
 returns g c =
     let s = c.args.self.now in
-    let edit = indenting c.args.movement.now c.args.amount c.args.dedent in
+    let edit = indent_steps c.args.movement.now c.args.amount c.args.dedent in
     record {
-      does = edit_then (indent_effect c.args.movement.now c.args.amount c.args.dedent) refreshed
+      does = edit_then (indent_effect c.args.movement.now c.args.amount c.args.dedent) refresh_effect
           edit (value_of s) s _ _ _ _ _ _ refl refl c.in_ok-indent.ensures refl refl
           (record { ruler = refl; prompt = refl; history_is = refl; hooks_are = refl; marks_are = refl; config_is = refl })
           c.refresh.ensures.does;

@@ -1,9 +1,9 @@
 use Rattle.std.proofs.Common.{refl, sym, ap, ◌∙◌}
 use Rattle.std.specs.Prelude.{is_some, not}
-use Rattle.line_edits.specs.Edits.{typing}
-use Rattle.line_editor.specs.Inserting.{may_be_typed, inserted_shown, insert_char}
+use Rattle.line_edits.specs.Edits.{char_steps}
+use Rattle.line_editor.specs.Inserting.{insertion_way, show_inserted_effect, insert_char}
 use Rattle.line_editor.specs.States.{value_of, setting_of}
-use Rattle.line_editor.specs.Known.{known_within}
+use Rattle.line_editor.specs.KnownPlaces.{known_within}
 use Rattle.line_editor.proofs.EditLemmas.{char_put, char_put_by, nothing_typed, edit_then, edit_refused}
 use Rattle.line_editor.proofs.KnownLemmas.{typed_known}
 use Rattle.line_editor.proofs.state.State.edit_insert.Goals as goal
@@ -19,9 +19,9 @@ invariant_of-self-2 g c =
 pub returns-in_err-inserted : goal.returns-in_err-inserted
 returns-in_err-inserted g c =
     let s = c.args.self.now in
-    let shown = inserted_shown c.args.ch (may_be_typed (is_some (setting_of s).tabs) c.args.ch c.args.n (value_of s)) in
+    let shown = show_inserted_effect c.args.ch (insertion_way (setting_of s) c.args.ch c.args.n (value_of s)) in
     record {
-      does = edit_refused (insert_char c.args.ch c.args.n) shown (typing c.args.ch c.args.n)
+      does = edit_refused (insert_char c.args.ch c.args.n) shown (char_steps c.args.ch c.args.n)
           (value_of s) s _ _ _ _ c.from_residual.ensures.1
           (char_put c.args.ch c.args.n (setting_of s) (value_of s) c.in_err-inserted.ensures.refused)
           refl c.in_err-inserted.ensures.writes refl refl
@@ -40,11 +40,11 @@ returns g c =
     let s = c.args.self.now in
     record {
       does = edit_then (insert_char c.args.ch c.args.n)
-          (inserted_shown c.args.ch c.may_be_typed-alone.result) (typing c.args.ch c.args.n)
+          (show_inserted_effect c.args.ch c.insertion_way-way.result) (char_steps c.args.ch c.args.n)
           (value_of s) s _ _ _ _ _ _
-          (char_put_by c.args.ch c.args.n c.may_be_typed-alone.result (setting_of s) (value_of s)
+          (char_put_by c.args.ch c.args.n c.insertion_way-way.result (setting_of s) (value_of s)
           (ap is_some (sym c.in_ok-inserted.ensures.writes.writes.answers)
-          ∙ c.is_none.ensures ∙ ap not c.if-is_none.false) c.may_be_typed-alone.ensures)
+          ∙ c.is_none.ensures ∙ ap not c.if-is_none.false) c.insertion_way-way.ensures)
           refl c.in_ok-inserted.ensures.writes refl refl
           (record { ruler = refl; prompt = refl; history_is = refl; hooks_are = refl; marks_are = refl; config_is = refl })
           c.show_inserted.ensures.does;

@@ -1,6 +1,6 @@
 use Rattle.std.proofs.Common.{refl, sym, ◌∙◌}
-use Rattle.line_edits.specs.Edits.{putting_behind}
-use Rattle.line_editor.specs.Drawing.{refreshed}
+use Rattle.line_edits.specs.Edits.{text_steps}
+use Rattle.line_editor.specs.Drawing.{refresh_effect}
 use Rattle.line_editor.specs.Inserting.{insert_text}
 use Rattle.line_editor.specs.States.{value_of, setting_of}
 use Rattle.line_editor.proofs.EditLemmas.{edit_then, edit_refused, text_put}
@@ -10,7 +10,7 @@ pub returns-in_err-insert_text : goal.returns-in_err-insert_text
 returns-in_err-insert_text g c =
     let s = c.args.self.now in
     record {
-      does = edit_refused (insert_text c.args.text.now) refreshed (putting_behind c.args.text.now)
+      does = edit_refused (insert_text c.args.text.now) refresh_effect (text_steps c.args.text.now)
           (value_of s) s _ _ _ _ c.from_residual.ensures.1
           (text_put c.args.text.now (setting_of s) (value_of s)
           (sym c.is_empty.ensures ∙ c.if-is_empty.false)) refl c.in_err-insert_text.ensures refl
@@ -22,7 +22,7 @@ pub returns : goal.returns
 returns g c =
     let s = c.args.self.now in
     record {
-      does = edit_then (insert_text c.args.text.now) refreshed (putting_behind c.args.text.now)
+      does = edit_then (insert_text c.args.text.now) refresh_effect (text_steps c.args.text.now)
           (value_of s) s _ _ _ _ _ _
           (text_put c.args.text.now (setting_of s) (value_of s)
           (sym c.is_empty.ensures ∙ c.if-is_empty.false)) refl c.in_ok-insert_text.ensures refl

@@ -1,8 +1,8 @@
 use Rattle.std.proofs.Common.{refl, sym, ◌∙◌}
 use Rattle.line_buffer.specs.Transpositions.{transposes_chars}
-use Rattle.line_edits.specs.Edits.{transposing_chars_in_group}
-use Rattle.line_editor.specs.Drawing.{refreshed_if}
-use Rattle.line_editor.specs.Rewording.{transpose_chars_effect}
+use Rattle.line_edits.specs.Edits.{transpose_chars_group}
+use Rattle.line_editor.specs.Drawing.{refresh_effect_if}
+use Rattle.line_editor.specs.Transforms.{transpose_chars_effect}
 use Rattle.line_editor.specs.States.{value_of}
 use Rattle.line_editor.proofs.EditLemmas.{edit_then, edit_refused, drawn_if, undrawn_if}
 use Rattle.line_editor.proofs.state.State.edit_transpose_chars.Goals as goal
@@ -11,14 +11,14 @@ pub returns-in_err-done : goal.returns-in_err-done
 returns-in_err-done g c =
     let s = c.args.self.now in
     record {
-      does = edit_refused transpose_chars_effect (refreshed_if (transposes_chars s.recorded.line)) transposing_chars_in_group (value_of s) s _ _ _ _ c.from_residual.ensures.1 refl refl c.in_err-done.ensures refl refl (record { ruler = refl; prompt = refl; history_is = refl; hooks_are = refl; marks_are = refl; config_is = refl });
+      does = edit_refused transpose_chars_effect (refresh_effect_if (transposes_chars s.recorded.line)) transpose_chars_group (value_of s) s _ _ _ _ c.from_residual.ensures.1 refl refl c.in_err-done.ensures refl refl (record { ruler = refl; prompt = refl; history_is = refl; hooks_are = refl; marks_are = refl; config_is = refl });
     }
 
 pub returns-then-done : goal.returns-then-done
 returns-then-done g c =
     let s = c.args.self.now in
     record {
-      does = edit_then transpose_chars_effect (refreshed_if (transposes_chars s.recorded.line)) transposing_chars_in_group (value_of s) s _ _ _ _ _ _ refl refl c.in_ok-done.ensures refl refl (record { ruler = refl; prompt = refl; history_is = refl; hooks_are = refl; marks_are = refl; config_is = refl })
+      does = edit_then transpose_chars_effect (refresh_effect_if (transposes_chars s.recorded.line)) transpose_chars_group (value_of s) s _ _ _ _ _ _ refl refl c.in_ok-done.ensures refl refl (record { ruler = refl; prompt = refl; history_is = refl; hooks_are = refl; marks_are = refl; config_is = refl })
           (drawn_if (transposes_chars s.recorded.line) _ _ _ (sym c.in_ok-done.ensures.writes.answers ∙ c.if-done.true) c.refresh.ensures.does);
     }
 
@@ -26,6 +26,6 @@ pub returns-else-done : goal.returns-else-done
 returns-else-done g c =
     let s = c.args.self.now in
     record {
-      does = edit_then transpose_chars_effect (refreshed_if (transposes_chars s.recorded.line)) transposing_chars_in_group (value_of s) s _ _ _ _ _ _ refl refl c.in_ok-done.ensures refl refl (record { ruler = refl; prompt = refl; history_is = refl; hooks_are = refl; marks_are = refl; config_is = refl })
+      does = edit_then transpose_chars_effect (refresh_effect_if (transposes_chars s.recorded.line)) transpose_chars_group (value_of s) s _ _ _ _ _ _ refl refl c.in_ok-done.ensures refl refl (record { ruler = refl; prompt = refl; history_is = refl; hooks_are = refl; marks_are = refl; config_is = refl })
           (undrawn_if (transposes_chars s.recorded.line) _ _ (sym c.in_ok-done.ensures.writes.answers ∙ c.if-done.false));
     }

@@ -1,6 +1,6 @@
 use Rattle.std.proofs.Common.{refl}
-use Rattle.line_edits.specs.Edits.{transposing_words_in_group}
-use Rattle.line_editor.specs.Rewording.{transpose_words_effect}
+use Rattle.line_edits.specs.Edits.{transpose_words_group}
+use Rattle.line_editor.specs.Transforms.{transpose_words_effect}
 use Rattle.line_editor.specs.States.{value_of}
 use Rattle.line_editor.proofs.EditLemmas.{edit_refused, words_drawn}
 use Rattle.line_editor.proofs.state.State.edit_transpose_words.Goals as goal
@@ -10,7 +10,7 @@ returns-in_err-done g c =
     let s = c.args.self.now in
     record {
       does = edit_refused (transpose_words_effect c.args.n) (words_drawn c.args.n (value_of s))
-          (transposing_words_in_group c.args.n) (value_of s) s _ _ _ _ c.from_residual.ensures.1
+          (transpose_words_group c.args.n) (value_of s) s _ _ _ _ c.from_residual.ensures.1
           refl refl c.in_err-done.ensures refl refl
           (record { ruler = refl; prompt = refl; history_is = refl; hooks_are = refl; marks_are = refl; config_is = refl });
     }

@@ -1,14 +1,14 @@
 use Rattle.std.specs.Prelude.{Some, string_bytes}
 use Rattle.std.proofs.Common.{inl, inr, ap, ◌∙◌, rules}
 use Rattle.line_editor.specs.Modal.{Modal, modal_of}
-use Rattle.line_editor.specs.Searching.{look, typed_in}
+use Rattle.line_editor.specs.Searching.{look, modal_with_char}
 use Rattle.line_editor.proofs.MeetLemmas.{unmade, typed_shown}
 use Rattle.line_editor.proofs.state.State.search_typed.Goals as goal
 
 pub returns-in_err-type_in-clause-does : goal.returns-in_err-type_in-clause-does
 returns-in_err-type_in-clause-does g c =
     let q = modal_of c.args.modal.now in
-    unmade (look q.dir (Some q.at) (typed_in c.args.c q)) _ _ (search rules)
+    unmade (look q.dir (Some q.at) (modal_with_char c.args.c q)) _ _ (search rules)
 
 pub returns-clause-does : goal.returns-clause-does
 returns-clause-does g c =

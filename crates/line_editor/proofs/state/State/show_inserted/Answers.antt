@@ -1,26 +1,19 @@
-use Rattle.std.proofs.Common.{inl, inr, sym, ◌∙◌, refl}
-use Rattle.std.proofs.lemmas.Bool.{and_from}
-use Rattle.line_editor.specs.Drawing.{asked_anew}
-use Rattle.line_editor.specs.Inserting.{put_shown}
+use Rattle.std.proofs.Common.{sym, ◌∙◌, refl}
+use Rattle.line_editor.specs.Drawing.{ask_anew_effect}
+use Rattle.line_editor.specs.Inserting.{show_char_effect}
 use Rattle.line_editor.proofs.DoesLemmas.{does_cut_by}
-use Rattle.line_editor.proofs.HelpedLemmas.{neither, typed_made, put_drawn}
+use Rattle.line_editor.proofs.HelpedLemmas.{put_made, put_drawn}
+use Rattle.line_editor.specs.declared.way.Way.TheVariants.{AtEnd, InRow, Whole}
 use Rattle.line_editor.proofs.state.State.show_inserted.Goals as goal
-use Rattle.line_editor.proofs.state.State.show_inserted.Goals.{else-alone-via-then-alone+else-is_bare, else-alone-via-else-alone}
 
 pub returns-in_err-ask_anew : goal.returns-in_err-ask_anew
-returns-in_err-ask_anew g c = record { does = does_cut_by asked_anew (put_shown c.args.ch c.args.alone) _ _ _ _ c.from_residual.ensures.1 c.in_err-ask_anew.ensures.does }
+returns-in_err-ask_anew g c = record { does = does_cut_by ask_anew_effect (show_char_effect c.args.ch c.args.way) _ _ _ _ c.from_residual.ensures.1 c.in_err-ask_anew.ensures.does }
 
-pub returns-then-is_bare : goal.returns-then-is_bare
-returns-then-is_bare g c = record {
-  does = typed_made c.args.ch c.args.alone _ _ _ _ _ (and_from c.args.alone _ c.if-alone.true (sym c.is_bare.ensures ∙ c.if-is_bare.true)) c.in_ok-ask_anew.ensures.does c.show_short_typed.ensures.does;
-}
+pub returns-in-AtEnd : goal.returns-in-AtEnd
+returns-in-AtEnd g c = record { does = put_made c.args.ch c.args.way AtEnd _ _ _ _ _ (sym c.way_if_bare.ensures ∙ c.in-AtEnd.is) c.in_ok-ask_anew.ensures.does c.show_short_typed.ensures.does }
 
-pub returns-else-alone : goal.returns-else-alone
-returns-else-alone g c = record {
-  does = put_drawn c.args.ch c.args.alone _ _ _ _ _ _ refl
-      (neither c.args.alone _ (elim c.else-alone.branch [
-        | else-alone-via-then-alone+else-is_bare w ↦ inr (sym w.is_bare.ensures ∙ w.if-is_bare.false)
-        | else-alone-via-else-alone w ↦ inl w.if-alone.false
-      ]))
-      c.in_ok-ask_anew.ensures.does c.draw.ensures.does;
-}
+pub returns-in-InRow : goal.returns-in-InRow
+returns-in-InRow g c = record { does = put_made c.args.ch c.args.way InRow _ _ _ _ _ (sym c.way_if_bare.ensures ∙ c.in-InRow.is) c.in_ok-ask_anew.ensures.does c.show_put_in.ensures.does }
+
+pub returns-in-Whole : goal.returns-in-Whole
+returns-in-Whole g c = record { does = put_drawn c.args.ch c.args.way _ _ _ _ _ _ refl (sym c.way_if_bare.ensures ∙ c.in-Whole.is) c.in_ok-ask_anew.ensures.does c.draw.ensures.does }

@@ -1,7 +1,7 @@
 use Rattle.std.proofs.Common.{◌≡◌, arith, refl}
 use Rattle.std.specs.Prelude.{Err}
 use Rattle.line_keys.specs.declared.command.Cmd.TheVariants.{Insert}
-use Rattle.line_keys.specs.Phrases.{answered}
+use Rattle.line_keys.specs.PhraseScripts.{answer_part}
 use Rattle.line_keys.proofs.Asking.{text_asked}
 use Rattle.line_keys.proofs.Following.{as_follows, ends_follow, no_paste, paste_follows, silent_follows}
 use Rattle.line_keys.proofs.keymap.InputState.common.Goals as goal
@@ -12,11 +12,11 @@ returns-in-Some-Give-clause-phrase g c = ends_follow _ _ _ _ _ _ _ (grind arith)
 pub returns-in_err-text-in-Some-Paste-clause-phrase : goal.returns-in_err-text-in-Some-Paste-clause-phrase
 returns-in_err-text-in-Some-Paste-clause-phrase g c =
     let is : c.from_residual.result ≡ Err c.in_err-text-in-Some-Paste.field-0.0 = grind arith in
-    rw is (as_follows _ _ _ _ _ _ _ _ _ _ _ (no_paste _ _ (λ text. answered (Insert 1 text)) _ _ _ _ _ c.in_err-text-in-Some-Paste.ensures.reads) (grind arith))
+    rw is (as_follows _ _ _ _ _ _ _ _ _ _ _ (no_paste _ _ (λ text. answer_part (Insert 1 text)) _ _ _ _ _ c.in_err-text-in-Some-Paste.ensures.reads) (grind arith))
 
 pub returns-in_ok-text-in-Some-Paste-clause-phrase : goal.returns-in_ok-text-in-Some-Paste-clause-phrase
 returns-in_ok-text-in-Some-Paste-clause-phrase g c =
-    as_follows _ _ _ _ _ _ _ _ _ _ _ (paste_follows _ _ (λ text. answered (Insert 1 text)) _ _ _ _ _ _ _ _ _ c.in_ok-text-in-Some-Paste.ensures.reads (ends_follow _ _ _ _ _ _ _ refl)) (grind arith)
+    as_follows _ _ _ _ _ _ _ _ _ _ _ (paste_follows _ _ (λ text. answer_part (Insert 1 text)) _ _ _ _ _ _ _ _ _ c.in_ok-text-in-Some-Paste.ensures.reads (ends_follow _ _ _ _ _ _ _ refl)) (grind arith)
 
 pub returns-in-Some-Quote-clause-phrase : goal.returns-in-Some-Quote-clause-phrase
 returns-in-Some-Quote-clause-phrase g c =

@@ -1,7 +1,7 @@
 use Rattle.std.proofs.Common.{◌≡◌, arith, ap, sym, refl, Some, None}
 use Rattle.line_keys.specs.declared.command.Cmd.{Cmd}
 use Rattle.line_keys.specs.declared.keymap.custom.Followed.TheVariants.{Bound, Unbound}
-use Rattle.line_keys.specs.Phrases.{answered}
+use Rattle.line_keys.specs.PhraseScripts.{answer_part}
 use Rattle.line_keys.proofs.Asking.{keys_asked, key_asked, keys_then}
 use Rattle.line_keys.proofs.Following.{then_follows, ends_follow, whole_read}
 use Rattle.line_keys.proofs.keymap.InputState.ctrl_x.Goals as goal
@@ -14,7 +14,7 @@ returns-in-Bound-clause-phrase g c =
 pub returns-in-Unbound-Some-clause-phrase : goal.returns-in-Unbound-Some-clause-phrase
 returns-in-Unbound-Some-clause-phrase g c =
     let is : c.in_ok-followed.followed ≡ Unbound (Some c.in-Unbound-Some.second) = grind arith in
-    then_follows _ _ _ _ _ _ _ _ _ _ _ _ _ _ _ (rw is at c.in_ok-followed.ensures.phrase) (ends_follow _ _ _ _ _ _ _ (ap (λ (y : Cmd). answered y) (sym c.second_command.ensures)))
+    then_follows _ _ _ _ _ _ _ _ _ _ _ _ _ _ _ (rw is at c.in_ok-followed.ensures.phrase) (ends_follow _ _ _ _ _ _ _ (ap (λ (y : Cmd). answer_part y) (sym c.second_command.ensures)))
 
 pub returns-in-Unbound-None-clause-phrase : goal.returns-in-Unbound-None-clause-phrase
 returns-in-Unbound-None-clause-phrase g c =

@@ -8,35 +8,35 @@ use Rattle.line_keys.proofs.keymap.InputState.custom_seq_binding.Goals as goal
 
 pub returns-in_err-key-clause-phrase : goal.returns-in_err-key-clause-phrase
 returns-in_err-key-clause-phrase g c =
-    let here = situation_in c.args.self.now g.D.Decides.decides (g.W.Refresher.display.shown c.args.wrt.now) c.args.n c.args.positive in
+    let here = situation_in c.args.self.now g.D.Decides.decides (g.W.Refresher.display.shown c.args.wrt.now) c.args.count.n c.args.count.positive in
     let is : c.from_residual-in_err-key.result ≡ Err c.in_err-key.field-0.0 = grind arith in
     rw is (c.loop-alloc.invariant.0 _ _ (sequence_stops here c.loop-alloc.keys.items _ _ _ _ _ (search rules) _ c.in_err-key.ensures.reads))
 
 pub returns-in_err-push-2-clause-phrase : goal.returns-in_err-push-2-clause-phrase
 returns-in_err-push-2-clause-phrase g c =
-    let here = situation_in c.args.self.now g.D.Decides.decides (g.W.Refresher.display.shown c.args.wrt.now) c.args.n c.args.positive in
+    let here = situation_in c.args.self.now g.D.Decides.decides (g.W.Refresher.display.shown c.args.wrt.now) c.args.count.n c.args.count.positive in
     let is : c.from_residual-in_err-push-2.result ≡ Err Memory = grind arith in
     rw is (c.loop-alloc.invariant.0 _ _ (sequence_no_memory here c.loop-alloc.keys.items _ _ _ _ _ (search rules) _ c.in_ok-key.ensures.reads _ refl))
 
 pub returns-in_err-cmd-clause-phrase : goal.returns-in_err-cmd-clause-phrase
 returns-in_err-cmd-clause-phrase g c =
-    let here = situation_in c.args.self.now g.D.Decides.decides (g.W.Refresher.display.shown c.args.wrt.now) c.args.n c.args.positive in
+    let here = situation_in c.args.self.now g.D.Decides.decides (g.W.Refresher.display.shown c.args.wrt.now) c.args.count.n c.args.count.positive in
     let is : c.from_residual-in_err-cmd.result ≡ Err c.in_err-cmd.field-0.0 = grind arith in
     rw is (c.loop-alloc.invariant.0 _ _ (sequence_refused here c.loop-alloc.keys.items _ _ _ _ _ (search rules) _ c.in_ok-key.ensures.reads _ (rw (c.as_slice-in-loop-alloc.ensures.value, c.in_ok-push-2.ensures.items) at c.in_err-cmd.ensures)))
 
 pub returns-in-Some-clause-phrase : goal.returns-in-Some-clause-phrase
 returns-in-Some-clause-phrase g c =
-    let here = situation_in c.args.self.now g.D.Decides.decides (g.W.Refresher.display.shown c.args.wrt.now) c.args.n c.args.positive in
+    let here = situation_in c.args.self.now g.D.Decides.decides (g.W.Refresher.display.shown c.args.wrt.now) c.args.count.n c.args.count.positive in
     c.loop-alloc.invariant.0 _ _ (sequence_bound here c.loop-alloc.keys.items _ _ _ _ _ (search rules) _ c.in_ok-key.ensures.reads _ (rw (c.as_slice-in-loop-alloc.ensures.value, c.in_ok-push-2.ensures.items, c.in-Some.is) at c.in_ok-cmd.ensures))
 
 pub returns-clause-phrase : goal.returns-clause-phrase
 returns-clause-phrase g c =
-    let here = situation_in c.args.self.now g.D.Decides.decides (g.W.Refresher.display.shown c.args.wrt.now) c.args.n c.args.positive in
+    let here = situation_in c.args.self.now g.D.Decides.decides (g.W.Refresher.display.shown c.args.wrt.now) c.args.count.n c.args.count.positive in
     c.loop-alloc.invariant.0 _ _ (sequence_over here c.loop-alloc.keys.items _ _ _ _ _ (search rules) (search rules))
 
 pub loop-alloc-preserved : goal.loop-alloc-preserved
 loop-alloc-preserved g c =
-    let here = situation_in c.args.self.now g.D.Decides.decides (g.W.Refresher.display.shown c.args.wrt.now) c.args.n c.args.positive in (
+    let here = situation_in c.args.self.now g.D.Decides.decides (g.W.Refresher.display.shown c.args.wrt.now) c.args.count.n c.args.count.positive in (
       λ rdr result follows.
           c.loop-alloc.invariant.0 _ _ (sequence_on here c.loop-alloc.keys.items _ _ _ _ _ (search rules) _ c.in_ok-key.ensures.reads _ _
           (rw (c.as_slice-in-loop-alloc.ensures.value, c.in_ok-push-2.ensures.items, c.in_default.is) at c.in_ok-cmd.ensures)

@@ -6,21 +6,21 @@ use Rattle.line_keys.proofs.keymap.InputState.emacs_decided.Goals as goal
 
 pub returns-in_err-cmd-clause-phrase : goal.returns-in_err-cmd-clause-phrase
 returns-in_err-cmd-clause-phrase g c =
-    let s = situation_in c.args.self.now g.D.Decides.decides (g.W.Refresher.display.shown c.args.wrt.now) c.times-n.result c.is_positive-positive.result in
+    let s = situation_in c.args.self.now g.D.Decides.decides (g.W.Refresher.display.shown c.args.wrt.now) c.new-count.result.n c.new-count.result.positive in
     let is : c.from_residual.result ≡ Err c.in_err-cmd.field-0.0 = grind arith in
-    rw (is, ← c.times-n.ensures, ← c.is_positive-positive.ensures) (key_stops _ s c.args.key _ _ _ _ _ c.in_err-cmd.ensures)
+    rw (is, ← c.new-count.ensures.n, ← c.new-count.ensures.positive) (key_stops _ s c.args.key _ _ _ _ _ c.in_err-cmd.ensures)
 
 pub returns-in-Some-term_binding-clause-phrase : goal.returns-in-Some-term_binding-clause-phrase
 returns-in-Some-term_binding-clause-phrase g c =
-    rw (← c.times-n.ensures, ← c.is_positive-positive.ensures, ← c.in-Some-term_binding.ensures)
+    rw (← c.new-count.ensures.n, ← c.new-count.ensures.positive, ← c.in-Some-term_binding.ensures)
     (decides_follow _ _ _ _ _ _ _ _ _ _ _ _ (rw c.in-None.is at c.in_ok-cmd.ensures) (ends_follow _ _ _ _ _ _ _ refl))
 
 pub returns-in-None-term_binding-clause-phrase : goal.returns-in-None-term_binding-clause-phrase
 returns-in-None-term_binding-clause-phrase g c =
-    rw (← c.times-n.ensures, ← c.is_positive-positive.ensures, ← c.in-None-term_binding.ensures)
+    rw (← c.new-count.ensures.n, ← c.new-count.ensures.positive, ← c.in-None-term_binding.ensures)
     (decides_follow _ _ _ _ _ _ _ _ _ _ _ _ (rw (c.in-None.is) at c.in_ok-cmd.ensures) c.emacs_command.ensures.phrase)
 
 pub returns-in-Some-clause-phrase : goal.returns-in-Some-clause-phrase
 returns-in-Some-clause-phrase g c =
-    rw (← c.times-n.ensures, ← c.is_positive-positive.ensures)
+    rw (← c.new-count.ensures.n, ← c.new-count.ensures.positive)
     (decides_follow _ _ _ _ _ _ _ _ _ _ _ _ (rw c.in-Some.is at c.in_ok-cmd.ensures) (granted_follows _ _ _ _ _ _ _ c.made_anew.ensures))

@@ -2,8 +2,8 @@ use Rattle.std.proofs.Common.{◌≡◌, true, false, arith, refl}
 use Rattle.std.specs.Prelude.{Err}
 use Rattle.line_keys.specs.declared.command.Cmd.TheVariants.{Insert}
 use Rattle.line_keys.specs.InputStates.{input_of}
-use Rattle.line_keys.specs.Phrases.{answered}
-use Rattle.line_keys.specs.Quoting.{is_paste_start, quotes, quoted}
+use Rattle.line_keys.specs.PhraseScripts.{answer_part}
+use Rattle.line_keys.specs.Quoting.{is_paste_start, quotes, quote_of_key}
 use Rattle.line_keys.proofs.Asking.{key_asked, key_then, text_asked}
 use Rattle.line_keys.proofs.Following.{as_follows, ends_follow, no_key, key_follows, no_paste, paste_follows}
 use Rattle.line_keys.proofs.keymap.InputState.quoting.Goals as goal
@@ -17,28 +17,28 @@ pub returns-in_err-key-clause-phrase : goal.returns-in_err-key-clause-phrase
 returns-in_err-key-clause-phrase g c =
     let on : quotes (input_of c.args.self.now) ≡ true = grind arith in
     let is : c.from_residual.result ≡ Err c.in_err-key.field-0.0 = grind arith in
-    rw (on, is) (no_key _ _ quoted _ _ _ _ _ c.in_err-key.ensures.reads)
+    rw (on, is) (no_key _ _ quote_of_key _ _ _ _ _ c.in_err-key.ensures.reads)
 
 pub returns-in_err-text-clause-phrase : goal.returns-in_err-text-clause-phrase
 returns-in_err-text-clause-phrase g c =
     let on : quotes (input_of c.args.self.now) ≡ true = grind arith in
     let start : is_paste_start c.in_ok-key.key ≡ true = grind arith in
     let is : c.from_residual-in_err-text.result ≡ Err c.in_err-text.field-0.0 = grind arith in
-    rw (on, is) (key_follows _ _ quoted _ _ _ _ _ _ _ _ _ c.in_ok-key.ensures.reads
-    (rw start (no_paste _ _ (λ text. answered (Insert 1 text)) _ _ _ _ _ c.in_err-text.ensures.reads)))
+    rw (on, is) (key_follows _ _ quote_of_key _ _ _ _ _ _ _ _ _ c.in_ok-key.ensures.reads
+    (rw start (no_paste _ _ (λ text. answer_part (Insert 1 text)) _ _ _ _ _ c.in_err-text.ensures.reads)))
 
 pub returns-then-is_paste_start-clause-phrase : goal.returns-then-is_paste_start-clause-phrase
 returns-then-is_paste_start-clause-phrase g c =
     let on : quotes (input_of c.args.self.now) ≡ true = grind arith in
     let start : is_paste_start c.in_ok-key.key ≡ true = grind arith in
-    rw on (key_follows _ _ quoted _ _ _ _ _ _ _ _ _ c.in_ok-key.ensures.reads
-    (rw start (paste_follows _ _ (λ text. answered (Insert 1 text)) _ _ _ _ _ _ _ _ _ c.in_ok-text.ensures.reads (ends_follow _ _ _ _ _ _ _ refl))))
+    rw on (key_follows _ _ quote_of_key _ _ _ _ _ _ _ _ _ c.in_ok-key.ensures.reads
+    (rw start (paste_follows _ _ (λ text. answer_part (Insert 1 text)) _ _ _ _ _ _ _ _ _ c.in_ok-text.ensures.reads (ends_follow _ _ _ _ _ _ _ refl))))
 
 pub returns-clause-phrase : goal.returns-clause-phrase
 returns-clause-phrase g c =
     let on : quotes (input_of c.args.self.now) ≡ true = grind arith in
     let other : is_paste_start c.in_ok-key.key ≡ false = grind arith in
-    rw on (key_follows _ _ quoted _ _ _ _ _ _ _ _ _ c.in_ok-key.ensures.reads (rw other (ends_follow _ _ _ _ _ _ _ (grind arith))))
+    rw on (key_follows _ _ quote_of_key _ _ _ _ _ _ _ _ _ c.in_ok-key.ensures.reads (rw other (ends_follow _ _ _ _ _ _ _ (grind arith))))
 
 pub returns-in_err-key-clause-asks : goal.returns-in_err-key-clause-asks
 returns-in_err-key-clause-asks g c = key_asked _ _ _ _ c.in_err-key.ensures.asks

@@ -3,7 +3,7 @@ use Rattle.std.specs.Prelude.{Err}
 use Rattle.line_keys.specs.declared.command.Cmd.{Cmd}
 use Rattle.line_keys.specs.InputStates.{input_of}
 use Rattle.line_keys.specs.Vi.{changes}
-use Rattle.line_keys.specs.Phrases.{answered}
+use Rattle.line_keys.specs.PhraseScripts.{answer_part}
 use Rattle.line_keys.proofs.Asking.{begun_asked}
 use Rattle.line_keys.proofs.Following.{becomes_follows, then_follows, then_stops, ends_follow}
 use Rattle.line_keys.proofs.Remembering.{entered_mode}
@@ -13,7 +13,7 @@ pub returns-clause-phrase : goal.returns-clause-phrase
 returns-clause-phrase g c =
     becomes_follows _ _ _ _ _ _ _ _ _ _ _ (entered_mode (changes c.args.operator) (input_of c.args.self.now))
     (then_follows _ _ _ _ _ _ _ _ _ _ _ _ _ _ _ (rw (c.enter.ensures.input, c.enter.ensures.bindings) at c.in_ok-motion.ensures.motion)
-    (ends_follow _ _ _ _ _ _ _ (ap (λ (y : Cmd). answered y) (sym c.command.ensures))))
+    (ends_follow _ _ _ _ _ _ _ (ap (λ (y : Cmd). answer_part y) (sym c.command.ensures))))
 
 pub returns-in_err-motion-clause-phrase : goal.returns-in_err-motion-clause-phrase
 returns-in_err-motion-clause-phrase g c =

@@ -1,5 +1,5 @@
 use Rattle.std.proofs.Common.{ap, ◌∙◌}
-use Rattle.line_record.specs.Gap.{taking_over}
+use Rattle.line_record.specs.Gap.{with_text_of}
 use Rattle.line_record.specs.Items.{lines_ahead, nearest_changes}
 use Rattle.line_record.proofs.GapLemmas.{ahead_apart}
 use Rattle.line_record.proofs.changeset.Changeset.redo_apart.Goals as goal
@@ -11,7 +11,7 @@ returns c =
       answer = c.in_ok-redone.ensures.answer;
       items = c.in_ok-redone.ensures.items;
       anew = record {
-        line = c.in_ok-write.ensures.line ∙ ap (taking_over c.args.line.now) (c.in_ok-redone.ensures.anew.line ∙ ap (lines_ahead cs) c.in_ok-apart.ensures) ∙ ahead_apart cs c.args.line.now;
+        line = c.in_ok-write.ensures.line ∙ ap (with_text_of c.args.line.now) (c.in_ok-redone.ensures.anew.line ∙ ap (lines_ahead cs) c.in_ok-apart.ensures) ∙ ahead_apart cs c.args.line.now;
         part = tt;
       };
     }

@@ -1,5 +1,5 @@
 use Rattle.std.proofs.Common.{subst}
-use Rattle.line_record.specs.Items.{BackInPart, last_changes}
+use Rattle.line_record.specs.Items.{CutUndo, last_changes}
 use Rattle.line_record.proofs.UndoLemmas.{UndoneAs, undone_as}
 use Rattle.line_record.proofs.changeset.Changeset.undo.Goals as goal
 
@@ -11,4 +11,4 @@ returns-in-Ok c =
 
 pub returns-in-Err-clause-part : goal.returns-in-Err-clause-part
 returns-in-Err-clause-part c =
-    subst (λ n. BackInPart (last_changes n c.args.self.now.done) c.args.line.now c.undo_last.new.line) c.max.ensures c.in-Err.ensures.back.part
+    subst (λ n. CutUndo (last_changes n c.args.self.now.done) c.args.line.now c.undo_last.new.line) c.max.ensures c.in-Err.ensures.back.part

@@ -1,5 +1,5 @@
 use Rattle.std.proofs.Common.{refl, ap, ◌∙◌}
-use Rattle.line_record.specs.Gap.{taking_over}
+use Rattle.line_record.specs.Gap.{with_text_of}
 use Rattle.line_record.specs.Items.{lines_back, last_changes}
 use Rattle.line_record.proofs.GapLemmas.{back_apart, nothing_undone}
 use Rattle.line_record.proofs.changeset.Changeset.undo_apart.Goals as goal
@@ -11,7 +11,7 @@ returns c =
       answer = c.in_ok-undone.ensures.answer;
       items = c.in_ok-undone.ensures.items;
       back = record {
-        line = c.in_ok-write.ensures.line ∙ ap (taking_over c.args.line.now) (c.in_ok-undone.ensures.back.line ∙ ap (lines_back cs) c.in_ok-apart.ensures) ∙ back_apart cs c.args.line.now;
+        line = c.in_ok-write.ensures.line ∙ ap (with_text_of c.args.line.now) (c.in_ok-undone.ensures.back.line ∙ ap (lines_back cs) c.in_ok-apart.ensures) ∙ back_apart cs c.args.line.now;
         part = tt;
       };
     }

@@ -2,19 +2,19 @@ use Rattle.std.proofs.Common.{rules, sym, subst, ◌≡◌, ◌+◌, ◌∙◌, 
 use Rattle.std.specs.Prelude.{IsUtf8, IsCharBoundary}
 use Rattle.line_buffer.specs.Line.{Line}
 use Rattle.line_record.specs.Change.{StandsAt}
-use Rattle.line_record.specs.Gap.{seamed}
+use Rattle.line_record.specs.Gap.{text_around_gap}
 use Rattle.line_record.proofs.GapLemmas.{Seam, seam_exchanged, seam_moved}
 use Rattle.line_record.proofs.gap_line.GapLineEditedLine.exchange.Goals as goal
 
 pub invariant_of-self-in_err-reserve : goal.invariant_of-self-in_err-reserve
 invariant_of-self-in_err-reserve c =
-    let text = seamed c.self.inside.before.items c.self.inside.after.items in
+    let text = text_around_gap c.self.inside.before.items c.self.inside.after.items in
     let same = seam_moved c.in-Some.upto text c.reserve.new.self.items c.move_gap.new.after.items (c.in_err-reserve.ensures.items ∙ c.in_ok-move_gap.ensures.before) c.in_ok-move_gap.ensures.after in
     subst (λ (t : List ℕ). IsUtf8 t × IsCharBoundary t c.self.inside.pos) (sym same) c.self.invariant
 
 pub invariant_of-self-2 : goal.invariant_of-self-2
 invariant_of-self-2 c =
-    let text = seamed c.self.inside.before.items c.self.inside.after.items in
+    let text = text_around_gap c.self.inside.before.items c.self.inside.after.items in
     let upto : c.in-Some.upto ≡ c.args.at + length c.args.from.now = search rules in
     let kept : c.truncate.new.self.items ≡ take c.args.at (take c.in-Some.upto text) =
     c.truncate.ensures.items ∙ ap (take c.args.at) (c.in_ok-reserve.ensures.items ∙ c.in_ok-move_gap.ensures.before) in
@@ -24,4 +24,4 @@ invariant_of-self-2 c =
     let s : Seam c.extend_from_slice.new.self.items c.move_gap.new.after.items =
     seam_exchanged c.args.at c.in-Some.upto c.args.from.now c.args.to.now text c.extend_from_slice.new.self.items c.move_gap.new.after.items
     upto front c.in_ok-move_gap.ensures.after stands c.self.invariant.0 in
-    (s.utf8, subst (IsCharBoundary (seamed c.extend_from_slice.new.self.items c.move_gap.new.after.items)) long s.place)
+    (s.utf8, subst (IsCharBoundary (text_around_gap c.extend_from_slice.new.self.items c.move_gap.new.after.items)) long s.place)

@@ -1,9 +1,9 @@
 use Rattle.std.proofs.Common.{take, ap, ◌∙◌, sym, ◌≡◌, ◌++◌, ◌∷◌, [], false, Some, ℕ, List}
 use Rattle.std.specs.Prelude.{option_map}
 use Rattle.line_record.specs.Items.Item.{Lone}
-use Rattle.line_record.specs.Change.{place_of, removed_of, added_of}
+use Rattle.line_record.specs.Change.{place_of, old_text_of, new_text_of}
 use Rattle.line_record.specs.Logged.{edit_from, change_told}
-use Rattle.line_record.specs.Steps.{event_of}
+use Rattle.line_record.specs.LogSteps.{event_of}
 use Rattle.line_record.specs.declared.steps.Step.{Step}
 use Rattle.line_record.proofs.StepsLemmas.{lone_pushed, step_place_is, PushedStep}
 use Rattle.line_record.proofs.steps.Steps.add.Goals as goal
@@ -21,10 +21,10 @@ invariant_of-self-2 c = (pushed c).are
 pub returns-clause-ok : goal.returns-clause-ok
 returns-clause-ok c =
     let e = event_of c.args.report in
-    let same : edit_from c.kind.result c.at.result c.removed.result.now c.added-added.result.now ≡ edit_from c.kind.result (place_of (change_told e)) (removed_of (change_told e)) (added_of (change_told e)) =
+    let same : edit_from c.kind.result c.at.result c.removed.result.now c.added-added.result.now ≡ edit_from c.kind.result (place_of (change_told e)) (old_text_of (change_told e)) (new_text_of (change_told e)) =
     ap (λ (k : ℕ). edit_from c.kind.result k c.removed.result.now c.added-added.result.now) c.at.ensures
     ∙ ap (λ (t : List ℕ). edit_from c.kind.result (place_of (change_told e)) t c.added-added.result.now) c.removed.ensures
-    ∙ ap (λ (t : List ℕ). edit_from c.kind.result (place_of (change_told e)) (removed_of (change_told e)) t) c.added-added.ensures in
+    ∙ ap (λ (t : List ℕ). edit_from c.kind.result (place_of (change_told e)) (old_text_of (change_told e)) t) c.added-added.ensures in
     ap (option_map (λ d. take c.args.n c.args.self.now ++ (Lone d ∷ []))) (c.kind.ensures c.requires)
     ∙ sym (ap Some ((pushed c).items ∙ ap (λ xs. take c.args.n xs ++ (Lone (edit_from c.kind.result c.at.result c.removed.result.now c.added-added.result.now) ∷ [])) c.self.view_is
     ∙ ap (λ d. take c.args.n c.args.self.now ++ (Lone d ∷ [])) same))

@@ -1,12 +1,12 @@
 use Rattle.std.proofs.Common.{◌≡◌, ◌-◌, sym, ap, take, drop, reverse, ◌∙◌}
 use Rattle.std.specs.Prelude.{is_some, slice_get}
-use Rattle.line_record.specs.Items.{gathered, group_of}
-use Rattle.line_record.specs.Steps.{AreSteps, items_in}
+use Rattle.line_record.specs.Items.{changes_of_all, group_of}
+use Rattle.line_record.specs.LogSteps.{AreSteps, items_in}
 use Rattle.line_record.proofs.StepsLemmas.{step_at, closed_from, group_none, group_some, group_gone, group_pushed_on, first_inside, last_inside, last_next, less, set_kept}
 use Rattle.line_record.proofs.steps.Steps.close.Goals as goal
 
 gone : (c : goal.After-truncate-then-first-last) → AreSteps c.truncate.new.self c.truncate-then-first-last.new.self.items
-    × (reverse (items_in c.truncate.new.self c.truncate-then-first-last.new.self.items) ≡ group_of (gathered (drop c.args.index (take c.args.n c.args.self.now))) (reverse (take c.args.index c.args.self.now)))
+    × (reverse (items_in c.truncate.new.self c.truncate-then-first-last.new.self.items) ≡ group_of (changes_of_all (drop c.args.index (take c.args.n c.args.self.now))) (reverse (take c.args.index c.args.self.now)))
 gone c =
     let a = (step_at c.self.inside.log c.self.inside.steps.items c.args.self.now c.args.index c.index.result.now c.self.invariant c.self.view_is (first_inside c.args.index c.args.n c.args.self.now c.requires.order c.requires.inside) c.index.ensures) in
     group_gone c.self.inside.log c.truncate.new.self c.self.inside.steps.items c.truncate-then-first-last.new.self.items c.args.self.now c.args.n c.args.index c.index.result.now c.index-2.result.now c.self.invariant
@@ -23,7 +23,7 @@ pub returns-then-first-last-clause-items : goal.returns-then-first-last-clause-i
 returns-then-first-last-clause-items c = (gone c).1
 
 pushed : (c : goal.After-truncate-2) → AreSteps c.truncate.new.self c.truncate-2.new.self.items
-    × (reverse (items_in c.truncate.new.self c.truncate-2.new.self.items) ≡ group_of (gathered (drop c.args.index (take c.args.n c.args.self.now))) (reverse (take c.args.index c.args.self.now)))
+    × (reverse (items_in c.truncate.new.self c.truncate-2.new.self.items) ≡ group_of (changes_of_all (drop c.args.index (take c.args.n c.args.self.now))) (reverse (take c.args.index c.args.self.now)))
 pushed c =
     let a = (step_at c.self.inside.log c.self.inside.steps.items c.args.self.now c.args.index c.index.result.now c.self.invariant c.self.view_is (first_inside c.args.index c.args.n c.args.self.now c.requires.order c.requires.inside) c.index.ensures) in
     let b = (step_at c.self.inside.log c.self.inside.steps.items c.args.self.now (c.args.n - 1) c.index-2.result.now c.self.invariant c.self.view_is (last_inside c.args.index c.args.n c.args.self.now c.requires.order c.requires.inside) c.index-2.ensures) in

@@ -1,7 +1,7 @@
 -- Letters, and the cluster after them.
 use Rattle.std.proofs.Common.{length, refl, sym, ap, ◌∙◌}
 use Rattle.line_screen.specs.Styles.{numbers}
-use Rattle.line_screen.specs.Colours.{painted_letters, painted_item, painted_after, first_style, spans_in, brush_paints, skip}
+use Rattle.line_screen.specs.Colours.{painted_letters, painted_item, items_painted_after, first_style, spans_in, brush_paints, skip}
 use Rattle.line_screen.specs.Drawing.{drawn_item}
 use Rattle.line_screen.specs.Measure.{widths_by}
 use Rattle.line_screen.proofs.PaintRuns.{paint_start, paint_steps, paint_cut, paint_then}
@@ -15,7 +15,7 @@ returns-in_err-col g c =
     let wide = widths_by c.args.grid.mode c.args.grid.tab columns in
     let spans = spans_in (brush_paints g.H.Highlighter.marks c.args.brush.now) c.args.spans in
     let letters = c.args.letters.now in
-    let all = painted_after wide spans letters c.args.cluster.now in
+    let all = items_painted_after wide spans letters c.args.cluster.now in
     let other = painted_item (first_style (skip (length letters) spans)) (drawn_item wide c.args.cluster.now) in
     paint_cut held failed columns c.args.start _ all (painted_letters spans letters) other all c.args.sink.now c.args.sink.now c.send_spans.new.sink c.args.start c.from_residual.result
     (paint_start held failed columns c.args.start all c.args.sink.now c.requires.inside) refl c.from_residual.ensures.1 c.in_err-col.ensures.sends.err c.in_err-col.ensures.sends.begins
@@ -29,7 +29,7 @@ returns g c =
     let spans = spans_in (brush_paints g.H.Highlighter.marks c.args.brush.now) c.args.spans in
     let letters = c.args.letters.now in
     let item = drawn_item wide c.args.cluster.now in
-    let all = painted_after wide spans letters c.args.cluster.now in
+    let all = items_painted_after wide spans letters c.args.cluster.now in
     let other = painted_item (first_style (skip (length letters) spans)) item in
     paint_then held failed columns c.args.start all (painted_item (numbers c.style-style.result) item) other c.args.sink.now c.send_spans.new.sink c.send_painted_cluster.new.sink c.in_ok-col.col c.send_painted_cluster.result
     (paint_steps held failed columns c.args.start all (painted_letters spans letters) other all c.args.sink.now c.args.sink.now c.send_spans.new.sink c.args.start c.in_ok-col.col

@@ -1,7 +1,7 @@
 -- A cluster that is no letter and no tab.
 use Rattle.std.proofs.Common.{Bool, ℕ, Option, None, ◌≡◌, ◌∙◌, sym, subst, if◌then◌else◌, [], ◌∷◌}
 use Rattle.std.specs.Prelude.{slice_index}
-use Rattle.line_screen.specs.Drawing.{DrawnItem, drawn_cluster, drawn_other}
+use Rattle.line_screen.specs.Drawing.{DrawnItem, drawn_cluster, item_of_cluster}
 use Rattle.line_screen.specs.Drawing.DrawnItem.{Letter}
 use Rattle.line_screen.specs.Measure.{cluster_width}
 use Rattle.line_screen.specs.Styles.{numbers}
@@ -20,7 +20,7 @@ returns-in-Some-cluster_columns g c =
     let Item : DrawnItem → Type 0 = λ item. SendsPainted (painted_item style item) col columns g.D.Sink.held g.D.Sink.has_failed c.args.sink.now c.send_tinted.new.sink c.send_tinted.result in
     let Wide : Option ℕ → Type 0 = λ width. Item (drawn_cluster cluster width) in
     let Stop : Option ℕ → Type 0 = λ stop. Item (drawn_by wide cluster stop) in
-    let Either : Bool → Type 0 = λ letter. Item (if letter then Letter (slice_index cluster 0) else drawn_other wide c.args.grid.tab cluster) in
+    let Either : Bool → Type 0 = λ letter. Item (if letter then Letter (slice_index cluster 0) else item_of_cluster wide c.args.grid.tab cluster) in
     let none : c.tab_of.result ≡ None = c.in_default.is in
     let sent : Wide c.cluster_columns.result = subst Wide (sym c.in-Some-cluster_columns.is) (sends_fenced g.D.Sink.held g.D.Sink.has_failed columns style cluster c.in-Some-cluster_columns.width col c.send_tinted.ensures) in
     subst Either c.if-is_letter.ensures (subst Item (sym (other_by wide c.args.grid.tab cluster))
@@ -36,7 +36,7 @@ returns-in-None g c =
     let Item : DrawnItem → Type 0 = λ item. SendsPainted (painted_item style item) col columns g.D.Sink.held g.D.Sink.has_failed c.args.sink.now c.send_tinted-in-None.new.sink c.send_tinted-in-None.result in
     let Wide : Option ℕ → Type 0 = λ width. Item (drawn_cluster cluster width) in
     let Stop : Option ℕ → Type 0 = λ stop. Item (drawn_by wide cluster stop) in
-    let Either : Bool → Type 0 = λ letter. Item (if letter then Letter (slice_index cluster 0) else drawn_other wide c.args.grid.tab cluster) in
+    let Either : Bool → Type 0 = λ letter. Item (if letter then Letter (slice_index cluster 0) else item_of_cluster wide c.args.grid.tab cluster) in
     let none : c.tab_of.result ≡ None = c.in_default.is in
     let sent : Wide c.cluster_columns.result = subst Wide (sym c.in-None.is) (sends_fenced g.D.Sink.held g.D.Sink.has_failed columns style (0x3F ∷ []) 1 col c.send_tinted-in-None.ensures) in
     subst Either c.if-is_letter.ensures (subst Item (sym (other_by wide c.args.grid.tab cluster))

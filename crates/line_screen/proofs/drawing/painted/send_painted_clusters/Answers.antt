@@ -4,7 +4,7 @@ use Rattle.std.specs.List.{concat}
 use Rattle.unicode_segmentation.specs.Grapheme.{graphemes, is_grapheme_break}
 use Rattle.unicode_segmentation.specs.Iter.{graphemes_left}
 use Rattle.unicode_segmentation.proofs.SegmentsLemmas.{concat-segments}
-use Rattle.line_screen.specs.Colours.{painted_letters, painted_after, painted_clusters, spans_in, brush_paints, skip}
+use Rattle.line_screen.specs.Colours.{painted_letters, items_painted_after, painted_clusters, spans_in, brush_paints, skip}
 use Rattle.line_screen.specs.Measure.{widths_by}
 use Rattle.line_screen.proofs.PaintRuns.{PaintSoFar, paint_start, paint_steps, paint_cut, paint_then}
 use Rattle.line_screen.proofs.PaintCode.{next_other, letters_taken, tail_dropped}
@@ -40,7 +40,7 @@ returns-in_err-col g c =
     let Holds : List ℕ → Type 0 = λ letters. PaintSoFar g.D.Sink.held g.D.Sink.has_failed c.args.grid.columns c.args.start all (painted_clusters wide spans letters before) c.args.sink.now c.loop-cluster.sink c.loop-cluster.col in
     let taken = letters_taken rest tail before Holds c.loop-cluster.invariant (length rest - length tail) front refl c.split_at.ensures.front in
     let later = skip (length cluster) (skip (length front) spans) in
-    paint_cut g.D.Sink.held g.D.Sink.has_failed c.args.grid.columns c.args.start _ all (painted_after wide spans front cluster) (painted_clusters wide later [] left) (painted_clusters wide spans front before)
+    paint_cut g.D.Sink.held g.D.Sink.has_failed c.args.grid.columns c.args.start _ all (items_painted_after wide spans front cluster) (painted_clusters wide later [] left) (painted_clusters wide spans front before)
     c.args.sink.now c.loop-cluster.sink c.send_painted_after.new.sink c.loop-cluster.col c.from_residual.result
     (subst Holds (sym taken) c.loop-cluster.invariant.holds) (next_other wide spans later front cluster before left c.in-Some.ensures.steps (sym c.if-not-is_letter.ensures) refl)
     c.from_residual.ensures.1 c.in_err-col.ensures.sends.err c.in_err-col.ensures.sends.begins
@@ -65,7 +65,7 @@ loop-cluster-preserved-then-not-is_letter g c =
       letters = [];
       rest_is = refl;
       tail_is = tail_dropped rest tail before Holds c.loop-cluster.invariant cluster back left c.in-Some.ensures.steps c.split_at-in-loop-cluster.ensures.back;
-      holds = paint_steps g.D.Sink.held g.D.Sink.has_failed c.args.grid.columns c.args.start all (painted_after wide spans front cluster) (painted_clusters wide later [] left) (painted_clusters wide spans front before)
+      holds = paint_steps g.D.Sink.held g.D.Sink.has_failed c.args.grid.columns c.args.start all (items_painted_after wide spans front cluster) (painted_clusters wide later [] left) (painted_clusters wide spans front before)
           c.args.sink.now c.loop-cluster.sink c.send_painted_after.new.sink c.loop-cluster.col c.in_ok-col.col
           (subst Holds (sym taken) c.loop-cluster.invariant.holds)
           (next_other wide spans later front cluster before left c.in-Some.ensures.steps (sym c.if-not-is_letter.ensures) (c.skip-left.ensures ∙ ap (skip (length cluster)) c.skip.ensures))

@@ -3,7 +3,7 @@ use Rattle.std.proofs.Common.{List, ◌≤◌, ◌++◌, ◌∷◌, [], false, t
 use Rattle.std.proofs.lemmas.List.{length_push, drop_all}
 use Rattle.std.proofs.lemmas.Iterator.Consumers.{YieldsList-turn, YieldsList-end}
 use Rattle.std.proofs.lemmas.Iterator.Splits.{YieldsList-from_str_split}
-use Rattle.line_screen.specs.Colours.{Span, painted_text, next_painted, spans_in, brush_paints, brush_spans, spans_behind}
+use Rattle.line_screen.specs.Colours.{SgrSpan, painted_text, next_painted, spans_in, brush_paints, brush_spans, spans_behind}
 use Rattle.line_screen.specs.Drawing.{split_rows}
 use Rattle.line_screen.specs.Measure.{widths_by}
 use Rattle.line_screen.proofs.PaintRuns.{PaintSoFar, paint_start, paint_steps, paint_done, paint_cut}
@@ -14,7 +14,7 @@ pub loop-row-init : goal.loop-row-init
 loop-row-init g c =
     let wide = widths_by c.args.grid.mode c.args.grid.tab c.args.grid.columns in
     let all = painted_text wide (brush_spans g.H.Highlighter.marks c.args.brush.now) c.args.brush.now.text.now in
-    let Start : List Span → Type 0 = λ ss. PaintSoFar g.D.Sink.held g.D.Sink.has_failed c.args.grid.columns c.args.start all (painted_from wide c.args.brush.now.text.now true ss 0) c.args.sink.now c.args.sink.now c.args.start in
+    let Start : List SgrSpan → Type 0 = λ ss. PaintSoFar g.D.Sink.held g.D.Sink.has_failed c.args.grid.columns c.args.start all (painted_from wide c.args.brush.now.text.now true ss 0) c.args.sink.now c.args.sink.now c.args.start in
     subst Start (sym (all_left (brush_paints g.H.Highlighter.marks c.args.brush.now) c.all-left.result c.all-left.ensures.first c.all-left.ensures.mark)) (paint_start g.D.Sink.held g.D.Sink.has_failed c.args.grid.columns c.args.start all c.args.sink.now c.requires.inside)
 
 pub loop-row-preserved : goal.loop-row-preserved

@@ -3,7 +3,7 @@ use Rattle.std.proofs.Common.{List, ◌++◌, map, subst, ◌∙◌}
 use Rattle.line_screen.proofs.StyleLemmas.{plain_none}
 use Rattle.line_screen.specs.Styles.{numbers}
 use Rattle.line_screen.specs.Drawing.{no_style}
-use Rattle.line_screen.specs.Colours.{end_of, PaintedItem, style_bytes, painted, SendsPainted}
+use Rattle.line_screen.specs.Colours.{end_of, PaintedItem, style_bytes, bytes_of_all_painted, SendsPainted}
 use Rattle.line_screen.specs.Colours.PaintedItem.{Shaded}
 use Rattle.line_screen.proofs.PaintRuns.{sends_framed, sends_bare, shaded_none}
 use Rattle.line_screen.proofs.Sendings.{sends_to_then, sends_to_cut}
@@ -24,7 +24,7 @@ returns-in_err-send_style g c =
     let letters = c.args.letters.now in
     let xs = map (Shaded style) letters in
     sends_framed held failed columns style letters c.args.col (c.if-is_plain.ensures ∙ plain_none c.args.style) c.if-is_empty.ensures
-    (sends_to_cut held failed _ (end_of columns xs c.args.col) columns (style_bytes style) (painted columns xs c.args.col ++ no_style)
+    (sends_to_cut held failed _ (end_of columns xs c.args.col) columns (style_bytes style) (bytes_of_all_painted columns xs c.args.col ++ no_style)
     c.from_residual.ensures.1 c.in_err-send_style.ensures.err c.in_err-send_style.ensures.begins)
 
 pub returns : goal.returns
@@ -36,5 +36,5 @@ returns g c =
     let letters = c.args.letters.now in
     let xs = map (Shaded style) letters in
     sends_framed held failed columns style letters c.args.col (c.if-is_plain.ensures ∙ plain_none c.args.style) c.if-is_empty.ensures
-    (sends_to_then held failed (end_of columns xs c.args.col) columns (style_bytes style) (painted columns xs c.args.col ++ no_style)
+    (sends_to_then held failed (end_of columns xs c.args.col) columns (style_bytes style) (bytes_of_all_painted columns xs c.args.col ++ no_style)
     c.in_ok-send_style.ensures.sent c.in_ok-send_style.ensures.works c.send_shades_end.ensures)

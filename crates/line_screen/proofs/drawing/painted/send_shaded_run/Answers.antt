@@ -2,7 +2,7 @@
 use Rattle.std.proofs.Common.{ℕ, ◌+◌, ◌==◌, List, length, map, sym, subst}
 use Rattle.line_screen.specs.Styles.{numbers}
 use Rattle.line_screen.specs.Drawing.{left_col, SendsTo}
-use Rattle.line_screen.specs.Colours.{end_of, shaded_break, painted}
+use Rattle.line_screen.specs.Colours.{end_of, shaded_break, bytes_of_all_painted}
 use Rattle.line_screen.specs.Colours.PaintedItem.{Shaded}
 use Rattle.line_screen.proofs.PaintRuns.{shaded_run, shaded_end}
 use Rattle.line_screen.proofs.Sendings.{sends_to_then, sends_to_cut}
@@ -31,7 +31,7 @@ returns g c =
     let columns = c.args.grid.columns in
     let next = left_col columns (col + length letters) in
     let Run : List ℕ → ℕ → Type 0 = λ bytes column. SendsTo bytes column columns held failed c.args.sink.now c.leave_shaded.new.sink c.leave_shaded.result in
-    let bytes = painted columns (map (Shaded style) letters) col in
+    let bytes = bytes_of_all_painted columns (map (Shaded style) letters) col in
     subst (λ column. Run bytes column) (sym (shaded_end columns style letters col c.requires.inside c.requires.room))
     (subst (λ bytes. Run bytes next) (sym (shaded_run columns style letters col c.requires.inside c.requires.room))
     (sends_to_then held failed next columns letters (shaded_break style (col + length letters == columns)) c.in_ok-send.ensures.sent c.in_ok-send.ensures.works c.leave_shaded.ensures))

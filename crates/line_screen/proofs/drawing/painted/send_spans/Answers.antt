@@ -1,7 +1,7 @@
 -- Letters span by span, and those after the last one.
 use Rattle.std.proofs.Common.{map, sym, ap, ◌∙◌}
 use Rattle.line_screen.specs.Styles.{numbers}
-use Rattle.line_screen.specs.Colours.{shaded, painted_letters, spans_in, brush_paints, span_of, bare_letters}
+use Rattle.line_screen.specs.Colours.{letters_in_style, painted_letters, spans_in, brush_paints, span_of, bare_letters}
 use Rattle.line_screen.proofs.PaintRuns.{paint_steps, paint_cut, paint_done, sends_bare, paint_then}
 use Rattle.line_screen.proofs.PaintCode.{span_next, no_letters}
 use Rattle.line_screen.proofs.drawing.painted.send_spans.Goals as goal
@@ -15,7 +15,7 @@ returns-in_err-col-in-Some g c =
     let front = c.split_at.result.0.now in
     let back = c.split_at.result.1.now in
     paint_cut g.D.Sink.held g.D.Sink.has_failed c.args.grid.columns c.args.start _
-    (painted_letters (spans_in paints c.args.spans) c.args.letters.now) (shaded (numbers c.in-Some.span.style) front) (painted_letters behind back) (painted_letters left rest)
+    (painted_letters (spans_in paints c.args.spans) c.args.letters.now) (letters_in_style (numbers c.in-Some.span.style) front) (painted_letters behind back) (painted_letters left rest)
     c.args.sink.now c.loop-rest.sink c.send_shaded.new.sink c.loop-rest.col c.from_residual.result
     c.loop-rest.invariant
     (span_next left behind (span_of c.in-Some.span) rest front back c.min-count.result c.in-Some.ensures c.min-count.ensures c.split_at.ensures.front c.split_at.ensures.back)
@@ -30,7 +30,7 @@ loop-rest-preserved g c =
     let front = c.split_at.result.0.now in
     let back = c.split_at.result.1.now in
     paint_steps g.D.Sink.held g.D.Sink.has_failed c.args.grid.columns c.args.start
-    (painted_letters (spans_in paints c.args.spans) c.args.letters.now) (shaded (numbers c.in-Some.span.style) front) (painted_letters behind back) (painted_letters left rest)
+    (painted_letters (spans_in paints c.args.spans) c.args.letters.now) (letters_in_style (numbers c.in-Some.span.style) front) (painted_letters behind back) (painted_letters left rest)
     c.args.sink.now c.loop-rest.sink c.send_shaded.new.sink c.loop-rest.col c.in_ok-col-in-Some.col
     c.loop-rest.invariant
     (span_next left behind (span_of c.in-Some.span) rest front back c.min-count.result c.in-Some.ensures c.min-count.ensures c.split_at.ensures.front c.split_at.ensures.back)

@@ -1,6 +1,6 @@
 use Rattle.std.proofs.Common.{rules, refl, ap}
-use Rattle.line_keys.specs.Feeds.InputItem.{Paste as PasteItem}
-use Rattle.line_screen.specs.Reading.{unread}
+use Rattle.line_keys.specs.KeyFeeds.InputItem.{Paste as PasteItem}
+use Rattle.line_screen.specs.Reading.{feed_with_ahead}
 use Rattle.line_screen.proofs.ItemReads.{out_of_place, stops_call, text_fault}
 use Rattle.line_screen.proofs.reading.reader.KeyReader.take_text.Goals as goal
 
@@ -11,8 +11,8 @@ returns-then-not-self g c =
     let new = c.refuse.new.self in
     rw c.refuse.ensures.why
     (record {
-      reads = out_of_place PasteItem (unread feed old.bytes) (unread feed new.bytes) old.mode new.mode old.announced new.announced old.refused new.refused
-          (search rules) (search rules) (search rules) (ap (unread feed) c.refuse.ensures.bytes) c.refuse.ensures.mode c.refuse.ensures.announced
+      reads = out_of_place PasteItem (feed_with_ahead feed old.bytes) (feed_with_ahead feed new.bytes) old.mode new.mode old.announced new.announced old.refused new.refused
+          (search rules) (search rules) (search rules) (ap (feed_with_ahead feed) c.refuse.ensures.bytes) c.refuse.ensures.mode c.refuse.ensures.announced
           c.refuse.ensures.refused;
       kept = search rules;
       memory = search rules;
@@ -25,9 +25,9 @@ returns-in-Err g c =
     let new = c.refuse-in-Err.new.self in
     rw c.refuse-in-Err.ensures.why
     (record {
-      reads = stops_call PasteItem feed _ c.pasted_text.new.self c.in-Err.why (unread feed old.bytes) (unread feed new.bytes) old.mode new.mode old.announced new.announced old.refused new.refused
+      reads = stops_call PasteItem feed _ c.pasted_text.new.self c.in-Err.why (feed_with_ahead feed old.bytes) (feed_with_ahead feed new.bytes) old.mode new.mode old.announced new.announced old.refused new.refused
           c.in-Err.ensures.reads c.in-Err.ensures.reads.refused (text_fault _ c.in-Err.ensures.reads.refused) (search rules) (search rules) (search rules) refl refl
-          (ap (unread feed) c.refuse-in-Err.ensures.bytes) c.refuse-in-Err.ensures.announced c.refuse-in-Err.ensures.refused;
+          (ap (feed_with_ahead feed) c.refuse-in-Err.ensures.bytes) c.refuse-in-Err.ensures.announced c.refuse-in-Err.ensures.refused;
       kept = search rules;
       memory = search rules;
     })

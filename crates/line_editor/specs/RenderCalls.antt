@@ -1,0 +1,87 @@
+-- The calls of a renderer and of the helper, what is known of a renderer, and the effect of a call
+-- on it.
+use Rattle.std.specs.Prelude.{◌≡◌, ◌⊎◌, ℕ, Bool, List, [], ◌∷◌, Option, Result, OnOk, OnErr, IfErr, IsTrue, IsFalse}
+use Rattle.line_buffer.specs.declared.layout.GraphemeClusterMode.{GraphemeClusterMode}
+use Rattle.line_buffer.specs.declared.layout.Layout.{Layout}
+use Rattle.line_buffer.specs.declared.layout.Position.{Position}
+use Rattle.line_buffer.specs.declared.layout.TabStops.{TabStops}
+use Rattle.line_config.specs.declared.errors.ReadlineError.{ReadlineError}
+use Rattle.line_config.specs.declared.errors.ReadlineError.TheVariants.{Display}
+use Rattle.line_help.specs.Paints as help
+
+-- what a highlighter marks, and the styles of each text
+abbrev pub Marks : Type 0
+Marks = help.Marks
+
+pub data Call : Type 0 where
+  -- prompt, line and information drawn in full, in place of an older drawing, if there is one. A
+  -- highlighter, if there is one, is represented by its marks
+  Draw : (prompt text : List ℕ) (place : ℕ) (info : Option (List ℕ)) (old : Option Layout)
+      (new : Layout) (marks : Option Marks) → Call
+  Move : (old new : Position) → Call
+  Write : (text : List ℕ) → Call
+  Beep : Call
+  ClearScreen : Call
+  ClearRows : (layout : Layout) → Call
+  ClearToEol : Call
+  -- a move, and the row erased from there to its end
+  MoveAndClearToEol : (old new : Position) → Call
+  -- a cell opened at the cursor by moving the rest of its row, and a character written there
+  InsertChar : (c : ℕ) → Call
+  -- a move, and so many cells taken out of the row from there on
+  MoveAndDelete : (old new : Position) (count : ℕ) → Call
+  ToLeftmost : Call
+  -- a call of the helper, which answers or fails; nothing is drawn
+  Help : (fails : Bool) → Call
+
+-- a renderer's measures: where the drawing of a text from a place on ends, the numbers of columns
+-- and of rows, whether it draws in colours, and how it counts a cluster's columns
+pub record Ruler : Type 0 where
+  pub measure : List ℕ → Position → Position
+  pub columns : ℕ
+  pub rows : ℕ
+  pub colours : Bool
+  pub mode : GraphemeClusterMode
+  -- where tabs end, if they are drawn as blanks
+  pub tabs : Option TabStops
+
+-- what is known of a renderer: the effect of a call that succeeds, and of one that fails; whether
+-- its display has failed; and its measures
+pub record Canvas (R : Type 0) : Type 1 where
+  pub made : R → Call → R → Type 0
+  pub refused : R → Call → R → Type 0
+  pub failed : R → Bool
+  pub ruler : R → Ruler
+
+-- a call succeeds, or fails because the display has failed
+pub record Makes {R A : Type 0} (canvas : Canvas R) (call : Call) (old new : R)
+    (result : Result A ReadlineError) : Type 0 where
+  pub made : OnOk result (canvas.made old call new)
+  pub refused : OnErr result (canvas.refused old call new)
+  pub fault : IfErr result (λ e. e ≡ Display)
+  pub failed : OnErr result (IsTrue (canvas.failed new))
+  pub ruler : canvas.ruler new ≡ canvas.ruler old
+
+-- a call succeeds: of the renderer, or of a helper that gives an answer
+abbrev pub MadeIn : {R : Type 0} → Canvas R → R → Call → R → Type 0
+MadeIn canvas old (Help fails) new = IsFalse fails × (new ≡ old)
+MadeIn canvas old call new = canvas.made old call new
+
+-- the display fails at a call; it has no part in the helper's
+abbrev pub CutCall : {R : Type 0} → Canvas R → R → Call → R → Type 0
+CutCall canvas old (Help fails) new = ⊥
+CutCall canvas old call new = canvas.refused old call new
+
+-- the display broke off these calls: those before it succeeded, and the next one failed
+unfoldable pub CutCalls : {R : Type 0} → Canvas R → List Call → R → R → Type 0
+CutCalls canvas [] old new = ⊥
+CutCalls {R} canvas (call ∷ calls) old new =
+    CutCall canvas old call new
+    ⊎ ((between : R) × MadeIn canvas old call between × CutCalls canvas calls between new)
+
+-- a call that writes nothing, whether it succeeds or fails: the renderer is as it was
+pub record Idles {R A : Type 0} (canvas : Canvas R) (old new : R)
+    (result : Result A ReadlineError) : Type 0 where
+  pub stays : new ≡ old
+  pub fault : IfErr result (λ e. e ≡ Display)
+  pub failed : OnErr result (IsTrue (canvas.failed new))

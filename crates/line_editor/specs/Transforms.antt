@@ -1,0 +1,51 @@
+-- Transpositions of clusters and words, changes of case, indentation, and undo.
+use Rattle.std.specs.Prelude.{ℕ, ◌==◌, ◌||◌, not, max, Bool, drop, if◌then◌else◌, [], ◌∷◌, is_some}
+use Rattle.line_buffer.specs.LetterCase.{word_to_edit}
+use Rattle.line_buffer.specs.Transpositions.{transposes_chars, transposes_words}
+use Rattle.line_buffer.specs.declared.types.Movement.{Movement}
+use Rattle.line_buffer.specs.declared.types.WordAction.{WordAction}
+use Rattle.line_record.specs.Held.{has_step}
+use Rattle.line_edits.specs.Edits.{transpose_chars_group, transpose_words_group, word_group, indent_steps, after_undo, by}
+use Rattle.line_editor.specs.Drawing.{refresh_effect, refresh_effect_if}
+use Rattle.line_editor.specs.Values.{Value, Transition, then_do, value_with_edit, edit_effect}
+use Rattle.line_editor.specs.Values.EditStep.{TakesBack}
+
+abbrev pub transpose_chars_effect : Transition
+transpose_chars_effect s v =
+    then_do (edit_effect transpose_chars_group) (refresh_effect_if (transposes_chars v.line)) s v
+
+-- even if only the cursor moved
+abbrev pub transpose_words_effect : ℕ → Transition
+transpose_words_effect n s v =
+    let w = value_with_edit (by (transpose_words_group n)) v in
+    then_do (edit_effect (transpose_words_group n))
+    (refresh_effect_if (transposes_words n v.line || not (w.line.place == v.line.place))) s v
+
+abbrev pub edit_word_effect : WordAction → Transition
+edit_word_effect action s v =
+    then_do (edit_effect (word_group action))
+    (refresh_effect_if (is_some (word_to_edit v.line))) s v
+
+abbrev pub indent_effect : Movement → ℕ → Bool → Transition
+indent_effect movement amount dedent =
+    then_do (edit_effect (indent_steps movement amount dedent)) refresh_effect
+
+abbrev pub indent_by_setting : Movement → Bool → Transition
+indent_by_setting movement dedent s v = indent_effect movement s.config.indent_size dedent s v
+
+-- undone marks, which leave the line
+abbrev pub value_without_marks : ℕ → Value → Value
+value_without_marks n v = record v { held = drop (max n 1) v.held }
+
+abbrev pub unmark_effect : ℕ → Transition
+unmark_effect n s v = record { value = value_without_marks n v; steps = TakesBack v (max n 1) ∷ [] }
+
+abbrev pub undo_effect : ℕ → Transition
+undo_effect n s v = record
+    { value = value_with_edit (after_undo n) v; steps = TakesBack v (max n 1) ∷ [] }
+
+-- if no undone item is a step, nothing is drawn
+abbrev pub undo : ℕ → Transition
+undo n s v =
+    if has_step (max n 1) v.held then then_do (undo_effect n) refresh_effect s v
+    else unmark_effect n s v

@@ -1,0 +1,71 @@
+//! Transpositions, changes of case, indentation, and undo.
+
+use crate::renderer::Renderer;
+use crate::state::State;
+use line_buffer::{Movement, RepeatCount, WordAction};
+use line_config::ReadlineError;
+use line_help::{Helper, History};
+
+#[tactic(auto, using(crate::proofs::StopsLemmas::undoes_stop))]
+impl<'p, 'h, Out: Renderer, H: Helper + Drop, Hi: History> State<'p, 'h, Out, H, Hi> {
+    ghost use Rattle.line_edits.specs.Edits.{after_undo};
+    ghost use Rattle.line_editor.specs.States.{Does};
+    ghost use Rattle.line_editor.specs.Transforms.{transpose_chars_effect, transpose_words_effect, edit_word_effect, indent_effect, undo};
+
+    /// Transposes the clusters around the cursor.
+    pub fn edit_transpose_chars(&mut self) -> Result<(), ReadlineError>
+        ensures does { Does transpose_chars_effect self.old self.new result }
+    {
+        self.known = None;
+        let done = self.recorded.transpose_chars(self.alloc)?;
+        if done { self.refresh() } else { Ok(()) }
+    }
+
+    /// Swaps the word at the cursor or after it with the one `n` words before it, as one step. The
+    /// line is drawn even if only the cursor moved.
+    pub fn edit_transpose_words(&mut self, n: RepeatCount) -> Result<(), ReadlineError>
+        ensures does { Does (transpose_words_effect n) self.old self.new result }
+    {
+        let before = self.recorded.line.pos();
+        self.known = None;
+        let done = self.recorded.transpose_words(self.alloc, n)?;
+        if done || self.recorded.line.pos() != before {
+            self.refresh()
+        } else {
+            Ok(())
+        }
+    }
+
+    /// Changes the case of a word.
+    pub fn edit_word(&mut self, action: WordAction) -> Result<(), ReadlineError>
+        ensures does { Does (edit_word_effect action) self.old self.new result }
+    {
+        self.known = None;
+        let done = self.recorded.edit_word(self.alloc, action)?;
+        if done { self.refresh() } else { Ok(()) }
+    }
+
+    /// Adds `amount` spaces to each row that a movement covers, or removes at most as many
+    /// whitespace characters: one change per row.
+    pub fn edit_indent(
+        &mut self,
+        movement: &Movement,
+        amount: u8,
+        dedent: bool,
+    ) -> Result<(), ReadlineError>
+        ensures does { Does (indent_effect movement.now amount dedent) self.old self.new result }
+    {
+        self.known = None;
+        self.recorded.indent(self.alloc, movement, amount, dedent)?;
+        self.refresh()
+    }
+
+    /// Undoes the last changes.
+    pub(crate) fn edit_undo(&mut self, n: RepeatCount) -> Result<(), ReadlineError>
+        ensures does { Does (undo n) self.old self.new result }
+    {
+        self.known = None;
+        let undone = self.recorded.undo(self.alloc, n)?;
+        if undone { self.refresh() } else { Ok(()) }
+    }
+}

@@ -1,0 +1,113 @@
+-- Edits by their steps, in order: the effect of an edit on a line and its record, and their state
+-- if a step fails.
+use Rattle.std.specs.Prelude.{◌≡◌, ◌⊎◌, List, [], ◌∷◌, ◌++◌, Result, OnErr}
+use Rattle.line_buffer.specs.Edit.{Edit}
+use Rattle.line_buffer.specs.Event.{ChangeEvent}
+use Rattle.line_buffer.specs.Line.{Line}
+use Rattle.line_buffer.specs.Replay.{TellsOfChange, line_after_events}
+use Rattle.line_record.specs.Items.{Items}
+use Rattle.line_edits.specs.Written.{Written, Writes, line_and_record, line_and_record_in, after_edit, group_opened, group_closed}
+use Rattle.line_edits.specs.declared.recorded_line.RecordedLine.{RecordedLine}
+
+pub data WriteStep : Type 0 where
+  -- line and record follow the events together, one after another; at last the line is this
+  Tells : (events : List ChangeEvent) (line : Line) → WriteStep
+  -- the line is this: its cursor was moved
+  Leaves : (line : Line) → WriteStep
+  -- a mark is set
+  Marks : WriteStep
+  -- all marks are closed
+  Closes : WriteStep
+
+abbrev pub effect_of_step : WriteStep → Written → Written
+effect_of_step (Tells events line) w = after_edit events line w
+effect_of_step (Leaves line) w = record { line = line; held = w.held }
+effect_of_step Marks w = group_opened w
+effect_of_step Closes w = group_closed w
+
+-- line and record after events
+abbrev pub after_events : List ChangeEvent → Written → Written
+after_events events w = after_edit events (line_after_events events w.line) w
+
+-- one of the events failed: line and record followed those before it together, and neither that one
+-- nor those after it
+pub record CutEvents (events : List ChangeEvent) (w v : Written) : Type 0 where
+  pub done : List ChangeEvent
+  pub refused : ChangeEvent
+  pub never : List ChangeEvent
+  pub split : events ≡ done ++ refused ∷ never
+  pub change : TellsOfChange refused
+  pub left : v ≡ after_events done w
+
+-- the state that a failed step leaves; moving the cursor and closing marks never fail
+abbrev pub CutWriteStep : WriteStep → Written → Written → Type 0
+CutWriteStep (Tells events line) w v = CutEvents events w v
+CutWriteStep (Leaves line) w v = ⊥
+CutWriteStep Marks w v = v ≡ w
+CutWriteStep Closes w v = ⊥
+
+-- ---- edits
+
+-- an edit: its steps in order, and its answer
+pub record WriteSteps (A : Type 0) : Type 0 where
+  pub steps : List WriteStep
+  pub answer : A
+
+abbrev pub effect_of_steps : List WriteStep → Written → Written
+effect_of_steps [] w = w
+effect_of_steps (step ∷ steps) w = effect_of_steps steps (effect_of_step step w)
+
+-- the effect of all steps
+abbrev pub effect_of_edit : {A : Type 0} → WriteSteps A → Written → Written
+effect_of_edit edit w = effect_of_steps edit.steps w
+
+abbrev pub CutAlong : List WriteStep → Written → Written → Type 0
+CutAlong [] w v = ⊥
+CutAlong (step ∷ steps) w v = CutAlong steps (effect_of_step step w) v ⊎ CutWriteStep step w v
+
+-- the first steps were made, in order; the failed one and those after it were not
+pub record CutEdit {A : Type 0} (edit : WriteSteps A) (w v : Written) : Type 0 where
+  pub stops : CutAlong edit.steps w v
+
+-- ---- parts of edits
+
+abbrev pub single_step : {A : Type 0} → WriteStep → A → WriteSteps A
+single_step step answer = record { steps = step ∷ []; answer = answer }
+
+abbrev pub no_steps : {A : Type 0} → A → WriteSteps A
+no_steps answer = record { steps = []; answer = answer }
+
+-- an edit of the line, reported to the record
+abbrev pub steps_of_edit : {A : Type 0} → Edit A → WriteSteps A
+steps_of_edit edit = single_step (Tells edit.events edit.line) edit.answer
+
+-- one edit after another
+abbrev pub in_turn : {A B : Type 0} → WriteSteps A → WriteSteps B → WriteSteps B
+in_turn first second =
+    record { steps = first.steps ++ second.steps; answer = second.answer }
+
+-- the same edit, and another answer
+abbrev pub with_answer : {A B : Type 0} → B → WriteSteps A → WriteSteps B
+with_answer answer edit = record { steps = edit.steps; answer = answer }
+
+-- undone as one
+abbrev pub steps_in_group : {A : Type 0} → WriteSteps A → WriteSteps A
+steps_in_group edit =
+    record { steps = Marks ∷ (edit.steps ++ (Closes ∷ [])); answer = edit.answer }
+
+-- ---- calls
+
+-- a call that succeeds has made all steps of the edit, and returns their answer; one that fails has
+-- made the first of them
+pub record Rewrites {A E : Type 0} (edit : WriteSteps A) (before after : Line) (old new : Items)
+    (result : Result A E) : Type 0 where
+  pub writes : Writes (effect_of_edit edit) edit.answer before after old new result
+  pub left : OnErr result (CutEdit edit (line_and_record before old) (line_and_record after new))
+
+-- the same of a line with its record, whatever the answer
+pub record Edits {A E : Type 0} (edit : WriteSteps A) (before after : RecordedLine)
+    (result : Result A E) : Type 0 where
+  pub writes : Writes (effect_of_edit edit) edit.answer
+      before.line after.line before.changes after.changes result
+  pub left : OnErr result
+      (CutEdit (with_answer (tt {0}) edit) (line_and_record_in before) (line_and_record_in after))

@@ -1,0 +1,137 @@
+use Rattle.std.proofs.Common.{◌≡◌, ◌∙◌, ◌&&◌, Ok, Err, ap, take, rules, IsTrue}
+use Rattle.line_config.proofs.Taking.{on_err}
+use Rattle.line_help.specs.HistoryText.{follows, row_fault}
+use Rattle.line_help.proofs.LoadLemmas.{EndsLoad, Underway, bad_row_ends, loads_some, memory_row, one_row_on}
+use Rattle.line_help.proofs.RowLemmas.{StandsWhole, none_read, stands_whole, still_met}
+use Rattle.line_help.proofs.history.file_history.FileHistory.load_rows.Goals as goal
+
+-- a row that stands whole in what the source has
+pub loop-ready-preserved-then-count-ready : goal.loop-ready-preserved-then-count-ready
+loop-ready-preserved-then-count-ready g c =
+    let last = (g.S.Source.feed c.args.source.now).last in
+    let text = (g.S.Source.feed c.args.source.now).coming in
+    let here = (g.S.Source.feed c.loop-ready.source).coming in
+    let onward = (g.S.Source.feed c.consume.new.self).coming in
+    let i = c.loop-ready.invariant in
+    let utf8 = c.in_ok-taken.ensures.text in
+    let so : IsTrue (g.S.Source.feed c.consume.new.self).told → Underway c.args.escapes (c.loop-ready.whole && c.in_ok-taken.taken) last text onward c.args.self.now c.add_row-lent.new.self =
+    λ told.
+    let before = (c.consume.ensures.gives told).0 in
+    let w = stands_whole c.buffer-ready.result.now here onward _ c.row_len-count.result c.row_len-count.ensures c.if-count-ready.true
+    (rw (← c.buffer-ready.ensures) at (c.consume.ensures.gives told).1) c.row_end.ensures.value in
+    one_row_on c.args.escapes c.loop-ready.whole c.in_ok-taken.taken last text here onward _ c.args.self.now c.loop-ready.self c.add_row-lent.new.self utf8 (w.rows last) w.behind (w.good utf8)
+    c.in_ok-taken.ensures.added c.in_ok-taken.ensures.answer
+    (record { good = i.good before; part = i.part before; left = i.left before; history = i.history before; answer = i.answer before }) in
+    record {
+      told = search rules;
+      last = search rules;
+      bound = search rules;
+      ended = still_met c.loop-ready.rows.ended _ _ _ i.ended c.consume.ensures;
+      works = search rules;
+      good = λ told. (so told).good;
+      part = λ told. (so told).part;
+      left = λ told. (so told).left;
+      history = λ told. (so told).history;
+      answer = λ told. (so told).answer;
+    }
+
+-- one that was read
+pub loop-ready-preserved : goal.loop-ready-preserved
+loop-ready-preserved g c =
+    let last = (g.S.Source.feed c.args.source.now).last in
+    let text = (g.S.Source.feed c.args.source.now).coming in
+    let here = (g.S.Source.feed c.loop-ready.source).coming in
+    let onward = (g.S.Source.feed c.read.new.source).coming in
+    let i = c.loop-ready.invariant in
+    let utf8 = c.in_ok-added.ensures.text in
+    let so : IsTrue (g.S.Source.feed c.read.new.source).told → Underway c.args.escapes (c.loop-ready.whole && c.in_ok-added.added) last text onward c.args.self.now c.add_row.new.self =
+    λ told.
+    let before = c.read.ensures.told told in
+    let r = rw (c.if-not-branch.false, i.last, ← c.deref.ensures.value) at c.in_ok-read.ensures.row told in
+    let is = c.in_ok-read.ensures.behind told (ap (λ b. Ok b) c.if-not-branch.false) in
+    let good = c.in_ok-read.ensures.good told (ap (λ b. Ok b) c.if-not-branch.false) (rw c.deref.ensures.value at utf8) in
+    one_row_on c.args.escapes c.loop-ready.whole c.in_ok-added.added last text here onward c.deref.result.now c.args.self.now c.loop-ready.self c.add_row.new.self utf8 r is good
+    c.in_ok-added.ensures.added c.in_ok-added.ensures.answer
+    (record { good = i.good before; part = i.part before; left = i.left before; history = i.history before; answer = i.answer before }) in
+    record {
+      told = search rules;
+      last = search rules;
+      bound = search rules;
+      ended = c.read.ensures.ended;
+      works = search rules;
+      good = λ told. (so told).good;
+      part = λ told. (so told).part;
+      left = λ told. (so told).left;
+      history = λ told. (so told).history;
+      answer = λ told. (so told).answer;
+    }
+
+pub returns-in_err-taken : goal.returns-in_err-taken
+returns-in_err-taken g c =
+    let last = (g.S.Source.feed c.args.source.now).last in
+    let text = (g.S.Source.feed c.args.source.now).coming in
+    let here = (g.S.Source.feed c.loop-ready.source).coming in
+    let onward = (g.S.Source.feed c.consume.new.self).coming in
+    let i = c.loop-ready.invariant in
+    let row = take c.row_end.result (take c.row_len-count.result c.buffer-ready.result.now) in
+    let whole : IsTrue (g.S.Source.feed c.consume.new.self).told → StandsWhole here onward row = λ told.
+    stands_whole c.buffer-ready.result.now here onward row c.row_len-count.result c.row_len-count.ensures c.if-count-ready.true
+    (rw (← c.buffer-ready.ensures) at (c.consume.ensures.gives told).1) c.row_end.ensures.value in
+    let fault : c.from_residual.result ≡ Err (row_fault row) = search rules in
+    let ends : IsTrue (g.S.Source.feed c.consume.new.self).told → IsTrue (follows c.from_residual.result) → EndsLoad c.args.escapes last text onward c.args.self.now c.loop-ready.self c.from_residual.result =
+    λ told f.
+    let before = (c.consume.ensures.gives told).0 in
+    bad_row_ends c.args.escapes c.loop-ready.whole last text here onward row c.args.self.now c.loop-ready.self c.from_residual.result ((whole told).rows last) (whole told).behind fault f
+    (record { good = i.good before; part = i.part before; left = i.left before; history = i.history before; answer = i.answer before }) in
+    record {
+      answer = λ told f. (ends told f).answer;
+      history = λ told f. c.in_err-taken.ensures.kept ∙ (ends told f).history;
+      left = λ told f. (ends told f).left;
+      part = λ told.
+          rw c.in_err-taken.ensures.kept
+          (on_err c.from_residual.result (loads_some c.args.escapes _ _ _ _ c.args.self.now c.loop-ready.self (i.part (c.consume.ensures.gives told).0) (whole told).lost));
+      memory = λ told h. i.good (c.consume.ensures.gives told).0 onward ((whole told).good (memory_row row (search rules)) onward (none_read onward));
+      fault = search rules;
+      failure = search rules;
+      told = search rules;
+      last = search rules;
+      keeps = search rules;
+    }
+
+pub returns-in_err-read : goal.returns-in_err-read
+returns-in_err-read g c = record {
+  answer = search rules;
+  history = search rules;
+  left = search rules;
+  part = λ told.
+      on_err c.from_residual-in_err-read.result
+      (loads_some c.args.escapes _ _ _ _ c.args.self.now c.loop-ready.self (c.loop-ready.invariant.part (c.read.ensures.told told)) (c.read.ensures.lost told));
+  memory = λ told h.
+      c.loop-ready.invariant.good (c.read.ensures.told told) (g.S.Source.feed c.read.new.source).coming (c.in_err-read.ensures.memory told (search rules));
+  fault = search rules;
+  failure = search rules;
+  told = search rules;
+  last = search rules;
+  keeps = search rules;
+}
+
+pub returns-in_err-added : goal.returns-in_err-added
+returns-in_err-added g c = record {
+  answer = search rules;
+  history = search rules;
+  left = search rules;
+  part = λ told.
+      rw c.in_err-added.ensures.kept
+      (on_err c.from_residual-in_err-added.result
+      (loads_some c.args.escapes _ _ _ _ c.args.self.now c.loop-ready.self (c.loop-ready.invariant.part (c.read.ensures.told told)) (c.read.ensures.lost told)));
+  memory = λ told h.
+      let utf8 = memory_row c.deref.result.now (search rules) in
+      let coming = (g.S.Source.feed c.read.new.source).coming in
+      c.loop-ready.invariant.good (c.read.ensures.told told) coming
+      (c.in_ok-read.ensures.good told (ap (λ b. Ok b) c.if-not-branch.false) (rw c.deref.ensures.value at utf8) coming (none_read coming));
+  fault = search rules;
+  failure = search rules;
+  told = search rules;
+  last = search rules;
+  keeps = search rules;
+}

@@ -1,0 +1,74 @@
+-- The history of a line: the calls on the line and its record, and the texts that it had.
+use Rattle.std.specs.Prelude.{◌≡◌, ℕ, ◌⊎◌, List, [], ◌∷◌, drop}
+use Rattle.line_buffer.specs.Event.{ChangeEvent}
+use Rattle.line_buffer.specs.Replay.{text_after_event}
+use Rattle.line_record.specs.Held.{HeldItem, Undone, record_after_event, record_after_close, text_back, ahead_back, record_ahead}
+use Rattle.line_record.specs.Held.HeldItem.{Opened}
+use Rattle.line_record.specs.Items.{ahead_after}
+
+pub data RecordCall : Type 0 where
+  Told : (event : ChangeEvent) → RecordCall
+  Begun : RecordCall
+  Ended : RecordCall
+  TakenBack : (count : ℕ) → RecordCall
+  MadeAnew : RecordCall
+
+pub record RecordCourse : Type 0 where
+  pub text : List ℕ
+  pub held : List HeldItem
+  pub ahead : List Undone
+  pub seen : List (List ℕ)
+
+-- a line with a new record
+abbrev pub new_course : List ℕ → RecordCourse
+new_course text = record { text = text; held = []; ahead = []; seen = text ∷ [] }
+
+abbrev pub text_ahead : List Undone → List ℕ → List ℕ
+text_ahead [] text = text
+text_ahead (u ∷ ahead) text = u.text
+
+abbrev pub after_call : RecordCall → RecordCourse → RecordCourse
+after_call (Told e) c =
+    record {
+      text = text_after_event e c.text;
+      held = record_after_event e c.text c.held;
+      ahead = ahead_after e c.ahead;
+      seen = text_after_event e c.text ∷ c.seen;
+    }
+after_call Begun c =
+    record { text = c.text; held = Opened c.text ∷ c.held; ahead = []; seen = c.seen }
+after_call Ended c = record
+    { text = c.text; held = record_after_close c.held; ahead = []; seen = c.seen }
+after_call (TakenBack n) c =
+    record {
+      text = text_back n c.held c.text;
+      held = drop n c.held;
+      ahead = ahead_back n c.held c.text c.ahead;
+      seen = text_back n c.held c.text ∷ c.seen;
+    }
+after_call MadeAnew c =
+    record {
+      text = text_ahead c.ahead c.text;
+      held = record_ahead c.ahead c.held;
+      ahead = drop 1 c.ahead;
+      seen = text_ahead c.ahead c.text ∷ c.seen;
+    }
+
+unfoldable pub after_calls : List RecordCall → RecordCourse → RecordCourse
+after_calls [] c = c
+after_calls (call ∷ calls) c = after_calls calls (after_call call c)
+
+abbrev pub IsAmong : List ℕ → List (List ℕ) → Type 0
+IsAmong text [] = ⊥
+IsAmong text (x ∷ texts) = (text ≡ x) ⊎ IsAmong text texts
+
+-- the record of texts after events on the text
+unfoldable pub record_after_events : List ChangeEvent → List ℕ → List HeldItem → List HeldItem
+record_after_events [] text held = held
+record_after_events (e ∷ es) text held = record_after_events es (text_after_event e text)
+    (record_after_event e text held)
+
+-- what can be redone after events
+unfoldable pub ahead_all : List ChangeEvent → List Undone → List Undone
+ahead_all [] ahead = ahead
+ahead_all (e ∷ es) ahead = ahead_all es (ahead_after e ahead)

@@ -1,0 +1,12 @@
+use Rattle.std.proofs.Common.{length}
+use Rattle.line_screen.specs.Drawing.{text_items}
+use Rattle.line_screen.specs.Measure.{widths_by}
+use Rattle.line_screen.proofs.RowsLeft.{left_from}
+use Rattle.line_screen.proofs.Saturating.{Reached}
+use Rattle.line_screen.proofs.measuring.after_rows.Given as goal
+
+abbrev pub invariant-loop-row : goal.invariant-loop-row
+invariant-loop-row l =
+    Reached l.fn.grid.columns l.fn.from
+    (text_items (widths_by l.fn.grid.mode l.fn.grid.tab l.fn.grid.columns) l.fn.text)
+    (left_from (widths_by l.fn.grid.mode l.fn.grid.tab l.fn.grid.columns) l.fn.text l.is_first (length l.yielded)) l.at

@@ -1,0 +1,161 @@
+-- The bytes of each drawing call on a screen, and the effect of a call on the screen and its sink.
+use Rattle.std.specs.Prelude.{◌≡◌, ℕ, Bool, false, encode_utf8, IsTrue, List, [], ◌∷◌, ◌++◌, Option, Some, None, map, option_map, Result, Ok, Err}
+use Rattle.line_buffer.specs.declared.layout.GraphemeClusterMode.{GraphemeClusterMode}
+use Rattle.line_buffer.specs.declared.layout.Layout.{Layout}
+use Rattle.line_buffer.specs.declared.layout.Position.{Position}
+use Rattle.line_config.specs.declared.device.DeviceFailed.{DeviceFailed}
+use Rattle.line_config.specs.declared.errors.ReadlineError.{ReadlineError}
+use Rattle.line_config.specs.Sending.{Takes, TakesSome}
+use Rattle.line_config.specs.declared.settings.BellStyle.{BellStyle}
+use Rattle.line_config.specs.declared.settings.BellStyle.TheVariants.{Audible}
+use Rattle.line_editor.specs.RenderCalls.{Call, Canvas, Ruler}
+use Rattle.line_editor.specs.RenderCalls.Call.{Draw, Move, Write, Beep, ClearScreen, ClearRows, ClearToEol, MoveAndClearToEol, InsertChar, MoveAndDelete}
+use Rattle.line_editor.specs.Redraws.{info_text}
+use Rattle.line_screen.specs.Drawing.{Widths, drawing, full_drawing, clearing_bytes, move_bytes, erase_to_end, erase_to_row_end, go_home, open_cell, take_cells_out}
+use Rattle.line_editor.specs.Sights.{PartSpans, spans_by}
+use Rattle.line_help.specs.Paints.{Marks}
+use Rattle.line_screen.specs.Colours.{Styles, span_of, painted_bytes}
+use Rattle.line_screen.specs.Measure.{widths_by, measure_of}
+use Rattle.line_screen.specs.declared.renderer.ScreenRenderer.{ScreenRenderer}
+use Rattle.script.specs.Scripts.{World, Goes}
+use Rattle.line_keys.specs.CustomBindings.{Custom}
+use Rattle.line_editor.specs.LineScripts.{LineStage, line_script, line_world}
+use Rattle.line_editor.specs.Values.{Setting}
+use Rattle.line_config.specs.declared.errors.ReadlineError.TheVariants as Refusal
+
+-- what doesn't change over a screen's calls
+pub record Screen : Type 0 where
+  pub columns : ℕ
+  pub mode : GraphemeClusterMode
+  pub bell : BellStyle
+  pub colours : Bool
+  -- how many columns apart tab stops are, if tabs are drawn as blanks
+  pub tab : Option ℕ
+
+abbrev pub screen_of : {D : Type 0} → ScreenRenderer D → Screen
+screen_of r = record {
+  columns = r.grid.columns;
+  mode = r.grid.mode;
+  bell = r.bell_style;
+  colours = r.colours;
+  tab = r.grid.tab;
+}
+
+abbrev pub sink_of : {D : Type 0} → ScreenRenderer D → D
+sink_of r = r.sink
+
+-- its measures: it has the most rows that can be counted
+abbrev pub ruler_of : Screen → Ruler
+ruler_of s = record {
+  measure = measure_of s.mode s.tab s.columns;
+  columns = s.columns;
+  rows = 65535;
+  colours = s.colours;
+  mode = s.mode;
+  tabs = option_map (λ apart. record { columns = s.columns; apart = apart }) s.tab;
+}
+
+abbrev pub drawing_bytes : ℕ → Widths → Option ℕ → List ℕ → List ℕ → List ℕ → Position
+    → Position → List ℕ
+drawing_bytes columns wide None prompt line info finish cursor = drawing columns wide prompt line
+    info finish cursor
+drawing_bytes columns wide
+    (Some row) prompt line info finish cursor = full_drawing columns wide row prompt line info
+    finish cursor
+
+-- the row of the cursor of an older drawing, if there is one
+abbrev pub old_row : Option Layout → Option ℕ
+old_row old = option_map (λ l. l.cursor.row) old
+
+abbrev pub styles_of : PartSpans → Styles
+styles_of x = record {
+  prompt = map span_of x.prompt;
+  line = map span_of x.line;
+  info = map span_of x.info;
+}
+
+-- the styles of prompt, line and what stands after it; whether the prompt is the line's own
+abbrev pub styles_by : Marks → Bool → List ℕ → List ℕ → ℕ → List ℕ → Styles
+styles_by m own prompt text place info = styles_of (spans_by m own prompt text place info)
+
+abbrev pub bell_bytes : BellStyle → List ℕ
+bell_bytes Audible = 0x07 ∷ []
+bell_bytes style = []
+
+-- each drawing ends in its own cells, so no call leaves the cursor elsewhere; the helper's draws
+-- nothing
+abbrev pub bytes_of : Screen → Call → List ℕ
+bytes_of s (Draw prompt text place info old new None) =
+    drawing_bytes s.columns (widths_by s.mode s.tab s.columns) (old_row old) prompt text
+    (info_text info) new.end new.cursor
+bytes_of s (Draw prompt text place info old new (Some m)) =
+    painted_bytes s.columns (widths_by s.mode s.tab s.columns)
+    (styles_by m new.default_prompt prompt text place (info_text info)) (old_row old) prompt text
+    (info_text info) new.end new.cursor
+bytes_of s (Move old new) = move_bytes old new
+bytes_of s (Write text) = text
+bytes_of s Beep = bell_bytes s.bell
+bytes_of s ClearScreen = go_home ++ erase_to_end
+bytes_of s (ClearRows layout) = clearing_bytes layout.cursor.row
+bytes_of s ClearToEol = erase_to_row_end
+bytes_of s (MoveAndClearToEol old new) = move_bytes old new ++ erase_to_row_end
+bytes_of s (InsertChar c) = open_cell ++ encode_utf8 c
+bytes_of s (MoveAndDelete old new count) = move_bytes old new ++ take_cells_out count
+bytes_of s call = []
+
+-- a failed device becomes the display's error
+abbrev pub display_answer : {A : Type 0} → Result A DeviceFailed → Result A ReadlineError
+display_answer (Ok x) = Ok x
+display_answer (Err e) = Err Refusal.Display
+
+-- bytes were sent and passed on: if nothing was buffered before, nothing is buffered now. The sink
+-- works as before, and the screen stays as it is
+pub record Sent {D : Type 0} (held waits : D → List ℕ) (failed : D → Bool) (bytes : List ℕ)
+    (old new : ScreenRenderer D) : Type 0 where
+  pub takes : Takes held (sink_of old) (sink_of new) bytes
+  pub passes : waits (sink_of old) ≡ [] → waits (sink_of new) ≡ []
+  pub works : failed (sink_of new) ≡ failed (sink_of old)
+  pub screen : screen_of new ≡ screen_of old
+
+-- the sink has failed, and has taken a prefix of these bytes; the screen stays as it is
+pub record CutSending {D : Type 0} (held : D → List ℕ) (failed : D → Bool) (bytes : List ℕ)
+    (old new : ScreenRenderer D) : Type 0 where
+  pub begins : TakesSome held (sink_of old) (sink_of new) bytes
+  pub fails : IsTrue (failed (sink_of new))
+  pub screen : screen_of new ≡ screen_of old
+
+-- a screen as a renderer: a call that succeeds sends the call's bytes, and passes them on
+abbrev pub canvas_of : {D : Type 0} → (D → List ℕ) → (D → List ℕ) → (D → Bool)
+    → Canvas (ScreenRenderer D)
+canvas_of held waits failed = record {
+  made = λ old call new. Sent held waits failed (bytes_of (screen_of old) call) old new;
+  refused = λ old call new. CutSending held failed (bytes_of (screen_of old) call) old new;
+  failed = λ r. failed (sink_of r);
+  ruler = λ r. ruler_of (screen_of r);
+}
+
+-- a sink that works has passed on everything that it took
+abbrev pub NothingWaits : {D : Type 0} → (D → List ℕ) → (D → Bool) → D → Type 0
+NothingWaits waits failed d = failed d ≡ false → waits d ≡ []
+
+-- a world in which this holds at each request, and after it
+abbrev pub world_holding : {A : Type 0} {R : A → Type 0} {S E : Type 0} → (S → Type 0)
+    → World A R S E → World A R S E
+world_holding Holds w = record {
+  made = λ x ask a y. Holds x × w.made x ask a y × Holds y;
+  cut = λ x ask e y. Holds x × w.cut x ask e y × Holds y;
+}
+
+-- if nothing is buffered as a line begins, nothing is buffered at any request of its script, such
+-- as the read of a key. Nor is it at the script's end, whether it goes to its answer or a fault
+-- cuts it
+abbrev pub ReadsFindNothingWaiting : {D : Type 0} → (D → List ℕ) → (D → List ℕ) → (D → Bool)
+    → Type 0
+ReadsFindNothingWaiting {D} held waits failed =
+    let Rests : LineStage (ScreenRenderer D) → Type 0 =
+    λ x. NothingWaits waits failed (sink_of x.drawn.out) in
+    (n : ℕ) (custom : Custom) (r : Ruler) (s : Setting)
+    (x y : LineStage (ScreenRenderer D)) (result : Result (List ℕ) ReadlineError)
+    → let w = line_world (canvas_of held waits failed) r s in Rests x
+    → Goes w (line_script n custom) x result y
+    → Goes (world_holding Rests w) (line_script n custom) x result y × Rests y

@@ -1,0 +1,2 @@
+pub mod PlayedLaws
+pub mod ScriptLaws

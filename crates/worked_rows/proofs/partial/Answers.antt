@@ -1,0 +1,82 @@
+use Rattle.std.proofs.Common.{◌≡◌, ℕ, [], ◌++◌, List, drop, refl, subst, take}
+use Rattle.worked_rows.specs.Partial.{partial_rows}
+use Rattle.worked_rows.specs.Playing.{Row, differing}
+use Rattle.worked_rows.specs.Showing.{AllShown, short, unshown}
+use Rattle.worked_rows.proofs.Computing.{computing}
+use Rattle.worked_rows.proofs.ShownLemmas.{all_shown, both_given, both_shown}
+use Rattle.worked_rows.proofs.partial.Goals as goal
+
+-- some rows at a time: one computation takes only so many steps
+abbrev part : ℕ → List Row
+part n = take 7 (drop n partial_rows)
+
+abbrev from_21 : List Row
+from_21 = drop 21 partial_rows
+
+abbrev from_14 : List Row
+from_14 = part 14 ++ from_21
+
+abbrev from_7 : List Row
+from_7 = part 7 ++ from_14
+
+abbrev from_0 : List Row
+from_0 = part 0 ++ from_7
+
+all-rows : from_0 ≡ partial_rows
+all-rows = refl
+
+given-0 : differing (part 0) ≡ []
+unfolding computing
+given-0 = refl
+
+unshown-0 : unshown (short (part 0)) ≡ []
+unfolding computing
+unshown-0 = refl
+
+shown-0 : AllShown (short (part 0))
+shown-0 = all_shown (short (part 0)) unshown-0
+
+given-7 : differing (part 7) ≡ []
+unfolding computing
+given-7 = refl
+
+unshown-7 : unshown (short (part 7)) ≡ []
+unfolding computing
+unshown-7 = refl
+
+shown-7 : AllShown (short (part 7))
+shown-7 = all_shown (short (part 7)) unshown-7
+
+given-14 : differing (part 14) ≡ []
+unfolding computing
+given-14 = refl
+
+unshown-14 : unshown (short (part 14)) ≡ []
+unfolding computing
+unshown-14 = refl
+
+shown-14 : AllShown (short (part 14))
+shown-14 = all_shown (short (part 14)) unshown-14
+
+given-21 : differing from_21 ≡ []
+unfolding computing
+given-21 = refl
+
+unshown-21 : unshown (short from_21) ≡ []
+unfolding computing
+unshown-21 = refl
+
+shown-21 : AllShown (short from_21)
+shown-21 = all_shown (short from_21) unshown-21
+
+pub returns-clause-given : goal.returns-clause-given
+returns-clause-given c = subst (λ rows. differing rows ≡ []) all-rows
+    (both_given (part 0) from_7 given-0
+    (both_given (part 7) from_14 given-7
+    (both_given (part 14) from_21 given-14 given-21)))
+
+pub returns-clause-shown : goal.returns-clause-shown
+returns-clause-shown c = subst (λ rows. AllShown (short rows)) all-rows
+    (both_shown (part 0) from_7 shown-0
+    (both_shown (part 7) from_14 shown-7
+    (both_shown (part 14) from_21 shown-14 shown-21)))

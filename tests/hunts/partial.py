@@ -1,0 +1,110 @@
+#!/usr/bin/env python3
+"""Random edits with and without `partial_redraw`, over memory: after each key both displays of tests/shared/display.py have the
+same cells, with the same styles, and the cursor in the same cell. Run it by ./test, or alone once `rt ci` has built the programs.
+
+    tests/hunts/partial.py [--sessions N] [--seed S]        so many sessions, of at most 40 keys
+"""
+import argparse
+import glob
+import os
+import random
+import subprocess
+import sys
+
+sys.path += glob.glob(os.path.join(os.path.dirname(os.path.dirname(os.path.realpath(__file__))), "*", ""))
+from checks import HUNG, Failed, built, run_all
+from display import Display, Meaningless
+from inputs import RowSession
+
+ROW_PROGRAM = built("sessions_program")
+# Columns of the rows, which most lines fill once or twice.
+COLUMNS = (2, 3, 5, 10, 20, 40, 80, 200)
+LEFT, RIGHT, HOME, END, BACKSPACE = b"\x1b[D", b"\x1b[C", b"\x01", b"\x05", b"\x7f"
+# Ctrl-D, Ctrl-K, Ctrl-T, Ctrl-U, Ctrl-W, Ctrl-Y, Ctrl-_, M-d, M-b, M-f, M-u, and M-3 before a letter.
+EDITS = [b"\x04", b"\x0b", b"\x14", b"\x15", b"\x17", b"\x19", b"\x1f", b"\x1bd", b"\x1bb", b"\x1bf", b"\x1bu", b"\x1b3x"]
+VI = [b"h", b"l", b"0", b"$", b"x", b"X", b"D", b"dw", b"db", b"u", b"p", b"~", b"rz", b"iq\x1b", b"aq\x1b", b"3iq\x1b"]
+OTHERS = ["é", "漢", "👍", "e\u0301", "\t"]
+
+
+def typed(rng):
+    """A character: nearly always a letter, and at times one that no short drawing shows."""
+    return (rng.choice(OTHERS) if rng.random() < 0.05 else rng.choice("abc de(f)")).encode()
+
+
+def edit(rng, mode):
+    if mode == "vi":
+        return rng.choice(VI)
+    at = rng.random()
+    if at < 0.45:
+        return typed(rng)
+    return rng.choice([LEFT, RIGHT, HOME, END, BACKSPACE, BACKSPACE]) if at < 0.8 else rng.choice(EDITS)
+
+
+def session(rng):
+    """The settings of a session, and its keys: a line is typed, with newlines at times, and then changed."""
+    columns, mode = rng.choice(COLUMNS), rng.choice(["emacs", "emacs", "vi"])
+    length = rng.choice([rng.randrange(8), rng.randrange(2 * columns + 2)])
+    line = b"".join(rng.choice([b"a", b"b ", b"\x16\n"] if rng.random() < 0.05 else [b"a", b"b ", b"c"]) for _ in range(min(length, 200)))
+    words = (f"columns:{columns}", "modal") + rng.choice([(), ("tabs",)]) + (("vi",) if mode == "vi" else ())
+    keys = [line, b"\x1b" if mode == "vi" else HOME]
+    return words, keys + [edit(rng, mode) for _ in range(rng.randrange(1, 39))]
+
+
+def rows(words, keys):
+    """A row for the keys up to each, without the setting and with it."""
+    for end in range(1, len(keys) + 1):
+        for more in ((), ("partial",)):
+            yield f"{RowSession(b''.join(keys[:end]), words + more)}\n"
+
+
+def displays(told):
+    """What each row left: its ending, and what its display shows when the input ends."""
+    for row in told.decode().splitlines():
+        ending, _, _, display = row.split(" .")
+        yield ending, bytes.fromhex(display).removesuffix(b"\r\n")
+
+
+def shown(columns, display):
+    """The cells with their styles, and the cursor; or why the bytes have no meaning."""
+    it = Display(columns)
+    try:
+        for _ in it.read(display):
+            it.top = it.cursor[0]
+    except Meaningless as fault:
+        return str(fault)
+    return it.styled(), it.cursor
+
+
+def judge(words, keys, found):
+    """Raises a difference, and returns how many bytes the displays had."""
+    columns, sizes = int(words[0].partition(":")[2]), [0, 0]
+    for end in range(1, len(keys) + 1):
+        whole, partial = next(found), next(found)
+        ending, views = (whole[0], partial[0]), [shown(columns, display) for _, display in (whole, partial)]
+        if ending[0] != ending[1] or views[0] != views[1] or str in map(type, views):
+            raise Failed(f"{RowSession(b''.join(keys[:end]), words)}: {ending}, {views[0]} by {whole[1]!r}, {views[1]} by {partial[1]!r}")
+        sizes = [size + len(display) for size, (_, display) in zip(sizes, (whole, partial))]
+    return sizes
+
+
+def hunt(sessions, seed):
+    def the_same_is_shown():
+        given = [session(random.Random(f"{seed} {number}")) for number in range(sessions)]
+        text = "".join(row for words, keys in given for row in rows(words, keys))
+        told = subprocess.run([ROW_PROGRAM, "each"], input=text.encode(), stdout=subprocess.PIPE, timeout=HUNG, check=True).stdout
+        found = displays(told)
+        sizes = [judge(words, keys, found) for words, keys in given]
+        whole, partial = map(sum, zip(*sizes))
+        print(f"seed {seed}; display bytes without the setting: {whole}, with it: {partial}", flush=True)
+        if not partial < whole or next(found, None):
+            raise Failed("the setting has saved nothing, or there is more output than rows")
+
+    return [the_same_is_shown]
+
+
+if __name__ == "__main__":
+    parser = argparse.ArgumentParser(description=__doc__.partition("\n")[0])
+    parser.add_argument("--sessions", type=int, default=400)
+    parser.add_argument("--seed", default="partial")
+    asked = parser.parse_args()
+    sys.exit(run_all(hunt(asked.sessions, asked.seed)))
