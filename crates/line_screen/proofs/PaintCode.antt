@@ -58,11 +58,11 @@ all_left paints left none first = ap (λ o. spans_from o (map span_of (paints le
 pub no_spans : (paints : Mark → List span.Span) (m : Mark) → m ≡ first_mark → paints m ≡ [] → [] ≡ all_spans paints
 no_spans paints m is none = sym (ap (λ k. map span_of (paints k)) (sym is) ∙ ap (map span_of) none)
 
-take_none : (n : ℕ) → let none : List ℕ = [] in take n none ≡ none
+pub take_none : (n : ℕ) → let none : List ℕ = [] in take n none ≡ none
 take_none zero = refl
 take_none (suc n) = refl
 
-drop_none : (n : ℕ) → let none : List ℕ = [] in drop n none ≡ none
+pub drop_none : (n : ℕ) → let none : List ℕ = [] in drop n none ≡ none
 drop_none zero = refl
 drop_none (suc n) = refl
 
@@ -154,6 +154,9 @@ pub letters_sent : (wide : Widths) (paints : Mark → List span.Span) (left : sp
     → painted_letters (spans_in paints left) bytes ≡ painted_text wide (all_spans paints) text
 letters_sent wide paints left bytes text none first same h =
     ap (painted_letters (spans_in paints left)) same ∙ ap (λ ss. painted_letters ss text) (all_left paints left none first) ∙ sym (text_letters wide (all_spans paints) text (sym h))
+
+pub row_sent : (wide : Widths) (spans : List SgrSpan) (bytes text : List ℕ) → bytes ≡ text → true ≡ list_all is_printable text → painted_letters spans bytes ≡ painted_text wide spans text
+row_sent wide spans bytes text same h = ap (painted_letters spans) same ∙ sym (text_letters wide spans text (sym h))
 
 -- ---- without spans each item is the text's
 

@@ -158,6 +158,19 @@ bytes_of_all_painted columns (x ∷ xs) col =
     bytes_of_painted columns x col ++ bytes_of_all_painted columns xs
     (col_after columns (items_without_style x) col)
 
+-- printable ASCII that doesn't fill its row, without rows: letters of one style, between its
+-- beginning and its end
+abbrev pub letters_within : List ℕ → List ℕ → List ℕ
+letters_within style [] = []
+letters_within [] (c ∷ letters) = c ∷ letters
+letters_within (p ∷ style) (c ∷ letters) = style_bytes (p ∷ style) ++ (c ∷ letters) ++ no_style
+
+-- the same span by span
+abbrev pub spans_within : List SgrSpan → List ℕ → List ℕ
+spans_within [] letters = letters
+spans_within (s ∷ spans) letters =
+    letters_within s.style (take s.len letters) ++ spans_within spans (drop s.len letters)
+
 -- ---- whole drawings
 
 -- the styles of prompt, line, and the hint or message after it

@@ -5,14 +5,14 @@ ghost use Rattle.unicode_segmentation.specs.Grapheme.{graphemes};
 ghost use Rattle.line_screen.specs.Drawing.{left_col, drawn_item, SendsTo, col_after, break_if, break_unless, fitted_col, col_after_one, no_style};
 ghost use Rattle.line_screen.specs.Drawing.DrawnItem.{Cluster, Tab};
 ghost use Rattle.line_screen.specs.Measure.{widths_by};
-ghost use Rattle.line_screen.specs.Colours.{end_of, bytes_of_all_painted, style_bytes, shaded_break, letters_in_style, painted_letters, items_painted_after, painted_clusters, painted_row, painted_text, painted_item, bytes_of_painted, SendsPainted, spans_in, span_of, brush_paints, brush_spans, first_style, skip, next_painted, spans_behind, IsFirstSpan};
+ghost use Rattle.line_screen.specs.Colours.{end_of, bytes_of_all_painted, style_bytes, letters_within, spans_within, shaded_break, letters_in_style, painted_letters, items_painted_after, painted_clusters, painted_row, painted_text, painted_item, bytes_of_painted, SendsPainted, spans_in, span_of, brush_paints, brush_spans, first_style, skip, next_painted, spans_behind, IsFirstSpan};
 ghost use Rattle.line_screen.specs.Styles.{numbers};
 ghost use Rattle.line_help.specs.Paints.{IsNextSpan, first_mark};
 ghost use Rattle.line_screen.specs.Colours.PaintedItem.{Shaded, Fenced, Padded};
 ghost use Rattle.line_config.specs.Sending.{Sends};
 
 use crate::drawing::sequences::send;
-use crate::drawing::styles::{is_plain, send_style};
+use crate::drawing::styles::{is_plain, send_style, send_styled_letter};
 use crate::drawing::text::{leave_full, make_room, send_letters, send_tab, send_text};
 use crate::grid::{Grid, blanks, is_letter, tab_columns};
 use line_buffer::{Unit, is_printable_text};
@@ -489,8 +489,70 @@ fn send_painted_rows<D: Sink, H: Highlighter>(
     Ok(col)
 }
 
+/// Letters of one style, between its beginning and its end, that don't fill their row. A single
+/// letter, as a marked bracket mostly is, is one write with its style if that is short.
+fn send_styled<D: Sink>(sink: &mut D, style: Style, letters: &[u8]) -> Result<(), DeviceFailed>
+    ensures { Sends D.held D.has_failed (letters_within (numbers style) letters.now)
+        sink.old sink.new result }
+{
+    if is_plain(style) {
+        return send(sink, letters);
+    }
+    match letters {
+        [] => Ok(()),
+        [letter] => send_styled_letter(sink, style, *letter),
+        _ => send_framed(sink, style, letters),
+    }
+}
+
+/// Printable ASCII that doesn't fill its row, span by span.
+fn send_within<D: Sink, H: Highlighter>(
+    sink: &mut D,
+    brush: &Brush<'_, H>,
+    letters: &[u8],
+) -> Result<(), DeviceFailed>
+    ensures { Sends D.held D.has_failed
+        (spans_within (brush_spans H.marks brush.now) letters.now) sink.old sink.new result }
+{
+    let mut mark = Mark::first();
+    let mut rest = letters;
+    while !rest.is_empty() {
+        match brush.next(mark) {
+            None => return send(sink, rest),
+            Some((span, behind)) => {
+                let len = span.len.min(rest.len());
+                let (front, back) = rest.split_at(len);
+                send_styled(sink, span.style, front)?;
+                rest = back;
+                mark = behind;
+            }
+        }
+    }
+    Ok(())
+}
+
+/// A text that isn't printable ASCII. One without spans is drawn as one without a highlighter. Not
+/// inlined, so that `send_painted` needs no frame for it.
+#[inline(never)]
+fn send_other<D: Sink, H: Highlighter>(
+    sink: &mut D,
+    grid: Grid,
+    start: Unit,
+    brush: &Brush<'_, H>,
+) -> Result<Unit, DeviceFailed>
+    requires inside { start < grid.columns }
+    ensures { SendsPainted (painted_text (widths_by grid.mode grid.tab grid.columns)
+        (brush_spans H.marks brush.now) brush.now.text.now) start
+        grid.columns D.held D.has_failed sink.old sink.new result }
+{
+    match brush.next(Mark::first()) {
+        None => send_text(sink, grid, start, brush.text),
+        Some(_) => send_painted_rows(sink, grid, start, brush),
+    }
+}
+
 /// A text with its styles, from a column on. A text of printable ASCII is one row, and isn't
-/// examined further. A text without spans is drawn as one without a highlighter.
+/// examined further.
 pub(crate) fn send_painted<D: Sink, H: Highlighter>(
     sink: &mut D,
     grid: Grid,
@@ -502,18 +564,13 @@ pub(crate) fn send_painted<D: Sink, H: Highlighter>(
         (brush_spans H.marks brush.now) brush.now.text.now) start
         grid.columns D.held D.has_failed sink.old sink.new result }
 {
-    if is_printable_text(brush.text) {
-        return send_spans(
-            sink,
-            grid,
-            start,
-            brush,
-            Spans::all(),
-            brush.text.as_bytes(),
-        );
+    if !is_printable_text(brush.text) {
+        return send_other(sink, grid, start, brush);
     }
-    match brush.next(Mark::first()) {
-        None => send_text(sink, grid, start, brush.text),
-        Some(_) => send_painted_rows(sink, grid, start, brush),
+    let letters = brush.text.as_bytes();
+    if letters.len() < usize::from(grid.columns - start) {
+        send_within(sink, brush, letters)?;
+        return Ok(start + letters.len() as Unit);
     }
+    send_spans(sink, grid, start, brush, Spans::all(), letters)
 }

@@ -3,6 +3,7 @@
 ghost use Rattle.std.specs.Prelude.{IfSome, ◌≡◌, ◌≤◌, ◌<◌, ◌+◌, ◌%◌, ◌++◌, ◌∷◌, [], IsTrue, OnOk, OnErr, decimal};
 ghost use Rattle.line_config.specs.Sending.{Sends};
 ghost use Rattle.line_screen.specs.Colours.{style_bytes};
+ghost use Rattle.line_screen.specs.Drawing.{no_style};
 ghost use Rattle.line_screen.specs.Styles.{hue_number, number, numbers_of, colour_numbers, flag, flags, numbers, is_terminal, is_plain_style, flag_number};
 
 use crate::drawing::sequences::send;
@@ -213,4 +214,74 @@ pub(crate) fn send_style<D: Sink>(sink: &mut D, style: Style) -> Result<(), Devi
         return send_short(sink, flag, style);
     }
     send_sequence(sink, style)
+}
+
+/// A flag, or none if it is 0, one of the eight colours, a letter of this style, and its end.
+#[tactic(auto, using(crate::proofs::StyleLemmas::no_flag, crate::proofs::StyleLemmas::flag_digit, crate::proofs::StyleLemmas::hue_digits))]
+fn send_hue_letter<D: Sink>(
+    sink: &mut D,
+    flag: u8,
+    hue: Hue,
+    letter: u8,
+) -> Result<(), DeviceFailed>
+    requires digit { flag < 10 }
+    ensures { Sends D.held D.has_failed
+        (style_bytes (flag_number flag ++ number (30 + hue_number hue)) ++ letter ∷ no_style)
+        sink.old sink.new result }
+{
+    let digit = b'0' + number_of(hue);
+    if flag == 0 {
+        return send(
+            sink,
+            &[
+                0x1B, b'[', b'0', b';', b'3', digit, b'm', letter, 0x1B, b'[', b'm',
+            ],
+        );
+    }
+    send(
+        sink,
+        &[
+            0x1B,
+            b'[',
+            b'0',
+            b';',
+            b'0' + flag,
+            b';',
+            b'3',
+            digit,
+            b'm',
+            letter,
+            0x1B,
+            b'[',
+            b'm',
+        ],
+    )
+}
+
+/// A letter between a style and its end, in two writes or more.
+fn send_framed_letter<D: Sink>(sink: &mut D, style: Style, letter: u8) -> Result<(), DeviceFailed>
+    ensures { Sends D.held D.has_failed (style_bytes (numbers style) ++ letter ∷ no_style)
+        sink.old sink.new result }
+{
+    send_style(sink, style)?;
+    send(sink, &[letter, 0x1B, b'[', b'm'])
+}
+
+/// A letter between a style and its end: one write if the style is a flag, or none, and one of the
+/// eight colours.
+pub(crate) fn send_styled_letter<D: Sink>(
+    sink: &mut D,
+    style: Style,
+    letter: u8,
+) -> Result<(), DeviceFailed>
+    ensures { Sends D.held D.has_failed (style_bytes (numbers style) ++ letter ∷ no_style)
+        sink.old sink.new result }
+{
+    if !is_terminal(style.background) {
+        return send_framed_letter(sink, style, letter);
+    }
+    match (single_flag(style), style.text) {
+        (Some(flag), Colour::Basic(hue)) => send_hue_letter(sink, flag, hue, letter),
+        _ => send_framed_letter(sink, style, letter),
+    }
 }

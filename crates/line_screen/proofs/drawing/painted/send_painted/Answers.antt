@@ -1,24 +1,40 @@
--- Letters, a text without spans, or row by row.
-use Rattle.std.proofs.Common.{List, subst}
-use Rattle.line_screen.specs.Colours.{PaintedItem, SendsPainted, all_spans, brush_paints}
-use Rattle.line_screen.specs.Drawing.{text_items}
+-- Letters that don't fill their row, and other letters.
+use Rattle.std.proofs.Common.{List, ◌+◌, length, subst, Ok, arith}
+use Rattle.line_screen.specs.Colours.{PaintedItem, SendsPainted, brush_paints, brush_spans}
 use Rattle.line_screen.specs.Measure.{widths_by}
-use Rattle.line_screen.proofs.PaintRuns.{sends_items}
-use Rattle.line_screen.proofs.PaintCode.{letters_sent, no_spans, bare_text}
+use Rattle.line_screen.proofs.PaintCode.{letters_sent, row_sent}
+use Rattle.line_screen.proofs.WithinLemmas.{sends_within, cut_within}
 use Rattle.line_screen.proofs.drawing.painted.send_painted.Goals as goal
 
-pub returns-then-is_printable_text : goal.returns-then-is_printable_text
-returns-then-is_printable_text g c =
+pub returns : goal.returns
+returns g c =
     let wide = widths_by c.args.grid.mode c.args.grid.tab c.args.grid.columns in
     let All : List PaintedItem → Type 0 = λ items. SendsPainted items c.args.start c.args.grid.columns g.D.Sink.held g.D.Sink.has_failed c.args.sink.now c.send_spans.new.sink c.send_spans.result in
-    subst All (letters_sent wide (brush_paints g.H.Highlighter.marks c.args.brush.now) c.all.result c.as_bytes.result.now c.args.brush.now.text.now c.all.ensures.first c.all.ensures.mark c.as_bytes.ensures.value c.if-is_printable_text.ensures)
+    subst All (letters_sent wide (brush_paints g.H.Highlighter.marks c.args.brush.now) c.all.result c.as_bytes-letters.result.now c.args.brush.now.text.now c.all.ensures.first c.all.ensures.mark c.as_bytes-letters.ensures.value c.if-not-is_printable_text.ensures)
     c.send_spans.ensures
 
-pub returns-in-None : goal.returns-in-None
-returns-in-None g c =
+pub returns-in_err-send_within : goal.returns-in_err-send_within
+returns-in_err-send_within g c =
     let wide = widths_by c.args.grid.mode c.args.grid.tab c.args.grid.columns in
-    let text = c.args.brush.now.text.now in
-    let paints = brush_paints g.H.Highlighter.marks c.args.brush.now in
-    let All : List PaintedItem → Type 0 = λ items. SendsPainted items c.args.start c.args.grid.columns g.D.Sink.held g.D.Sink.has_failed c.args.sink.now c.send_text.new.sink c.send_text.result in
-    subst All (bare_text wide (all_spans paints) text (no_spans paints c.first.result c.first.ensures c.in-None.ensures))
-    (sends_items g.D.Sink.held g.D.Sink.has_failed c.args.grid.columns (text_items wide text) c.args.start c.send_text.ensures)
+    let spans = brush_spans g.H.Highlighter.marks c.args.brush.now in
+    let letters = c.as_bytes-letters.result.now in
+    let low = c.if-letters-from.true in
+    let from = c.from.ensures in
+    let inside = c.requires.inside in
+    let All : List PaintedItem → Type 0 = λ items. SendsPainted items c.args.start c.args.grid.columns g.D.Sink.held g.D.Sink.has_failed c.args.sink.now c.send_within.new.sink c.from_residual.result in
+    subst All (row_sent wide spans letters c.args.brush.now.text.now c.as_bytes-letters.ensures.value c.if-not-is_printable_text.ensures)
+    (cut_within c.args.grid.columns g.D.Sink.held g.D.Sink.has_failed _ spans letters c.args.start (omega arith)
+    c.from_residual.ensures.1 c.in_err-send_within.ensures.err c.in_err-send_within.ensures.begins)
+
+pub returns-then-letters-from : goal.returns-then-letters-from
+returns-then-letters-from g c =
+    let wide = widths_by c.args.grid.mode c.args.grid.tab c.args.grid.columns in
+    let spans = brush_spans g.H.Highlighter.marks c.args.brush.now in
+    let letters = c.as_bytes-letters.result.now in
+    let low = c.if-letters-from.true in
+    let from = c.from.ensures in
+    let inside = c.requires.inside in
+    let All : List PaintedItem → Type 0 = λ items. SendsPainted items c.args.start c.args.grid.columns g.D.Sink.held g.D.Sink.has_failed c.args.sink.now c.send_within.new.sink (Ok (c.args.start + length letters)) in
+    subst All (row_sent wide spans letters c.args.brush.now.text.now c.as_bytes-letters.ensures.value c.if-not-is_printable_text.ensures)
+    (sends_within c.args.grid.columns g.D.Sink.held g.D.Sink.has_failed spans letters c.args.start (omega arith)
+    c.in_ok-send_within.ensures.sent c.in_ok-send_within.ensures.works)

@@ -1,0 +1,17 @@
+-- A text without spans, or row by row.
+use Rattle.std.proofs.Common.{List, subst}
+use Rattle.line_screen.specs.Colours.{PaintedItem, SendsPainted, all_spans, brush_paints}
+use Rattle.line_screen.specs.Drawing.{text_items}
+use Rattle.line_screen.specs.Measure.{widths_by}
+use Rattle.line_screen.proofs.PaintRuns.{sends_items}
+use Rattle.line_screen.proofs.PaintCode.{no_spans, bare_text}
+use Rattle.line_screen.proofs.drawing.painted.send_other.Goals as goal
+
+pub returns-in-None : goal.returns-in-None
+returns-in-None g c =
+    let wide = widths_by c.args.grid.mode c.args.grid.tab c.args.grid.columns in
+    let text = c.args.brush.now.text.now in
+    let paints = brush_paints g.H.Highlighter.marks c.args.brush.now in
+    let All : List PaintedItem → Type 0 = λ items. SendsPainted items c.args.start c.args.grid.columns g.D.Sink.held g.D.Sink.has_failed c.args.sink.now c.send_text.new.sink c.send_text.result in
+    subst All (bare_text wide (all_spans paints) text (no_spans paints c.first.result c.first.ensures c.in-None.ensures))
+    (sends_items g.D.Sink.held g.D.Sink.has_failed c.args.grid.columns (text_items wide text) c.args.start c.send_text.ensures)
