@@ -26,19 +26,19 @@ pub(crate) struct Painting<'a, H> {
 /// One of the texts, from a column on. Returns the column after it.
 fn send_part<D: Sink, H: Highlighter>(
     sink: &mut D,
-    grid: Grid,
+    grid: &Grid,
     start: Unit,
     brush: &Brush<'_, H>,
 ) -> Result<Unit, DeviceFailed>
-    requires inside { start < grid.columns }
+    requires inside { start < grid.now.columns }
     ensures { SendsTo
-        (no_style ++ bytes_of_all_painted grid.columns
-        (painted_text (widths_by grid.mode grid.tab grid.columns)
+        (no_style ++ bytes_of_all_painted grid.now.columns
+        (painted_text (widths_by grid.now.mode grid.now.tab grid.now.columns)
         (brush_spans H.marks brush.now) brush.now.text.now) start)
-        (end_of grid.columns
-        (painted_text (widths_by grid.mode grid.tab grid.columns)
+        (end_of grid.now.columns
+        (painted_text (widths_by grid.now.mode grid.now.tab grid.now.columns)
         (brush_spans H.marks brush.now) brush.now.text.now) start)
-        grid.columns D.held D.has_failed sink.old sink.new result }
+        grid.now.columns D.held D.has_failed sink.old sink.new result }
 {
     send(sink, b"\x1B[m")?;
     send_painted(sink, grid, start, brush)
@@ -47,14 +47,14 @@ fn send_part<D: Sink, H: Highlighter>(
 /// What stands after the line, and the end of all styles: one write if nothing stands there.
 fn send_end<D: Sink, H: Highlighter>(
     sink: &mut D,
-    grid: Grid,
+    grid: &Grid,
     start: Unit,
     info: &Brush<'_, H>,
 ) -> Result<(), DeviceFailed>
-    requires inside { start < grid.columns }
+    requires inside { start < grid.now.columns }
     ensures { Sends D.held D.has_failed
-        ((no_style ++ bytes_of_all_painted grid.columns
-        (painted_text (widths_by grid.mode grid.tab grid.columns)
+        ((no_style ++ bytes_of_all_painted grid.now.columns
+        (painted_text (widths_by grid.now.mode grid.now.tab grid.now.columns)
         (brush_spans H.marks info.now) info.now.text.now) start) ++ no_style)
         sink.old sink.new result }
 {
@@ -68,11 +68,12 @@ fn send_end<D: Sink, H: Highlighter>(
 /// The three texts, each from the end of the one before.
 fn send_texts<D: Sink, H: Highlighter>(
     sink: &mut D,
-    grid: Grid,
+    grid: &Grid,
     painting: &Painting<'_, H>,
 ) -> Result<(), DeviceFailed>
     ensures { Sends D.held D.has_failed
-        (bytes_of_painted_texts grid.columns (widths_by grid.mode grid.tab grid.columns)
+        (bytes_of_painted_texts grid.now.columns
+        (widths_by grid.now.mode grid.now.tab grid.now.columns)
         (styles_in H.marks painting.now)
         painting.now.prompt.text.now painting.now.line.text.now painting.now.info.text.now)
         sink.old sink.new result }
@@ -85,11 +86,12 @@ fn send_texts<D: Sink, H: Highlighter>(
 /// The three texts, then the move from their end to the cursor.
 fn send_drawing<D: Sink, H: Highlighter>(
     sink: &mut D,
-    grid: Grid,
+    grid: &Grid,
     painting: &Painting<'_, H>,
 ) -> Result<(), DeviceFailed>
     ensures { Sends D.held D.has_failed
-        (painted_drawing grid.columns (widths_by grid.mode grid.tab grid.columns)
+        (painted_drawing grid.now.columns
+        (widths_by grid.now.mode grid.now.tab grid.now.columns)
         (styles_in H.marks painting.now)
         painting.now.prompt.text.now painting.now.line.text.now painting.now.info.text.now
         painting.now.end painting.now.cursor)
@@ -102,11 +104,12 @@ fn send_drawing<D: Sink, H: Highlighter>(
 /// A drawing from the cursor on, passed on.
 fn draw_new<D: Sink, H: Highlighter>(
     sink: &mut D,
-    grid: Grid,
+    grid: &Grid,
     painting: &Painting<'_, H>,
 ) -> Result<(), DeviceFailed>
     ensures sends { Sends D.held D.has_failed
-        (painted_drawing grid.columns (widths_by grid.mode grid.tab grid.columns)
+        (painted_drawing grid.now.columns
+        (widths_by grid.now.mode grid.now.tab grid.now.columns)
         (styles_in H.marks painting.now)
         painting.now.prompt.text.now painting.now.line.text.now painting.now.info.text.now
         painting.now.end painting.now.cursor)
@@ -133,7 +136,7 @@ fn draw_over<D: Sink, H: Highlighter>(
     ensures passes { OnOk result (D.waits sink.new ≡ []) }
 {
     send_cleared(sink, row)?;
-    draw_new(sink, grid, painting)
+    draw_new(sink, &grid, painting)
 }
 
 /// A whole drawing with styles, passed on: in the place of one whose cursor stands in its row
@@ -154,6 +157,6 @@ pub(crate) fn paint<D: Sink, H: Highlighter>(
 {
     match old_row {
         Some(row) => draw_over(sink, grid, row, painting),
-        None => draw_new(sink, grid, painting),
+        None => draw_new(sink, &grid, painting),
     }
 }

@@ -555,22 +555,22 @@ fn send_other<D: Sink, H: Highlighter>(
 /// examined further.
 pub(crate) fn send_painted<D: Sink, H: Highlighter>(
     sink: &mut D,
-    grid: Grid,
+    grid: &Grid,
     start: Unit,
     brush: &Brush<'_, H>,
 ) -> Result<Unit, DeviceFailed>
-    requires inside { start < grid.columns }
-    ensures { SendsPainted (painted_text (widths_by grid.mode grid.tab grid.columns)
+    requires inside { start < grid.now.columns }
+    ensures { SendsPainted (painted_text (widths_by grid.now.mode grid.now.tab grid.now.columns)
         (brush_spans H.marks brush.now) brush.now.text.now) start
-        grid.columns D.held D.has_failed sink.old sink.new result }
+        grid.now.columns D.held D.has_failed sink.old sink.new result }
 {
     if !is_printable_text(brush.text) {
-        return send_other(sink, grid, start, brush);
+        return send_other(sink, *grid, start, brush);
     }
     let letters = brush.text.as_bytes();
     if letters.len() < usize::from(grid.columns - start) {
         send_within(sink, brush, letters)?;
         return Ok(start + letters.len() as Unit);
     }
-    send_spans(sink, grid, start, brush, Spans::all(), letters)
+    send_spans(sink, *grid, start, brush, Spans::all(), letters)
 }

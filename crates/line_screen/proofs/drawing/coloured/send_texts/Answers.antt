@@ -12,8 +12,8 @@ pub returns-in_err-prompt_end : goal.returns-in_err-prompt_end
 returns-in_err-prompt_end g c =
     let held = g.D.Sink.held in
     let failed = g.D.Sink.has_failed in
-    let columns = c.args.grid.columns in
-    let wide = widths_by c.args.grid.mode c.args.grid.tab columns in
+    let columns = c.args.grid.now.columns in
+    let wide = widths_by c.args.grid.now.mode c.args.grid.now.tab columns in
     let prompt = painted_text wide (styles_in g.H.Highlighter.marks c.args.painting.now).prompt c.args.painting.now.prompt.text.now in
     let line = painted_text wide (styles_in g.H.Highlighter.marks c.args.painting.now).line c.args.painting.now.line.text.now in
     let info = painted_text wide (styles_in g.H.Highlighter.marks c.args.painting.now).info c.args.painting.now.info.text.now in
@@ -30,8 +30,8 @@ pub returns-in_err-line_end : goal.returns-in_err-line_end
 returns-in_err-line_end g c =
     let held = g.D.Sink.held in
     let failed = g.D.Sink.has_failed in
-    let columns = c.args.grid.columns in
-    let wide = widths_by c.args.grid.mode c.args.grid.tab columns in
+    let columns = c.args.grid.now.columns in
+    let wide = widths_by c.args.grid.now.mode c.args.grid.now.tab columns in
     let prompt = painted_text wide (styles_in g.H.Highlighter.marks c.args.painting.now).prompt c.args.painting.now.prompt.text.now in
     let line = painted_text wide (styles_in g.H.Highlighter.marks c.args.painting.now).line c.args.painting.now.line.text.now in
     let info = painted_text wide (styles_in g.H.Highlighter.marks c.args.painting.now).info c.args.painting.now.info.text.now in
@@ -51,8 +51,8 @@ pub returns : goal.returns
 returns g c =
     let held = g.D.Sink.held in
     let failed = g.D.Sink.has_failed in
-    let columns = c.args.grid.columns in
-    let wide = widths_by c.args.grid.mode c.args.grid.tab columns in
+    let columns = c.args.grid.now.columns in
+    let wide = widths_by c.args.grid.now.mode c.args.grid.now.tab columns in
     let prompt = painted_text wide (styles_in g.H.Highlighter.marks c.args.painting.now).prompt c.args.painting.now.prompt.text.now in
     let line = painted_text wide (styles_in g.H.Highlighter.marks c.args.painting.now).line c.args.painting.now.line.text.now in
     let info = painted_text wide (styles_in g.H.Highlighter.marks c.args.painting.now).info c.args.painting.now.info.text.now in
