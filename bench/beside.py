@@ -27,6 +27,8 @@ from dataclasses import dataclass
 from session import BACKSPACE, END, ENTER, HOME, LEFT, RIGHT, edits, lines_typed, one_line, pasted
 
 EDITORS = ["keyline", "readline", "libedit", "tecla", "rustyline"]
+# Where the display counts, keyline runs a second time, with lines drawn in part.
+DRAWN = ["keyline", "keyline --extended", *EDITORS[1:]]
 # Editors that edit what comes over a pipe.
 PIPED = ["keyline", "readline"]
 TYPED = b"the quick brown fox jumps over two dogs."
@@ -195,7 +197,7 @@ def instructions(command, keys, echoes, lines=subprocess.DEVNULL):
 # How an editor is run, which of them can be run so, how often, and the unit of the result.
 WAYS = {
     "terminal": (from_terminal, EDITORS, ROUNDS, "ms", 1e3),
-    "drawn": (on_terminal, EDITORS, ROUNDS, "ms", 1e3),
+    "drawn": (on_terminal, DRAWN, ROUNDS, "ms", 1e3),
     "pipe": (over_pipe, PIPED, ROUNDS, "ms", 1e3),
     "instructions": (instructions, EDITORS, 1, "M", 1e-6),
 }
@@ -206,12 +208,13 @@ class Beside:
 
     def __init__(self, programs, way, folder):
         self.run, able, self.rounds, self.unit, self.scale = WAYS[way]
-        self.editors = [it for it in able if os.path.exists(f"{programs}/{it}")]
+        self.editors = [it for it in able if os.path.exists(f"{programs}/{it.split()[0]}")]
         self.programs, self.folder = programs, folder
 
     def session(self, editor, case, keys, entries, **more):
-        command = [f"{self.programs}/{editor}", *case.words(editor, self.folder, entries)]
-        return self.run(command, keys, editor != "keyline", **more)
+        program, *words = editor.split()
+        command = [f"{self.programs}/{program}", *words, *case.words(program, self.folder, entries)]
+        return self.run(command, keys, program != "keyline", **more)
 
     def lines(self, editor, case):
         """The lines that an editor accepts."""

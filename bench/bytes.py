@@ -49,6 +49,7 @@ CASES = [
     Case("a CJK character there", b"ab", [HAN] * 10),
     Case("an emoji there", b"ab", [EMOJI] * 10),
     Case("a letter after 10 CJK characters", HAN * 10, [b"b"] * 10),
+    Case("`é` and Backspace at the end of 40", b"a" * 40, [ACCENTED, BACKSPACE] * 5),
     Case("Backspace in the middle of 150", b"a" * 150 + LEFT * 75, [BACKSPACE] * 5),
     Case("Ctrl-T at the front of 40", b"ab" * 20 + HOME + RIGHT, [TRANSPOSE] * 10),
     Case("Ctrl-K and Ctrl-Y before 40", b"a" * 40 + HOME, [KILL, YANK] * 5),

@@ -10,9 +10,11 @@ import subprocess
 import sys
 import tempfile
 
-HOME, RIGHT, TRANSPOSE, ESCAPE, ENTER = b"\x01", b"\x1b[C", b"\x14", b"\x1b", b"\r"
+HOME, LEFT, RIGHT, TRANSPOSE, ESCAPE, ENTER = b"\x01", b"\x1b[D", b"\x1b[C", b"\x14", b"\x1b", b"\r"
+BACKSPACE = b"\x7f"
 HAN = "漢".encode()
 CYRILLIC = "я".encode()
+EMOJI = "👍".encode()
 KEYS = 100
 
 
@@ -21,14 +23,22 @@ def pasted(text):
     return b"\x1b[200~" + text + b"\x1b[201~"
 
 
-# The keys, their mode, the characters of the line, the text before the keys, each key, and the line's sizes.
+EMACS, VI, PART = ["--mode=emacs"], ["--mode=vi"], ["--mode=emacs", "--extended"]
+# The keys, the program's arguments, the characters of the line, the text before the keys, each key, and the line's sizes.
 CASES = [
-    ("Ctrl-T at the front of a line", "emacs", b"a", HOME + RIGHT, TRANSPOSE, (1_000, 10_000)),
-    ("Vi's r and a character there", "vi", b"a", ESCAPE + b"0", b"rb", (1_000, 10_000)),
-    ("Vi's x there", "vi", b"a", ESCAPE + b"0", b"x", (1_000, 10_000)),
-    ("a letter typed after Han", "emacs", HAN, b"", b"b", (300, 3_000)),
-    ("Han typed after Han", "emacs", HAN, b"", HAN, (300, 3_000)),
-    ("a letter typed after Cyrillic", "emacs", CYRILLIC, b"", b"b", (300, 3_000)),
+    ("Ctrl-T at the front of a line", EMACS, b"a", HOME + RIGHT, TRANSPOSE, (1_000, 10_000)),
+    ("Vi's r and a character there", VI, b"a", ESCAPE + b"0", b"rb", (1_000, 10_000)),
+    ("Vi's x there", VI, b"a", ESCAPE + b"0", b"x", (1_000, 10_000)),
+    ("a letter typed after Han", EMACS, HAN, b"", b"b", (300, 3_000)),
+    ("Han typed after Han", EMACS, HAN, b"", HAN, (300, 3_000)),
+    ("a letter typed after Cyrillic", EMACS, CYRILLIC, b"", b"b", (300, 3_000)),
+    ("Left over Han", EMACS, HAN, LEFT, LEFT, (300, 3_000)),
+    ("Left over emoji", EMACS, EMOJI, LEFT, LEFT, (300, 3_000)),
+    ("--extended: a letter typed after Han", PART, HAN, b"", b"b", (300, 3_000)),
+    ("--extended: Han typed after Han", PART, HAN, b"", HAN, (300, 3_000)),
+    ("--extended: Cyrillic typed after Cyrillic", PART, CYRILLIC, b"", CYRILLIC, (300, 3_000)),
+    ("--extended: an emoji typed after emoji", PART, EMOJI, b"", EMOJI, (300, 3_000)),
+    ("--extended: Backspace after Han", PART, HAN, b"", BACKSPACE, (300, 3_000)),
 ]
 
 
@@ -60,10 +70,10 @@ def once(command, keys):
 
 def main(program):
     cost, unit = (instructions, "instructions") if shutil.which("valgrind") else (microseconds, "microseconds")
-    for name, mode, character, before, key, sizes in CASES:
+    for name, arguments, character, before, key, sizes in CASES:
         costs = []
         for size in sizes:
-            command = [program, f"--mode={mode}", "--columns=1000"]
+            command = [program, *arguments, "--columns=1000"]
             line = pasted(character * size) + before
             more = cost(command, line + KEYS * key + ENTER) - cost(command, line + ENTER)
             costs.append(f"{size} characters: {more / KEYS:,.0f}")

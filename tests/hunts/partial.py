@@ -23,20 +23,25 @@ LEFT, RIGHT, HOME, END, BACKSPACE = b"\x1b[D", b"\x1b[C", b"\x01", b"\x05", b"\x
 # Ctrl-D, Ctrl-K, Ctrl-T, Ctrl-U, Ctrl-W, Ctrl-Y, Ctrl-_, M-d, M-b, M-f, M-u, and M-3 before a letter.
 EDITS = [b"\x04", b"\x0b", b"\x14", b"\x15", b"\x17", b"\x19", b"\x1f", b"\x1bd", b"\x1bb", b"\x1bf", b"\x1bu", b"\x1b3x"]
 VI = [b"h", b"l", b"0", b"$", b"x", b"X", b"D", b"dw", b"db", b"u", b"p", b"~", b"rz", b"iq\x1b", b"aq\x1b", b"3iq\x1b"]
-OTHERS = ["é", "漢", "👍", "e\u0301", "\t"]
+# Characters that stand apart from one another, and others: marks, tones of skin, joiners, syllables in parts, halves of a flag, a
+# linker and consonants after it.
+APART = ["é", "я", "漢", "字", "한", "👍", "🔥"]
+OTHERS = ["\t", "\u0301", "\u200d", "🏽", "👨", "🇫", "🇷", "\u1100", "\u1161", "क", "\u094d", "ก", "ำ", "\ufe0f", "❤"]
 
 
-def typed(rng):
-    """A character: nearly always a letter, and at times one that no short drawing shows."""
-    return (rng.choice(OTHERS) if rng.random() < 0.05 else rng.choice("abc de(f)")).encode()
+def typed(rng, others):
+    """A character: a letter, or one of another script, and at times one that no short drawing shows."""
+    if rng.random() < others:
+        return rng.choice(APART if rng.random() < 0.6 else OTHERS).encode()
+    return rng.choice("abc de(f)").encode()
 
 
-def edit(rng, mode):
+def edit(rng, mode, others):
     if mode == "vi":
         return rng.choice(VI)
     at = rng.random()
     if at < 0.45:
-        return typed(rng)
+        return typed(rng, others)
     return rng.choice([LEFT, RIGHT, HOME, END, BACKSPACE, BACKSPACE]) if at < 0.8 else rng.choice(EDITS)
 
 
@@ -44,10 +49,11 @@ def session(rng):
     """The settings of a session, and its keys: a line is typed, with newlines at times, and then changed."""
     columns, mode = rng.choice(COLUMNS), rng.choice(["emacs", "emacs", "vi"])
     length = rng.choice([rng.randrange(8), rng.randrange(2 * columns + 2)])
-    line = b"".join(rng.choice([b"a", b"b ", b"\x16\n"] if rng.random() < 0.05 else [b"a", b"b ", b"c"]) for _ in range(min(length, 200)))
+    others = rng.choice([0.05, 0.05, 0.5])
+    line = b"".join(b"\x16\n" if rng.random() < 0.02 else typed(rng, others / 2) for _ in range(min(length, 200)))
     words = (f"columns:{columns}", "modal") + rng.choice([(), ("tabs",)]) + (("vi",) if mode == "vi" else ())
-    keys = [line, b"\x1b" if mode == "vi" else HOME]
-    return words, keys + [edit(rng, mode) for _ in range(rng.randrange(1, 39))]
+    keys = [line, b"\x1b" if mode == "vi" else rng.choice([HOME, END])]
+    return words, keys + [edit(rng, mode, others) for _ in range(rng.randrange(1, 39))]
 
 
 def rows(words, keys):
@@ -104,7 +110,7 @@ def hunt(sessions, seed):
 
 if __name__ == "__main__":
     parser = argparse.ArgumentParser(description=__doc__.partition("\n")[0])
-    parser.add_argument("--sessions", type=int, default=400)
+    parser.add_argument("--sessions", type=int, default=200)
     parser.add_argument("--seed", default="partial")
     asked = parser.parse_args()
     sys.exit(run_all(hunt(asked.sessions, asked.seed)))

@@ -13,9 +13,8 @@ import sys
 import tempfile
 
 sys.path += glob.glob(os.path.join(os.path.dirname(os.path.dirname(os.path.realpath(__file__))), "*", ""))
-from checks import ENTER, HUNG, NEW_ROW, PROGRAM, TOP, Failed, drawing, run_all, same
+from checks import ENTER, HUNG, NEW_ROW, PROGRAM, Failed, compile_shim, drawing, run_all, same, shim
 
-SHIM = os.path.join(TOP, "build", "fail_alloc.so")
 WORDS = b"keyline: out of memory\n"
 # The message if the history's text doesn't fit into memory, after everything else was done.
 NO_TEXT = b"keyline: history text failed\n"
@@ -103,7 +102,7 @@ class Session:
             report = os.path.join(folder, "refused")
             arguments = self.arguments(folder)
             for number in range(1, MOST):
-                told = {"LD_PRELOAD": SHIM, "FAIL_ALLOCATION": str(number), "FAIL_ALLOCATION_REPORT": report}
+                told = {"LD_PRELOAD": shim("fail_alloc"), "FAIL_ALLOCATION": str(number), "FAIL_ALLOCATION_REPORT": report}
                 ran = subprocess.run([PROGRAM, *arguments], input=self.keys, capture_output=True, timeout=HUNG, env=told)
                 try:
                     if not os.path.exists(report):
@@ -120,15 +119,12 @@ class Session:
 
 
 def the_shim_compiles():
-    os.makedirs(os.path.dirname(SHIM), exist_ok=True)
-    source = os.path.join(TOP, "tests", "program", "fail_alloc.c")
-    words = ["gcc", "-O2", "-Wall", "-Wextra", "-shared", "-fPIC", "-o", SHIM, source]
     try:
-        made = subprocess.run(words, capture_output=True, timeout=HUNG)
+        same("what gcc says", compile_shim("fail_alloc")[1], b"")
     except FileNotFoundError:
         raise Failed("gcc is not on PATH") from None
-    same("what gcc says", made.stdout + made.stderr, b"")
-    same("its status", made.returncode, 0)
+    except subprocess.CalledProcessError as fault:
+        raise Failed(f"gcc ends with status {fault.returncode}: {fault.output}") from fault
 
 
 def two_short_lines():

@@ -101,15 +101,23 @@ class Row:
         """Whether a row may show a tab: it is in a text that is accepted, loaded or the prompt, or it is pasted or quoted."""
         return b"\t" in self.lines + self.loaded + self.prompt or re.search(rb"\x1b\[200~.*\t|[\x11\x16]\t", self.keys) is not None
 
+    def is_drawn_in_part(self):
+        """Whether a row may show a character that `--extended` draws alone, at the end of a line: one that isn't ASCII is typed,
+        or a line without a paste fills its row."""
+        typed = re.sub(rb"\x1b\[200~.*?\x1b\[201~", b"", self.keys, flags=re.DOTALL)
+        return not typed.isascii() or typed == self.keys and b"\r\n\x1b[m\x1b[m" in (self.display or b"")
+
     def is_played(self):
         """Whether the program can play the row: it binds no key, gives no hint, keeps a hundred lines, lists candidates, and
-        has styles, tabs as blanks, and changes in their row, only with the commands that go on over several keys."""
+        has styles, tabs as blanks, and changes drawn in part, only with the commands that go on over several keys."""
         words = self.value("words:", "")
         if ("colours" in self.settings) != ("modal" in self.settings) and self.asks_highlighter():
             return False
         if ("tabs" in self.settings) != ("modal" in self.settings) and self.has_tab():
             return False
         if "partial" in self.settings and "modal" not in self.settings:
+            return False
+        if "modal" in self.settings and "partial" not in self.settings and self.is_drawn_in_part():
             return False
         own = any(word.startswith(("bind:", "size:", "limit:", "at-once", "advised", "ends:", "stop:", "clusters:"))
                   for word in self.settings)

@@ -49,13 +49,26 @@ def built(crate):
 PROGRAM = built("keyline_program")
 
 
-def shim(name):
-    """A library to preload under a program, built from a C file of tests/program/."""
+def shim_source(name):
+    return os.path.join(TOP, "tests", "program", f"{name}.c")
+
+
+def compile_shim(name):
+    """Builds a library to preload under a program, from a C file of tests/program/. Returns its path, and what gcc says. A
+    program that is started meanwhile loads the library from before."""
     made = os.path.join(TOP, "build", f"{name}.so")
-    source = os.path.join(TOP, "tests", "program", f"{name}.c")
-    if not os.path.exists(made) or os.path.getmtime(made) < os.path.getmtime(source):
-        os.makedirs(os.path.dirname(made), exist_ok=True)
-        subprocess.run(["gcc", "-shared", "-fPIC", "-O2", "-o", made, source], check=True)
+    os.makedirs(os.path.dirname(made), exist_ok=True)
+    words = ["gcc", "-O2", "-Wall", "-Wextra", "-shared", "-fPIC", "-o", f"{made}.{os.getpid()}", shim_source(name)]
+    said = subprocess.run(words, stdout=subprocess.PIPE, stderr=subprocess.STDOUT, timeout=HUNG, check=True).stdout
+    os.replace(f"{made}.{os.getpid()}", made)
+    return made, said
+
+
+def shim(name):
+    """The library to preload, built if it is missing or older than its source."""
+    made = os.path.join(TOP, "build", f"{name}.so")
+    if not os.path.exists(made) or os.path.getmtime(made) < os.path.getmtime(shim_source(name)):
+        compile_shim(name)
     return made
 
 

@@ -273,7 +273,8 @@ def the_width_at_the_start():
     """The terminal's width is the program's, unless the program can't take it or an argument names one."""
     for columns, arguments, width in [(4, [], 4), (2000, [], 1000), (0, [], 80), (1, [], 80), (4, ["--columns", "7"], 7),
                                       (4, ["--columns=7", "--prompt", "> "], 7)]:
-        ran = subprocess.run([PROGRAM, f"--columns={width}"], input=b"abcdef\x03", capture_output=True, timeout=HUNG)
+        command = [PROGRAM, "--extended", f"--columns={width}"]
+        ran = subprocess.run(command, input=b"abcdef\x03", capture_output=True, timeout=HUNG)
         with Terminal(columns, arguments) as terminal:
             terminal.expect(drawing(b""))
             terminal.type(b"abcdef\x03")

@@ -264,6 +264,12 @@ impl Renderer for CallList {
         log.note(format!(in log.alloc; "take out {count}"))
     }
 
+    fn append_text(&mut self, text: &str, at: Position) -> Result<Position, ReadlineError> {
+        let log = &mut self.log;
+        log.note(format!(in log.alloc; "append '{text}' at {},{}", at.row, at.col))?;
+        Ok(self.calculate_position(text, at))
+    }
+
     fn move_cursor_at_leftmost(&mut self) -> Result<(), ReadlineError> {
         let log = &mut self.log;
         log.note(format!(in log.alloc; "leftmost"))

@@ -1,9 +1,10 @@
 -- The count of one byte.
-use Rattle.std.proofs.Common.{◌≡◌, ℕ, ◌<◌, not, nat_lt, nat_le, Bool, true, false, List, [], ◌∷◌, ◌++◌, take, Option, Some, None, is_some, encode_utf8, refl, ap, ◌∙◌, append-nil, arith, if◌then◌else◌}
+use Rattle.std.proofs.Common.{◌≡◌, ℕ, ◌+◌, ◌<◌, ◌==◌, not, nat_lt, nat_le, Bool, true, false, List, [], ◌∷◌, ◌++◌, take, Option, Some, None, is_some, encode_utf8, refl, ap, ◌∙◌, append-nil, arith, if◌then◌else◌}
 use Rattle.std.specs.List.{flat_map}
-use Rattle.std.proofs.lemmas.Bool.{and_parts, and_from, not-true, ltb-true}
+use Rattle.std.proofs.lemmas.Bool.{and_parts, and_from, not-true, lt-ltb, ltb-true}
+use Rattle.std.proofs.lemmas.Bool.Decides.{nat_tests}
 use Rattle.std.proofs.lemmas.Str.{encode_ascii}
-use Rattle.line_buffer.specs.Cells.{same_cell}
+use Rattle.line_buffer.specs.Cells.{origin, same_cell}
 use Rattle.line_buffer.specs.Insertions.{insert as insertion}
 use Rattle.line_buffer.specs.Printable.{is_printable, is_typed_at_end}
 use Rattle.line_buffer.specs.declared.layout.Layout.{Layout}
@@ -13,17 +14,18 @@ use Rattle.line_keys.specs.PhraseScripts.{steps}
 use Rattle.line_keys.specs.declared.command.Cmd.{Cmd}
 use Rattle.line_keys.specs.declared.command.Cmd.TheVariants.{SelfInsert}
 use Rattle.line_editor.specs.RenderCalls.{Marks}
+use Rattle.line_editor.specs.RenderCalls.Call.{Append}
 use Rattle.line_editor.specs.Drawing.{redraw_of, ask_anew_effect}
 use Rattle.line_keys.specs.Replies.{Reply, fails}
 use Rattle.line_editor.specs.Asks.{shown_in}
-use Rattle.line_editor.specs.Inserting.{is_bare, may_be_typed, may_be_put_in, insertion_way, put_redraw, show_inserted_effect, insert_char}
+use Rattle.line_editor.specs.Inserting.{is_bare, may_be_typed, may_be_appended, may_be_put_in, insertion_way, put_redraw, show_inserted_effect, insert_char}
 use Rattle.line_editor.specs.declared.way.Way.{Way}
-use Rattle.line_editor.specs.declared.way.Way.TheVariants.{AtEnd, InRow, Whole}
+use Rattle.line_editor.specs.declared.way.Way.TheVariants.{AtEnd, Alone, InRow, Whole}
 use Rattle.line_editor.specs.LineScripts.{Meets, LineState, turn_start, line_plan, made_from, meet_script, obey_script, phrase_script, played_from, steps_along, turn_script}
 use Rattle.line_editor.specs.Modal.{Modal, is_at_rest}
 use Rattle.line_editor.specs.NextCommand.{line_phrase}
-use Rattle.line_editor.specs.Redraws.{RedrawCalls, full, nothing_asked, move_call, char_call, erase_call, put_in_short, taken_out_short, may_type, may_take, may_put_in, may_take_out}
-use Rattle.line_editor.specs.Redraws.Redraw.{Drawn, Moved, Typed, Taken, PutIn, TakenOut, Bared, ToEnd, Beeped, Cleared}
+use Rattle.line_editor.specs.Redraws.{RedrawCalls, full, nothing_asked, move_call, char_call, append_call, erase_call, put_in_short, taken_out_short, fits_in_row, may_type, may_take, may_erase, may_put_in, may_take_out}
+use Rattle.line_editor.specs.Redraws.Redraw.{Drawn, Moved, Typed, Appended, Taken, Erased, PutIn, TakenOut, Bared, ToEnd, Beeped, Cleared}
 use Rattle.line_editor.specs.Sights.{Sight, sight, Fits}
 use Rattle.line_editor.specs.EditSteps.{one}
 use Rattle.line_editor.specs.Values.{shown_marks, Value, Setting, Effect, EditStep, help_steps, hint_reply, no_effect}
@@ -33,6 +35,11 @@ use Rattle.line_editor.proofs.PastLemmas.{plays_past, steps_past, phrase_keeps}
 use Rattle.line_editor.proofs.StopsLemmas.{asked_both}
 use Rattle.line_editor.proofs.ToldLemmas.{PlayedOf, follows, joined_on, played_then, rest_along, steps_both}
 use Rattle.line_screen.specs.ScreenCalls.{Screen, bytes_of, ruler_of}
+use Rattle.line_screen.specs.Drawing.{break_if, bytes_of_items, next_row}
+use Rattle.line_screen.specs.Drawing.DrawnItem.{Letter}
+use Rattle.line_screen.specs.Laws.{widths}
+use Rattle.line_screen.specs.Measure.{in_row}
+use Rattle.line_screen.proofs.Items.{letter_items}
 use Rattle.keyline.specs.OneByte.{TellsSight, LayoutsTell, TypedAtEnd, OneByte, ReadAlone}
 use Rattle.keyline.specs.Shows.{calls_by_screen, bytes_for}
 
@@ -56,9 +63,20 @@ one_tells s own l x (Draws v m (Typed prompt c text at)) h fits = by_test (may_t
     by_test : (b : Bool) → may_type (ruler_of s) l ≡ b → TellsSight (if b then char_call l c else full (ruler_of s) (shown_marks v m) l prompt true text at None).layout (sight x (Draws v m (Typed prompt c text at)))
     by_test true e = record { info_is = not-true l.has_info (and_parts (not l.has_info) _ e).0; given_is = h.given_is ∙ fits.0 }
     by_test false e = record { info_is = refl; given_is = refl }
+one_tells s own l x (Draws v m (Appended prompt c text at)) h fits = by_test l.has_info refl
+  where
+    by_test : (b : Bool) → l.has_info ≡ b → TellsSight (if b then full (ruler_of s) (shown_marks v m) l prompt true text at None else append_call (ruler_of s) l c).layout (sight x (Draws v m (Appended prompt c text at)))
+    by_test true e = record { info_is = refl; given_is = refl }
+    by_test false e = record { info_is = e; given_is = h.given_is ∙ fits.0 }
 one_tells s own l x (Draws v m (Taken prompt count text at)) h fits = by_test (may_take l count) refl
   where
     by_test : (b : Bool) → may_take l count ≡ b → TellsSight (if b then erase_call l count else full (ruler_of s) (shown_marks v m) l prompt true text at None).layout (sight x (Draws v m (Taken prompt count text at)))
+    by_test true e = record { info_is = not-true l.has_info (and_parts (not l.has_info) _ e).0; given_is = h.given_is ∙ fits.0 }
+    by_test false e = record { info_is = refl; given_is = refl }
+one_tells s own l x (Draws v m (Erased prompt c text at)) h fits = by_test (may_erase (ruler_of s) l c) refl
+  where
+    by_test : (b : Bool) → may_erase (ruler_of s) l c ≡ b
+        → TellsSight (if b then erase_call l ((ruler_of s).measure (encode_utf8 c) origin).col else full (ruler_of s) (shown_marks v m) l prompt true text at None).layout (sight x (Draws v m (Erased prompt c text at)))
     by_test true e = record { info_is = not-true l.has_info (and_parts (not l.has_info) _ e).0; given_is = h.given_is ∙ fits.0 }
     by_test false e = record { info_is = refl; given_is = refl }
 one_tells s own l x (Draws v m (PutIn prompt c text at)) h fits = by_test (may_put_in (ruler_of s) l) refl
@@ -96,14 +114,14 @@ layouts_tell s own (r ∷ rs) l x h fits = layouts_tell s own rs (one (ruler_of 
 printed : (tabs : Bool) (v : Value) (c : ℕ) → may_be_typed tabs c 1 v ≡ true → is_printable c ≡ true
 printed tabs v c alone = (and_parts (is_printable c) _ (and_parts (is_bare v) (is_typed_at_end tabs c v.line.text v.line.place) alone).1).0
 
--- its drawing is the short one, behind a step that sends nothing and what the helper is asked
-shown_short : (a : Setting) (u : Value) (step : EditStep) (c : ℕ) (b : Bool) (way : Way) → b ≡ true → way ≡ AtEnd
+-- its drawing goes this way, behind a step that sends nothing and what the helper is asked
+shown_short : (a : Setting) (u : Value) (step : EditStep) (c : ℕ) (b : Bool) (way : Way) → b ≡ true
     → (let shown = show_inserted_effect c way a u in let e : Effect = if b then record { value = shown.value; steps = step ∷ shown.steps } else no_effect a u in
-    is_bare e.value ≡ true → e.steps ≡ step ∷ (help_steps u (hint_reply a u) ++ (Draws e.value a.marks (Typed a.prompt c e.value.line.text e.value.line.place) ∷ [])))
-shown_short a u step c true way room before after =
+    is_bare e.value ≡ true → e.steps ≡ step ∷ (help_steps u (hint_reply a u) ++ (Draws e.value a.marks (put_redraw way c a e.value) ∷ [])))
+shown_short a u step c true way room after =
     let w = (ask_anew_effect a u).value in
-    ap (λ shown. step ∷ (help_steps u (hint_reply a u) ++ (Draws w a.marks (put_redraw shown c a w) ∷ []))) (ap (λ b. if b then way else Whole) after ∙ before)
-shown_short a u step c false way room before after = cc
+    ap (λ b. step ∷ (help_steps u (hint_reply a u) ++ (Draws w a.marks (put_redraw (if b then way else Whole) c a w) ∷ []))) after
+shown_short a u step c false way room after = cc
 
 -- neither sends anything
 help_bytes : {A : Type 0} (s : Screen) (l : Layout) (u : Value) (step : EditStep) (reply : Option (Reply A)) (steps : List EditStep) → one (ruler_of s) l step ≡ nothing_asked l
@@ -111,25 +129,55 @@ help_bytes : {A : Type 0} (s : Screen) (l : Layout) (u : Value) (step : EditStep
 help_bytes s l u step None steps nothing = ap (λ a. flat_map (bytes_of s) (a.calls ++ (calls_by_screen s a.layout steps).calls)) nothing
 help_bytes s l u step (Some reply) steps nothing = ap (λ a. flat_map (bytes_of s) (a.calls ++ (calls_by_screen s a.layout (Helped u (fails reply) reply.takes ∷ steps)).calls)) nothing
 
-sent_short : (s : Screen) (l : Layout) (a : Setting) (u : Value) (step : EditStep) (c : ℕ) (b : Bool) (way : Way) → b ≡ true → way ≡ AtEnd
+sent_short : (s : Screen) (l : Layout) (a : Setting) (u : Value) (step : EditStep) (c : ℕ) (b : Bool) (way : Way) → b ≡ true
     → (let shown = show_inserted_effect c way a u in let e : Effect = if b then record { value = shown.value; steps = step ∷ shown.steps } else no_effect a u in
-    is_bare e.value ≡ true → one (ruler_of s) l step ≡ nothing_asked l → bytes_for s l e.steps ≡ bytes_for s l (Draws e.value a.marks (Typed a.prompt c e.value.line.text e.value.line.place) ∷ []))
-sent_short s l a u step c b way room before after nothing =
+    is_bare e.value ≡ true → one (ruler_of s) l step ≡ nothing_asked l → bytes_for s l e.steps ≡ bytes_for s l (Draws e.value a.marks (put_redraw way c a e.value) ∷ []))
+sent_short s l a u step c b way room after nothing =
     let shown = show_inserted_effect c way a u in
     let e : Effect = if b then record { value = shown.value; steps = step ∷ shown.steps } else no_effect a u in
-    ap (bytes_for s l) (shown_short a u step c b way room before after)
-    ∙ help_bytes s l u step (hint_reply a u) (Draws e.value a.marks (Typed a.prompt c e.value.line.text e.value.line.place) ∷ []) nothing
+    ap (bytes_for s l) (shown_short a u step c b way room after)
+    ∙ help_bytes s l u step (hint_reply a u) (Draws e.value a.marks (put_redraw way c a e.value) ∷ []) nothing
+
+-- by its own drawing if the line may be drawn in part, and ends apart; otherwise by its byte
+typed_way : (a : Setting) (v : Value) (c : ℕ) → TypedAtEnd a v c → insertion_way a c 1 v ≡ (if may_be_appended a.config.partial_redraw c 1 v then Alone else AtEnd)
+typed_way a v c t = ap (λ b. if may_be_appended a.config.partial_redraw c 1 v then Alone else if b then AtEnd else if may_be_put_in a.config.partial_redraw c 1 v then InRow else Whole) t.alone
 
 typed_bytes : (s : Screen) (l : Layout) (a : Setting) (v : Value) (c : ℕ) → TypedAtEnd a v c
-    → (let e = insert_char c 1 a v in bytes_for s l e.steps ≡ bytes_for s l (Draws e.value a.marks (Typed a.prompt c e.value.line.text e.value.line.place) ∷ []))
+    → (let e = insert_char c 1 a v in let way = if may_be_appended a.config.partial_redraw c 1 v then Alone else AtEnd in bytes_for s l e.steps ≡ bytes_for s l (Draws e.value a.marks (put_redraw way c a e.value) ∷ []))
 typed_bytes s l a v c t =
-    let way_is : insertion_way a c 1 v ≡ AtEnd = ap (λ b. if b then AtEnd else if may_be_put_in a.config.partial_redraw c 1 v then InRow else Whole) t.alone in
-    sent_short s l a _ _ c (is_some (insertion c 1 v.line).answer) (insertion_way a c 1 v) t.room way_is t.after refl
+    let e = insert_char c 1 a v in
+    sent_short s l a _ _ c (is_some (insertion c 1 v.line).answer) (insertion_way a c 1 v) t.room t.after refl
+    ∙ ap (λ way. bytes_for s l (Draws e.value a.marks (put_redraw way c a e.value) ∷ [])) (typed_way a v c t)
 
 short_bytes : (s : Screen) (l : Layout) (v : Value) (m : Option Marks) (prompt : List ℕ) (c : ℕ) (text : List ℕ) (at : ℕ) → is_printable c ≡ true → may_type (ruler_of s) l ≡ true → bytes_for s l (Draws v m (Typed prompt c text at) ∷ []) ≡ c ∷ []
 short_bytes s l v m prompt c text at printable may =
     ap (λ b. flat_map (bytes_of s) ((if b then char_call l c else full (ruler_of s) (shown_marks v m) l prompt true text at None).calls ++ [])) may
     ∙ append-nil (encode_utf8 c) ∙ encode_ascii c (small c printable)
+
+-- a letter that doesn't fill its row is drawn by its byte
+here_in_row : (columns : ℕ) (at : Position) → fits_in_row columns at ≡ true → in_row columns at ≡ at
+here_in_row columns at h = let room = ltb-true (at.col + 1) columns h in ap (λ b. if b then at else next_row at) (lt-ltb at.col columns (omega arith))
+
+fills_none : (columns : ℕ) (at : Position) → fits_in_row columns at ≡ true → (at.col + 1 == columns) ≡ false
+fills_none columns at h = grind (arith, nat_tests)
+
+letter_bytes : (s : Screen) (c : ℕ) (at : Position) → is_printable c ≡ true → fits_in_row s.columns at ≡ true → bytes_of s (Append (encode_utf8 c) at) ≡ c ∷ []
+letter_bytes s c at printable room =
+    ap (λ text. bytes_of s (Append text at)) (encode_ascii c (small c printable))
+    ∙ ap (λ items. bytes_of_items s.columns items (in_row s.columns at).col) (letter_items (widths s) (c ∷ []) (and_from (is_printable c) true printable refl))
+    ∙ ap (λ (p : Position). bytes_of_items s.columns (Letter c ∷ []) p.col) (here_in_row s.columns at room)
+    ∙ ap (λ b. c ∷ (break_if b ++ [])) (fills_none s.columns at room)
+
+alone_bytes : (s : Screen) (l : Layout) (v : Value) (m : Option Marks) (prompt : List ℕ) (c : ℕ) (text : List ℕ) (at : ℕ) → is_printable c ≡ true → may_type (ruler_of s) l ≡ true → bytes_for s l (Draws v m (Appended prompt c text at) ∷ []) ≡ c ∷ []
+alone_bytes s l v m prompt c text at printable may =
+    let parts = and_parts (not l.has_info) (fits_in_row s.columns l.cursor) may in
+    ap (λ b. flat_map (bytes_of s) ((if b then full (ruler_of s) (shown_marks v m) l prompt true text at None else append_call (ruler_of s) l c).calls ++ [])) (not-true l.has_info parts.0)
+    ∙ append-nil (bytes_of s (Append (encode_utf8 c) l.cursor)) ∙ letter_bytes s c l.cursor printable parts.1
+
+either_bytes : (s : Screen) (l : Layout) (a : Setting) (v : Value) (c : ℕ) (b : Bool) → is_printable c ≡ true → may_type (ruler_of s) l ≡ true
+    → bytes_for s l (Draws v a.marks (put_redraw (if b then Alone else AtEnd) c a v) ∷ []) ≡ c ∷ []
+either_bytes s l a v c true printable may = alone_bytes s l v a.marks a.prompt c v.line.text v.line.place printable may
+either_bytes s l a v c false printable may = short_bytes s l v a.marks a.prompt c v.line.text v.line.place printable may
 
 turned_steps : (n : ℕ) (a : Setting) (custom : Custom) (k : LineState) (c : ℕ) → is_at_rest k.modal.standing ≡ true → (let phrase = phrase_script n custom (turn_start k) in ReadAlone a k phrase c
     → (made_from a (turn_script n custom) k).steps ≡ (made_from a phrase k).steps ++ (insert_char c 1 a k.value).steps)
@@ -166,4 +214,4 @@ one_byte n s l a custom k c rests alone t may =
     let e = insert_char c 1 a k.value in
     ap (bytes_for s l) (turned_steps n a custom k c rests alone)
     ∙ unasked_bytes s l first e.steps (alone.unasked s l)
-    ∙ typed_bytes s l a k.value c t ∙ short_bytes s l e.value a.marks a.prompt c e.value.line.text e.value.line.place (printed (is_some a.tabs) k.value c t.alone) may
+    ∙ typed_bytes s l a k.value c t ∙ either_bytes s l a e.value c (may_be_appended a.config.partial_redraw c 1 k.value) (printed (is_some a.tabs) k.value c t.alone) may

@@ -9,10 +9,10 @@ use Rattle.line_buffer.specs.Printable.{is_printable, is_plain, at_simple_end}
 use Rattle.line_buffer.specs.declared.layout.Layout.{Layout}
 use Rattle.line_buffer.specs.declared.layout.Position.{Position}
 use Rattle.line_editor.specs.RenderCalls.{Call, Marks}
-use Rattle.line_editor.specs.RenderCalls.Call.{Draw, Move, Write, Beep, ClearScreen, MoveAndClearToEol, InsertChar, MoveAndDelete, Help}
-use Rattle.line_editor.specs.Redraws.{info_text, fresh, layout_of, full, nothing_asked, move_call, column_on, column_back, char_call, erase_call, put_in_short, taken_out_short, fits_in_row, may_type, may_take, may_put_in, may_take_out}
-use Rattle.line_editor.specs.Redraws.Redraw.{Drawn, Moved, Typed, Taken, PutIn, TakenOut, Bared, ToEnd, Beeped, Cleared}
-use Rattle.line_editor.specs.Sights.{Sight, PartSpans, SameStyles, sight_with, sight_as, no_sight, sight, ended_sight, TypedFits, TakenFits, PutInFits, TakenOutFits, Fits}
+use Rattle.line_editor.specs.RenderCalls.Call.{Draw, Move, Write, Beep, ClearScreen, MoveAndClearToEol, InsertChar, MoveAndDelete, Append, Help}
+use Rattle.line_editor.specs.Redraws.{info_text, fresh, layout_of, full, nothing_asked, move_call, column_on, column_back, char_call, append_call, erase_call, put_in_short, taken_out_short, fits_in_row, may_type, may_take, may_erase, may_put_in, may_take_out}
+use Rattle.line_editor.specs.Redraws.Redraw.{Drawn, Moved, Typed, Appended, Taken, Erased, PutIn, TakenOut, Bared, ToEnd, Beeped, Cleared}
+use Rattle.line_editor.specs.Sights.{Sight, PartSpans, SameStyles, sight_with, sight_as, no_sight, sight, ended_sight, TypedFits, AppendedFits, TakenFits, ErasedFits, PutInFits, TakenOutFits, Fits}
 use Rattle.line_editor.specs.EditSteps.{one}
 use Rattle.line_editor.specs.Values.{shown_marks, EditStep}
 use Rattle.line_editor.specs.Values.EditStep.{Draws, Helped, Edits, TakesBack, Takes}
@@ -27,7 +27,7 @@ use Rattle.line_screen.proofs.Fitting.{items_fit, fit_append, after_inside}
 use Rattle.line_screen.proofs.LawLemmas.{calls_lead, place_is_free, measures_go_on}
 use Rattle.line_screen.proofs.Leading.{line_cursor, line_finish, over_again}
 use Rattle.line_screen.proofs.ListLemmas.{filter_none, list_all_true}
-use Rattle.line_screen.proofs.ShortLemmas.{typing_leads, killing_leads, putting_in_leads, taking_out_leads}
+use Rattle.line_screen.proofs.ShortLemmas.{typing_leads, appending_leads, killing_leads, erasing_leads, putting_in_leads, taking_out_leads}
 use Rattle.std.proofs.lemmas.List.{take_at}
 use Rattle.keyline.specs.Shows.{picture, place_in, view_in, DisplayHolds, Low, LowStep, top_by, above_by}
 
@@ -262,6 +262,39 @@ module _ (s : Screen) (low : 2 ≤ s.columns) (high : s.columns ≤ 1000) where
       } in
       subst (DisplayHolds s new over top (char_call l c).layout) (sym (typed_is m x prompt c text at t k none)) done
 
+  -- ---- a character apart from the line's end
+
+  appended_is : (m : Option Marks) (x : Sight) (prompt : List ℕ) (c : ℕ) (text : List ℕ) (at : ℕ) → AppendedFits x prompt c text at → SameStyles x m prompt text at → x.info ≡ None
+      → sight_as m prompt text at None ≡ bare_sight x.spans x.prompt (x.line ++ encode_utf8 c) (length (x.line ++ encode_utf8 c))
+  appended_is m x prompt c text at t k none =
+      ap (λ spans. bare_sight spans prompt text at) (k.same none)
+      ∙ ap (λ p. bare_sight x.spans p text at) t.prompt_is ∙ ap (λ p. bare_sight x.spans x.prompt p at) t.text_is ∙ ap (λ n. bare_sight x.spans x.prompt (x.line ++ encode_utf8 c) n) t.behind
+
+  appended_if : (bytes : List ℕ) (over : List Placed) (top : ℕ) (m : Option Marks) (l : Layout) (x : Sight) (prompt : List ℕ) (c : ℕ) (text : List ℕ) (at : ℕ) (b : Bool) → DisplayHolds s bytes over top l x
+      → x.given ≡ true → x.ended ≡ false → AppendedFits x prompt c text at → SameStyles x m prompt text at → Low s (sight_as m prompt text at None) → l.has_info ≡ b
+      → (let a = if b then full (ruler_of s) m l prompt true text at None else append_call (ruler_of s) l c in DisplayHolds s (bytes ++ flat_map (bytes_of s) a.calls) over top a.layout (sight_as m prompt text at None))
+  appended_if bytes over top m l x prompt c text at true h given unended t k rows e = drawn_holds bytes over top m l x prompt true text at None h.good h.cursor rows
+  appended_if bytes over top m l x prompt c text at false h given unended t k rows e =
+      let w = view_in s top x in
+      let none = nothing_after bytes over top l x h (ap not e) in
+      let tail = encode_utf8 c in
+      let y = bare_sight x.spans x.prompt (x.line ++ tail) (length (x.line ++ tail)) in
+      let same = appended_is m x prompt c text at t k none in
+      let low_y : Low s y = subst (Low s) same rows in
+      let there : View = record { shown = picture y; top = top; place = measure_of s.mode s.tab s.columns tail l.cursor } in
+      let leads = appending_leads s low high l w c (tells bytes over top l x h) (place_if x unended) (no_styles_in x k.unstyled) t.at t.apart e low_y.cursor in
+      let new = bytes ++ flat_map (bytes_of s) (Append tail l.cursor ∷ []) in
+      let good : Good s.columns (widths s) new over there = one_led bytes over w there (Append tail l.cursor) h.good leads.0 refl (λ e. cc) in
+      let done : DisplayHolds s new over top (append_call (ruler_of s) l c).layout y = record {
+        good = subst (λ p. Good s.columns (widths s) new over (record { shown = picture y; top = top; place = p })) leads.1 good;
+        cursor = leads.1;
+        finish = leads.2;
+        prompt_size = h.prompt_size;
+        info_is = e;
+        given_is = h.given_is ∙ given;
+      } in
+      subst (DisplayHolds s new over top (append_call (ruler_of s) l c).layout) (sym same) done
+
   -- ---- a kill at the line's end
 
   killed_place : (a b : View) (old new : Position) → LeadsView s.columns (widths s) a (MoveAndClearToEol old new) b → b.place ≡ cursor_of s.columns (widths s) b.shown
@@ -303,6 +336,44 @@ module _ (s : Screen) (low : 2 ≤ s.columns) (high : s.columns ≤ 1000) where
         given_is = h.given_is ∙ given;
       } in
       subst (DisplayHolds s new over top (erase_call l count).layout) (sym (taken_is m x prompt count text at t k none)) done
+
+  -- ---- a character apart, deleted at the line's end
+
+  erased_is : (m : Option Marks) (x : Sight) (prompt : List ℕ) (c : ℕ) (text : List ℕ) (at : ℕ) → ErasedFits x prompt c text at → SameStyles x m prompt text at → x.info ≡ None
+      → sight_as m prompt text at None ≡ bare_sight x.spans x.prompt text (length text)
+  erased_is m x prompt c text at t k none =
+      ap (λ spans. bare_sight spans prompt text at) (k.same none)
+      ∙ ap (λ p. bare_sight x.spans p text at) t.prompt_is ∙ ap (λ n. bare_sight x.spans x.prompt text n) t.end
+
+  erased_if : (bytes : List ℕ) (over : List Placed) (top : ℕ) (m : Option Marks) (l : Layout) (x : Sight) (prompt : List ℕ) (c : ℕ) (text : List ℕ) (at : ℕ) (b : Bool) → DisplayHolds s bytes over top l x
+      → x.given ≡ true → ErasedFits x prompt c text at → SameStyles x m prompt text at → Low s (sight_as m prompt text at None) → may_erase (ruler_of s) l c ≡ b
+      → (let a = if b then erase_call l (measure_of s.mode s.tab s.columns (encode_utf8 c) origin).col else full (ruler_of s) m l prompt true text at None in
+      DisplayHolds s (bytes ++ flat_map (bytes_of s) a.calls) over top a.layout (sight_as m prompt text at None))
+  erased_if bytes over top m l x prompt c text at false h given t k rows e = drawn_holds bytes over top m l x prompt true text at None h.good h.cursor rows
+  erased_if bytes over top m l x prompt c text at true h given t k rows e =
+      let w = view_in s top x in
+      let free = (and_parts (not l.has_info) _ e).0 in
+      let none = nothing_after bytes over top l x h free in
+      let count = (measure_of s.mode s.tab s.columns (encode_utf8 c) origin).col in
+      let to = column_back count l.end in
+      let y = bare_sight x.spans x.prompt text (length text) in
+      let same = erased_is m x prompt c text at t k none in
+      let few = (inside_cursor y (subst (Low s) same rows)).row in
+      let there : View = record { shown = picture y; top = top; place = to } in
+      let leads = erasing_leads s low high l w text c (tells bytes over top l x h) (no_styles_in x k.unstyled) t.whole t.apart e few in
+      let made = one_led bytes over w there (MoveAndClearToEol w.place to) h.good leads refl (λ e. cc) in
+      let place_is : to ≡ cursor_of s.columns (widths s) (picture y) = killed_place w there w.place to leads in
+      let new = bytes ++ flat_map (bytes_of s) (MoveAndClearToEol l.cursor to ∷ []) in
+      let bytes_are : bytes ++ flat_map (bytes_of s) (MoveAndClearToEol w.place to ∷ []) ≡ new = ap (λ p. bytes ++ flat_map (bytes_of s) (MoveAndClearToEol p to ∷ [])) (sym h.cursor) in
+      let done : DisplayHolds s new over top (erase_call l count).layout y = record {
+        good = subst (λ p. Good s.columns (widths s) new over (record { shown = picture y; top = top; place = p })) place_is (subst (λ b. Good s.columns (widths s) b over there) bytes_are made);
+        cursor = place_is;
+        finish = place_is ∙ sym (end_is_cursor (picture y) refl refl);
+        prompt_size = h.prompt_size;
+        info_is = not-true l.has_info free;
+        given_is = h.given_is ∙ given;
+      } in
+      subst (DisplayHolds s new over top (erase_call l count).layout) (sym same) done
 
   -- ---- a character put in
 
@@ -413,7 +484,9 @@ module _ (s : Screen) (low : 2 ≤ s.columns) (high : s.columns ≤ 1000) where
       ap (measure_of s.mode s.tab s.columns (take at text)) h.prompt_size ∙ ap (λ t. measure_of s.mode s.tab s.columns (take at t) (measure_of s.mode s.tab s.columns x.prompt origin)) fits ∙ measured.0 rows.cursor in
       moved_if bytes over top l x at cursor (same_cell l.cursor cursor) h is rows refl
   step own bytes over top l x (Draws v m (Typed prompt c text at)) h fits rows = typed_if bytes over top (shown_marks v m) l x prompt c text at (may_type (ruler_of s) l) h fits.0 fits.2 fits.3 fits.4 rows refl
+  step own bytes over top l x (Draws v m (Appended prompt c text at)) h fits rows = appended_if bytes over top (shown_marks v m) l x prompt c text at l.has_info h fits.0 fits.2 fits.3 fits.4 rows refl
   step own bytes over top l x (Draws v m (Taken prompt count text at)) h fits rows = taken_if bytes over top (shown_marks v m) l x prompt count text at (may_take l count) h fits.0 fits.2 fits.3 rows refl
+  step own bytes over top l x (Draws v m (Erased prompt c text at)) h fits rows = erased_if bytes over top (shown_marks v m) l x prompt c text at (may_erase (ruler_of s) l c) h fits.0 fits.2 fits.3 rows refl
   step own bytes over top l x (Draws v m (PutIn prompt c text at)) h fits rows = put_in_if bytes over top (shown_marks v m) l x prompt c text at (may_put_in (ruler_of s) l) h fits.0 fits.2 fits.3 fits.4 rows refl
   step own bytes over top l x (Draws v m (TakenOut prompt count text at)) h fits rows =
       taken_out_if bytes over top (shown_marks v m) l x prompt count text at (may_take_out l (measure_of s.mode s.tab s.columns (take at text) l.prompt_size) count) h fits.0 fits.2 fits.3 rows refl

@@ -76,7 +76,8 @@ module _ {S H D L : Type 0} (k : KnownDevices S D L) where
       (result : Result (List ℕ) ReadlineError) : Type 0 where
     pub goes : IsTrue (desk_feed new).told → (n : ℕ) → (desk_feed old).bound < n
         → let line = line_course n g (session_state_of old) in
-        GoesShown k.shown k.written_in g.config.auto_add_history line.events (work_of old) (work_of new)
+        GoesShown k.shown k.written_in g.config.auto_add_history line.events (work_of old)
+        (work_of new)
         ((result, session_state_of new) ≡ line.answer) (λ e. result ≡ Err e)
     pub given : IsTrue (desk_feed new).told → g' ≡ g
     pub custom : g'.custom ≡ g.custom
@@ -93,7 +94,8 @@ module _ {S H D L : Type 0} (k : KnownDevices S D L) where
       (why : ReadlineError) : Type 0 where
     pub goes : IsTrue (desk_feed new).told → (n : ℕ) → (desk_feed old).bound < n
         → let lines = session n g at (session_state_of old) in
-        GoesShown k.shown k.written_in g.config.auto_add_history lines.events (work_of old) (work_of new)
+        GoesShown k.shown k.written_in g.config.auto_add_history lines.events (work_of old)
+        (work_of new)
         (why ≡ lines.answer) (λ e. why ≡ e)
     pub passes : IsTrue (desk_feed new).told → HasPassedOn k (sink_of old.out)
         → HasPassedOn k (sink_of new.out)

@@ -194,9 +194,9 @@ pub record PlaysBytes {S D L T : Type 0} (known : KnownDevices S D L) (held : T 
   pub reason : SessionReason (given_by config options words) (known.feed ended.source).failed
       (known.show_failed ended.display) (known.write_failed ended.lines) why
 
--- the relation of the program's session, over a reader and two writers that had these bytes. If what
--- the reads gave agrees with the bytes that were assumed of the reader as it was passed in, the
--- session is that of these bytes. A writer that hasn't failed got everything that its sink took
+-- the relation of the program's session, over a reader and two writers that had these bytes. If
+-- what the reads gave agrees with the bytes that were assumed of the reader as it was passed in,
+-- the session is that of these bytes. A writer that hasn't failed got everything that its sink took
 pub record PlaysOver {R K E W T : Type 0}
     (known : KnownDevices (ReadSource R K) (WriteSink E) (WriteSink W)) (held : T → List ℕ)
     (failed : T → Bool) (config : Config) (options : Options) (words : Option (List (List ℕ)))

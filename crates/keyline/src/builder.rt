@@ -146,8 +146,8 @@ pub fn builder_over<'p, K: Foretold<R>, R: Read + Drop, E: Write + Drop>(
 /// it is not set or is anything else.
 ///
 /// Its settings turn on what the default profile leaves out: the commands that go on over several
-/// keys, such as the search through the history, tabs drawn as blanks, and the styles of the helper.
-/// There are no styles if the environment variable `NO_COLOR` is set and isn't empty.
+/// keys, such as the search through the history, tabs drawn as blanks, and the styles of the
+/// helper. There are no styles if the environment variable `NO_COLOR` is set and isn't empty.
 ///
 /// `K` says what is assumed of standard input. A program that does without a proof of its own takes
 /// the default of `StandardEditor`.

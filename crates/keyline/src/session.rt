@@ -287,8 +287,8 @@ where
     /// the settings say so, written, and returned.
     ///
     /// After each answer another line may be read. After `Interrupted`, which Ctrl-C gives, it
-    /// begins with the same ring, last search and history. After `Eof` it ends again at once, unless
-    /// the source has more to give.
+    /// begins with the same ring, last search and history. After `Eof` it ends again at once,
+    /// unless the source has more to give.
     #[inline(never)]
     pub fn read_line(&mut self, prompt: &str) -> Result<String, ReadlineError>
         ensures { let helps =

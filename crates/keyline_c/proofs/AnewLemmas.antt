@@ -7,7 +7,7 @@ use Rattle.std.specs.Option.{option_or}
 use Rattle.std.proofs.lemmas.Bool.{and_parts, and_from, ltb-true}
 use Rattle.std.proofs.lemmas.Bool.Decides.{nat_tests}
 use Rattle.std.proofs.lemmas.Str.{encode_ascii}
-use Rattle.line_buffer.specs.Cells.{same_cell}
+use Rattle.line_buffer.specs.Cells.{origin, same_cell}
 use Rattle.line_buffer.specs.Printable.{is_printable, at_simple_end}
 use Rattle.line_buffer.specs.Tabs.{tab_width}
 use Rattle.line_buffer.specs.declared.layout.Layout.{Layout}
@@ -16,8 +16,8 @@ use Rattle.line_buffer.specs.declared.layout.TabStops.{TabStops}
 use Rattle.line_config.specs.declared.settings.BellStyle.{BellStyle}
 use Rattle.line_config.specs.declared.settings.BellStyle.TheVariants as Bell
 use Rattle.line_editor.specs.RenderCalls.{Marks}
-use Rattle.line_editor.specs.Redraws.{info_text, fresh, full, nothing_asked, move_call, char_call, erase_call, put_in_short, taken_out_short, may_type, may_take, may_put_in, may_take_out}
-use Rattle.line_editor.specs.Redraws.Redraw.{Drawn, Moved, Typed, Taken, PutIn, TakenOut, Bared, ToEnd, Beeped, Cleared}
+use Rattle.line_editor.specs.Redraws.{info_text, fresh, full, nothing_asked, move_call, char_call, append_call, erase_call, put_in_short, taken_out_short, may_type, may_take, may_erase, may_put_in, may_take_out}
+use Rattle.line_editor.specs.Redraws.Redraw.{Drawn, Moved, Typed, Appended, Taken, Erased, PutIn, TakenOut, Bared, ToEnd, Beeped, Cleared}
 use Rattle.line_editor.specs.Sights.{Sight, sight_with, sight_as, no_sight, sight, sight_all, spans_by, Fits, FitsAll, TypedFits, PutInFits}
 use Rattle.line_editor.specs.EditSteps.{one}
 use Rattle.line_editor.specs.Values.{EditStep, Value, shown_marks}
@@ -30,6 +30,7 @@ use Rattle.line_screen.specs.Display.{Placed, is_parameter, is_text}
 use Rattle.line_screen.specs.Drawing.{DrawnItem, Widths, blanks, text_items, no_style, break_if, break_unless, cluster_in_fence, fitted_col, bytes_of_item, bytes_of_items, col_after_one, col_after, control_sequence, erase_to_row_end, open_cell, take_cells_out, row_move, col_move, move_bytes, shown_text, drawing}
 use Rattle.line_screen.specs.Drawing.DrawnItem.{NewRow, Letter, Cluster, Tab}
 use Rattle.line_screen.specs.Laws.{widths}
+use Rattle.line_screen.specs.Measure.{in_row}
 use Rattle.line_screen.proofs.Draws.{AllFit, AllPainted, Fits as ItemFits, FitsPainted, list_all_since}
 use Rattle.line_screen.proofs.Fitting.{items_fit}
 use Rattle.line_screen.proofs.LawLemmas.{start_is_empty}
@@ -238,7 +239,9 @@ cleared_or (Draws v m Cleared) = inr (λ x. record { given = refl; prompt = refl
 cleared_or (Draws v m (Drawn prompt given text at info)) = inl tt
 cleared_or (Draws v m (Moved text at)) = inl tt
 cleared_or (Draws v m (Typed prompt c text at)) = inl tt
+cleared_or (Draws v m (Appended prompt c text at)) = inl tt
 cleared_or (Draws v m (Taken prompt count text at)) = inl tt
+cleared_or (Draws v m (Erased prompt c text at)) = inl tt
 cleared_or (Draws v m (PutIn prompt c text at)) = inl tt
 cleared_or (Draws v m (TakenOut prompt count text at)) = inl tt
 cleared_or (Draws v m (Bared prompt text at)) = inl tt
@@ -357,6 +360,12 @@ module _ (s : Screen) (low : 2 ≤ s.columns) (high : s.columns ≤ 1000) (own :
       let small : c < 128 = (let k = ltb-true c 0x7F (and_parts (nat_le 0x20 c) (nat_lt c 0x7F) h).1 in omega arith) in
       subst (λ xs. calm (xs ++ []) ≡ true) (sym (encode_ascii c small)) (calm_byte c [] (letter_plain c h) refl)
 
+  calm_appended : (l : Layout) (c : ℕ) → calm (flat_map (bytes_of s) (append_call (ruler_of s) l c).calls) ≡ true
+  calm_appended l c =
+      let items = text_items wide (encode_utf8 c) in
+      let col = (in_row s.columns l.cursor).col in
+      calm_both (bytes_of_items s.columns items col) [] (calm_sent s.columns wide.cluster items col (items_fit s.mode s.tab s.columns some (encode_utf8 c))) refl
+
   calm_taken : (l : Layout) (count : ℕ) → calm (flat_map (bytes_of s) (erase_call l count).calls) ≡ true
   calm_taken l count =
       let to = (erase_call l count).layout.end in
@@ -387,6 +396,17 @@ module _ (s : Screen) (low : 2 ≤ s.columns) (high : s.columns ≤ 1000) (own :
   typed_by v bytes m l x prompt c text at false e a fits rows =
       subst (λ t. (let q = if t then char_call l c else full (ruler_of s) (shown_marks v m) l prompt true text at None in Anew (bytes ++ flat_map (bytes_of s) q.calls) q.layout (sight_as (shown_marks v m) prompt text at None))) (sym e) (whole bytes (shown_marks v m) l prompt true text at None rows)
 
+  appended_by : (v : Value) (bytes : List ℕ) (m : Option Marks) (l : Layout) (x : Sight) (prompt : List ℕ) (c : ℕ) (text : List ℕ) (at : ℕ) (b : Bool) → l.has_info ≡ b
+      → (let r = Draws v m (Appended prompt c text at) in Anew bytes l x → Fits own x r → LowStep s x r → After bytes l r x)
+  appended_by v bytes m l x prompt c text at false e a fits rows =
+      let r = Draws v m (Appended prompt c text at) in
+      kept_on bytes l x (flat_map (bytes_of s) (one (ruler_of s) l r).calls) (one (ruler_of s) l r).layout (sight x r)
+      (subst (λ t. (if t then full (ruler_of s) (shown_marks v m) l prompt true text at None else append_call (ruler_of s) l c).layout.tab_stops ≡ l.tab_stops) (sym e) refl) a
+      (subst (λ t. calm (flat_map (bytes_of s) (if t then full (ruler_of s) (shown_marks v m) l prompt true text at None else append_call (ruler_of s) l c).calls) ≡ true) (sym e) (calm_appended l c))
+      (λ before over top h. step s low high own before over top l x r h fits rows)
+  appended_by v bytes m l x prompt c text at true e a fits rows =
+      subst (λ t. (let q = if t then full (ruler_of s) (shown_marks v m) l prompt true text at None else append_call (ruler_of s) l c in Anew (bytes ++ flat_map (bytes_of s) q.calls) q.layout (sight_as (shown_marks v m) prompt text at None))) (sym e) (whole bytes (shown_marks v m) l prompt true text at None rows)
+
   taken_by : (v : Value) (bytes : List ℕ) (m : Option Marks) (l : Layout) (x : Sight) (prompt : List ℕ) (count : ℕ) (text : List ℕ) (at : ℕ) (b : Bool) → may_take l count ≡ b
       → (let r = Draws v m (Taken prompt count text at) in Anew bytes l x → Fits own x r → LowStep s x r → After bytes l r x)
   taken_by v bytes m l x prompt count text at true e a fits rows =
@@ -396,6 +416,19 @@ module _ (s : Screen) (low : 2 ≤ s.columns) (high : s.columns ≤ 1000) (own :
       (subst (λ t. calm (flat_map (bytes_of s) (if t then erase_call l count else full (ruler_of s) (shown_marks v m) l prompt true text at None).calls) ≡ true) (sym e) (calm_taken l count))
       (λ before over top h. step s low high own before over top l x r h fits rows)
   taken_by v bytes m l x prompt count text at false e a fits rows =
+      subst (λ t. (let q = if t then erase_call l count else full (ruler_of s) (shown_marks v m) l prompt true text at None in Anew (bytes ++ flat_map (bytes_of s) q.calls) q.layout (sight_as (shown_marks v m) prompt text at None))) (sym e) (whole bytes (shown_marks v m) l prompt true text at None rows)
+
+  erased_by : (v : Value) (bytes : List ℕ) (m : Option Marks) (l : Layout) (x : Sight) (prompt : List ℕ) (c : ℕ) (text : List ℕ) (at : ℕ) (b : Bool) → may_erase (ruler_of s) l c ≡ b
+      → (let r = Draws v m (Erased prompt c text at) in Anew bytes l x → Fits own x r → LowStep s x r → After bytes l r x)
+  erased_by v bytes m l x prompt c text at true e a fits rows =
+      let r = Draws v m (Erased prompt c text at) in
+      let count = ((ruler_of s).measure (encode_utf8 c) origin).col in
+      kept_on bytes l x (flat_map (bytes_of s) (one (ruler_of s) l r).calls) (one (ruler_of s) l r).layout (sight x r)
+      (subst (λ t. (if t then erase_call l count else full (ruler_of s) (shown_marks v m) l prompt true text at None).layout.tab_stops ≡ l.tab_stops) (sym e) refl) a
+      (subst (λ t. calm (flat_map (bytes_of s) (if t then erase_call l count else full (ruler_of s) (shown_marks v m) l prompt true text at None).calls) ≡ true) (sym e) (calm_taken l count))
+      (λ before over top h. step s low high own before over top l x r h fits rows)
+  erased_by v bytes m l x prompt c text at false e a fits rows =
+      let count = ((ruler_of s).measure (encode_utf8 c) origin).col in
       subst (λ t. (let q = if t then erase_call l count else full (ruler_of s) (shown_marks v m) l prompt true text at None in Anew (bytes ++ flat_map (bytes_of s) q.calls) q.layout (sight_as (shown_marks v m) prompt text at None))) (sym e) (whole bytes (shown_marks v m) l prompt true text at None rows)
 
   put_in_by : (v : Value) (bytes : List ℕ) (m : Option Marks) (l : Layout) (x : Sight) (prompt : List ℕ) (c : ℕ) (text : List ℕ) (at : ℕ) (b : Bool) → may_put_in (ruler_of s) l ≡ b
@@ -443,7 +476,9 @@ module _ (s : Screen) (low : 2 ≤ s.columns) (high : s.columns ≤ 1000) (own :
       let to = (ruler_of s).measure (take at text) l.prompt_size in
       kept_on bytes l x (flat_map (bytes_of s) (one (ruler_of s) l r).calls) (one (ruler_of s) l r).layout (sight x r) (moved_tabs l to (same_cell l.cursor to)) a (calm_moved l to (same_cell l.cursor to)) (λ before over top h. step s low high own before over top l x r h fits rows)
   step_anew (Draws v m (Typed prompt c text at)) bytes l x a fits rows none = typed_by v bytes m l x prompt c text at (may_type (ruler_of s) l) refl a fits rows
+  step_anew (Draws v m (Appended prompt c text at)) bytes l x a fits rows none = appended_by v bytes m l x prompt c text at l.has_info refl a fits rows
   step_anew (Draws v m (Taken prompt count text at)) bytes l x a fits rows none = taken_by v bytes m l x prompt count text at (may_take l count) refl a fits rows
+  step_anew (Draws v m (Erased prompt c text at)) bytes l x a fits rows none = erased_by v bytes m l x prompt c text at (may_erase (ruler_of s) l c) refl a fits rows
   step_anew (Draws v m (PutIn prompt c text at)) bytes l x a fits rows none = put_in_by v bytes m l x prompt c text at (may_put_in (ruler_of s) l) refl a fits rows
   step_anew (Draws v m (TakenOut prompt count text at)) bytes l x a fits rows none =
       taken_out_by v bytes m l x prompt count text at (may_take_out l ((ruler_of s).measure (take at text) l.prompt_size) count) refl a fits rows
@@ -473,7 +508,9 @@ module _ (s : Screen) (low : 2 ≤ s.columns) (high : s.columns ≤ 1000) (own :
   step_bare (Draws v m (Drawn prompt given text at info)) bytes l x b fits rows = inl (whole bytes (shown_marks v m) l prompt given text at info rows)
   step_bare (Draws v m (Moved text at)) bytes l x b fits rows = inr (record { given = b.given; prompt = b.prompt })
   step_bare (Draws v m (Typed prompt c text at)) bytes l x b fits rows = absurd (not_given x b fits.0)
+  step_bare (Draws v m (Appended prompt c text at)) bytes l x b fits rows = absurd (not_given x b fits.0)
   step_bare (Draws v m (Taken prompt count text at)) bytes l x b fits rows = absurd (not_given x b fits.0)
+  step_bare (Draws v m (Erased prompt c text at)) bytes l x b fits rows = absurd (not_given x b fits.0)
   step_bare (Draws v m (PutIn prompt c text at)) bytes l x b fits rows = absurd (not_given x b fits.0)
   step_bare (Draws v m (TakenOut prompt count text at)) bytes l x b fits rows = absurd (not_given x b fits.0)
   step_bare (Draws v m (Bared prompt text at)) bytes l x b fits rows = absurd (not_given x b fits)

@@ -1,12 +1,12 @@
 -- What is kept of a drawing is known from what it shows.
-use Rattle.std.proofs.Common.{◌≡◌, ℕ, Bool, true, false, List, [], ◌∷◌, ◌++◌, take, Option, None, is_some, refl, sym, ap, ◌∙◌, if◌then◌else◌}
+use Rattle.std.proofs.Common.{◌≡◌, ℕ, Bool, true, false, List, [], ◌∷◌, ◌++◌, take, Option, None, is_some, encode_utf8, refl, sym, ap, ◌∙◌, if◌then◌else◌}
 use Rattle.line_buffer.specs.Cells.{origin, same_cell}
 use Rattle.line_buffer.specs.declared.layout.Layout.{Layout}
 use Rattle.line_buffer.specs.declared.layout.Position.{Position}
 use Rattle.line_config.specs.declared.memory.VecSink.{VecSink}
 use Rattle.line_editor.specs.RenderCalls.{Marks}
-use Rattle.line_editor.specs.Redraws.{fresh, full, move_call, may_take, may_type, may_put_in, may_take_out, nothing_asked, erase_call, char_call, put_in_short, taken_out_short}
-use Rattle.line_editor.specs.Redraws.Redraw.{Drawn, Moved, Typed, Taken, PutIn, TakenOut, Bared, ToEnd, Beeped, Cleared}
+use Rattle.line_editor.specs.Redraws.{fresh, full, move_call, may_take, may_erase, may_type, may_put_in, may_take_out, nothing_asked, erase_call, char_call, append_call, put_in_short, taken_out_short}
+use Rattle.line_editor.specs.Redraws.Redraw.{Drawn, Moved, Typed, Appended, Taken, Erased, PutIn, TakenOut, Bared, ToEnd, Beeped, Cleared}
 use Rattle.line_editor.specs.Sights.{PartSpans, Sight}
 use Rattle.line_editor.specs.EditSteps.{one}
 use Rattle.line_editor.specs.Values.{EditStep, shown_marks}
@@ -35,6 +35,10 @@ module _ (s : Screen) where
   typed_counts l m c prompt text at true h = h
   typed_counts l m c prompt text at false h = refl
 
+  appended_counts : (l : Layout) (m : Option Marks) (c : ℕ) (prompt text : List ℕ) (at : ℕ) (b : Bool) → Counts l → Counts (if b then full (ruler_of s) m l prompt true text at None else append_call (ruler_of s) l c).layout
+  appended_counts l m c prompt text at true h = refl
+  appended_counts l m c prompt text at false h = h
+
   taken_counts : (l : Layout) (m : Option Marks) (count : ℕ) (prompt text : List ℕ) (at : ℕ) (b : Bool) → Counts l → Counts (if b then erase_call l count else full (ruler_of s) m l prompt true text at None).layout
   taken_counts l m count prompt text at true h = h
   taken_counts l m count prompt text at false h = refl
@@ -55,7 +59,9 @@ module _ (s : Screen) where
   step_counts (Draws v m (Drawn prompt given text at info)) l h = refl
   step_counts (Draws v m (Moved text at)) l h = (let to = (ruler_of s).measure (take at text) l.prompt_size in moved_counts l to (same_cell l.cursor to) h)
   step_counts (Draws v m (Typed prompt c text at)) l h = typed_counts l (shown_marks v m) c prompt text at (may_type (ruler_of s) l) h
+  step_counts (Draws v m (Appended prompt c text at)) l h = appended_counts l (shown_marks v m) c prompt text at l.has_info h
   step_counts (Draws v m (Taken prompt count text at)) l h = taken_counts l (shown_marks v m) count prompt text at (may_take l count) h
+  step_counts (Draws v m (Erased prompt c text at)) l h = taken_counts l (shown_marks v m) ((ruler_of s).measure (encode_utf8 c) origin).col prompt text at (may_erase (ruler_of s) l c) h
   step_counts (Draws v m (PutIn prompt c text at)) l h = put_in_counts l (shown_marks v m) c prompt text at (may_put_in (ruler_of s) l) h
   step_counts (Draws v m (TakenOut prompt count text at)) l h =
       (let cell = (ruler_of s).measure (take at text) l.prompt_size in taken_out_counts l (shown_marks v m) cell count prompt text at (may_take_out l cell count) h)

@@ -63,8 +63,8 @@ module _ (held : VecSink → List ℕ) (sent keys : ℕ) (wants : KeylineWants) 
   abbrev pub NothingDone : Type 0
   NothingDone = (step' ≡ step) × (new ≡ old)
 
-  -- for a line that is still open its lengths and the cursor's place are reported, and its texts are
-  -- returned or one doesn't fit
+  -- for a line that is still open its lengths and the cursor's place are reported, and its texts
+  -- are returned or one doesn't fit
   pub record TellsOpen {A : Type 0} (result : Result A CallStatus) : Type 0 where
     pub step_is : step' ≡ with_lengths (texts_open held sent left) (with_open held keys left step)
     pub texts : GivesTexts (texts_wanted wants (texts_open held sent left)) old new result

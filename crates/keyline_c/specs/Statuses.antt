@@ -24,8 +24,9 @@ is_open More = true
 is_open Asked = true
 is_open status = false
 
--- a line's ending: if the source fails, more keys are wanted; if a binding does, it is that of a key
--- of the caller's own; and since devices are in memory, any other failure is a failed allocation
+-- a line's ending: if the source fails, more keys are wanted; if a binding does, it is that of a
+-- key of the caller's own; and since devices are in memory, any other failure is a failed
+-- allocation
 abbrev pub status_of_ending : {T : Type 0} → Result T ReadlineError → CallStatus
 status_of_ending (Ok text) = Line
 status_of_ending (Err Refusal.Reader) = More

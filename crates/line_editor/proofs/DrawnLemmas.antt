@@ -1,8 +1,10 @@
 -- One redraw in place of another that asks the same.
-use Rattle.std.proofs.Common.{◌≡◌, ℕ, take, true, false, [], refl, sym, ap, subst, ◌∙◌, if◌then◌else◌}
-use Rattle.std.specs.Prelude.{None, Result, Ok, Err, OnOk, IsErrAnd, IsTrue}
+use Rattle.std.proofs.Common.{◌≡◌, ℕ, ◌≤◌, ◌==◌, ◌&&◌, nat_lt, Bool, take, true, false, [], refl, sym, ap, subst, ◌∙◌, if◌then◌else◌}
+use Rattle.std.specs.Prelude.{encode_utf8, not, Option, None, Some, Result, Ok, Err, OnOk, IsErrAnd, IsTrue}
 use Rattle.std.specs.List.{FoldsTo}
-use Rattle.line_buffer.specs.Cells.{same_cell}
+use Rattle.std.proofs.lemmas.Bool.{le-ltb}
+use Rattle.line_buffer.specs.Cells.{origin, same_cell}
+use Rattle.line_buffer.specs.declared.layout.Layout.{Layout}
 use Rattle.line_buffer.specs.declared.layout.Position.{Position}
 use Rattle.line_config.specs.declared.errors.ReadlineError.{ReadlineError}
 use Rattle.line_config.specs.declared.errors.ReadlineError.TheVariants.{Display}
@@ -14,8 +16,8 @@ use Rattle.line_help.specs.declared.history as histories
 use Rattle.line_editor.specs.RenderCalls.{Ruler, MadeIn, CutCalls}
 use Rattle.line_editor.specs.RenderCalls.Call.{Move}
 use Rattle.line_editor.specs.Drawing.{draw_effect_with}
-use Rattle.line_editor.specs.Redraws.{Redraw, RedrawCalls, calls_of_redraw, nothing_asked, move_calls, move_call, then_asked, full, char_call, erase_call, put_in_short, taken_out_short, may_type, may_take, may_put_in, may_take_out}
-use Rattle.line_editor.specs.Redraws.Redraw.{Drawn, Typed, Taken, PutIn, TakenOut, Bared}
+use Rattle.line_editor.specs.Redraws.{Redraw, RedrawCalls, calls_of_redraw, nothing_asked, move_calls, move_call, then_asked, full, char_call, append_call, erase_call, put_in_short, taken_out_short, may_type, may_take, may_erase, may_put_in, may_take_out}
+use Rattle.line_editor.specs.Redraws.Redraw.{Drawn, Typed, Appended, Taken, Erased, PutIn, TakenOut, Bared}
 use Rattle.line_editor.specs.States.{value_of, setting_of, surface_of, Stays, Does, Renders}
 use Rattle.line_editor.specs.EditSteps.{Surface}
 use Rattle.line_editor.specs.Values.{Setting, Value, Transition, draw_effect, shown_marks}
@@ -27,6 +29,39 @@ use Rattle.line_editor.proofs.StopsLemmas.{broken_refused, stops_drawing, stops_
 -- the calls and the layout of one redraw
 abbrev asks : RedrawCalls → RedrawCalls
 asks a = then_asked a (nothing_asked a.layout)
+
+-- ---- whether a character's cells can be erased, by their number in one row
+
+abbrev columns_are : Ruler → ℕ → Option ℕ
+columns_are r c = let end = r.measure (encode_utf8 c) origin in if end.row == 0 then Some end.col else None
+
+abbrev room : Bool → Option ℕ → ℕ → Bool
+room bare None end = false
+room bare (Some width) end = bare && nat_lt width end
+
+room_by : (bare one : Bool) (width end : ℕ) → (bare && (one && nat_lt width end)) ≡ room bare (if one then Some width else None) end
+room_by bare true width end = refl
+room_by true false width end = refl
+room_by false false width end = refl
+
+room_for : (r : Ruler) (l : Layout) (c : ℕ) (columns : Option ℕ) → columns ≡ columns_are r c → may_erase r l c ≡ room (not l.has_info) columns l.end.col
+room_for r l c columns is =
+    let end = r.measure (encode_utf8 c) origin in
+    room_by (not l.has_info) (end.row == 0) end.col l.end.col ∙ ap (λ o. room (not l.has_info) o l.end.col) (sym is)
+
+and_false : (b : Bool) → (b && false) ≡ false
+and_false true = refl
+and_false false = refl
+
+pub no_columns : (r : Ruler) (l : Layout) (c : ℕ) (columns : Option ℕ) → columns ≡ columns_are r c → columns ≡ None → may_erase r l c ≡ false
+no_columns r l c columns are is = room_for r l c columns are ∙ ap (λ o. room (not l.has_info) o l.end.col) is
+
+pub too_few_columns : (r : Ruler) (l : Layout) (c width : ℕ) (columns : Option ℕ) → columns ≡ columns_are r c → columns ≡ Some width → l.end.col ≤ width → may_erase r l c ≡ false
+too_few_columns r l c width columns are is low =
+    room_for r l c columns are ∙ ap (λ o. room (not l.has_info) o l.end.col) is ∙ ap (λ b. not l.has_info && b) (le-ltb width l.end.col low) ∙ and_false (not l.has_info)
+
+pub told_after : (r : Ruler) (l : Layout) (c : ℕ) → l.has_info ≡ true → may_erase r l c ≡ false
+told_after r l c told = let end = r.measure (encode_utf8 c) origin in ap (λ b. not b && ((end.row == 0) && nat_lt end.col l.end.col)) told
 
 module _ {Out H Hi K T : Type 0} {renderer : renderers.Renderer.Ghosts Out} {completer : completions.Completer.Ghosts H K} {candidate : completions.Candidate.Ghosts K}
     {hinter : hints.Hinter.Ghosts H T} {hint : hints.Hint.Ghosts T} {highlighter : highlights.Highlighter.Ghosts H} {validator : verdicts.Validator.Ghosts H} {history : histories.History.Ghosts Hi} where
@@ -48,10 +83,22 @@ module _ {Out H Hi K T : Type 0} {renderer : renderers.Renderer.Ghosts Out} {com
   typed_drawn c s t result is h = drawn_as (λ a v. Drawn a.prompt true v.line.text v.line.place None) (λ a v. Typed a.prompt c v.line.text v.line.place) s t result
       (ap (λ b. if b then char_call s.layout c else full (renderer.canvas.ruler s.out) (shown_marks (value_of s) (setting_of s).marks) s.layout s.prompt.now true s.recorded.line.text s.recorded.line.place None) (sym is)) h
 
+  pub appended_drawn : {A : Type 0} (c : ℕ) (s t : State Out H Hi K T renderer completer candidate hinter hint highlighter validator history) (result : Result A ReadlineError)
+      → s.layout.has_info ≡ true → Does (draw_effect_with None) s t result → Does (λ a v. draw_effect (Appended a.prompt c v.line.text v.line.place) a v) s t result
+  appended_drawn c s t result is h = drawn_as (λ a v. Drawn a.prompt true v.line.text v.line.place None) (λ a v. Appended a.prompt c v.line.text v.line.place) s t result
+      (ap (λ b. if b then full (renderer.canvas.ruler s.out) (shown_marks (value_of s) (setting_of s).marks) s.layout s.prompt.now true s.recorded.line.text s.recorded.line.place None else append_call (renderer.canvas.ruler s.out) s.layout c) (sym is)) h
+
   pub taken_drawn : {A : Type 0} (count : ℕ) (s t : State Out H Hi K T renderer completer candidate hinter hint highlighter validator history) (result : Result A ReadlineError)
       → may_take s.layout count ≡ false → Does (draw_effect_with None) s t result → Does (λ a v. draw_effect (Taken a.prompt count v.line.text v.line.place) a v) s t result
   taken_drawn count s t result is h = drawn_as (λ a v. Drawn a.prompt true v.line.text v.line.place None) (λ a v. Taken a.prompt count v.line.text v.line.place) s t result
       (ap (λ b. if b then erase_call s.layout count else full (renderer.canvas.ruler s.out) (shown_marks (value_of s) (setting_of s).marks) s.layout s.prompt.now true s.recorded.line.text s.recorded.line.place None) (sym is)) h
+
+  pub erased_drawn : {A : Type 0} (c : ℕ) (s t : State Out H Hi K T renderer completer candidate hinter hint highlighter validator history) (result : Result A ReadlineError)
+      → may_erase (renderer.canvas.ruler s.out) s.layout c ≡ false → Does (draw_effect_with None) s t result → Does (λ a v. draw_effect (Erased a.prompt c v.line.text v.line.place) a v) s t result
+  erased_drawn c s t result is h =
+      let r = renderer.canvas.ruler s.out in
+      drawn_as (λ a v. Drawn a.prompt true v.line.text v.line.place None) (λ a v. Erased a.prompt c v.line.text v.line.place) s t result
+      (ap (λ b. if b then erase_call s.layout (r.measure (encode_utf8 c) origin).col else full r (shown_marks (value_of s) (setting_of s).marks) s.layout s.prompt.now true s.recorded.line.text s.recorded.line.place None) (sym is)) h
 
   pub put_in_drawn : {A : Type 0} (c : ℕ) (s t : State Out H Hi K T renderer completer candidate hinter hint highlighter validator history) (result : Result A ReadlineError)
       → may_put_in (renderer.canvas.ruler s.out) s.layout ≡ false → Does (draw_effect_with None) s t result → Does (λ a v. draw_effect (PutIn a.prompt c v.line.text v.line.place) a v) s t result

@@ -25,7 +25,7 @@ use Rattle.line_editor.specs.Inserting.{way_if_bare, put_redraw, show_char_effec
 use Rattle.line_editor.specs.Killing.{taken_redraw, show_taken_effect, show_killed_effect}
 use Rattle.line_editor.specs.EditSteps.{calls_of_steps}
 use Rattle.line_editor.specs.declared.way.Way.{Way}
-use Rattle.line_editor.specs.declared.way.Way.TheVariants.{Whole}
+use Rattle.line_editor.specs.declared.way.Way.TheVariants.{Alone, Back, Whole}
 use Rattle.line_editor.specs.States.{hooks_of, value_of, setting_of, fails_by, IsHelpFault, error_of, reason_of, surface_of, Stays, Does}
 use Rattle.line_editor.specs.Values.{Value, Setting, Hooks, Effect, draw_effect, then_do, hint_reply, verdict_reply, help_steps, IsFailing, with_hint, with_mark, value_with_edit}
 use Rattle.line_editor.specs.Values.EditStep.{Takes}
@@ -142,9 +142,12 @@ module _ {Out H Hi K T : Type 0} {renderer : renderers.Renderer.Ghosts Out} {com
         (does_as (put c shown) (show_char_effect c way) m t result (ap (λ w. put c w (setting_of m) (value_of m)) (sym is)) k)
 
     pub put_drawn : {A B : Type 0} (prompt : List ℕ) (s m t : State Out H Hi K T renderer completer candidate hinter hint highlighter validator history) (x : A) (result : Result B ReadlineError)
-        → prompt ≡ m.prompt.now → way_if_bare way (value_of m) ≡ Whole → Does ask_anew_effect s m (Ok x)
+        → prompt ≡ m.prompt.now → ((d : ℕ) × (way_if_bare way (value_of m) ≡ Back d)) ⊎ (way_if_bare way (value_of m) ≡ Whole) → Does ask_anew_effect s m (Ok x)
         → Does (draw_effect_behind prompt true) m t result → Does (show_inserted_effect c way) s t result
-    put_drawn prompt s m t x result own is h k =
+    put_drawn prompt s m t x result own (inl is) h k =
+        put_made (Back is.0) s m t x result is.1 h
+        (does_as (draw_effect_behind prompt true) (put c (Back is.0)) m t result (ap (λ p. draw_effect_behind p true (setting_of m) (value_of m)) own) k)
+    put_drawn prompt s m t x result own (inr is) h k =
         put_made Whole s m t x result is h
         (does_as (draw_effect_behind prompt true) (put c Whole) m t result (ap (λ p. draw_effect_behind p true (setting_of m) (value_of m)) own) k)
 
@@ -156,9 +159,12 @@ module _ {Out H Hi K T : Type 0} {renderer : renderers.Renderer.Ghosts Out} {com
         (does_as (taken count shown) (show_taken_effect count way) m t result (ap (λ w. taken count w (setting_of m) (value_of m)) (sym is)) k)
 
     pub killed_drawn : {A B : Type 0} (prompt : List ℕ) (s m t : State Out H Hi K T renderer completer candidate hinter hint highlighter validator history) (x : A) (result : Result B ReadlineError)
-        → prompt ≡ m.prompt.now → way_if_bare way (value_of m) ≡ Whole → Does ask_anew_effect s m (Ok x)
+        → prompt ≡ m.prompt.now → (way_if_bare way (value_of m) ≡ Alone) ⊎ (way_if_bare way (value_of m) ≡ Whole) → Does ask_anew_effect s m (Ok x)
         → Does (draw_effect_behind prompt true) m t result → Does (show_killed_effect count way) s t result
-    killed_drawn prompt s m t x result own is h k =
+    killed_drawn prompt s m t x result own (inl is) h k =
+        taken_made Alone s m t x result is h
+        (does_as (draw_effect_behind prompt true) (taken count Alone) m t result (ap (λ p. draw_effect_behind p true (setting_of m) (value_of m)) own) k)
+    killed_drawn prompt s m t x result own (inr is) h k =
         taken_made Whole s m t x result is h
         (does_as (draw_effect_behind prompt true) (taken count Whole) m t result (ap (λ p. draw_effect_behind p true (setting_of m) (value_of m)) own) k)
 

@@ -32,7 +32,7 @@ nothing_in : (xs : List ℕ) → length xs ≡ 0 → xs ≡ []
 nothing_in [] h = refl
 nothing_in (x ∷ xs) h = absurd (omega arith)
 
-cut_short : (text : List ℕ) (from upto : ℕ) → from ≤ length text → from ≡ length (take from text ++ drop upto text) → take from text ++ drop upto text ≡ take from text
+pub cut_short : (text : List ℕ) (from upto : ℕ) → from ≤ length text → from ≡ length (take from text ++ drop upto text) → take from text ++ drop upto text ≡ take from text
 cut_short text from upto inside end =
     let count = length-append (take from text) (drop upto text) in
     let left = length-drop upto text in
@@ -148,7 +148,7 @@ module _ (l : Line) (far : length l.text < l.place) where
 byte_low : (c : ℕ) → is_plain_byte c ≡ true → c < 128
 byte_low c h = grind (arith, nat_tests, h)
 
-plain_low : (text : List ℕ) → is_plain text ≡ true → (i : ℕ) → get_or text i 0 < 128
+pub plain_low : (text : List ℕ) → is_plain text ≡ true → (i : ℕ) → get_or text i 0 < 128
 plain_low [] h zero = omega arith
 plain_low [] h (suc i) = omega arith
 plain_low (x ∷ text) h zero = byte_low x (and_parts (is_plain_byte x) (is_plain text) h).0

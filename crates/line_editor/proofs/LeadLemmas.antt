@@ -1,10 +1,12 @@
 -- What commands want to be seen leads from what is to be seen of the value before to the same of the value after.
-use Rattle.std.proofs.Common.{◌≡◌, ℕ, ◌+◌, ◌-◌, ◌==◌, ◌||◌, ◌&&◌, not, ◌<◌, nat_le, nat_lt, Bool, true, false, List, [], ◌∷◌, ◌++◌, take, drop, length, length-append, take_all, Option, Some, None, IfSome, is_some, encode_utf8, refl, sym, ap, ◌∙◌, subst, append_assoc, append-nil, arith, if◌then◌else◌}
-use Rattle.std.specs.Prelude.{⊤}
-use Rattle.std.specs.List.{list_all, insert_slice, replace_range}
+use Rattle.std.proofs.Common.{◌≡◌, ℕ, ◌+◌, ◌-◌, ◌==◌, ◌||◌, ◌&&◌, not, ◌<◌, ◌≤◌, nat_le, nat_lt, Bool, true, false, List, [], ◌∷◌, ◌++◌, take, drop, length, length-append, take_all, Option, Some, None, IfSome, is_some, encode_utf8, refl, sym, ap, ◌∙◌, subst, append_assoc, append-nil, arith, if◌then◌else◌}
+use Rattle.std.specs.Prelude.{⊤, chars}
+use Rattle.std.specs.List.{list_all, last_or, insert_slice, replace_range}
 use Rattle.std.proofs.lemmas.Bool.{and_parts, eqb-true, ltb-true}
 use Rattle.std.proofs.lemmas.List.{drop_all, take-append-drop, length-drop, length-take, length-take-le, drop-drop}
 use Rattle.std.proofs.lemmas.Str.{encode_ascii}
+use Rattle.unicode_segmentation.proofs.TextLemmas.{encode_utf8_nonempty}
+use Rattle.std.specs.Str.{is_utf8}
 use Rattle.line_buffer.specs.Clusters.{place_forward, place_backward}
 use Rattle.line_buffer.specs.Columns.{line_up, line_down}
 use Rattle.line_buffer.specs.Event.{ChangeEvent}
@@ -28,20 +30,22 @@ use Rattle.line_keys.specs.Replies.{Reply}
 use Rattle.line_keys.specs.declared.command.CmdKind.{CmdKind}
 use Rattle.line_keys.specs.declared.command.CmdKind.TheVariants.{MoveCursor}
 use Rattle.line_record.specs.Held.{HeldItem}
+use Rattle.line_editor.specs.Characters.{stands_apart}
 use Rattle.line_editor.specs.Drawing.{redraw_of, repaint_effect, ask_anew_effect, refresh_effect, refresh_effect_if, message_effect, cursor_moved, beep_effect, clear_and_draw_effect}
-use Rattle.line_editor.specs.Inserting.{is_bare, may_be_typed, may_be_put_in, insertion_way, way_if_bare, put_redraw, show_char_effect, show_inserted_effect, insert_char, insert_text}
+use Rattle.line_editor.specs.Inserting.{is_bare, may_be_typed, may_be_appended, may_be_put_in, insertion_way, way_if_bare, put_redraw, show_char_effect, show_inserted_effect, insert_char, insert_text}
 use Rattle.line_editor.specs.declared.way.Way.{Way}
-use Rattle.line_editor.specs.declared.way.Way.TheVariants.{AtEnd, InRow, Whole}
-use Rattle.line_editor.specs.Killing.{may_be_taken, may_be_taken_out, is_cut_inside, kill_way, taken_redraw, show_taken_effect, show_taken, kill_effect, insert_text_if, replace}
+use Rattle.line_editor.specs.declared.way.Way.TheVariants.{AtEnd, Alone, Back, InRow, Whole}
+use Rattle.line_editor.specs.Killing.{may_be_taken, may_be_taken_out, is_cut_inside, is_erased, last_of_bare, way_erased, kill_way, taken_redraw, show_taken_effect, show_taken, kill_effect, insert_text_if, replace}
 use Rattle.line_editor.specs.Leads.{Leads}
 use Rattle.line_editor.specs.Moving.{cursor_moved_if, to_found, to_place, move_home, move_to_next_word, move_to_first_print, move_by}
 use Rattle.line_editor.specs.RenderCalls.{Marks}
 use Rattle.line_editor.specs.Redraws.{Redraw, info_text}
-use Rattle.line_editor.specs.Redraws.Redraw.{Drawn, Moved, Typed, Taken, PutIn, TakenOut, Cleared}
+use Rattle.line_editor.specs.Redraws.Redraw.{Drawn, Moved, Typed, Appended, Taken, Erased, PutIn, TakenOut, Cleared}
 use Rattle.line_editor.specs.Sights.{PartSpans, drawn_spans, Sight, SameStyles, sight_as, sight, sight_all, Fits, FitsAll, Turns, info_one, info_after, sight_of}
 use Rattle.line_editor.specs.Values.{Value, Setting, EditStep, Effect, Transition, no_effect, then_do, hint_reply, help_steps, value_with_edit, edit_effect, at_line, with_mark, marks_seen, shown_marks}
 use Rattle.line_editor.specs.Values.EditStep.{Draws, Edits, TakesBack, Takes}
-use Rattle.line_editor.proofs.KillLemmas.{Low, cut_text, range_low}
+use Rattle.line_editor.proofs.CharacterRanges.{end_is_last}
+use Rattle.line_editor.proofs.KillLemmas.{Low, cut_short, cut_text, range_low}
 use Rattle.line_editor.proofs.SimpleLemmas.{typed_at_any}
 
 -- ---- one after the other
@@ -268,20 +272,40 @@ whole_leads : (s : Setting) (v w : Value) → Leads s v (record { value = w; ste
 whole_leads s v w info = record { fits = ((λ x. refl), tt); leads = refl }
 
 -- the way that was chosen, if the line is bare
-abbrev chosen : Bool → Bool → Bool → Way
-chosen bare first second = if bare then (if first then AtEnd else if second then InRow else Whole) else Whole
+abbrev chosen : Bool → Bool → Bool → Bool → ℕ → Bool → Way
+chosen bare alone first second c back = if bare then (if alone then Alone else if first then AtEnd else if second then InRow else if back then Back c else Whole) else Whole
 
-at_end_if : (bare first second : Bool) → chosen bare first second ≡ AtEnd → (bare ≡ true) × (first ≡ true)
-at_end_if false first second h = cc
-at_end_if true false false h = cc
-at_end_if true false true h = cc
-at_end_if true true second h = (refl, refl)
+alone_if : (bare alone first second : Bool) (c : ℕ) (back : Bool) → chosen bare alone first second c back ≡ Alone → (bare ≡ true) × (alone ≡ true)
+alone_if false alone first second c back h = cc
+alone_if true true first second c back h = (refl, refl)
+alone_if true false true second c back h = cc
+alone_if true false false true c back h = cc
+alone_if true false false false c true h = cc
+alone_if true false false false c false h = cc
 
-in_row_if : (bare first second : Bool) → chosen bare first second ≡ InRow → (bare ≡ true) × (second ≡ true)
-in_row_if false first second h = cc
-in_row_if true true second h = cc
-in_row_if true false false h = cc
-in_row_if true false true h = (refl, refl)
+at_end_if : (bare alone first second : Bool) (c : ℕ) (back : Bool) → chosen bare alone first second c back ≡ AtEnd → (bare ≡ true) × (first ≡ true)
+at_end_if false alone first second c back h = cc
+at_end_if true true first second c back h = cc
+at_end_if true false true second c back h = (refl, refl)
+at_end_if true false false true c back h = cc
+at_end_if true false false false c true h = cc
+at_end_if true false false false c false h = cc
+
+in_row_if : (bare alone first second : Bool) (c : ℕ) (back : Bool) → chosen bare alone first second c back ≡ InRow → (bare ≡ true) × (second ≡ true)
+in_row_if false alone first second c back h = cc
+in_row_if true true first second c back h = cc
+in_row_if true false true second c back h = cc
+in_row_if true false false true c back h = (refl, refl)
+in_row_if true false false false c true h = cc
+in_row_if true false false false c false h = cc
+
+back_if : (bare alone first second : Bool) (c : ℕ) (back : Bool) (d : ℕ) → chosen bare alone first second c back ≡ Back d → (bare ≡ true) × (back ≡ true) × (c ≡ d)
+back_if false alone first second c back d h = cc
+back_if true true first second c back d h = cc
+back_if true false true second c back d h = cc
+back_if true false false true c back d h = cc
+back_if true false false false c true d h = (refl, refl, cc)
+back_if true false false false c false d h = cc
 
 module _ (s : Setting) (c n : ℕ) (v w : Value) (put : (n == 1) ≡ true → w.line ≡ with_text_at_cursor (encode_utf8 c) v.line) where
   typed_leads : is_bare w ≡ true → may_be_typed (is_some s.tabs) c n v ≡ true → Leads s v (record { value = w; steps = Draws w s.marks (Typed s.prompt c w.line.text w.line.place) ∷ [] })
@@ -306,6 +330,36 @@ module _ (s : Setting) (c n : ℕ) (v w : Value) (put : (n == 1) ≡ true → w.
               behind = place ∙ ap (λ x. v.line.place + length x) one;
             },
             bare_styles s v w info (and_parts (is_bare v) _ b.1).0 bare,
+          ),
+          tt,
+        );
+        leads = refl;
+      }
+
+  appended_leads : is_bare w ≡ true → may_be_appended s.config.partial_redraw c n v ≡ true → Leads s v (record { value = w; steps = Draws w s.marks (Appended s.prompt c w.line.text w.line.place) ∷ [] })
+  appended_leads bare fits info =
+      let text = v.line.text in
+      let a = and_parts s.config.partial_redraw _ fits in
+      let b = and_parts (n == 1) _ a.1 in
+      let d = and_parts (is_bare v) _ b.1 in
+      let e = and_parts (v.line.place == length text) (stands_apart text c) d.1 in
+      let end = eqb-true v.line.place (length text) e.0 in
+      let new : w.line.text ≡ insert_slice text v.line.place (encode_utf8 c) = ap (λ (l : Line). l.text) (put b.0) in
+      let place : w.line.place ≡ v.line.place + length (encode_utf8 c) = ap (λ (l : Line). l.place) (put b.0) in
+      record {
+        fits = (
+          (
+            refl,
+            refl,
+            refl,
+            record {
+              at = end;
+              apart = e.1;
+              prompt_is = refl;
+              text_is = new ∙ put_at_end text v.line.place (encode_utf8 c) end;
+              behind = place ∙ ap (λ k. k + length (encode_utf8 c)) end ∙ sym (length-append text (encode_utf8 c));
+            },
+            bare_styles s v w info d.0 bare,
           ),
           tt,
         );
@@ -352,11 +406,15 @@ module _ (s : Setting) (c n : ℕ) (v w : Value) (put : (n == 1) ≡ true → w.
 
   put_by : (way : Way) → way_if_bare (insertion_way s c n v) w ≡ way → Leads s v (record { value = w; steps = Draws w s.marks (put_redraw way c s w) ∷ [] })
   put_by AtEnd is =
-      let parts = at_end_if (is_bare w) (may_be_typed (is_some s.tabs) c n v) (may_be_put_in s.config.partial_redraw c n v) is in
+      let parts = at_end_if (is_bare w) (may_be_appended s.config.partial_redraw c n v) (may_be_typed (is_some s.tabs) c n v) (may_be_put_in s.config.partial_redraw c n v) 0 false is in
       typed_leads parts.0 parts.1
+  put_by Alone is =
+      let parts = alone_if (is_bare w) (may_be_appended s.config.partial_redraw c n v) (may_be_typed (is_some s.tabs) c n v) (may_be_put_in s.config.partial_redraw c n v) 0 false is in
+      appended_leads parts.0 parts.1
   put_by InRow is =
-      let parts = in_row_if (is_bare w) (may_be_typed (is_some s.tabs) c n v) (may_be_put_in s.config.partial_redraw c n v) is in
+      let parts = in_row_if (is_bare w) (may_be_appended s.config.partial_redraw c n v) (may_be_typed (is_some s.tabs) c n v) (may_be_put_in s.config.partial_redraw c n v) 0 false is in
       put_in_leads parts.0 parts.1
+  put_by (Back d) is = whole_leads s v w
   put_by Whole is = whole_leads s v w
 
 pub none_if : (told : ChangeEvent) (added : List ℕ) (l : Line) (b : Bool)
@@ -393,6 +451,10 @@ pub text_leads : (text : List ℕ) (s : Setting) (v : Value) → Leads s v (inse
 text_leads text s v = either s v (length text == 0) _ _ (λ e. rest_leads s v v (refl, refl, refl)) (λ e. redraw_leads (text_steps text) s v v)
 
 -- ---- a kill
+
+some_by : (b : Bool) (o : Option ℕ) (c : ℕ) → (if b then o else None) ≡ Some c → (b ≡ true) × (o ≡ Some c)
+some_by true o c h = (refl, h)
+some_by false o c h = cc
 
 module _ (s : Setting) (v w : Value) (from upto : ℕ) (text : w.line.text ≡ replace_range v.line.text from upto []) (place : w.line.place ≡ from) where
   abbrev count : ℕ
@@ -478,15 +540,59 @@ module _ (s : Setting) (v w : Value) (from upto : ℕ) (text : w.line.text ≡ r
         leads = refl;
       }
 
-  taken_by : (way : Way) → way_if_bare (kill_way s v w.line) w ≡ way → (is_plain v.line.text ≡ true → Low v.line.text from upto)
+  erased_leads : (c : ℕ) → is_bare w ≡ true → last_of_bare s.config.partial_redraw v ≡ Some c → is_erased c count w.line ≡ true
+      → Leads s v (record { value = w; steps = Draws w s.marks (Erased s.prompt c w.line.text w.line.place) ∷ [] })
+  erased_leads c bare last e info =
+      let before = v.line.text in
+      let now = w.line.text in
+      let code = encode_utf8 c in
+      let a = and_parts (w.line.place == length now) _ e in
+      let b = and_parts (count == length code) (stands_apart now c) a.1 in
+      let found = some_by (s.config.partial_redraw && (is_bare v && is_utf8 before)) (last_or None (chars before)) c last in
+      let d = and_parts (is_bare v) (is_utf8 before) (and_parts s.config.partial_redraw _ found.0).1 in
+      let end = eqb-true w.line.place (length now) a.0 in
+      let size : length before - length now ≡ length code = eqb-true count (length code) b.0 in
+      let some = encode_utf8_nonempty c in
+      let at : from ≡ length now = sym place ∙ end in
+      let inside : from ≤ length before = omega (arith, at, size, some) in
+      let left : now ≡ take from before ++ drop upto before = text ∙ append_assoc (take from before) [] (drop upto before) in
+      let front : now ≡ take from before = left ∙ cut_short before from upto inside (at ∙ ap length left) in
+      let whole : before ≡ now ++ drop from before = sym (take-append-drop from before) ∙ ap (λ xs. xs ++ drop from before) (sym front) in
+      let gone = length-drop from before in
+      let killed : drop from before ≡ code = end_is_last before now (drop from before) c d.1 found.1 whole (gone ∙ ap (λ n. length before - n) at ∙ size) in
+      record {
+        fits = (
+          (
+            refl,
+            refl,
+            record { whole = whole ∙ ap (λ xs. now ++ xs) killed; apart = b.1; end = end; prompt_is = refl },
+            bare_styles s v w info d.0 bare,
+          ),
+          tt,
+        );
+        leads = refl;
+      }
+
+  taken_of : (way : Way) (c : ℕ) (back : Bool)
+      → chosen (is_bare w) false (may_be_taken (drop (length w.line.text) v.line.text) v && at_plain_end w.line.text w.line.place) (may_be_taken_out s.config.partial_redraw v && is_cut_inside v.line w.line) c back ≡ way
+      → (back ≡ true → (last_of_bare s.config.partial_redraw v ≡ Some c) × (is_erased c count w.line ≡ true)) → (is_plain v.line.text ≡ true → Low v.line.text from upto)
       → Leads s v (record { value = w; steps = Draws w s.marks (taken_redraw way count s w) ∷ [] })
-  taken_by AtEnd is low =
-      let parts = at_end_if (is_bare w) (may_be_taken (drop (length w.line.text) v.line.text) v && at_plain_end w.line.text w.line.place) (may_be_taken_out s.config.partial_redraw v && is_cut_inside v.line w.line) is in
-      taken_leads parts.0 parts.1 low
-  taken_by InRow is low =
-      let parts = in_row_if (is_bare w) (may_be_taken (drop (length w.line.text) v.line.text) v && at_plain_end w.line.text w.line.place) (may_be_taken_out s.config.partial_redraw v && is_cut_inside v.line w.line) is in
-      taken_out_leads parts.0 parts.1
-  taken_by Whole is low = whole_leads s v w
+  taken_of AtEnd c back is last low = let parts = at_end_if (is_bare w) false _ _ c back is in taken_leads parts.0 parts.1 low
+  taken_of InRow c back is last low = let parts = in_row_if (is_bare w) false _ _ c back is in taken_out_leads parts.0 parts.1
+  taken_of (Back d) c back is last low =
+      let parts = back_if (is_bare w) false _ _ c back d is in
+      let k = last parts.1 in
+      erased_leads d parts.0 (k.0 ∙ ap Some parts.2) (ap (λ x. is_erased x count w.line) (sym parts.2) ∙ k.1)
+  taken_of Alone c back is last low = whole_leads s v w
+  taken_of Whole c back is last low = whole_leads s v w
+
+  taken_by : (way : Way) (last : Option ℕ) → last_of_bare s.config.partial_redraw v ≡ last
+      → way_if_bare (if may_be_taken (drop (length w.line.text) v.line.text) v && at_plain_end w.line.text w.line.place then AtEnd
+      else if may_be_taken_out s.config.partial_redraw v && is_cut_inside v.line w.line then InRow else way_erased count w.line last) w ≡ way
+      → (is_plain v.line.text ≡ true → Low v.line.text from upto)
+      → Leads s v (record { value = w; steps = Draws w s.marks (taken_redraw way count s w) ∷ [] })
+  taken_by way None last is low = taken_of way 0 false is (λ b. cc) low
+  taken_by way (Some c) last is low = taken_of way c (is_erased c count w.line) is (λ b. (last, b)) low
 
 killed_by : (edit : WriteSteps ⊤) (s : Setting) (v : Value) (held : List HeldItem) (o : Option TextSpan) → (is_plain v.line.text ≡ true → IfSome o (λ span. Low v.line.text span.from span.upto))
     → (let w : Value = record v { line = deletion_line o v.line; held = held } in
@@ -498,7 +604,7 @@ killed_by edit s v held (Some span) h =
     let way = kill_way s v w.line in
     edit_leads edit s v v (show_taken v s w) (help_leads w (hint_reply s w) s v
     (show_taken_effect (length v.line.text - length w.line.text) way s asked)
-    (taken_by s v asked span.from span.upto refl refl (way_if_bare way asked) refl h))
+    (taken_by s v asked span.from span.upto refl refl (way_if_bare way asked) (last_of_bare s.config.partial_redraw v) refl refl h))
 
 pub kill_leads : (m : Movement) (s : Setting) (v : Value) → Leads s v (kill_effect m s v)
 kill_leads m s v = killed_by (with_answer tt (kill_steps m v.line)) s v (value_with_edit (by (kill_steps m)) v).held (range_of m v.line) (λ plain. range_low v.line plain m)

@@ -1,4 +1,5 @@
 pub mod AcceptLemmas
+pub mod CharacterRanges
 pub mod CommandsLead
 pub mod CompleteLemmas
 pub mod DoesLemmas

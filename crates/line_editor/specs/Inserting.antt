@@ -4,12 +4,13 @@ use Rattle.line_buffer.specs.Clusters.{place_forward}
 use Rattle.line_buffer.specs.Insertions.{insert as insertion}
 use Rattle.line_edits.specs.Edits.{char_steps, text_steps, replace_group_if_any, overwrite_steps, by}
 use Rattle.line_buffer.specs.Printable.{is_printable, is_plain, is_typed_at_end}
+use Rattle.line_editor.specs.Characters.{stands_apart}
 use Rattle.line_editor.specs.Drawing.{redraw_of, ask_anew_effect, refresh_effect, refresh_effect_if}
 use Rattle.line_editor.specs.Redraws.{Redraw}
-use Rattle.line_editor.specs.Redraws.Redraw.{Typed, PutIn}
+use Rattle.line_editor.specs.Redraws.Redraw.{Typed, Appended, PutIn}
 use Rattle.line_editor.specs.Values.{Value, Setting, Transition, no_effect, then_do, draw_effect, value_with_edit, edit_effect}
 use Rattle.line_editor.specs.declared.way.Way.{Way}
-use Rattle.line_editor.specs.declared.way.Way.TheVariants.{AtEnd, InRow, Whole}
+use Rattle.line_editor.specs.declared.way.Way.TheVariants.{AtEnd, Alone, Back, InRow, Whole}
 
 -- neither a hint nor a highlighted character
 abbrev pub is_bare : Value → Bool
@@ -21,6 +22,13 @@ abbrev pub may_be_typed : Bool → ℕ → ℕ → Value → Bool
 may_be_typed tabs c n v =
     (n == 1) && (is_bare v && is_typed_at_end tabs c v.line.text v.line.place)
 
+-- whether its own drawing alone may show it: a single character, typed apart from a bare line at
+-- whose end the cursor is, if lines may be drawn in part
+abbrev pub may_be_appended : Bool → ℕ → ℕ → Value → Bool
+may_be_appended partial c n v =
+    partial && ((n == 1) && (is_bare v && ((v.line.place == length v.line.text)
+    && stands_apart v.line.text c)))
+
 -- whether it may be shown in its row: a single printable character, put before the end of a line
 -- that is bare and plain, if lines may be drawn in part
 abbrev pub may_be_put_in : Bool → ℕ → ℕ → Value → Bool
@@ -30,7 +38,8 @@ may_be_put_in partial c n v =
 
 abbrev pub insertion_way : Setting → ℕ → ℕ → Value → Way
 insertion_way s c n v =
-    if may_be_typed (is_some s.tabs) c n v then AtEnd
+    if may_be_appended s.config.partial_redraw c n v then Alone
+    else if may_be_typed (is_some s.tabs) c n v then AtEnd
     else if may_be_put_in s.config.partial_redraw c n v then InRow
     else Whole
 
@@ -41,6 +50,8 @@ way_if_bare way v = if is_bare v then way else Whole
 -- the drawing of an inserted character
 abbrev pub put_redraw : Way → ℕ → Setting → Value → Redraw
 put_redraw AtEnd c s v = Typed s.prompt c v.line.text v.line.place
+put_redraw Alone c s v = Appended s.prompt c v.line.text v.line.place
+put_redraw (Back d) c s v = redraw_of s v
 put_redraw InRow c s v = PutIn s.prompt c v.line.text v.line.place
 put_redraw Whole c s v = redraw_of s v
 

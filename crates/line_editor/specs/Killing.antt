@@ -1,6 +1,7 @@
 -- Kills, and copies into the ring.
-use Rattle.std.specs.Prelude.{ℕ, ◌-◌, ◌&&◌, nat_lt, if◌then◌else◌, Bool, List, length, drop, Option, Some, None, is_some, option_map}
-use Rattle.std.specs.List.{list_all}
+use Rattle.std.specs.Prelude.{ℕ, ◌-◌, ◌&&◌, ◌==◌, nat_lt, if◌then◌else◌, Bool, List, length, drop, Option, Some, None, is_some, option_map, chars, encode_utf8}
+use Rattle.std.specs.List.{list_all, last_or}
+use Rattle.std.specs.Str.{is_utf8}
 use Rattle.line_buffer.specs.Line.{Line}
 use Rattle.line_buffer.specs.Range.{range_of, copied_range, span_text, kill_events}
 use Rattle.line_buffer.specs.declared.types.Mode.TheVariants.{Append}
@@ -8,13 +9,14 @@ use Rattle.line_buffer.specs.declared.types.Movement.{Movement}
 use Rattle.line_record.specs.Ring.{Ring, ring_all, ring_with_kill}
 use Rattle.line_edits.specs.Edits.{kill_steps, by}
 use Rattle.line_buffer.specs.Printable.{is_printable, is_plain, at_plain_end}
+use Rattle.line_editor.specs.Characters.{stands_apart}
 use Rattle.line_editor.specs.Drawing.{redraw_of, ask_anew_effect}
 use Rattle.line_editor.specs.Inserting.{is_bare, way_if_bare, insert_text}
 use Rattle.line_editor.specs.Redraws.{Redraw}
-use Rattle.line_editor.specs.Redraws.Redraw.{Taken, TakenOut}
+use Rattle.line_editor.specs.Redraws.Redraw.{Taken, Erased, TakenOut}
 use Rattle.line_editor.specs.Values.{Value, Setting, Transition, no_effect, memory_effect, then_do, draw_effect, value_with_edit, edit_effect}
 use Rattle.line_editor.specs.declared.way.Way.{Way}
-use Rattle.line_editor.specs.declared.way.Way.TheVariants.{AtEnd, InRow, Whole}
+use Rattle.line_editor.specs.declared.way.Way.TheVariants.{AtEnd, Alone, Back, InRow, Whole}
 
 -- whether erasing the rest of the row may show a kill: printable characters, deleted from a bare
 -- line
@@ -31,19 +33,38 @@ abbrev pub is_cut_inside : Line → Line → Bool
 is_cut_inside before l =
     nat_lt (length l.text) (length before.text) && nat_lt l.place (length l.text)
 
--- from the line before to this one: at the end of a plain line, or before the end of what is left
+-- the last character of a bare line, if lines may be drawn in part
+abbrev pub last_of_bare : Bool → Value → Option ℕ
+last_of_bare partial v =
+    if partial && (is_bare v && is_utf8 v.line.text) then last_or None (chars v.line.text) else None
+
+-- `count` bytes are gone from the line's end: this character, which is apart from what is left
+abbrev pub is_erased : ℕ → ℕ → Line → Bool
+is_erased c count l =
+    (l.place == length l.text) && ((count == length (encode_utf8 c)) && stands_apart l.text c)
+
+-- whether erasing the cells of the line's last character may show it
+abbrev pub way_erased : ℕ → Line → Option ℕ → Way
+way_erased count l None = Whole
+way_erased count l (Some c) = if is_erased c count l then Back c else Whole
+
+-- from the line before to this one: at the end of a plain line, before the end of what is left, or
+-- at the end by one character
 abbrev pub kill_way : Setting → Value → Line → Way
 kill_way s before l =
     if may_be_taken (drop (length l.text) before.line.text) before && at_plain_end l.text l.place
     then AtEnd
     else if may_be_taken_out s.config.partial_redraw before && is_cut_inside before.line l
     then InRow
-    else Whole
+    else way_erased (length before.line.text - length l.text) l
+    (last_of_bare s.config.partial_redraw before)
 
 -- the drawing after a deletion of `count` bytes
 abbrev pub taken_redraw : Way → ℕ → Setting → Value → Redraw
 taken_redraw AtEnd count s v = Taken s.prompt count v.line.text v.line.place
 taken_redraw InRow count s v = TakenOut s.prompt count v.line.text v.line.place
+taken_redraw Alone count s v = redraw_of s v
+taken_redraw (Back c) count s v = Erased s.prompt c v.line.text v.line.place
 taken_redraw Whole count s v = redraw_of s v
 
 abbrev pub show_taken_effect : ℕ → Way → Transition

@@ -2,6 +2,7 @@ pub mod Accepting
 pub mod Asks
 pub mod RenderCalls
 pub mod Candidates
+pub mod Characters
 pub mod Commands
 pub mod Completing
 pub mod LineEndings

@@ -169,8 +169,8 @@ module _ (s : Setting) where
 
 -- ---- where a fault stops it
 
--- what a fault leaves: the value, what stands between commands, and the ring of a command, as far as
--- they came
+-- what a fault leaves: the value, what stands between commands, and the ring of a command, as far
+-- as they came
 abbrev pub CutLineAsk : LineAsk → LineState → ReadlineError → LineState → Type 0
 CutLineAsk (Meets cmd) k e l = l ≡ record k { value = l.value; modal = l.modal }
 CutLineAsk (Obeys cmd) k e l =

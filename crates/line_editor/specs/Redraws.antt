@@ -5,7 +5,7 @@ use Rattle.line_buffer.specs.declared.layout.GraphemeClusterMode.{GraphemeCluste
 use Rattle.line_buffer.specs.declared.layout.Layout.{Layout}
 use Rattle.line_buffer.specs.declared.layout.Position.{Position}
 use Rattle.line_editor.specs.RenderCalls.{Call, Marks, Ruler}
-use Rattle.line_editor.specs.RenderCalls.Call.{Draw, Move, Write, Beep, ClearScreen, MoveAndClearToEol, InsertChar, MoveAndDelete}
+use Rattle.line_editor.specs.RenderCalls.Call.{Draw, Move, Write, Beep, ClearScreen, MoveAndClearToEol, InsertChar, MoveAndDelete, Append}
 
 -- a redraw doesn't depend on columns
 pub data Redraw : Type 0 where
@@ -16,8 +16,12 @@ pub data Redraw : Type 0 where
   Moved : (text : List ℕ) (place : ℕ) → Redraw
   -- a printable character typed at the end of a plain line, with no information before or after it
   Typed : (prompt : List ℕ) (c : ℕ) (text : List ℕ) (place : ℕ) → Redraw
+  -- a character typed at the end of a line, apart from it, with no information before or after it
+  Appended : (prompt : List ℕ) (c : ℕ) (text : List ℕ) (place : ℕ) → Redraw
   -- `count` printable characters deleted at the end of a plain line, with no information after it
   Taken : (prompt : List ℕ) (count : ℕ) (text : List ℕ) (place : ℕ) → Redraw
+  -- a character apart from a line deleted at its end, with no information after it
+  Erased : (prompt : List ℕ) (c : ℕ) (text : List ℕ) (place : ℕ) → Redraw
   -- a printable character put into a plain line, with no information before or after it
   PutIn : (prompt : List ℕ) (c : ℕ) (text : List ℕ) (place : ℕ) → Redraw
   -- `count` characters of a plain line deleted, with no information before or after that
@@ -97,6 +101,15 @@ char_call l c = record {
   layout = record l { cursor = column_on l.cursor; end = column_on l.cursor };
 }
 
+-- the character's own drawing
+abbrev pub append_call : Ruler → Layout → ℕ → RedrawCalls
+append_call r l c =
+    let end = r.measure (encode_utf8 c) l.cursor in
+    record {
+      calls = Append (encode_utf8 c) l.cursor ∷ [];
+      layout = record l { cursor = end; end = end };
+    }
+
 -- the rest of the row erased
 abbrev pub erase_call : Layout → ℕ → RedrawCalls
 erase_call l count = record {
@@ -130,6 +143,13 @@ may_type r l = not l.has_info && fits_in_row r.columns l.cursor
 abbrev pub may_take : Layout → ℕ → Bool
 may_take l count = not l.has_info && ((l.cursor.row == l.end.row) && nat_le count l.end.col)
 
+-- and whether a character's cells alone can be erased: the row of the drawing's end has more
+-- columns before the end than the character takes
+abbrev pub may_erase : Ruler → Layout → ℕ → Bool
+may_erase r l c =
+    let end = r.measure (encode_utf8 c) origin in
+    not l.has_info && ((end.row == 0) && nat_lt end.col l.end.col)
+
 -- and whether a character can be put into the row of the drawing's end, which it doesn't fill
 abbrev pub may_put_in : Ruler → Layout → Bool
 may_put_in r l =
@@ -149,13 +169,19 @@ calls_of_redraw r marks l (Moved text place) = move_calls l
     (r.measure (take place text) l.prompt_size)
 calls_of_redraw r marks l (Typed prompt c text place) =
     if may_type r l then char_call l c else full r marks l prompt true text place None
+calls_of_redraw r marks l (Appended prompt c text place) =
+    if l.has_info then full r marks l prompt true text place None else append_call r l c
 calls_of_redraw r marks l (Taken prompt count text place) =
     if may_take l count then erase_call l count else full r marks l prompt true text place None
+calls_of_redraw r marks l (Erased prompt c text place) =
+    if may_erase r l c then erase_call l (r.measure (encode_utf8 c) origin).col
+    else full r marks l prompt true text place None
 calls_of_redraw r marks l (PutIn prompt c text place) =
     if may_put_in r l then put_in_short l c else full r marks l prompt true text place None
 calls_of_redraw r marks l (TakenOut prompt count text place) =
     let at = r.measure (take place text) l.prompt_size in
-    if may_take_out l at count then taken_out_short l at count else full r marks l prompt true text place None
+    if may_take_out l at count then taken_out_short l at count
+    else full r marks l prompt true text place None
 calls_of_redraw r marks l (Bared prompt text place) =
     if l.default_prompt then nothing_asked l else full r marks l prompt true text place None
 calls_of_redraw r marks l ToEnd = move_calls l l.end

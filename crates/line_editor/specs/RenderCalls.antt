@@ -30,6 +30,8 @@ pub data Call : Type 0 where
   InsertChar : (c : ℕ) → Call
   -- a move, and so many cells taken out of the row from there on
   MoveAndDelete : (old new : Position) (count : ℕ) → Call
+  -- a text drawn behind what is drawn, from the drawing's end on
+  Append : (text : List ℕ) (at : Position) → Call
   ToLeftmost : Call
   -- a call of the helper, which answers or fails; nothing is drawn
   Help : (fails : Bool) → Call

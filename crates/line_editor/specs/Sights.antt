@@ -1,10 +1,11 @@
 -- What steps show, without a screen.
-use Rattle.std.specs.Prelude.{◌≡◌, ⊤, ℕ, ◌+◌, Bool, true, false, List, [], ◌∷◌, ◌++◌, length, Option, Some, None}
+use Rattle.std.specs.Prelude.{◌≡◌, ⊤, ℕ, ◌+◌, Bool, true, false, List, [], ◌∷◌, ◌++◌, length, Option, Some, None, encode_utf8}
 use Rattle.std.specs.List.{list_all}
 use Rattle.line_buffer.specs.Printable.{is_printable, is_plain, at_plain_end, is_typed_at_end}
+use Rattle.line_editor.specs.Characters.{stands_apart}
 use Rattle.line_editor.specs.RenderCalls.{Marks}
 use Rattle.line_editor.specs.Redraws.{Redraw, info_text}
-use Rattle.line_editor.specs.Redraws.Redraw.{Drawn, Moved, Typed, Taken, PutIn, TakenOut, Bared, ToEnd, Beeped, Cleared}
+use Rattle.line_editor.specs.Redraws.Redraw.{Drawn, Moved, Typed, Appended, Taken, Erased, PutIn, TakenOut, Bared, ToEnd, Beeped, Cleared}
 use Rattle.line_editor.specs.Values.{Value, Setting, EditStep, shown_marks}
 use Rattle.line_editor.specs.Values.EditStep.{Draws}
 use Rattle.line_help.specs.Paints.{first_mark}
@@ -72,7 +73,9 @@ sight_drawn x marks (Drawn prompt given text place info) =
     sight_with marks given prompt text place info
 sight_drawn x marks (Moved text place) = record x { place = place; ended = false }
 sight_drawn x marks (Typed prompt c text place) = sight_as marks prompt text place None
+sight_drawn x marks (Appended prompt c text place) = sight_as marks prompt text place None
 sight_drawn x marks (Taken prompt count text place) = sight_as marks prompt text place None
+sight_drawn x marks (Erased prompt c text place) = sight_as marks prompt text place None
 sight_drawn x marks (PutIn prompt c text place) = sight_as marks prompt text place None
 sight_drawn x marks (TakenOut prompt count text place) = sight_as marks prompt text place None
 sight_drawn x marks (Bared prompt text place) = x
@@ -98,6 +101,15 @@ pub record TypedFits (x : Sight) (prompt : List ℕ) (c : ℕ) (text : List ℕ)
   pub text_is : text ≡ x.line ++ c ∷ []
   pub behind : place ≡ x.place + 1
 
+-- a character apart from the line at whose end it is typed
+pub record AppendedFits (x : Sight) (prompt : List ℕ) (c : ℕ) (text : List ℕ)
+    (place : ℕ) : Type 0 where
+  pub at : x.place ≡ length x.line
+  pub apart : stands_apart x.line c ≡ true
+  pub prompt_is : prompt ≡ x.prompt
+  pub text_is : text ≡ x.line ++ encode_utf8 c
+  pub behind : place ≡ length (x.line ++ encode_utf8 c)
+
 pub record TakenFits (x : Sight) (prompt : List ℕ) (count : ℕ) (text : List ℕ)
     (place : ℕ) : Type 0 where
   pub killed : List ℕ
@@ -105,6 +117,14 @@ pub record TakenFits (x : Sight) (prompt : List ℕ) (count : ℕ) (text : List 
   pub count_is : count ≡ length killed
   pub end : at_plain_end text place ≡ true
   pub printable : list_all is_printable killed ≡ true
+  pub prompt_is : prompt ≡ x.prompt
+
+-- a character apart from what is left of the line, deleted at its end
+pub record ErasedFits (x : Sight) (prompt : List ℕ) (c : ℕ) (text : List ℕ)
+    (place : ℕ) : Type 0 where
+  pub whole : x.line ≡ text ++ encode_utf8 c
+  pub apart : stands_apart text c ≡ true
+  pub end : place ≡ length text
   pub prompt_is : prompt ≡ x.prompt
 
 -- a character put at the cursor
@@ -140,8 +160,14 @@ FitsDrawn own x marks (Moved text place) = text ≡ x.line
 FitsDrawn own x marks (Typed prompt c text place) =
     (x.given ≡ true) × (prompt ≡ own) × (x.ended ≡ false) × TypedFits x prompt c text place
     × SameStyles x marks prompt text place
+FitsDrawn own x marks (Appended prompt c text place) =
+    (x.given ≡ true) × (prompt ≡ own) × (x.ended ≡ false) × AppendedFits x prompt c text place
+    × SameStyles x marks prompt text place
 FitsDrawn own x marks (Taken prompt count text place) =
     (x.given ≡ true) × (prompt ≡ own) × TakenFits x prompt count text place
+    × SameStyles x marks prompt text place
+FitsDrawn own x marks (Erased prompt c text place) =
+    (x.given ≡ true) × (prompt ≡ own) × ErasedFits x prompt c text place
     × SameStyles x marks prompt text place
 FitsDrawn own x marks (PutIn prompt c text place) =
     (x.given ≡ true) × (prompt ≡ own) × (x.ended ≡ false) × PutInFits x prompt c text place
@@ -174,7 +200,9 @@ pub record Turns (own : List ℕ) (x : Sight) (rs : List EditStep) (y : Sight) :
 abbrev pub info_drawn : Option (List ℕ) → Redraw → Option (List ℕ)
 info_drawn info (Drawn prompt given text place new) = new
 info_drawn info (Typed prompt c text place) = None
+info_drawn info (Appended prompt c text place) = None
 info_drawn info (Taken prompt count text place) = None
+info_drawn info (Erased prompt c text place) = None
 info_drawn info (PutIn prompt c text place) = None
 info_drawn info (TakenOut prompt count text place) = None
 info_drawn info Cleared = None

@@ -101,8 +101,8 @@ pub record Effect : Type 0 where
 abbrev pub Transition : Type 0
 Transition = Setting → Value → Effect
 
--- what a drawing takes of a highlighter's styles: those of the line only if it is marked, and those of
--- a message in place of a hint's if a message is drawn
+-- what a drawing takes of a highlighter's styles: those of the line only if it is marked, and those
+-- of a message in place of a hint's if a message is drawn
 abbrev pub seen_paints : Bool → Bool → (Part → List ℕ → Mark → List Span) → Part → List ℕ → Mark
     → List Span
 seen_paints marked told paints (OfLine pos) text from =

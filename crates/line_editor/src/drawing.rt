@@ -1,15 +1,15 @@
 //! Draws a state.
-ghost use Rattle.std.specs.Prelude.{◌≡◌, ◌+◌, ◌<◌, ◌≤◌, Some, None, is_some, not, if◌then◌else◌, IfOk, IsTrue, option_map, option_copied};
+ghost use Rattle.std.specs.Prelude.{◌≡◌, ◌+◌, ◌<◌, ◌≤◌, ◌==◌, encode_utf8, Some, None, is_some, not, if◌then◌else◌, IfOk, IsTrue, option_map, option_copied};
 ghost use Rattle.line_buffer.specs.Cells.{origin};
 ghost use Rattle.line_editor.specs.RenderCalls.{Makes};
 ghost use Rattle.line_editor.specs.RenderCalls.Call.{Draw};
 ghost use Rattle.line_editor.specs.Values.{hooks_by, is_marked_by, marks_seen};
-ghost use Rattle.line_editor.specs.Redraws.{layout_of, may_type, may_take, may_put_in, may_take_out};
+ghost use Rattle.line_editor.specs.Redraws.{layout_of, may_type, may_take, may_erase, may_put_in, may_take_out};
 
 use crate::faults::error_of;
 use crate::renderer::{RefreshKind, Renderer};
 use crate::state::State;
-use line_buffer::{Layout, LineBuffer, Position};
+use line_buffer::{Layout, LineBuffer, Position, Unit};
 use line_config::ReadlineError;
 use line_help::{Helper, Highlighter, Hint, Hinter, History};
 use line_keys::CmdKind;
@@ -73,6 +73,17 @@ fn may_take(layout: &Layout, count: usize) -> bool
     ensures room { IsTrue result → count ≤ layout.now.end.col }
 {
     !layout.has_info && layout.cursor.row == layout.end.row && count <= usize::from(layout.end.col)
+}
+
+/// The columns of a character's own drawing from a row's start, if it leaves the row's end free.
+fn columns_of<Out: Renderer>(out: &Out, ch: char) -> Option<Unit>
+    ensures { let end = (Out.canvas.ruler out.now).measure (encode_utf8 ch) origin in
+        result ≡ (if end.row == 0 then Some end.col else None) }
+{
+    let mut bytes = [0u8; 4];
+    let text = ch.encode_utf8(&mut bytes);
+    let end = out.calculate_position(text, Position { col: 0, row: 0 });
+    if end.row == 0 { Some(end.col) } else { None }
 }
 
 /// Whether nothing is shown after the line, and one more cell fits in the row of its end, where
@@ -160,7 +171,7 @@ impl<'p, 'h, Out: Renderer, H: Helper + Drop, Hi: History> State<'p, 'h, Out, H,
     ghost use Rattle.line_editor.specs.Drawing.{draw_effect_behind, draw_effect_with, repaint_effect, refresh_effect, refresh_effect_behind, message_effect, cursor_shown, cursor_moved, cursor_end_effect, beep_effect, clear_effect, clear_and_draw_effect};
     ghost use Rattle.line_editor.specs.Drawing.{hint_asked, ask_anew_effect};
     ghost use Rattle.line_editor.specs.Values.{draw_effect};
-    ghost use Rattle.line_editor.specs.Redraws.Redraw.{Typed, Taken, PutIn, TakenOut, Bared};
+    ghost use Rattle.line_editor.specs.Redraws.Redraw.{Typed, Appended, Taken, Erased, PutIn, TakenOut, Bared};
     ghost use Rattle.line_editor.specs.RenderCalls.Call.{ToLeftmost};
     ghost use Rattle.line_keys.specs.declared.command.CmdKind.TheVariants.{Other};
 
@@ -394,6 +405,24 @@ impl<'p, 'h, Out: Renderer, H: Helper + Drop, Hi: History> State<'p, 'h, Out, H,
         self.draw_with(None)
     }
 
+    /// Shows a character typed at the end of a line, apart from it, by its own drawing, if nothing
+    /// is shown after the line.
+    pub(crate) fn show_appended(&mut self, ch: char) -> Result<(), ReadlineError>
+        ensures { Renders (λ s v. draw_effect
+            (Appended s.prompt ch v.line.text v.line.place) s v)
+            self.old self.new result }
+    {
+        if self.layout.has_info {
+            return self.draw_with(None);
+        }
+        let mut bytes = [0u8; 4];
+        let text = ch.encode_utf8(&mut bytes);
+        let end = self.out.append_text(text, self.layout.cursor)?;
+        self.layout.cursor = end;
+        self.layout.end = end;
+        Ok(())
+    }
+
     /// Shows that `count` characters were deleted at the end. It erases the rest of the row, if
     /// they were in it and nothing is shown after them.
     pub(crate) fn show_short_taken(&mut self, count: usize) -> Result<(), ReadlineError>
@@ -413,8 +442,31 @@ impl<'p, 'h, Out: Renderer, H: Helper + Drop, Hi: History> State<'p, 'h, Out, H,
         self.draw_with(None)
     }
 
-    /// Shows a character put into a plain line: in its row, if one more fits there and nothing is shown
-    /// after the line.
+    /// Shows that a character was deleted at the end, apart from what is left. It erases the
+    /// character's cells, if nothing is shown after them and others are before them in their row.
+    pub(crate) fn show_erased(&mut self, ch: char) -> Result<(), ReadlineError>
+        ensures { Renders (λ s v. draw_effect
+            (Erased s.prompt ch v.line.text v.line.place) s v)
+            self.old self.new result }
+    {
+        let end = self.layout.end;
+        match columns_of(&self.out, ch) {
+            Some(width) if !self.layout.has_info && width < end.col => {
+                let to = Position {
+                    col: end.col - width,
+                    row: end.row,
+                };
+                self.out.move_and_clear_to_eol(self.layout.cursor, to)?;
+                self.layout.cursor = to;
+                self.layout.end = to;
+                Ok(())
+            }
+            _ => self.draw_with(None),
+        }
+    }
+
+    /// Shows a character put into a plain line: in its row, if one more fits there and nothing is
+    /// shown after the line.
     pub(crate) fn show_put_in(&mut self, ch: char) -> Result<(), ReadlineError>
         ensures { Renders (λ s v. draw_effect (PutIn s.prompt ch v.line.text v.line.place) s v)
             self.old self.new result }

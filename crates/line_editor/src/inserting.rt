@@ -1,7 +1,9 @@
 //! Inserts characters and texts.
 ghost use Rattle.std.specs.Prelude.{◌≡◌, is_some};
 ghost use Rattle.line_buffer.specs.Printable.{at_plain_end, at_simple_end};
+ghost use Rattle.line_editor.specs.Characters.{stands_apart};
 
+use crate::characters::stands_apart;
 use crate::measured::known_within;
 use crate::renderer::Renderer;
 use crate::state::State;
@@ -13,7 +15,7 @@ use line_help::{Helper, History};
 #[tactic(auto, using(crate::proofs::StopsLemmas::edits_stop))]
 impl<'p, 'h, Out: Renderer, H: Helper + Drop, Hi: History> State<'p, 'h, Out, H, Hi> {
     ghost use Rattle.line_editor.specs.States.{value_of, setting_of, Does};
-    ghost use Rattle.line_editor.specs.Inserting.{is_bare, may_be_typed, may_be_put_in, insertion_way, way_if_bare, show_inserted_effect, insert_char, insert_text, replace_char, overwrite_char};
+    ghost use Rattle.line_editor.specs.Inserting.{is_bare, may_be_typed, may_be_appended, may_be_put_in, insertion_way, way_if_bare, show_inserted_effect, insert_char, insert_text, replace_char, overwrite_char};
 
     /// Whether neither a hint nor a highlighted character is shown.
     pub(crate) fn is_bare(&self) -> bool
@@ -48,6 +50,26 @@ impl<'p, 'h, Out: Renderer, H: Helper + Drop, Hi: History> State<'p, 'h, Out, H,
         n == 1 && (self.is_bare() && (is_printable(ch) && self.is_at_simple_end()))
     }
 
+    /// Whether a character stands apart from the line's end. The end of a plain line isn't
+    /// examined.
+    fn is_apart_from_end(&self, ch: char) -> bool
+        ensures { result ≡ stands_apart self.now.recorded.line.text ch }
+    {
+        self.recorded.plain && is_printable(ch) || stands_apart(self.recorded.line.as_str(), ch)
+    }
+
+    /// Whether a character's own drawing alone may show it: a single character, typed apart from a
+    /// bare line at whose end the cursor is, if lines may be drawn in part.
+    fn may_be_appended(&self, ch: char, n: RepeatCount) -> bool
+        ensures { result ≡ may_be_appended (setting_of self.now).config.partial_redraw ch n
+            (value_of self.now) }
+    {
+        self.config.partial_redraw()
+            && (n == 1
+                && (self.is_bare()
+                    && (self.recorded.line.is_cursor_at_end() && self.is_apart_from_end(ch))))
+    }
+
     /// Whether a character may be shown in its row: a single printable character, put before the
     /// end of a line that is bare and plain, if lines may be drawn in part.
     fn may_be_put_in(&self, ch: char, n: RepeatCount) -> bool
@@ -66,7 +88,9 @@ impl<'p, 'h, Out: Renderer, H: Helper + Drop, Hi: History> State<'p, 'h, Out, H,
     fn insertion_way(&self, ch: char, n: RepeatCount) -> Way
         ensures { result ≡ insertion_way (setting_of self.now) ch n (value_of self.now) }
     {
-        if self.may_be_typed(ch, n) {
+        if self.may_be_appended(ch, n) {
+            Way::Alone
+        } else if self.may_be_typed(ch, n) {
             Way::AtEnd
         } else if self.may_be_put_in(ch, n) {
             Way::InRow
@@ -89,8 +113,9 @@ impl<'p, 'h, Out: Renderer, H: Helper + Drop, Hi: History> State<'p, 'h, Out, H,
         self.ask_anew()?;
         match self.way_if_bare(way) {
             Way::AtEnd => self.show_short_typed(ch),
+            Way::Alone => self.show_appended(ch),
             Way::InRow => self.show_put_in(ch),
-            Way::Whole => {
+            Way::Back(_) | Way::Whole => {
                 let prompt = self.prompt;
                 self.draw(prompt, true)
             }

@@ -4,8 +4,9 @@ ghost use Rattle.line_buffer.specs.Range.{IsSpanOf, copied_range, deletion_line}
 ghost use Rattle.line_config.specs.declared.errors.ReadlineError.{ReadlineError};
 ghost use Rattle.line_edits.specs.Edits.{ring_without_kill};
 ghost use Rattle.line_buffer.specs.Printable.{at_plain_end};
-ghost use Rattle.line_editor.specs.declared.way.Way.TheVariants.{AtEnd, InRow, Whole};
+ghost use Rattle.line_editor.specs.declared.way.Way.TheVariants.{AtEnd, InRow};
 
+use crate::characters::{last_char, stands_apart};
 use crate::measured::known_within;
 use crate::renderer::Renderer;
 use crate::state::State;
@@ -19,7 +20,7 @@ use line_record::KillRing;
 #[tactic(auto, using(crate::proofs::StopsLemmas::edits_stop))]
 impl<'p, 'h, Out: Renderer, H: Helper + Drop, Hi: History> State<'p, 'h, Out, H, Hi> {
     ghost use Rattle.line_editor.specs.States.{value_of, setting_of, Does, Stays};
-    ghost use Rattle.line_editor.specs.Killing.{may_be_taken, may_be_taken_out, show_killed_effect, kill_way, kill_effect, insert_text_if, replace, ring_with_kill_of, ring_with_copy};
+    ghost use Rattle.line_editor.specs.Killing.{may_be_taken, may_be_taken_out, last_of_bare, way_erased, show_killed_effect, kill_way, kill_effect, insert_text_if, replace, ring_with_kill_of, ring_with_copy};
 
     /// Whether erasing the rest of the row may show the kill of a range: printable characters,
     /// deleted from a bare line.
@@ -41,32 +42,62 @@ impl<'p, 'h, Out: Renderer, H: Helper + Drop, Hi: History> State<'p, 'h, Out, H,
         self.config.partial_redraw() && (self.is_bare() && self.recorded.plain)
     }
 
+    /// The last character of a bare line, if lines may be drawn in part.
+    fn last_of_bare(&self) -> Option<char>
+        ensures { result ≡ last_of_bare (setting_of self.now).config.partial_redraw
+            (value_of self.now) }
+    {
+        if self.config.partial_redraw() && self.is_bare() {
+            last_char(self.recorded.line.as_str())
+        } else {
+            None
+        }
+    }
+
+    /// Whether erasing the cells of the line's last character may show a kill of `count` bytes that
+    /// left this line.
+    fn way_erased(&self, last: Option<char>, count: usize) -> Way
+        ensures { result ≡ way_erased count self.now.recorded.line last }
+    {
+        let line = &self.recorded.line;
+        match last {
+            Some(ch)
+                if line.is_cursor_at_end()
+                    && (count == ch.len_utf8() && stands_apart(line.as_str(), ch)) => {
+                Way::Back(ch)
+            }
+            _ => Way::Whole,
+        }
+    }
+
     /// How a kill of `count` bytes may be shown that left this line: `alone` and `in_row` say what
-    /// its text and the line before allow.
-    fn kill_way(&self, alone: bool, in_row: bool, count: usize) -> Way
+    /// its text and the line before allow, whose last character is `last`.
+    fn kill_way(&self, alone: bool, in_row: bool, last: Option<char>, count: usize) -> Way
         ensures { let line = self.now.recorded.line in
             result ≡ (if alone && at_plain_end line.text line.place then AtEnd
             else if in_row && (nat_lt 0 count && nat_lt line.place (length line.text)) then InRow
-            else Whole) }
+            else way_erased count line last) }
     {
         if alone && self.is_at_plain_end() {
             Way::AtEnd
         } else if in_row && (0 < count && self.recorded.line.pos() < self.recorded.line.len()) {
             Way::InRow
         } else {
-            Way::Whole
+            self.way_erased(last, count)
         }
     }
 
-    /// Shows that `count` bytes were killed in this way, if the line is still bare, with a new hint.
+    /// Shows that `count` bytes were killed in this way, if the line is still bare, with a new
+    /// hint.
     fn show_killed(&mut self, count: usize, way: Way) -> Result<(), ReadlineError>
         ensures does { Does (show_killed_effect count way) self.old self.new result }
     {
         self.ask_anew()?;
         match self.way_if_bare(way) {
             Way::AtEnd => self.show_short_taken(count),
+            Way::Back(ch) => self.show_erased(ch),
             Way::InRow => self.show_taken_out(count),
-            Way::Whole => {
+            Way::Alone | Way::Whole => {
                 let prompt = self.prompt;
                 self.draw(prompt, true)
             }
@@ -94,6 +125,7 @@ impl<'p, 'h, Out: Renderer, H: Helper + Drop, Hi: History> State<'p, 'h, Out, H,
         let span = self.recorded.line.range_of(movement);
         let alone = self.may_be_taken(span);
         let in_row = self.may_be_taken_out();
+        let last = self.last_of_bare();
         let before = self.recorded.line.len();
         let known = self.known_before(movement);
         self.known = None;
@@ -103,7 +135,7 @@ impl<'p, 'h, Out: Renderer, H: Helper + Drop, Hi: History> State<'p, 'h, Out, H,
             return Ok(());
         }
         let count = before - self.recorded.line.len();
-        let way = self.kill_way(alone, in_row, count);
+        let way = self.kill_way(alone, in_row, last, count);
         self.show_killed(count, way)
     }
 

@@ -32,9 +32,9 @@ pub fn turn_leads()
     ensures { EachTurnLeads }
 {}
 
-/// Whatever the input is, the requests of a line lead, drawing after drawing, from a display without
-/// the line. At the begin of each turn its value is shown. An accepted line leaves the cursor at the
-/// end of its drawing.
+/// Whatever the input is, the requests of a line lead, drawing after drawing, from a display
+/// without the line. At the begin of each turn its value is shown. An accepted line leaves the
+/// cursor at the end of its drawing.
 pub fn lines_lead()
     ensures { LinesLead }
 {}

@@ -4,6 +4,7 @@
 
 mod accepting;
 mod candidates;
+pub mod characters;
 pub mod commands;
 mod completing;
 mod drawing;

@@ -30,8 +30,11 @@ impl<'p, 'h, Out: Renderer, H: Helper + Drop, Hi: History> State<'p, 'h, Out, H,
         let text = self.recorded.line.as_str();
         let start = self.layout.prompt_size;
         match self.known {
-            Some(known) if self.recorded.plain => self.out.position_from(text, start, known, place),
-            _ => self.out.calculate_position(&text[..place], start),
+            Some(known) => {
+                let plain = self.recorded.plain;
+                self.out.position_from(text, start, known, place, plain)
+            }
+            None => self.out.calculate_position(&text[..place], start),
         }
     }
 

@@ -1,10 +1,10 @@
 //! The trait of renderers.
-ghost use Rattle.std.specs.Prelude.{◌≡◌, true, take, Some, OnErr, IfErr, IsTrue, IsCharBoundary, option_copied, option_map};
+ghost use Rattle.std.specs.Prelude.{◌≡◌, true, take, Some, OnErr, IfOk, IfErr, IsTrue, IsCharBoundary, option_copied, option_map};
 ghost use Rattle.line_buffer.specs.Printable.{is_plain};
 ghost use Rattle.line_editor.specs.KnownPlaces.{IsKnown};
 ghost use Rattle.line_config.specs.declared.errors.ReadlineError.TheVariants.{Display};
 ghost use Rattle.line_editor.specs.RenderCalls.{Canvas, Makes, Idles};
-ghost use Rattle.line_editor.specs.RenderCalls.Call.{Draw, Move, Write, Beep, ClearScreen, ClearRows, ClearToEol, MoveAndClearToEol, InsertChar, MoveAndDelete, ToLeftmost};
+ghost use Rattle.line_editor.specs.RenderCalls.Call.{Draw, Move, Write, Beep, ClearScreen, ClearRows, ClearToEol, MoveAndClearToEol, InsertChar, MoveAndDelete, Append, ToLeftmost};
 ghost use Rattle.line_editor.specs.Redraws.{layout_of};
 ghost use Rattle.line_editor.specs.Values.{marks_seen};
 
@@ -91,6 +91,12 @@ pub trait Renderer: Drop {
     ) -> Result<(), ReadlineError>
         ensures { Makes canvas (MoveAndDelete old new count) self.old self.new result };
 
+    /// Draws a text behind what is drawn, whose end is at `at`, with the cursor there. Returns
+    /// where the drawing ends then.
+    fn append_text(&mut self, text: &str, at: Position) -> Result<Position, ReadlineError>
+        ensures makes { Makes canvas (Append text.now at) self.old self.new result }
+        ensures end { IfOk result (λ end. end ≡ (canvas.ruler self.old).measure text.now at) };
+
     /// Moves the cursor to the first cell of its row, if the display left it elsewhere.
     fn move_cursor_at_leftmost(&mut self) -> Result<(), ReadlineError>
         ensures { Makes canvas ToLeftmost self.old self.new result };
@@ -139,16 +145,17 @@ pub trait Renderer: Drop {
     fn calculate_position(&self, text: &str, orig: Position) -> Position
         ensures { result ≡ (canvas.ruler self.now).measure text.now orig };
 
-    /// Where the drawing of a plain text up to a place ends, computed from a place for which this
-    /// is known.
+    /// Where the drawing of a text up to a place ends, computed from a place for which this is
+    /// known, if the text is `plain` or a character apart from those before it is between the two.
     fn position_from(
         &self,
         text: &str,
         start: Position,
         known: (usize, Position),
         place: usize,
+        plain: bool,
     ) -> Position
-        requires plain { is_plain text.now ≡ true }
+        requires plain { plain ≡ is_plain text.now }
         requires known { IsKnown (canvas.ruler self.now).measure start text.now (Some known) }
         requires boundary { IsCharBoundary text.now place }
         ensures { result ≡ (canvas.ruler self.now).measure (take place text.now) start }

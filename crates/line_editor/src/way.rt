@@ -5,6 +5,10 @@
 pub enum Way {
     /// At the end of the line, by a byte alone or by an erasure.
     AtEnd,
+    /// At the end of the line, by the drawing of the new character alone.
+    Alone,
+    /// At the end of the line, by erasing the cells of this character alone.
+    Back(char),
     /// In its row: the rest of the row moves.
     InRow,
     /// By a whole drawing.

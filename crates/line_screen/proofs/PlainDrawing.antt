@@ -57,6 +57,10 @@ module _ (wide : Widths) where
 -- ---- whole drawings
 
 module _ (columns : ℕ) (wide : Widths) where
+  pub plain_text : (text : List ℕ) (col : ℕ) → bytes_of_all_painted columns (painted_text wide [] text) col ≡ bytes_of_items columns (text_items wide text) col
+  plain_text text col =
+      bare_sent columns (painted_text wide [] text) col (rows_bare wide (split_rows text)) ∙ ap (λ is. bytes_of_items columns is col) (text_unpainted wide [] text refl)
+
   abbrev three : (first second third : List ℕ) → List ℕ
   three a b c = no_style ++ a ++ no_style ++ b ++ no_style ++ c ++ no_style
 

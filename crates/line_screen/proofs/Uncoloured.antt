@@ -4,7 +4,7 @@ use Rattle.std.specs.List.{list_all, flat_map, FoldsTo}
 use Rattle.std.proofs.lemmas.Bool.{and_parts, false≢true}
 use Rattle.std.proofs.lemmas.Bool.Decides.{nat_tests}
 use Rattle.std.proofs.lemmas.Fmt.{decimal_by_steps}
-use Rattle.line_buffer.specs.Cells.{same_cell}
+use Rattle.line_buffer.specs.Cells.{origin, same_cell}
 use Rattle.line_buffer.specs.Printable.{is_printable, at_simple_end}
 use Rattle.line_buffer.specs.Tabs.{tab_width}
 use Rattle.line_buffer.specs.declared.layout.GraphemeClusterMode.{GraphemeClusterMode}
@@ -13,9 +13,9 @@ use Rattle.line_buffer.specs.declared.layout.Position.{Position}
 use Rattle.line_config.specs.declared.settings.BellStyle.{BellStyle}
 use Rattle.line_config.specs.declared.settings.BellStyle.TheVariants as Bells
 use Rattle.line_editor.specs.RenderCalls.{Call, Ruler}
-use Rattle.line_editor.specs.RenderCalls.Call.{Draw, Move, Write, Beep, ClearScreen, ClearRows, ClearToEol, MoveAndClearToEol, InsertChar, MoveAndDelete, ToLeftmost, Help}
-use Rattle.line_editor.specs.Redraws.{Redraw, RedrawCalls, calls_of_redraw, full, info_text, may_type, may_take, may_put_in, may_take_out, move_call, nothing_asked, char_call, erase_call, put_in_short, taken_out_short}
-use Rattle.line_editor.specs.Redraws.Redraw.{Drawn, Moved, Typed, Taken, PutIn, TakenOut, Bared, ToEnd, Beeped, Cleared}
+use Rattle.line_editor.specs.RenderCalls.Call.{Draw, Move, Write, Beep, ClearScreen, ClearRows, ClearToEol, MoveAndClearToEol, InsertChar, MoveAndDelete, Append, ToLeftmost, Help}
+use Rattle.line_editor.specs.Redraws.{Redraw, RedrawCalls, calls_of_redraw, full, info_text, may_type, may_take, may_erase, may_put_in, may_take_out, move_call, nothing_asked, char_call, append_call, erase_call, put_in_short, taken_out_short}
+use Rattle.line_editor.specs.Redraws.Redraw.{Drawn, Moved, Typed, Appended, Taken, Erased, PutIn, TakenOut, Bared, ToEnd, Beeped, Cleared}
 use Rattle.line_editor.specs.Values.{shown_marks}
 use Rattle.line_screen.specs.ScreenCalls.{Screen, bytes_of, bell_bytes, old_row, drawing_bytes, ruler_of}
 use Rattle.line_screen.specs.Chain.{View, Good, Inside, Replaces, LeadsView, TakesOut, finish_of}
@@ -25,7 +25,7 @@ use Rattle.line_screen.specs.Display.{Placed, is_text}
 use Rattle.line_screen.specs.Drawing.{DrawnItem, Widths, blanks, text_items, no_style, break_if, break_unless, fitted_col, cluster_in_fence, bytes_of_item, col_after_one, bytes_of_items, col_after, control_sequence, erase_to_end, erase_to_row_end, open_cell, take_cells_out, row_move, col_move, move_bytes, clearing_bytes, shown_text, drawing}
 use Rattle.line_screen.specs.Drawing.DrawnItem.{NewRow, Letter, Cluster, Tab}
 use Rattle.line_screen.specs.Laws.{widths}
-use Rattle.line_screen.specs.Measure.{cluster_width, widths_by}
+use Rattle.line_screen.specs.Measure.{cluster_width, widths_by, in_row}
 use Rattle.line_screen.proofs.Standing.{printable_text}
 use Rattle.line_screen.proofs.Draws.{Fits, AllFit}
 use Rattle.line_screen.proofs.Fitting.{items_fit}
@@ -252,6 +252,7 @@ call_free s some few a b (InsertChar c) here h plain = free_then open_cell (enco
 call_free s some few a b (MoveAndDelete old new count) here h plain =
     free_then (move_bytes old new) (take_cells_out count) (move_free s.mode s.tab s.columns some few old new (subst (Inside s.columns) (sym h.1.old_is) here) h.1.inside)
     (control_free count 0x50 (cut_small s few h.0 b count h.2) refl)
+call_free s some few a b (Append text at) here h plain = part_free s.mode s.tab s.columns some few text (in_row s.columns at).col
 call_free s some few a b ToLeftmost here h plain = refl
 call_free s some few a b (Help fails) here h plain = refl
 
@@ -279,7 +280,9 @@ asked_plain : (r : Ruler) (l : Layout) (x : Redraw) → all_plain (calls_of_redr
 asked_plain r l (Drawn prompt given text place info) = refl
 asked_plain r l (Moved text place) = let cursor = r.measure (take place text) l.prompt_size in either_plain (same_cell l.cursor cursor) (nothing_asked l) (move_call l cursor) refl refl
 asked_plain r l (Typed prompt c text place) = either_plain (may_type r l) (char_call l c) (full r None l prompt true text place None) refl refl
+asked_plain r l (Appended prompt c text place) = either_plain l.has_info (full r None l prompt true text place None) (append_call r l c) refl refl
 asked_plain r l (Taken prompt count text place) = either_plain (may_take l count) (erase_call l count) (full r None l prompt true text place None) refl refl
+asked_plain r l (Erased prompt c text place) = either_plain (may_erase r l c) (erase_call l (r.measure (encode_utf8 c) origin).col) (full r None l prompt true text place None) refl refl
 asked_plain r l (PutIn prompt c text place) = either_plain (may_put_in r l) (put_in_short l c) (full r None l prompt true text place None) refl refl
 asked_plain r l (TakenOut prompt count text place) =
     let at = r.measure (take place text) l.prompt_size in either_plain (may_take_out l at count) (taken_out_short l at count) (full r None l prompt true text place None) refl refl

@@ -229,7 +229,8 @@ paints_by None part text from = []
 paints_by (Some m) part text from = m.paints part text from
 
 abbrev pub brush_paints : {H : Type 0} → (H → Marks) → brush.Brush H → Mark → List span.Span
-brush_paints marks b from = paints_by (option_map marks (option_copied b.highlighter)) b.part b.text.now from
+brush_paints marks b from =
+    paints_by (option_map marks (option_copied b.highlighter)) b.part b.text.now from
 
 abbrev pub all_spans : (Mark → List span.Span) → List SgrSpan
 all_spans paints = map span_of (paints first_mark)

@@ -177,7 +177,8 @@ cell_opened columns d =
     }) []
     else Lost
 
--- the first `count` cells of the rest of the row go, and what follows them goes that far to the left
+-- the first `count` cells of the rest of the row go, and what follows them goes that far to the
+-- left
 abbrev pub is_taken_out : ℕ → Position → Placed → Bool
 is_taken_out count at p = is_in_rest at p && not (is_in_rest (right count at) p)
 

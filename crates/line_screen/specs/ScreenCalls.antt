@@ -9,13 +9,13 @@ use Rattle.line_config.specs.Sending.{Takes, TakesSome}
 use Rattle.line_config.specs.declared.settings.BellStyle.{BellStyle}
 use Rattle.line_config.specs.declared.settings.BellStyle.TheVariants.{Audible}
 use Rattle.line_editor.specs.RenderCalls.{Call, Canvas, Ruler}
-use Rattle.line_editor.specs.RenderCalls.Call.{Draw, Move, Write, Beep, ClearScreen, ClearRows, ClearToEol, MoveAndClearToEol, InsertChar, MoveAndDelete}
+use Rattle.line_editor.specs.RenderCalls.Call.{Draw, Move, Write, Beep, ClearScreen, ClearRows, ClearToEol, MoveAndClearToEol, InsertChar, MoveAndDelete, Append}
 use Rattle.line_editor.specs.Redraws.{info_text}
-use Rattle.line_screen.specs.Drawing.{Widths, drawing, full_drawing, clearing_bytes, move_bytes, erase_to_end, erase_to_row_end, go_home, open_cell, take_cells_out}
+use Rattle.line_screen.specs.Drawing.{Widths, text_items, bytes_of_items, drawing, full_drawing, clearing_bytes, move_bytes, erase_to_end, erase_to_row_end, go_home, open_cell, take_cells_out}
 use Rattle.line_editor.specs.Sights.{PartSpans, spans_by}
 use Rattle.line_help.specs.Paints.{Marks}
 use Rattle.line_screen.specs.Colours.{Styles, span_of, painted_bytes}
-use Rattle.line_screen.specs.Measure.{widths_by, measure_of}
+use Rattle.line_screen.specs.Measure.{widths_by, measure_of, in_row}
 use Rattle.line_screen.specs.declared.renderer.ScreenRenderer.{ScreenRenderer}
 use Rattle.script.specs.Scripts.{World, Goes}
 use Rattle.line_keys.specs.CustomBindings.{Custom}
@@ -101,6 +101,9 @@ bytes_of s ClearToEol = erase_to_row_end
 bytes_of s (MoveAndClearToEol old new) = move_bytes old new ++ erase_to_row_end
 bytes_of s (InsertChar c) = open_cell ++ encode_utf8 c
 bytes_of s (MoveAndDelete old new count) = move_bytes old new ++ take_cells_out count
+bytes_of s (Append text at) =
+    bytes_of_items s.columns (text_items (widths_by s.mode s.tab s.columns) text)
+    (in_row s.columns at).col
 bytes_of s call = []
 
 -- a failed device becomes the display's error

@@ -55,7 +55,8 @@ is_terminal Terminal = true
 is_terminal c = false
 
 abbrev pub is_plain_style : Style → Bool
-is_plain_style s = (not s.bold && (not s.faint && (not s.italic && (not s.underline && not s.reverse))))
+is_plain_style s =
+    (not s.bold && (not s.faint && (not s.italic && (not s.underline && not s.reverse))))
     && (is_terminal s.text && is_terminal s.background)
 
 -- the number of a flag; nothing for 0

@@ -2,7 +2,7 @@
 
 ghost use Rattle.line_screen.specs.Input.{EncodedCharsAreRead, CharsAreEncoded};
 ghost use Rattle.line_screen.specs.KeyGrammar.{WholeKeysStay, PastedTextIsBeforeItsMark, PastedTextIsCutOff, ControlIsOneKey};
-ghost use Rattle.line_screen.specs.Laws.{TypingLeads, KillingLeads, PuttingInLeads, TakingOutLeads, FullDrawingShows, PlainDrawingsAreDrawings, StartIsEmpty, CallsLead, ChainsLead, PlaceIsFree, LineEndsAnywhere, EndedLineStays, MeasuresGoOn, ShownIsMeant, CellsAreShown};
+ghost use Rattle.line_screen.specs.Laws.{TypingLeads, AppendingLeads, KillingLeads, ErasingLeads, PuttingInLeads, TakingOutLeads, FullDrawingShows, PlainDrawingsAreDrawings, StartIsEmpty, CallsLead, ChainsLead, PlaceIsFree, LineEndsAnywhere, EndedLineStays, MeasuresGoOn, ShownIsMeant, CellsAreShown};
 ghost use Rattle.line_screen.specs.ScreenCalls.{ReadsFindNothingWaiting};
 ghost use Rattle.line_screen.specs.ColourLaws.{ColoursStand, NumbersAreStyles, Uncoloured};
 
@@ -42,7 +42,8 @@ pub fn start()
 
 /// Each call leads from a display that shows one view to one that shows the next, if it is allowed
 /// there. The calls are a drawing, a move, the insertion of one byte, the erasure of a row's end, a
-/// character put into a row, characters taken out of one, a beep, a clearing and CR LF.
+/// character put into a row, characters taken out of one, a text drawn behind the others, a beep, a
+/// clearing and CR LF.
 pub fn calls()
     ensures { CallsLead }
 {}
@@ -59,10 +60,21 @@ pub fn short_insertions()
     ensures { TypingLeads }
 {}
 
+/// If the editor draws only a character typed apart from the line's end, this leads to the line
+/// with it, and cursor and end are where the character's own drawing ends.
+pub fn appended_characters()
+    ensures { AppendingLeads }
+{}
+
 /// If the editor deletes a line's end by a move and the erasure of the row's end, this leads to the
 /// line without it.
 pub fn short_kills()
     ensures { KillingLeads }
+{}
+
+/// The same of a character apart from the line, deleted at its end by the erasure of its cells.
+pub fn erased_characters()
+    ensures { ErasingLeads }
 {}
 
 /// If the editor puts a character into its row, this leads to the line with it. Cursor and end go

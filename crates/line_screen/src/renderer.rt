@@ -10,9 +10,9 @@ use crate::drawing::painted::Brush;
 use crate::drawing::sequences::{
     clear, go, move_and_erase, move_and_take_out, put_in_row, send_flushed,
 };
-use crate::drawing::whole::{DrawnTexts, draw};
+use crate::drawing::whole::{DrawnTexts, draw, draw_behind};
 use crate::grid::Grid;
-use crate::measuring::{measure_in, measure_on};
+use crate::measuring::{measure_in, measure_near, measure_on};
 use line_buffer::{GraphemeClusterMode, Layout, LineBuffer, Position, TabStops, Unit};
 use line_config::{BellStyle, DeviceFailed, ReadlineError, Sink};
 use line_editor::Renderer;
@@ -190,6 +190,11 @@ impl<D: Sink + Drop> Renderer for ScreenRenderer<D> {
         answer(move_and_take_out(&mut self.sink, old, new, count))
     }
 
+    /// If the column of `at` isn't one of the screen's, it counts as the first one.
+    fn append_text(&mut self, text: &str, at: Position) -> Result<Position, ReadlineError> {
+        answer(draw_behind(&mut self.sink, self.grid, at, text))
+    }
+
     /// Writes nothing: no call leaves the cursor elsewhere.
     fn move_cursor_at_leftmost(&mut self) -> Result<(), ReadlineError> {
         Ok(())
@@ -230,8 +235,14 @@ impl<D: Sink + Drop> Renderer for ScreenRenderer<D> {
         start: Position,
         known: (usize, Position),
         place: usize,
+        plain: bool,
     ) -> Position {
-        measure_on(text, start, known.0, known.1, place, self.grid)
+        let (place_of_known, at) = known;
+        if plain {
+            measure_on(text, start, place_of_known, at, place, self.grid)
+        } else {
+            measure_near(text, start, place_of_known, at, place, self.grid)
+        }
     }
 }
 
@@ -278,11 +289,11 @@ fn painting_of<'a, H: Highlighter>(
 }
 
 /// The display's error in place of its device's.
-fn answer(done: Result<(), DeviceFailed>) -> Result<(), ReadlineError>
+fn answer<A>(done: Result<A, DeviceFailed>) -> Result<A, ReadlineError>
     ensures { result ≡ display_answer done }
 {
     match done {
-        Ok(()) => Ok(()),
+        Ok(answer) => Ok(answer),
         Err(_) => Err(ReadlineError::Display),
     }
 }

@@ -48,77 +48,151 @@ row_11 = record (row 11 settings_7 (codes "ac\u{1b}[D \r") (codes "a c\n")) {
       codes "\r\u{1b}[J\u{1b}[m> \u{1b}[m\u{1b}[m\u{1b}[m\r\n");
 }
 
--- ab Enter = ab | shows {} a b ␍␊ {} ␍␊
+-- aé漢👍b Enter = aé漢👍b | shows {} a ␛[mé␛[m ␛[m漢␛[m ␛[m👍␛[m b ␍␊ {} ␍␊
 abbrev pub row_14 : Row
-row_14 = record (row 14 settings_7 (codes "ab\r") (codes "ab\n")) {
+row_14 = record (row 14 settings_7 (encode_utf8_all (codes "aé漢👍b\r")) (encode_utf8_all
+    (codes "aé漢👍b\n"))) {
+      shows = Some (encode_utf8_all
+          (codes "\r\u{1b}[J\u{1b}[m> \u{1b}[m\u{1b}[m\u{1b}[ma\u{1b}[mé\u{1b}[m\u{1b}[m漢\u{1b}[" ++
+          codes "m\u{1b}[m👍\u{1b}[mb\r\n\r\u{1b}[J\u{1b}[m> \u{1b}[m\u{1b}[m\u{1b}[m\r\n"));
+    }
+
+-- 👍🏽x Enter = 👍🏽x | shows {} ␛[m👍␛[m {␛[m👍🏽␛[m} {␛[m👍🏽␛[mx} ␍␊ {} ␍␊
+abbrev pub row_15 : Row
+row_15 = record (row 15 settings_7 (encode_utf8_all (codes "👍🏽x\r")) (encode_utf8_all
+    (codes "👍🏽x\n"))) {
+      shows = Some (encode_utf8_all
+          (codes "\r\u{1b}[J\u{1b}[m> \u{1b}[m\u{1b}[m\u{1b}[m\u{1b}[m👍\u{1b}[m\r\u{1b}[J\u{1b}[" ++
+          codes "m> \u{1b}[m\u{1b}[m👍🏽\u{1b}[m\u{1b}[m\u{1b}[m\r\u{1b}[J\u{1b}[m> \u{1b}[m" ++
+          codes "\u{1b}[m👍🏽\u{1b}[mx\u{1b}[m\u{1b}[m\r\n\r\u{1b}[J\u{1b}[m> \u{1b}[m\u{1b}[m" ++
+          codes "\u{1b}[m\r\n"));
+    }
+
+-- é Left Right a Enter = éa | shows {} ␛[mé␛[m ␛[1D ␛[1C a ␍␊ {} ␍␊
+abbrev pub row_16 : Row
+row_16 = record (row 16 settings_7 (encode_utf8_all (codes "é\u{1b}[D\u{1b}[Ca\r")) (encode_utf8_all
+    (codes "éa\n"))) {
+      shows = Some (encode_utf8_all
+          (codes "\r\u{1b}[J\u{1b}[m> \u{1b}[m\u{1b}[m\u{1b}[m\u{1b}[mé\u{1b}[m\u{1b}[1D\u{1b}[1" ++
+          codes "Ca\r\n\r\u{1b}[J\u{1b}[m> \u{1b}[m\u{1b}[m\u{1b}[m\r\n"));
+    }
+
+-- Paste a␊ Pasted é Enter = a␊é | shows {} {a␍␊} ␛[mé␛[m ␍␊ {} ␍␊
+abbrev pub row_17 : Row
+row_17 = record (row 17 settings_7 (encode_utf8_all (codes "\u{1b}[200~a\n\u{1b}[201~é\r"))
+    (encode_utf8_all (codes "a\né\n"))) {
+      shows = Some (encode_utf8_all
+          (codes "\r\u{1b}[J\u{1b}[m> \u{1b}[m\u{1b}[m\u{1b}[m\r\u{1b}[J\u{1b}[m> \u{1b}[ma\r\n" ++
+          codes "\u{1b}[m\u{1b}[m\u{1b}[mé\u{1b}[m\r\n\r\u{1b}[J\u{1b}[m> \u{1b}[m\u{1b}[m" ++
+          codes "\u{1b}[m\r\n"));
+    }
+
+-- aé漢 Backspace Backspace b Enter = ab | shows {} a ␛[mé␛[m ␛[m漢␛[m ␛[2D␛[K ␛[1D␛[K b ␍␊ {} ␍␊
+abbrev pub row_20 : Row
+row_20 = record (row 20 settings_7 (encode_utf8_all (codes "aé漢\u{7f}\u{7f}b\r")) (codes "ab\n")) {
+  shows = Some (encode_utf8_all
+      (codes "\r\u{1b}[J\u{1b}[m> \u{1b}[m\u{1b}[m\u{1b}[ma\u{1b}[mé\u{1b}[m\u{1b}[m漢\u{1b}[" ++
+      codes "m\u{1b}[2D\u{1b}[K\u{1b}[1D\u{1b}[Kb\r\n\r\u{1b}[J\u{1b}[m> \u{1b}[m\u{1b}[m" ++
+      codes "\u{1b}[m\r\n"));
+}
+
+-- aя Left C-d Enter = a | shows {} a ␛[mя␛[m ␛[1D ␛[K ␍␊ {} ␍␊
+abbrev pub row_21 : Row
+row_21 = record (row 21 settings_7 (encode_utf8_all (codes "aя\u{1b}[D\u{4}\r")) (codes "a\n")) {
+  shows = Some (encode_utf8_all
+      (codes "\r\u{1b}[J\u{1b}[m> \u{1b}[m\u{1b}[m\u{1b}[ma\u{1b}[mя\u{1b}[m\u{1b}[1D\u{1b}[" ++
+      codes "K\r\n\r\u{1b}[J\u{1b}[m> \u{1b}[m\u{1b}[m\u{1b}[m\r\n"));
+}
+
+-- 👍🏽 Backspace x Enter = x | shows {} ␛[m👍␛[m {␛[m👍🏽␛[m} {} x ␍␊ {} ␍␊
+abbrev pub row_22 : Row
+row_22 = record (row 22 settings_7 (encode_utf8_all (codes "👍🏽\u{7f}x\r")) (codes "x\n")) {
+  shows = Some (encode_utf8_all
+      (codes "\r\u{1b}[J\u{1b}[m> \u{1b}[m\u{1b}[m\u{1b}[m\u{1b}[m👍\u{1b}[m\r\u{1b}[J\u{1b}[" ++
+      codes "m> \u{1b}[m\u{1b}[m👍🏽\u{1b}[m\u{1b}[m\u{1b}[m\r\u{1b}[J\u{1b}[m> \u{1b}[m" ++
+      codes "\u{1b}[m\u{1b}[mx\r\n\r\u{1b}[J\u{1b}[m> \u{1b}[m\u{1b}[m\u{1b}[m\r\n"));
+}
+
+-- aé C-w Enter = "" | shows {} a ␛[mé␛[m {} ␍␊ {} ␍␊
+abbrev pub row_23 : Row
+row_23 = record (row 23 settings_7 (encode_utf8_all (codes "aé\u{17}\r")) (codes "\n")) {
+  shows = Some (encode_utf8_all
+      (codes "\r\u{1b}[J\u{1b}[m> \u{1b}[m\u{1b}[m\u{1b}[ma\u{1b}[mé\u{1b}[m\r\u{1b}[J\u{1b}" ++
+      codes "[m> \u{1b}[m\u{1b}[m\u{1b}[m\r\n\r\u{1b}[J\u{1b}[m> \u{1b}[m\u{1b}[m\u{1b}[m\r" ++
+      codes "\n"));
+}
+
+-- ab Enter = ab | shows {} a b ␍␊ {} ␍␊
+abbrev pub row_26 : Row
+row_26 = record (row 26 settings_7 (codes "ab\r") (codes "ab\n")) {
   shows = Some
       (codes "\r\u{1b}[J\u{1b}[m> \u{1b}[m\u{1b}[m\u{1b}[mab\r\n\r\u{1b}[J\u{1b}[m> \u{1b}[m" ++
       codes "\u{1b}[m\u{1b}[m\r\n");
 }
 
 -- ab Backspace Enter = a | shows {} a b ␛[1D␛[K ␍␊ {} ␍␊
-abbrev pub row_15 : Row
-row_15 = record (row 15 settings_7 (codes "ab\u{7f}\r") (codes "a\n")) {
+abbrev pub row_27 : Row
+row_27 = record (row 27 settings_7 (codes "ab\u{7f}\r") (codes "a\n")) {
   shows = Some
       (codes "\r\u{1b}[J\u{1b}[m> \u{1b}[m\u{1b}[m\u{1b}[mab\u{1b}[1D\u{1b}[K\r\n\r\u{1b}[J" ++
       codes "\u{1b}[m> \u{1b}[m\u{1b}[m\u{1b}[m\r\n");
 }
 
 -- abc Left C-k Enter = ab | shows {} a b c ␛[1D ␛[K ␍␊ {} ␍␊
-abbrev pub row_16 : Row
-row_16 = record (row 16 settings_7 (codes "abc\u{1b}[D\u{b}\r") (codes "ab\n")) {
+abbrev pub row_28 : Row
+row_28 = record (row 28 settings_7 (codes "abc\u{1b}[D\u{b}\r") (codes "ab\n")) {
   shows = Some
       (codes "\r\u{1b}[J\u{1b}[m> \u{1b}[m\u{1b}[m\u{1b}[mabc\u{1b}[1D\u{1b}[K\r\n\r\u{1b}[J" ++
       codes "\u{1b}[m> \u{1b}[m\u{1b}[m\u{1b}[m\r\n");
 }
 
 -- abc Left Backspace Enter = ac | shows {} a b c ␛[1D ␛[1D␛[1P ␛[1C␍␊ {} ␍␊
-abbrev pub row_19 : Row
-row_19 = record (row 19 settings_7 (codes "abc\u{1b}[D\u{7f}\r") (codes "ac\n")) {
+abbrev pub row_31 : Row
+row_31 = record (row 31 settings_7 (codes "abc\u{1b}[D\u{7f}\r") (codes "ac\n")) {
   shows = Some (codes "\r\u{1b}[J\u{1b}[m> \u{1b}[m\u{1b}[m\u{1b}[mabc\u{1b}[1D\u{1b}[1D\u{1b}[1P"
       ++ codes "\u{1b}[1C\r\n\r\u{1b}[J\u{1b}[m> \u{1b}[m\u{1b}[m\u{1b}[m\r\n");
 }
 
 -- abc Left Left C-d Enter = ac | shows {} a b c ␛[1D ␛[1D ␛[1P ␛[1C␍␊ {} ␍␊
-abbrev pub row_20 : Row
-row_20 = record (row 20 settings_7 (codes "abc\u{1b}[D\u{1b}[D\u{4}\r") (codes "ac\n")) {
+abbrev pub row_32 : Row
+row_32 = record (row 32 settings_7 (codes "abc\u{1b}[D\u{1b}[D\u{4}\r") (codes "ac\n")) {
   shows = Some (codes "\r\u{1b}[J\u{1b}[m> \u{1b}[m\u{1b}[m\u{1b}[mabc\u{1b}[1D\u{1b}[1D\u{1b}[1P"
       ++ codes "\u{1b}[1C\r\n\r\u{1b}[J\u{1b}[m> \u{1b}[m\u{1b}[m\u{1b}[m\r\n");
 }
 
 -- ab␠c Left C-w Enter = c | shows {} a b ␠ c ␛[1D ␛[3D␛[3P ␛[1C␍␊ {} ␍␊
-abbrev pub row_21 : Row
-row_21 = record (row 21 settings_7 (codes "ab c\u{1b}[D\u{17}\r") (codes "c\n")) {
+abbrev pub row_33 : Row
+row_33 = record (row 33 settings_7 (codes "ab c\u{1b}[D\u{17}\r") (codes "c\n")) {
   shows = Some (codes "\r\u{1b}[J\u{1b}[m> \u{1b}[m\u{1b}[m\u{1b}[mab c\u{1b}[1D\u{1b}[3D\u{1b}[3P"
       ++ codes "\u{1b}[1C\r\n\r\u{1b}[J\u{1b}[m> \u{1b}[m\u{1b}[m\u{1b}[m\r\n");
 }
 
 -- ab␠c C-a M-d Enter = ␠c | shows {} a b ␠ c ␛[4D ␛[2P ␛[2C␍␊ {} ␍␊
-abbrev pub row_22 : Row
-row_22 = record (row 22 settings_7 (codes "ab c\u{1}\u{1b}d\r") (codes " c\n")) {
+abbrev pub row_34 : Row
+row_34 = record (row 34 settings_7 (codes "ab c\u{1}\u{1b}d\r") (codes " c\n")) {
   shows = Some
       (codes "\r\u{1b}[J\u{1b}[m> \u{1b}[m\u{1b}[m\u{1b}[mab c\u{1b}[4D\u{1b}[2P\u{1b}[2C\r" ++
       codes "\n\r\u{1b}[J\u{1b}[m> \u{1b}[m\u{1b}[m\u{1b}[m\r\n");
 }
 
 -- abc Left C-u Enter = c | shows {} a b c ␛[1D ␛[2D␛[2P ␛[1C␍␊ {} ␍␊
-abbrev pub row_23 : Row
-row_23 = record (row 23 settings_7 (codes "abc\u{1b}[D\u{15}\r") (codes "c\n")) {
+abbrev pub row_35 : Row
+row_35 = record (row 35 settings_7 (codes "abc\u{1b}[D\u{15}\r") (codes "c\n")) {
   shows = Some (codes "\r\u{1b}[J\u{1b}[m> \u{1b}[m\u{1b}[m\u{1b}[mabc\u{1b}[1D\u{1b}[2D\u{1b}[2P"
       ++ codes "\u{1b}[1C\r\n\r\u{1b}[J\u{1b}[m> \u{1b}[m\u{1b}[m\u{1b}[m\r\n");
 }
 
 -- abc Left Backspace Backspace x Enter = xc | shows {} a b c ␛[1D ␛[1D␛[1P ␛[1D␛[1P ␛[@x ␛[1C␍␊ {} ␍␊
-abbrev pub row_24 : Row
-row_24 = record (row 24 settings_7 (codes "abc\u{1b}[D\u{7f}\u{7f}x\r") (codes "xc\n")) {
+abbrev pub row_36 : Row
+row_36 = record (row 36 settings_7 (codes "abc\u{1b}[D\u{7f}\u{7f}x\r") (codes "xc\n")) {
   shows = Some (codes "\r\u{1b}[J\u{1b}[m> \u{1b}[m\u{1b}[m\u{1b}[mabc\u{1b}[1D\u{1b}[1D\u{1b}[1P"
       ++ codes "\u{1b}[1D\u{1b}[1P\u{1b}[@x\u{1b}[1C\r\n\r\u{1b}[J\u{1b}[m> \u{1b}[m\u{1b}[m" ++
       codes "\u{1b}[m\r\n");
 }
 
 -- Paste a␊bc Pasted Left x Enter = a␊bxc | shows {} {a␍␊bc} ␛[1D ␛[@x ␛[1C␍␊ {} ␍␊
-abbrev pub row_27 : Row
-row_27 = record (row 27 settings_7 (codes "\u{1b}[200~a\nbc\u{1b}[201~\u{1b}[Dx\r")
+abbrev pub row_39 : Row
+row_39 = record (row 39 settings_7 (codes "\u{1b}[200~a\nbc\u{1b}[201~\u{1b}[Dx\r")
     (codes "a\nbxc\n")) {
       shows = Some
           (codes "\r\u{1b}[J\u{1b}[m> \u{1b}[m\u{1b}[m\u{1b}[m\r\u{1b}[J\u{1b}[m> \u{1b}[ma\r\nb" ++
@@ -127,8 +201,8 @@ row_27 = record (row 27 settings_7 (codes "\u{1b}[200~a\nbc\u{1b}[201~\u{1b}[Dx\
     }
 
 -- Paste a␊bc Pasted Left Backspace Enter = a␊c | shows {} {a␍␊bc} ␛[1D ␛[1D␛[1P ␛[1C␍␊ {} ␍␊
-abbrev pub row_28 : Row
-row_28 = record (row 28 settings_7 (codes "\u{1b}[200~a\nbc\u{1b}[201~\u{1b}[D\u{7f}\r")
+abbrev pub row_40 : Row
+row_40 = record (row 40 settings_7 (codes "\u{1b}[200~a\nbc\u{1b}[201~\u{1b}[D\u{7f}\r")
     (codes "a\nc\n")) {
       shows = Some
           (codes "\r\u{1b}[J\u{1b}[m> \u{1b}[m\u{1b}[m\u{1b}[m\r\u{1b}[J\u{1b}[m> \u{1b}[ma\r\nb" ++
@@ -137,8 +211,8 @@ row_28 = record (row 28 settings_7 (codes "\u{1b}[200~a\nbc\u{1b}[201~\u{1b}[D\u
     }
 
 -- Paste ab␊c Pasted C-a x Enter = ab␊xc | shows {} {ab␍␊c} ␛[1D ␛[@x ␛[1C␍␊ {} ␍␊
-abbrev pub row_29 : Row
-row_29 = record (row 29 settings_7 (codes "\u{1b}[200~ab\nc\u{1b}[201~\u{1}x\r") (codes "ab\nxc\n")) {
+abbrev pub row_41 : Row
+row_41 = record (row 41 settings_7 (codes "\u{1b}[200~ab\nc\u{1b}[201~\u{1}x\r") (codes "ab\nxc\n")) {
   shows = Some
       (codes "\r\u{1b}[J\u{1b}[m> \u{1b}[m\u{1b}[m\u{1b}[m\r\u{1b}[J\u{1b}[m> \u{1b}[mab\r\n" ++
       codes "c\u{1b}[m\u{1b}[m\u{1b}[1D\u{1b}[@x\u{1b}[1C\r\n\r\u{1b}[J\u{1b}[m> \u{1b}[m" ++
@@ -146,8 +220,8 @@ row_29 = record (row 29 settings_7 (codes "\u{1b}[200~ab\nc\u{1b}[201~\u{1}x\r")
 }
 
 -- Paste ab␊c Pasted Up x Enter = xab␊c | shows {} {ab␍␊c} ␛[1A␛[1C {xab␍␊c}␛[1A␛[2C ␛[1B␛[2D␍␊ {} ␍␊
-abbrev pub row_30 : Row
-row_30 = record (row 30 settings_7 (codes "\u{1b}[200~ab\nc\u{1b}[201~\u{1b}[Ax\r")
+abbrev pub row_42 : Row
+row_42 = record (row 42 settings_7 (codes "\u{1b}[200~ab\nc\u{1b}[201~\u{1b}[Ax\r")
     (codes "xab\nc\n")) {
       shows = Some
           (codes "\r\u{1b}[J\u{1b}[m> \u{1b}[m\u{1b}[m\u{1b}[m\r\u{1b}[J\u{1b}[m> \u{1b}[mab\r\n" ++
@@ -157,8 +231,8 @@ row_30 = record (row 30 settings_7 (codes "\u{1b}[200~ab\nc\u{1b}[201~\u{1b}[Ax\
     }
 
 -- Paste ab␊c Pasted Left Backspace Enter = abc | shows {} {ab␍␊c} ␛[1D ␛[1A{abc}␛[1D ␛[1C␍␊ {} ␍␊
-abbrev pub row_31 : Row
-row_31 = record (row 31 settings_7 (codes "\u{1b}[200~ab\nc\u{1b}[201~\u{1b}[D\u{7f}\r")
+abbrev pub row_43 : Row
+row_43 = record (row 43 settings_7 (codes "\u{1b}[200~ab\nc\u{1b}[201~\u{1b}[D\u{7f}\r")
     (codes "abc\n")) {
       shows = Some
           (codes "\r\u{1b}[J\u{1b}[m> \u{1b}[m\u{1b}[m\u{1b}[m\r\u{1b}[J\u{1b}[m> \u{1b}[mab\r\n" ++
@@ -166,21 +240,19 @@ row_31 = record (row 31 settings_7 (codes "\u{1b}[200~ab\nc\u{1b}[201~\u{1b}[D\u
           codes "\u{1b}[m\u{1b}[1D\u{1b}[1C\r\n\r\u{1b}[J\u{1b}[m> \u{1b}[m\u{1b}[m\u{1b}[m\r\n");
     }
 
--- é a Left x Enter = éxa | shows {} {␛[mé␛[m} {␛[mé␛[ma} ␛[1D {␛[mé␛[mxa}␛[1D ␛[1C␍␊ {} ␍␊
-abbrev pub row_34 : Row
-row_34 = record (row 34 settings_7 (encode_utf8_all (codes "éa\u{1b}[Dx\r")) (encode_utf8_all
+-- é a Left x Enter = éxa | shows {} ␛[mé␛[m a ␛[1D {␛[mé␛[mxa}␛[1D ␛[1C␍␊ {} ␍␊
+abbrev pub row_46 : Row
+row_46 = record (row 46 settings_7 (encode_utf8_all (codes "éa\u{1b}[Dx\r")) (encode_utf8_all
     (codes "éxa\n"))) {
       shows = Some (encode_utf8_all
-          (codes "\r\u{1b}[J\u{1b}[m> \u{1b}[m\u{1b}[m\u{1b}[m\r\u{1b}[J\u{1b}[m> \u{1b}[m\u{1b}" ++
-          codes "[mé\u{1b}[m\u{1b}[m\u{1b}[m\r\u{1b}[J\u{1b}[m> \u{1b}[m\u{1b}[mé\u{1b}[ma" ++
-          codes "\u{1b}[m\u{1b}[m\u{1b}[1D\r\u{1b}[J\u{1b}[m> \u{1b}[m\u{1b}[mé\u{1b}[mxa\u{1b}" ++
-          codes "[m\u{1b}[m\u{1b}[1D\u{1b}[1C\r\n\r\u{1b}[J\u{1b}[m> \u{1b}[m\u{1b}[m\u{1b}[m\r" ++
-          codes "\n"));
+          (codes "\r\u{1b}[J\u{1b}[m> \u{1b}[m\u{1b}[m\u{1b}[m\u{1b}[mé\u{1b}[ma\u{1b}[1D\r" ++
+          codes "\u{1b}[J\u{1b}[m> \u{1b}[m\u{1b}[mé\u{1b}[mxa\u{1b}[m\u{1b}[m\u{1b}[1D\u{1b}[1" ++
+          codes "C\r\n\r\u{1b}[J\u{1b}[m> \u{1b}[m\u{1b}[m\u{1b}[m\r\n"));
     }
 
 -- ab Left é Enter = aéb | shows {} a b ␛[1D {a␛[mé␛[mb}␛[1D ␛[1C␍␊ {} ␍␊
-abbrev pub row_35 : Row
-row_35 = record (row 35 settings_7 (encode_utf8_all (codes "ab\u{1b}[Dé\r")) (encode_utf8_all
+abbrev pub row_47 : Row
+row_47 = record (row 47 settings_7 (encode_utf8_all (codes "ab\u{1b}[Dé\r")) (encode_utf8_all
     (codes "aéb\n"))) {
       shows = Some (encode_utf8_all
           (codes "\r\u{1b}[J\u{1b}[m> \u{1b}[m\u{1b}[m\u{1b}[mab\u{1b}[1D\r\u{1b}[J\u{1b}[m> " ++
@@ -189,92 +261,147 @@ row_35 = record (row 35 settings_7 (encode_utf8_all (codes "ab\u{1b}[Dé\r")) (e
     }
 
 -- ac Left b C-_ Enter = ac | shows {} a c ␛[1D ␛[@b {ac}␛[1D ␛[1C␍␊ {} ␍␊
-abbrev pub row_36 : Row
-row_36 = record (row 36 settings_7 (codes "ac\u{1b}[Db\u{1f}\r") (codes "ac\n")) {
+abbrev pub row_48 : Row
+row_48 = record (row 48 settings_7 (codes "ac\u{1b}[Db\u{1f}\r") (codes "ac\n")) {
   shows = Some (codes "\r\u{1b}[J\u{1b}[m> \u{1b}[m\u{1b}[m\u{1b}[mac\u{1b}[1D\u{1b}[@b\r\u{1b}[J"
       ++ codes "\u{1b}[m> \u{1b}[mac\u{1b}[m\u{1b}[m\u{1b}[1D\u{1b}[1C\r\n\r\u{1b}[J\u{1b}[m> " ++
       codes "\u{1b}[m\u{1b}[m\u{1b}[m\r\n");
 }
 
 -- abc Left C-w C-y Enter = abc | shows {} a b c ␛[1D ␛[2D␛[2P {abc}␛[1D ␛[1C␍␊ {} ␍␊
-abbrev pub row_37 : Row
-row_37 = record (row 37 settings_7 (codes "abc\u{1b}[D\u{17}\u{19}\r") (codes "abc\n")) {
+abbrev pub row_49 : Row
+row_49 = record (row 49 settings_7 (codes "abc\u{1b}[D\u{17}\u{19}\r") (codes "abc\n")) {
   shows = Some (codes "\r\u{1b}[J\u{1b}[m> \u{1b}[m\u{1b}[m\u{1b}[mabc\u{1b}[1D\u{1b}[2D\u{1b}[2P\r"
       ++ codes "\u{1b}[J\u{1b}[m> \u{1b}[mabc\u{1b}[m\u{1b}[m\u{1b}[1D\u{1b}[1C\r\n\r\u{1b}[J" ++
       codes "\u{1b}[m> \u{1b}[m\u{1b}[m\u{1b}[m\r\n");
 }
 
 -- partial modal vi
-abbrev pub settings_40 : Settings
-settings_40 = record plain {
+abbrev pub settings_52 : Settings
+settings_52 = record plain {
   config = partial (modal (vi plain.config));
 }
 
 -- abc Esc hx Enter = ac | shows {} a b c ␛[1D ␛[1D ␛[1P ␛[1C␍␊ {} ␍␊
-abbrev pub row_40 : Row
-row_40 = record (row 40 settings_40 (codes "abc\u{1b}hx\r") (codes "ac\n")) {
+abbrev pub row_52 : Row
+row_52 = record (row 52 settings_52 (codes "abc\u{1b}hx\r") (codes "ac\n")) {
   shows = Some (codes "\r\u{1b}[J\u{1b}[m> \u{1b}[m\u{1b}[m\u{1b}[mabc\u{1b}[1D\u{1b}[1D\u{1b}[1P"
       ++ codes "\u{1b}[1C\r\n\r\u{1b}[J\u{1b}[m> \u{1b}[m\u{1b}[m\u{1b}[m\r\n");
 }
 
 -- partial modal columns:10
-abbrev pub settings_44 : Settings
-settings_44 = record plain {
+abbrev pub settings_56 : Settings
+settings_56 = record plain {
   config = partial (modal plain.config);
   columns = 10;
 }
 
+-- abcdefghi Enter = abcdefghi | shows {} a b c d e f g h␍␊ i ␍␊ {} ␍␊
+abbrev pub row_56 : Row
+row_56 = record (row 56 settings_56 (codes "abcdefghi\r") (codes "abcdefghi\n")) {
+  shows = Some
+      (codes "\r\u{1b}[J\u{1b}[m> \u{1b}[m\u{1b}[m\u{1b}[mabcdefgh\r\ni\r\n\r\u{1b}[J\u{1b}[" ++
+      codes "m> \u{1b}[m\u{1b}[m\u{1b}[m\r\n");
+}
+
+-- abcdef漢a Enter = abcdef漢a | shows {} a b c d e f ␛[m漢␛[m␍␊ a ␍␊ {} ␍␊
+abbrev pub row_57 : Row
+row_57 = record (row 57 settings_56 (encode_utf8_all (codes "abcdef漢a\r")) (encode_utf8_all
+    (codes "abcdef漢a\n"))) {
+      shows = Some (encode_utf8_all
+          (codes "\r\u{1b}[J\u{1b}[m> \u{1b}[m\u{1b}[m\u{1b}[mabcdef\u{1b}[m漢\u{1b}[m\r\na\r\n\r" ++
+          codes "\u{1b}[J\u{1b}[m> \u{1b}[m\u{1b}[m\u{1b}[m\r\n"));
+    }
+
+-- abcdefg漢a Enter = abcdefg漢a | shows {} a b c d e f g ␍␊␛[m漢␛[m a ␍␊ {} ␍␊
+abbrev pub row_58 : Row
+row_58 = record (row 58 settings_56 (encode_utf8_all (codes "abcdefg漢a\r")) (encode_utf8_all
+    (codes "abcdefg漢a\n"))) {
+      shows = Some (encode_utf8_all
+          (codes "\r\u{1b}[J\u{1b}[m> \u{1b}[m\u{1b}[m\u{1b}[mabcdefg\r\n\u{1b}[m漢\u{1b}[ma\r\n" ++
+          codes "\r\u{1b}[J\u{1b}[m> \u{1b}[m\u{1b}[m\u{1b}[m\r\n"));
+    }
+
+-- abcdefg漢 Backspace Enter = abcdefg | shows {} a b c d e f g ␍␊␛[m漢␛[m ␛[1A{abcdefg} ␍␊ {} ␍␊
+abbrev pub row_59 : Row
+row_59 = record (row 59 settings_56 (encode_utf8_all (codes "abcdefg漢\u{7f}\r"))
+    (codes "abcdefg\n")) {
+      shows = Some (encode_utf8_all
+          (codes "\r\u{1b}[J\u{1b}[m> \u{1b}[m\u{1b}[m\u{1b}[mabcdefg\r\n\u{1b}[m漢\u{1b}[m\u{1b}" ++
+          codes "[1A\r\u{1b}[J\u{1b}[m> \u{1b}[mabcdefg\u{1b}[m\u{1b}[m\r\n\r\u{1b}[J\u{1b}[m> " ++
+          codes "\u{1b}[m\u{1b}[m\u{1b}[m\r\n"));
+    }
+
+-- abcdefgh漢 Backspace Enter = abcdefgh | shows {} a b c d e f g h␍␊ ␛[m漢␛[m ␛[1A{abcdefgh␍␊} ␍␊ {} ␍␊
+abbrev pub row_60 : Row
+row_60 = record (row 60 settings_56 (encode_utf8_all (codes "abcdefgh漢\u{7f}\r"))
+    (codes "abcdefgh\n")) {
+      shows = Some (encode_utf8_all
+          (codes "\r\u{1b}[J\u{1b}[m> \u{1b}[m\u{1b}[m\u{1b}[mabcdefgh\r\n\u{1b}[m漢\u{1b}[m" ++
+          codes "\u{1b}[1A\r\u{1b}[J\u{1b}[m> \u{1b}[mabcdefgh\r\n\u{1b}[m\u{1b}[m\r\n\r\u{1b}[" ++
+          codes "J\u{1b}[m> \u{1b}[m\u{1b}[m\u{1b}[m\r\n"));
+    }
+
+-- abcdefghi漢 Backspace Enter = abcdefghi | shows {} a b c d e f g h␍␊ i ␛[m漢␛[m ␛[2D␛[K ␍␊ {} ␍␊
+abbrev pub row_61 : Row
+row_61 = record (row 61 settings_56 (encode_utf8_all (codes "abcdefghi漢\u{7f}\r"))
+    (codes "abcdefghi\n")) {
+      shows = Some (encode_utf8_all
+          (codes "\r\u{1b}[J\u{1b}[m> \u{1b}[m\u{1b}[m\u{1b}[mabcdefgh\r\ni\u{1b}[m漢\u{1b}[m" ++
+          codes "\u{1b}[2D\u{1b}[K\r\n\r\u{1b}[J\u{1b}[m> \u{1b}[m\u{1b}[m\u{1b}[m\r\n"));
+    }
+
 -- abcdef Left x Enter = abcdexf | shows {} a b c d e f ␛[1D ␛[@x ␛[1C␍␊ {} ␍␊
-abbrev pub row_44 : Row
-row_44 = record (row 44 settings_44 (codes "abcdef\u{1b}[Dx\r") (codes "abcdexf\n")) {
+abbrev pub row_65 : Row
+row_65 = record (row 65 settings_56 (codes "abcdef\u{1b}[Dx\r") (codes "abcdexf\n")) {
   shows = Some
       (codes "\r\u{1b}[J\u{1b}[m> \u{1b}[m\u{1b}[m\u{1b}[mabcdef\u{1b}[1D\u{1b}[@x\u{1b}[1C" ++
       codes "\r\n\r\u{1b}[J\u{1b}[m> \u{1b}[m\u{1b}[m\u{1b}[m\r\n");
 }
 
 -- abcdefg Left x Enter = abcdefxg | shows {} a b c d e f g ␛[1D {abcdefxg␍␊}␛[1A␛[9C ␛[1B␛[9D␍␊ {} ␍␊
-abbrev pub row_45 : Row
-row_45 = record (row 45 settings_44 (codes "abcdefg\u{1b}[Dx\r") (codes "abcdefxg\n")) {
+abbrev pub row_66 : Row
+row_66 = record (row 66 settings_56 (codes "abcdefg\u{1b}[Dx\r") (codes "abcdefxg\n")) {
   shows = Some
       (codes "\r\u{1b}[J\u{1b}[m> \u{1b}[m\u{1b}[m\u{1b}[mabcdefg\u{1b}[1D\r\u{1b}[J\u{1b}[m" ++
       codes "> \u{1b}[mabcdefxg\r\n\u{1b}[m\u{1b}[m\u{1b}[1A\u{1b}[9C\u{1b}[1B\u{1b}[9D\r\n" ++
       codes "\r\u{1b}[J\u{1b}[m> \u{1b}[m\u{1b}[m\u{1b}[m\r\n");
 }
 
--- abcdefghij Left x Left Left y Enter = abcdefghyixj | shows {} a b c d e f g {abcdefgh␍␊} i j ␛[1D ␛[@x ␛[1D ␛[1D ␛[@y ␛[3C␍␊ {} ␍␊
-abbrev pub row_46 : Row
-row_46 = record (row 46 settings_44 (codes "abcdefghij\u{1b}[Dx\u{1b}[D\u{1b}[Dy\r")
+-- abcdefghij Left x Left Left y Enter = abcdefghyixj | shows {} a b c d e f g h␍␊ i j ␛[1D ␛[@x ␛[1D ␛[1D ␛[@y ␛[3C␍␊ {} ␍␊
+abbrev pub row_67 : Row
+row_67 = record (row 67 settings_56 (codes "abcdefghij\u{1b}[Dx\u{1b}[D\u{1b}[Dy\r")
     (codes "abcdefghyixj\n")) {
-      shows = Some
-          (codes "\r\u{1b}[J\u{1b}[m> \u{1b}[m\u{1b}[m\u{1b}[mabcdefg\r\u{1b}[J\u{1b}[m> \u{1b}[" ++
-          codes "mabcdefgh\r\n\u{1b}[m\u{1b}[mij\u{1b}[1D\u{1b}[@x\u{1b}[1D\u{1b}[1D\u{1b}[@y" ++
-          codes "\u{1b}[3C\r\n\r\u{1b}[J\u{1b}[m> \u{1b}[m\u{1b}[m\u{1b}[m\r\n");
+      shows = Some (codes "\r\u{1b}[J\u{1b}[m> \u{1b}[m\u{1b}[m\u{1b}[mabcdefgh\r\nij\u{1b}[1D\u{1b}[@x"
+          ++ codes "\u{1b}[1D\u{1b}[1D\u{1b}[@y\u{1b}[3C\r\n\r\u{1b}[J\u{1b}[m> \u{1b}[m\u{1b}[m" ++
+          codes "\u{1b}[m\r\n");
     }
 
--- abcdefghij C-a x Enter = xabcdefghij | shows {} a b c d e f g {abcdefgh␍␊} i j ␛[1A {xabcdefg␍␊hij}␛[1A ␛[1B␍␊ {} ␍␊
-abbrev pub row_47 : Row
-row_47 = record (row 47 settings_44 (codes "abcdefghij\u{1}x\r") (codes "xabcdefghij\n")) {
+-- abcdefghij C-a x Enter = xabcdefghij | shows {} a b c d e f g h␍␊ i j ␛[1A {xabcdefg␍␊hij}␛[1A ␛[1B␍␊ {} ␍␊
+abbrev pub row_68 : Row
+row_68 = record (row 68 settings_56 (codes "abcdefghij\u{1}x\r") (codes "xabcdefghij\n")) {
   shows = Some
-      (codes "\r\u{1b}[J\u{1b}[m> \u{1b}[m\u{1b}[m\u{1b}[mabcdefg\r\u{1b}[J\u{1b}[m> \u{1b}[" ++
-      codes "mabcdefgh\r\n\u{1b}[m\u{1b}[mij\u{1b}[1A\r\u{1b}[J\u{1b}[m> \u{1b}[mxabcdefg\r" ++
-      codes "\nhij\u{1b}[m\u{1b}[m\u{1b}[1A\u{1b}[1B\r\n\r\u{1b}[J\u{1b}[m> \u{1b}[m\u{1b}[" ++
-      codes "m\u{1b}[m\r\n");
+      (codes "\r\u{1b}[J\u{1b}[m> \u{1b}[m\u{1b}[m\u{1b}[mabcdefgh\r\nij\u{1b}[1A\r\u{1b}[J" ++
+      codes "\u{1b}[m> \u{1b}[mxabcdefg\r\nhij\u{1b}[m\u{1b}[m\u{1b}[1A\u{1b}[1B\r\n\r" ++
+      codes "\u{1b}[J\u{1b}[m> \u{1b}[m\u{1b}[m\u{1b}[m\r\n");
 }
 
 -- partial vi
-abbrev pub settings_50 : Settings
-settings_50 = record plain {
+abbrev pub settings_71 : Settings
+settings_71 = record plain {
   config = partial (vi plain.config);
 }
 
 -- abc Esc 0iX Enter = Xabc | shows {} a b c ␛[1D ␛[2D ␛[@X ␛[3C␍␊ {} ␍␊
-abbrev pub row_50 : Row
-row_50 = record (row 50 settings_50 (codes "abc\u{1b}0iX\r") (codes "Xabc\n")) {
+abbrev pub row_71 : Row
+row_71 = record (row 71 settings_71 (codes "abc\u{1b}0iX\r") (codes "Xabc\n")) {
   shows = Some (codes "\r\u{1b}[J\u{1b}[m> \u{1b}[m\u{1b}[m\u{1b}[mabc\u{1b}[1D\u{1b}[2D\u{1b}[@X"
       ++ codes "\u{1b}[3C\r\n\r\u{1b}[J\u{1b}[m> \u{1b}[m\u{1b}[m\u{1b}[m\r\n");
 }
 
 abbrev pub partial_rows : List Row
-partial_rows = row_7 ∷ row_8 ∷ row_9 ∷ row_10 ∷ row_11 ∷ row_14 ∷ row_15 ∷ row_16 ∷ row_19 ∷ row_20
-    ∷ row_21 ∷ row_22 ∷ row_23 ∷ row_24 ∷ row_27 ∷ row_28 ∷ row_29 ∷ row_30 ∷ row_31 ∷ row_34 ∷
-    row_35 ∷ row_36 ∷ row_37 ∷ row_40 ∷ row_44 ∷ row_45 ∷ row_46 ∷ row_47 ∷ row_50 ∷ []
+partial_rows = row_7 ∷ row_8 ∷ row_9 ∷ row_10 ∷ row_11 ∷ row_14 ∷ row_15 ∷ row_16 ∷ row_17 ∷ row_20
+    ∷ row_21 ∷ row_22 ∷ row_23 ∷ row_26 ∷ row_27 ∷ row_28 ∷ row_31 ∷ row_32 ∷ row_33 ∷ row_34 ∷
+    row_35 ∷ row_36 ∷ row_39 ∷ row_40 ∷ row_41 ∷ row_42 ∷ row_43 ∷ row_46 ∷ row_47 ∷ row_48 ∷ row_49
+    ∷ row_52 ∷ row_56 ∷ row_57 ∷ row_58 ∷ row_59 ∷ row_60 ∷ row_61 ∷ row_65 ∷ row_66 ∷ row_67 ∷
+    row_68 ∷ row_71 ∷ []

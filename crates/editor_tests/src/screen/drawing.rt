@@ -242,6 +242,8 @@ const CALLS: &str = "
     audible move_and_clear_to_eol = ␛[2A␛[10D␛[K
     audible insert_char = ␛[@c
     audible move_and_delete_chars = ␛[2A␛[10D␛[3P
+    audible append_text c = c
+    audible append_text éc漢 = ␛[mé␛[mc␛[m漢␛[m
     audible clear_screen = ␛[H␛[J
     audible leftmost    = nothing
     audible begin       = nothing
@@ -281,6 +283,7 @@ fn call_made<Out: Renderer>(
         "move_and_clear_to_eol" => screen.move_and_clear_to_eol(HERE, THERE),
         "insert_char" => screen.insert_char('c'),
         "move_and_delete_chars" => screen.move_and_delete_chars(HERE, THERE, 3),
+        "append_text" => screen.append_text(text.as_str(), HERE).map(|_| ()),
         "clear_screen" => screen.clear_screen(),
         "clear_rows" => screen.clear_rows(&layout),
         "leftmost" => screen.move_cursor_at_leftmost(),
@@ -386,6 +389,8 @@ const PASSED_ON: &str = "
     move_and_clear_to_eol = written
     insert_char         = written
     move_and_delete_chars = written
+    append_text a       = written
+    append_text é       = written
     stay                = nothing
 ";
 

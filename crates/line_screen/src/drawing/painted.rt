@@ -241,7 +241,8 @@ fn send_spans<D: Sink, H: Highlighter>(
     letters: &[u8],
 ) -> Result<Unit, DeviceFailed>
     requires inside { start < grid.columns }
-    ensures { SendsPainted (painted_letters (spans_in (brush_paints H.marks brush.now) spans) letters.now) start
+    ensures { SendsPainted
+        (painted_letters (spans_in (brush_paints H.marks brush.now) spans) letters.now) start
         grid.columns D.held D.has_failed sink.old sink.new result }
 {
     let mut col = start;

@@ -10,11 +10,12 @@ ghost use Rattle.line_screen.specs.Drawing.DrawnItem.{Letter, Cluster, Tab};
 ghost use Rattle.line_screen.specs.Measure.{widths_by};
 ghost use Rattle.line_config.specs.Sending.{Sends};
 
-use crate::characters::{chars_are_clusters, is_narrow, is_wide};
+use crate::characters::chars_are_clusters;
 use crate::drawing::sequences::send;
 use crate::grid::{Grid, blanks, is_letter, tab_columns};
 use line_buffer::{Unit, is_printable_text};
 use line_config::{DeviceFailed, Sink};
+use line_editor::characters::{is_narrow, is_wide};
 use unicode_segmentation::UnicodeSegmentation;
 
 /// Leaves a full row. Returns the column, like each function here.

@@ -10,8 +10,14 @@ use Rattle.worked_rows.proofs.partial.Goals as goal
 abbrev part : ℕ → List Row
 part n = take 7 (drop n partial_rows)
 
+abbrev from_35 : List Row
+from_35 = drop 35 partial_rows
+
+abbrev from_28 : List Row
+from_28 = part 28 ++ from_35
+
 abbrev from_21 : List Row
-from_21 = drop 21 partial_rows
+from_21 = part 21 ++ from_28
 
 abbrev from_14 : List Row
 from_14 = part 14 ++ from_21
@@ -58,25 +64,51 @@ unshown-14 = refl
 shown-14 : AllShown (short (part 14))
 shown-14 = all_shown (short (part 14)) unshown-14
 
-given-21 : differing from_21 ≡ []
+given-21 : differing (part 21) ≡ []
 unfolding computing
 given-21 = refl
 
-unshown-21 : unshown (short from_21) ≡ []
+unshown-21 : unshown (short (part 21)) ≡ []
 unfolding computing
 unshown-21 = refl
 
-shown-21 : AllShown (short from_21)
-shown-21 = all_shown (short from_21) unshown-21
+shown-21 : AllShown (short (part 21))
+shown-21 = all_shown (short (part 21)) unshown-21
+
+given-28 : differing (part 28) ≡ []
+unfolding computing
+given-28 = refl
+
+unshown-28 : unshown (short (part 28)) ≡ []
+unfolding computing
+unshown-28 = refl
+
+shown-28 : AllShown (short (part 28))
+shown-28 = all_shown (short (part 28)) unshown-28
+
+given-35 : differing from_35 ≡ []
+unfolding computing
+given-35 = refl
+
+unshown-35 : unshown (short from_35) ≡ []
+unfolding computing
+unshown-35 = refl
+
+shown-35 : AllShown (short from_35)
+shown-35 = all_shown (short from_35) unshown-35
 
 pub returns-clause-given : goal.returns-clause-given
 returns-clause-given c = subst (λ rows. differing rows ≡ []) all-rows
     (both_given (part 0) from_7 given-0
     (both_given (part 7) from_14 given-7
-    (both_given (part 14) from_21 given-14 given-21)))
+    (both_given (part 14) from_21 given-14
+    (both_given (part 21) from_28 given-21
+    (both_given (part 28) from_35 given-28 given-35)))))
 
 pub returns-clause-shown : goal.returns-clause-shown
 returns-clause-shown c = subst (λ rows. AllShown (short rows)) all-rows
     (both_shown (part 0) from_7 shown-0
     (both_shown (part 7) from_14 shown-7
-    (both_shown (part 14) from_21 shown-14 shown-21)))
+    (both_shown (part 14) from_21 shown-14
+    (both_shown (part 21) from_28 shown-21
+    (both_shown (part 28) from_35 shown-28 shown-35)))))

@@ -25,10 +25,10 @@ returns-clause-does g c =
     (sym c.in_ok-killed.ensures.writes.writes.answers ∙ c.if-not-killed.false)) refl
     c.in_ok-killed.ensures.writes refl refl
     (record { ruler = refl; prompt = refl; history_is = refl; hooks_are = refl; marks_are = refl; config_is = refl })
-    (taken_by _ _ _ _ (value_of s) (kill_line c.args.movement.now s.recorded.line) _ _ _
+    (taken_by _ _ _ _ _ (value_of s) (kill_line c.args.movement.now s.recorded.line) _ _ _
     (ap (λ n. n - c.len.result) c.len-before.ensures ∙ ap (λ n. length s.recorded.line.text - n)
     c.len.ensures) (c.may_be_taken-alone.ensures
     ∙ ap (λ o. may_be_taken (drop (length (deletion_line o s.recorded.line).text) s.recorded.line.text) (value_of s)) c.range_of-span.ensures.value)
-    c.may_be_taken_out-in_row.ensures c.in_ok-killed.ensures.writes.writes.line
+    c.may_be_taken_out-in_row.ensures c.last_of_bare-last.ensures c.in_ok-killed.ensures.writes.writes.line
     c.kill_way-way.ensures
     c.show_killed.ensures.does)

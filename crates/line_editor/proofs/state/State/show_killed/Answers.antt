@@ -1,9 +1,9 @@
-use Rattle.std.proofs.Common.{sym, ◌∙◌, refl}
+use Rattle.std.proofs.Common.{◌≡◌, ◌⊎◌, sym, subst, ◌∙◌, refl}
 use Rattle.line_editor.specs.Drawing.{ask_anew_effect}
 use Rattle.line_editor.specs.Killing.{show_taken_effect}
 use Rattle.line_editor.proofs.DoesLemmas.{does_cut_by}
 use Rattle.line_editor.proofs.HelpedLemmas.{taken_made, killed_drawn}
-use Rattle.line_editor.specs.declared.way.Way.TheVariants.{AtEnd, InRow, Whole}
+use Rattle.line_editor.specs.declared.way.Way.TheVariants.{AtEnd, Alone, Back, InRow, Whole}
 use Rattle.line_editor.proofs.state.State.show_killed.Goals as goal
 
 pub returns-in_err-ask_anew : goal.returns-in_err-ask_anew
@@ -12,8 +12,15 @@ returns-in_err-ask_anew g c = record { does = does_cut_by ask_anew_effect (show_
 pub returns-in-AtEnd : goal.returns-in-AtEnd
 returns-in-AtEnd g c = record { does = taken_made c.args.count c.args.way AtEnd _ _ _ _ _ (sym c.way_if_bare.ensures ∙ c.in-AtEnd.is) c.in_ok-ask_anew.ensures.does c.show_short_taken.ensures.does }
 
+pub returns-in-Back : goal.returns-in-Back
+returns-in-Back g c = record {
+  does = taken_made c.args.count c.args.way (Back c.in-Back.ch) _ _ _ _ _ (sym c.way_if_bare.ensures ∙ c.in-Back.is) c.in_ok-ask_anew.ensures.does c.show_erased.ensures.does;
+}
+
 pub returns-in-InRow : goal.returns-in-InRow
 returns-in-InRow g c = record { does = taken_made c.args.count c.args.way InRow _ _ _ _ _ (sym c.way_if_bare.ensures ∙ c.in-InRow.is) c.in_ok-ask_anew.ensures.does c.show_taken_out.ensures.does }
 
-pub returns-in-Whole : goal.returns-in-Whole
-returns-in-Whole g c = record { does = killed_drawn c.args.count c.args.way _ _ _ _ _ _ refl (sym c.way_if_bare.ensures ∙ c.in-Whole.is) c.in_ok-ask_anew.ensures.does c.draw.ensures.does }
+pub returns-in-Alone : goal.returns-in-Alone
+returns-in-Alone g c = record {
+  does = killed_drawn c.args.count c.args.way _ _ _ _ _ _ refl (subst (λ w. (w ≡ Alone) ⊎ (w ≡ Whole)) c.way_if_bare.ensures c.in-Alone.is) c.in_ok-ask_anew.ensures.does c.draw.ensures.does;
+}

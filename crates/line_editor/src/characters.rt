@@ -1,0 +1,102 @@
+//! Characters that are clusters of their own next to each other.
+
+ghost use Rattle.std.specs.Prelude.{◌≡◌, ◌||◌, None, chars};
+ghost use Rattle.std.specs.Char.{IsScalar};
+ghost use Rattle.std.specs.List.{last_or};
+ghost use Rattle.line_editor.specs.Characters.{is_narrow, is_wide, is_pictograph, is_apart, ends_apart, stands_apart};
+
+use line_buffer::is_printable;
+
+/// Characters of one column: printable ASCII, Latin, Greek, Cyrillic and Armenian.
+pub fn is_narrow(c: char) -> bool
+    ensures { result ≡ is_narrow c }
+{
+    is_printable(c)
+        || matches!(
+            c,
+            '\u{A1}'..='\u{AC}'
+                | '\u{AE}'..='\u{2FF}'
+                | '\u{370}'..='\u{482}'
+                | '\u{48A}'..='\u{58F}'
+        )
+}
+
+/// Characters of two columns: kana, Chinese, Korean, their punctuation and full-width forms.
+pub fn is_wide(c: char) -> bool
+    ensures { result ≡ is_wide c }
+{
+    matches!(
+        c,
+        '\u{3001}'..='\u{3029}'
+            | '\u{3041}'..='\u{3096}'
+            | '\u{309B}'..='\u{30FF}'
+            | '\u{3400}'..='\u{A48C}'
+            | '\u{AC00}'..='\u{D7A3}'
+            | '\u{F900}'..='\u{FAFF}'
+            | '\u{FF01}'..='\u{FF60}'
+            | '\u{20000}'..='\u{2FFFD}'
+            | '\u{30000}'..='\u{3FFFD}'
+    )
+}
+
+/// Pictographs, without the tones of skin.
+fn is_pictograph(c: char) -> bool
+    ensures { result ≡ is_pictograph c }
+{
+    matches!(
+        c,
+        '\u{1F300}'..='\u{1F3FA}'
+            | '\u{1F400}'..='\u{1F64F}'
+            | '\u{1F680}'..='\u{1F6FF}'
+            | '\u{1F900}'..='\u{1F9FF}'
+    )
+}
+
+/// Whether a character is a cluster of its own next to others of these.
+#[tactic(auto, using(crate::proofs::CharacterRanges::sides))]
+pub fn is_apart(c: char) -> bool
+    ensures { result ≡ is_apart c }
+{
+    if c < '\u{3000}' {
+        is_narrow(c)
+    } else {
+        is_wide(c) || is_pictograph(c)
+    }
+}
+
+/// The character itself, which is a Unicode scalar value.
+fn as_scalar(c: char) -> char
+    ensures value { result ≡ c }
+    ensures scalar { IsScalar c }
+{
+    let _len = c.len_utf8();
+    c
+}
+
+/// The last character of a text.
+pub(crate) fn last_char(text: &str) -> Option<char>
+    ensures { result ≡ last_or None (chars text.now) }
+{
+    match text.chars().next_back() {
+        None => None,
+        Some(last) => Some(as_scalar(last)),
+    }
+}
+
+/// Whether a text is empty, or ends with a newline or one of these.
+fn ends_apart(text: &str) -> bool
+    ensures { result ≡ ends_apart (last_or None (chars text.now)) }
+{
+    match last_char(text) {
+        None => true,
+        Some(last) => last == '\n' || is_apart(last),
+    }
+}
+
+/// Whether a character after a text is known to be a cluster of its own, and to leave the text's
+/// clusters as they are.
+pub fn stands_apart(text: &str, c: char) -> bool
+    ensures { result ≡ stands_apart text.now c }
+{
+    is_apart(c) && ends_apart(text)
+}

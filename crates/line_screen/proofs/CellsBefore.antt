@@ -1,0 +1,156 @@
+-- The place at which a text ends, from that of the text with a character apart from it at its end, and the other way round.
+use Rattle.std.proofs.Common.{◌≡◌, ℕ, ◌+◌, ◌-◌, ◌<◌, ◌≤◌, ◌==◌, nat_le, min, ⊎_elim, Bool, true, false, ◌&&◌, List, ◌++◌, Option, Some, None, refl, sym, ap, ◌∙◌, arith, if◌then◌else◌}
+use Rattle.std.specs.Prelude.{chars, encode_utf8, slice_index}
+use Rattle.std.specs.List.{last_or}
+use Rattle.std.specs.Str.{is_utf8}
+use Rattle.std.proofs.lemmas.Bool.{and_parts, cases_lt, false≢true}
+use Rattle.line_buffer.specs.Cells.{origin}
+use Rattle.line_buffer.specs.declared.layout.GraphemeClusterMode.{GraphemeClusterMode}
+use Rattle.line_buffer.specs.declared.layout.Position.{Position}
+use Rattle.line_buffer.proofs.ListedRanges.{apart}
+use Rattle.line_editor.specs.Characters.{is_apart, ends_apart, stands_apart}
+use Rattle.line_screen.specs.Display.{right}
+use Rattle.line_screen.specs.Drawing.{DrawnItem, Widths, drawn_cluster, is_letter, is_tab, item_of_cluster, drawn_item, text_items, next_row, leave, after_one, place_after}
+use Rattle.line_screen.specs.Drawing.DrawnItem.{NewRow, Letter, Cluster, Tab}
+use Rattle.line_screen.specs.Measure.{widths_by, position_within_limit, in_row, measure_of}
+use Rattle.line_screen.proofs.EncodedChars.{encode_one, encode_two, encode_three, encode_four}
+use Rattle.line_screen.proofs.Fitting.{after_inside, items_fit}
+use Rattle.line_screen.proofs.Items.{drawn_by, other_by}
+use Rattle.line_screen.proofs.ItemsApart.{char_items, items_apart}
+use Rattle.line_screen.proofs.KnownLemmas.{start_inside, stays_inside_row}
+use Rattle.line_screen.proofs.Moves.{place}
+use Rattle.line_screen.proofs.RowsKept.{leave_grows}
+use Rattle.line_screen.proofs.Saturating.{after_saturated}
+use Rattle.line_screen.proofs.Shift.{after-append}
+
+-- ---- an item whose columns don't depend on its place
+
+abbrev is_untabbed : DrawnItem → Bool
+is_untabbed (Tab apart) = false
+is_untabbed _ = true
+
+-- from a row's start
+first_stays : (width : ℕ) (b : Bool) → (if b then next_row (right width origin) else right width origin).row ≡ 0 → (if b then next_row (right width origin) else right width origin).col ≡ width
+first_stays width true e = absurd (omega (arith, e))
+first_stays width false e = omega arith
+
+first_fits : (columns width : ℕ) (b : Bool) → (leave columns (right width (if b then origin else next_row origin))).row ≡ 0 → b ≡ true
+first_fits columns width true e = refl
+first_fits columns width false e = absurd (omega (arith, e, leave_grows columns (right width (next_row origin))))
+
+-- from any place on: a row was left neither before the item nor after it
+end_stays : (width : ℕ) (at : Position) (b : Bool) → width < (if b then next_row (right width at) else right width at).col → (if b then next_row (right width at) else right width at) ≡ right width at
+end_stays width at true h = absurd (omega (arith, h))
+end_stays width at false h = refl
+
+next_low : (width : ℕ) (at : Position) (b : Bool) → (if b then next_row (right width (next_row at)) else right width (next_row at)).col ≤ width
+next_low width at true = omega arith
+next_low width at false = omega arith
+
+cluster_stays : (columns width : ℕ) (at : Position) (b : Bool) → width < (leave columns (right width (if b then at else next_row at))).col → leave columns (right width (if b then at else next_row at)) ≡ right width at
+cluster_stays columns width at true h = end_stays width at ((right width at).col == columns) h
+cluster_stays columns width at false h = absurd (omega (arith, h, next_low width at ((right width (next_row at)).col == columns)))
+
+-- its own drawing ends in its first row, in a lower column
+item_stays : (columns : ℕ) (item : DrawnItem) (at : Position) → is_untabbed item ≡ true → (after_one columns item origin).row ≡ 0 → (after_one columns item origin).col < (after_one columns item at).col
+    → after_one columns item at ≡ right (after_one columns item origin).col at
+item_stays columns NewRow at h row more = absurd (omega (arith, row))
+item_stays columns (Letter c) at h row more =
+    let own : (after_one columns (Letter c) origin).col ≡ 1 = first_stays 1 ((right 1 origin).col == columns) row in
+    end_stays 1 at ((right 1 at).col == columns) (omega (arith, own, more)) ∙ ap (λ n. right n at) (sym own)
+item_stays columns (Cluster bytes width) at h row more =
+    let first = first_fits columns width (nat_le (origin.col + width) columns) row in
+    let own_end : after_one columns (Cluster bytes width) origin ≡ leave columns (right width origin) = ap (λ b. leave columns (right width (if b then origin else next_row origin))) first in
+    let own : (after_one columns (Cluster bytes width) origin).col ≡ width = ap (λ p. p.col) own_end ∙ first_stays width ((right width origin).col == columns) (ap (λ p. p.row) (sym own_end) ∙ row) in
+    cluster_stays columns width at (nat_le (at.col + width) columns) (omega (arith, own, more)) ∙ ap (λ n. right n at) (sym own)
+item_stays columns (Tab apart) at h row more = absurd (false≢true h)
+
+-- ---- a character apart is one
+
+no_tab : (c : ℕ) → is_apart c ≡ true → is_tab (encode_utf8 c) ≡ false
+no_tab c h = ⊎_elim one (λ some. ⊎_elim (two some) (λ more. ⊎_elim (three more) four (cases_lt c 0x10000)) (cases_lt c 0x800)) (cases_lt c 0x80)
+  where
+    one : c < 0x80 → is_tab (encode_utf8 c) ≡ false
+    one low = ap is_tab (encode_one c low) ∙ apart is_apart c 0x09 h refl
+
+    two : 0x80 ≤ c → c < 0x800 → is_tab (encode_utf8 c) ≡ false
+    two low high = ap is_tab (encode_two c low high)
+
+    three : 0x800 ≤ c → c < 0x10000 → is_tab (encode_utf8 c) ≡ false
+    three low high = ap is_tab (encode_three c low high)
+
+    four : 0x10000 ≤ c → is_tab (encode_utf8 c) ≡ false
+    four low = ap is_tab (encode_four c low)
+
+pub apart_of : (front : List ℕ) (c : ℕ) → stands_apart front c ≡ true → is_apart c ≡ true
+apart_of front c h = (and_parts (is_apart c) (ends_apart (last_or None (chars front))) (and_parts (is_utf8 front) (is_apart c && ends_apart (last_or None (chars front))) h).1).0
+
+drawn_untabbed : (bytes : List ℕ) (o : Option ℕ) → is_untabbed (drawn_cluster bytes o) ≡ true
+drawn_untabbed bytes None = refl
+drawn_untabbed bytes (Some width) = refl
+
+item_untabbed : (wide : Widths) (bytes : List ℕ) (b : Bool) → is_tab bytes ≡ false → is_untabbed (if b then Letter (slice_index bytes 0) else item_of_cluster wide.cluster wide.tab bytes) ≡ true
+item_untabbed wide bytes true h = refl
+item_untabbed wide bytes false h =
+    ap is_untabbed (other_by wide.cluster wide.tab bytes ∙ ap (λ b. drawn_by wide.cluster bytes (if b then wide.tab else None)) h) ∙ drawn_untabbed bytes (wide.cluster bytes)
+
+-- ---- measures
+
+module _ (mode : GraphemeClusterMode) (tab : Option ℕ) (columns : ℕ) (some : 1 ≤ columns) where
+  abbrev wide : Widths
+  wide = widths_by mode tab columns
+
+  own_end : (c : ℕ) → is_apart c ≡ true → measure_of mode tab columns (encode_utf8 c) origin ≡ position_within_limit (after_one columns (drawn_item wide (encode_utf8 c)) origin)
+  own_end c h =
+      ap (λ p. position_within_limit (place_after columns (text_items wide (encode_utf8 c)) p)) (stays_inside_row columns origin some)
+      ∙ ap (λ is. position_within_limit (place_after columns is origin)) (char_items wide c h)
+
+  -- the character's cells end in their row, with others before them
+  pub cells_before : (c : ℕ) (at : Position) → is_apart c ≡ true
+      → let end = measure_of mode tab columns (encode_utf8 c) origin in
+      let last = place_after columns (text_items wide (encode_utf8 c)) at in
+      end.row ≡ 0 → end.col < last.col → last ≡ right end.col at
+  cells_before c at h row more =
+      let bytes = encode_utf8 c in
+      let item = drawn_item wide bytes in
+      let own = after_one columns item origin in
+      let last : place_after columns (text_items wide bytes) at ≡ after_one columns item at = ap (λ is. place_after columns is at) (char_items wide c h) in
+      let end_row : min own.row 65535 ≡ 0 = ap (λ p. p.row) (sym (own_end c h)) ∙ row in
+      let end_col : (measure_of mode tab columns bytes origin).col ≡ own.col = ap (λ p. p.col) (own_end c h) in
+      let last_col : (place_after columns (text_items wide bytes) at).col ≡ (after_one columns item at).col = ap (λ p. p.col) last in
+      last
+      ∙ item_stays columns item at (item_untabbed wide bytes (is_letter bytes) (no_tab c h)) (omega (arith, end_row)) (omega (arith, end_col, last_col, more))
+      ∙ ap (λ n. right n at) (sym end_col)
+
+  both_end : (front : List ℕ) (c : ℕ) (from : Position) → stands_apart front c ≡ true
+      → place_after columns (text_items wide (front ++ encode_utf8 c)) from ≡ place_after columns (text_items wide (encode_utf8 c)) (place_after columns (text_items wide front) from)
+  both_end front c from h =
+      ap (λ is. place_after columns is from) (items_apart wide front c h) ∙ after-append columns (text_items wide front) (text_items wide (encode_utf8 c)) from
+
+  pub one_more : (front : List ℕ) (c : ℕ) (from : Position) → stands_apart front c ≡ true
+      → measure_of mode tab columns (encode_utf8 c) (measure_of mode tab columns front from) ≡ measure_of mode tab columns (front ++ encode_utf8 c) from
+  one_more front c from h =
+      let start = in_row columns from in
+      let items = text_items wide (encode_utf8 c) in
+      let there = place_after columns (text_items wide front) start in
+      let inside : there.col < columns = after_inside columns wide.cluster (text_items wide front) start (items_fit mode tab columns some front) (start_inside columns from some) in
+      ap (λ p. position_within_limit (place_after columns items p)) (stays_inside_row columns (position_within_limit there) inside)
+      ∙ after_saturated columns items there
+      ∙ ap position_within_limit (sym (both_end front c start h))
+
+  pub one_less : (front : List ℕ) (c : ℕ) (from at end : Position) → stands_apart front c ≡ true
+      → at ≡ measure_of mode tab columns (front ++ encode_utf8 c) from → end ≡ measure_of mode tab columns (encode_utf8 c) origin → end.row ≡ 0 → end.col < at.col
+      → place (at.col - end.col) at.row ≡ measure_of mode tab columns front from
+  one_less front c from at end h at_is end_is row more =
+      let start = in_row columns from in
+      let there = place_after columns (text_items wide front) start in
+      let last = place_after columns (text_items wide (encode_utf8 c)) there in
+      let own = measure_of mode tab columns (encode_utf8 c) origin in
+      let last_is : at ≡ position_within_limit last = at_is ∙ ap position_within_limit (both_end front c start h) in
+      let col_is : at.col ≡ last.col = ap (λ p. p.col) last_is in
+      let own_col : end.col ≡ own.col = ap (λ p. p.col) end_is in
+      let stays : last ≡ right own.col there = cells_before c there (apart_of front c h) (ap (λ p. p.row) (sym end_is) ∙ row) (omega (arith, col_is, own_col, more)) in
+      let at_there : at ≡ position_within_limit (right own.col there) = last_is ∙ ap position_within_limit stays in
+      let at_col : at.col ≡ there.col + own.col = ap (λ p. p.col) at_there in
+      let back : at.col - end.col ≡ there.col = omega (arith, at_col, own_col) in
+      ap (λ n. place n at.row) back ∙ ap (λ (p : Position). place there.col p.row) at_there

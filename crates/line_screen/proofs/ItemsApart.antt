@@ -1,0 +1,247 @@
+-- The items of a text, and of the text with a character apart from it at its end.
+use Rattle.std.proofs.Common.{◌≡◌, ℕ, ◌<◌, ◌≤◌, ◌==◌, ⊎_elim, Bool, true, false, not, ◌&&◌, ◌||◌, List, [], ◌∷◌, ◌++◌, map, cond, Option, Some, None, refl, sym, ap, ap₂, ◌∙◌, subst, arith, append_assoc, append-nil, if◌then◌else◌, eqb-true, ◌/◌, ◌%◌, ◌+◌}
+use Rattle.std.specs.Prelude.{chars, encode_utf8, encode_utf8_all, IsUtf8}
+use Rattle.std.specs.Char.{IsScalar}
+use Rattle.std.specs.List.{list_all, flat_map, last_or, onto_first}
+use Rattle.std.specs.Str.{all_scalars, is_utf8}
+use Rattle.std.proofs.lemmas.Bool.{and_parts, and_from, cases_lt}
+use Rattle.std.proofs.lemmas.Bool.Decides.{nat_tests}
+use Rattle.std.proofs.lemmas.List.{map-append}
+use Rattle.std.proofs.lemmas.List.Splits.{slice_split-cons_yes, slice_split-cons_no}
+use Rattle.std.proofs.lemmas.Simd.{map-map}
+use Rattle.std.proofs.lemmas.Str.{IsUtf8-nil, IsUtf8-append, IsUtf8-encode, IsUtf8-from_is_utf8, chars-nil, chars-append, encodes-chars, scalars-chars}
+use Rattle.unicode_segmentation.specs.Grapheme.{graphemes, is_grapheme_break}
+use Rattle.unicode_segmentation.specs.Segments.{cut, segments, prepend}
+use Rattle.unicode_segmentation.proofs.TextLemmas.{chars-encode_utf8}
+use Rattle.line_buffer.proofs.JoinLemmas.{next_alone, cut-some, cut-join}
+use Rattle.line_buffer.proofs.ListedRanges.{apart}
+use Rattle.line_editor.specs.Characters.{is_apart, ends_apart, stands_apart}
+use Rattle.line_screen.specs.Display.{is_printable}
+use Rattle.line_screen.specs.Drawing.{DrawnItem, Widths, drawn_item, row_items, join_rows, split_rows, text_items}
+use Rattle.line_screen.specs.Drawing.DrawnItem.{NewRow, Letter}
+use Rattle.line_screen.proofs.ApartLemmas.{breaks, apart_scalar}
+use Rattle.line_screen.proofs.Draws.{list_all_since}
+use Rattle.line_screen.proofs.EncodedChars.{encode_one, encode_two, encode_three, encode_four}
+use Rattle.line_screen.proofs.Items.{letter_row}
+use Rattle.line_screen.proofs.Singles.{is_single, printable_single, clusters_single}
+
+-- ---- the clusters of a row
+
+-- the last character of a row, if there is one
+abbrev parts_from : Option ℕ → Bool
+parts_from None = true
+parts_from (Some last) = is_apart last
+
+cut_before : (before cs : List ℕ) (c : ℕ) → is_apart c ≡ true → parts_from (last_or None cs) ≡ true
+    → cut (is_grapheme_break true) before (cs ++ c ∷ []) [] ≡ cut (is_grapheme_break true) before cs [] ++ (c ∷ []) ∷ []
+unfolding cut is_grapheme_break
+cut_before before [] c h k = refl
+cut_before before (d ∷ []) c h k = ap (λ b. if b then (d ∷ []) ∷ ((c ∷ []) ∷ []) else prepend (d ∷ []) ((c ∷ []) ∷ [])) (sym (breaks before d c [] k h))
+cut_before before (d ∷ (e ∷ es)) c h k =
+    ap₂ (λ b rest. if b then (d ∷ []) ∷ rest else prepend (d ∷ []) rest) (next_alone (d ∷ before) e ((es ++ c ∷ []) ++ []) (es ++ [])) (cut_before (d ∷ before) (e ∷ es) c h k)
+    ∙ cut-join (is_grapheme_break true (d ∷ before) ((e ∷ es) ++ [])) d (cut (is_grapheme_break true) (d ∷ before) (e ∷ es) []) ((c ∷ []) ∷ []) (cut-some (d ∷ before) e es)
+
+chars_with : (row : List ℕ) (c : ℕ) → IsUtf8 row → IsScalar c → chars (row ++ encode_utf8 c) ≡ chars row ++ c ∷ []
+chars_with row c text scalar = chars-append row (encode_utf8 c) text ∙ ap (λ cs. chars row ++ cs) (chars-encode_utf8 c (IsUtf8-encode c scalar))
+
+clusters_with : (row : List ℕ) (c : ℕ) → IsUtf8 row → is_apart c ≡ true → parts_from (last_or None (chars row)) ≡ true
+    → graphemes true (row ++ encode_utf8 c) ≡ graphemes true row ++ encode_utf8 c ∷ []
+unfolding segments
+clusters_with row c text h k =
+    ap (λ cs. map encode_utf8_all (cut (is_grapheme_break true) [] cs [])) (chars_with row c text (apart_scalar c h))
+    ∙ ap (map encode_utf8_all) (cut_before [] (chars row) c h k)
+    ∙ map-append encode_utf8_all (cut (is_grapheme_break true) [] (chars row) []) ((c ∷ []) ∷ [])
+    ∙ ap (λ bytes. map encode_utf8_all (cut (is_grapheme_break true) [] (chars row) []) ++ bytes ∷ []) (append-nil (encode_utf8 c))
+
+last_of : (o : Option ℕ) (xs : List ℕ) (x : ℕ) → Some x ≡ last_or o (xs ++ x ∷ [])
+last_of o [] x = refl
+last_of o (y ∷ xs) x = last_of (Some y) xs x
+
+-- ---- the rows of a text
+
+prepend_if : (b : Bool) (x : ℕ) (rows : List (List ℕ)) → cond b ([] ∷ rows) (onto_first x rows) ≡ prepend [] (cond b ([] ∷ rows) (onto_first x rows))
+prepend_if true x rows = refl
+prepend_if false x [] = refl
+prepend_if false x (row ∷ rows) = refl
+
+rows_are : (text : List ℕ) → split_rows text ≡ prepend [] (split_rows text)
+rows_are [] = refl
+rows_are (x ∷ text) = prepend_if (x == 0x0A) x (split_rows text)
+
+onto_prepend : (x : ℕ) (bytes : List ℕ) (rows : List (List ℕ)) → onto_first x (prepend bytes rows) ≡ prepend (x ∷ bytes) rows
+onto_prepend x bytes [] = refl
+onto_prepend x bytes (row ∷ rows) = refl
+
+prepend_both : (xs ys : List ℕ) (rows : List (List ℕ)) → prepend xs (prepend ys rows) ≡ prepend (xs ++ ys) rows
+prepend_both xs ys [] = refl
+prepend_both xs ys (row ∷ rows) = ap (λ zs. zs ∷ rows) (sym (append_assoc xs ys row))
+
+abbrev is_inside : ℕ → Bool
+is_inside b = not (b == 0x0A)
+
+split_inside : (bytes rest : List ℕ) → list_all is_inside bytes ≡ true → split_rows (bytes ++ rest) ≡ prepend bytes (split_rows rest)
+split_inside [] rest h = rows_are rest
+split_inside (x ∷ bytes) rest h =
+    let parts = and_parts (is_inside x) (list_all is_inside bytes) h in
+    slice_split-cons_no (λ c. c == 0x0A) x (bytes ++ rest) (not_true (x == 0x0A) parts.0) ∙ ap (onto_first x) (split_inside bytes rest parts.1) ∙ onto_prepend x bytes (split_rows rest)
+  where
+    not_true : (b : Bool) → not b ≡ true → b ≡ false
+    not_true true h = cc
+    not_true false h = refl
+
+high_inside : (b : ℕ) → 0x80 ≤ b → is_inside b ≡ true
+high_inside b h = grind (arith, nat_tests)
+
+-- no byte of another character is a newline
+char_inside : (c : ℕ) → (c == 0x0A) ≡ false → list_all is_inside (encode_utf8 c) ≡ true
+char_inside c h = ⊎_elim one (λ some. ⊎_elim (two some) (λ more. ⊎_elim (three more) four (cases_lt c 0x10000)) (cases_lt c 0x800)) (cases_lt c 0x80)
+  where
+    one : c < 0x80 → list_all is_inside (encode_utf8 c) ≡ true
+    one low = ap (list_all is_inside) (encode_one c low) ∙ and_from (is_inside c) true (ap not h) refl
+
+    last : (c : ℕ) → list_all is_inside ((128 + c % 64) ∷ []) ≡ true
+    last c = and_from (is_inside (128 + c % 64)) true (high_inside (128 + c % 64) (omega arith)) refl
+
+    last_two : (c : ℕ) → list_all is_inside ((128 + (c / 64) % 64) ∷ (128 + c % 64) ∷ []) ≡ true
+    last_two c = and_from (is_inside (128 + (c / 64) % 64)) (list_all is_inside ((128 + c % 64) ∷ [])) (high_inside (128 + (c / 64) % 64) (omega arith)) (last c)
+
+    two : 0x80 ≤ c → c < 0x800 → list_all is_inside (encode_utf8 c) ≡ true
+    two low high =
+        ap (list_all is_inside) (encode_two c low high)
+        ∙ and_from (is_inside (192 + c / 64)) (list_all is_inside ((128 + c % 64) ∷ [])) (high_inside (192 + c / 64) (omega arith)) (last c)
+
+    three : 0x800 ≤ c → c < 0x10000 → list_all is_inside (encode_utf8 c) ≡ true
+    three low high =
+        ap (list_all is_inside) (encode_three c low high)
+        ∙ and_from (is_inside (224 + c / 4096)) (list_all is_inside ((128 + (c / 64) % 64) ∷ (128 + c % 64) ∷ [])) (high_inside (224 + c / 4096) (omega arith)) (last_two c)
+
+    four : 0x10000 ≤ c → list_all is_inside (encode_utf8 c) ≡ true
+    four low =
+        ap (list_all is_inside) (encode_four c low)
+        ∙ and_from (is_inside (240 + c / 262144)) (list_all is_inside ((128 + (c / 4096) % 64) ∷ (128 + (c / 64) % 64) ∷ (128 + c % 64) ∷ [])) (high_inside (240 + c / 262144) (omega arith))
+        (and_from (is_inside (128 + (c / 4096) % 64)) (list_all is_inside ((128 + (c / 64) % 64) ∷ (128 + c % 64) ∷ [])) (high_inside (128 + (c / 4096) % 64) (omega arith)) (last_two c))
+
+split_char : (c : ℕ) (rest : List ℕ) → (c == 0x0A) ≡ false → split_rows (encode_utf8 c ++ rest) ≡ prepend (encode_utf8 c) (split_rows rest)
+split_char c rest h = split_inside (encode_utf8 c) rest (char_inside c h)
+
+split_newline : (c : ℕ) (rest : List ℕ) → (c == 0x0A) ≡ true → split_rows (encode_utf8 c ++ rest) ≡ [] ∷ split_rows rest
+split_newline c rest h =
+    ap (λ bytes. split_rows (bytes ++ rest)) (ap encode_utf8 (eqb-true c 0x0A h) ∙ encode_one 0x0A (omega arith))
+    ∙ slice_split-cons_yes (λ c. c == 0x0A) 0x0A rest refl
+
+one_row : (c : ℕ) → (c == 0x0A) ≡ false → split_rows (encode_utf8 c) ≡ encode_utf8 c ∷ []
+one_row c h =
+    ap split_rows (sym (append-nil (encode_utf8 c))) ∙ split_char c [] h ∙ ap (λ row. row ∷ []) (append-nil (encode_utf8 c))
+
+-- ---- characters behind a row: whether the last row of both parts from what follows
+
+abbrev parts_behind : Option ℕ → List ℕ → Bool
+parts_behind o [] = parts_from o
+parts_behind o (d ∷ ds) = parts_behind (if d == 0x0A then None else Some d) ds
+
+abbrev row_end : Option ℕ → Option ℕ
+row_end None = None
+row_end (Some d) = if d == 0x0A then None else Some d
+
+row_parts : (o : Option ℕ) → ends_apart o ≡ true → parts_from (row_end o) ≡ true
+row_parts None h = refl
+row_parts (Some d) h = by (d == 0x0A) h
+  where
+    by : (b : Bool) → (b || is_apart d) ≡ true → parts_from (if b then None else Some d) ≡ true
+    by true h = refl
+    by false h = h
+
+text_parts : (o : Option ℕ) (cs : List ℕ) → ends_apart (last_or o cs) ≡ true → parts_behind (row_end o) cs ≡ true
+text_parts o [] h = row_parts o h
+text_parts o (d ∷ ds) h = text_parts (Some d) ds h
+
+module _ (wide : Widths) where
+  row_if : (row : List ℕ) (b : Bool) → list_all is_printable row ≡ b
+      → (if b then map Letter row else map (drawn_item wide) (graphemes true row)) ≡ map (drawn_item wide) (graphemes true row)
+  row_if row true e =
+      letter_row wide row e ∙ sym (map-map (drawn_item wide) (λ c. c ∷ []) row)
+      ∙ ap (map (drawn_item wide)) (sym (clusters_single row (list_all_since is_printable is_single printable_single row e)))
+  row_if row false e = refl
+
+  by_clusters : (row : List ℕ) → row_items wide row ≡ map (drawn_item wide) (graphemes true row)
+  by_clusters row = row_if row (list_all is_printable row) refl
+
+  row_with : (row : List ℕ) (c : ℕ) → IsUtf8 row → is_apart c ≡ true → parts_from (last_or None (chars row)) ≡ true
+      → row_items wide (row ++ encode_utf8 c) ≡ row_items wide row ++ drawn_item wide (encode_utf8 c) ∷ []
+  row_with row c text h k =
+      by_clusters (row ++ encode_utf8 c)
+      ∙ ap (map (drawn_item wide)) (clusters_with row c text h k)
+      ∙ map-append (drawn_item wide) (graphemes true row) (encode_utf8 c ∷ [])
+      ∙ ap (λ is. is ++ drawn_item wide (encode_utf8 c) ∷ []) (sym (by_clusters row))
+
+  rows_behind : (rows : List (List ℕ)) → flat_map (λ r. NewRow ∷ row_items wide r) (prepend [] rows) ≡ NewRow ∷ join_rows wide (prepend [] rows)
+  rows_behind [] = refl
+  rows_behind (row ∷ rows) = refl
+
+  module _ (c : ℕ) (h : is_apart c ≡ true) where
+    abbrev new : List DrawnItem
+    new = drawn_item wide (encode_utf8 c) ∷ []
+
+    inside : (c == 0x0A) ≡ false
+    inside = apart is_apart c 0x0A h refl
+
+    abbrev joined : List ℕ → List ℕ → List DrawnItem
+    joined row text = join_rows wide (prepend row (split_rows text))
+
+    -- behind a row stand other characters, which may begin rows
+    abbrev Grown : List ℕ → List ℕ → Type 0
+    Grown row cs = joined row (encode_utf8_all cs ++ encode_utf8 c) ≡ joined row (encode_utf8_all cs) ++ new
+
+    behind_newline : (row : List ℕ) (d : ℕ) (ds : List ℕ) → (d == 0x0A) ≡ true → Grown [] ds → Grown row (d ∷ ds)
+    behind_newline row d ds e more =
+        let text = encode_utf8_all ds in
+        let here = row_items wide (row ++ []) in
+        let split = λ (rest : List ℕ). split_newline d rest e ∙ ap (λ rows. [] ∷ rows) (rows_are rest) in
+        ap (joined row) (append_assoc (encode_utf8 d) text (encode_utf8 c))
+        ∙ ap (λ rows. join_rows wide (prepend row rows)) (split (text ++ encode_utf8 c))
+        ∙ ap (λ is. here ++ is) (rows_behind (split_rows (text ++ encode_utf8 c)) ∙ ap (λ is. NewRow ∷ is) more)
+        ∙ sym (append_assoc here (NewRow ∷ joined [] text) new)
+        ∙ ap (λ is. (here ++ is) ++ new) (sym (rows_behind (split_rows text)))
+        ∙ ap (λ rows. join_rows wide (prepend row rows) ++ new) (sym (split text))
+
+    behind_char : (row : List ℕ) (d : ℕ) (ds : List ℕ) → (d == 0x0A) ≡ false → Grown (row ++ encode_utf8 d) ds → Grown row (d ∷ ds)
+    behind_char row d ds e more =
+        let text = encode_utf8_all ds in
+        let split = λ (rest : List ℕ). ap (λ rows. join_rows wide (prepend row rows)) (split_char d rest e) ∙ ap (join_rows wide) (prepend_both row (encode_utf8 d) (split_rows rest)) in
+        ap (joined row) (append_assoc (encode_utf8 d) text (encode_utf8 c))
+        ∙ split (text ++ encode_utf8 c) ∙ more ∙ ap (λ is. is ++ new) (sym (split text))
+
+    -- the row's last character is known
+    abbrev Behind : List ℕ → Type 0
+    Behind cs = (row : List ℕ) (o : Option ℕ) → IsUtf8 row → o ≡ last_or None (chars row) → parts_behind o cs ≡ true → Grown row cs
+
+    step : (d : ℕ) (ds : List ℕ) → IsScalar d → Behind ds → (row : List ℕ) → IsUtf8 row → (b : Bool) → (d == 0x0A) ≡ b → parts_behind (if b then None else Some d) ds ≡ true → Grown row (d ∷ ds)
+    step d ds scalar again row text true e k = behind_newline row d ds e (again [] None IsUtf8-nil (ap (last_or None) (sym chars-nil)) k)
+    step d ds scalar again row text false e k =
+        behind_char row d ds e
+        (again (row ++ encode_utf8 d) (Some d) (IsUtf8-append row (encode_utf8 d) text (IsUtf8-encode d scalar)) (last_of None (chars row) d ∙ ap (last_or None) (sym (chars_with row d text scalar))) k)
+
+    grown : (cs : List ℕ) → all_scalars cs ≡ true → Behind cs
+    grown [] s row o text is k =
+        ap (λ rows. join_rows wide (prepend row rows)) (one_row c inside)
+        ∙ append-nil (row_items wide (row ++ encode_utf8 c))
+        ∙ row_with row c text h (ap parts_from (sym is) ∙ k)
+        ∙ ap (λ is. is ++ new) (ap (row_items wide) (sym (append-nil row)) ∙ sym (append-nil (row_items wide (row ++ []))))
+    grown (d ∷ ds) s row o text is k =
+        let both = and_parts _ (all_scalars ds) s in
+        step d ds both.0 (grown ds both.1) row text (d == 0x0A) refl k
+
+    pub char_items : text_items wide (encode_utf8 c) ≡ drawn_item wide (encode_utf8 c) ∷ []
+    char_items = ap (join_rows wide) (one_row c inside) ∙ append-nil (row_items wide (encode_utf8 c)) ∙ row_with [] c IsUtf8-nil h (ap (λ cs. parts_from (last_or None cs)) chars-nil)
+
+  pub items_apart : (line : List ℕ) (c : ℕ) → stands_apart line c ≡ true → text_items wide (line ++ encode_utf8 c) ≡ text_items wide line ++ text_items wide (encode_utf8 c)
+  items_apart line c h =
+      let utf8 = and_parts (is_utf8 line) (is_apart c && ends_apart (last_or None (chars line))) h in
+      let both = and_parts (is_apart c) (ends_apart (last_or None (chars line))) utf8.1 in
+      let text = IsUtf8-from_is_utf8 line utf8.0 in
+      let items : text_items wide (line ++ encode_utf8 c) ≡ text_items wide line ++ drawn_item wide (encode_utf8 c) ∷ [] =
+      ap (join_rows wide) (rows_are (line ++ encode_utf8 c))
+      ∙ subst (λ bytes. joined c both.0 [] (bytes ++ encode_utf8 c) ≡ joined c both.0 [] bytes ++ new c both.0) (encodes-chars line text)
+      (grown c both.0 (chars line) (scalars-chars line text) [] None IsUtf8-nil (ap (last_or None) (sym chars-nil)) (text_parts None (chars line) both.1))
+      ∙ ap (λ rows. join_rows wide rows ++ drawn_item wide (encode_utf8 c) ∷ []) (sym (rows_are line)) in
+      items ∙ ap (λ is. text_items wide line ++ is) (sym (char_items c both.0))
