@@ -43,7 +43,7 @@ MOST_ROWS = 65535
 PRINTABLE = re.compile(r"[ -~]*\Z")
 # The beginning of a drawing over an old one of one row, and of a line's first drawing.
 REDRAWN = b"\r\x1b[J"
-TOKENS = re.compile(rb"(?P<nothing>(\x1b\[m)+)|(?P<text>[ -~\x80-\xff]+)|(?P<plain>\x1b\[[JKH@]|[\r\n\x07])"
+TOKENS = re.compile(rb"(?P<nothing>(\x1b\[m)+)|(?P<text>[ -~\x80-\xff]+)|(?P<plain>\x1b\[[JKH@P]|[\r\n\x07])"
                     rb"|\x1b\[(?P<by>[1-9][0-9]*)(?P<way>[A-DP])|\x1b\[0(?P<style>(;[0-9]+)+)m")
 
 
@@ -387,13 +387,14 @@ class Display(Rows):
             self.cursor = (counted_row(row + 1), col)
         elif word == b"\x1b[H":
             self.cursor, self.homed = (0, 0), True
-        elif word == b"\x1b[@":
-            self.shift(1)
+        elif word in (b"\x1b[@", b"\x1b[P"):
+            self.shift(1 if word == b"\x1b[@" else -1)
         elif word != b"\x07":
             self.erase(word)
 
     def shift(self, by):
-        """Moves the rest of the cursor's row by so many cells: to the left over the cells that are taken out, or to the right."""
+        """Moves the rest of the cursor's row by so many cells: to the left over the cells that are taken out, or to the right,
+        so that the last cell is lost."""
         row, col = self.cursor
         cells = self.row(row)
         start = col + max(-by, 0)
@@ -401,10 +402,10 @@ class Display(Rows):
             self.tell("a row that moves among the lines above, or while a style stands")
         if cells.get(col) is self.INSIDE or cells.get(start) is self.INSIDE:
             self.tell("a row is parted inside a cluster")
-        if start > self.columns or by > 0 and max(cells, default=0) + by >= self.columns:
-            self.tell("a row that moves leaves the display")
+        if start > self.columns or by > 0 and cells.get(self.columns - 1) is self.INSIDE:
+            self.tell("a row that moves leaves the display, or is parted there inside a cluster")
         for held in [cells, *self.styles[row:row + 1]]:
-            rest = {at + by: held[at] for at in held if at >= start}
+            rest = {at + by: held[at] for at in held if at >= start and at + by < self.columns}
             for at in [at for at in held if at >= col]:
                 del held[at]
             held.update(rest)

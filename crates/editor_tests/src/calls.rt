@@ -248,9 +248,19 @@ impl Renderer for CallList {
         self.clear_to_eol()
     }
 
-    fn insert_char(&mut self, ch: char) -> Result<(), ReadlineError> {
+    fn insert_char(
+        &mut self,
+        ch: char,
+        rest: &str,
+        _old: Position,
+        new: Position,
+        end: Position,
+    ) -> Result<(), ReadlineError> {
         let log = &mut self.log;
-        log.note(format!(in log.alloc; "put in '{ch}'"))
+        log.note(format!(in log.alloc;
+            "put '{ch}' before '{rest}' {},{} {},{}",
+            new.row, new.col, end.row, end.col
+        ))
     }
 
     fn move_and_delete_chars(
@@ -258,10 +268,12 @@ impl Renderer for CallList {
         old: Position,
         new: Position,
         count: Unit,
+        rest: &str,
+        end: Position,
     ) -> Result<(), ReadlineError> {
         self.move_cursor(old, new)?;
         let log = &mut self.log;
-        log.note(format!(in log.alloc; "take out {count}"))
+        log.note(format!(in log.alloc; "take out {count} before '{rest}' {},{}", end.row, end.col))
     }
 
     fn append_text(&mut self, text: &str, at: Position) -> Result<Position, ReadlineError> {

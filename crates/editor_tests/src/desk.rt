@@ -2,12 +2,13 @@
 //! by `; `, and after ` = ` their result.
 //!
 //! A row that begins with one of these words is a setting for the rows after it, and has no result.
-//! For the display: `columns: 10` sets its columns, `colours: yes` whether it has colours, `tabs: 8`
-//! how many columns apart tab stops are, `answered: 3` how many calls succeed. `history: one,two` sets the entries, `mode: Vi` the
-//! keymap, `modal: yes` that those commands act that go on over several keys. `completion: List`
-//! has several candidates listed, `at-once: yes` by the first Tab that adds nothing, `limit: 3` at
-//! most so many. `first:` sets the commands before those of each row, `tells: ring` what a row's
-//! result is.
+//! For the display: `columns: 10` sets its columns, `colours: yes` whether it has colours,
+//! `tabs: 8` how many columns apart tab stops are, `answered: 3` how many calls succeed.
+//! `history: one,two` sets the entries, `mode: Vi` the keymap, `modal: yes` that those commands act
+//! that go on over several keys. `completion: List` has several candidates listed, `at-once: yes`
+//! by the first Tab that adds nothing, `limit: 3` at most so many. `partial: yes` has lines drawn
+//! in part, where that can be. `first:` sets the commands before those of each row, `tells: ring`
+//! what a row's result is.
 //!
 //! `helper: InvalidTold no` sets a helper with its verdict and its message, which never fails. For
 //! that helper, `marks: 2` is the place at which it highlights, and `takes: no` says that its hints
@@ -150,6 +151,9 @@ impl Stage {
             "columns:" => self.columns = rest.parse().unwrap_or(80),
             "tabs:" => self.tab = rest.parse().ok(),
             "modal:" => self.modal = rest == "yes",
+            "partial:" => {
+                self.config = Config::builder().partial_redraw(rest == "yes").build();
+            }
             "mode:" if rest == "Vi" => self.mode = EditMode::Vi,
             "tells:" => self.tells_ring = rest == "ring",
             _ => return self.sets_helper(word, rest),

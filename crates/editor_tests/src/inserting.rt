@@ -113,7 +113,29 @@ const AFTER_TABS: &str = "
     abcdef␉|: SelfInsert 1 x = abcdef␉x| / write 'x'
 ";
 
-const TABLES: [&str; 3] = [INSERTIONS, HINTS_AND_HIGHLIGHTS, AFTER_TABS];
+// Before the end of a line, if lines are drawn in part.
+const INSIDE: &str = "
+    partial: yes = nothing
+    |abc: SelfInsert 1 x = x|abc / put 'x' before 'abc' 0,3 0,6
+    a|b: SelfInsert 1 x = ax|b / put 'x' before 'b' 0,4 0,5
+    ab␊|c: SelfInsert 1 x = ab␊x|c / put 'x' before 'c' 1,1 1,2
+    ab|: SelfInsert 1 c = abc| / append 'c' at 0,4
+    a|b: SelfInsert 2 x = axx|b / draw '> axx|b' at 0,5 to 0,6
+    a|b: SelfInsert 1 é = aé|b / draw '> aé|b' at 0,4 to 0,5
+    é|b: SelfInsert 1 x = éx|b / draw '> éx|b' at 0,4 to 0,5
+    a|b␊c: SelfInsert 1 x = ax|b␊c / draw '> ax|b␊c' at 0,4 to 1,1
+
+    columns: 10 = nothing
+    abcdef|g: SelfInsert 1 x = abcdefx|g / put 'x' before 'g' 0,9 1,0
+    abcdefg|h: SelfInsert 1 x = abcdefgx|h / put 'x' before 'h' 1,0 1,1
+    abc|defghijklmnopqrst: SelfInsert 1 x = abcx|defghijklmnopqrst / put 'x' before 'defghijklmnopqrst' 0,6 2,3
+
+    columns: 2 = nothing
+    |abcdefghijklmnopqrstuvwxyzabcdefghijklmnopqrs: SelfInsert 1 x = x|abcdefghijklmnopqrstuvwxyzabcdefghijklmnopqrs / put 'x' before 'abcdefghijklmnopqrstuvwxyzabcdefghijklmnopqrs' 1,1 24,0
+    |abcdefghijklmnopqrstuvwxyzabcdefghijklmnopqrst: SelfInsert 1 x = x|abcdefghijklmnopqrstuvwxyzabcdefghijklmnopqrst / draw '> x|abcdefghijklmnopqrstuvwxyzabcdefghijklmnopqrst' at 1,1 to 24,1 below 1
+";
+
+const TABLES: [&str; 4] = [INSERTIONS, HINTS_AND_HIGHLIGHTS, AFTER_TABS, INSIDE];
 
 #[test]
 fn insertions(rt: HostRuntime) -> Result<(), Fail> {

@@ -106,7 +106,32 @@ const WITH_HINTS: &str = "
     xyz|: Repaint; Kill BackwardChar 1 = xy| / move 0,5 to 0,4; clear row
 ";
 
-const TABLES: [&str; 3] = [DRAWN, KEPT, WITH_HINTS];
+// Before the end of a line, if lines are drawn in part.
+const INSIDE: &str = "
+    partial: yes = nothing
+    |abc: Kill ForwardChar 1 = |bc / move 0,2 to 0,2; take out 1 before 'bc' 0,4
+    ab|cd: Kill BackwardChar 1 = a|cd / move 0,4 to 0,3; take out 1 before 'cd' 0,5
+    one |two three: Kill ForwardWord 1 AfterEnd Emacs = one | three / move 0,6 to 0,6; take out 3 before ' three' 0,12
+    ab␊c|de: Kill ForwardChar 1 = ab␊c|e / move 1,1 to 1,1; take out 1 before 'e' 1,2
+    a|bc: Kill EndOfLine = a| / move 0,3 to 0,3; clear row
+    a|b␊c: Kill ForwardChar 1 = a|␊c / draw '> a|␊c' at 0,3 to 1,1
+    a|␊bc: Kill ForwardChar 1 = a|bc / draw '> a|bc' at 0,3 to 0,5
+    é|ab: Kill ForwardChar 1 = é|b / draw '> é|b' at 0,3 to 0,4
+    a|éb: Kill ForwardChar 1 = a|b / draw '> a|b' at 0,3 to 0,4
+
+    columns: 10 = nothing
+    |abcdefghij: Kill ForwardChar 1 = |bcdefghij / move 0,2 to 0,2; take out 1 before 'bcdefghij' 1,1
+    |abcdefghij: Kill ForwardChar 2 = |cdefghij / move 0,2 to 0,2; take out 2 before 'cdefghij' 1,0
+    |abcdefghij: Kill ForwardChar 3 = |defghij / draw '> |defghij' at 0,2 to 0,9
+    abcdefg|hijk: Kill ForwardChar 1 = abcdefg|ijk / move 0,9 to 0,9; take out 1 before 'ijk' 1,2
+    abcdefg|hijk: Kill ForwardChar 2 = abcdefg|jk / draw '> abcdefg|jk' at 0,9 to 1,1
+    abcdefghi|jk: Kill BackwardChar 1 = abcdefgh|jk / move 1,1 to 1,0; take out 1 before 'jk' 1,2
+    ab |cd efghijk: Kill ForwardWord 1 AfterEnd Emacs = ab | efghijk / move 0,5 to 0,5; take out 2 before ' efghijk' 1,3
+    ab cd |efghijk: Kill BackwardWord 1 Emacs = ab |efghijk / move 0,8 to 0,5; take out 3 before 'efghijk' 1,2
+    abc|defghijklmnopqrst: Kill ForwardChar 2 = abc|fghijklmnopqrst / move 0,5 to 0,5; take out 2 before 'fghijklmnopqrst' 2,0
+";
+
+const TABLES: [&str; 4] = [DRAWN, KEPT, WITH_HINTS, INSIDE];
 
 #[test]
 fn kills(rt: HostRuntime) -> Result<(), Fail> {

@@ -1,5 +1,5 @@
 -- The count of one byte.
-use Rattle.std.proofs.Common.{◌≡◌, ℕ, ◌+◌, ◌<◌, ◌==◌, not, nat_lt, nat_le, Bool, true, false, List, [], ◌∷◌, ◌++◌, take, Option, Some, None, is_some, encode_utf8, refl, ap, ◌∙◌, append-nil, arith, if◌then◌else◌}
+use Rattle.std.proofs.Common.{◌≡◌, ℕ, ◌+◌, ◌<◌, ◌==◌, not, nat_lt, nat_le, Bool, true, false, List, [], ◌∷◌, ◌++◌, take, drop, Option, Some, None, is_some, encode_utf8, refl, ap, ◌∙◌, append-nil, arith, if◌then◌else◌}
 use Rattle.std.specs.List.{flat_map}
 use Rattle.std.proofs.lemmas.Bool.{and_parts, and_from, not-true, lt-ltb, ltb-true}
 use Rattle.std.proofs.lemmas.Bool.Decides.{nat_tests}
@@ -20,7 +20,7 @@ use Rattle.line_keys.specs.Replies.{Reply, fails}
 use Rattle.line_editor.specs.Asks.{shown_in}
 use Rattle.line_editor.specs.Inserting.{is_bare, may_be_typed, may_be_appended, may_be_put_in, insertion_way, put_redraw, show_inserted_effect, insert_char}
 use Rattle.line_editor.specs.declared.way.Way.{Way}
-use Rattle.line_editor.specs.declared.way.Way.TheVariants.{AtEnd, Alone, InRow, Whole}
+use Rattle.line_editor.specs.declared.way.Way.TheVariants.{AtEnd, Alone, Inside, Whole}
 use Rattle.line_editor.specs.LineScripts.{Meets, LineState, turn_start, line_plan, made_from, meet_script, obey_script, phrase_script, played_from, steps_along, turn_script}
 use Rattle.line_editor.specs.Modal.{Modal, is_at_rest}
 use Rattle.line_editor.specs.NextCommand.{line_phrase}
@@ -79,15 +79,15 @@ one_tells s own l x (Draws v m (Erased prompt c text at)) h fits = by_test (may_
         → TellsSight (if b then erase_call l ((ruler_of s).measure (encode_utf8 c) origin).col else full (ruler_of s) (shown_marks v m) l prompt true text at None).layout (sight x (Draws v m (Erased prompt c text at)))
     by_test true e = record { info_is = not-true l.has_info (and_parts (not l.has_info) _ e).0; given_is = h.given_is ∙ fits.0 }
     by_test false e = record { info_is = refl; given_is = refl }
-one_tells s own l x (Draws v m (PutIn prompt c text at)) h fits = by_test (may_put_in (ruler_of s) l) refl
+one_tells s own l x (Draws v m (PutIn prompt c text at)) h fits = by_test (may_put_in (ruler_of s) l (drop at text)) refl
   where
-    by_test : (b : Bool) → may_put_in (ruler_of s) l ≡ b → TellsSight (if b then put_in_short l c else full (ruler_of s) (shown_marks v m) l prompt true text at None).layout (sight x (Draws v m (PutIn prompt c text at)))
+    by_test : (b : Bool) → may_put_in (ruler_of s) l (drop at text) ≡ b → TellsSight (if b then put_in_short (ruler_of s) l c (drop at text) else full (ruler_of s) (shown_marks v m) l prompt true text at None).layout (sight x (Draws v m (PutIn prompt c text at)))
     by_test true e = record { info_is = not-true l.has_info (and_parts (not l.has_info) _ e).0; given_is = h.given_is ∙ fits.0 }
     by_test false e = record { info_is = refl; given_is = refl }
-one_tells s own l x (Draws v m (TakenOut prompt count text at)) h fits = by_test (may_take_out l ((ruler_of s).measure (take at text) l.prompt_size) count) refl
+one_tells s own l x (Draws v m (TakenOut prompt count text at)) h fits = by_test (may_take_out (ruler_of s) l ((ruler_of s).measure (take at text) l.prompt_size) count (drop at text)) refl
   where
-    by_test : (b : Bool) → may_take_out l ((ruler_of s).measure (take at text) l.prompt_size) count ≡ b
-        → TellsSight (if b then taken_out_short l ((ruler_of s).measure (take at text) l.prompt_size) count else full (ruler_of s) (shown_marks v m) l prompt true text at None).layout (sight x (Draws v m (TakenOut prompt count text at)))
+    by_test : (b : Bool) → may_take_out (ruler_of s) l ((ruler_of s).measure (take at text) l.prompt_size) count (drop at text) ≡ b
+        → TellsSight (if b then taken_out_short l ((ruler_of s).measure (take at text) l.prompt_size) count (drop at text) else full (ruler_of s) (shown_marks v m) l prompt true text at None).layout (sight x (Draws v m (TakenOut prompt count text at)))
     by_test true e = record { info_is = not-true l.has_info (and_parts (not l.has_info) _ e).0; given_is = h.given_is ∙ fits.0 }
     by_test false e = record { info_is = refl; given_is = refl }
 one_tells s own l x (Draws v m (Bared prompt text at)) h fits = by_test l.default_prompt (h.given_is ∙ fits)
@@ -140,7 +140,7 @@ sent_short s l a u step c b way room after nothing =
 
 -- by its own drawing if the line may be drawn in part, and ends apart; otherwise by its byte
 typed_way : (a : Setting) (v : Value) (c : ℕ) → TypedAtEnd a v c → insertion_way a c 1 v ≡ (if may_be_appended a.config.partial_redraw c 1 v then Alone else AtEnd)
-typed_way a v c t = ap (λ b. if may_be_appended a.config.partial_redraw c 1 v then Alone else if b then AtEnd else if may_be_put_in a.config.partial_redraw c 1 v then InRow else Whole) t.alone
+typed_way a v c t = ap (λ b. if may_be_appended a.config.partial_redraw c 1 v then Alone else if b then AtEnd else if may_be_put_in a.config.partial_redraw c 1 v then Inside else Whole) t.alone
 
 typed_bytes : (s : Screen) (l : Layout) (a : Setting) (v : Value) (c : ℕ) → TypedAtEnd a v c
     → (let e = insert_char c 1 a v in let way = if may_be_appended a.config.partial_redraw c 1 v then Alone else AtEnd in bytes_for s l e.steps ≡ bytes_for s l (Draws e.value a.marks (put_redraw way c a e.value) ∷ []))

@@ -197,9 +197,9 @@ module _ {R K E W T : Type 0} where
   plays_by known held failed config config' options words shown wrote old bytes last r same plays =
       subst (λ (x : Config). IfOk r (PlaysOver known held failed x options words shown wrote old bytes last)) same plays
 
-  pub refused_by : {F X : Type 0} (feed : F → Feed) (shown : E → Option (List ℕ)) (written : W → Option (List ℕ)) (config config' : Config) (old : List ℕ) (keys : R) (display : E) (lines : W)
-      (r : Result X (Unopened F (ReadSource R K) (WriteSink E) (WriteSink W) T)) → config ≡ config' → IfErr r (UnopensOver feed shown written config old keys display lines)
-      → IfErr r (λ unopened. LoadRefused config' (fresh_feed old End) (feed unopened.history) unopened.why)
-  refused_by feed shown written config config' old keys display lines r same refused =
-      IfErr-weaker r (UnopensOver feed shown written config old keys display lines) (λ unopened. LoadRefused config' (fresh_feed old End) (feed unopened.history) unopened.why)
-      (λ unopened u. subst (λ (x : Config). LoadRefused x (fresh_feed old End) (feed unopened.history) unopened.why) same u.fault) refused
+-- a history that doesn't load, by settings that are equal
+pub refused_by : {F R E W T X : Type 0} (feed : F → Feed) (config config' : Config) (old : List ℕ) (keys : R) (display : E) (lines : W) (r : Result X (Unopened F R E W T))
+    → config ≡ config' → IfErr r (UnopensOver feed config old keys display lines) → IfErr r (λ unopened. LoadRefused config' (fresh_feed old End) (feed unopened.history) unopened.why)
+refused_by feed config config' old keys display lines r same refused =
+    IfErr-weaker r (UnopensOver feed config old keys display lines) (λ unopened. LoadRefused config' (fresh_feed old End) (feed unopened.history) unopened.why)
+    (λ unopened u. subst (λ (x : Config). LoadRefused x (fresh_feed old End) (feed unopened.history) unopened.why) same u.fault) refused

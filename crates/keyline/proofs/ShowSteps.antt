@@ -1,5 +1,5 @@
 -- A step leads from what is shown before it to what is to be shown after it.
-use Rattle.std.proofs.Common.{◌≡◌, ◌≢◌, ℕ, ◌+◌, ◌==◌, not, ◌<◌, ◌≤◌, inl, inr, nat_lt, nat_le, Bool, true, false, List, [], ◌∷◌, ◌++◌, take, take_all, ap₂, length, length-append, map, Option, Some, None, is_some, encode_utf8, refl, sym, ap, ◌∙◌, subst, append-nil, arith, if◌then◌else◌}
+use Rattle.std.proofs.Common.{◌≡◌, ◌≢◌, ℕ, ◌+◌, ◌==◌, not, ◌<◌, ◌≤◌, inl, inr, nat_lt, nat_le, Bool, true, false, List, [], ◌∷◌, ◌++◌, take, drop, take_all, ap₂, length, length-append, map, Option, Some, None, is_some, encode_utf8, refl, sym, ap, ◌∙◌, subst, append_assoc, append-nil, arith, if◌then◌else◌}
 use Rattle.std.specs.List.{filter, flat_map}
 use Rattle.std.proofs.lemmas.Bool.{and_parts, not-true, eqb-true, lt-ltb, ltb-true}
 use Rattle.std.proofs.lemmas.Bool.Decides.{nat_tests}
@@ -10,7 +10,7 @@ use Rattle.line_buffer.specs.declared.layout.Layout.{Layout}
 use Rattle.line_buffer.specs.declared.layout.Position.{Position}
 use Rattle.line_editor.specs.RenderCalls.{Call, Marks}
 use Rattle.line_editor.specs.RenderCalls.Call.{Draw, Move, Write, Beep, ClearScreen, MoveAndClearToEol, InsertChar, MoveAndDelete, Append, Help}
-use Rattle.line_editor.specs.Redraws.{info_text, fresh, layout_of, full, nothing_asked, move_call, column_on, column_back, char_call, append_call, erase_call, put_in_short, taken_out_short, fits_in_row, may_type, may_take, may_erase, may_put_in, may_take_out}
+use Rattle.line_editor.specs.Redraws.{RedrawCalls, info_text, fresh, layout_of, full, nothing_asked, move_call, column_on, column_back, cell_on, char_call, append_call, erase_call, put_in_short, taken_out_short, fits_in_row, may_type, may_take, may_erase, may_put_in, may_take_out}
 use Rattle.line_editor.specs.Redraws.Redraw.{Drawn, Moved, Typed, Appended, Taken, Erased, PutIn, TakenOut, Bared, ToEnd, Beeped, Cleared}
 use Rattle.line_editor.specs.Sights.{Sight, PartSpans, SameStyles, sight_with, sight_as, no_sight, sight, ended_sight, TypedFits, AppendedFits, TakenFits, ErasedFits, PutInFits, TakenOutFits, Fits}
 use Rattle.line_editor.specs.EditSteps.{one}
@@ -28,7 +28,7 @@ use Rattle.line_screen.proofs.LawLemmas.{calls_lead, place_is_free, measures_go_
 use Rattle.line_screen.proofs.Leading.{line_cursor, line_finish, over_again}
 use Rattle.line_screen.proofs.ListLemmas.{filter_none, list_all_true}
 use Rattle.line_screen.proofs.ShortLemmas.{typing_leads, appending_leads, killing_leads, erasing_leads, putting_in_leads, taking_out_leads}
-use Rattle.std.proofs.lemmas.List.{take_at}
+use Rattle.std.proofs.lemmas.List.{take_at, drop_at}
 use Rattle.keyline.specs.Shows.{picture, place_in, view_in, DisplayHolds, Low, LowStep, top_by, above_by}
 
 same_if : (a b : Position) → same_cell a b ≡ true → a ≡ b
@@ -383,20 +383,29 @@ module _ (s : Screen) (low : 2 ≤ s.columns) (high : s.columns ≤ 1000) where
       ap (λ spans. bare_sight spans prompt text at) (k.same none)
       ∙ ap (λ p. bare_sight x.spans p text at) t.prompt_is ∙ ap (λ p. bare_sight x.spans x.prompt p at) t.text_is ∙ ap (λ n. bare_sight x.spans x.prompt (t.before ++ c ∷ t.rest) n) t.behind
 
+  put_in_rest : (x : Sight) (prompt : List ℕ) (c : ℕ) (text : List ℕ) (at : ℕ) → (t : PutInFits x prompt c text at) → drop at text ≡ t.rest
+  put_in_rest x prompt c text at t =
+      let count = length-append t.before (c ∷ []) in
+      ap₂ drop t.behind (t.text_is ∙ sym (append_assoc t.before (c ∷ []) t.rest)) ∙ drop_at (t.before ++ c ∷ []) t.rest (length t.before + 1) (omega arith)
+
   put_in_if : (bytes : List ℕ) (over : List Placed) (top : ℕ) (m : Option Marks) (l : Layout) (x : Sight) (prompt : List ℕ) (c : ℕ) (text : List ℕ) (at : ℕ) (b : Bool) → DisplayHolds s bytes over top l x
-      → x.given ≡ true → x.ended ≡ false → PutInFits x prompt c text at → SameStyles x m prompt text at → Low s (sight_as m prompt text at None) → may_put_in (ruler_of s) l ≡ b
-      → (let a = if b then put_in_short l c else full (ruler_of s) m l prompt true text at None in DisplayHolds s (bytes ++ flat_map (bytes_of s) a.calls) over top a.layout (sight_as m prompt text at None))
+      → x.given ≡ true → x.ended ≡ false → PutInFits x prompt c text at → SameStyles x m prompt text at → Low s (sight_as m prompt text at None) → may_put_in (ruler_of s) l (drop at text) ≡ b
+      → (let a = if b then put_in_short (ruler_of s) l c (drop at text) else full (ruler_of s) m l prompt true text at None in DisplayHolds s (bytes ++ flat_map (bytes_of s) a.calls) over top a.layout (sight_as m prompt text at None))
   put_in_if bytes over top m l x prompt c text at false h given unended t k rows e = drawn_holds bytes over top m l x prompt true text at None h.good h.cursor rows
   put_in_if bytes over top m l x prompt c text at true h given unended t k rows e =
       let w = view_in s top x in
       let free = (and_parts (not l.has_info) _ e).0 in
       let none = nothing_after bytes over top l x h free in
       let y = bare_sight x.spans x.prompt (t.before ++ c ∷ t.rest) (length t.before + 1) in
-      let there : View = record { shown = picture y; top = top; place = column_on l.cursor } in
-      let leads = putting_in_leads s low high l w t.before t.rest c (tells bytes over top l x h) (place_if x unended) (no_styles_in x k.unstyled) t.plain t.printable t.whole t.at e in
-      let new = bytes ++ flat_map (bytes_of s) (InsertChar c ∷ []) in
-      let good : Good s.columns (widths s) new over there = one_led bytes over w there (InsertChar c) h.good leads.0 refl (λ e. cc) in
-      let done : DisplayHolds s new over top (put_in_short l c).layout y = record {
+      let cursor = cell_on s.columns l.cursor in
+      let there : View = record { shown = picture y; top = top; place = cursor } in
+      let after : List ℕ → RedrawCalls = put_in_short (ruler_of s) l c in
+      let rest_is = put_in_rest x prompt c text at t in
+      let leads = putting_in_leads s low high l w t.before t.rest c (tells bytes over top l x h) (place_if x unended) (no_styles_in x k.unstyled) t.plain t.printable t.whole t.at (subst (λ r. may_put_in (ruler_of s) l r ≡ true) rest_is e) in
+      let call = InsertChar c t.rest l.cursor cursor (cell_on s.columns l.end) in
+      let new = bytes ++ flat_map (bytes_of s) (call ∷ []) in
+      let good : Good s.columns (widths s) new over there = one_led bytes over w there call h.good leads.0 refl (λ e. cc) in
+      let done : DisplayHolds s new over top (after t.rest).layout y = record {
         good = subst (λ p. Good s.columns (widths s) new over (record { shown = picture y; top = top; place = p })) leads.1 good;
         cursor = leads.1;
         finish = leads.2;
@@ -404,7 +413,8 @@ module _ (s : Screen) (low : 2 ≤ s.columns) (high : s.columns ≤ 1000) where
         info_is = not-true l.has_info free;
         given_is = h.given_is ∙ given;
       } in
-      subst (DisplayHolds s new over top (put_in_short l c).layout) (sym (put_in_is m x prompt c text at t k none)) done
+      subst (λ r. DisplayHolds s (bytes ++ flat_map (bytes_of s) (after r).calls) over top (after r).layout (sight_as m prompt text at None)) (sym rest_is)
+      (subst (DisplayHolds s new over top (after t.rest).layout) (sym (put_in_is m x prompt c text at t k none)) done)
 
   -- ---- characters taken out
 
@@ -414,10 +424,13 @@ module _ (s : Screen) (low : 2 ≤ s.columns) (high : s.columns ≤ 1000) where
       ap (λ spans. bare_sight spans prompt text at) (k.same none)
       ∙ ap (λ p. bare_sight x.spans p text at) t.prompt_is ∙ ap (λ p. bare_sight x.spans x.prompt p at) t.text_is ∙ ap (λ n. bare_sight x.spans x.prompt (t.before ++ t.rest) n) t.at
 
+  taken_out_rest : (x : Sight) (prompt : List ℕ) (count : ℕ) (text : List ℕ) (at : ℕ) → (t : TakenOutFits x prompt count text at) → drop at text ≡ t.rest
+  taken_out_rest x prompt count text at t = ap₂ drop t.at t.text_is ∙ drop_at t.before t.rest (length t.before) refl
+
   taken_out_if : (bytes : List ℕ) (over : List Placed) (top : ℕ) (m : Option Marks) (l : Layout) (x : Sight) (prompt : List ℕ) (count : ℕ) (text : List ℕ) (at : ℕ) (b : Bool) → DisplayHolds s bytes over top l x
       → x.given ≡ true → TakenOutFits x prompt count text at → SameStyles x m prompt text at → Low s (sight_as m prompt text at None)
-      → (let cell = measure_of s.mode s.tab s.columns (take at text) l.prompt_size in may_take_out l cell count ≡ b
-      → (let a = if b then taken_out_short l cell count else full (ruler_of s) m l prompt true text at None in DisplayHolds s (bytes ++ flat_map (bytes_of s) a.calls) over top a.layout (sight_as m prompt text at None)))
+      → (let cell = measure_of s.mode s.tab s.columns (take at text) l.prompt_size in may_take_out (ruler_of s) l cell count (drop at text) ≡ b
+      → (let a = if b then taken_out_short l cell count (drop at text) else full (ruler_of s) m l prompt true text at None in DisplayHolds s (bytes ++ flat_map (bytes_of s) a.calls) over top a.layout (sight_as m prompt text at None)))
   taken_out_if bytes over top m l x prompt count text at false h given t k rows e = drawn_holds bytes over top m l x prompt true text at None h.good h.cursor rows
   taken_out_if bytes over top m l x prompt count text at true h given t k rows e =
       let w = view_in s top x in
@@ -434,20 +447,27 @@ module _ (s : Screen) (low : 2 ≤ s.columns) (high : s.columns ≤ 1000) where
       let at_is : cell ≡ cursor_of s.columns (widths s) (with_text w.shown t.before (length t.before)) =
       cell_is ∙ ap (λ xs. place_after s.columns (text_of x.prompt ++ text_of xs) origin) cut in
       let there : View = record { shown = picture y; top = top; place = cell } in
-      let leads = taking_out_leads s low high l w t.before t.killed t.rest cell (tells bytes over top l x h) h.good.inside (no_styles_in x k.unstyled) t.plain t.whole at_is (subst (λ n. may_take_out l cell n ≡ true) t.count_is e) in
-      let made = one_led bytes over w there (MoveAndDelete w.place cell (length t.killed)) h.good leads.0 refl (λ e. cc) in
-      let new = bytes ++ flat_map (bytes_of s) (MoveAndDelete l.cursor cell count ∷ []) in
-      let bytes_are : bytes ++ flat_map (bytes_of s) (MoveAndDelete w.place cell (length t.killed) ∷ []) ≡ new =
-      ap (λ p. bytes ++ flat_map (bytes_of s) (MoveAndDelete p cell (length t.killed) ∷ [])) (sym h.cursor) ∙ ap (λ n. bytes ++ flat_map (bytes_of s) (MoveAndDelete l.cursor cell n ∷ [])) (sym t.count_is) in
-      let done : DisplayHolds s new over top (taken_out_short l cell count).layout y = record {
+      let gone = length t.killed in
+      let rest_is = taken_out_rest x prompt count text at t in
+      let may : may_take_out (ruler_of s) l cell gone t.rest ≡ true =
+      subst (λ n. may_take_out (ruler_of s) l cell n t.rest ≡ true) t.count_is (subst (λ r. may_take_out (ruler_of s) l cell count r ≡ true) rest_is e) in
+      let leads = taking_out_leads s low high l w t.before t.killed t.rest cell (tells bytes over top l x h) h.good.inside (no_styles_in x k.unstyled) t.plain t.whole t.printable at_is may (inside_finish y low_y).row in
+      let call : Position → Call = λ p. MoveAndDelete p cell gone t.rest (column_back gone l.end) in
+      let made = one_led bytes over w there (call w.place) h.good leads.0 refl (λ e. cc) in
+      let new = bytes ++ flat_map (bytes_of s) (call l.cursor ∷ []) in
+      let bytes_are : bytes ++ flat_map (bytes_of s) (call w.place ∷ []) ≡ new = ap (λ p. bytes ++ flat_map (bytes_of s) (call p ∷ [])) (sym h.cursor) in
+      let after : ℕ → List ℕ → RedrawCalls = taken_out_short l cell in
+      let done : DisplayHolds s new over top (after gone t.rest).layout y = record {
         good = subst (λ p. Good s.columns (widths s) new over (record { shown = picture y; top = top; place = p })) leads.1 (subst (λ b. Good s.columns (widths s) b over there) bytes_are made);
         cursor = leads.1;
-        finish = ap (λ n. column_back n l.end) t.count_is ∙ leads.2;
+        finish = leads.2;
         prompt_size = h.prompt_size;
         info_is = not-true l.has_info free;
         given_is = h.given_is ∙ given;
       } in
-      subst (DisplayHolds s new over top (taken_out_short l cell count).layout) (sym same) done
+      subst (λ r. DisplayHolds s (bytes ++ flat_map (bytes_of s) (after count r).calls) over top (after count r).layout (sight_as m prompt text at None)) (sym rest_is)
+      (subst (λ n. DisplayHolds s (bytes ++ flat_map (bytes_of s) (after n t.rest).calls) over top (after n t.rest).layout (sight_as m prompt text at None)) (sym t.count_is)
+      (subst (DisplayHolds s new over top (after gone t.rest).layout) (sym same) done))
 
   -- ---- no call, also if the session's own prompt stands
 
@@ -487,9 +507,9 @@ module _ (s : Screen) (low : 2 ≤ s.columns) (high : s.columns ≤ 1000) where
   step own bytes over top l x (Draws v m (Appended prompt c text at)) h fits rows = appended_if bytes over top (shown_marks v m) l x prompt c text at l.has_info h fits.0 fits.2 fits.3 fits.4 rows refl
   step own bytes over top l x (Draws v m (Taken prompt count text at)) h fits rows = taken_if bytes over top (shown_marks v m) l x prompt count text at (may_take l count) h fits.0 fits.2 fits.3 rows refl
   step own bytes over top l x (Draws v m (Erased prompt c text at)) h fits rows = erased_if bytes over top (shown_marks v m) l x prompt c text at (may_erase (ruler_of s) l c) h fits.0 fits.2 fits.3 rows refl
-  step own bytes over top l x (Draws v m (PutIn prompt c text at)) h fits rows = put_in_if bytes over top (shown_marks v m) l x prompt c text at (may_put_in (ruler_of s) l) h fits.0 fits.2 fits.3 fits.4 rows refl
+  step own bytes over top l x (Draws v m (PutIn prompt c text at)) h fits rows = put_in_if bytes over top (shown_marks v m) l x prompt c text at (may_put_in (ruler_of s) l (drop at text)) h fits.0 fits.2 fits.3 fits.4 rows refl
   step own bytes over top l x (Draws v m (TakenOut prompt count text at)) h fits rows =
-      taken_out_if bytes over top (shown_marks v m) l x prompt count text at (may_take_out l (measure_of s.mode s.tab s.columns (take at text) l.prompt_size) count) h fits.0 fits.2 fits.3 rows refl
+      taken_out_if bytes over top (shown_marks v m) l x prompt count text at (may_take_out (ruler_of s) l (measure_of s.mode s.tab s.columns (take at text) l.prompt_size) count (drop at text)) h fits.0 fits.2 fits.3 rows refl
   step own bytes over top l x (Draws v m (Bared prompt text at)) h fits rows = bared_if bytes over top (shown_marks v m) l x prompt text at l.default_prompt h (h.given_is ∙ fits)
   step own bytes over top l x (Draws v m ToEnd) h fits rows = end_if bytes over top l x (same_cell l.cursor l.end) h (record { finish = rows.finish; cursor = rows.cursor }) refl
   step own bytes over top l x (Draws v m Beeped) h fits rows = same_holds bytes over top l x Beep h refl (λ e. cc)

@@ -36,7 +36,7 @@ use Rattle.keyline.specs.declared.options.Options.{Options}
 use Rattle.keyline.specs.declared.session.TheConstants.{KILL_RING_SIZE}
 use Rattle.keyline.specs.declared.session.Ended.{Ended}
 use Rattle.keyline.specs.declared.session.Unopened.{Unopened}
-use Rattle.line_config.specs.Adapters.{IsUnread, IsUnused, bytes_sent, bytes_taken}
+use Rattle.line_config.specs.Adapters.{bytes_sent, bytes_taken}
 use Rattle.line_config.specs.Sending.{AppendsSome}
 use Rattle.line_config.specs.declared.adapters.ReadSource.{ReadSource}
 use Rattle.line_config.specs.declared.adapters.WriteSink.{WriteSink}
@@ -209,12 +209,11 @@ pub record PlaysOver {R K E W T : Type 0}
   pub written : known.write_failed ended.lines ≡ false → bytes_sent ended.lines
       ≡ bytes_taken ended.lines
 
--- no session was opened, and no call was made of the reader and the writers that were passed in
-pub record UnopensOver {F R K E W T : Type 0} (feed : F → Feed) (shown : E → Option (List ℕ))
-    (written : W → Option (List ℕ)) (config : Config) (old : List ℕ) (keys : R) (display : E)
-    (lines : W)
-    (unopened : Unopened F (ReadSource R K) (WriteSink E) (WriteSink W) T) : Type 0 where
+-- no session was opened, and the reader and the writers are as they were passed in: no call of them
+-- was made
+pub record UnopensOver {F R E W T : Type 0} (feed : F → Feed) (config : Config) (old : List ℕ)
+    (keys : R) (display : E) (lines : W) (unopened : Unopened F R E W T) : Type 0 where
   pub fault : LoadRefused config (fresh_feed old End) (feed unopened.history) unopened.why
-  pub keys_are : IsUnread keys unopened.source
-  pub display_is : IsUnused shown display unopened.display
-  pub lines_are : IsUnused written lines unopened.lines
+  pub keys_are : unopened.source ≡ keys
+  pub display_is : unopened.display ≡ display
+  pub lines_are : unopened.lines ≡ lines

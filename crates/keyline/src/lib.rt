@@ -24,6 +24,7 @@ pub mod program;
 pub mod prompter;
 pub mod session;
 
+pub use boxed::Boxed;
 pub use builder::DefaultBuilder;
 pub use builder::Nowhere;
 pub use builder::SessionBuilder;

@@ -1,17 +1,19 @@
 //! A session with the program's options.
 
 ghost use Rattle.std.specs.Prelude.{◌≡◌, ◌≤◌, IfErr, IfOk, [], false, if◌then◌else◌};
+ghost use Rattle.line_config.specs.Adapters.{reader_of, writer_of};
 ghost use Rattle.keyline.specs.KnownDevices.{devices_by};
 ghost use Rattle.keyline.specs.Program.{EditsBy, PlaysOver, UnopensOver, IsByEnvironment, config_of, had_by, has_text, helper_of, invoked_config, profile_of, config_without_colours, word_texts};
 ghost use Rattle.keyline.specs.SessionRuns.{Unopens};
 
+use crate::boxed::{Boxed, Devices};
 use crate::edit_helper::EditHelper;
 use crate::invocation::Invocation;
 use crate::options::Options;
 use crate::session::{Ended, Session, Unopened};
 use line_config::{
-    CompletionType, Config, Configurer, Foretold, ReadSource, Sink, SliceSource, Source, VecSink,
-    WriteSink,
+    CompletionType, Config, Configurer, Foretold, ReadSource, ReadlineError, Sink, SliceSource,
+    Source, VecSink, WriteSink,
 };
 use line_help::{
     HelperParts, MatchingBracketValidator, PromptHighlighter, StandardHighlighter, WordCompleter,
@@ -173,24 +175,62 @@ pub fn edit_with<
         config options.now (word_texts words) history source display lines text) }
     ensures refused { IfErr result (Unopens F.feed config history source display lines text) }
 {
+    let devices = match Devices::new(alloc, source, display, lines) {
+        Ok(devices) => devices,
+        Err((source, display, lines)) => return Err(Unopened::new(
+            ReadlineError::Memory,
+            history,
+            source,
+            display,
+            lines,
+            text,
+        )),
+    };
+    match edit_boxed(alloc, config, options, words, history, devices, text) {
+        Ok(ended) => Ok(ended.unboxed()),
+        Err(unopened) => Err(unopened.unboxed()),
+    }
+}
+
+/// The same with devices that are in their boxes.
+fn edit_boxed<F: Source + Drop, S: Source + Drop, D: Sink + Drop, L: Sink + Drop, T: Sink + Drop>(
+    alloc: Global,
+    config: Config,
+    options: &Options,
+    words: Option<Vec<String>>,
+    history: F,
+    devices: Devices<S, D, L>,
+    text: T,
+) -> Result<Ended<Boxed<S>, Boxed<D>, Boxed<L>, T>, Unopened<F, Boxed<S>, Boxed<D>, Boxed<L>, T>>
+    requires columns { (2 ≤ options.now.columns) × (options.now.columns ≤ 1000) }
+    requires history { (F.feed history).failed ≡ false }
+    requires source { (S.feed devices.source).failed ≡ false }
+    requires display { D.has_failed devices.display ≡ false }
+    requires lines { L.has_failed devices.lines ≡ false }
+    requires text { T.has_failed text ≡ false }
+    ensures edits { IfOk result (EditsBy F.feed
+        (devices_by S.feed D.held D.waits D.has_failed L.held L.waits L.has_failed) T.held
+        T.has_failed config options.now (word_texts words) history devices.source devices.display
+        devices.lines text) }
+    ensures refused { IfErr result (Unopens F.feed config history devices.source devices.display
+        devices.lines text) }
+{
     let helper = helper_of(&config, options, words);
-    let session = match Session::open(
+    let session = match Session::open_boxed(
         alloc,
         config,
         Bindings::new(alloc).unwrap(),
         history,
         helper,
         options.prompt.as_str(),
-        source,
+        devices,
         options.columns,
-        display,
-        lines,
         text,
     ) {
         Ok(session) => session,
         Err(unopened) => return Err(unopened),
     };
-    Ok(session.run())
+    Ok(session.run_boxed())
 }
 
 /// The same over any reader of keys and any writers, which are flushed at the end, and with a
@@ -198,8 +238,9 @@ pub fn edit_with<
 ///
 /// `K` says which bytes the reader, as it is passed in, is assumed to give. If what its reads gave
 /// agrees with them, the session is that of these bytes, and the writers got its display bytes and
-/// its lines. An error means that the session was not opened: the text isn't UTF-8, or memory ran
-/// out. Then reader and writers come back, and no call of them was made.
+/// its lines. The devices are made in boxes, and return so. An error means that the session was not
+/// opened: the text isn't UTF-8, or memory ran out. Then reader and writers come back, and no call
+/// of them was made.
 pub fn play<'a, K: Foretold<R>, R: Read + Drop, E: Write + Drop, W: Write + Drop>(
     alloc: Global,
     options: &Options,
@@ -209,8 +250,8 @@ pub fn play<'a, K: Foretold<R>, R: Read + Drop, E: Write + Drop, W: Write + Drop
     display: E,
     lines: W,
 ) -> Result<
-    Ended<ReadSource<R, K>, WriteSink<E>, WriteSink<W>, VecSink>,
-    Unopened<SliceSource<'a>, ReadSource<R, K>, WriteSink<E>, WriteSink<W>, VecSink>,
+    Ended<Boxed<ReadSource<R, K>>, Boxed<WriteSink<E>>, Boxed<WriteSink<W>>, VecSink>,
+    Unopened<SliceSource<'a>, R, E, W, VecSink>,
 >
     requires { (2 ≤ options.now.columns) × (options.now.columns ≤ 1000) }
     ensures plays { let known = devices_by ⟦<ReadSource<R, K> as Source>⟧.feed
@@ -222,7 +263,7 @@ pub fn play<'a, K: Foretold<R>, R: Read + Drop, E: Write + Drop, W: Write + Drop
         (config_of options.now) options.now (word_texts words) (had_by E.contents display)
         (had_by W.contents lines) old.entry.now (K.left keys []) K.last) }
     ensures refused { IfErr result (UnopensOver ⟦<SliceSource<'a> as Source>⟧.feed
-        E.contents W.contents (config_of options.now) old.entry.now keys display lines) }
+        (config_of options.now) old.entry.now keys display lines) }
 {
     play_with(
         alloc,
@@ -247,8 +288,8 @@ pub fn play_with<'a, K: Foretold<R>, R: Read + Drop, E: Write + Drop, W: Write +
     display: E,
     lines: W,
 ) -> Result<
-    Ended<ReadSource<R, K>, WriteSink<E>, WriteSink<W>, VecSink>,
-    Unopened<SliceSource<'a>, ReadSource<R, K>, WriteSink<E>, WriteSink<W>, VecSink>,
+    Ended<Boxed<ReadSource<R, K>>, Boxed<WriteSink<E>>, Boxed<WriteSink<W>>, VecSink>,
+    Unopened<SliceSource<'a>, R, E, W, VecSink>,
 >
     requires { (2 ≤ options.now.columns) × (options.now.columns ≤ 1000) }
     ensures plays { let known = devices_by ⟦<ReadSource<R, K> as Source>⟧.feed
@@ -259,25 +300,56 @@ pub fn play_with<'a, K: Foretold<R>, R: Read + Drop, E: Write + Drop, W: Write +
         IfOk result (PlaysOver known ⟦<VecSink as Sink>⟧.held ⟦<VecSink as Sink>⟧.has_failed
         config options.now (word_texts words) (had_by E.contents display)
         (had_by W.contents lines) old.entry.now (K.left keys []) K.last) }
-    ensures refused { IfErr result (UnopensOver ⟦<SliceSource<'a> as Source>⟧.feed
-        E.contents W.contents config old.entry.now keys display lines) }
+    ensures refused { IfErr result (UnopensOver ⟦<SliceSource<'a> as Source>⟧.feed config
+        old.entry.now keys display lines) }
 {
-    let source: ReadSource<R, K> = ReadSource::foretold(keys);
-    let mut played = match edit_with(
+    let devices = match Devices::over(alloc, keys, display, lines) {
+        Ok(devices) => devices,
+        Err((keys, display, lines)) => return Err(Unopened::new(
+            ReadlineError::Memory,
+            SliceSource::new(old),
+            keys,
+            display,
+            lines,
+            VecSink::new(alloc),
+        )),
+    };
+    let mut played = match edit_boxed::<_, ReadSource<R, K>, _, _, _>(
         alloc,
         config,
         options,
         words,
         SliceSource::new(old),
-        source,
-        WriteSink::new(display),
-        WriteSink::new(lines),
+        devices,
         VecSink::new(alloc),
     ) {
         Ok(played) => played,
-        Err(unopened) => return Err(unopened),
+        Err(unopened) => return Err(handed_back(unopened)),
     };
     let _ = played.display.flush();
     let _ = played.lines.flush();
     Ok(played)
+}
+
+/// The same with the reader and the writers in place of the devices.
+fn handed_back<F: Drop, K: Foretold<R>, R: Read + Drop, E: Write + Drop, W: Write + Drop, T: Drop>(
+    unopened: Unopened<F, Boxed<ReadSource<R, K>>, Boxed<WriteSink<E>>, Boxed<WriteSink<W>>, T>,
+) -> Unopened<F, R, E, W, T>
+    ensures { result ≡ record {
+      why = unopened.why;
+      history = unopened.history;
+      source = reader_of unopened.source;
+      display = writer_of unopened.display;
+      lines = writer_of unopened.lines;
+      text = unopened.text;
+    } }
+{
+    Unopened {
+        why: unopened.why,
+        history: unopened.history,
+        source: unopened.source.into_reader(),
+        display: unopened.display.into_writer(),
+        lines: unopened.lines.into_writer(),
+        text: unopened.text,
+    }
 }

@@ -1,5 +1,5 @@
 -- From the last whole drawing on, the bytes of a line's steps show by themselves what all of them show.
-use Rattle.std.proofs.Common.{◌≡◌, ◌⊎◌, inl, inr, ℕ, zero, suc, ◌+◌, ◌-◌, ◌/◌, ◌%◌, ◌<◌, ◌≤◌, ◌==◌, nat_lt, nat_le, Bool, true, false, not, ◌&&◌, ◌||◌, List, [], ◌∷◌, ◌++◌, take, decimal, Option, None, Some, refl, sym, ap, ◌∙◌, subst, append_assoc, append-nil, arith, true≢false, if◌then◌else◌}
+use Rattle.std.proofs.Common.{◌≡◌, ◌⊎◌, inl, inr, ℕ, zero, suc, ◌+◌, ◌-◌, ◌/◌, ◌%◌, ◌<◌, ◌≤◌, ◌==◌, nat_lt, nat_le, Bool, true, false, not, ◌&&◌, ◌||◌, List, [], ◌∷◌, ◌++◌, take, drop, decimal, Option, None, Some, refl, sym, ap, ◌∙◌, subst, append_assoc, append-nil, arith, true≢false, if◌then◌else◌}
 use Rattle.std.specs.Prelude.{⊤, codes, encode_utf8}
 use Rattle.std.specs.Fmt.{digits, digit_glyph, digits_onto}
 use Rattle.std.specs.List.{flat_map, list_all}
@@ -15,8 +15,8 @@ use Rattle.line_buffer.specs.declared.layout.Position.{Position}
 use Rattle.line_buffer.specs.declared.layout.TabStops.{TabStops}
 use Rattle.line_config.specs.declared.settings.BellStyle.{BellStyle}
 use Rattle.line_config.specs.declared.settings.BellStyle.TheVariants as Bell
-use Rattle.line_editor.specs.RenderCalls.{Marks}
-use Rattle.line_editor.specs.Redraws.{info_text, fresh, full, nothing_asked, move_call, char_call, append_call, erase_call, put_in_short, taken_out_short, may_type, may_take, may_erase, may_put_in, may_take_out}
+use Rattle.line_editor.specs.RenderCalls.{Marks, Ruler}
+use Rattle.line_editor.specs.Redraws.{info_text, fresh, full, nothing_asked, move_call, char_call, append_call, erase_call, put_in_short, taken_out_short, cell_on, column_back, may_type, may_take, may_erase, may_put_in, may_take_out}
 use Rattle.line_editor.specs.Redraws.Redraw.{Drawn, Moved, Typed, Appended, Taken, Erased, PutIn, TakenOut, Bared, ToEnd, Beeped, Cleared}
 use Rattle.line_editor.specs.Sights.{Sight, sight_with, sight_as, no_sight, sight, sight_all, spans_by, Fits, FitsAll, TypedFits, PutInFits}
 use Rattle.line_editor.specs.EditSteps.{one}
@@ -27,7 +27,7 @@ use Rattle.line_screen.specs.Chain.{Good, empty_view}
 use Rattle.line_screen.specs.Colours.{AreStyles, PaintedItem, Styles, all_unpainted, is_style, bytes_of_all_painted, painted_drawing, bytes_of_painted, bytes_of_painted_texts, painted_text, shaded_break, style_bytes, items_without_style}
 use Rattle.line_screen.specs.Colours.PaintedItem.{Bare as Plain, Begins, Shaded, Fenced, Padded}
 use Rattle.line_screen.specs.Display.{Placed, is_parameter, is_text}
-use Rattle.line_screen.specs.Drawing.{DrawnItem, Widths, blanks, text_items, no_style, break_if, break_unless, cluster_in_fence, fitted_col, bytes_of_item, bytes_of_items, col_after_one, col_after, control_sequence, erase_to_row_end, open_cell, take_cells_out, row_move, col_move, move_bytes, shown_text, drawing}
+use Rattle.line_screen.specs.Drawing.{DrawnItem, Widths, blanks, text_items, no_style, break_if, break_unless, cluster_in_fence, fitted_col, bytes_of_item, bytes_of_items, col_after_one, col_after, control_sequence, erase_to_row_end, open_cell, take_cells_out, row_break, row_move, col_move, move_bytes, left_col, pushed_on, insertion_bytes, pulled_back, deletion_bytes, place_after_insertion, place_after_deletion, shown_text, drawing}
 use Rattle.line_screen.specs.Drawing.DrawnItem.{NewRow, Letter, Cluster, Tab}
 use Rattle.line_screen.specs.Laws.{widths}
 use Rattle.line_screen.specs.Measure.{in_row}
@@ -189,16 +189,69 @@ calm_sequence count final h = by (count == 0)
     by true = refl
     by false = calm_both (decimal count) (final ∷ []) (calm_decimal count) (calm_byte final [] h refl)
 
-calm_move : (old new : Position) → calm (move_bytes old new) ≡ true
-calm_move old new = calm_both (row_move old.row new.row) (col_move old.col new.col) (rows (nat_lt new.row old.row)) (cols (nat_lt new.col old.col))
-  where
-    rows : (b : Bool) → calm (if b then control_sequence (old.row - new.row) 0x41 else control_sequence (new.row - old.row) 0x42) ≡ true
-    rows true = calm_sequence (old.row - new.row) 0x41 refl
-    rows false = calm_sequence (new.row - old.row) 0x42 refl
+calm_rows : (old new : ℕ) → calm (row_move old new) ≡ true
+calm_rows old new = calm_if (nat_lt new old) (control_sequence (old - new) 0x41) (control_sequence (new - old) 0x42) (calm_sequence (old - new) 0x41 refl) (calm_sequence (new - old) 0x42 refl)
 
-    cols : (b : Bool) → calm (if b then control_sequence (old.col - new.col) 0x44 else control_sequence (new.col - old.col) 0x43) ≡ true
-    cols true = calm_sequence (old.col - new.col) 0x44 refl
-    cols false = calm_sequence (new.col - old.col) 0x43 refl
+calm_cols : (old new : ℕ) → calm (col_move old new) ≡ true
+calm_cols old new = calm_if (nat_lt new old) (control_sequence (old - new) 0x44) (control_sequence (new - old) 0x43) (calm_sequence (old - new) 0x44 refl) (calm_sequence (new - old) 0x43 refl)
+
+calm_move : (old new : Position) → calm (move_bytes old new) ≡ true
+calm_move old new = calm_both (row_move old.row new.row) (col_move old.col new.col) (calm_rows old.row new.row) (calm_cols old.col new.col)
+
+-- ---- the bytes of letters that move in their rows
+
+calm_letter : (c : ℕ) → is_printable c ≡ true → calm (c ∷ []) ≡ true
+calm_letter c h = calm_byte c [] (letter_plain c h) refl
+
+calm_pushed : (columns col : ℕ) (rest : List ℕ) → list_all is_printable rest ≡ true → calm (pushed_on columns col rest) ≡ true
+calm_pushed columns col [] h = refl
+calm_pushed columns col (c ∷ cs) h =
+    let parts = and_parts (is_printable c) (list_all is_printable cs) h in
+    let opened = open_cell ++ c ∷ [] in
+    let first = if col == 0 then opened else [] in
+    let end = break_if (col + 1 == columns) in
+    let next = left_col columns (col + 1) in
+    let calm_opened = calm_both open_cell (c ∷ []) refl (calm_letter c parts.0) in
+    calm_both (first ++ end) (pushed_on columns next cs) (calm_both first end (calm_if (col == 0) opened [] calm_opened refl) (calm_break (col + 1 == columns))) (calm_pushed columns next cs parts.1)
+
+calm_inserted : (columns col : ℕ) (character rest : List ℕ) → calm character ≡ true → list_all is_printable rest ≡ true → calm (insertion_bytes columns col character rest) ≡ true
+calm_inserted columns col character rest h k =
+    let end = break_if (col + 1 == columns) in
+    let next = left_col columns (col + 1) in
+    calm_both (open_cell ++ character ++ end) (pushed_on columns next rest) (calm_both (open_cell ++ character) end (calm_both open_cell character refl h) (calm_break (col + 1 == columns))) (calm_pushed columns next rest k)
+
+calm_cells_out : (count : ℕ) → calm (take_cells_out count) ≡ true
+calm_cells_out count = calm_if (count == 1) (0x1B ∷ codes "[P") (control_sequence count 0x50) refl (calm_sequence count 0x50 refl)
+
+calm_pulled : (columns count start col : ℕ) (rest : List ℕ) → list_all is_printable rest ≡ true → calm (pulled_back columns count start col rest) ≡ true
+calm_pulled columns count start col [] h = calm_cells_out count
+calm_pulled columns count start col (c ∷ cs) h =
+    let parts = and_parts (is_printable c) (list_all is_printable cs) h in
+    let out = take_cells_out count ++ col_move start col in
+    let first = if col + count == columns then out else [] in
+    let letter = if nat_le columns (col + count) then c ∷ [] else [] in
+    let broken = row_break ++ pulled_back columns count 0 0 cs in
+    let same_row = pulled_back columns count start (col + 1) cs in
+    let calm_out = calm_both (take_cells_out count) (col_move start col) (calm_cells_out count) (calm_cols start col) in
+    let calm_broken = calm_both row_break (pulled_back columns count 0 0 cs) refl (calm_pulled columns count 0 0 cs parts.1) in
+    calm_both (first ++ letter) (if col + 1 == columns then broken else same_row)
+    (calm_both first letter (calm_if (col + count == columns) out [] calm_out refl) (calm_if (nat_le columns (col + count)) (c ∷ []) [] (calm_letter c parts.0) refl))
+    (calm_if (col + 1 == columns) broken same_row calm_broken (calm_pulled columns count start (col + 1) cs parts.1))
+
+-- what may move is printable
+pushed_printable : (r : Ruler) (l : Layout) (rest : List ℕ) → may_put_in r l rest ≡ true → list_all is_printable rest ≡ true
+pushed_printable r l rest h =
+    let a = and_parts (not l.has_info) _ h in
+    let b = and_parts _ _ a.1 in
+    let c = and_parts (nat_le l.cursor.row l.end.row) _ b.1 in
+    (and_parts (nat_lt l.end.row r.rows) (list_all is_printable rest) c.1).1
+
+pulled_printable : (r : Ruler) (l : Layout) (at : Position) (count : ℕ) (rest : List ℕ) → may_take_out r l at count rest ≡ true → list_all is_printable rest ≡ true
+pulled_printable r l at count rest h =
+    let a = and_parts (not l.has_info) _ h in
+    let b = and_parts (nat_lt 0 count) _ a.1 in
+    let c = and_parts (nat_le (at.col + count) r.columns) _ b.1 in
+    (and_parts (nat_le count l.end.col) (list_all is_printable rest) c.1).1
 
 -- ---- where the last drawing begins
 
@@ -371,15 +424,22 @@ module _ (s : Screen) (low : 2 ≤ s.columns) (high : s.columns ≤ 1000) (own :
       let to = (erase_call l count).layout.end in
       calm_both (move_bytes l.cursor to ++ erase_to_row_end) [] (calm_both (move_bytes l.cursor to) erase_to_row_end (calm_move l.cursor to) refl) refl
 
-  calm_put_in : (l : Layout) (c : ℕ) → is_printable c ≡ true → calm (flat_map (bytes_of s) (put_in_short l c).calls) ≡ true
-  calm_put_in l c h =
+  calm_put_in : (l : Layout) (c : ℕ) (rest : List ℕ) → is_printable c ≡ true → list_all is_printable rest ≡ true → calm (flat_map (bytes_of s) (put_in_short (ruler_of s) l c rest).calls) ≡ true
+  calm_put_in l c rest h k =
       let small : c < 128 = (let k = ltb-true c 0x7F (and_parts (nat_le 0x20 c) (nat_lt c 0x7F) h).1 in omega arith) in
-      let letter : calm (encode_utf8 c) ≡ true = subst (λ xs. calm xs ≡ true) (sym (encode_ascii c small)) (calm_byte c [] (letter_plain c h) refl) in
-      calm_both (open_cell ++ encode_utf8 c) [] (calm_both open_cell (encode_utf8 c) refl letter) refl
+      let letter : calm (encode_utf8 c) ≡ true = subst (λ xs. calm xs ≡ true) (sym (encode_ascii c small)) (calm_letter c h) in
+      let new = cell_on s.columns l.cursor in
+      let from = place_after_insertion l.cursor new (cell_on s.columns l.end) in
+      let put = insertion_bytes s.columns l.cursor.col (encode_utf8 c) rest in
+      calm_both (put ++ move_bytes from new) [] (calm_both put (move_bytes from new) (calm_inserted s.columns l.cursor.col (encode_utf8 c) rest letter k) (calm_move from new)) refl
 
-  calm_taken_out : (l : Layout) (cell : Position) (count : ℕ) → calm (flat_map (bytes_of s) (taken_out_short l cell count).calls) ≡ true
-  calm_taken_out l cell count =
-      calm_both (move_bytes l.cursor cell ++ take_cells_out count) [] (calm_both (move_bytes l.cursor cell) (take_cells_out count) (calm_move l.cursor cell) (calm_sequence count 0x50 refl)) refl
+  calm_taken_out : (l : Layout) (cell : Position) (count : ℕ) (rest : List ℕ) → list_all is_printable rest ≡ true → calm (flat_map (bytes_of s) (taken_out_short l cell count rest).calls) ≡ true
+  calm_taken_out l cell count rest k =
+      let from = place_after_deletion cell (column_back count l.end) in
+      let out = deletion_bytes s.columns count cell.col rest in
+      let back = move_bytes from cell in
+      calm_both (move_bytes l.cursor cell ++ (out ++ back)) []
+      (calm_both (move_bytes l.cursor cell) (out ++ back) (calm_move l.cursor cell) (calm_both out back (calm_pulled s.columns count cell.col cell.col rest k) (calm_move from cell))) refl
 
   abbrev After : List ℕ → Layout → EditStep → Sight → Type 0
   After bytes l r x = Anew (bytes ++ flat_map (bytes_of s) (one (ruler_of s) l r).calls) (one (ruler_of s) l r).layout (sight x r)
@@ -431,30 +491,30 @@ module _ (s : Screen) (low : 2 ≤ s.columns) (high : s.columns ≤ 1000) (own :
       let count = ((ruler_of s).measure (encode_utf8 c) origin).col in
       subst (λ t. (let q = if t then erase_call l count else full (ruler_of s) (shown_marks v m) l prompt true text at None in Anew (bytes ++ flat_map (bytes_of s) q.calls) q.layout (sight_as (shown_marks v m) prompt text at None))) (sym e) (whole bytes (shown_marks v m) l prompt true text at None rows)
 
-  put_in_by : (v : Value) (bytes : List ℕ) (m : Option Marks) (l : Layout) (x : Sight) (prompt : List ℕ) (c : ℕ) (text : List ℕ) (at : ℕ) (b : Bool) → may_put_in (ruler_of s) l ≡ b
+  put_in_by : (v : Value) (bytes : List ℕ) (m : Option Marks) (l : Layout) (x : Sight) (prompt : List ℕ) (c : ℕ) (text : List ℕ) (at : ℕ) (b : Bool) → may_put_in (ruler_of s) l (drop at text) ≡ b
       → (let r = Draws v m (PutIn prompt c text at) in Anew bytes l x → Fits own x r → LowStep s x r → After bytes l r x)
   put_in_by v bytes m l x prompt c text at true e a fits rows =
       let r = Draws v m (PutIn prompt c text at) in
       let printable : is_printable c ≡ true = (let t : PutInFits x prompt c text at = fits.3 in t.printable) in
       kept_on bytes l x (flat_map (bytes_of s) (one (ruler_of s) l r).calls) (one (ruler_of s) l r).layout (sight x r)
-      (subst (λ t. (if t then put_in_short l c else full (ruler_of s) (shown_marks v m) l prompt true text at None).layout.tab_stops ≡ l.tab_stops) (sym e) refl) a
-      (subst (λ t. calm (flat_map (bytes_of s) (if t then put_in_short l c else full (ruler_of s) (shown_marks v m) l prompt true text at None).calls) ≡ true) (sym e) (calm_put_in l c printable))
+      (subst (λ t. (if t then put_in_short (ruler_of s) l c (drop at text) else full (ruler_of s) (shown_marks v m) l prompt true text at None).layout.tab_stops ≡ l.tab_stops) (sym e) refl) a
+      (subst (λ t. calm (flat_map (bytes_of s) (if t then put_in_short (ruler_of s) l c (drop at text) else full (ruler_of s) (shown_marks v m) l prompt true text at None).calls) ≡ true) (sym e) (calm_put_in l c (drop at text) printable (pushed_printable (ruler_of s) l (drop at text) e)))
       (λ before over top h. step s low high own before over top l x r h fits rows)
   put_in_by v bytes m l x prompt c text at false e a fits rows =
-      subst (λ t. (let q = if t then put_in_short l c else full (ruler_of s) (shown_marks v m) l prompt true text at None in Anew (bytes ++ flat_map (bytes_of s) q.calls) q.layout (sight_as (shown_marks v m) prompt text at None))) (sym e) (whole bytes (shown_marks v m) l prompt true text at None rows)
+      subst (λ t. (let q = if t then put_in_short (ruler_of s) l c (drop at text) else full (ruler_of s) (shown_marks v m) l prompt true text at None in Anew (bytes ++ flat_map (bytes_of s) q.calls) q.layout (sight_as (shown_marks v m) prompt text at None))) (sym e) (whole bytes (shown_marks v m) l prompt true text at None rows)
 
   taken_out_by : (v : Value) (bytes : List ℕ) (m : Option Marks) (l : Layout) (x : Sight) (prompt : List ℕ) (count : ℕ) (text : List ℕ) (at : ℕ) (b : Bool)
-      → (let cell = (ruler_of s).measure (take at text) l.prompt_size in let r = Draws v m (TakenOut prompt count text at) in may_take_out l cell count ≡ b → Anew bytes l x → Fits own x r → LowStep s x r → After bytes l r x)
+      → (let cell = (ruler_of s).measure (take at text) l.prompt_size in let r = Draws v m (TakenOut prompt count text at) in may_take_out (ruler_of s) l cell count (drop at text) ≡ b → Anew bytes l x → Fits own x r → LowStep s x r → After bytes l r x)
   taken_out_by v bytes m l x prompt count text at true e a fits rows =
       let r = Draws v m (TakenOut prompt count text at) in
       let cell = (ruler_of s).measure (take at text) l.prompt_size in
       kept_on bytes l x (flat_map (bytes_of s) (one (ruler_of s) l r).calls) (one (ruler_of s) l r).layout (sight x r)
-      (subst (λ t. (if t then taken_out_short l cell count else full (ruler_of s) (shown_marks v m) l prompt true text at None).layout.tab_stops ≡ l.tab_stops) (sym e) refl) a
-      (subst (λ t. calm (flat_map (bytes_of s) (if t then taken_out_short l cell count else full (ruler_of s) (shown_marks v m) l prompt true text at None).calls) ≡ true) (sym e) (calm_taken_out l cell count))
+      (subst (λ t. (if t then taken_out_short l cell count (drop at text) else full (ruler_of s) (shown_marks v m) l prompt true text at None).layout.tab_stops ≡ l.tab_stops) (sym e) refl) a
+      (subst (λ t. calm (flat_map (bytes_of s) (if t then taken_out_short l cell count (drop at text) else full (ruler_of s) (shown_marks v m) l prompt true text at None).calls) ≡ true) (sym e) (calm_taken_out l cell count (drop at text) (pulled_printable (ruler_of s) l cell count (drop at text) e)))
       (λ before over top h. step s low high own before over top l x r h fits rows)
   taken_out_by v bytes m l x prompt count text at false e a fits rows =
       let cell = (ruler_of s).measure (take at text) l.prompt_size in
-      subst (λ t. (let q = if t then taken_out_short l cell count else full (ruler_of s) (shown_marks v m) l prompt true text at None in Anew (bytes ++ flat_map (bytes_of s) q.calls) q.layout (sight_as (shown_marks v m) prompt text at None))) (sym e) (whole bytes (shown_marks v m) l prompt true text at None rows)
+      subst (λ t. (let q = if t then taken_out_short l cell count (drop at text) else full (ruler_of s) (shown_marks v m) l prompt true text at None in Anew (bytes ++ flat_map (bytes_of s) q.calls) q.layout (sight_as (shown_marks v m) prompt text at None))) (sym e) (whole bytes (shown_marks v m) l prompt true text at None rows)
 
   bared_by : (v : Value) (bytes : List ℕ) (m : Option Marks) (l : Layout) (x : Sight) (prompt text : List ℕ) (at : ℕ) (b : Bool) → l.default_prompt ≡ b
       → (let r = Draws v m (Bared prompt text at) in Anew bytes l x → Fits own x r → LowStep s x r → After bytes l r x)
@@ -479,9 +539,9 @@ module _ (s : Screen) (low : 2 ≤ s.columns) (high : s.columns ≤ 1000) (own :
   step_anew (Draws v m (Appended prompt c text at)) bytes l x a fits rows none = appended_by v bytes m l x prompt c text at l.has_info refl a fits rows
   step_anew (Draws v m (Taken prompt count text at)) bytes l x a fits rows none = taken_by v bytes m l x prompt count text at (may_take l count) refl a fits rows
   step_anew (Draws v m (Erased prompt c text at)) bytes l x a fits rows none = erased_by v bytes m l x prompt c text at (may_erase (ruler_of s) l c) refl a fits rows
-  step_anew (Draws v m (PutIn prompt c text at)) bytes l x a fits rows none = put_in_by v bytes m l x prompt c text at (may_put_in (ruler_of s) l) refl a fits rows
+  step_anew (Draws v m (PutIn prompt c text at)) bytes l x a fits rows none = put_in_by v bytes m l x prompt c text at (may_put_in (ruler_of s) l (drop at text)) refl a fits rows
   step_anew (Draws v m (TakenOut prompt count text at)) bytes l x a fits rows none =
-      taken_out_by v bytes m l x prompt count text at (may_take_out l ((ruler_of s).measure (take at text) l.prompt_size) count) refl a fits rows
+      taken_out_by v bytes m l x prompt count text at (may_take_out (ruler_of s) l ((ruler_of s).measure (take at text) l.prompt_size) count (drop at text)) refl a fits rows
   step_anew (Draws v m (Bared prompt text at)) bytes l x a fits rows none = bared_by v bytes m l x prompt text at l.default_prompt refl a fits rows
   step_anew (Draws v m ToEnd) bytes l x a fits rows none =
       let r = Draws v m ToEnd in

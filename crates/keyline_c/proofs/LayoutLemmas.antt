@@ -1,5 +1,5 @@
 -- What is kept of a drawing is known from what it shows.
-use Rattle.std.proofs.Common.{◌≡◌, ℕ, Bool, true, false, List, [], ◌∷◌, ◌++◌, take, Option, None, is_some, encode_utf8, refl, sym, ap, ◌∙◌, if◌then◌else◌}
+use Rattle.std.proofs.Common.{◌≡◌, ℕ, Bool, true, false, List, [], ◌∷◌, ◌++◌, take, drop, Option, None, is_some, encode_utf8, refl, sym, ap, ◌∙◌, if◌then◌else◌}
 use Rattle.line_buffer.specs.Cells.{origin, same_cell}
 use Rattle.line_buffer.specs.declared.layout.Layout.{Layout}
 use Rattle.line_buffer.specs.declared.layout.Position.{Position}
@@ -43,13 +43,13 @@ module _ (s : Screen) where
   taken_counts l m count prompt text at true h = h
   taken_counts l m count prompt text at false h = refl
 
-  put_in_counts : (l : Layout) (m : Option Marks) (c : ℕ) (prompt text : List ℕ) (at : ℕ) (b : Bool) → Counts l → Counts (if b then put_in_short l c else full (ruler_of s) m l prompt true text at None).layout
-  put_in_counts l m c prompt text at true h = h
-  put_in_counts l m c prompt text at false h = refl
+  put_in_counts : (l : Layout) (m : Option Marks) (c : ℕ) (rest prompt text : List ℕ) (at : ℕ) (b : Bool) → Counts l → Counts (if b then put_in_short (ruler_of s) l c rest else full (ruler_of s) m l prompt true text at None).layout
+  put_in_counts l m c rest prompt text at true h = h
+  put_in_counts l m c rest prompt text at false h = refl
 
-  taken_out_counts : (l : Layout) (m : Option Marks) (cell : Position) (count : ℕ) (prompt text : List ℕ) (at : ℕ) (b : Bool) → Counts l → Counts (if b then taken_out_short l cell count else full (ruler_of s) m l prompt true text at None).layout
-  taken_out_counts l m cell count prompt text at true h = h
-  taken_out_counts l m cell count prompt text at false h = refl
+  taken_out_counts : (l : Layout) (m : Option Marks) (cell : Position) (count : ℕ) (rest prompt text : List ℕ) (at : ℕ) (b : Bool) → Counts l → Counts (if b then taken_out_short l cell count rest else full (ruler_of s) m l prompt true text at None).layout
+  taken_out_counts l m cell count rest prompt text at true h = h
+  taken_out_counts l m cell count rest prompt text at false h = refl
 
   bared_counts : (l : Layout) (m : Option Marks) (prompt text : List ℕ) (at : ℕ) (b : Bool) → Counts l → Counts (if b then nothing_asked l else full (ruler_of s) m l prompt true text at None).layout
   bared_counts l m prompt text at true h = h
@@ -62,9 +62,9 @@ module _ (s : Screen) where
   step_counts (Draws v m (Appended prompt c text at)) l h = appended_counts l (shown_marks v m) c prompt text at l.has_info h
   step_counts (Draws v m (Taken prompt count text at)) l h = taken_counts l (shown_marks v m) count prompt text at (may_take l count) h
   step_counts (Draws v m (Erased prompt c text at)) l h = taken_counts l (shown_marks v m) ((ruler_of s).measure (encode_utf8 c) origin).col prompt text at (may_erase (ruler_of s) l c) h
-  step_counts (Draws v m (PutIn prompt c text at)) l h = put_in_counts l (shown_marks v m) c prompt text at (may_put_in (ruler_of s) l) h
+  step_counts (Draws v m (PutIn prompt c text at)) l h = put_in_counts l (shown_marks v m) c (drop at text) prompt text at (may_put_in (ruler_of s) l (drop at text)) h
   step_counts (Draws v m (TakenOut prompt count text at)) l h =
-      (let cell = (ruler_of s).measure (take at text) l.prompt_size in taken_out_counts l (shown_marks v m) cell count prompt text at (may_take_out l cell count) h)
+      (let cell = (ruler_of s).measure (take at text) l.prompt_size in taken_out_counts l (shown_marks v m) cell count (drop at text) prompt text at (may_take_out (ruler_of s) l cell count (drop at text)) h)
   step_counts (Draws v m (Bared prompt text at)) l h = bared_counts l (shown_marks v m) prompt text at l.default_prompt h
   step_counts (Draws v m ToEnd) l h = moved_counts l l.end (same_cell l.cursor l.end) h
   step_counts (Draws v m Beeped) l h = h

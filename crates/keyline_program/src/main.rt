@@ -12,7 +12,7 @@ ghost use Rattle.line_config.specs.declared.config.Config.{Config};
 ghost use Rattle.keyline.specs.Program.{IsByEnvironment, PlaysOver, invoked_config, word_texts};
 
 use keyline::{
-    Ended, Ending, Foretold, Invocation, Invoked, Options, ReadlineError, Sink, SliceSource,
+    Boxed, Ended, Ending, Foretold, Invocation, Invoked, Options, ReadlineError, Sink, SliceSource,
     Source, StandardKeys, Unopened, VecSink, WriteSink, by_environment, invoked_config, load_words,
     play_with,
 };
@@ -102,16 +102,15 @@ fn run(rt: &HostRuntime, invocation: &Invocation) -> ExitCode
 
 /// What the program has after its session: keys were read from standard input, drawings and lines
 /// were written to standard error and standard output, and the history's text is in memory.
-type Played<K> = Ended<StandardKeys<K>, WriteSink<Stderr>, WriteSink<Stdout>, VecSink>;
-
-/// The same if the session was not opened.
-type NotPlayed<'a, K> = Unopened<
-    SliceSource<'a>,
-    StandardKeys<K>,
-    WriteSink<Stderr>,
-    WriteSink<Stdout>,
+type Played<K> = Ended<
+    Boxed<StandardKeys<K>>,
+    Boxed<WriteSink<Stderr>>,
+    Boxed<WriteSink<Stdout>>,
     VecSink,
 >;
+
+/// The same if the session was not opened.
+type NotPlayed<'a> = Unopened<SliceSource<'a>, Stdin, Stderr, Stdout, VecSink>;
 
 /// The session. For all bytes that `K` may say of standard input and that agree with what its reads
 /// gave, the writes of standard output and standard error took the lines and the display bytes of
@@ -121,7 +120,7 @@ fn play<'a, K: Foretold<Stdin>>(
     invocation: &Invocation,
     words: Option<Vec<String>>,
     old: &'a [u8],
-) -> Result<Played<K>, NotPlayed<'a, K>>
+) -> Result<Played<K>, NotPlayed<'a>>
     requires { let options = invocation.now.options in
         (2 ≤ options.columns) × (options.columns ≤ 1000) }
     ensures plays { let known = devices_by ⟦<StandardKeys<K> as Source>⟧.feed

@@ -1,5 +1,5 @@
 -- One redraw in place of another that asks the same.
-use Rattle.std.proofs.Common.{◌≡◌, ℕ, ◌≤◌, ◌==◌, ◌&&◌, nat_lt, Bool, take, true, false, [], refl, sym, ap, subst, ◌∙◌, if◌then◌else◌}
+use Rattle.std.proofs.Common.{◌≡◌, ℕ, ◌≤◌, ◌==◌, ◌&&◌, nat_lt, Bool, List, take, drop, true, false, [], refl, sym, ap, subst, ◌∙◌, if◌then◌else◌}
 use Rattle.std.specs.Prelude.{encode_utf8, not, Option, None, Some, Result, Ok, Err, OnOk, IsErrAnd, IsTrue}
 use Rattle.std.specs.List.{FoldsTo}
 use Rattle.std.proofs.lemmas.Bool.{le-ltb}
@@ -100,19 +100,27 @@ module _ {Out H Hi K T : Type 0} {renderer : renderers.Renderer.Ghosts Out} {com
       drawn_as (λ a v. Drawn a.prompt true v.line.text v.line.place None) (λ a v. Erased a.prompt c v.line.text v.line.place) s t result
       (ap (λ b. if b then erase_call s.layout (r.measure (encode_utf8 c) origin).col else full r (shown_marks (value_of s) (setting_of s).marks) s.layout s.prompt.now true s.recorded.line.text s.recorded.line.place None) (sym is)) h
 
-  pub put_in_drawn : {A : Type 0} (c : ℕ) (s t : State Out H Hi K T renderer completer candidate hinter hint highlighter validator history) (result : Result A ReadlineError)
-      → may_put_in (renderer.canvas.ruler s.out) s.layout ≡ false → Does (draw_effect_with None) s t result → Does (λ a v. draw_effect (PutIn a.prompt c v.line.text v.line.place) a v) s t result
-  put_in_drawn c s t result is h = drawn_as (λ a v. Drawn a.prompt true v.line.text v.line.place None) (λ a v. PutIn a.prompt c v.line.text v.line.place) s t result
-      (ap (λ b. if b then put_in_short s.layout c else full (renderer.canvas.ruler s.out) (shown_marks (value_of s) (setting_of s).marks) s.layout s.prompt.now true s.recorded.line.text s.recorded.line.place None) (sym is)) h
+  pub put_in_drawn : {A : Type 0} (c : ℕ) (rest : List ℕ) (s t : State Out H Hi K T renderer completer candidate hinter hint highlighter validator history) (result : Result A ReadlineError)
+      → rest ≡ drop s.recorded.line.place s.recorded.line.text → may_put_in (renderer.canvas.ruler s.out) s.layout rest ≡ false
+      → Does (draw_effect_with None) s t result → Does (λ a v. draw_effect (PutIn a.prompt c v.line.text v.line.place) a v) s t result
+  put_in_drawn c rest s t result left is h =
+      let r = renderer.canvas.ruler s.out in
+      let behind = drop s.recorded.line.place s.recorded.line.text in
+      drawn_as (λ a v. Drawn a.prompt true v.line.text v.line.place None) (λ a v. PutIn a.prompt c v.line.text v.line.place) s t result
+      (ap (λ b. if b then put_in_short r s.layout c behind else full r (shown_marks (value_of s) (setting_of s).marks) s.layout s.prompt.now true s.recorded.line.text s.recorded.line.place None)
+      (sym (ap (λ xs. may_put_in r s.layout xs) (sym left) ∙ is))) h
 
-  pub taken_out_drawn : {A : Type 0} (count : ℕ) (at : Position) (s t : State Out H Hi K T renderer completer candidate hinter hint highlighter validator history) (result : Result A ReadlineError)
-      → at ≡ (renderer.canvas.ruler s.out).measure (take s.recorded.line.place s.recorded.line.text) s.layout.prompt_size → may_take_out s.layout at count ≡ false
+  pub taken_out_drawn : {A : Type 0} (count : ℕ) (at : Position) (rest : List ℕ) (s t : State Out H Hi K T renderer completer candidate hinter hint highlighter validator history) (result : Result A ReadlineError)
+      → at ≡ (renderer.canvas.ruler s.out).measure (take s.recorded.line.place s.recorded.line.text) s.layout.prompt_size → rest ≡ drop s.recorded.line.place s.recorded.line.text
+      → may_take_out (renderer.canvas.ruler s.out) s.layout at count rest ≡ false
       → Does (draw_effect_with None) s t result → Does (λ a v. draw_effect (TakenOut a.prompt count v.line.text v.line.place) a v) s t result
-  taken_out_drawn count at s t result cell is h =
-      let there = (renderer.canvas.ruler s.out).measure (take s.recorded.line.place s.recorded.line.text) s.layout.prompt_size in
+  taken_out_drawn count at rest s t result cell left is h =
+      let r = renderer.canvas.ruler s.out in
+      let there = r.measure (take s.recorded.line.place s.recorded.line.text) s.layout.prompt_size in
+      let behind = drop s.recorded.line.place s.recorded.line.text in
       drawn_as (λ a v. Drawn a.prompt true v.line.text v.line.place None) (λ a v. TakenOut a.prompt count v.line.text v.line.place) s t result
-      (ap (λ b. if b then taken_out_short s.layout there count else full (renderer.canvas.ruler s.out) (shown_marks (value_of s) (setting_of s).marks) s.layout s.prompt.now true s.recorded.line.text s.recorded.line.place None)
-      (sym (ap (λ p. may_take_out s.layout p count) (sym cell) ∙ is))) h
+      (ap (λ b. if b then taken_out_short s.layout there count behind else full r (shown_marks (value_of s) (setting_of s).marks) s.layout s.prompt.now true s.recorded.line.text s.recorded.line.place None)
+      (sym (ap (λ p. may_take_out r s.layout p count behind) (sym cell) ∙ ap (λ xs. may_take_out r s.layout at count xs) (sym left) ∙ is))) h
 
   pub bared_drawn : {A : Type 0} (s t : State Out H Hi K T renderer completer candidate hinter hint highlighter validator history) (result : Result A ReadlineError)
       → s.layout.default_prompt ≡ false → Does (draw_effect_with None) s t result → Does (λ a v. draw_effect (Bared a.prompt v.line.text v.line.place) a v) s t result

@@ -21,7 +21,7 @@ use Rattle.line_help.specs.declared.helpers.validate as verdicts
 use Rattle.line_help.specs.declared.history as histories
 use Rattle.line_editor.specs.Drawing.{refresh_effect, refresh_effect_if}
 use Rattle.line_editor.specs.Inserting.{insertion_way, show_inserted_effect, insert_char, insert_text}
-use Rattle.line_editor.specs.Killing.{may_be_taken, may_be_taken_out, last_of_bare, way_erased, kill_way, show_killed_effect, show_taken, kill_effect}
+use Rattle.line_editor.specs.Killing.{may_be_taken, may_be_taken_out, text_gone, last_of_bare, way_erased, kill_way, show_killed_effect, show_taken, kill_effect}
 use Rattle.line_editor.specs.States.{value_of, setting_of, surface_of, Stays, Does}
 use Rattle.line_editor.specs.EditSteps.{Surface, CutEditSteps, SameBeside}
 use Rattle.line_editor.specs.Values.{Value, Setting, Effect, Transition, no_effect, then_do, value_with_edit, edit_effect, line_and_record_of}
@@ -32,7 +32,7 @@ use Rattle.line_editor.specs.declared.state.State.{State}
 use Rattle.line_editor.proofs.DoesLemmas.{does_as, does_both, does_refused, edit_made, is_err, stays_same}
 use Rattle.line_editor.proofs.StopsLemmas.{stops_editing}
 use Rattle.line_editor.specs.declared.way.Way.{Way}
-use Rattle.line_editor.specs.declared.way.Way.TheVariants.{AtEnd, InRow}
+use Rattle.line_editor.specs.declared.way.Way.TheVariants.{AtEnd, Inside}
 use Rattle.line_buffer.specs.Printable.{at_plain_end}
 use Rattle.std.proofs.lemmas.Bool.Decides.{nat_tests}
 use Rattle.std.proofs.Common.{arith, ◌&&◌, nat_lt}
@@ -82,9 +82,9 @@ nothing_put c n s v is = ap (λ b. if b then then_do (edit_effect (char_steps c 
 
 -- how a kill is shown, by what its text and the line before allow
 abbrev way_by : Bool → Bool → Option ℕ → ℕ → Line → Way
-way_by alone in_row last count l =
+way_by alone inside last count l =
     if alone && at_plain_end l.text l.place then AtEnd
-    else if in_row && (nat_lt 0 count && nat_lt l.place (length l.text)) then InRow
+    else if inside && (nat_lt 0 count && nat_lt l.place (length l.text)) then Inside
     else way_erased count l last
 
 some_gone : (all left : ℕ) → nat_lt 0 (all - left) ≡ nat_lt left all
@@ -160,22 +160,23 @@ module _ {Out H Hi K T : Type 0} {renderer : renderers.Renderer.Ghosts Out} {com
       edit_alone (insert_char c n) (char_steps c n) s t answer x (nothing_put c n (setting_of s) (value_of s) (ap is_some (sym wrote.writes.answers) ∙ none)) wrote rest surface stays
 
   -- what was taken is shown by how much it was
-  pub taken_by : {A : Type 0} (count : ℕ) (alone in_row : Bool) (last : Option ℕ) (way : Way) (before : Value) (l : Line) (s t : State Out H Hi K T renderer completer candidate hinter hint highlighter validator history) (result : Result A ReadlineError)
+  pub taken_by : {A : Type 0} (count : ℕ) (alone inside : Bool) (last : Option ℕ) (way : Way) (before : Value) (l : Line) (s t : State Out H Hi K T renderer completer candidate hinter hint highlighter validator history) (result : Result A ReadlineError)
       → count ≡ length before.line.text - length s.recorded.line.text → alone ≡ may_be_taken (drop (length l.text) before.line.text) before
-      → in_row ≡ may_be_taken_out (setting_of s).config.partial_redraw before → last ≡ last_of_bare (setting_of s).config.partial_redraw before → s.recorded.line ≡ l
-      → way ≡ way_by alone in_row last count s.recorded.line
+      → inside ≡ may_be_taken_out (setting_of s).config.partial_redraw (text_gone before.line l) before → last ≡ last_of_bare (setting_of s).config.partial_redraw before → s.recorded.line ≡ l
+      → way ≡ way_by alone inside last count s.recorded.line
       → Does (show_killed_effect count way) s t result → Does (show_taken before) s t result
-  taken_by count alone in_row last way before l s t result is shown moved ends left by h =
+  taken_by count alone inside last way before l s t result is shown moved ends left by h =
       let m = s.recorded.line in
       let gone = length before.line.text - length m.text in
       let partial = (setting_of s).config.partial_redraw in
+      let out_of : Line → Bool = λ x. may_be_taken_out partial (text_gone before.line x) before in
       let way_is : way ≡ kill_way (setting_of s) before m =
-      by ∙ ap (λ n. way_by alone in_row last n m) is
-      ∙ ap (λ b. way_by b in_row last gone m) (shown ∙ ap (λ (x : Line). may_be_taken (drop (length x.text) before.line.text) before) (sym left))
-      ∙ ap (λ b. way_by (may_be_taken (drop (length m.text) before.line.text) before) b last gone m) moved
-      ∙ ap (λ o. way_by (may_be_taken (drop (length m.text) before.line.text) before) (may_be_taken_out partial before) o gone m) ends
+      by ∙ ap (λ n. way_by alone inside last n m) is
+      ∙ ap (λ b. way_by b inside last gone m) (shown ∙ ap (λ (x : Line). may_be_taken (drop (length x.text) before.line.text) before) (sym left))
+      ∙ ap (λ b. way_by (may_be_taken (drop (length m.text) before.line.text) before) b last gone m) (moved ∙ ap out_of (sym left))
+      ∙ ap (λ o. way_by (may_be_taken (drop (length m.text) before.line.text) before) (out_of m) o gone m) ends
       ∙ ap (λ b. if may_be_taken (drop (length m.text) before.line.text) before && at_plain_end m.text m.place then AtEnd
-      else if may_be_taken_out partial before && (b && nat_lt m.place (length m.text)) then InRow else way_erased gone m (last_of_bare partial before))
+      else if out_of m && (b && nat_lt m.place (length m.text)) then Inside else way_erased gone m (last_of_bare partial before))
       (some_gone (length before.line.text) (length m.text)) in
       does_as (show_killed_effect count way) (show_taken before) s t result
       (ap (λ n. show_killed_effect n way (setting_of s) (value_of s)) is

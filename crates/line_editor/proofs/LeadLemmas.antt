@@ -34,8 +34,8 @@ use Rattle.line_editor.specs.Characters.{stands_apart}
 use Rattle.line_editor.specs.Drawing.{redraw_of, repaint_effect, ask_anew_effect, refresh_effect, refresh_effect_if, message_effect, cursor_moved, beep_effect, clear_and_draw_effect}
 use Rattle.line_editor.specs.Inserting.{is_bare, may_be_typed, may_be_appended, may_be_put_in, insertion_way, way_if_bare, put_redraw, show_char_effect, show_inserted_effect, insert_char, insert_text}
 use Rattle.line_editor.specs.declared.way.Way.{Way}
-use Rattle.line_editor.specs.declared.way.Way.TheVariants.{AtEnd, Alone, Back, InRow, Whole}
-use Rattle.line_editor.specs.Killing.{may_be_taken, may_be_taken_out, is_cut_inside, is_erased, last_of_bare, way_erased, kill_way, taken_redraw, show_taken_effect, show_taken, kill_effect, insert_text_if, replace}
+use Rattle.line_editor.specs.declared.way.Way.TheVariants.{AtEnd, Alone, Back, Inside, Whole}
+use Rattle.line_editor.specs.Killing.{may_be_taken, may_be_taken_out, text_gone, is_cut_inside, is_erased, last_of_bare, way_erased, kill_way, taken_redraw, show_taken_effect, show_taken, kill_effect, insert_text_if, replace}
 use Rattle.line_editor.specs.Leads.{Leads}
 use Rattle.line_editor.specs.Moving.{cursor_moved_if, to_found, to_place, move_home, move_to_next_word, move_to_first_print, move_by}
 use Rattle.line_editor.specs.RenderCalls.{Marks}
@@ -273,7 +273,7 @@ whole_leads s v w info = record { fits = ((λ x. refl), tt); leads = refl }
 
 -- the way that was chosen, if the line is bare
 abbrev chosen : Bool → Bool → Bool → Bool → ℕ → Bool → Way
-chosen bare alone first second c back = if bare then (if alone then Alone else if first then AtEnd else if second then InRow else if back then Back c else Whole) else Whole
+chosen bare alone first second c back = if bare then (if alone then Alone else if first then AtEnd else if second then Inside else if back then Back c else Whole) else Whole
 
 alone_if : (bare alone first second : Bool) (c : ℕ) (back : Bool) → chosen bare alone first second c back ≡ Alone → (bare ≡ true) × (alone ≡ true)
 alone_if false alone first second c back h = cc
@@ -291,7 +291,7 @@ at_end_if true false false true c back h = cc
 at_end_if true false false false c true h = cc
 at_end_if true false false false c false h = cc
 
-in_row_if : (bare alone first second : Bool) (c : ℕ) (back : Bool) → chosen bare alone first second c back ≡ InRow → (bare ≡ true) × (second ≡ true)
+in_row_if : (bare alone first second : Bool) (c : ℕ) (back : Bool) → chosen bare alone first second c back ≡ Inside → (bare ≡ true) × (second ≡ true)
 in_row_if false alone first second c back h = cc
 in_row_if true true first second c back h = cc
 in_row_if true false true second c back h = cc
@@ -411,7 +411,7 @@ module _ (s : Setting) (c n : ℕ) (v w : Value) (put : (n == 1) ≡ true → w.
   put_by Alone is =
       let parts = alone_if (is_bare w) (may_be_appended s.config.partial_redraw c n v) (may_be_typed (is_some s.tabs) c n v) (may_be_put_in s.config.partial_redraw c n v) 0 false is in
       appended_leads parts.0 parts.1
-  put_by InRow is =
+  put_by Inside is =
       let parts = in_row_if (is_bare w) (may_be_appended s.config.partial_redraw c n v) (may_be_typed (is_some s.tabs) c n v) (may_be_put_in s.config.partial_redraw c n v) 0 false is in
       put_in_leads parts.0 parts.1
   put_by (Back d) is = whole_leads s v w
@@ -494,14 +494,15 @@ module _ (s : Setting) (v w : Value) (from upto : ℕ) (text : w.line.text ≡ r
         leads = refl;
       }
 
-  taken_out_leads : is_bare w ≡ true → (may_be_taken_out s.config.partial_redraw v && is_cut_inside v.line w.line) ≡ true
+  taken_out_leads : is_bare w ≡ true → (may_be_taken_out s.config.partial_redraw (text_gone v.line w.line) v && is_cut_inside v.line w.line) ≡ true
       → Leads s v (record { value = w; steps = Draws w s.marks (TakenOut s.prompt count w.line.text w.line.place) ∷ [] })
   taken_out_leads bare e info =
       let before = v.line.text in
       let now = w.line.text in
-      let a = and_parts (may_be_taken_out s.config.partial_redraw v) _ e in
+      let a = and_parts (may_be_taken_out s.config.partial_redraw (text_gone v.line w.line) v) _ e in
       let b = and_parts s.config.partial_redraw _ a.0 in
-      let d = and_parts (is_bare v) (is_plain before) b.1 in
+      let d = and_parts (is_bare v) _ b.1 in
+      let p = and_parts (is_plain before) (list_all is_printable (text_gone v.line w.line)) d.1 in
       let f = and_parts (nat_lt (length now) (length before)) (nat_lt w.line.place (length now)) a.1 in
       let less = ltb-true (length now) (length before) f.0 in
       let inside = ltb-true w.line.place (length now) f.1 in
@@ -514,6 +515,7 @@ module _ (s : Setting) (v w : Value) (from upto : ℕ) (text : w.line.text ≡ r
       let left = length-drop from before in
       let up : from + (upto - from) ≡ upto = omega arith in
       let count_is : count ≡ length killed = omega arith in
+      let many : upto - from ≡ count = omega arith in
       let at : w.line.place ≡ length (take from before) = omega arith in
       record {
         fits = (
@@ -530,7 +532,8 @@ module _ (s : Setting) (v w : Value) (from upto : ℕ) (text : w.line.text ≡ r
               text_is = whole;
               count_is = count_is;
               at = at;
-              plain = d.1;
+              plain = p.0;
+              printable = ap (λ n. list_all is_printable (take n (drop from before))) many ∙ ap (λ n. list_all is_printable (take count (drop n before))) (sym place) ∙ p.1;
               prompt_is = refl;
             },
             bare_styles s v w info d.0 bare,
@@ -574,11 +577,11 @@ module _ (s : Setting) (v w : Value) (from upto : ℕ) (text : w.line.text ≡ r
       }
 
   taken_of : (way : Way) (c : ℕ) (back : Bool)
-      → chosen (is_bare w) false (may_be_taken (drop (length w.line.text) v.line.text) v && at_plain_end w.line.text w.line.place) (may_be_taken_out s.config.partial_redraw v && is_cut_inside v.line w.line) c back ≡ way
+      → chosen (is_bare w) false (may_be_taken (drop (length w.line.text) v.line.text) v && at_plain_end w.line.text w.line.place) (may_be_taken_out s.config.partial_redraw (text_gone v.line w.line) v && is_cut_inside v.line w.line) c back ≡ way
       → (back ≡ true → (last_of_bare s.config.partial_redraw v ≡ Some c) × (is_erased c count w.line ≡ true)) → (is_plain v.line.text ≡ true → Low v.line.text from upto)
       → Leads s v (record { value = w; steps = Draws w s.marks (taken_redraw way count s w) ∷ [] })
   taken_of AtEnd c back is last low = let parts = at_end_if (is_bare w) false _ _ c back is in taken_leads parts.0 parts.1 low
-  taken_of InRow c back is last low = let parts = in_row_if (is_bare w) false _ _ c back is in taken_out_leads parts.0 parts.1
+  taken_of Inside c back is last low = let parts = in_row_if (is_bare w) false _ _ c back is in taken_out_leads parts.0 parts.1
   taken_of (Back d) c back is last low =
       let parts = back_if (is_bare w) false _ _ c back d is in
       let k = last parts.1 in
@@ -588,7 +591,7 @@ module _ (s : Setting) (v w : Value) (from upto : ℕ) (text : w.line.text ≡ r
 
   taken_by : (way : Way) (last : Option ℕ) → last_of_bare s.config.partial_redraw v ≡ last
       → way_if_bare (if may_be_taken (drop (length w.line.text) v.line.text) v && at_plain_end w.line.text w.line.place then AtEnd
-      else if may_be_taken_out s.config.partial_redraw v && is_cut_inside v.line w.line then InRow else way_erased count w.line last) w ≡ way
+      else if may_be_taken_out s.config.partial_redraw (text_gone v.line w.line) v && is_cut_inside v.line w.line then Inside else way_erased count w.line last) w ≡ way
       → (is_plain v.line.text ≡ true → Low v.line.text from upto)
       → Leads s v (record { value = w; steps = Draws w s.marks (taken_redraw way count s w) ∷ [] })
   taken_by way None last is low = taken_of way 0 false is (λ b. cc) low

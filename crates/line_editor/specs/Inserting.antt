@@ -10,7 +10,7 @@ use Rattle.line_editor.specs.Redraws.{Redraw}
 use Rattle.line_editor.specs.Redraws.Redraw.{Typed, Appended, PutIn}
 use Rattle.line_editor.specs.Values.{Value, Setting, Transition, no_effect, then_do, draw_effect, value_with_edit, edit_effect}
 use Rattle.line_editor.specs.declared.way.Way.{Way}
-use Rattle.line_editor.specs.declared.way.Way.TheVariants.{AtEnd, Alone, Back, InRow, Whole}
+use Rattle.line_editor.specs.declared.way.Way.TheVariants.{AtEnd, Alone, Back, Inside, Whole}
 
 -- neither a hint nor a highlighted character
 abbrev pub is_bare : Value → Bool
@@ -29,8 +29,8 @@ may_be_appended partial c n v =
     partial && ((n == 1) && (is_bare v && ((v.line.place == length v.line.text)
     && stands_apart v.line.text c)))
 
--- whether it may be shown in its row: a single printable character, put before the end of a line
--- that is bare and plain, if lines may be drawn in part
+-- whether moving the rest of the line may show it: a single printable character, put before the end
+-- of a line that is bare and plain, if lines may be drawn in part
 abbrev pub may_be_put_in : Bool → ℕ → ℕ → Value → Bool
 may_be_put_in partial c n v =
     partial && ((n == 1) && (is_bare v && (is_printable c
@@ -40,7 +40,7 @@ abbrev pub insertion_way : Setting → ℕ → ℕ → Value → Way
 insertion_way s c n v =
     if may_be_appended s.config.partial_redraw c n v then Alone
     else if may_be_typed (is_some s.tabs) c n v then AtEnd
-    else if may_be_put_in s.config.partial_redraw c n v then InRow
+    else if may_be_put_in s.config.partial_redraw c n v then Inside
     else Whole
 
 -- the way in a line that is still bare, or not
@@ -52,7 +52,7 @@ abbrev pub put_redraw : Way → ℕ → Setting → Value → Redraw
 put_redraw AtEnd c s v = Typed s.prompt c v.line.text v.line.place
 put_redraw Alone c s v = Appended s.prompt c v.line.text v.line.place
 put_redraw (Back d) c s v = redraw_of s v
-put_redraw InRow c s v = PutIn s.prompt c v.line.text v.line.place
+put_redraw Inside c s v = PutIn s.prompt c v.line.text v.line.place
 put_redraw Whole c s v = redraw_of s v
 
 abbrev pub show_char_effect : ℕ → Way → Transition

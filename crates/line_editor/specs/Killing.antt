@@ -1,5 +1,5 @@
 -- Kills, and copies into the ring.
-use Rattle.std.specs.Prelude.{ℕ, ◌-◌, ◌&&◌, ◌==◌, nat_lt, if◌then◌else◌, Bool, List, length, drop, Option, Some, None, is_some, option_map, chars, encode_utf8}
+use Rattle.std.specs.Prelude.{ℕ, ◌-◌, ◌&&◌, ◌==◌, nat_lt, if◌then◌else◌, Bool, List, length, take, drop, Option, Some, None, is_some, option_map, chars, encode_utf8}
 use Rattle.std.specs.List.{list_all, last_or}
 use Rattle.std.specs.Str.{is_utf8}
 use Rattle.line_buffer.specs.Line.{Line}
@@ -16,17 +16,22 @@ use Rattle.line_editor.specs.Redraws.{Redraw}
 use Rattle.line_editor.specs.Redraws.Redraw.{Taken, Erased, TakenOut}
 use Rattle.line_editor.specs.Values.{Value, Setting, Transition, no_effect, memory_effect, then_do, draw_effect, value_with_edit, edit_effect}
 use Rattle.line_editor.specs.declared.way.Way.{Way}
-use Rattle.line_editor.specs.declared.way.Way.TheVariants.{AtEnd, Alone, Back, InRow, Whole}
+use Rattle.line_editor.specs.declared.way.Way.TheVariants.{AtEnd, Alone, Back, Inside, Whole}
 
 -- whether erasing the rest of the row may show a kill: printable characters, deleted from a bare
 -- line
 abbrev pub may_be_taken : List ℕ → Value → Bool
 may_be_taken killed v = is_bare v && list_all is_printable killed
 
--- whether moving the rest of its row may show it: it is made in a bare and plain line, if lines may
--- be drawn in part
-abbrev pub may_be_taken_out : Bool → Value → Bool
-may_be_taken_out partial v = partial && (is_bare v && is_plain v.line.text)
+-- whether moving the rest of the line may show it: printable characters, deleted from a bare and
+-- plain line, if lines may be drawn in part
+abbrev pub may_be_taken_out : Bool → List ℕ → Value → Bool
+may_be_taken_out partial killed v =
+    partial && (is_bare v && (is_plain v.line.text && list_all is_printable killed))
+
+-- what is gone from a line, at the cursor that is left
+abbrev pub text_gone : Line → Line → List ℕ
+text_gone before l = take (length before.text - length l.text) (drop l.place before.text)
 
 -- some text is gone, and some is left after the cursor
 abbrev pub is_cut_inside : Line → Line → Bool
@@ -54,15 +59,16 @@ abbrev pub kill_way : Setting → Value → Line → Way
 kill_way s before l =
     if may_be_taken (drop (length l.text) before.line.text) before && at_plain_end l.text l.place
     then AtEnd
-    else if may_be_taken_out s.config.partial_redraw before && is_cut_inside before.line l
-    then InRow
+    else if may_be_taken_out s.config.partial_redraw (text_gone before.line l) before
+    && is_cut_inside before.line l
+    then Inside
     else way_erased (length before.line.text - length l.text) l
     (last_of_bare s.config.partial_redraw before)
 
 -- the drawing after a deletion of `count` bytes
 abbrev pub taken_redraw : Way → ℕ → Setting → Value → Redraw
 taken_redraw AtEnd count s v = Taken s.prompt count v.line.text v.line.place
-taken_redraw InRow count s v = TakenOut s.prompt count v.line.text v.line.place
+taken_redraw Inside count s v = TakenOut s.prompt count v.line.text v.line.place
 taken_redraw Alone count s v = redraw_of s v
 taken_redraw (Back c) count s v = Erased s.prompt c v.line.text v.line.place
 taken_redraw Whole count s v = redraw_of s v

@@ -1,6 +1,8 @@
 -- The drawings of an effect, and the calls that they need on a display, with the layout to store.
-use Rattle.std.specs.Prelude.{ℕ, ◌+◌, ◌-◌, ◌==◌, ◌&&◌, not, nat_lt, nat_le, Bool, true, false, if◌then◌else◌, List, [], ◌∷◌, ◌++◌, take, Option, Some, None, is_some, encode_utf8}
+use Rattle.std.specs.Prelude.{ℕ, ◌+◌, ◌-◌, ◌==◌, ◌&&◌, not, nat_lt, nat_le, Bool, true, false, if◌then◌else◌, List, [], ◌∷◌, ◌++◌, take, drop, Option, Some, None, is_some, encode_utf8}
+use Rattle.std.specs.List.{list_all}
 use Rattle.line_buffer.specs.Cells.{same_cell, origin}
+use Rattle.line_buffer.specs.Printable.{is_printable}
 use Rattle.line_buffer.specs.declared.layout.GraphemeClusterMode.{GraphemeClusterMode}
 use Rattle.line_buffer.specs.declared.layout.Layout.{Layout}
 use Rattle.line_buffer.specs.declared.layout.Position.{Position}
@@ -24,7 +26,7 @@ pub data Redraw : Type 0 where
   Erased : (prompt : List ℕ) (c : ℕ) (text : List ℕ) (place : ℕ) → Redraw
   -- a printable character put into a plain line, with no information before or after it
   PutIn : (prompt : List ℕ) (c : ℕ) (text : List ℕ) (place : ℕ) → Redraw
-  -- `count` characters of a plain line deleted, with no information before or after that
+  -- `count` printable characters of a plain line deleted, with no information before or after that
   TakenOut : (prompt : List ℕ) (count : ℕ) (text : List ℕ) (place : ℕ) → Redraw
   -- redrawn, without hint and message, only if another prompt than the session's own is shown
   Bared : (prompt : List ℕ) (text : List ℕ) (place : ℕ) → Redraw
@@ -117,19 +119,29 @@ erase_call l count = record {
   layout = record l { cursor = column_back count l.end; end = column_back count l.end };
 }
 
--- the rest of the row moved by a cell, and the character put there
-abbrev pub put_in_short : Layout → ℕ → RedrawCalls
-put_in_short l c = record {
-  calls = InsertChar c ∷ [];
-  layout = record l { cursor = column_on l.cursor; end = column_on l.end };
-}
+-- a full row is left at once
+abbrev pub cell_on : ℕ → Position → Position
+cell_on columns p =
+    if p.col + 1 == columns then record { col = 0; row = p.row + 1 } else column_on p
 
--- the cursor moved, and the characters' cells taken out of the row
-abbrev pub taken_out_short : Layout → Position → ℕ → RedrawCalls
-taken_out_short l at count = record {
-  calls = MoveAndDelete l.cursor at count ∷ [];
-  layout = record l { cursor = at; end = column_back count l.end };
-}
+-- the characters after the cursor moved by a cell, and one put there
+abbrev pub put_in_short : Ruler → Layout → ℕ → List ℕ → RedrawCalls
+put_in_short r l c rest =
+    let cursor = cell_on r.columns l.cursor in
+    let end = cell_on r.columns l.end in
+    record {
+      calls = InsertChar c rest l.cursor cursor end ∷ [];
+      layout = record l { cursor = cursor; end = end };
+    }
+
+-- the cursor moved, and the characters' cells taken out before the others
+abbrev pub taken_out_short : Layout → Position → ℕ → List ℕ → RedrawCalls
+taken_out_short l at count rest =
+    let end = column_back count l.end in
+    record {
+      calls = MoveAndDelete l.cursor at count rest end ∷ [];
+      layout = record l { cursor = at; end = end };
+    }
 
 -- a byte written at a cell doesn't fill the row
 abbrev pub fits_in_row : ℕ → Position → Bool
@@ -150,17 +162,19 @@ may_erase r l c =
     let end = r.measure (encode_utf8 c) origin in
     not l.has_info && ((end.row == 0) && nat_lt end.col l.end.col)
 
--- and whether a character can be put into the row of the drawing's end, which it doesn't fill
-abbrev pub may_put_in : Ruler → Layout → Bool
-may_put_in r l =
-    not l.has_info && ((l.cursor.row == l.end.row)
-    && (nat_le l.cursor.col l.end.col && fits_in_row r.columns l.end))
+-- and whether a character can be put before the rest of the line: printable characters, which
+-- another row may hold
+abbrev pub may_put_in : Ruler → Layout → List ℕ → Bool
+may_put_in r l rest =
+    not l.has_info && ((nat_lt l.cursor.col r.columns && nat_lt l.end.col r.columns)
+    && (nat_le l.cursor.row l.end.row && (nat_lt l.end.row r.rows && list_all is_printable rest)))
 
--- and whether characters can be taken out of it, from a cell of it on
-abbrev pub may_take_out : Layout → Position → ℕ → Bool
-may_take_out l at count =
-    not l.has_info && ((l.cursor.row == l.end.row)
-    && ((at.row == l.end.row) && nat_le count l.end.col))
+-- and whether characters of one row can be taken out from a cell on, before printable ones: the
+-- last row has as many
+abbrev pub may_take_out : Ruler → Layout → Position → ℕ → List ℕ → Bool
+may_take_out r l at count rest =
+    not l.has_info && (nat_lt 0 count && (nat_le (at.col + count) r.columns
+    && (nat_le count l.end.col && list_all is_printable rest)))
 
 abbrev pub calls_of_redraw : Ruler → Option Marks → Layout → Redraw → RedrawCalls
 calls_of_redraw r marks l (Drawn prompt given text place info) =
@@ -177,10 +191,13 @@ calls_of_redraw r marks l (Erased prompt c text place) =
     if may_erase r l c then erase_call l (r.measure (encode_utf8 c) origin).col
     else full r marks l prompt true text place None
 calls_of_redraw r marks l (PutIn prompt c text place) =
-    if may_put_in r l then put_in_short l c else full r marks l prompt true text place None
+    let rest = drop place text in
+    if may_put_in r l rest then put_in_short r l c rest
+    else full r marks l prompt true text place None
 calls_of_redraw r marks l (TakenOut prompt count text place) =
     let at = r.measure (take place text) l.prompt_size in
-    if may_take_out l at count then taken_out_short l at count
+    let rest = drop place text in
+    if may_take_out r l at count rest then taken_out_short l at count rest
     else full r marks l prompt true text place None
 calls_of_redraw r marks l (Bared prompt text place) =
     if l.default_prompt then nothing_asked l else full r marks l prompt true text place None

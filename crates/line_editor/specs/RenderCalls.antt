@@ -26,10 +26,11 @@ pub data Call : Type 0 where
   ClearToEol : Call
   -- a move, and the row erased from there to its end
   MoveAndClearToEol : (old new : Position) → Call
-  -- a cell opened at the cursor by moving the rest of its row, and a character written there
-  InsertChar : (c : ℕ) → Call
-  -- a move, and so many cells taken out of the row from there on
-  MoveAndDelete : (old new : Position) (count : ℕ) → Call
+  -- a character written in a cell opened at the cursor, before letters that move on by a cell; the
+  -- cursor goes behind it. `finish`: where the drawing ends then
+  InsertChar : (c : ℕ) (rest : List ℕ) (old new finish : Position) → Call
+  -- a move, and so many cells taken out from there on, before letters that move back
+  MoveAndDelete : (old new : Position) (count : ℕ) (rest : List ℕ) (finish : Position) → Call
   -- a text drawn behind what is drawn, from the drawing's end on
   Append : (text : List ℕ) (at : Position) → Call
   ToLeftmost : Call

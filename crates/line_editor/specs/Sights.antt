@@ -140,7 +140,7 @@ pub record PutInFits (x : Sight) (prompt : List ℕ) (c : ℕ) (text : List ℕ)
   pub printable : is_printable c ≡ true
   pub prompt_is : prompt ≡ x.prompt
 
--- characters deleted from the new cursor on
+-- printable characters deleted from the new cursor on
 pub record TakenOutFits (x : Sight) (prompt : List ℕ) (count : ℕ) (text : List ℕ)
     (place : ℕ) : Type 0 where
   pub before : List ℕ
@@ -151,6 +151,7 @@ pub record TakenOutFits (x : Sight) (prompt : List ℕ) (count : ℕ) (text : Li
   pub count_is : count ≡ length killed
   pub at : place ≡ length before
   pub plain : is_plain x.line ≡ true
+  pub printable : list_all is_printable killed ≡ true
   pub prompt_is : prompt ≡ x.prompt
 
 -- when each redraw is allowed; `own` is the session's prompt

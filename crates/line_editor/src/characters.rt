@@ -8,6 +8,7 @@ ghost use Rattle.line_editor.specs.Characters.{is_narrow, is_wide, is_pictograph
 use line_buffer::is_printable;
 
 /// Characters of one column: printable ASCII, Latin, Greek, Cyrillic and Armenian.
+#[inline]
 pub fn is_narrow(c: char) -> bool
     ensures { result ≡ is_narrow c }
 {
@@ -22,6 +23,7 @@ pub fn is_narrow(c: char) -> bool
 }
 
 /// Characters of two columns: kana, Chinese, Korean, their punctuation and full-width forms.
+#[inline]
 pub fn is_wide(c: char) -> bool
     ensures { result ≡ is_wide c }
 {

@@ -4,12 +4,12 @@ ghost use Rattle.line_buffer.specs.Cells.{origin};
 ghost use Rattle.line_editor.specs.RenderCalls.{Makes};
 ghost use Rattle.line_editor.specs.RenderCalls.Call.{Draw};
 ghost use Rattle.line_editor.specs.Values.{hooks_by, is_marked_by, marks_seen};
-ghost use Rattle.line_editor.specs.Redraws.{layout_of, may_type, may_take, may_erase, may_put_in, may_take_out};
+ghost use Rattle.line_editor.specs.Redraws.{layout_of, may_type, may_take, may_erase, may_put_in, may_take_out, cell_on};
 
 use crate::faults::error_of;
 use crate::renderer::{RefreshKind, Renderer};
 use crate::state::State;
-use line_buffer::{Layout, LineBuffer, Position, Unit};
+use line_buffer::{Layout, LineBuffer, Position, Unit, is_printable_text};
 use line_config::ReadlineError;
 use line_help::{Helper, Highlighter, Hint, Hinter, History};
 use line_keys::CmdKind;
@@ -86,29 +86,65 @@ fn columns_of<Out: Renderer>(out: &Out, ch: char) -> Option<Unit>
     if end.row == 0 { Some(end.col) } else { None }
 }
 
-/// Whether nothing is shown after the line, and one more cell fits in the row of its end, where
-/// the cursor is too.
-fn may_put_in<Out: Renderer>(out: &Out, layout: &Layout) -> bool
-    ensures value { result ≡ may_put_in (Out.canvas.ruler out.now) layout.now }
-    ensures cursor { IsTrue result → layout.now.cursor.col + 1 ≤ 65535 }
-    ensures end { IsTrue result → layout.now.end.col + 1 ≤ 65535 }
+/// Whether nothing is shown after the line, and a character can be put before the rest of it, which
+/// is printable. The row after the last can be counted.
+fn may_put_in<Out: Renderer>(out: &Out, layout: &Layout, rest: &str) -> bool
+    ensures value { result ≡ may_put_in (Out.canvas.ruler out.now) layout.now rest.now }
+    ensures inside { IsTrue result
+        → layout.now.cursor.col < (Out.canvas.ruler out.now).columns }
+    ensures last { IsTrue result → layout.now.end.col < (Out.canvas.ruler out.now).columns }
+    ensures rows { IsTrue result → layout.now.cursor.row ≤ layout.now.end.row }
+    ensures row { IsTrue result → layout.now.end.row + 1 ≤ 65535 }
 {
     let columns = out.get_columns();
+    let cursor = layout.cursor;
     let end = layout.end;
     !layout.has_info
-        && (layout.cursor.row == end.row
-            && (layout.cursor.col <= end.col && (end.col < columns && end.col + 1 < columns)))
+        && ((cursor.col < columns && end.col < columns)
+            && (cursor.row <= end.row && (end.row < out.get_rows() && is_printable_text(rest))))
 }
 
-/// Whether nothing is shown after the line, and `count` columns of the row of its end can be taken
-/// out from a cell on.
-fn may_take_out(layout: &Layout, at: Position, count: usize) -> bool
-    ensures value { result ≡ may_take_out layout.now at count }
-    ensures room { IsTrue result → count ≤ layout.now.end.col }
+/// Whether nothing is shown after the line, and `count` characters of a row can be taken out from a
+/// cell on, before the rest of the line, which is printable. Its last row has as many.
+fn may_take_out<Out: Renderer>(
+    out: &Out,
+    layout: &Layout,
+    at: Position,
+    count: usize,
+    rest: &str,
+) -> bool
+    ensures value { result
+        ≡ may_take_out (Out.canvas.ruler out.now) layout.now at count rest.now }
+    ensures some { IsTrue result → 0 < count }
+    ensures room { IsTrue result → at.col + count ≤ (Out.canvas.ruler out.now).columns }
+    ensures last { IsTrue result → count ≤ layout.now.end.col }
 {
-    let end = layout.end;
+    let columns = usize::from(out.get_columns());
+    let col = usize::from(at.col);
     !layout.has_info
-        && (layout.cursor.row == end.row && (at.row == end.row && count <= usize::from(end.col)))
+        && (0 < count
+            && (col <= columns
+                && count <= columns - col
+                && (count <= usize::from(layout.end.col) && is_printable_text(rest))))
+}
+
+/// The cell after another, in rows of so many columns. A full row is left at once.
+fn cell_on(columns: Unit, at: Position) -> Position
+    requires col { at.col < columns }
+    requires row { at.row + 1 ≤ 65535 }
+    ensures { result ≡ cell_on columns at }
+{
+    if at.col + 1 == columns {
+        Position {
+            col: 0,
+            row: at.row + 1,
+        }
+    } else {
+        Position {
+            col: at.col + 1,
+            row: at.row,
+        }
+    }
 }
 
 /// Whether a text after the line is a message: there is no hint.
@@ -465,23 +501,30 @@ impl<'p, 'h, Out: Renderer, H: Helper + Drop, Hi: History> State<'p, 'h, Out, H,
         }
     }
 
-    /// Shows a character put into a plain line: in its row, if one more fits there and nothing is
-    /// shown after the line.
+    /// Shows a character put into a plain line: the rest of the line moves on by a cell, if it is
+    /// printable and nothing is shown after it.
     pub(crate) fn show_put_in(&mut self, ch: char) -> Result<(), ReadlineError>
         ensures { Renders (λ s v. draw_effect (PutIn s.prompt ch v.line.text v.line.place) s v)
             self.old self.new result }
     {
-        if may_put_in(&self.out, &self.layout) {
-            self.out.insert_char(ch)?;
-            self.layout.cursor.col += 1;
-            self.layout.end.col += 1;
+        let pos = self.recorded.line.pos();
+        let recorded = &self.recorded;
+        let rest = &recorded.line.as_str()[pos..];
+        if may_put_in(&self.out, &self.layout, rest) {
+            let columns = self.out.get_columns();
+            let cursor = cell_on(columns, self.layout.cursor);
+            let end = cell_on(columns, self.layout.end);
+            self.out
+                .insert_char(ch, rest, self.layout.cursor, cursor, end)?;
+            self.layout.cursor = cursor;
+            self.layout.end = end;
             return Ok(());
         }
         self.draw_with(None)
     }
 
-    /// Shows that `count` characters of a plain line were deleted from the cursor on: in their row,
-    /// if the line ends there and nothing is shown after it.
+    /// Shows that `count` printable characters of a plain line were deleted from the cursor on: the
+    /// rest of the line moves back, if it is printable and nothing is shown after it.
     pub(crate) fn show_taken_out(&mut self, count: usize) -> Result<(), ReadlineError>
         ensures { Renders (λ s v. draw_effect
             (TakenOut s.prompt count v.line.text v.line.place) s v)
@@ -489,13 +532,15 @@ impl<'p, 'h, Out: Renderer, H: Helper + Drop, Hi: History> State<'p, 'h, Out, H,
     {
         let pos = self.recorded.line.pos();
         let at = self.position_at(pos);
-        if may_take_out(&self.layout, at, count) {
+        let recorded = &self.recorded;
+        let rest = &recorded.line.as_str()[pos..];
+        if may_take_out(&self.out, &self.layout, at, count, rest) {
             let end = Position {
                 col: self.layout.end.col - count as u16,
                 row: self.layout.end.row,
             };
             self.out
-                .move_and_delete_chars(self.layout.cursor, at, count as u16)?;
+                .move_and_delete_chars(self.layout.cursor, at, count as u16, rest, end)?;
             self.layout.cursor = at;
             self.layout.end = end;
             return Ok(());

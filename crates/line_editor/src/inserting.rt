@@ -70,8 +70,8 @@ impl<'p, 'h, Out: Renderer, H: Helper + Drop, Hi: History> State<'p, 'h, Out, H,
                     && (self.recorded.line.is_cursor_at_end() && self.is_apart_from_end(ch))))
     }
 
-    /// Whether a character may be shown in its row: a single printable character, put before the
-    /// end of a line that is bare and plain, if lines may be drawn in part.
+    /// Whether moving the rest of the line may show a character: a single printable one, put before
+    /// the end of a line that is bare and plain, if lines may be drawn in part.
     fn may_be_put_in(&self, ch: char, n: RepeatCount) -> bool
         ensures { result ≡ may_be_put_in (setting_of self.now).config.partial_redraw ch n
             (value_of self.now) }
@@ -93,7 +93,7 @@ impl<'p, 'h, Out: Renderer, H: Helper + Drop, Hi: History> State<'p, 'h, Out, H,
         } else if self.may_be_typed(ch, n) {
             Way::AtEnd
         } else if self.may_be_put_in(ch, n) {
-            Way::InRow
+            Way::Inside
         } else {
             Way::Whole
         }
@@ -114,7 +114,7 @@ impl<'p, 'h, Out: Renderer, H: Helper + Drop, Hi: History> State<'p, 'h, Out, H,
         match self.way_if_bare(way) {
             Way::AtEnd => self.show_short_typed(ch),
             Way::Alone => self.show_appended(ch),
-            Way::InRow => self.show_put_in(ch),
+            Way::Inside => self.show_put_in(ch),
             Way::Back(_) | Way::Whole => {
                 let prompt = self.prompt;
                 self.draw(prompt, true)

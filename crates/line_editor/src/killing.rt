@@ -3,15 +3,16 @@ ghost use Rattle.std.specs.Prelude.{◌≡◌, ◌&&◌, ◌⊎◌, if◌then◌
 ghost use Rattle.line_buffer.specs.Range.{IsSpanOf, copied_range, deletion_line};
 ghost use Rattle.line_config.specs.declared.errors.ReadlineError.{ReadlineError};
 ghost use Rattle.line_edits.specs.Edits.{ring_without_kill};
-ghost use Rattle.line_buffer.specs.Printable.{at_plain_end};
-ghost use Rattle.line_editor.specs.declared.way.Way.TheVariants.{AtEnd, InRow};
+ghost use Rattle.line_buffer.specs.Printable.{at_plain_end, is_printable};
+ghost use Rattle.std.specs.List.{list_all};
+ghost use Rattle.line_editor.specs.declared.way.Way.TheVariants.{AtEnd, Inside};
 
 use crate::characters::{last_char, stands_apart};
 use crate::measured::known_within;
 use crate::renderer::Renderer;
 use crate::state::State;
 use crate::way::Way;
-use line_buffer::{Mode, Movement, TextSpan};
+use line_buffer::{Mode, Movement, TextSpan, is_printable_text};
 use line_config::ReadlineError;
 use line_help::{Helper, History};
 use line_keys::Text;
@@ -20,7 +21,7 @@ use line_record::KillRing;
 #[tactic(auto, using(crate::proofs::StopsLemmas::edits_stop))]
 impl<'p, 'h, Out: Renderer, H: Helper + Drop, Hi: History> State<'p, 'h, Out, H, Hi> {
     ghost use Rattle.line_editor.specs.States.{value_of, setting_of, Does, Stays};
-    ghost use Rattle.line_editor.specs.Killing.{may_be_taken, may_be_taken_out, last_of_bare, way_erased, show_killed_effect, kill_way, kill_effect, insert_text_if, replace, ring_with_kill_of, ring_with_copy};
+    ghost use Rattle.line_editor.specs.Killing.{may_be_taken, may_be_taken_out, text_gone, last_of_bare, way_erased, show_killed_effect, kill_way, kill_effect, insert_text_if, replace, ring_with_kill_of, ring_with_copy};
 
     /// Whether erasing the rest of the row may show the kill of a range: printable characters,
     /// deleted from a bare line.
@@ -33,13 +34,28 @@ impl<'p, 'h, Out: Renderer, H: Helper + Drop, Hi: History> State<'p, 'h, Out, H,
         self.is_bare() && self.recorded.line.has_printable_end(span)
     }
 
-    /// Whether moving the rest of its row may show a kill: it is made in a bare and plain line, and
-    /// lines may be drawn in part.
-    fn may_be_taken_out(&self) -> bool
-        ensures { result ≡ may_be_taken_out (setting_of self.now).config.partial_redraw
-            (value_of self.now) }
+    /// Whether moving the rest of the line may show the kill of a range: printable characters,
+    /// deleted from a bare and plain line, if lines may be drawn in part.
+    fn may_be_taken_out(&self, span: Option<TextSpan>) -> bool
+        requires { IfSome span (λ s. IsSpanOf self.now.recorded.line.text s) }
+        ensures { let line = self.now.recorded.line in
+            result ≡ may_be_taken_out (setting_of self.now).config.partial_redraw
+            (text_gone line (deletion_line span line)) (value_of self.now) }
     {
-        self.config.partial_redraw() && (self.is_bare() && self.recorded.plain)
+        self.config.partial_redraw()
+            && (self.is_bare() && (self.recorded.plain && self.is_printable_range(span)))
+    }
+
+    /// Whether a range has printable characters only.
+    fn is_printable_range(&self, span: Option<TextSpan>) -> bool
+        requires { IfSome span (λ s. IsSpanOf self.now.recorded.line.text s) }
+        ensures { let line = self.now.recorded.line in
+            result ≡ list_all is_printable (text_gone line (deletion_line span line)) }
+    {
+        match span {
+            Some(span) => is_printable_text(&self.recorded.line.as_str()[span.from..span.upto]),
+            None => true,
+        }
     }
 
     /// The last character of a bare line, if lines may be drawn in part.
@@ -70,18 +86,18 @@ impl<'p, 'h, Out: Renderer, H: Helper + Drop, Hi: History> State<'p, 'h, Out, H,
         }
     }
 
-    /// How a kill of `count` bytes may be shown that left this line: `alone` and `in_row` say what
+    /// How a kill of `count` bytes may be shown that left this line: `alone` and `inside` say what
     /// its text and the line before allow, whose last character is `last`.
-    fn kill_way(&self, alone: bool, in_row: bool, last: Option<char>, count: usize) -> Way
+    fn kill_way(&self, alone: bool, inside: bool, last: Option<char>, count: usize) -> Way
         ensures { let line = self.now.recorded.line in
             result ≡ (if alone && at_plain_end line.text line.place then AtEnd
-            else if in_row && (nat_lt 0 count && nat_lt line.place (length line.text)) then InRow
+            else if inside && (nat_lt 0 count && nat_lt line.place (length line.text)) then Inside
             else way_erased count line last) }
     {
         if alone && self.is_at_plain_end() {
             Way::AtEnd
-        } else if in_row && (0 < count && self.recorded.line.pos() < self.recorded.line.len()) {
-            Way::InRow
+        } else if inside && (0 < count && self.recorded.line.pos() < self.recorded.line.len()) {
+            Way::Inside
         } else {
             self.way_erased(last, count)
         }
@@ -96,7 +112,7 @@ impl<'p, 'h, Out: Renderer, H: Helper + Drop, Hi: History> State<'p, 'h, Out, H,
         match self.way_if_bare(way) {
             Way::AtEnd => self.show_short_taken(count),
             Way::Back(ch) => self.show_erased(ch),
-            Way::InRow => self.show_taken_out(count),
+            Way::Inside => self.show_taken_out(count),
             Way::Alone | Way::Whole => {
                 let prompt = self.prompt;
                 self.draw(prompt, true)
@@ -124,7 +140,7 @@ impl<'p, 'h, Out: Renderer, H: Helper + Drop, Hi: History> State<'p, 'h, Out, H,
     {
         let span = self.recorded.line.range_of(movement);
         let alone = self.may_be_taken(span);
-        let in_row = self.may_be_taken_out();
+        let inside = self.may_be_taken_out(span);
         let last = self.last_of_bare();
         let before = self.recorded.line.len();
         let known = self.known_before(movement);
@@ -135,7 +151,7 @@ impl<'p, 'h, Out: Renderer, H: Helper + Drop, Hi: History> State<'p, 'h, Out, H,
             return Ok(());
         }
         let count = before - self.recorded.line.len();
-        let way = self.kill_way(alone, in_row, last, count);
+        let way = self.kill_way(alone, inside, last, count);
         self.show_killed(count, way)
     }
 

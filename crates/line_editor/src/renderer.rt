@@ -1,5 +1,5 @@
 //! The trait of renderers.
-ghost use Rattle.std.specs.Prelude.{◌≡◌, true, take, Some, OnErr, IfOk, IfErr, IsTrue, IsCharBoundary, option_copied, option_map};
+ghost use Rattle.std.specs.Prelude.{◌≡◌, ◌+◌, ◌<◌, ◌≤◌, true, take, Some, OnErr, IfOk, IfErr, IsTrue, IsCharBoundary, option_copied, option_map};
 ghost use Rattle.line_buffer.specs.Printable.{is_plain};
 ghost use Rattle.line_editor.specs.KnownPlaces.{IsKnown};
 ghost use Rattle.line_config.specs.declared.errors.ReadlineError.TheVariants.{Display};
@@ -78,18 +78,35 @@ pub trait Renderer: Drop {
     fn move_and_clear_to_eol(&mut self, old: Position, new: Position) -> Result<(), ReadlineError>
         ensures { Makes canvas (MoveAndClearToEol old new) self.old self.new result };
 
-    /// Opens a cell at the cursor: the rest of its row moves by one. Writes a character there.
-    fn insert_char(&mut self, ch: char) -> Result<(), ReadlineError>
-        ensures { Makes canvas (InsertChar ch) self.old self.new result };
+    /// Writes a character in a cell that is opened at the cursor, in `old`. The letters after it,
+    /// `rest`, move on by a cell, over rows if needed, so that the drawing ends at `end`. The cursor
+    /// goes to `new`, behind the character.
+    fn insert_char(
+        &mut self,
+        ch: char,
+        rest: &str,
+        old: Position,
+        new: Position,
+        end: Position,
+    ) -> Result<(), ReadlineError>
+        requires inside { old.col < (canvas.ruler self.old).columns }
+        ensures { Makes canvas (InsertChar ch rest.now old new end) self.old self.new result };
 
-    /// Moves the cursor, and takes `count` cells out of the row from there on.
+    /// Moves the cursor to `new`, and takes `count` cells out of its row from there on. The letters
+    /// after them, `rest`, move back by as many, over rows if needed, so that the drawing ends at
+    /// `end`.
     fn move_and_delete_chars(
         &mut self,
         old: Position,
         new: Position,
         count: Unit,
+        rest: &str,
+        end: Position,
     ) -> Result<(), ReadlineError>
-        ensures { Makes canvas (MoveAndDelete old new count) self.old self.new result };
+        requires some { 0 < count }
+        requires room { new.col + count ≤ (canvas.ruler self.old).columns }
+        ensures { Makes canvas (MoveAndDelete old new count rest.now end)
+            self.old self.new result };
 
     /// Draws a text behind what is drawn, whose end is at `at`, with the cursor there. Returns
     /// where the drawing ends then.

@@ -9,8 +9,8 @@ pub enum Way {
     Alone,
     /// At the end of the line, by erasing the cells of this character alone.
     Back(char),
-    /// In its row: the rest of the row moves.
-    InRow,
+    /// Before the end of the line: the characters after it move.
+    Inside,
     /// By a whole drawing.
     Whole,
 }

@@ -1,86 +1,143 @@
--- What edits leave plain of a plain line.
-use Rattle.std.proofs.Common.{◌≡◌, ℕ, zero, suc, ◌+◌, ◌==◌, ◌&&◌, ◌||◌, ◌<◌, Bool, true, false, List, [], ◌∷◌, ◌++◌, take, drop, refl, sym, ap, subst, ◌∙◌, encode_utf8, arith, if◌then◌else◌, length, Option, Some, None, Result, Ok, Err}
-use Rattle.std.specs.Prelude.{OnOk, OnErr, is_ok, slice_range}
+-- What edits leave plain.
+use Rattle.std.proofs.Common.{◌≡◌, ℕ, zero, suc, ◌+◌, ◌==◌, ◌&&◌, ◌||◌, ◌<◌, ◌≤◌, not, Bool, true, false, List, [], ◌∷◌, ◌++◌, take, drop, refl, sym, ap, subst, ◌∙◌, encode_utf8, arith, if◌then◌else◌, length, append-nil, Some, is_none, Result, Ok, Err}
+use Rattle.std.specs.Prelude.{OnOk, is_ok, slice_range}
 use Rattle.std.specs.List.{replace_range, repeat}
-use Rattle.std.proofs.lemmas.Bool.{and_parts}
+use Rattle.std.proofs.lemmas.Bool.{and_parts, and_from, or_right, eqb-true, ne_eqb}
+use Rattle.std.proofs.lemmas.Bool.Decides.{nat_tests}
 use Rattle.std.proofs.lemmas.List.{take-append-drop}
-use Rattle.std.proofs.lemmas.List.Folds.{list_all-append}
-use Rattle.std.proofs.lemmas.Str.{encode_ascii}
+use Rattle.std.proofs.lemmas.List.Folds.{list_all-append, drop_split}
+use Rattle.std.proofs.lemmas.Str.{encode_ascii, char_from_byte, length-encode, len_utf8_bounds}
 use Rattle.line_buffer.specs.Event.{ChangeEvent}
 use Rattle.line_buffer.specs.Event.ChangeEvent.{InsertChar}
-use Rattle.line_buffer.specs.Insertions.{no_insertion, has_room, with_text_at_cursor, insertion_of, insert as insertion, yank as yanked_in}
+use Rattle.line_buffer.specs.Insertions.{no_insertion, has_room, with_text_at_cursor, insertion_by, insertion_of, insert as insertion, yank as yanked_in}
 use Rattle.line_buffer.specs.Replay.{insertion as told_insertion, line_after_event, line_after_events}
-use Rattle.line_buffer.specs.Line.{Line, with_text_at, with_replacement}
+use Rattle.line_buffer.specs.Line.{Line}
 use Rattle.line_buffer.specs.Indent.{rows_covered, rows_of, front_whitespace, row_event, row_len, row_events, spaces, indent_line}
 use Rattle.line_buffer.specs.Rows.{row_start, row_end}
-use Rattle.line_buffer.specs.Range.{range_of, deletion_line, kill_line}
-use Rattle.line_buffer.specs.Printable.{is_printable, is_plain, is_plain_byte}
-use Rattle.line_buffer.specs.declared.range.TextSpan.{TextSpan}
+use Rattle.line_buffer.specs.Printable.{is_plain, is_plain_byte}
 use Rattle.line_buffer.specs.declared.types.Movement.{Movement}
 
-or_true : (a b : Bool) → b ≡ true → (a || b) ≡ true
-or_true true b h = refl
-or_true false b h = h
+swapped : (a b c : Bool) → ((a && b) && c) ≡ ((a && c) && b)
+swapped false b c = refl
+swapped true true true = refl
+swapped true true false = refl
+swapped true false true = refl
+swapped true false false = refl
 
-both : (a b : Bool) → a ≡ true → b ≡ true → (a && b) ≡ true
-both a b p q = ap (λ x. x && b) p ∙ q
+absorbed : (a b : Bool) → (a && (b || a)) ≡ a
+absorbed false b = refl
+absorbed true true = refl
+absorbed true false = refl
 
-parts_plain : (n : ℕ) (text : List ℕ) → is_plain text ≡ true → (is_plain (take n text) ≡ true) × (is_plain (drop n text) ≡ true)
-parts_plain n text h = and_parts (is_plain (take n text)) (is_plain (drop n text)) (sym (list_all-append is_plain_byte (take n text) (drop n text)) ∙ ap is_plain (take-append-drop n text) ∙ h)
+with_true : (a : Bool) → a ≡ (a && true)
+with_true true = refl
+with_true false = refl
 
-appended_plain : (a b : List ℕ) → is_plain a ≡ true → is_plain b ≡ true → is_plain (a ++ b) ≡ true
-appended_plain a b p q = list_all-append is_plain_byte a b ∙ both (is_plain a) (is_plain b) p q
+same_answer : (a b : Bool) → (a ≡ true → b ≡ true) → (b ≡ true → a ≡ true) → a ≡ b
+same_answer true true f g = refl
+same_answer true false f g = sym (f refl)
+same_answer false true f g = g refl
+same_answer false false f g = refl
+
+-- ---- a text by its parts
+
+parted_is : (n : ℕ) (text : List ℕ) → is_plain text ≡ (is_plain (take n text) && is_plain (drop n text))
+parted_is n text = ap is_plain (sym (take-append-drop n text)) ∙ list_all-append is_plain_byte (take n text) (drop n text)
+
+replaced_is : (from upto : ℕ) (text added : List ℕ) → is_plain (replace_range text from upto added) ≡ ((is_plain (take from text) && is_plain added) && is_plain (drop upto text))
+replaced_is from upto text added =
+    list_all-append is_plain_byte (take from text ++ added) (drop upto text) ∙ ap (λ b. b && is_plain (drop upto text)) (list_all-append is_plain_byte (take from text) added)
 
 replaced_plain : (from upto : ℕ) (text added : List ℕ) → is_plain text ≡ true → is_plain added ≡ true → is_plain (replace_range text from upto added) ≡ true
 replaced_plain from upto text added h g =
-    appended_plain (take from text ++ added) (drop upto text) (appended_plain (take from text) added (parts_plain from text h).0 g) (parts_plain upto text h).1
+    let front = and_parts (is_plain (take from text)) (is_plain (drop from text)) (sym (parted_is from text) ∙ h) in
+    let rest = and_parts (is_plain (take upto text)) (is_plain (drop upto text)) (sym (parted_is upto text) ∙ h) in
+    replaced_is from upto text added ∙ and_from _ _ (and_from _ _ front.0 g) rest.1
 
-repeated_plain : (n : ℕ) (text : List ℕ) → is_plain text ≡ true → is_plain (repeat n text) ≡ true
-repeated_plain zero text h = refl
-repeated_plain (suc n) text h = appended_plain text (repeat n text) h (repeated_plain n text h)
+repeated_is : (n : ℕ) (text : List ℕ) → is_plain (repeat n text) ≡ ((n == 0) || is_plain text)
+repeated_is zero text = refl
+repeated_is (suc n) text =
+    list_all-append is_plain_byte text (repeat n text) ∙ ap (λ b. is_plain text && b) (repeated_is n text) ∙ absorbed (is_plain text) (n == 0)
+    ∙ sym (ap (λ b. b || is_plain text) (ne_eqb (suc n) 0 (λ e. absurd (omega (arith, e)))))
 
-char_plain : (c : ℕ) → is_printable c ≡ true → c < 127 → is_plain (encode_utf8 c) ≡ true
-char_plain c p low = ap is_plain (encode_ascii c (omega (arith, low))) ∙ both (is_plain_byte c) true (or_true (c == 10) (is_printable c) p) refl
+-- ---- a character
 
--- ---- what is killed
+byte_low : (byte : ℕ) → is_plain_byte byte ≡ true → byte < 128
+byte_low byte h = grind (arith, nat_tests)
 
-deleted_plain : (span : Option TextSpan) (l : Line) → is_plain l.text ≡ true → is_plain (deletion_line span l).text ≡ true
-deleted_plain None l h = h
-deleted_plain (Some span) l h = replaced_plain span.from span.upto l.text [] h refl
+spelled_plain : (c : ℕ) (bytes : List ℕ) → bytes ≡ encode_utf8 c → 0 < length bytes → is_plain bytes ≡ true → is_plain_byte c ≡ true
+spelled_plain c [] is some h = absurd (omega (arith, some))
+spelled_plain c (byte ∷ bytes) is some h =
+    let first = (and_parts (is_plain_byte byte) (is_plain bytes) h).0 in
+    subst (λ b. is_plain_byte b ≡ true) (sym (char_from_byte (byte ∷ bytes) [] c (is ∙ sym (append-nil (encode_utf8 c))) (byte_low byte first) some)) first
 
-pub killed_plain : (movement : Movement) (l : Line) → is_plain l.text ≡ true → is_plain (kill_line movement l).text ≡ true
-killed_plain movement l h = deleted_plain (range_of movement l) l h
+pub char_is_plain : (c : ℕ) → is_plain (encode_utf8 c) ≡ is_plain_byte c
+char_is_plain c =
+    same_answer _ _ (spelled_plain c (encode_utf8 c) refl (omega (arith, length-encode c, (len_utf8_bounds c).0)))
+    (λ h. ap is_plain (encode_ascii c (byte_low c h)) ∙ and_from (is_plain_byte c) true h refl)
 
--- ---- what is put in or over
+-- ---- what is deleted
 
-pub put_behind_plain : (text : List ℕ) (l : Line) → is_plain l.text ≡ true → is_plain text ≡ true → is_plain (with_text_at l.place text l).text ≡ true
-put_behind_plain text l h g = replaced_plain l.place l.place l.text text h g
+by_deleted : (front deleted rest : Bool) → (front && rest) ≡ ((front && (deleted && rest)) || (not deleted && (front && rest)))
+by_deleted false true rest = refl
+by_deleted false false rest = refl
+by_deleted true true true = refl
+by_deleted true true false = refl
+by_deleted true false rest = refl
 
-pub put_over_plain : (c end : ℕ) (l : Line) → is_plain l.text ≡ true → is_printable c ≡ true → c < 127 → is_plain (with_replacement l.place end (encode_utf8 c) l).text ≡ true
-put_over_plain c end l h p low = replaced_plain l.place end l.text (encode_utf8 c) h (char_plain c p low)
+spanned_is : (from upto : ℕ) (text : List ℕ) → from ≤ upto → is_plain text ≡ (is_plain (take from text) && (is_plain (slice_range text from upto) && is_plain (drop upto text)))
+spanned_is from upto text order =
+    parted_is from text
+    ∙ ap (λ b. is_plain (take from text) && b) (ap is_plain (drop_split text from upto order) ∙ list_all-append is_plain_byte (slice_range text from upto) (drop upto text))
 
-put_room : (room : Bool) (told : ChangeEvent) (added : List ℕ) (l : Line) → is_plain l.text ≡ true → is_plain added ≡ true
-    → is_plain (if room then record { answer = Some (l.place == length l.text); events = told ∷ []; line = with_text_at_cursor added l } else no_insertion l).line.text ≡ true
-put_room true told added l h g = replaced_plain l.place l.place l.text added h g
-put_room false told added l h g = h
+-- a plain range leaves a text that isn't plain as it is
+pub without_is : (from upto : ℕ) (text : List ℕ) → from ≤ upto → is_plain (replace_range text from upto [])
+    ≡ (is_plain text || (not (is_plain (slice_range text from upto)) && (is_plain (take from text) && is_plain (drop upto text))))
+without_is from upto text order =
+    let front = is_plain (take from text) in
+    let deleted = is_plain (slice_range text from upto) in
+    let rest = is_plain (drop upto text) in
+    replaced_is from upto text [] ∙ ap (λ b. b && rest) (sym (with_true front)) ∙ by_deleted front deleted rest
+    ∙ sym (ap (λ b. b || (not deleted && (front && rest))) (spanned_is from upto text order))
 
-pub typed_plain : (c n : ℕ) (l : Line) → n ≡ 1 → is_plain l.text ≡ true → is_printable c ≡ true → c < 127 → is_plain (insertion c n l).line.text ≡ true
-typed_plain c n l one h p low =
-    subst (λ m. is_plain (insertion c m l).line.text ≡ true) (sym one) (put_room (has_room (length (encode_utf8 c)) l) (InsertChar l.place c) (encode_utf8 c) l h (char_plain c p low))
+-- ---- what is put in
 
-yank_if : (none : Bool) (text : List ℕ) (n : ℕ) (l : Line) → is_plain l.text ≡ true → is_plain text ≡ true
-    → is_plain (if none then no_insertion l else insertion_of text n l).line.text ≡ true
-yank_if true text n l h g = h
-yank_if false text n l h g = put_room (has_room (length (repeat n text)) l) (told_insertion l.place (repeat n text)) (repeat n text) l h (repeated_plain n text g)
+pub inserted_is : (at : ℕ) (text added : List ℕ) → is_plain (replace_range text at at added) ≡ (is_plain text && is_plain added)
+inserted_is at text added =
+    replaced_is at at text added ∙ swapped (is_plain (take at text)) (is_plain added) (is_plain (drop at text)) ∙ ap (λ b. b && is_plain added) (sym (parted_is at text))
 
-pub yanked_plain : (text : List ℕ) (n : ℕ) (l : Line) → is_plain l.text ≡ true → is_plain text ≡ true → is_plain (yanked_in text n l).line.text ≡ true
-yanked_plain text n l h g = yank_if (length text == 0) text n l h g
+put_by : (room : Bool) (told : ChangeEvent) (added : List ℕ) (l : Line) → (let put = if room then record { answer = Some (l.place == length l.text); events = told ∷ []; line = with_text_at_cursor added l } else no_insertion l in
+    is_plain put.line.text ≡ (is_plain l.text && (is_none put.answer || is_plain added)))
+put_by true told added l = inserted_is l.place l.text added
+put_by false told added l = with_true (is_plain l.text)
+
+copies_put : (text : List ℕ) (n : ℕ) (l : Line) → is_plain (insertion_of text n l).line.text ≡ (is_plain l.text && (is_none (insertion_of text n l).answer || ((n == 0) || is_plain text)))
+copies_put text n l =
+    put_by (has_room (length (repeat n text)) l) (told_insertion l.place (repeat n text)) (repeat n text) l ∙ ap (λ b. is_plain l.text && (is_none (insertion_of text n l).answer || b)) (repeated_is n text)
+
+typed_by : (one : Bool) (c n : ℕ) (l : Line) → (n == 1) ≡ one → (let put = if one then insertion_by (InsertChar l.place c) (encode_utf8 c) l else insertion_of (encode_utf8 c) n l in
+    is_plain put.line.text ≡ (is_plain l.text && (is_none put.answer || ((n == 0) || is_plain (encode_utf8 c)))))
+typed_by true c n l is =
+    put_by (has_room (length (encode_utf8 c)) l) (InsertChar l.place c) (encode_utf8 c) l
+    ∙ ap (λ m. is_plain l.text && (is_none (insertion_by (InsertChar l.place c) (encode_utf8 c) l).answer || ((m == 0) || is_plain (encode_utf8 c)))) (sym (eqb-true n 1 is))
+typed_by false c n l is = copies_put (encode_utf8 c) n l
+
+pub typed_is : (c n : ℕ) (l : Line) → is_plain (insertion c n l).line.text ≡ (is_plain l.text && (is_none (insertion c n l).answer || ((n == 0) || is_plain (encode_utf8 c))))
+typed_is c n l = typed_by (n == 1) c n l refl
+
+yanked_by : (empty : Bool) (text : List ℕ) (n : ℕ) (l : Line) → (let put = if empty then no_insertion l else insertion_of text n l in
+    is_plain put.line.text ≡ (is_plain l.text && (is_none put.answer || ((n == 0) || is_plain text))))
+yanked_by true text n l = with_true (is_plain l.text)
+yanked_by false text n l = copies_put text n l
+
+pub yanked_is : (text : List ℕ) (n : ℕ) (l : Line) → is_plain (yanked_in text n l).line.text ≡ (is_plain l.text && (is_none (yanked_in text n l).answer || ((n == 0) || is_plain text)))
+yanked_is text n l = yanked_by (length text == 0) text n l
 
 -- ---- rows moved in or out
 
 moved_plain : (amount : ℕ) (dedent : Bool) (at : ℕ) (row : List ℕ) (l : Line) → is_plain l.text ≡ true → is_plain (line_after_event (row_event (spaces amount) dedent at row) l).text ≡ true
 moved_plain amount true at row l h = replaced_plain at (at + length (front_whitespace (length (spaces amount)) row)) l.text [] h refl
-moved_plain amount false at row l h = replaced_plain at (at + 0) l.text (spaces amount) h (repeated_plain amount (32 ∷ []) refl)
+moved_plain amount false at row l h = replaced_plain at (at + 0) l.text (spaces amount) h (repeated_is amount (32 ∷ []) ∙ or_right (amount == 0) true refl)
 
 rows_plain : (amount : ℕ) (dedent : Bool) (at : ℕ) (rows : List (List ℕ)) (l : Line) → is_plain l.text ≡ true → is_plain (line_after_events (row_events (spaces amount) dedent at rows) l).text ≡ true
 unfolding line_after_events row_events
@@ -93,12 +150,7 @@ indented_plain movement amount dedent l h =
     let first = row_start l.text (rows_covered movement l).0 in
     rows_plain amount dedent first (rows_of (slice_range l.text first (row_end l.text (rows_covered movement l).1))) l h
 
--- ---- a call that makes a line of a plain one, or leaves it, leaves it plain
-
-pub still_plain : {A E : Type 0} (result : Result A E) (before made after : Line) → OnOk result (after ≡ made) → OnErr result (after ≡ before)
-    → is_plain before.text ≡ true → is_plain made.text ≡ true → is_plain after.text ≡ true
-still_plain (Ok a) before made after ok err h g = ap (λ l. is_plain l.text) ok ∙ g
-still_plain (Err e) before made after ok err h g = ap (λ l. is_plain l.text) err ∙ h
+-- ---- a call that was answered leaves the line that it makes
 
 pub answered_plain : {A E : Type 0} (result : Result A E) (made after : Line) → OnOk result (after ≡ made) → is_ok result ≡ true → is_plain made.text ≡ true → is_plain after.text ≡ true
 answered_plain (Ok a) made after ok answered g = ap (λ l. is_plain l.text) ok ∙ g

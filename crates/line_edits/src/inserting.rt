@@ -5,9 +5,9 @@ ghost use Rattle.line_record.specs.Items.{ItemsStand};
 ghost use Rattle.line_edits.specs.Edits.{char_steps, yank_steps, text_steps, pop_steps, pop_group};
 ghost use Rattle.line_edits.specs.WriteSteps.{Edits, Rewrites};
 
-use crate::plain::is_plain;
+use crate::plain::{is_plain, is_plain_char};
 use crate::recorded_line::RecordedLine;
-use line_buffer::{LineBuffer, OutOfMemory, RepeatCount, is_printable};
+use line_buffer::{LineBuffer, OutOfMemory, RepeatCount};
 use line_record::Changeset;
 use std::alloc::Global;
 
@@ -102,7 +102,7 @@ fn pop_told_in_group(
 impl RecordedLine {
     /// Inserts a character `n` times. Returns whether that is at the text's end, or `None` if it
     /// doesn't fit.
-    #[tactic(auto, using(crate::proofs::PlainLemmas::typed_plain, crate::proofs::StepLemmas::left_unanswered))]
+    #[tactic(auto, using(crate::proofs::PlainLemmas::typed_is, crate::proofs::StepLemmas::left_unanswered))]
     pub fn insert_char(
         &mut self,
         alloc: Global,
@@ -113,27 +113,25 @@ impl RecordedLine {
         ensures refused { OnErr result (is_some (insertion ch n self.old.line).answer ≡ true) }
     {
         let at_end = insert_told(alloc, &mut self.line, &mut self.changes, ch, n)?;
-        if n == 1 && self.plain && is_printable(ch) {
-            return Ok(at_end);
+        if self.plain && !is_plain_char(ch) {
+            self.plain = at_end.is_none() || n == 0;
         }
-        self.plain = is_plain(self.line.as_str());
         Ok(at_end)
     }
 
     /// Inserts a text at the cursor, which stays before it.
+    #[tactic(auto, using(crate::proofs::PlainLemmas::inserted_is))]
     pub fn insert_text(&mut self, alloc: Global, text: &str) -> Result<(), OutOfMemory>
         ensures { Edits (text_steps text.now self.old.line) self.old self.new result }
     {
         text_told(alloc, &mut self.line, &mut self.changes, text)?;
-        if self.plain && is_plain(text) {
-            return Ok(());
-        }
-        self.plain = is_plain(self.line.as_str());
+        self.plain = self.plain && is_plain(text);
         Ok(())
     }
 
     /// Inserts a text `n` times. Returns whether that is at the text's end, or `None` if the text
     /// is empty or doesn't fit.
+    #[tactic(auto, using(crate::proofs::PlainLemmas::yanked_is))]
     pub fn yank(
         &mut self,
         alloc: Global,
@@ -145,10 +143,9 @@ impl RecordedLine {
             (is_some (yanked_in text.now n self.old.line).answer ≡ true) }
     {
         let put = yank_told(alloc, &mut self.line, &mut self.changes, text, n)?;
-        if self.plain && is_plain(text) {
-            return Ok(put);
+        if self.plain && !is_plain(text) {
+            self.plain = put.is_none() || n == 0;
         }
-        self.plain = is_plain(self.line.as_str());
         Ok(put)
     }
 

@@ -7,7 +7,6 @@ ghost use Rattle.line_record.specs.Ring.{ring_all};
 ghost use Rattle.line_edits.specs.Edits.{kill_steps, TookOrNot};
 ghost use Rattle.line_edits.specs.WriteSteps.{Edits, Rewrites};
 
-use crate::plain::is_plain;
 use crate::recorded_line::RecordedLine;
 use line_buffer::{LineBuffer, Movement, OutOfMemory, TextSpan};
 use line_record::{Changeset, Joined, KillRing};
@@ -76,13 +75,17 @@ impl RecordedLine {
             (TookOrNot movement.now self.old.line ring.old ring.new) }
         ensures shrinks { length self.new.line.text ≤ length self.old.line.text }
     {
+        let plain = match span {
+            Some(span) => self.is_plain_without(span.from, span.upto),
+            None => self.plain,
+        };
         let mut both = Joined {
             first: ring,
             second: &mut self.changes,
         };
         let killed = kill_told(alloc, &mut self.line, &mut both, movement, span);
-        if !self.plain {
-            self.plain = is_plain(self.line.as_str());
+        if killed.is_ok() {
+            self.plain = plain;
         }
         killed
     }

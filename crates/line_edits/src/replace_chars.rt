@@ -5,9 +5,9 @@ ghost use Rattle.line_edits.specs.Edits.{delete_steps, clusters_after, exchange_
 ghost use Rattle.line_edits.specs.WriteSteps.{Edits, Rewrites};
 
 use crate::inserting::insert_told;
-use crate::plain::is_plain;
+use crate::plain::{is_plain, is_plain_char};
 use crate::recorded_line::RecordedLine;
-use line_buffer::{LineBuffer, OutOfMemory, RepeatCount, clusters_up_to, is_printable};
+use line_buffer::{LineBuffer, OutOfMemory, RepeatCount, clusters_up_to};
 use line_record::Changeset;
 use std::alloc::Global;
 
@@ -116,11 +116,9 @@ impl RecordedLine {
         let Some(end) = self.line.next_pos(1) else {
             return Ok(false);
         };
+        let plain = is_plain_char(ch) && self.is_plain_without(self.line.pos(), end);
         put_over(alloc, &mut self.line, &mut self.changes, ch, end)?;
-        if self.plain && is_printable(ch) {
-            return Ok(true);
-        }
-        self.plain = is_plain(self.line.as_str());
+        self.plain = plain;
         Ok(true)
     }
 }

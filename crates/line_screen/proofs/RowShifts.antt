@@ -1,105 +1,12 @@
--- Letters in one row, and what a cell that is opened before them, or cells that are taken out, make of them.
-use Rattle.std.proofs.Common.{◌≡◌, ℕ, zero, suc, ◌+◌, ◌-◌, ◌<◌, ◌≤◌, ◌==◌, nat_le, nat_lt, Bool, true, false, cond, not, ◌&&◌, List, [], ◌∷◌, ◌++◌, map, length, refl, sym, ap, ap₂, ◌∙◌, arith, if◌then◌else◌}
+-- What a cell that is opened in a row, or cells that are taken out, make of the clusters there and elsewhere.
+use Rattle.std.proofs.Common.{◌≡◌, ℕ, ◌+◌, ◌-◌, ◌<◌, ◌≤◌, ◌==◌, nat_lt, Bool, true, false, cond, not, ◌&&◌, ◌||◌, List, [], ◌∷◌, ◌++◌, map, refl, sym, ap, ap₂, ◌∙◌, arith, if◌then◌else◌}
 use Rattle.std.specs.List.{list_all, filter}
-use Rattle.std.proofs.lemmas.Bool.{and_parts, and_from, not-true, eqb-true}
+use Rattle.std.proofs.lemmas.Bool.{and_parts, not-true}
 use Rattle.std.proofs.lemmas.Bool.Decides.{nat_tests}
-use Rattle.line_buffer.specs.Printable.{is_printable, is_plain, is_plain_byte}
 use Rattle.line_buffer.specs.declared.layout.Position.{Position}
-use Rattle.line_screen.specs.Chain.{down, down_placed}
-use Rattle.line_screen.specs.Display.{Placed, cluster_placed_at, placed_in, right, ends_before, starts_before, is_cut, touches, is_in_rest, goes_right, can_go_right, goes_left, can_go_left, is_taken_out}
-use Rattle.line_screen.specs.Drawing.{DrawnItem, next_row, leave, after_one, place_after, lay_run}
-use Rattle.line_screen.specs.Drawing.DrawnItem.{NewRow, Letter}
-use Rattle.line_screen.specs.StyledTexts.{lay}
-use Rattle.line_screen.proofs.Ends.{plain_letters, same_place, next_col}
-use Rattle.line_screen.proofs.Items.{plain_item}
-
--- ---- plain text that ends in the row where it begins
-
-pub record InOneRow (columns : ℕ) (xs : List ℕ) (at : Position) : Type 0 where
-  pub printable : list_all is_printable xs ≡ true
-  pub ends : place_after columns (map plain_item xs) at ≡ right (length xs) at
-
-grows_if : (b : Bool) (at : Position) → at.row ≤ (if b then next_row (right 1 at) else right 1 at).row
-grows_if true at = omega arith
-grows_if false at = omega arith
-
-one_grows : (columns x : ℕ) (b : Bool) (at : Position) → at.row ≤ (after_one columns (if b then NewRow else Letter x) at).row
-one_grows columns x true at = omega arith
-one_grows columns x false at = grows_if (at.col + 1 == columns) at
-
-rows_grow : (columns : ℕ) (xs : List ℕ) (at : Position) → at.row ≤ (place_after columns (map plain_item xs) at).row
-rows_grow columns [] at = omega arith
-rows_grow columns (x ∷ xs) at =
-    let one = one_grows columns x (x == 0x0A) at in
-    let rest = rows_grow columns xs (after_one columns (plain_item x) at) in
-    omega arith
-
-printable_if : (c : ℕ) → is_plain_byte c ≡ true → (c == 0x0A) ≡ false → is_printable c ≡ true
-printable_if c h e = grind (arith, nat_tests)
-
-record LetterRow (columns : ℕ) (xs : List ℕ) (at : Position) : Type 0 where
-  printable : list_all is_printable xs ≡ true
-  ends : place_after columns (map plain_item xs) (leave columns (right 1 at)) ≡ right (suc (length xs)) at
-
-letter_row_if : (columns : ℕ) (xs : List ℕ) (at : Position) → ((from : Position) → (place_after columns (map plain_item xs) from).row ≡ from.row → InOneRow columns xs from)
-    → (b : Bool) → (at.col + 1 == columns) ≡ b → (place_after columns (map plain_item xs) (if b then next_row (right 1 at) else right 1 at)).row ≡ at.row → LetterRow columns xs at
-letter_row_if columns xs at ih true e same = let more = rows_grow columns xs (next_row (right 1 at)) in absurd (omega arith)
-letter_row_if columns xs at ih false e same =
-    let rest = ih (right 1 at) same in
-    record {
-      printable = rest.printable;
-      ends = ap (λ b. place_after columns (map plain_item xs) (if b then next_row (right 1 at) else right 1 at)) e
-          ∙ rest.ends ∙ ap (λ n. let p : Position = record { col = n; row = at.row } in p) (next_col at.col (length xs));
-    }
-
-one_row_if : (columns x : ℕ) (xs : List ℕ) (at : Position) → is_plain_byte x ≡ true → ((from : Position) → (place_after columns (map plain_item xs) from).row ≡ from.row → InOneRow columns xs from)
-    → (b : Bool) → (x == 0x0A) ≡ b → (place_after columns (map plain_item xs) (after_one columns (if b then NewRow else Letter x) at)).row ≡ at.row → InOneRow columns (x ∷ xs) at
-one_row_if columns x xs at ok ih true e same = let more = rows_grow columns xs (next_row at) in absurd (omega arith)
-one_row_if columns x xs at ok ih false e same =
-    let rest = letter_row_if columns xs at ih (at.col + 1 == columns) refl same in
-    record {
-      printable = and_from (is_printable x) (list_all is_printable xs) (printable_if x ok e) rest.printable;
-      ends = ap (λ b. place_after columns (map plain_item xs) (after_one columns (if b then NewRow else Letter x) at)) e ∙ rest.ends;
-    }
-
-pub one_row : (columns : ℕ) (xs : List ℕ) (at : Position) → is_plain xs ≡ true → (place_after columns (map plain_item xs) at).row ≡ at.row → InOneRow columns xs at
-one_row columns [] at plain same = record { printable = refl; ends = same_place at }
-one_row columns (x ∷ xs) at plain same =
-    let parts = and_parts (is_plain_byte x) (is_plain xs) plain in
-    one_row_if columns x xs at parts.0 (λ from h. one_row columns xs from parts.1 h) (x == 0x0A) refl same
-
--- ---- their cells
-
-laid_if : (columns c : ℕ) (cs : List ℕ) (at : Position) → at.col + length (c ∷ cs) < columns → lay columns (plain_letters cs) (right 1 at) ≡ lay_run [] cs (right 1 at)
-    → (b : Bool) → (at.col + 1 == columns) ≡ b → lay columns (plain_letters cs) (if b then next_row (right 1 at) else right 1 at) ≡ lay_run [] cs (right 1 at)
-laid_if columns c cs at room ih true e = let full = eqb-true (at.col + 1) columns e in absurd (omega arith)
-laid_if columns c cs at room ih false e = ih
-
-pub letters_laid : (columns : ℕ) (cs : List ℕ) (at : Position) → at.col + length cs < columns → lay columns (plain_letters cs) at ≡ lay_run [] cs at
-letters_laid columns [] at room = refl
-letters_laid columns (c ∷ cs) at room =
-    ap (λ xs. cluster_placed_at [] (c ∷ []) 1 at ∷ xs) (laid_if columns c cs at room (letters_laid columns cs (right 1 at) (omega arith)) (at.col + 1 == columns) refl)
-
-pub run_down : (top : ℕ) (cs : List ℕ) (at : Position) → map (down_placed top) (lay_run [] cs at) ≡ lay_run [] cs (down top at)
-run_down top [] at = refl
-run_down top (c ∷ cs) at = ap (λ xs. cluster_placed_at [] (c ∷ []) 1 (down top at) ∷ xs) (run_down top cs (right 1 at))
-
-further : (at : Position) (n : ℕ) → right n (right 1 at) ≡ right (suc n) at
-further at n = ap (λ m. let p : Position = record { col = m; row = at.row } in p) (next_col at.col n)
-
-pub run_both : (xs ys : List ℕ) (at : Position) → lay_run [] (xs ++ ys) at ≡ lay_run [] xs at ++ lay_run [] ys (right (length xs) at)
-run_both [] ys at = ap (lay_run [] ys) (same_place at)
-run_both (x ∷ xs) ys at =
-    ap (λ zs. cluster_placed_at [] (x ∷ []) 1 at ∷ zs) (run_both xs ys (right 1 at) ∙ ap (λ p. lay_run [] xs (right 1 at) ++ lay_run [] ys p) (further at (length xs)))
-
--- what holds of each letter of a row from a column on, up to another
-pub run_all : (q : Placed → Bool) (row low high : ℕ) → ((c col : ℕ) → low ≤ col → col < high → q (cluster_placed_at [] (c ∷ []) 1 (record { col = col; row = row })) ≡ true)
-    → (cs : List ℕ) (from : Position) → from.row ≡ row → low ≤ from.col → from.col + length cs ≤ high → list_all q (lay_run [] cs from) ≡ true
-run_all q row low high each [] from is here room = refl
-run_all q row low high each (c ∷ cs) from is here room =
-    and_from (q (cluster_placed_at [] (c ∷ []) 1 from)) _
-    (ap (λ r. q (cluster_placed_at [] (c ∷ []) 1 (record { col = from.col; row = r }))) is ∙ each c from.col here (omega arith))
-    (run_all q row low high each cs (right 1 from) is (omega arith) (omega arith))
+use Rattle.line_screen.specs.Display.{Placed, cluster_placed_at, placed_in, right, ends_before, is_cut, touches, is_in_rest, is_pushed_out, goes_right, can_go_right, goes_left, can_go_left, is_taken_out}
+use Rattle.line_screen.specs.Drawing.{next_row, lay_run}
+use Rattle.line_screen.proofs.LetterRows.{is_below}
 
 -- ---- maps and filters
 
@@ -163,33 +70,77 @@ module _ (t : Placed → Bool) (at : Position) (new : Placed) where
   filter_lost is [] = new_lost is []
   filter_lost is (p ∷ ps) = filter_lost_if is p ps (filter_lost is ps) (ends_before at p)
 
--- ---- a cell that is opened
+-- ---- outside the rest of a place's row
 
-not_in_rest : (at : Position) (p : Placed) → ends_before at p ≡ true → is_in_rest at p ≡ false
+abbrev pub is_elsewhere : Position → Placed → Bool
+is_elsewhere at p = ends_before at p || is_below at p
+
+pub ended_elsewhere : (at : Position) (p : Placed) → ends_before at p ≡ true → is_elsewhere at p ≡ true
+ended_elsewhere at p h = ap (λ b. b || is_below at p) h
+
+pub below_elsewhere : (at : Position) (p : Placed) → is_below at p ≡ true → is_elsewhere at p ≡ true
+below_elsewhere at p h = grind (arith, nat_tests)
+
+not_in_rest : (at : Position) (p : Placed) → is_elsewhere at p ≡ true → is_in_rest at p ≡ false
 not_in_rest at p h = grind (arith, nat_tests)
 
-pub right_unmoved : (at : Position) (p : Placed) → ends_before at p ≡ true → goes_right at p ≡ p
-right_unmoved at p h = ap (λ b. if b then record p { col = p.col + 1 } else p) (not_in_rest at p h)
+not_cut_elsewhere : (at : Position) (p : Placed) → is_elsewhere at p ≡ true → not (is_cut at p) ≡ true
+not_cut_elsewhere at p h = grind (arith, nat_tests)
 
-pub ended_can_go : (columns : ℕ) (at : Position) (p : Placed) → ends_before at p ≡ true → can_go_right columns at p ≡ true
-ended_can_go columns at p h = grind (arith, nat_tests)
+further_elsewhere : (count : ℕ) (at : Position) (p : Placed) → is_elsewhere at p ≡ true → is_elsewhere (right count at) p ≡ true
+further_elsewhere count at p h = grind (arith, nat_tests)
 
-pub letter_can_go : (columns : ℕ) (at : Position) (c col : ℕ) → at.col ≤ col → col + 1 < columns → can_go_right columns at (cluster_placed_at [] (c ∷ []) 1 (record { col = col; row = at.row })) ≡ true
-letter_can_go columns at c col low high = grind (arith, nat_tests)
+-- behind the place's cell, or below
+abbrev pub is_beyond : Position → Placed → Bool
+is_beyond at p = is_below at p || ((p.row == at.row) && nat_lt at.col p.col)
+
+pub below_beyond : (at : Position) (p : Placed) → is_below at p ≡ true → is_beyond at p ≡ true
+below_beyond at p h = ap (λ b. b || ((p.row == at.row) && nat_lt at.col p.col)) h
+
+pub beyond_apart : (at : Position) (p : Placed) → is_beyond at p ≡ true → not (touches at 1 p) ≡ true
+beyond_apart at p h = grind (arith, nat_tests)
+
+pub beyond_not_ended : (at : Position) (p : Placed) → is_beyond at p ≡ true → not (ends_before at p) ≡ true
+beyond_not_ended at p h = grind (arith, nat_tests)
+
+pub letter_beyond : (at : Position) (c col : ℕ) → at.col + 1 ≤ col → is_beyond at (cluster_placed_at [] (c ∷ []) 1 (record { col = col; row = at.row })) ≡ true
+letter_beyond at c col low = grind (arith, nat_tests)
+
+pub letter_ends_on : (at : Position) (c col : ℕ) → col < at.col → ends_before at (cluster_placed_at [] (c ∷ []) 1 (record { col = col; row = at.row })) ≡ true
+letter_ends_on at c col low = grind (arith, nat_tests)
+
+pub letter_ends_above : (at : Position) (c col : ℕ) → ends_before (next_row at) (cluster_placed_at [] (c ∷ []) 1 (record { col = col; row = at.row })) ≡ true
+letter_ends_above at c col = grind (arith, nat_tests)
 
 in_rest : (at : Position) (c : ℕ) (from : Position) → from.row ≡ at.row → at.col ≤ from.col → is_in_rest at (cluster_placed_at [] (c ∷ []) 1 from) ≡ true
 in_rest at c from row low = grind (arith, nat_tests)
+
+-- ---- a cell that is opened
+
+pub can_go_elsewhere : (columns : ℕ) (at : Position) (p : Placed) → is_elsewhere at p ≡ true → can_go_right columns at p ≡ true
+can_go_elsewhere columns at p h =
+    ap (λ b. b && (not (is_pushed_out columns at p) || (p.width == 1))) (not_cut_elsewhere at p h)
+    ∙ ap (λ b. not (b && (p.col + p.width == columns)) || (p.width == 1)) (not_in_rest at p h)
+
+pub stays_elsewhere : (columns : ℕ) (at : Position) (p : Placed) → is_elsewhere at p ≡ true → not (is_pushed_out columns at p) ≡ true
+stays_elsewhere columns at p h = ap (λ b. not (b && (p.col + p.width == columns))) (not_in_rest at p h)
+
+pub right_unmoved : (at : Position) (p : Placed) → is_elsewhere at p ≡ true → goes_right at p ≡ p
+right_unmoved at p h = ap (λ b. if b then record p { col = p.col + 1 } else p) (not_in_rest at p h)
+
+pub letter_can_go : (columns : ℕ) (at : Position) (c col : ℕ) → can_go_right columns at (cluster_placed_at [] (c ∷ []) 1 (record { col = col; row = at.row })) ≡ true
+letter_can_go columns at c col = grind (arith, nat_tests)
+
+pub letter_stays : (columns : ℕ) (at : Position) (c col : ℕ) → col + 1 < columns → not (is_pushed_out columns at (cluster_placed_at [] (c ∷ []) 1 (record { col = col; row = at.row }))) ≡ true
+letter_stays columns at c col room = grind (arith, nat_tests)
+
+pub letter_pushed_out : (columns : ℕ) (at : Position) (c col : ℕ) → at.col ≤ col → col + 1 ≡ columns → is_pushed_out columns at (cluster_placed_at [] (c ∷ []) 1 (record { col = col; row = at.row })) ≡ true
+letter_pushed_out columns at c col low full = grind (arith, nat_tests)
 
 pub run_goes_right : (at : Position) (cs : List ℕ) (from : Position) → from.row ≡ at.row → at.col ≤ from.col → map (goes_right at) (lay_run [] cs from) ≡ lay_run [] cs (right 1 from)
 run_goes_right at [] from row low = refl
 run_goes_right at (c ∷ cs) from row low =
     ap₂ ◌∷◌ (ap (λ b. if b then cluster_placed_at [] (c ∷ []) 1 (right 1 from) else cluster_placed_at [] (c ∷ []) 1 from) (in_rest at c from row low)) (run_goes_right at cs (right 1 from) row (omega arith))
-
-pub letter_apart : (at : Position) (c col : ℕ) → at.col + 1 ≤ col → not (touches at 1 (cluster_placed_at [] (c ∷ []) 1 (record { col = col; row = at.row }))) ≡ true
-letter_apart at c col low = grind (arith, nat_tests)
-
-pub letter_not_ended : (at : Position) (c col : ℕ) → at.col + 1 ≤ col → not (ends_before at (cluster_placed_at [] (c ∷ []) 1 (record { col = col; row = at.row }))) ≡ true
-letter_not_ended at c col low = grind (arith, nat_tests)
 
 row_of_right : (at : Position) (p : Placed) (b : Bool) → (if b then record p { col = p.col + 1 } else p).row ≡ p.row
 row_of_right at p true = refl
@@ -200,20 +151,18 @@ goes_right_row at p = row_of_right at p (is_in_rest at p)
 
 -- ---- cells that are taken out
 
-further_not_in_rest : (count : ℕ) (at : Position) (p : Placed) → ends_before at p ≡ true → is_in_rest (right count at) p ≡ false
-further_not_in_rest count at p h = grind (arith, nat_tests)
+pub left_unmoved : (count : ℕ) (at : Position) (p : Placed) → is_elsewhere at p ≡ true → goes_left count at p ≡ p
+left_unmoved count at p h = ap (λ b. if b then record p { col = p.col - count } else p) (not_in_rest (right count at) p (further_elsewhere count at p h))
 
-pub left_unmoved : (count : ℕ) (at : Position) (p : Placed) → ends_before at p ≡ true → goes_left count at p ≡ p
-left_unmoved count at p h = ap (λ b. if b then record p { col = p.col - count } else p) (further_not_in_rest count at p h)
-
-pub ended_can_go_left : (count : ℕ) (at : Position) (p : Placed) → ends_before at p ≡ true → can_go_left count at p ≡ true
-ended_can_go_left count at p h = grind (arith, nat_tests)
+pub can_go_left_elsewhere : (count : ℕ) (at : Position) (p : Placed) → is_elsewhere at p ≡ true → can_go_left count at p ≡ true
+can_go_left_elsewhere count at p h =
+    ap (λ b. b && not (is_cut (right count at) p)) (not_cut_elsewhere at p h) ∙ not_cut_elsewhere (right count at) p (further_elsewhere count at p h)
 
 pub letter_can_go_left : (count : ℕ) (at : Position) (c col : ℕ) → can_go_left count at (cluster_placed_at [] (c ∷ []) 1 (record { col = col; row = at.row })) ≡ true
 letter_can_go_left count at c col = grind (arith, nat_tests)
 
-pub ended_kept : (count : ℕ) (at : Position) (p : Placed) → ends_before at p ≡ true → not (is_taken_out count at p) ≡ true
-ended_kept count at p h = grind (arith, nat_tests)
+pub kept_elsewhere : (count : ℕ) (at : Position) (p : Placed) → is_elsewhere at p ≡ true → not (is_taken_out count at p) ≡ true
+kept_elsewhere count at p h = ap (λ b. not (b && not (is_in_rest (right count at) p))) (not_in_rest at p h)
 
 pub letter_taken_out : (count : ℕ) (at : Position) (c col : ℕ) → at.col ≤ col → col < at.col + count → not (not (is_taken_out count at (cluster_placed_at [] (c ∷ []) 1 (record { col = col; row = at.row })))) ≡ true
 letter_taken_out count at c col low high = grind (arith, nat_tests)

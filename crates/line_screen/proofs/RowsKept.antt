@@ -31,7 +31,7 @@ one_grows columns (Letter c) at = leave_grows columns (right 1 at)
 one_grows columns (Cluster bytes width) at = omega (arith, fit_if at (nat_le (at.col + width) columns), leave_grows columns (right width (fit columns width at)))
 one_grows columns (Tab apart) at = leave_grows columns (right (tab_width columns apart at.col) at)
 
-all_grow : (columns : ℕ) (items : List DrawnItem) (at : Position) → at.row ≤ (place_after columns items at).row
+pub all_grow : (columns : ℕ) (items : List DrawnItem) (at : Position) → at.row ≤ (place_after columns items at).row
 all_grow columns [] at = omega arith
 all_grow columns (item ∷ items) at = omega (arith, one_grows columns item at, all_grow columns items (after_one columns item at))
 

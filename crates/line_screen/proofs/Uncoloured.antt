@@ -1,8 +1,9 @@
 -- Calls without a highlighter begin no style.
-use Rattle.std.proofs.Common.{◌≡◌, ℕ, ◌+◌, ◌-◌, ◌%◌, ◌/◌, ◌^◌, ◌<◌, ◌≤◌, ◌==◌, nat_lt, nat_le, Bool, true, false, List, [], ◌∷◌, ◌++◌, take, decimal, Option, Some, None, inl, inr, zero, suc, refl, sym, ap, ◌∙◌, subst, arith, if◌then◌else◌}
+use Rattle.std.proofs.Common.{◌≡◌, ℕ, ◌+◌, ◌-◌, ◌%◌, ◌/◌, ◌^◌, ◌<◌, ◌≤◌, ◌==◌, nat_lt, nat_le, Bool, true, false, List, [], ◌∷◌, ◌++◌, take, drop, decimal, Option, Some, None, inl, inr, zero, suc, refl, sym, ap, ◌∙◌, subst, arith, if◌then◌else◌}
 use Rattle.std.specs.List.{list_all, flat_map, FoldsTo}
-use Rattle.std.proofs.lemmas.Bool.{and_parts, false≢true}
+use Rattle.std.proofs.lemmas.Bool.{and_parts, eqb-false, false≢true}
 use Rattle.std.proofs.lemmas.Bool.Decides.{nat_tests}
+use Rattle.std.proofs.lemmas.List.Folds.{list_all-append}
 use Rattle.std.proofs.lemmas.Fmt.{decimal_by_steps}
 use Rattle.line_buffer.specs.Cells.{origin, same_cell}
 use Rattle.line_buffer.specs.Printable.{is_printable, at_simple_end}
@@ -18,17 +19,19 @@ use Rattle.line_editor.specs.Redraws.{Redraw, RedrawCalls, calls_of_redraw, full
 use Rattle.line_editor.specs.Redraws.Redraw.{Drawn, Moved, Typed, Appended, Taken, Erased, PutIn, TakenOut, Bared, ToEnd, Beeped, Cleared}
 use Rattle.line_editor.specs.Values.{shown_marks}
 use Rattle.line_screen.specs.ScreenCalls.{Screen, bytes_of, bell_bytes, old_row, drawing_bytes, ruler_of}
-use Rattle.line_screen.specs.Chain.{View, Good, Inside, Replaces, LeadsView, TakesOut, finish_of}
+use Rattle.line_screen.specs.Chain.{View, Good, Inside, Replaces, LeadsView, TakesOut}
 use Rattle.line_screen.specs.ColourLaws.{BeginsNoStyle, has_no_marks, UnmarkedCallsBeginNone, ScreensWithoutColours, Uncoloured}
 use Rattle.line_screen.specs.Colours.{no_styles}
 use Rattle.line_screen.specs.Display.{Placed, is_text}
-use Rattle.line_screen.specs.Drawing.{DrawnItem, Widths, blanks, text_items, no_style, break_if, break_unless, fitted_col, cluster_in_fence, bytes_of_item, col_after_one, bytes_of_items, col_after, control_sequence, erase_to_end, erase_to_row_end, open_cell, take_cells_out, row_move, col_move, move_bytes, clearing_bytes, shown_text, drawing}
+use Rattle.line_screen.specs.Drawing.{DrawnItem, Widths, blanks, text_items, no_style, break_if, break_unless, fitted_col, cluster_in_fence, bytes_of_item, col_after_one, bytes_of_items, col_after, control_sequence, erase_to_end, erase_to_row_end, open_cell, take_cells_out, row_break, left_col, pushed_on, insertion_bytes, pulled_back, deletion_bytes, place_after_insertion, place_after_deletion, row_move, col_move, move_bytes, clearing_bytes, shown_text, drawing}
 use Rattle.line_screen.specs.Drawing.DrawnItem.{NewRow, Letter, Cluster, Tab}
 use Rattle.line_screen.specs.Laws.{widths}
 use Rattle.line_screen.specs.Measure.{cluster_width, widths_by, in_row}
 use Rattle.line_screen.proofs.Standing.{printable_text}
 use Rattle.line_screen.proofs.Draws.{Fits, AllFit}
 use Rattle.line_screen.proofs.Fitting.{items_fit}
+use Rattle.line_screen.proofs.InsertedRows.{behind_first}
+use Rattle.line_screen.proofs.Moves.{place}
 use Rattle.line_screen.proofs.LawLemmas.{calls_lead}
 use Rattle.line_screen.proofs.Leading.{no_styles_are, redraw_drawable, letter_small}
 use Rattle.std.specs.Prelude.{encode_utf8}
@@ -144,6 +147,10 @@ col_move_free : (old new : ℕ) → old < 2 ^ 64 → new < 2 ^ 64 → IsFree (co
 col_move_free old new few low =
     free_if (nat_lt new old) (control_sequence (old - new) 0x44) (control_sequence (new - old) 0x43) (control_free (old - new) 0x44 (omega arith) refl) (control_free (new - old) 0x43 (omega arith) refl)
 
+move_low : (old new : Position) → old.row < 2 ^ 64 → old.col < 2 ^ 64 → new.row < 2 ^ 64 → new.col < 2 ^ 64 → IsFree (move_bytes old new)
+move_low old new old_row old_col new_row new_col =
+    free_then (row_move old.row new.row) (col_move old.col new.col) (row_move_free old.row new.row old_row new_row) (col_move_free old.col new.col old_col new_col)
+
 clearing_free : (row : ℕ) → row < 2 ^ 64 → IsFree (clearing_bytes row)
 clearing_free row few = free_then (control_sequence row 0x41) (0x0D ∷ erase_to_end) (control_free row 0x41 few refl) refl
 
@@ -180,6 +187,59 @@ items_free columns wide [] col h = refl
 items_free columns wide (item ∷ items) col h =
     free_then (bytes_of_item columns item col) (bytes_of_items columns items (col_after_one columns item col)) (one_free columns wide item col h.0) (items_free columns wide items (col_after_one columns item col) h.1)
 
+-- ---- letters that move in their rows
+
+pushed_free : (columns : ℕ) (letters : List ℕ) (col : ℕ) → list_all is_printable letters ≡ true → IsFree (pushed_on columns col letters)
+pushed_free columns [] col h = refl
+pushed_free columns (c ∷ cs) col h =
+    let parts = and_parts (is_printable c) (list_all is_printable cs) h in
+    let first = if col == 0 then open_cell ++ c ∷ [] else [] in
+    free_then (first ++ break_if (col + 1 == columns)) (pushed_on columns (left_col columns (col + 1)) cs)
+    (free_then first (break_if (col + 1 == columns)) (free_if (col == 0) (open_cell ++ c ∷ []) [] (free_then open_cell (c ∷ []) refl (letter_free c parts.0)) refl) (break_free (col + 1 == columns)))
+    (pushed_free columns cs (left_col columns (col + 1)) parts.1)
+
+insertion_free : (columns col c : ℕ) (rest : List ℕ) → is_printable c ≡ true → list_all is_printable rest ≡ true → IsFree (insertion_bytes columns col (c ∷ []) rest)
+insertion_free columns col c rest one letters =
+    let first = open_cell ++ c ∷ [] in
+    free_then (first ++ break_if (col + 1 == columns)) (pushed_on columns (left_col columns (col + 1)) rest)
+    (free_then first (break_if (col + 1 == columns)) (free_then open_cell (c ∷ []) refl (letter_free c one)) (break_free (col + 1 == columns)))
+    (pushed_free columns rest (left_col columns (col + 1)) letters)
+
+out_free : (count : ℕ) → count < 2 ^ 64 → IsFree (take_cells_out count)
+out_free count few = free_if (count == 1) (0x1B ∷ (0x5B ∷ (0x50 ∷ []))) (control_sequence count 0x50) refl (control_free count 0x50 few refl)
+
+module _ (columns count : ℕ) (few : columns < 2 ^ 64) (small : count < 2 ^ 64) (some : 1 ≤ columns) where
+  back_if_free : (start col : ℕ) (cs : List ℕ) → col < columns
+      → ((start col : ℕ) → col < columns → start < 2 ^ 64 → IsFree (pulled_back columns count start col cs)) → start < 2 ^ 64
+      → (b : Bool) → (col + 1 == columns) ≡ b → IsFree (if b then row_break ++ pulled_back columns count 0 0 cs else pulled_back columns count start (col + 1) cs)
+  back_if_free start col cs low ih begun true e = free_then row_break (pulled_back columns count 0 0 cs) refl (ih 0 0 (omega arith) (omega arith))
+  back_if_free start col cs low ih begun false e = let differ = eqb-false (col + 1) columns e in ih start (col + 1) (grind arith) begun
+
+  deletion_free : (start col : ℕ) (letters : List ℕ) → col < columns → start < 2 ^ 64 → list_all is_printable letters ≡ true → IsFree (pulled_back columns count start col letters)
+  deletion_free start col [] low begun h = out_free count small
+  deletion_free start col (c ∷ cs) low begun h =
+      let parts = and_parts (is_printable c) (list_all is_printable cs) h in
+      let cut = take_cells_out count ++ col_move start col in
+      let first = if col + count == columns then cut else [] in
+      let new = if nat_le columns (col + count) then c ∷ [] else [] in
+      free_then (first ++ new) (if col + 1 == columns then row_break ++ pulled_back columns count 0 0 cs else pulled_back columns count start (col + 1) cs)
+      (free_then first new
+      (free_if (col + count == columns) cut [] (free_then (take_cells_out count) (col_move start col) (out_free count small) (col_move_free start col begun (omega arith))) refl)
+      (free_if (nat_le columns (col + count)) (c ∷ []) [] (letter_free c parts.0) refl))
+      (back_if_free start col cs low (λ start col low begun. deletion_free start col cs low begun parts.1) begun (col + 1 == columns) refl)
+
+-- where they leave the cursor
+place_if : (b : Bool) (p q : Position) → p.row < 2 ^ 64 → p.col < 2 ^ 64 → q.row < 2 ^ 64 → q.col < 2 ^ 64 → ((if b then p else q).row < 2 ^ 64) × ((if b then p else q).col < 2 ^ 64)
+place_if true p q p_row p_col q_row q_col = (p_row, p_col)
+place_if false p q p_row p_col q_row q_col = (q_row, q_col)
+
+first_low : (b : Bool) → (if b then 0 else 1) < 2 ^ 64
+first_low true = omega arith
+first_low false = omega arith
+
+below_64 : (n columns : ℕ) → columns < 2 ^ 64 → n < columns → n < 2 ^ 64
+below_64 n columns few low = omega arith
+
 -- ---- drawings
 
 then_plain : (xs : List ℕ) → IsFree xs → IsFree (xs ++ no_style)
@@ -206,11 +266,9 @@ module _ (mode : GraphemeClusterMode) (tab : Option ℕ) (columns : ℕ) (some :
 
   move_free : (old new : Position) → Inside columns old → Inside columns new → IsFree (move_bytes old new)
   move_free old new from to =
-      let old_row = from.row in
       let old_col = from.col in
-      let new_row = to.row in
       let new_col = to.col in
-      free_then (row_move old.row new.row) (col_move old.col new.col) (row_move_free old.row new.row old_row new_row) (col_move_free old.col new.col (omega arith) (omega arith))
+      move_low old new from.row (omega arith) to.row (omega arith)
 
   drawing_free : (prompt line info : List ℕ) (finish cursor : Position) → Inside columns finish → Inside columns cursor → IsFree (drawing columns wide prompt line info finish cursor)
   drawing_free prompt line info finish cursor from to =
@@ -231,30 +289,43 @@ bell_free Bells.Audible = refl
 bell_free Bells.None = refl
 bell_free Bells.Visible = refl
 
-cut_small : (s : Screen) → s.columns < 2 ^ 64 → (a b : View) (count : ℕ) → TakesOut s.columns (widths s) count a b → count < 2 ^ 64
-cut_small s few a b count h = let room = h.room in let inside = h.inside in omega arith
+cut_small : (s : Screen) → s.columns < 2 ^ 64 → (a b : View) (count : ℕ) (rest : List ℕ) (finish : Position) → TakesOut s.columns (widths s) count rest finish a b → count < 2 ^ 64
+cut_small s few a b count rest finish h = let room = h.fits in omega arith
 
-call_free : (s : Screen) → 1 ≤ s.columns → s.columns < 2 ^ 64 → (a b : View) (call : Call) → Inside s.columns a.place → LeadsView s.columns (widths s) a call b → has_no_marks call ≡ true → IsFree (bytes_of s call)
-call_free s some few a b (Draw prompt text place info old new None) here h plain =
+call_free : (s : Screen) → 1 ≤ s.columns → s.columns < 2 ^ 64 → (a b : View) (call : Call) → Inside s.columns a.place → Inside s.columns b.place → LeadsView s.columns (widths s) a call b → has_no_marks call ≡ true → IsFree (bytes_of s call)
+call_free s some few a b (Draw prompt text place info old new None) here there h plain =
     let able = redraw_drawable s some a b prompt text (info_text info) no_styles new.end new.cursor no_styles_are h.1 in
     draw_free s.mode s.tab s.columns some few (old_row old) a prompt text (info_text info) new.end new.cursor here h.0 (subst (Inside s.columns) (sym h.1.finish_is) able.finish) (subst (Inside s.columns) (sym h.1.cursor_is) able.cursor)
-call_free s some few a b (Draw prompt text place info old new (Some m)) here h plain = absurd (false≢true plain)
-call_free s some few a b (Move old new) here h plain = move_free s.mode s.tab s.columns some few old new (subst (Inside s.columns) (sym h.old_is) here) h.inside
-call_free s some few a b (Write text) here (inl h) plain = subst IsFree (sym h.text_is) (letter_free h.c (and_parts (is_printable h.c) (at_simple_end true a.shown.line a.shown.place) h.typed).0)
-call_free s some few a b (Write text) here (inr h) plain = subst IsFree (sym h.text_is) refl
-call_free s some few a b Beep here h plain = bell_free s.bell
-call_free s some few a b ClearScreen here h plain = refl
-call_free s some few a b (ClearRows layout) here h plain = clearing_free layout.cursor.row (subst (λ n. n < 2 ^ 64) (sym h.0) here.row)
-call_free s some few a b ClearToEol here h plain = refl
-call_free s some few a b (MoveAndClearToEol old new) here h plain =
+call_free s some few a b (Draw prompt text place info old new (Some m)) here there h plain = absurd (false≢true plain)
+call_free s some few a b (Move old new) here there h plain = move_free s.mode s.tab s.columns some few old new (subst (Inside s.columns) (sym h.old_is) here) h.inside
+call_free s some few a b (Write text) here there (inl h) plain = subst IsFree (sym h.text_is) (letter_free h.c (and_parts (is_printable h.c) (at_simple_end true a.shown.line a.shown.place) h.typed).0)
+call_free s some few a b (Write text) here there (inr h) plain = subst IsFree (sym h.text_is) refl
+call_free s some few a b Beep here there h plain = bell_free s.bell
+call_free s some few a b ClearScreen here there h plain = refl
+call_free s some few a b (ClearRows layout) here there h plain = clearing_free layout.cursor.row (subst (λ n. n < 2 ^ 64) (sym h.0) here.row)
+call_free s some few a b ClearToEol here there h plain = refl
+call_free s some few a b (MoveAndClearToEol old new) here there h plain =
     free_then (move_bytes old new) erase_to_row_end (move_free s.mode s.tab s.columns some few old new (subst (Inside s.columns) (sym h.1.old_is) here) h.1.inside) refl
-call_free s some few a b (InsertChar c) here h plain = free_then open_cell (encode_utf8 c) refl (subst IsFree (sym (encode_ascii c (letter_small c h.printable))) (letter_free c h.printable))
-call_free s some few a b (MoveAndDelete old new count) here h plain =
-    free_then (move_bytes old new) (take_cells_out count) (move_free s.mode s.tab s.columns some few old new (subst (Inside s.columns) (sym h.1.old_is) here) h.1.inside)
-    (control_free count 0x50 (cut_small s few h.0 b count h.2) refl)
-call_free s some few a b (Append text at) here h plain = part_free s.mode s.tab s.columns some few text (in_row s.columns at).col
-call_free s some few a b ToLeftmost here h plain = refl
-call_free s some few a b (Help fails) here h plain = refl
+call_free s some few a b (InsertChar c rest old new finish) here there h plain =
+    let new_in : Inside s.columns new = subst (Inside s.columns) (ap (λ (w : View). w.place) h.view) there in
+    let letters = and_parts (is_printable c) (list_all is_printable rest) h.printable in
+    let from = place_if (finish.row == old.row) new (behind_first finish) new_in.row (below_64 new.col s.columns few new_in.col) h.row (first_low (finish.col == 0)) in
+    free_then (insertion_bytes s.columns old.col (encode_utf8 c) rest) (move_bytes (place_after_insertion old new finish) new)
+    (subst (λ cs. IsFree (insertion_bytes s.columns old.col cs rest)) (sym (encode_ascii c (letter_small c letters.0))) (insertion_free s.columns old.col c rest letters.0 letters.1))
+    (move_low (place_after_insertion old new finish) new from.0 from.1 new_in.row (below_64 new.col s.columns few new_in.col))
+call_free s some few a b (MoveAndDelete old new count rest finish) here there h plain =
+    let new_in = h.1.inside in
+    let new_col = below_64 new.col s.columns few new_in.col in
+    let letters = and_parts (list_all is_printable h.2.killed) (list_all is_printable rest) (sym (list_all-append is_printable h.2.killed rest) ∙ h.2.printable) in
+    let from = place_if (finish.row == new.row) new (place 0 finish.row) new_in.row new_col h.2.row (omega arith) in
+    free_then (move_bytes old new) (deletion_bytes s.columns count new.col rest ++ move_bytes (place_after_deletion new finish) new)
+    (move_free s.mode s.tab s.columns some few old new (subst (Inside s.columns) (sym h.1.old_is) here) new_in)
+    (free_then (deletion_bytes s.columns count new.col rest) (move_bytes (place_after_deletion new finish) new)
+    (deletion_free s.columns count few (cut_small s few h.0 b count rest finish h.2) some new.col new.col rest new_in.col new_col letters.1)
+    (move_low (place_after_deletion new finish) new from.0 from.1 new_in.row new_col))
+call_free s some few a b (Append text at) here there h plain = part_free s.mode s.tab s.columns some few text (in_row s.columns at).col
+call_free s some few a b ToLeftmost here there h plain = refl
+call_free s some few a b (Help fails) here there h plain = refl
 
 calls_free : (s : Screen) → 2 ≤ s.columns → s.columns ≤ 1000 → (calls : List Call) (bytes : List ℕ) (over : List Placed) (a b : View) → Good s.columns (widths s) bytes over a → FoldsTo (LeadsView s.columns (widths s)) a calls b
     → list_all has_no_marks calls ≡ true → IsFree (flat_map (bytes_of s) calls)
@@ -262,7 +333,7 @@ calls_free s low high [] bytes over a b g h plain = refl
 calls_free s low high (call ∷ calls) bytes over a b g h plain =
     let parts = and_parts (has_no_marks call) (list_all has_no_marks calls) plain in
     let led = calls_lead s low high bytes over a h.0 call g h.1 in
-    free_then (bytes_of s call) (flat_map (bytes_of s) calls) (call_free s (omega arith) (omega arith) a h.0 call g.inside h.1 parts.0) (calls_free s low high calls (bytes ++ bytes_of s call) led.0 h.0 b led.1 h.2 parts.1)
+    free_then (bytes_of s call) (flat_map (bytes_of s) calls) (call_free s (omega arith) (omega arith) a h.0 call g.inside led.1.inside h.1 parts.0) (calls_free s low high calls (bytes ++ bytes_of s call) led.0 h.0 b led.1 h.2 parts.1)
 
 unmarked_begin_none : UnmarkedCallsBeginNone
 unmarked_begin_none s low high calls bytes over a b g h plain = free_begins_none (flat_map (bytes_of s) calls) (calls_free s low high calls bytes over a b g h plain)
@@ -283,9 +354,12 @@ asked_plain r l (Typed prompt c text place) = either_plain (may_type r l) (char_
 asked_plain r l (Appended prompt c text place) = either_plain l.has_info (full r None l prompt true text place None) (append_call r l c) refl refl
 asked_plain r l (Taken prompt count text place) = either_plain (may_take l count) (erase_call l count) (full r None l prompt true text place None) refl refl
 asked_plain r l (Erased prompt c text place) = either_plain (may_erase r l c) (erase_call l (r.measure (encode_utf8 c) origin).col) (full r None l prompt true text place None) refl refl
-asked_plain r l (PutIn prompt c text place) = either_plain (may_put_in r l) (put_in_short l c) (full r None l prompt true text place None) refl refl
+asked_plain r l (PutIn prompt c text place) =
+    let rest = drop place text in either_plain (may_put_in r l rest) (put_in_short r l c rest) (full r None l prompt true text place None) refl refl
 asked_plain r l (TakenOut prompt count text place) =
-    let at = r.measure (take place text) l.prompt_size in either_plain (may_take_out l at count) (taken_out_short l at count) (full r None l prompt true text place None) refl refl
+    let at = r.measure (take place text) l.prompt_size in
+    let rest = drop place text in
+    either_plain (may_take_out r l at count rest) (taken_out_short l at count rest) (full r None l prompt true text place None) refl refl
 asked_plain r l (Bared prompt text place) = either_plain l.default_prompt (nothing_asked l) (full r None l prompt true text place None) refl refl
 asked_plain r l ToEnd = either_plain (same_cell l.cursor l.end) (nothing_asked l) (move_call l l.end) refl refl
 asked_plain r l Beeped = refl

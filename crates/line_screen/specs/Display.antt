@@ -159,19 +159,24 @@ reading_after_erasure stays d =
 abbrev pub is_in_rest : Position → Placed → Bool
 is_in_rest at p = (p.row == at.row) && nat_lt at.col (p.col + p.width)
 
--- the rest of the row goes a cell to the right, if that leaves all of it in the row
+-- the rest of the row goes a cell to the right, and the cluster in the row's last cell is lost
+abbrev pub is_pushed_out : ℕ → Position → Placed → Bool
+is_pushed_out columns at p = is_in_rest at p && (p.col + p.width == columns)
+
 abbrev pub goes_right : Position → Placed → Placed
 goes_right at p = if is_in_rest at p then record p { col = p.col + 1 } else p
 
+-- no cluster is cut, neither at the cursor nor at the row's end
 abbrev pub can_go_right : ℕ → Position → Placed → Bool
 can_go_right columns at p =
-    not (is_cut at p) && (not (is_in_rest at p) || nat_lt (p.col + p.width) columns)
+    not (is_cut at p) && (not (is_pushed_out columns at p) || (p.width == 1))
 
 abbrev pub cell_opened : ℕ → Display → DisplayReading
 cell_opened columns d =
     if list_all (can_go_right columns d.cursor) d.placed && is_plain_pen d
     then Text (record {
-      placed = map (goes_right d.cursor) d.placed;
+      placed = map (goes_right d.cursor)
+          (filter (λ p. not (is_pushed_out columns d.cursor p)) d.placed);
       cursor = d.cursor;
       pen = d.pen;
     }) []
@@ -203,7 +208,8 @@ cells_taken_out columns count d =
 
 -- ESC [ m (SGR) ends the style that stands, ESC [ 0 ; .. m sets one. ESC [ J (ED) keeps everything
 -- that begins before the cursor. ESC [ K (EL) keeps everything except what ends after the cursor in
--- its row. ESC [ H (CUP) goes to the first cell. ESC [ @ (ICH) opens a cell at the cursor
+-- its row. ESC [ H (CUP) goes to the first cell. ESC [ @ (ICH) opens a cell at the cursor, and
+-- ESC [ P (DCH) takes one out
 abbrev pub plain_sequence : ℕ → Display → ℕ → DisplayReading
 plain_sequence columns d byte =
     if byte == 0x6D then Text (with_pen [] d) []
@@ -213,6 +219,7 @@ plain_sequence columns d byte =
     else if byte == 0x4B then reading_after_erasure stays_in_row d
     else if byte == 0x48 then Text (at_cursor origin d) []
     else if byte == 0x40 then cell_opened columns d
+    else if byte == 0x50 then cells_taken_out columns 1 d
     else Lost
 
 -- ESC [ n A (CUU) up, B (CUD) down, C (CUF) right, D (CUB) left, without leaving the display; there

@@ -11,7 +11,7 @@ use Rattle.line_config.specs.declared.settings.BellStyle.TheVariants.{Audible}
 use Rattle.line_editor.specs.RenderCalls.{Call, Canvas, Ruler}
 use Rattle.line_editor.specs.RenderCalls.Call.{Draw, Move, Write, Beep, ClearScreen, ClearRows, ClearToEol, MoveAndClearToEol, InsertChar, MoveAndDelete, Append}
 use Rattle.line_editor.specs.Redraws.{info_text}
-use Rattle.line_screen.specs.Drawing.{Widths, text_items, bytes_of_items, drawing, full_drawing, clearing_bytes, move_bytes, erase_to_end, erase_to_row_end, go_home, open_cell, take_cells_out}
+use Rattle.line_screen.specs.Drawing.{Widths, text_items, bytes_of_items, drawing, full_drawing, clearing_bytes, move_bytes, erase_to_end, erase_to_row_end, go_home, insertion_bytes, deletion_bytes, place_after_insertion, place_after_deletion}
 use Rattle.line_editor.specs.Sights.{PartSpans, spans_by}
 use Rattle.line_help.specs.Paints.{Marks}
 use Rattle.line_screen.specs.Colours.{Styles, span_of, painted_bytes}
@@ -99,8 +99,13 @@ bytes_of s ClearScreen = go_home ++ erase_to_end
 bytes_of s (ClearRows layout) = clearing_bytes layout.cursor.row
 bytes_of s ClearToEol = erase_to_row_end
 bytes_of s (MoveAndClearToEol old new) = move_bytes old new ++ erase_to_row_end
-bytes_of s (InsertChar c) = open_cell ++ encode_utf8 c
-bytes_of s (MoveAndDelete old new count) = move_bytes old new ++ take_cells_out count
+bytes_of s (InsertChar c rest old new finish) =
+    insertion_bytes s.columns old.col (encode_utf8 c) rest
+    ++ move_bytes (place_after_insertion old new finish) new
+bytes_of s (MoveAndDelete old new count rest finish) =
+    move_bytes old new
+    ++ (deletion_bytes s.columns count new.col rest
+    ++ move_bytes (place_after_deletion new finish) new)
 bytes_of s (Append text at) =
     bytes_of_items s.columns (text_items (widths_by s.mode s.tab s.columns) text)
     (in_row s.columns at).col

@@ -3,6 +3,7 @@
 pub(crate) mod coloured;
 pub(crate) mod painted;
 pub(crate) mod sequences;
+pub(crate) mod shifted;
 pub(crate) mod styles;
 pub(crate) mod text;
 pub(crate) mod whole;

@@ -42,8 +42,8 @@ pub fn start()
 
 /// Each call leads from a display that shows one view to one that shows the next, if it is allowed
 /// there. The calls are a drawing, a move, the insertion of one byte, the erasure of a row's end, a
-/// character put into a row, characters taken out of one, a text drawn behind the others, a beep, a
-/// clearing and CR LF.
+/// character put before others, characters taken out before others, a text drawn behind the others,
+/// a beep, a clearing and CR LF.
 pub fn calls()
     ensures { CallsLead }
 {}
@@ -77,14 +77,14 @@ pub fn erased_characters()
     ensures { ErasingLeads }
 {}
 
-/// If the editor puts a character into its row, this leads to the line with it. Cursor and end go
+/// If the editor puts a character before others, this leads to the line with it. Cursor and end go
 /// one cell on.
 pub fn row_insertions()
     ensures { PuttingInLeads }
 {}
 
-/// If the editor takes characters out of their row, this leads to the line without them. The end
-/// goes back by as many cells.
+/// If the editor takes characters of a row out before others, this leads to the line without them.
+/// The end goes back by as many cells.
 pub fn row_kills()
     ensures { TakingOutLeads }
 {}

@@ -7,9 +7,8 @@ ghost use Rattle.line_editor.specs.Values.{seen_marks};
 
 use crate::drawing::coloured::{Painting, paint};
 use crate::drawing::painted::Brush;
-use crate::drawing::sequences::{
-    clear, go, move_and_erase, move_and_take_out, put_in_row, send_flushed,
-};
+use crate::drawing::sequences::{clear, go, move_and_erase, send_flushed};
+use crate::drawing::shifted::{move_and_take_out, put_before};
 use crate::drawing::whole::{DrawnTexts, draw, draw_behind};
 use crate::grid::Grid;
 use crate::measuring::{measure_in, measure_near, measure_on};
@@ -176,18 +175,32 @@ impl<D: Sink + Drop> Renderer for ScreenRenderer<D> {
         answer(move_and_erase(&mut self.sink, old, new))
     }
 
-    fn insert_char(&mut self, ch: char) -> Result<(), ReadlineError> {
-        answer(put_in_row(&mut self.sink, ch))
+    /// All bytes are passed on together.
+    fn insert_char(
+        &mut self,
+        ch: char,
+        rest: &str,
+        old: Position,
+        new: Position,
+        end: Position,
+    ) -> Result<(), ReadlineError> {
+        let columns = self.grid.columns;
+        let rest = rest.as_bytes();
+        answer(put_before(&mut self.sink, columns, ch, rest, old, new, end))
     }
 
-    /// The bytes of both are passed on together.
+    /// All bytes are passed on together.
     fn move_and_delete_chars(
         &mut self,
         old: Position,
         new: Position,
         count: Unit,
+        rest: &str,
+        end: Position,
     ) -> Result<(), ReadlineError> {
-        answer(move_and_take_out(&mut self.sink, old, new, count))
+        let columns = self.grid.columns;
+        let rest = rest.as_bytes();
+        answer(move_and_take_out(&mut self.sink, columns, old, new, count, rest, end))
     }
 
     /// If the column of `at` isn't one of the screen's, it counts as the first one.

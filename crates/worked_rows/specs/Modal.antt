@@ -69,7 +69,7 @@ row_11 = record (row 11 settings_7 (codes "\u{12}\u{4}") []) {
       codes "h)`': \u{1b}[m\u{1b}[m\u{1b}[m\r\u{1b}[J\u{1b}[m> \u{1b}[m\u{1b}[m\u{1b}[m\r\n");
 }
 
--- C-R ls C-D Enter = s␠-l | shows {} ''} 'l'ls␠-l}␛[5D 'ls'ls␠-l}␛[5D {ls␠-l}␛[5D ␛[1P ␛[4C␍␊ {} ␍␊
+-- C-R ls C-D Enter = s␠-l | shows {} ''} 'l'ls␠-l}␛[5D 'ls'ls␠-l}␛[5D {ls␠-l}␛[5D ␛[P ␛[4C␍␊ {} ␍␊
 abbrev pub row_12 : Row
 row_12 = record (row 12 settings_7 (codes "\u{12}ls\u{4}\r") (codes "s -l\n")) {
   shows = Some
@@ -77,7 +77,7 @@ row_12 = record (row 12 settings_7 (codes "\u{12}ls\u{4}\r") (codes "s -l\n")) {
       codes "h)`': \u{1b}[m\u{1b}[m\u{1b}[m\r\u{1b}[J\u{1b}[m(reverse-i-search)`l': \u{1b}[" ++
       codes "mls -l\u{1b}[m\u{1b}[m\u{1b}[5D\r\u{1b}[J\u{1b}[m(reverse-i-search)`ls': " ++
       codes "\u{1b}[mls -l\u{1b}[m\u{1b}[m\u{1b}[5D\r\u{1b}[J\u{1b}[m> \u{1b}[mls -l\u{1b}[" ++
-      codes "m\u{1b}[m\u{1b}[5D\u{1b}[1P\u{1b}[4C\r\n\r\u{1b}[J\u{1b}[m> \u{1b}[m\u{1b}[m" ++
+      codes "m\u{1b}[m\u{1b}[5D\u{1b}[P\u{1b}[4C\r\n\r\u{1b}[J\u{1b}[m> \u{1b}[m\u{1b}[m" ++
       codes "\u{1b}[m\r\n");
 }
 

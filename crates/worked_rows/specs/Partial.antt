@@ -146,18 +146,18 @@ row_28 = record (row 28 settings_7 (codes "abc\u{1b}[D\u{b}\r") (codes "ab\n")) 
       codes "\u{1b}[m> \u{1b}[m\u{1b}[m\u{1b}[m\r\n");
 }
 
--- abc Left Backspace Enter = ac | shows {} a b c ␛[1D ␛[1D␛[1P ␛[1C␍␊ {} ␍␊
+-- abc Left Backspace Enter = ac | shows {} a b c ␛[1D ␛[1D␛[P ␛[1C␍␊ {} ␍␊
 abbrev pub row_31 : Row
 row_31 = record (row 31 settings_7 (codes "abc\u{1b}[D\u{7f}\r") (codes "ac\n")) {
-  shows = Some (codes "\r\u{1b}[J\u{1b}[m> \u{1b}[m\u{1b}[m\u{1b}[mabc\u{1b}[1D\u{1b}[1D\u{1b}[1P"
-      ++ codes "\u{1b}[1C\r\n\r\u{1b}[J\u{1b}[m> \u{1b}[m\u{1b}[m\u{1b}[m\r\n");
+  shows = Some (codes "\r\u{1b}[J\u{1b}[m> \u{1b}[m\u{1b}[m\u{1b}[mabc\u{1b}[1D\u{1b}[1D\u{1b}[P" ++
+      codes "\u{1b}[1C\r\n\r\u{1b}[J\u{1b}[m> \u{1b}[m\u{1b}[m\u{1b}[m\r\n");
 }
 
--- abc Left Left C-d Enter = ac | shows {} a b c ␛[1D ␛[1D ␛[1P ␛[1C␍␊ {} ␍␊
+-- abc Left Left C-d Enter = ac | shows {} a b c ␛[1D ␛[1D ␛[P ␛[1C␍␊ {} ␍␊
 abbrev pub row_32 : Row
 row_32 = record (row 32 settings_7 (codes "abc\u{1b}[D\u{1b}[D\u{4}\r") (codes "ac\n")) {
-  shows = Some (codes "\r\u{1b}[J\u{1b}[m> \u{1b}[m\u{1b}[m\u{1b}[mabc\u{1b}[1D\u{1b}[1D\u{1b}[1P"
-      ++ codes "\u{1b}[1C\r\n\r\u{1b}[J\u{1b}[m> \u{1b}[m\u{1b}[m\u{1b}[m\r\n");
+  shows = Some (codes "\r\u{1b}[J\u{1b}[m> \u{1b}[m\u{1b}[m\u{1b}[mabc\u{1b}[1D\u{1b}[1D\u{1b}[P" ++
+      codes "\u{1b}[1C\r\n\r\u{1b}[J\u{1b}[m> \u{1b}[m\u{1b}[m\u{1b}[m\r\n");
 }
 
 -- ab␠c Left C-w Enter = c | shows {} a b ␠ c ␛[1D ␛[3D␛[3P ␛[1C␍␊ {} ␍␊
@@ -182,11 +182,11 @@ row_35 = record (row 35 settings_7 (codes "abc\u{1b}[D\u{15}\r") (codes "c\n")) 
       ++ codes "\u{1b}[1C\r\n\r\u{1b}[J\u{1b}[m> \u{1b}[m\u{1b}[m\u{1b}[m\r\n");
 }
 
--- abc Left Backspace Backspace x Enter = xc | shows {} a b c ␛[1D ␛[1D␛[1P ␛[1D␛[1P ␛[@x ␛[1C␍␊ {} ␍␊
+-- abc Left Backspace Backspace x Enter = xc | shows {} a b c ␛[1D ␛[1D␛[P ␛[1D␛[P ␛[@x ␛[1C␍␊ {} ␍␊
 abbrev pub row_36 : Row
 row_36 = record (row 36 settings_7 (codes "abc\u{1b}[D\u{7f}\u{7f}x\r") (codes "xc\n")) {
-  shows = Some (codes "\r\u{1b}[J\u{1b}[m> \u{1b}[m\u{1b}[m\u{1b}[mabc\u{1b}[1D\u{1b}[1D\u{1b}[1P"
-      ++ codes "\u{1b}[1D\u{1b}[1P\u{1b}[@x\u{1b}[1C\r\n\r\u{1b}[J\u{1b}[m> \u{1b}[m\u{1b}[m" ++
+  shows = Some (codes "\r\u{1b}[J\u{1b}[m> \u{1b}[m\u{1b}[m\u{1b}[mabc\u{1b}[1D\u{1b}[1D\u{1b}[P" ++
+      codes "\u{1b}[1D\u{1b}[P\u{1b}[@x\u{1b}[1C\r\n\r\u{1b}[J\u{1b}[m> \u{1b}[m\u{1b}[m" ++
       codes "\u{1b}[m\r\n");
 }
 
@@ -200,13 +200,13 @@ row_39 = record (row 39 settings_7 (codes "\u{1b}[200~a\nbc\u{1b}[201~\u{1b}[Dx\
           codes "\u{1b}[m\u{1b}[m\r\n");
     }
 
--- Paste a␊bc Pasted Left Backspace Enter = a␊c | shows {} {a␍␊bc} ␛[1D ␛[1D␛[1P ␛[1C␍␊ {} ␍␊
+-- Paste a␊bc Pasted Left Backspace Enter = a␊c | shows {} {a␍␊bc} ␛[1D ␛[1D␛[P ␛[1C␍␊ {} ␍␊
 abbrev pub row_40 : Row
 row_40 = record (row 40 settings_7 (codes "\u{1b}[200~a\nbc\u{1b}[201~\u{1b}[D\u{7f}\r")
     (codes "a\nc\n")) {
       shows = Some
           (codes "\r\u{1b}[J\u{1b}[m> \u{1b}[m\u{1b}[m\u{1b}[m\r\u{1b}[J\u{1b}[m> \u{1b}[ma\r\nb" ++
-          codes "c\u{1b}[m\u{1b}[m\u{1b}[1D\u{1b}[1D\u{1b}[1P\u{1b}[1C\r\n\r\u{1b}[J\u{1b}[m> " ++
+          codes "c\u{1b}[m\u{1b}[m\u{1b}[1D\u{1b}[1D\u{1b}[P\u{1b}[1C\r\n\r\u{1b}[J\u{1b}[m> " ++
           codes "\u{1b}[m\u{1b}[m\u{1b}[m\r\n");
     }
 
@@ -282,11 +282,11 @@ settings_52 = record plain {
   config = partial (modal (vi plain.config));
 }
 
--- abc Esc hx Enter = ac | shows {} a b c ␛[1D ␛[1D ␛[1P ␛[1C␍␊ {} ␍␊
+-- abc Esc hx Enter = ac | shows {} a b c ␛[1D ␛[1D ␛[P ␛[1C␍␊ {} ␍␊
 abbrev pub row_52 : Row
 row_52 = record (row 52 settings_52 (codes "abc\u{1b}hx\r") (codes "ac\n")) {
-  shows = Some (codes "\r\u{1b}[J\u{1b}[m> \u{1b}[m\u{1b}[m\u{1b}[mabc\u{1b}[1D\u{1b}[1D\u{1b}[1P"
-      ++ codes "\u{1b}[1C\r\n\r\u{1b}[J\u{1b}[m> \u{1b}[m\u{1b}[m\u{1b}[m\r\n");
+  shows = Some (codes "\r\u{1b}[J\u{1b}[m> \u{1b}[m\u{1b}[m\u{1b}[mabc\u{1b}[1D\u{1b}[1D\u{1b}[P" ++
+      codes "\u{1b}[1C\r\n\r\u{1b}[J\u{1b}[m> \u{1b}[m\u{1b}[m\u{1b}[m\r\n");
 }
 
 -- partial modal columns:10
@@ -359,13 +359,12 @@ row_65 = record (row 65 settings_56 (codes "abcdef\u{1b}[Dx\r") (codes "abcdexf\
       codes "\r\n\r\u{1b}[J\u{1b}[m> \u{1b}[m\u{1b}[m\u{1b}[m\r\n");
 }
 
--- abcdefg Left x Enter = abcdefxg | shows {} a b c d e f g ␛[1D {abcdefxg␍␊}␛[1A␛[9C ␛[1B␛[9D␍␊ {} ␍␊
+-- abcdefg Left x Enter = abcdefxg | shows {} a b c d e f g ␛[1D ␛[@x␍␊␛[1A␛[9C ␛[1B␛[9D␍␊ {} ␍␊
 abbrev pub row_66 : Row
 row_66 = record (row 66 settings_56 (codes "abcdefg\u{1b}[Dx\r") (codes "abcdefxg\n")) {
-  shows = Some
-      (codes "\r\u{1b}[J\u{1b}[m> \u{1b}[m\u{1b}[m\u{1b}[mabcdefg\u{1b}[1D\r\u{1b}[J\u{1b}[m" ++
-      codes "> \u{1b}[mabcdefxg\r\n\u{1b}[m\u{1b}[m\u{1b}[1A\u{1b}[9C\u{1b}[1B\u{1b}[9D\r\n" ++
-      codes "\r\u{1b}[J\u{1b}[m> \u{1b}[m\u{1b}[m\u{1b}[m\r\n");
+  shows = Some (codes "\r\u{1b}[J\u{1b}[m> \u{1b}[m\u{1b}[m\u{1b}[mabcdefg\u{1b}[1D\u{1b}[@x\r\n" ++
+      codes "\u{1b}[1A\u{1b}[9C\u{1b}[1B\u{1b}[9D\r\n\r\u{1b}[J\u{1b}[m> \u{1b}[m\u{1b}[m" ++
+      codes "\u{1b}[m\r\n");
 }
 
 -- abcdefghij Left x Left Left y Enter = abcdefghyixj | shows {} a b c d e f g h␍␊ i j ␛[1D ␛[@x ␛[1D ␛[1D ␛[@y ␛[3C␍␊ {} ␍␊
@@ -377,24 +376,120 @@ row_67 = record (row 67 settings_56 (codes "abcdefghij\u{1b}[Dx\u{1b}[D\u{1b}[Dy
           codes "\u{1b}[m\r\n");
     }
 
--- abcdefghij C-a x Enter = xabcdefghij | shows {} a b c d e f g h␍␊ i j ␛[1A {xabcdefg␍␊hij}␛[1A ␛[1B␍␊ {} ␍␊
+-- abcdefghij C-a x Enter = xabcdefghij | shows {} a b c d e f g h␍␊ i j ␛[1A ␛[@x␍␊␛[@h␛[1A␛[2C ␛[1B␍␊ {} ␍␊
 abbrev pub row_68 : Row
 row_68 = record (row 68 settings_56 (codes "abcdefghij\u{1}x\r") (codes "xabcdefghij\n")) {
   shows = Some
-      (codes "\r\u{1b}[J\u{1b}[m> \u{1b}[m\u{1b}[m\u{1b}[mabcdefgh\r\nij\u{1b}[1A\r\u{1b}[J" ++
-      codes "\u{1b}[m> \u{1b}[mxabcdefg\r\nhij\u{1b}[m\u{1b}[m\u{1b}[1A\u{1b}[1B\r\n\r" ++
+      (codes "\r\u{1b}[J\u{1b}[m> \u{1b}[m\u{1b}[m\u{1b}[mabcdefgh\r\nij\u{1b}[1A\u{1b}[@x\r" ++
+      codes "\n\u{1b}[@h\u{1b}[1A\u{1b}[2C\u{1b}[1B\r\n\r\u{1b}[J\u{1b}[m> \u{1b}[m\u{1b}[m" ++
+      codes "\u{1b}[m\r\n");
+}
+
+-- abcdefghij Left Left Left x Enter = abcdefgxhij | shows {} a b c d e f g h␍␊ i j ␛[1D ␛[1D ␛[1A␛[9C ␛[@x␍␊␛[@h␛[1D ␛[3C␍␊ {} ␍␊
+abbrev pub row_69 : Row
+row_69 = record (row 69 settings_56 (codes "abcdefghij\u{1b}[D\u{1b}[D\u{1b}[Dx\r")
+    (codes "abcdefgxhij\n")) {
+      shows = Some (codes "\r\u{1b}[J\u{1b}[m> \u{1b}[m\u{1b}[m\u{1b}[mabcdefgh\r\nij\u{1b}[1D\u{1b}[1D"
+          ++ codes "\u{1b}[1A\u{1b}[9C\u{1b}[@x\r\n\u{1b}[@h\u{1b}[1D\u{1b}[3C\r\n\r\u{1b}[J\u{1b}" ++
+          codes "[m> \u{1b}[m\u{1b}[m\u{1b}[m\r\n");
+    }
+
+-- Paste abcdefghijklmnopqrst Pasted C-a x Enter = xabcdefghijklmnopqrst | shows {} {abcdefgh␍␊ijklmnopqr␍␊st} ␛[2A ␛[@x␍␊␛[@h␍␊␛[@r␛[2A␛[2C ␛[2B␍␊ {} ␍␊
+abbrev pub row_70 : Row
+row_70 = record (row 70 settings_56 (codes "\u{1b}[200~abcdefghijklmnopqrst\u{1b}[201~\u{1}x\r")
+    (codes "xabcdefghijklmnopqrst\n")) {
+      shows = Some
+          (codes "\r\u{1b}[J\u{1b}[m> \u{1b}[m\u{1b}[m\u{1b}[m\r\u{1b}[J\u{1b}[m> \u{1b}[mabcdef" ++
+          codes "gh\r\nijklmnopqr\r\nst\u{1b}[m\u{1b}[m\u{1b}[2A\u{1b}[@x\r\n\u{1b}[@h\r\n" ++
+          codes "\u{1b}[@r\u{1b}[2A\u{1b}[2C\u{1b}[2B\r\n\r\u{1b}[J\u{1b}[m> \u{1b}[m\u{1b}[m" ++
+          codes "\u{1b}[m\r\n");
+    }
+
+-- Paste abcdefghijklmnopq Pasted C-a x Enter = xabcdefghijklmnopq | shows {} {abcdefgh␍␊ijklmnopq} ␛[1A␛[7D ␛[@x␍␊␛[@h␍␊␛[2A␛[3C ␛[2B␛[3D␍␊ {} ␍␊
+abbrev pub row_71 : Row
+row_71 = record (row 71 settings_56 (codes "\u{1b}[200~abcdefghijklmnopq\u{1b}[201~\u{1}x\r")
+    (codes "xabcdefghijklmnopq\n")) {
+      shows = Some
+          (codes "\r\u{1b}[J\u{1b}[m> \u{1b}[m\u{1b}[m\u{1b}[m\r\u{1b}[J\u{1b}[m> \u{1b}[mabcdef" ++
+          codes "gh\r\nijklmnopq\u{1b}[m\u{1b}[m\u{1b}[1A\u{1b}[7D\u{1b}[@x\r\n\u{1b}[@h\r\n" ++
+          codes "\u{1b}[2A\u{1b}[3C\u{1b}[2B\u{1b}[3D\r\n\r\u{1b}[J\u{1b}[m> \u{1b}[m\u{1b}[m" ++
+          codes "\u{1b}[m\r\n");
+    }
+
+-- Paste a␊bcdefghijklm Pasted C-a x Enter = a␊xbcdefghijklm | shows {} {a␍␊bcdefghijk␍␊lm} ␛[1A␛[2D ␛[@x␍␊␛[@k␛[1A ␛[1B␛[2C␍␊ {} ␍␊
+abbrev pub row_72 : Row
+row_72 = record (row 72 settings_56 (codes "\u{1b}[200~a\nbcdefghijklm\u{1b}[201~\u{1}x\r")
+    (codes "a\nxbcdefghijklm\n")) {
+      shows = Some
+          (codes "\r\u{1b}[J\u{1b}[m> \u{1b}[m\u{1b}[m\u{1b}[m\r\u{1b}[J\u{1b}[m> \u{1b}[ma\r\nb" ++
+          codes "cdefghijk\r\nlm\u{1b}[m\u{1b}[m\u{1b}[1A\u{1b}[2D\u{1b}[@x\r\n\u{1b}[@k\u{1b}[" ++
+          codes "1A\u{1b}[1B\u{1b}[2C\r\n\r\u{1b}[J\u{1b}[m> \u{1b}[m\u{1b}[m\u{1b}[m\r\n");
+    }
+
+-- abcdefghij C-a C-d Enter = bcdefghij | shows {} a b c d e f g h␍␊ i j ␛[1A ␛[P␛[7Ci␍␊␛[P␛[1A␛[2C ␛[1B␛[1D␍␊ {} ␍␊
+abbrev pub row_75 : Row
+row_75 = record (row 75 settings_56 (codes "abcdefghij\u{1}\u{4}\r") (codes "bcdefghij\n")) {
+  shows = Some (codes "\r\u{1b}[J\u{1b}[m> \u{1b}[m\u{1b}[m\u{1b}[mabcdefgh\r\nij\u{1b}[1A\u{1b}[P"
+      ++ codes "\u{1b}[7Ci\r\n\u{1b}[P\u{1b}[1A\u{1b}[2C\u{1b}[1B\u{1b}[1D\r\n\r\u{1b}[J\u{1b}" ++
+      codes "[m> \u{1b}[m\u{1b}[m\u{1b}[m\r\n");
+}
+
+-- abcdefghij Left Left Backspace Enter = abcdefgij | shows {} a b c d e f g h␍␊ i j ␛[1D ␛[1D ␛[1A␛[9C␛[Pi␍␊␛[P␛[1A␛[9C ␛[1B␛[8D␍␊ {} ␍␊
+abbrev pub row_76 : Row
+row_76 = record (row 76 settings_56 (codes "abcdefghij\u{1b}[D\u{1b}[D\u{7f}\r")
+    (codes "abcdefgij\n")) {
+      shows = Some (codes "\r\u{1b}[J\u{1b}[m> \u{1b}[m\u{1b}[m\u{1b}[mabcdefgh\r\nij\u{1b}[1D\u{1b}[1D"
+          ++ codes "\u{1b}[1A\u{1b}[9C\u{1b}[Pi\r\n\u{1b}[P\u{1b}[1A\u{1b}[9C\u{1b}[1B\u{1b}[8D\r" ++
+          codes "\n\r\u{1b}[J\u{1b}[m> \u{1b}[m\u{1b}[m\u{1b}[m\r\n");
+    }
+
+-- abcdefghi C-a C-d Enter = bcdefghi | shows {} a b c d e f g h␍␊ i ␛[1A␛[1C ␛[P␛[7Ci␍␊␛[P␛[1A␛[2C ␛[1B␛[2D␍␊ {} ␍␊
+abbrev pub row_77 : Row
+row_77 = record (row 77 settings_56 (codes "abcdefghi\u{1}\u{4}\r") (codes "bcdefghi\n")) {
+  shows = Some (codes "\r\u{1b}[J\u{1b}[m> \u{1b}[m\u{1b}[m\u{1b}[mabcdefgh\r\ni\u{1b}[1A\u{1b}[1C"
+      ++ codes "\u{1b}[P\u{1b}[7Ci\r\n\u{1b}[P\u{1b}[1A\u{1b}[2C\u{1b}[1B\u{1b}[2D\r\n\r\u{1b}" ++
+      codes "[J\u{1b}[m> \u{1b}[m\u{1b}[m\u{1b}[m\r\n");
+}
+
+-- abcdefgh C-a C-d Enter = bcdefgh | shows {} a b c d e f g h␍␊ ␛[1A␛[2C {bcdefgh}␛[7D ␛[7C␍␊ {} ␍␊
+abbrev pub row_78 : Row
+row_78 = record (row 78 settings_56 (codes "abcdefgh\u{1}\u{4}\r") (codes "bcdefgh\n")) {
+  shows = Some (codes "\r\u{1b}[J\u{1b}[m> \u{1b}[m\u{1b}[m\u{1b}[mabcdefgh\r\n\u{1b}[1A\u{1b}[2C\r"
+      ++ codes "\u{1b}[J\u{1b}[m> \u{1b}[mbcdefgh\u{1b}[m\u{1b}[m\u{1b}[7D\u{1b}[7C\r\n\r" ++
       codes "\u{1b}[J\u{1b}[m> \u{1b}[m\u{1b}[m\u{1b}[m\r\n");
 }
 
+-- Paste ab␠cdefghijkl Pasted C-a M-d Enter = ␠cdefghijkl | shows {} {ab␠cdefg␍␊hijkl} ␛[1A␛[3D ␛[2P␛[6Chi␍␊␛[2P␛[1A␛[2C ␛[1B␛[1C␍␊ {} ␍␊
+abbrev pub row_79 : Row
+row_79 = record (row 79 settings_56 (codes "\u{1b}[200~ab cdefghijkl\u{1b}[201~\u{1}\u{1b}d\r")
+    (codes " cdefghijkl\n")) {
+      shows = Some
+          (codes "\r\u{1b}[J\u{1b}[m> \u{1b}[m\u{1b}[m\u{1b}[m\r\u{1b}[J\u{1b}[m> \u{1b}[mab cde" ++
+          codes "fg\r\nhijkl\u{1b}[m\u{1b}[m\u{1b}[1A\u{1b}[3D\u{1b}[2P\u{1b}[6Chi\r\n\u{1b}[2P" ++
+          codes "\u{1b}[1A\u{1b}[2C\u{1b}[1B\u{1b}[1C\r\n\r\u{1b}[J\u{1b}[m> \u{1b}[m\u{1b}[m" ++
+          codes "\u{1b}[m\r\n");
+    }
+
+-- Paste abcdefghijklmnopqrst Pasted C-a C-d Enter = bcdefghijklmnopqrst | shows {} {abcdefgh␍␊ijklmnopqr␍␊st} ␛[2A ␛[P␛[7Ci␍␊␛[P␛[9Cs␍␊␛[P␛[2A␛[2C ␛[2B␛[1D␍␊ {} ␍␊
+abbrev pub row_80 : Row
+row_80 = record (row 80 settings_56 (codes "\u{1b}[200~abcdefghijklmnopqrst\u{1b}[201~\u{1}\u{4}\r")
+    (codes "bcdefghijklmnopqrst\n")) {
+      shows = Some
+          (codes "\r\u{1b}[J\u{1b}[m> \u{1b}[m\u{1b}[m\u{1b}[m\r\u{1b}[J\u{1b}[m> \u{1b}[mabcdef" ++
+          codes "gh\r\nijklmnopqr\r\nst\u{1b}[m\u{1b}[m\u{1b}[2A\u{1b}[P\u{1b}[7Ci\r\n\u{1b}[P" ++
+          codes "\u{1b}[9Cs\r\n\u{1b}[P\u{1b}[2A\u{1b}[2C\u{1b}[2B\u{1b}[1D\r\n\r\u{1b}[J\u{1b}" ++
+          codes "[m> \u{1b}[m\u{1b}[m\u{1b}[m\r\n");
+    }
+
 -- partial vi
-abbrev pub settings_71 : Settings
-settings_71 = record plain {
+abbrev pub settings_83 : Settings
+settings_83 = record plain {
   config = partial (vi plain.config);
 }
 
 -- abc Esc 0iX Enter = Xabc | shows {} a b c ␛[1D ␛[2D ␛[@X ␛[3C␍␊ {} ␍␊
-abbrev pub row_71 : Row
-row_71 = record (row 71 settings_71 (codes "abc\u{1b}0iX\r") (codes "Xabc\n")) {
+abbrev pub row_83 : Row
+row_83 = record (row 83 settings_83 (codes "abc\u{1b}0iX\r") (codes "Xabc\n")) {
   shows = Some (codes "\r\u{1b}[J\u{1b}[m> \u{1b}[m\u{1b}[m\u{1b}[mabc\u{1b}[1D\u{1b}[2D\u{1b}[@X"
       ++ codes "\u{1b}[3C\r\n\r\u{1b}[J\u{1b}[m> \u{1b}[m\u{1b}[m\u{1b}[m\r\n");
 }
@@ -404,4 +499,5 @@ partial_rows = row_7 ∷ row_8 ∷ row_9 ∷ row_10 ∷ row_11 ∷ row_14 ∷ ro
     ∷ row_21 ∷ row_22 ∷ row_23 ∷ row_26 ∷ row_27 ∷ row_28 ∷ row_31 ∷ row_32 ∷ row_33 ∷ row_34 ∷
     row_35 ∷ row_36 ∷ row_39 ∷ row_40 ∷ row_41 ∷ row_42 ∷ row_43 ∷ row_46 ∷ row_47 ∷ row_48 ∷ row_49
     ∷ row_52 ∷ row_56 ∷ row_57 ∷ row_58 ∷ row_59 ∷ row_60 ∷ row_61 ∷ row_65 ∷ row_66 ∷ row_67 ∷
-    row_68 ∷ row_71 ∷ []
+    row_68 ∷ row_69 ∷ row_70 ∷ row_71 ∷ row_72 ∷ row_75 ∷ row_76 ∷ row_77 ∷ row_78 ∷ row_79 ∷ row_80
+    ∷ row_83 ∷ []

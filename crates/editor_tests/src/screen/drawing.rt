@@ -241,7 +241,12 @@ const CALLS: &str = "
     audible clear_to_eol = ␛[K
     audible move_and_clear_to_eol = ␛[2A␛[10D␛[K
     audible insert_char = ␛[@c
-    audible move_and_delete_chars = ␛[2A␛[10D␛[3P
+    audible insert_char a = ␛[@c␍␊␛[1A␛[79C
+    audible insert_char ab = ␛[@c␍␊␛[@b␛[1A␛[78C
+    audible delete_char = ␛[2A␛[66C␛[P
+    audible delete_char abc = ␛[2A␛[66C␛[P␛[1Cb␍␊␛[P␛[1A␛[78C
+    audible delete_chars = ␛[2A␛[66C␛[2P
+    audible delete_chars abc = ␛[2A␛[66C␛[2Pab␍␊␛[2P␛[1A␛[78C
     audible append_text c = c
     audible append_text éc漢 = ␛[mé␛[mc␛[m漢␛[m
     audible clear_screen = ␛[H␛[J
@@ -256,6 +261,32 @@ const CALLS: &str = "
 const HERE: Position = Position { col: 12, row: 3 };
 
 const THERE: Position = Position { col: 2, row: 1 };
+
+// The last cell but one of a row.
+const EDGE: Position = Position { col: 78, row: 1 };
+
+// Puts a character at the edge, before letters.
+fn put_at_edge<Out: Renderer>(screen: &mut Out, rest: &str) -> Result<(), ReadlineError> {
+    let new = Position { col: 79, row: 1 };
+    let end = screen.calculate_position(rest, new);
+    if screen.get_columns() == 80 {
+        return screen.insert_char('c', rest, EDGE, new, end);
+    }
+    Ok(())
+}
+
+// Takes so many characters out at the edge, before letters.
+fn taken_at_edge<Out: Renderer>(
+    screen: &mut Out,
+    count: u16,
+    rest: &str,
+) -> Result<(), ReadlineError> {
+    let end = screen.calculate_position(rest, EDGE);
+    if screen.get_columns() == 80 && 0 < count && count <= 2 {
+        return screen.move_and_delete_chars(HERE, EDGE, count, rest, end);
+    }
+    Ok(())
+}
 
 // A layout with the cursor and the end at the origin, or inside the text.
 fn layout_for(call: &str) -> Layout {
@@ -281,8 +312,9 @@ fn call_made<Out: Renderer>(
         "beep" => screen.beep(),
         "clear_to_eol" => screen.clear_to_eol(),
         "move_and_clear_to_eol" => screen.move_and_clear_to_eol(HERE, THERE),
-        "insert_char" => screen.insert_char('c'),
-        "move_and_delete_chars" => screen.move_and_delete_chars(HERE, THERE, 3),
+        "insert_char" => put_at_edge(screen, text.as_str()),
+        "delete_char" => taken_at_edge(screen, 1, text.as_str()),
+        "delete_chars" => taken_at_edge(screen, 2, text.as_str()),
         "append_text" => screen.append_text(text.as_str(), HERE).map(|_| ()),
         "clear_screen" => screen.clear_screen(),
         "clear_rows" => screen.clear_rows(&layout),
@@ -388,7 +420,8 @@ const PASSED_ON: &str = "
     clear_to_eol        = written
     move_and_clear_to_eol = written
     insert_char         = written
-    move_and_delete_chars = written
+    delete_char         = written
+    delete_chars        = written
     append_text a       = written
     append_text é       = written
     stay                = nothing

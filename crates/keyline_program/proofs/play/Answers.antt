@@ -25,4 +25,4 @@ returns-clause-refused g c =
     IfErr-weaker c.play_with.result _ _
     (λ unopened. load_refused invoked c.by_environment.result _ _ _
     (subst (λ (x : Config). IsByEnvironment x c.by_environment.result) c.invoked_config.ensures c.by_environment.ensures))
-    (refused_by _ _ _ _ _ _ _ _ _ c.play_with.result refl c.play_with.ensures.refused)
+    (refused_by _ _ _ _ _ _ _ c.play_with.result refl c.play_with.ensures.refused)

@@ -10,8 +10,14 @@ use Rattle.worked_rows.proofs.partial.Goals as goal
 abbrev part : ℕ → List Row
 part n = take 7 (drop n partial_rows)
 
+abbrev from_49 : List Row
+from_49 = drop 49 partial_rows
+
+abbrev from_42 : List Row
+from_42 = part 42 ++ from_49
+
 abbrev from_35 : List Row
-from_35 = drop 35 partial_rows
+from_35 = part 35 ++ from_42
 
 abbrev from_28 : List Row
 from_28 = part 28 ++ from_35
@@ -86,16 +92,38 @@ unshown-28 = refl
 shown-28 : AllShown (short (part 28))
 shown-28 = all_shown (short (part 28)) unshown-28
 
-given-35 : differing from_35 ≡ []
+given-35 : differing (part 35) ≡ []
 unfolding computing
 given-35 = refl
 
-unshown-35 : unshown (short from_35) ≡ []
+unshown-35 : unshown (short (part 35)) ≡ []
 unfolding computing
 unshown-35 = refl
 
-shown-35 : AllShown (short from_35)
-shown-35 = all_shown (short from_35) unshown-35
+shown-35 : AllShown (short (part 35))
+shown-35 = all_shown (short (part 35)) unshown-35
+
+given-42 : differing (part 42) ≡ []
+unfolding computing
+given-42 = refl
+
+unshown-42 : unshown (short (part 42)) ≡ []
+unfolding computing
+unshown-42 = refl
+
+shown-42 : AllShown (short (part 42))
+shown-42 = all_shown (short (part 42)) unshown-42
+
+given-49 : differing from_49 ≡ []
+unfolding computing
+given-49 = refl
+
+unshown-49 : unshown (short from_49) ≡ []
+unfolding computing
+unshown-49 = refl
+
+shown-49 : AllShown (short from_49)
+shown-49 = all_shown (short from_49) unshown-49
 
 pub returns-clause-given : goal.returns-clause-given
 returns-clause-given c = subst (λ rows. differing rows ≡ []) all-rows
@@ -103,7 +131,9 @@ returns-clause-given c = subst (λ rows. differing rows ≡ []) all-rows
     (both_given (part 7) from_14 given-7
     (both_given (part 14) from_21 given-14
     (both_given (part 21) from_28 given-21
-    (both_given (part 28) from_35 given-28 given-35)))))
+    (both_given (part 28) from_35 given-28
+    (both_given (part 35) from_42 given-35
+    (both_given (part 42) from_49 given-42 given-49)))))))
 
 pub returns-clause-shown : goal.returns-clause-shown
 returns-clause-shown c = subst (λ rows. AllShown (short rows)) all-rows
@@ -111,4 +141,6 @@ returns-clause-shown c = subst (λ rows. AllShown (short rows)) all-rows
     (both_shown (part 7) from_14 shown-7
     (both_shown (part 14) from_21 shown-14
     (both_shown (part 21) from_28 shown-21
-    (both_shown (part 28) from_35 shown-28 shown-35)))))
+    (both_shown (part 28) from_35 shown-28
+    (both_shown (part 35) from_42 shown-35
+    (both_shown (part 42) from_49 shown-42 shown-49)))))))

@@ -2,7 +2,7 @@ use Rattle.std.proofs.Common.{refl, sym, ap, ◌∙◌}
 use Rattle.std.specs.Prelude.{◌-◌, length, drop}
 use Rattle.line_buffer.specs.Range.{kill_line, deletion_line}
 use Rattle.line_edits.specs.Edits.{kill_steps}
-use Rattle.line_editor.specs.Killing.{may_be_taken, show_taken, kill_effect}
+use Rattle.line_editor.specs.Killing.{may_be_taken, may_be_taken_out, text_gone, show_taken, kill_effect}
 use Rattle.line_editor.specs.States.{value_of, setting_of}
 use Rattle.line_editor.proofs.EditLemmas.{part_killed, edit_then, edit_refused, taken_by}
 use Rattle.line_editor.proofs.state.State.edit_kill.Goals as goal
@@ -29,6 +29,8 @@ returns-clause-does g c =
     (ap (λ n. n - c.len.result) c.len-before.ensures ∙ ap (λ n. length s.recorded.line.text - n)
     c.len.ensures) (c.may_be_taken-alone.ensures
     ∙ ap (λ o. may_be_taken (drop (length (deletion_line o s.recorded.line).text) s.recorded.line.text) (value_of s)) c.range_of-span.ensures.value)
-    c.may_be_taken_out-in_row.ensures c.last_of_bare-last.ensures c.in_ok-killed.ensures.writes.writes.line
+    (c.may_be_taken_out-inside.ensures
+    ∙ ap (λ o. may_be_taken_out (setting_of s).config.partial_redraw (text_gone s.recorded.line (deletion_line o s.recorded.line)) (value_of s)) c.range_of-span.ensures.value)
+    c.last_of_bare-last.ensures c.in_ok-killed.ensures.writes.writes.line
     c.kill_way-way.ensures
     c.show_killed.ensures.does)

@@ -3,7 +3,7 @@ use Rattle.line_editor.specs.Drawing.{ask_anew_effect}
 use Rattle.line_editor.specs.Inserting.{show_char_effect}
 use Rattle.line_editor.proofs.DoesLemmas.{does_cut_by}
 use Rattle.line_editor.proofs.HelpedLemmas.{put_made, put_drawn}
-use Rattle.line_editor.specs.declared.way.Way.TheVariants.{AtEnd, Alone, Back, InRow, Whole}
+use Rattle.line_editor.specs.declared.way.Way.TheVariants.{AtEnd, Alone, Back, Inside, Whole}
 use Rattle.line_editor.proofs.state.State.show_inserted.Goals as goal
 
 pub returns-in_err-ask_anew : goal.returns-in_err-ask_anew
@@ -15,8 +15,8 @@ returns-in-AtEnd g c = record { does = put_made c.args.ch c.args.way AtEnd _ _ _
 pub returns-in-Alone : goal.returns-in-Alone
 returns-in-Alone g c = record { does = put_made c.args.ch c.args.way Alone _ _ _ _ _ (sym c.way_if_bare.ensures ∙ c.in-Alone.is) c.in_ok-ask_anew.ensures.does c.show_appended.ensures.does }
 
-pub returns-in-InRow : goal.returns-in-InRow
-returns-in-InRow g c = record { does = put_made c.args.ch c.args.way InRow _ _ _ _ _ (sym c.way_if_bare.ensures ∙ c.in-InRow.is) c.in_ok-ask_anew.ensures.does c.show_put_in.ensures.does }
+pub returns-in-Inside : goal.returns-in-Inside
+returns-in-Inside g c = record { does = put_made c.args.ch c.args.way Inside _ _ _ _ _ (sym c.way_if_bare.ensures ∙ c.in-Inside.is) c.in_ok-ask_anew.ensures.does c.show_put_in.ensures.does }
 
 pub returns-in-Back : goal.returns-in-Back
 returns-in-Back g c = record {

@@ -3,7 +3,7 @@ use Rattle.line_editor.specs.Drawing.{ask_anew_effect}
 use Rattle.line_editor.specs.Killing.{show_taken_effect}
 use Rattle.line_editor.proofs.DoesLemmas.{does_cut_by}
 use Rattle.line_editor.proofs.HelpedLemmas.{taken_made, killed_drawn}
-use Rattle.line_editor.specs.declared.way.Way.TheVariants.{AtEnd, Alone, Back, InRow, Whole}
+use Rattle.line_editor.specs.declared.way.Way.TheVariants.{AtEnd, Alone, Back, Inside, Whole}
 use Rattle.line_editor.proofs.state.State.show_killed.Goals as goal
 
 pub returns-in_err-ask_anew : goal.returns-in_err-ask_anew
@@ -17,8 +17,8 @@ returns-in-Back g c = record {
   does = taken_made c.args.count c.args.way (Back c.in-Back.ch) _ _ _ _ _ (sym c.way_if_bare.ensures ∙ c.in-Back.is) c.in_ok-ask_anew.ensures.does c.show_erased.ensures.does;
 }
 
-pub returns-in-InRow : goal.returns-in-InRow
-returns-in-InRow g c = record { does = taken_made c.args.count c.args.way InRow _ _ _ _ _ (sym c.way_if_bare.ensures ∙ c.in-InRow.is) c.in_ok-ask_anew.ensures.does c.show_taken_out.ensures.does }
+pub returns-in-Inside : goal.returns-in-Inside
+returns-in-Inside g c = record { does = taken_made c.args.count c.args.way Inside _ _ _ _ _ (sym c.way_if_bare.ensures ∙ c.in-Inside.is) c.in_ok-ask_anew.ensures.does c.show_taken_out.ensures.does }
 
 pub returns-in-Alone : goal.returns-in-Alone
 returns-in-Alone g c = record {

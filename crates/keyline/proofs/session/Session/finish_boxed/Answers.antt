@@ -1,0 +1,17 @@
+-- Whether the history was saved is what `save` answered.
+use Rattle.std.proofs.Common.{ap, ◌∙◌, rules}
+use Rattle.keyline.specs.Endings.{ending_of}
+use Rattle.keyline.proofs.Unread.{unread_at_end}
+use Rattle.keyline.proofs.session.Session.finish_boxed.Goals as goal
+
+pub returns : goal.returns
+returns g c = record {
+  saved = c.save-saved.result;
+  saves = c.save-saved.ensures;
+  ending_is = c.from-ending.ensures ∙ ap ending_of c.ending_after.ensures;
+  source_is = search rules;
+  ahead_is = search rules;
+  unread_is = unread_at_end g.S.Source.feed c.args.self.desk.reader _ _ (search rules) (search rules);
+  display_is = search rules;
+  lines_are = search rules;
+}

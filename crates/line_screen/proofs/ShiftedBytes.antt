@@ -1,0 +1,230 @@
+-- The bytes of letters that move in their rows, row by row.
+use Rattle.std.proofs.Common.{◌≡◌, ℕ, zero, suc, ◌+◌, ◌-◌, ◌<◌, ◌≤◌, Bool, List, [], ◌∷◌, ◌++◌, length, get_or, take, drop, inl, inr, Some, None, Result, Ok, refl, sym, ap, ◌∙◌, subst, arith, append_assoc, append-nil, length-append, length-drop}
+use Rattle.std.specs.List.{slice_get}
+use Rattle.std.proofs.lemmas.Bool.{ne_eqb, eq-eqb, le-leb, lt-leb, cases_lt}
+use Rattle.std.proofs.lemmas.List.{drop-append-le, take-append-drop, length-take-le}
+use Rattle.line_config.specs.Sending.{Takes, Sends}
+use Rattle.line_config.proofs.Taking.{Underway, sends_then}
+use Rattle.line_screen.specs.Drawing.{row_break, take_cells_out, col_move, open_cell, pushed_on, insertion_bytes, pulled_back, deletion_bytes, refilled}
+
+module _ {D : Type 0} (held : D → List ℕ) (failed : D → Bool) where
+  pub sends_all : {A E : Type 0} (bytes : List ℕ) {a b : D} (x : A) → Takes held a b bytes → failed b ≡ failed a → Sends {A = A} {E = E} held failed bytes a b (Ok x)
+  sends_all bytes x took works = record { sent = took; works = works; err = tt; begins = tt }
+
+  -- what is left is sent
+  pub underway_sends : {A E : Type 0} (all rest : List ℕ) {a b c : D} {r : Result A E}
+      → Underway held failed all rest a b → Sends held failed rest b c r → Sends held failed all a c r
+  underway_sends all rest {a = a} {b = b} {c = c} {r = r} u s =
+      subst (λ bytes. Sends held failed bytes a c r) (sym u.split) (sends_then held failed u.done rest u.taken u.works s)
+
+-- ---- letters that move on
+
+-- letters behind a row's first cell, which don't fill the row
+pushed_inside : (columns col n : ℕ) (xs : List ℕ) → 0 < col → col + n ≡ columns → length xs < n → pushed_on columns col xs ≡ []
+pushed_inside columns col n [] low is short = refl
+pushed_inside columns col zero (c ∷ cs) low is short = absurd (omega arith)
+pushed_inside columns col (suc m) (c ∷ cs) low is short =
+    rw (ne_eqb col 0 (λ s. omega arith), ne_eqb (col + 1) columns (λ s. omega arith))
+    (pushed_inside columns (col + 1) m cs (omega arith) (omega arith) (omega arith))
+
+-- letters that fill it
+pushed_out : (columns col : ℕ) (row next : List ℕ) → 0 < col → 0 < length row → col + length row ≡ columns
+    → pushed_on columns col (row ++ next) ≡ row_break ++ pushed_on columns 0 next
+pushed_out columns col [] next low some is = absurd (omega arith)
+pushed_out columns col (c ∷ []) next low some is =
+    rw (ne_eqb col 0 (λ s. omega arith), eq-eqb (col + 1) columns (omega arith)) refl
+pushed_out columns col (c ∷ d ∷ cs) next low some is =
+    rw (ne_eqb col 0 (λ s. omega arith), ne_eqb (col + 1) columns (λ s. omega arith))
+    (pushed_out columns (col + 1) (d ∷ cs) next (omega arith) (omega arith) (omega arith))
+
+-- a full row, and the last one
+pushed_row : (columns : ℕ) (row next : List ℕ) → 0 < columns → length row ≡ columns
+    → pushed_on columns 0 (row ++ next) ≡ (0x1B ∷ 0x5B ∷ 0x40 ∷ get_or row 0 0 ∷ 0x0D ∷ 0x0A ∷ []) ++ pushed_on columns 0 next
+pushed_row columns [] next some is = absurd (omega arith)
+pushed_row columns (c ∷ []) next some is = rw (eq-eqb (0 + 1) columns (omega arith)) refl
+pushed_row columns (c ∷ d ∷ cs) next some is =
+    rw (ne_eqb (0 + 1) columns (λ s. omega arith))
+    (ap (λ bs. open_cell ++ c ∷ [] ++ bs) (pushed_out columns 1 (d ∷ cs) next (omega arith) (omega arith) (omega arith)))
+
+pushed_last : (columns c : ℕ) (xs : List ℕ) → length xs < columns → Some c ≡ slice_get xs 0 → pushed_on columns 0 xs ≡ 0x1B ∷ 0x5B ∷ 0x40 ∷ c ∷ []
+pushed_last columns c [] short first = absurd (cc)
+pushed_last columns c (x ∷ xs) short first =
+    let same : x ≡ c = cc in
+    rw (ne_eqb (0 + 1) columns (λ s. omega arith))
+    (ap (λ bs. open_cell ++ x ∷ [] ++ bs) (pushed_inside columns 1 (columns - 1) xs (omega arith) (omega arith) (omega arith))
+    ∙ ap (λ y. open_cell ++ y ∷ []) same)
+
+pushed_none : (columns : ℕ) (xs : List ℕ) → None ≡ slice_get xs 0 → pushed_on columns 0 xs ≡ []
+pushed_none columns [] none = refl
+pushed_none columns (x ∷ xs) none = absurd (cc)
+
+-- a character before letters that end in its row
+pub inserted_short : (columns col : ℕ) (character rest : List ℕ) → col < columns → length rest < columns - col - 1
+    → insertion_bytes columns col character rest ≡ open_cell ++ character
+inserted_short columns col character rest inside short =
+    rw (ne_eqb (col + 1) columns (λ s. omega arith), pushed_inside columns (col + 1) (columns - col - 1) rest (omega arith) (omega arith) (omega arith))
+    (ap (λ bs. open_cell ++ bs) (append-nil (character ++ []) ∙ append-nil character))
+
+-- and before letters that go on in other rows
+inserted_row : (columns col : ℕ) (character row next : List ℕ) → col < columns → length row ≡ columns - col - 1
+    → insertion_bytes columns col character (row ++ next) ≡ open_cell ++ (character ++ (row_break ++ pushed_on columns 0 next))
+inserted_row columns col character [] next inside is =
+    rw (eq-eqb (col + 1) columns (omega arith)) (ap (λ bs. open_cell ++ bs) (append_assoc character row_break (pushed_on columns 0 next)))
+inserted_row columns col character (c ∷ cs) next inside is =
+    rw (ne_eqb (col + 1) columns (λ s. omega arith), pushed_out columns (col + 1) (c ∷ cs) next (omega arith) (omega arith) (omega arith))
+    (ap (λ bs. open_cell ++ (bs ++ (row_break ++ pushed_on columns 0 next))) (append-nil character))
+
+pub inserted_on : (columns col n : ℕ) (character rest : List ℕ) → col < columns → n ≡ columns - col - 1 → n ≤ length rest
+    → insertion_bytes columns col character rest ≡ open_cell ++ (character ++ (row_break ++ pushed_on columns 0 (drop n rest)))
+inserted_on columns col n character rest inside is long =
+    ap (insertion_bytes columns col character) (sym (take-append-drop n rest))
+    ∙ inserted_row columns col character (take n rest) (drop n rest) inside (length-take-le n rest long ∙ is)
+
+-- ---- letters that move back
+
+-- nothing comes from the next row, or something
+refilled_none : (columns count start : ℕ) (row : List ℕ) → length row ≤ columns - start - count → refilled columns count start row ≡ []
+refilled_none columns count start row none = rw (le-leb (length row) (columns - start - count) none) refl
+
+pub refilled_some : (columns count start : ℕ) (row : List ℕ) → columns - start - count < length row
+    → refilled columns count start row ≡ take_cells_out count ++ (col_move start (columns - count) ++ drop (columns - start - count) row)
+refilled_some columns count start row some = rw (lt-leb (length row) (columns - start - count) some) refl
+
+-- letters of the next row, of which `n` fill this one
+abbrev drawn_back : ℕ → ℕ → ℕ → List ℕ → List ℕ
+drawn_back columns count zero xs = row_break ++ pulled_back columns count 0 0 xs
+drawn_back columns count (suc n) [] = take_cells_out count
+drawn_back columns count (suc n) (c ∷ cs) = c ∷ drawn_back columns count n cs
+
+drawn_last : (columns count n : ℕ) (xs : List ℕ) → length xs < n → drawn_back columns count n xs ≡ xs ++ take_cells_out count
+drawn_last columns count zero xs short = absurd (omega arith)
+drawn_last columns count (suc n) [] short = refl
+drawn_last columns count (suc n) (c ∷ cs) short = ap (λ bs. c ∷ bs) (drawn_last columns count n cs (omega arith))
+
+drawn_row : (columns count n : ℕ) (row next : List ℕ) → length row ≡ n
+    → drawn_back columns count n (row ++ next) ≡ row ++ (row_break ++ pulled_back columns count 0 0 next)
+drawn_row columns count zero [] next is = refl
+drawn_row columns count zero (c ∷ cs) next is = absurd (omega arith)
+drawn_row columns count (suc n) [] next is = absurd (omega arith)
+drawn_row columns count (suc n) (c ∷ cs) next is = ap (λ bs. c ∷ bs) (drawn_row columns count n cs next (omega arith))
+
+-- the letters behind the first one that comes from the next row
+pulled_behind : (columns count start col n : ℕ) (xs : List ℕ) → columns < col + count → 0 < n → col + n ≡ columns
+    → pulled_back columns count start col xs ≡ drawn_back columns count n xs
+pulled_behind columns count start col zero xs past some is = absurd (omega arith)
+pulled_behind columns count start col (suc n) [] past some is = refl
+pulled_behind columns count start col (suc zero) (c ∷ cs) past some is =
+    rw (ne_eqb (col + count) columns (λ s. omega arith), le-leb columns (col + count) (omega arith), eq-eqb (col + 1) columns (omega arith)) refl
+pulled_behind columns count start col (suc (suc n)) (c ∷ cs) past some is =
+    rw (ne_eqb (col + count) columns (λ s. omega arith), le-leb columns (col + count) (omega arith), ne_eqb (col + 1) columns (λ s. omega arith))
+    (ap (λ bs. c ∷ bs) (pulled_behind columns count start (col + 1) (suc n) cs (omega arith) (omega arith) (omega arith)))
+
+-- the first one, and the letters behind it
+pulled_first : (columns count start col c : ℕ) (cs : List ℕ) → 0 < count → col + count ≡ columns
+    → pulled_back columns count start col (c ∷ cs) ≡ take_cells_out count ++ (col_move start col ++ drawn_back columns count count (c ∷ cs))
+pulled_first columns zero start col c cs some is = absurd (omega arith)
+pulled_first columns (suc zero) start col c cs some is =
+    rw (eq-eqb (col + suc zero) columns is, le-leb columns (col + suc zero) (omega arith))
+    (ap (λ bs. take_cells_out 1 ++ bs) (append_assoc (col_move start col) (c ∷ []) (row_break ++ pulled_back columns 1 0 0 cs)))
+pulled_first columns (suc (suc n)) start col c cs some is =
+    let count : ℕ = suc (suc n) in
+    let out = take_cells_out count in
+    let way = col_move start col in
+    let behind = pulled_back columns count start (col + 1) cs in
+    rw (eq-eqb (col + suc (suc n)) columns is, le-leb columns (col + suc (suc n)) (omega arith), ne_eqb (col + 1) columns (λ s. omega arith))
+    (append_assoc (out ++ way) (c ∷ []) behind ∙ append_assoc out way (c ∷ behind)
+    ∙ ap (λ bs. out ++ (way ++ c ∷ bs)) (pulled_behind columns count start (col + 1) (suc n) cs (omega arith) (omega arith) (omega arith)))
+
+-- the letters that stay in the row, so many at the most
+pulled_kept : (columns count start col k : ℕ) (xs : List ℕ) → 0 < count → col + k + count ≡ columns → length xs ≤ k
+    → pulled_back columns count start col xs ≡ take_cells_out count
+pulled_kept columns count start col k [] some is short = refl
+pulled_kept columns count start col zero (c ∷ cs) some is short = absurd (omega arith)
+pulled_kept columns count start col (suc k) (c ∷ cs) some is short =
+    rw (ne_eqb (col + count) columns (λ s. omega arith), lt-leb columns (col + count) (omega arith), ne_eqb (col + 1) columns (λ s. omega arith))
+    (pulled_kept columns count start (col + 1) k cs some (omega arith) (omega arith))
+
+-- and others behind them
+pulled_over : (columns count start col k : ℕ) (xs : List ℕ) → 0 < count → col + k + count ≡ columns → k < length xs
+    → pulled_back columns count start col xs ≡ take_cells_out count ++ (col_move start (columns - count) ++ drawn_back columns count count (drop k xs))
+pulled_over columns count start col k [] some is long = absurd (omega arith)
+pulled_over columns count start col zero (c ∷ cs) some is long =
+    let here : col ≡ columns - count = omega arith in
+    pulled_first columns count start col c cs some (omega arith)
+    ∙ ap (λ n. take_cells_out count ++ (col_move start n ++ drawn_back columns count count (c ∷ cs))) here
+pulled_over columns count start col (suc k) (c ∷ cs) some is long =
+    rw (ne_eqb (col + count) columns (λ s. omega arith), lt-leb columns (col + count) (omega arith), ne_eqb (col + 1) columns (λ s. omega arith))
+    (pulled_over columns count start (col + 1) k cs some (omega arith) (omega arith))
+
+-- a row with others behind it: what fills its end, and what comes then
+refilled_then : (columns count start : ℕ) (row behind : List ℕ) → columns - start - count < length row
+    → take_cells_out count ++ (col_move start (columns - count) ++ (drop (columns - start - count) row ++ behind)) ≡ refilled columns count start row ++ behind
+refilled_then columns count start row behind some =
+    let out = take_cells_out count in
+    let way = col_move start (columns - count) in
+    let end = drop (columns - start - count) row in
+    ap (λ bs. out ++ bs) (sym (append_assoc way end behind)) ∙ sym (append_assoc out (way ++ end) behind)
+    ∙ ap (λ bs. bs ++ behind) (sym (refilled_some columns count start row some))
+
+-- a full row
+pulled_row : (columns count start : ℕ) (row next : List ℕ) → 0 < count → start + count ≤ columns → length row ≡ columns - start
+    → pulled_back columns count start start (row ++ next) ≡ refilled columns count start row ++ (row_break ++ pulled_back columns count 0 0 next)
+pulled_row columns count start row next some room full =
+    let kept = columns - start - count in
+    let behind = row_break ++ pulled_back columns count 0 0 next in
+    let low : kept ≤ length row = omega arith in
+    let over : kept < length row = omega arith in
+    let left : length (drop kept row) ≡ count = length-drop kept row ∙ omega arith in
+    pulled_over columns count start start kept (row ++ next) some (omega arith) (omega (arith, length-append row next))
+    ∙ ap (λ xs. take_cells_out count ++ (col_move start (columns - count) ++ drawn_back columns count count xs)) (drop-append-le kept row next low)
+    ∙ ap (λ bs. take_cells_out count ++ (col_move start (columns - count) ++ bs)) (drawn_row columns count count (drop kept row) next left)
+    ∙ refilled_then columns count start row behind over
+
+-- the last row
+pulled_last : (columns count start : ℕ) (rest : List ℕ) → 0 < count → start + count ≤ columns → length rest < columns - start
+    → pulled_back columns count start start rest ≡ refilled columns count start rest ++ take_cells_out count
+pulled_last columns count start rest some room short =
+    let kept = columns - start - count in
+    elim (cases_lt kept (length rest)) [
+      | inl over ↦
+          pulled_over columns count start start kept rest some (omega arith) over
+          ∙ ap (λ bs. take_cells_out count ++ (col_move start (columns - count) ++ bs)) (drawn_last columns count count (drop kept rest) (omega (arith, length-drop kept rest)))
+          ∙ refilled_then columns count start rest (take_cells_out count) over
+      | inr none ↦
+          pulled_kept columns count start start kept rest some (omega arith) none
+          ∙ sym (ap (λ bs. bs ++ take_cells_out count) (refilled_none columns count start rest none))
+    ]
+
+-- ---- loops over rows: of all that is sent this is left
+
+-- the first letter of a full row, in a cell opened there, and the row left
+abbrev pub opened : List ℕ → List ℕ
+opened row = 0x1B ∷ 0x5B ∷ 0x40 ∷ get_or row 0 0 ∷ 0x0D ∷ 0x0A ∷ []
+
+module _ {D : Type 0} (held : D → List ℕ) (failed : D → Bool) (all : List ℕ) where
+  pub pushes_row : (columns : ℕ) (row next before : List ℕ) {a b : D} → Underway held failed all (pushed_on columns 0 before) a b
+      → before ≡ row ++ next → 0 < columns → length row ≡ columns → Underway held failed all (opened row ++ pushed_on columns 0 next) a b
+  pushes_row columns row next before {a = a} {b = b} u split some full =
+      subst (λ bytes. Underway held failed all bytes a b) (ap (pushed_on columns 0) split ∙ pushed_row columns row next some full) u
+
+  pub pushes_last : (columns c : ℕ) (xs : List ℕ) {a b : D} → Underway held failed all (pushed_on columns 0 xs) a b
+      → length xs < columns → Some c ≡ slice_get xs 0 → Underway held failed all (0x1B ∷ 0x5B ∷ 0x40 ∷ c ∷ []) a b
+  pushes_last columns c xs {a = a} {b = b} u short first =
+      subst (λ bytes. Underway held failed all bytes a b) (pushed_last columns c xs short first) u
+
+  pub pushes_none : (columns : ℕ) (xs : List ℕ) {a b : D} → Underway held failed all (pushed_on columns 0 xs) a b
+      → None ≡ slice_get xs 0 → Underway held failed all [] a b
+  pushes_none columns xs {a = a} {b = b} u none = subst (λ bytes. Underway held failed all bytes a b) (pushed_none columns xs none) u
+
+  pub pulls_row : (columns count start : ℕ) (row next before : List ℕ) {a b : D} → Underway held failed all (deletion_bytes columns count start before) a b
+      → before ≡ row ++ next → 0 < count → start + count ≤ columns → length row ≡ columns - start
+      → Underway held failed all (refilled columns count start row ++ (row_break ++ deletion_bytes columns count 0 next)) a b
+  pulls_row columns count start row next before {a = a} {b = b} u split some room full =
+      subst (λ bytes. Underway held failed all bytes a b)
+      (ap (deletion_bytes columns count start) split ∙ pulled_row columns count start row next some room full) u
+
+  pub pulls_last : (columns count start : ℕ) (rest : List ℕ) {a b : D} → Underway held failed all (deletion_bytes columns count start rest) a b
+      → 0 < count → start + count ≤ columns → length rest < columns - start
+      → Underway held failed all (refilled columns count start rest ++ take_cells_out count) a b
+  pulls_last columns count start rest {a = a} {b = b} u some room short =
+      subst (λ bytes. Underway held failed all bytes a b) (pulled_last columns count start rest some room short) u

@@ -1,0 +1,181 @@
+//! Letters that move in their rows: a character put before them, and cells taken out before them.
+
+ghost use Rattle.std.specs.Prelude.{◌≡◌, ◌+◌, ◌<◌, ◌≤◌, ◌++◌, [], encode_utf8, OnOk};
+ghost use Rattle.line_screen.specs.Drawing.{move_bytes, take_cells_out, pushed_on, insertion_bytes, refilled, deletion_bytes, place_after_insertion, place_after_deletion};
+ghost use Rattle.line_config.specs.Sending.{Sends};
+
+use crate::drawing::sequences::{flush, send, send_col_move, send_control, send_move};
+use line_buffer::{Position, Unit};
+use line_config::{DeviceFailed, Sink};
+
+/// Letters that move on by a cell each, from a row's start on: the first one of each row is written
+/// there.
+fn push_on<D: Sink>(sink: &mut D, columns: Unit, letters: &[u8]) -> Result<(), DeviceFailed>
+    requires some { 0 < columns }
+    ensures { Sends D.held D.has_failed (pushed_on columns 0 letters.now) sink.old sink.new
+        result }
+{
+    let columns = usize::from(columns);
+    let mut rest = letters;
+    while columns <= rest.len() {
+        let (row, next) = rest.split_at(columns);
+        send(sink, &[0x1B, b'[', b'@', row[0], b'\r', b'\n'])?;
+        rest = next;
+    }
+    match rest.first() {
+        Some(letter) => send(sink, &[0x1B, b'[', b'@', *letter]),
+        None => Ok(()),
+    }
+}
+
+/// A character in a cell opened before letters.
+fn send_before<D: Sink>(
+    sink: &mut D,
+    columns: Unit,
+    col: Unit,
+    ch: char,
+    rest: &[u8],
+) -> Result<(), DeviceFailed>
+    requires inside { col < columns }
+    ensures { Sends D.held D.has_failed (insertion_bytes columns col (encode_utf8 ch) rest.now)
+        sink.old sink.new result }
+{
+    let mut bytes = [0u8; 4];
+    send(sink, b"\x1B[@")?;
+    send(sink, ch.encode_utf8(&mut bytes).as_bytes())?;
+    let free = usize::from(columns - col - 1);
+    if rest.len() < free {
+        return Ok(());
+    }
+    send(sink, b"\r\n")?;
+    push_on(sink, columns, &rest[free..])
+}
+
+/// Where the cursor is after that, if the drawing ends at `end` then.
+fn place_after_insertion(old: Position, new: Position, end: Position) -> Position
+    ensures { result ≡ place_after_insertion old new end }
+{
+    if end.row == old.row {
+        return new;
+    }
+    let col = if end.col == 0 { 0 } else { 1 };
+    Position { col, row: end.row }
+}
+
+/// A character in a cell opened at `old` before letters, then the way to `new`, passed on.
+pub(crate) fn put_before<D: Sink>(
+    sink: &mut D,
+    columns: Unit,
+    ch: char,
+    rest: &[u8],
+    old: Position,
+    new: Position,
+    end: Position,
+) -> Result<(), DeviceFailed>
+    requires inside { old.col < columns }
+    ensures sends { Sends D.held D.has_failed
+        (insertion_bytes columns old.col (encode_utf8 ch) rest.now
+        ++ move_bytes (place_after_insertion old new end) new)
+        sink.old sink.new result }
+    ensures passes { OnOk result (D.waits sink.new ≡ []) }
+{
+    send_before(sink, columns, old.col, ch, rest)?;
+    send_move(sink, place_after_insertion(old, new, end), new)?;
+    flush(sink)
+}
+
+/// So many cells taken out of the row from the cursor on.
+fn send_taken_out<D: Sink>(sink: &mut D, count: Unit) -> Result<(), DeviceFailed>
+    ensures { Sends D.held D.has_failed (take_cells_out count) sink.old sink.new result }
+{
+    if count == 1 {
+        return send(sink, b"\x1B[P");
+    }
+    send_control(sink, count, b'P')
+}
+
+/// Cells taken out of a row before its letters, if some of them come from the next row: these are
+/// written at the row's end.
+fn refill_row<D: Sink>(
+    sink: &mut D,
+    columns: Unit,
+    count: Unit,
+    start: Unit,
+    row: &[u8],
+) -> Result<(), DeviceFailed>
+    requires room { start + count ≤ columns }
+    ensures { Sends D.held D.has_failed (refilled columns count start row.now) sink.old sink.new
+        result }
+{
+    let kept = usize::from(columns - start - count);
+    if row.len() <= kept {
+        return Ok(());
+    }
+    send_taken_out(sink, count)?;
+    send_col_move(sink, start, columns - count)?;
+    send(sink, &row[kept..])
+}
+
+/// Cells taken out before letters, which move back by as many.
+fn pull_back<D: Sink>(
+    sink: &mut D,
+    columns: Unit,
+    count: Unit,
+    col: Unit,
+    letters: &[u8],
+) -> Result<(), DeviceFailed>
+    requires some { 0 < count }
+    requires room { col + count ≤ columns }
+    ensures { Sends D.held D.has_failed (deletion_bytes columns count col letters.now)
+        sink.old sink.new result }
+{
+    let mut start = col;
+    let mut rest = letters;
+    while usize::from(columns - start) <= rest.len() {
+        let (row, next) = rest.split_at(usize::from(columns - start));
+        refill_row(sink, columns, count, start, row)?;
+        send(sink, b"\r\n")?;
+        start = 0;
+        rest = next;
+    }
+    refill_row(sink, columns, count, start, rest)?;
+    send_taken_out(sink, count)
+}
+
+/// Where the cursor is after that, if the drawing ends at `end` then.
+fn place_after_deletion(from: Position, end: Position) -> Position
+    ensures { result ≡ place_after_deletion from end }
+{
+    if end.row == from.row {
+        return from;
+    }
+    Position {
+        col: 0,
+        row: end.row,
+    }
+}
+
+/// The way from `old` to `new`, cells taken out there before letters, and the way back to `new`,
+/// passed on.
+pub(crate) fn move_and_take_out<D: Sink>(
+    sink: &mut D,
+    columns: Unit,
+    old: Position,
+    new: Position,
+    count: Unit,
+    rest: &[u8],
+    end: Position,
+) -> Result<(), DeviceFailed>
+    requires some { 0 < count }
+    requires room { new.col + count ≤ columns }
+    ensures sends { Sends D.held D.has_failed
+        (move_bytes old new ++ (deletion_bytes columns count new.col rest.now
+        ++ move_bytes (place_after_deletion new end) new))
+        sink.old sink.new result }
+    ensures passes { OnOk result (D.waits sink.new ≡ []) }
+{
+    send_move(sink, old, new)?;
+    pull_back(sink, columns, count, new.col, rest)?;
+    send_move(sink, place_after_deletion(new, end), new)?;
+    flush(sink)
+}
