@@ -118,10 +118,11 @@ def stand_in(body):
     return "{ loop {}" + "\n" * body.count("\n") + " }"
 
 
-def joined(groups, edits):
-    """Groups of mutants with more of them, each in the first group with which it may share a check."""
+def joined(groups, edits, most=None):
+    """Groups of mutants with more of them, each in the first group with which it may share a check, if that has at most so
+    many."""
     for edit in edits:
-        group = next((it for it in groups if all(map(edit.stands_beside, it))), None)
+        group = next((it for it in groups if len(it) != most and all(map(edit.stands_beside, it))), None)
         if group is None:
             groups.append([edit])
         else:
@@ -129,10 +130,9 @@ def joined(groups, edits):
     return groups
 
 
-def parts(group, most):
-    """A group in parts of equal size, as few as possible with at most so many."""
-    count = -(-len(group) // most)
-    return [group[at::count] for at in range(count)]
+def size_of_groups(count, most):
+    """The size of groups of that many mutants: as few groups as possible, with at most so many each."""
+    return -(-count // -(-count // most))
 
 
 def named_so(text, function, path, clause):
@@ -194,8 +194,8 @@ class Crate:
         times = Counter(path for edit in edits for path in edit.replaced())
         barred = {it: sum(not it.stands_beside(other) for other in edits) for it in edits}
         choice = lambda it: (-max((times[path] for path in it.replaced()), default=0), -barred[it])
-        groups = joined([], sorted(edits, key=choice))
-        return sorted((it for group in groups for it in parts(group, self.MOST)), key=len, reverse=True)
+        groups = joined([], sorted(edits, key=choice), size_of_groups(len(edits), self.MOST) if edits else None)
+        return sorted(groups, key=len, reverse=True)
 
     def answers(self, path):
         """The folder of a function's proof."""

@@ -355,7 +355,12 @@ def mutants_that_share_a_check():
     small = Small("from-one", "from-none", "from-other", "nothing-said")
     same("a body of a trait's impl replaces the original, and may be called there", named(groups_of(small.crate())),
          [["from-none", "from-other", "nothing-said"], ["from-one"]])
-    same("groups of one size", mutant_checks.parts([1, 2, 3, 4, 5], 3), [[1, 3, 5], [2, 4]])
+    for count, size in ((1, 1), (3, 3), (4, 2), (5, 3), (7, 3)):
+        same(f"the size of groups of {count}, of at most 3 each", mutant_checks.size_of_groups(count, 3), size)
+    crate = Small("from-one", "from-none", "from-other", "nothing-said").crate()
+    crate.MOST = 2
+    same("groups of one size, in which no two bodies replace one", named(groups_of(crate)),
+         [["from-none", "from-other"], ["from-one", "nothing-said"]])
 
 
 def what_is_not_changed_is_taken_at_its_word():
