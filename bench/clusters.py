@@ -1,4 +1,4 @@
-"""The cost of keys that examine clusters: the built program, its display and lines thrown away.
+"""The cost of keys that examine clusters, words or rows: the built program, its display and lines thrown away.
 
 Called by `bench/run clusters` with the built program. Each key is pressed a hundred times in lines of two sizes, less a
 session with only the line. The cost is counted in instructions if valgrind is installed, and otherwise in processor time.
@@ -11,7 +11,10 @@ import sys
 import tempfile
 
 HOME, LEFT, RIGHT, TRANSPOSE, ESCAPE, ENTER = b"\x01", b"\x1b[D", b"\x1b[C", b"\x14", b"\x1b", b"\r"
-BACKSPACE = b"\x7f"
+BACKSPACE, END, BACK_WORD, NEXT_WORD = b"\x7f", b"\x05", b"\x1bb", b"\x1bf"
+KILL_WORD, YANK = b"\x17", b"\x19"
+SENTENCE = b"some words, and 17 more. "
+PATH = b"/usr/x-y.d"
 HAN = "漢".encode()
 CYRILLIC = "я".encode()
 EMOJI = "👍".encode()
@@ -29,6 +32,10 @@ CASES = [
     ("Ctrl-T at the front of a line", EMACS, b"a", HOME + RIGHT, TRANSPOSE, (1_000, 10_000)),
     ("Vi's r and a character there", VI, b"a", ESCAPE + b"0", b"rb", (1_000, 10_000)),
     ("Vi's x there", VI, b"a", ESCAPE + b"0", b"x", (1_000, 10_000)),
+    ("M-b and M-f over one word", EMACS, b"a", b"", BACK_WORD + NEXT_WORD, (10_000, 100_000)),
+    ("M-b over a word of sentences", EMACS, SENTENCE, b"", BACK_WORD, (40, 400)),
+    ("Ctrl-W and Ctrl-Y of a path", EMACS, PATH, b"", KILL_WORD + YANK, (1_000, 10_000)),
+    ("Home and End of a row behind another", EMACS, b"a", HOME + pasted(b"a\r") + END, HOME + END, (10_000, 100_000)),
     ("a letter typed after Han", EMACS, HAN, b"", b"b", (300, 3_000)),
     ("Han typed after Han", EMACS, HAN, b"", HAN, (300, 3_000)),
     ("a letter typed after Cyrillic", EMACS, CYRILLIC, b"", b"b", (300, 3_000)),
@@ -38,7 +45,7 @@ CASES = [
     ("--extended: Han typed after Han", PART, HAN, b"", HAN, (300, 3_000)),
     ("--extended: Cyrillic typed after Cyrillic", PART, CYRILLIC, b"", CYRILLIC, (300, 3_000)),
     ("--extended: an emoji typed after emoji", PART, EMOJI, b"", EMOJI, (300, 3_000)),
-    ("--extended: Backspace after Han", PART, HAN, b"", BACKSPACE, (300, 3_000)),
+    ("--extended: Backspace after Han", PART, HAN, b"", BACKSPACE, (300, 3_200)),
 ]
 
 

@@ -507,7 +507,7 @@ def noted_keys(keys):
 
 @dataclasses.dataclass(frozen=True)
 class RowSession:
-    """Keys, and the words of a setting as `session_tests` reads them."""
+    """Keys, and the words of a setting as `session_rows` reads them."""
 
     keys: bytes
     words: tuple = ()

@@ -13,7 +13,7 @@ use Rattle.line_buffer.specs.Printable.{is_printable}
 use Rattle.line_buffer.proofs.JoinLemmas.{printable_bounds, printable_ascii, clusters-letters, first-of-letters}
 use Rattle.line_buffer.proofs.PartingLemmas.{chars_last}
 
-printable_scalar : (c : ℕ) → is_printable c ≡ true → IsScalar c
+pub printable_scalar : (c : ℕ) → is_printable c ≡ true → IsScalar c
 printable_scalar c h = let bounds = printable_bounds c h in grind (arith, nat_tests, bounds.1)
 
 -- it begins one byte before the text's end

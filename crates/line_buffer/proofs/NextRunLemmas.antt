@@ -1,18 +1,17 @@
--- The first clusters of a text that are of one kind: a run of letters of ASCII, or the first cluster alone.
-use Rattle.std.proofs.Common.{◌≡◌, ℕ, suc, ◌+◌, ◌-◌, ◌<◌, ◌≤◌, true, ◌&&◌, List, [], ◌∷◌, ◌++◌, length, take, drop, None, Some, refl, sym, ap, ap₂, ◌∙◌, subst, arith}
+-- The first clusters of a text that are of one kind: a run of bytes of ASCII in a word, or the first cluster alone.
+use Rattle.std.proofs.Common.{◌≡◌, ℕ, suc, ◌+◌, ◌-◌, ◌<◌, ◌≤◌, true, List, [], ◌∷◌, ◌++◌, length, take, drop, get_or, None, Some, refl, sym, ap, ap₂, ◌∙◌, subst, arith}
 use Rattle.std.specs.Prelude.{IsUtf8, IsCharBoundary, encode_utf8, option_to_list}
-use Rattle.std.specs.Char.{is_ascii_alphanumeric}
 use Rattle.std.specs.List.{last_or, list_all, concat}
 use Rattle.std.proofs.lemmas.Bool.{and_parts}
-use Rattle.std.proofs.lemmas.Bool.Decides.{nat_tests}
-use Rattle.std.proofs.lemmas.List.{take-append-drop, length-take-le, drop-drop}
+use Rattle.std.proofs.lemmas.List.{take-append-drop, length-take-le, drop-drop, drop_more}
+use Rattle.std.proofs.lemmas.List.Folds.{list_all_more}
 use Rattle.std.proofs.lemmas.Str.{encode_ascii, IsUtf8-past_char, IsCharBoundary-from_rest}
 use Rattle.unicode_segmentation.specs.Grapheme.{is_grapheme_break, graphemes}
 use Rattle.unicode_segmentation.specs.Segments.{with_offsets}
 use Rattle.unicode_segmentation.proofs.SegmentsLemmas.{AllPieces, segments_nonempty, concat-segments, nil_from-with_offsets}
 use Rattle.line_buffer.specs.Clusters.{clusters}
 use Rattle.line_buffer.specs.Printable.{is_printable}
-use Rattle.line_buffer.specs.Words.{BeginsInRun, clusters_at, kind_of, kinds, edges_of, edge_between}
+use Rattle.line_buffer.specs.Words.{BeginsInRun, clusters_at, kind_of, kinds, is_word_byte, edges_of, edge_between}
 use Rattle.line_buffer.specs.declared.types.At.{At}
 use Rattle.line_buffer.specs.declared.types.At.TheVariants.{Start, BeforeEnd, AfterEnd}
 use Rattle.line_buffer.specs.declared.types.Word.{Word}
@@ -22,7 +21,8 @@ use Rattle.line_buffer.proofs.LetterLemmas.{first_letter}
 use Rattle.line_buffer.proofs.RestLemmas.{graphemes_rest}
 use Rattle.line_buffer.proofs.StopLemmas.{clusters-empty}
 use Rattle.line_buffer.proofs.WordLemmas.{edges_of-cons}
-use Rattle.line_buffer.proofs.WordRunLemmas.{kind_of_letter, letter_ascii}
+use Rattle.line_buffer.proofs.JoinLemmas.{printable_ascii}
+use Rattle.line_buffer.proofs.WordRunLemmas.{kind_of_word_byte, word_printable}
 
 -- ---- the first cluster alone
 no_edge : (at : At) (kind : ClusterKind) (i j : ℕ) → edge_between at (i, kind) (j, kind) ≡ None
@@ -127,41 +127,48 @@ runs_join word text last end later upto kind one two = record {
         ∙ ap₂ (λ i j. edges_of at ((i, kind) ∷ kinds word (clusters_at j (drop upto (drop end text))))) place behind
         ∙ ap (λ bs. edges_of at ((from + (end + later), kind) ∷ kinds word (clusters_at (from + (end + upto)) bs))) (drop-drop_add end upto text)
 
--- ---- letters
-letter_printable : (c : ℕ) → is_ascii_alphanumeric c ≡ true → is_printable c ≡ true
-letter_printable c h = grind (arith, nat_tests, h)
+-- ---- bytes of a word
+in_front : (c : ℕ) (text : List ℕ) → is_printable c ≡ true → c ∷ text ≡ encode_utf8 c ++ text
+in_front c text h = ap (λ bs. bs ++ text) (sym (encode_ascii c (printable_ascii c h)))
 
-in_front : (c : ℕ) (text : List ℕ) → is_ascii_alphanumeric c ≡ true → c ∷ text ≡ encode_utf8 c ++ text
-in_front c text h = ap (λ bs. bs ++ text) (sym (encode_ascii c (letter_ascii c h)))
-
-letter_first : (word : Word) (w v : ℕ) (text : List ℕ) → IsUtf8 (w ∷ (v ∷ text)) → is_ascii_alphanumeric w ≡ true → is_ascii_alphanumeric v ≡ true → BeginsInRun word (w ∷ (v ∷ text)) 0 1 InWord
-letter_first word w v text u hw hv =
+byte_first : (word : Word) (w v : ℕ) (text : List ℕ) → IsUtf8 (w ∷ (v ∷ text)) → is_word_byte word w ≡ true → is_printable v ≡ true → BeginsInRun word (w ∷ (v ∷ text)) 0 1 InWord
+byte_first word w v text u hw hv =
+    let p = word_printable word w hw in
     begins_in_cluster word (w ∷ (v ∷ text)) (0, w ∷ []) InWord u
-    (sym (first_letter (w ∷ (v ∷ text)) (v ∷ text) text w v u (in_front w (v ∷ text) hw) (in_front v text hv) (letter_printable w hw) (letter_printable v hv)))
-    (sym (kind_of_letter word w hw))
+    (sym (first_letter (w ∷ (v ∷ text)) (v ∷ text) text w v u (in_front w (v ∷ text) p) (in_front v text hv) p hv))
+    (sym (kind_of_word_byte word w hw))
 
-letters_first : (word : Word) (w v : ℕ) (more rest : List ℕ) → IsUtf8 (w ∷ (v ∷ (more ++ rest))) → is_ascii_alphanumeric w ≡ true → is_ascii_alphanumeric v ≡ true → list_all is_ascii_alphanumeric more ≡ true
-    → BeginsInRun word (w ∷ (v ∷ (more ++ rest))) (length more) (length more + 1) InWord
-letters_first word w v [] rest u hw hv h = letter_first word w v rest u hw hv
-letters_first word w v (m ∷ more) rest u hw hv h =
-    let parts = and_parts (is_ascii_alphanumeric m) (list_all is_ascii_alphanumeric more) h in
-    let text = w ∷ (v ∷ (m ∷ (more ++ rest))) in
-    let later = letters_first word v m more rest (IsUtf8-past_char text (v ∷ (m ∷ (more ++ rest))) w u (in_front w (v ∷ (m ∷ (more ++ rest))) hw)) hv parts.0 parts.1 in
-    let joined = runs_join word text 0 1 (length more) (length more + 1) InWord (letter_first word w v (m ∷ (more ++ rest)) u hw hv) later in
+-- such bytes before a printable one
+bytes_first : (word : Word) (w : ℕ) (more : List ℕ) (v : ℕ) (rest : List ℕ) → IsUtf8 (w ∷ (more ++ v ∷ rest)) → is_word_byte word w ≡ true → list_all (is_word_byte word) more ≡ true → is_printable v ≡ true
+    → BeginsInRun word (w ∷ (more ++ v ∷ rest)) (length more) (length more + 1) InWord
+bytes_first word w [] v rest u hw h hv = byte_first word w v rest u hw hv
+bytes_first word w (m ∷ more) v rest u hw h hv =
+    let parts = and_parts (is_word_byte word m) (list_all (is_word_byte word) more) h in
+    let text = w ∷ (m ∷ (more ++ v ∷ rest)) in
+    let later = bytes_first word m more v rest (IsUtf8-past_char text (m ∷ (more ++ v ∷ rest)) w u (in_front w (m ∷ (more ++ v ∷ rest)) (word_printable word w hw))) parts.0 parts.1 hv in
+    let joined = runs_join word text 0 1 (length more) (length more + 1) InWord (byte_first word w m (more ++ v ∷ rest) u hw (word_printable word m parts.0)) later in
     let last : 1 + length more ≡ suc (length more) = omega arith in
     let end : 1 + (length more + 1) ≡ suc (length more) + 1 = omega arith in
     subst (λ n. BeginsInRun word text n (suc (length more) + 1) InWord) last (subst (λ n. BeginsInRun word text (1 + length more) n InWord) end joined)
 
-pub begins_in_letters : (word : Word) (text : List ℕ) (count : ℕ) → IsUtf8 text → 1 < count → count ≤ length text → list_all is_ascii_alphanumeric (take count text) ≡ true → BeginsInRun word text (count - 2) (count - 1) InWord
-begins_in_letters word text count u l m h = by (take count text) (sym (take-append-drop count text)) (length-take-le count text m) h
+pub begins_in_word : (word : Word) (text : List ℕ) (count : ℕ) → IsUtf8 text → 0 < count → count < length text → is_printable (get_or text count 0) ≡ true → list_all (is_word_byte word) (take count text) ≡ true → BeginsInRun word text (count - 1) count InWord
+begins_in_word word text count u l m p h = by (take count text) (sym (take-append-drop count text) ∙ ap (λ t. take count text ++ t) (drop_more text count 0 m)) (length-take-le count text (omega (arith, m))) h
   where
-    by : (front : List ℕ) → text ≡ front ++ drop count text → length front ≡ count → list_all is_ascii_alphanumeric front ≡ true → BeginsInRun word text (count - 2) (count - 1) InWord
+    by : (front : List ℕ) → text ≡ front ++ get_or text count 0 ∷ drop (count + 1) text → length front ≡ count → list_all (is_word_byte word) front ≡ true → BeginsInRun word text (count - 1) count InWord
     by [] e n k = absurd (omega (arith, l, n))
-    by (w ∷ []) e n k = absurd (omega (arith, l, n))
-    by (w ∷ (v ∷ more)) e n k =
-        let outer = and_parts (is_ascii_alphanumeric w) (is_ascii_alphanumeric v && list_all is_ascii_alphanumeric more) k in
-        let inner = and_parts (is_ascii_alphanumeric v) (list_all is_ascii_alphanumeric more) outer.1 in
-        let last : length more ≡ count - 2 = omega (arith, n) in
-        let end : length more + 1 ≡ count - 1 = omega (arith, n) in
-        subst (λ i. BeginsInRun word text i (count - 1) InWord) last (subst (λ i. BeginsInRun word text (length more) i InWord) end
-        (subst (λ t. BeginsInRun word t (length more) (length more + 1) InWord) (sym e) (letters_first word w v more (drop count text) (subst IsUtf8 e u) outer.0 inner.0 inner.1)))
+    by (w ∷ more) e n k =
+        let parts = and_parts (is_word_byte word w) (list_all (is_word_byte word) more) k in
+        let last : length more ≡ count - 1 = omega (arith, n) in
+        let end : length more + 1 ≡ count = omega (arith, n) in
+        subst (λ i. BeginsInRun word text i count InWord) last (subst (λ i. BeginsInRun word text (length more) i InWord) end
+        (subst (λ t. BeginsInRun word t (length more) (length more + 1) InWord) (sym e) (bytes_first word w more (get_or text count 0) (drop (count + 1) text) (subst IsUtf8 e u) parts.0 parts.1 p)))
+
+-- what follows may be joined to the last byte
+pub begins_before_last : (word : Word) (text : List ℕ) (count : ℕ) → IsUtf8 text → 1 < count → count ≤ length text → list_all (is_word_byte word) (take count text) ≡ true → BeginsInRun word text (count - 2) (count - 1) InWord
+begins_before_last word text count u l m h =
+    let same : count - 1 + 1 ≡ count = omega (arith, l) in
+    let one : count - 1 - 1 ≡ count - 2 = omega arith in
+    let parts = and_parts (list_all (is_word_byte word) (take (count - 1) text)) (is_word_byte word (get_or text (count - 1) 0))
+    (sym (list_all_more (is_word_byte word) text (count - 1) 0 (omega (arith, l, m))) ∙ ap (λ n. list_all (is_word_byte word) (take n text)) same ∙ h) in
+    subst (λ n. BeginsInRun word text n (count - 1) InWord) one
+    (begins_in_word word text (count - 1) u (omega (arith, l)) (omega (arith, l, m)) (word_printable word (get_or text (count - 1) 0) parts.1) parts.0)

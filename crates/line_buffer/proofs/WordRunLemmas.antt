@@ -1,12 +1,12 @@
--- The last clusters of a text that are of one kind: a run of letters of ASCII, or the last cluster alone.
-use Rattle.std.proofs.Common.{◌≡◌, ℕ, zero, suc, ◌+◌, ◌<◌, ◌≤◌, ◌⊎◌, inl, inr, Bool, true, false, not, ◌&&◌, ◌||◌, if◌then◌else◌, List, [], ◌∷◌, ◌++◌, length, map, take, drop, reverse, get_or, Option, None, Some, refl, sym, ap, ap₂, ◌∙◌, subst, arith, append_assoc}
+-- The last clusters of a text that are of one kind: a run of bytes of ASCII in a word, or the last cluster alone.
+use Rattle.std.proofs.Common.{◌≡◌, ℕ, zero, suc, ◌+◌, ◌-◌, ◌==◌, ◌<◌, ◌≤◌, ◌⊎◌, inl, inr, Bool, true, false, not, ◌&&◌, ◌||◌, if◌then◌else◌, List, [], ◌∷◌, ◌++◌, length, map, take, drop, reverse, get_or, Option, None, Some, refl, sym, ap, ap₂, ◌∙◌, subst, arith, append_assoc}
 use Rattle.std.specs.Prelude.{IsUtf8, chars, option_to_list, bytes_eq}
-use Rattle.std.specs.Char.{IsScalar, is_ascii_alphanumeric, is_whitespace}
+use Rattle.std.specs.Char.{is_ascii_alphanumeric, is_whitespace}
 use Rattle.std.specs.List.{last_or, list_all, concat}
 use Rattle.std.proofs.Math.Seq.{get_or-append_seam}
 use Rattle.std.proofs.lemmas.Bool.{and_from, and_parts}
 use Rattle.std.proofs.lemmas.Bool.Decides.{nat_tests}
-use Rattle.std.proofs.lemmas.List.{reverse-append, reverse-reverse, length-append, length-take-le, length-drop, map-append, append-nil, take_at, take_all, take-take, length-take, take-append-drop}
+use Rattle.std.proofs.lemmas.List.{reverse-append, reverse-reverse, length-append, length-take-le, length-drop, drop_more, map-append, append-nil, take_at, take_all, take-take, length-take, take-append-drop}
 use Rattle.std.proofs.lemmas.List.Folds.{list_all-append}
 use Rattle.std.proofs.lemmas.Str.{chars-IsAscii, encode_ascii, IsCharBoundary-after_ascii}
 use Rattle.unicode_segmentation.specs.Grapheme.{is_grapheme_break, graphemes}
@@ -15,14 +15,15 @@ use Rattle.unicode_segmentation.proofs.AsciiLemmas.{is_alphanumeric_ascii}
 use Rattle.unicode_segmentation.proofs.SegmentsLemmas.{concat-segments, nil_from-with_offsets}
 use Rattle.line_buffer.specs.Clusters.{clusters}
 use Rattle.line_buffer.specs.Printable.{is_printable}
-use Rattle.line_buffer.specs.Words.{EndsInRun, kind_of, kinds, starts_of, edges_of, edge_between}
+use Rattle.line_buffer.specs.Words.{EndsInRun, kind_of, kinds, is_word_byte, starts_of, edges_of, edge_between}
 use Rattle.line_buffer.specs.declared.types.At.TheVariants.{Start}
 use Rattle.line_buffer.specs.declared.types.Word.{Word}
 use Rattle.line_buffer.specs.declared.types.Word.TheVariants.{Big, Emacs, Vi}
 use Rattle.line_buffer.specs.declared.words.ClusterKind.{ClusterKind}
 use Rattle.line_buffer.specs.declared.words.ClusterKind.TheVariants.{Blank, InWord, Other}
 use Rattle.line_buffer.proofs.FrontLemmas.{clusters_front, ends_or_not}
-use Rattle.line_buffer.proofs.JoinLemmas.{clusters-letters}
+use Rattle.line_buffer.proofs.JoinLemmas.{clusters-letters, printable_ascii}
+use Rattle.line_buffer.proofs.LetterLemmas.{printable_scalar}
 use Rattle.line_buffer.proofs.PartingLemmas.{chars_last}
 use Rattle.line_buffer.proofs.WordLemmas.{edges_of-nil, edges_of-one, edges_of-snoc}
 
@@ -33,19 +34,17 @@ reversed_all p (x ∷ xs) h =
     ap (list_all p) (reverse-append (x ∷ []) xs) ∙ list_all-append p (reverse xs) (x ∷ [])
     ∙ and_from (list_all p (reverse xs)) (p x && true) (reversed_all p xs parts.1) (and_from (p x) true parts.0 refl)
 
--- ---- letters
+-- ---- bytes of a word
+word_bounds : (word : Word) (c : ℕ) → is_word_byte word c ≡ true → (33 ≤ c) × (c < 127)
+word_bounds Emacs c h = grind (arith, nat_tests, h)
+word_bounds Big c h = grind (arith, nat_tests, h)
+word_bounds Vi c h = grind (arith, nat_tests, h)
 
-letter_bounds : (c : ℕ) → is_ascii_alphanumeric c ≡ true → (32 ≤ c) × (c < 127)
-letter_bounds c h = grind (arith, nat_tests, h)
+pub word_printable : (word : Word) (c : ℕ) → is_word_byte word c ≡ true → is_printable c ≡ true
+word_printable word c h = let bounds = word_bounds word c h in grind (arith, nat_tests, bounds.0, bounds.1)
 
-letter_printable : (c : ℕ) → is_ascii_alphanumeric c ≡ true → is_printable c ≡ true
-letter_printable c h = let bounds = letter_bounds c h in grind (arith, nat_tests, bounds.0, bounds.1)
-
-letter_scalar : (c : ℕ) → is_ascii_alphanumeric c ≡ true → IsScalar c
-letter_scalar c h = let bounds = letter_bounds c h in grind (arith, nat_tests, bounds.1)
-
-pub letter_ascii : (c : ℕ) → is_ascii_alphanumeric c ≡ true → c < 128
-letter_ascii c h = let bounds = letter_bounds c h in omega (arith, bounds.1)
+word_ascii : (word : Word) (c : ℕ) → is_word_byte word c ≡ true → c < 128
+word_ascii word c h = let bounds = word_bounds word c h in omega (arith, bounds.1)
 
 one_char : (c : ℕ) → c < 128 → chars (c ∷ []) ≡ c ∷ []
 one_char c l = chars-IsAscii (c ∷ []) ascii
@@ -54,66 +53,67 @@ one_char c l = chars-IsAscii (c ∷ []) ascii
     ascii zero = l
     ascii (suc i) = omega arith
 
-no_space : (c : ℕ) → is_ascii_alphanumeric c ≡ true → is_whitespace c ≡ false
-no_space c h = let bounds = letter_bounds c h in let low : 33 ≤ c = grind (arith, nat_tests, h) in grind (arith, nat_tests, bounds.1, low)
+is_letter : (c : ℕ) → c < 128 → list_all is_alphanumeric (chars (c ∷ [])) ≡ (is_ascii_alphanumeric c && true)
+is_letter c l = ap (list_all is_alphanumeric) (one_char c l) ∙ ap (λ b. b && true) (sym (is_alphanumeric_ascii c l))
 
-pub kind_of_letter : (word : Word) (c : ℕ) → is_ascii_alphanumeric c ≡ true → kind_of word (c ∷ []) ≡ InWord
-kind_of_letter word c h = by word
-  where
-    all : list_all is_alphanumeric (chars (c ∷ [])) ≡ true
-    all = ap (list_all is_alphanumeric) (one_char c (letter_ascii c h)) ∙ ap (λ b. b && true) (sym (is_alphanumeric_ascii c (letter_ascii c h)) ∙ h)
+no_space : (word : Word) (c : ℕ) → is_word_byte word c ≡ true → is_whitespace c ≡ false
+no_space word c h = let bounds = word_bounds word c h in grind (arith, nat_tests, bounds.0, bounds.1)
 
-    none : list_all (λ d. not (is_whitespace d)) (chars (c ∷ [])) ≡ true
-    none = ap (list_all (λ d. not (is_whitespace d))) (one_char c (letter_ascii c h)) ∙ ap (λ b. not b && true) (no_space c h)
+one_of : (a b : Bool) → (a || b) ≡ true → ((a && true) || (b && true)) ≡ true
+one_of true b h = refl
+one_of false true h = refl
+one_of false false h = h
 
-    by : (word : Word) → kind_of word (c ∷ []) ≡ InWord
-    by Emacs = ap (λ b. if b then InWord else Blank) all
-    by Big = ap (λ b. if b then InWord else Blank) none
-    by Vi = ap (λ b. if b || bytes_eq (c ∷ []) (95 ∷ []) then InWord else (if list_all (λ d. not (is_whitespace d)) (chars (c ∷ [])) then Other else Blank)) all
+pub kind_of_word_byte : (word : Word) (c : ℕ) → is_word_byte word c ≡ true → kind_of word (c ∷ []) ≡ InWord
+kind_of_word_byte Emacs c h = ap (λ b. if b then InWord else Blank) (is_letter c (word_ascii Emacs c h) ∙ ap (λ b. b && true) h)
+kind_of_word_byte Big c h =
+    ap (λ b. if b then InWord else Blank) (ap (list_all (λ d. not (is_whitespace d))) (one_char c (word_ascii Big c h)) ∙ ap (λ b. not b && true) (no_space Big c h))
+kind_of_word_byte Vi c h =
+    ap (λ b. if b then InWord else (if list_all (λ d. not (is_whitespace d)) (chars (c ∷ [])) then Other else Blank))
+    (ap (λ b. b || bytes_eq (c ∷ []) (95 ∷ [])) (is_letter c (word_ascii Vi c h)) ∙ one_of (is_ascii_alphanumeric c) (c == 95) h)
 
--- the last of two letters at a text's end
-letter_off : (text most front : List ℕ) (last previous : ℕ) → IsUtf8 text → text ≡ most ++ last ∷ [] → most ≡ front ++ previous ∷ [] → is_ascii_alphanumeric previous ≡ true → is_ascii_alphanumeric last ≡ true
+-- the last of two bytes at a text's end
+byte_off : (word : Word) (text most front : List ℕ) (last previous : ℕ) → IsUtf8 text → text ≡ most ++ last ∷ [] → most ≡ front ++ previous ∷ [] → is_printable previous ≡ true → is_word_byte word last ≡ true
     → IsUtf8 most × (clusters text ≡ clusters most ++ (length most, last ∷ []) ∷ [])
-letter_off text most front last previous u came earlier p q =
-    let first = chars_last text most last u (letter_scalar last q) (came ∙ ap (λ bs. most ++ bs) (sym (encode_ascii last (letter_ascii last q)))) in
-    let second = chars_last most front previous first.0 (letter_scalar previous p) (earlier ∙ ap (λ bs. front ++ bs) (sym (encode_ascii previous (letter_ascii previous p)))) in
+byte_off word text most front last previous u came earlier p q =
+    let r = word_printable word last q in
+    let first = chars_last text most last u (printable_scalar last r) (came ∙ ap (λ bs. most ++ bs) (sym (encode_ascii last (printable_ascii last r)))) in
+    let second = chars_last most front previous first.0 (printable_scalar previous p) (earlier ∙ ap (λ bs. front ++ bs) (sym (encode_ascii previous (printable_ascii previous p)))) in
     let all : chars text ≡ chars front ++ previous ∷ last ∷ [] = first.1 ∙ ap (λ cs. cs ++ last ∷ []) second.1 ∙ append_assoc (chars front) (previous ∷ []) (last ∷ []) in
-    (first.0, clusters-letters text most front last previous first.0 all second.1 (letter_printable previous p) (letter_printable last q))
+    (first.0, clusters-letters text most front last previous first.0 all second.1 p r)
 
--- the clusters behind the first letter, the letters after it in the other order
+-- the clusters behind the printable byte, the bytes after it in the other order
 abbrev Run : Word → List ℕ → ℕ → List ℕ → Type 0
 Run word front w rs = (later : List ℕ) × (kinds word (clusters (front ++ w ∷ reverse rs)) ≡ kinds word (clusters (front ++ w ∷ [])) ++ map (λ i. (i, InWord)) ((length front + 1) ∷ later))
 
-letters_run : (word : Word) (front : List ℕ) (w v : ℕ) (rs : List ℕ) → IsUtf8 (front ++ w ∷ reverse (v ∷ rs)) → is_ascii_alphanumeric w ≡ true → list_all is_ascii_alphanumeric (v ∷ rs) ≡ true → Run word front w (v ∷ rs)
-letters_run word front w v [] u hw h =
-    let parts = and_parts (is_ascii_alphanumeric v) true h in
-    let off = letter_off (front ++ w ∷ (v ∷ [])) (front ++ w ∷ []) front v w u (sym (append_assoc front (w ∷ []) (v ∷ []))) refl hw parts.0 in
+bytes_run : (word : Word) (front : List ℕ) (w v : ℕ) (rs : List ℕ) → IsUtf8 (front ++ w ∷ reverse (v ∷ rs)) → is_printable w ≡ true → list_all (is_word_byte word) (v ∷ rs) ≡ true → Run word front w (v ∷ rs)
+bytes_run word front w v [] u hw h =
+    let parts = and_parts (is_word_byte word v) true h in
+    let off = byte_off word (front ++ w ∷ (v ∷ [])) (front ++ w ∷ []) front v w u (sym (append_assoc front (w ∷ []) (v ∷ []))) refl hw parts.0 in
     let place : length (front ++ w ∷ []) ≡ length front + 1 = omega (arith, length-append front (w ∷ [])) in (
       [],
       ap (kinds word) off.1 ∙ map-append (λ x. (x.0, kind_of word x.1)) (clusters (front ++ w ∷ [])) ((length (front ++ w ∷ []), v ∷ []) ∷ [])
-          ∙ ap₂ (λ n k. kinds word (clusters (front ++ w ∷ [])) ++ (n, k) ∷ []) place (kind_of_letter word v parts.0),
+          ∙ ap₂ (λ n k. kinds word (clusters (front ++ w ∷ [])) ++ (n, k) ∷ []) place (kind_of_word_byte word v parts.0),
     )
-letters_run word front w v (r ∷ rs) u hw h =
-    let parts = and_parts (is_ascii_alphanumeric v) (list_all is_ascii_alphanumeric (r ∷ rs)) h in
+bytes_run word front w v (r ∷ rs) u hw h =
+    let parts = and_parts (is_word_byte word v) (list_all (is_word_byte word) (r ∷ rs)) h in
     let most = front ++ w ∷ reverse (r ∷ rs) in
     let is : front ++ w ∷ reverse (v ∷ (r ∷ rs)) ≡ most ++ v ∷ [] = ap (λ t. front ++ w ∷ t) (reverse-append (v ∷ []) (r ∷ rs)) ∙ sym (append_assoc front (w ∷ reverse (r ∷ rs)) (v ∷ [])) in
     let earlier : most ≡ (front ++ w ∷ reverse rs) ++ r ∷ [] = ap (λ t. front ++ w ∷ t) (reverse-append (r ∷ []) rs) ∙ sym (append_assoc front (w ∷ reverse rs) (r ∷ [])) in
-    let off = letter_off (front ++ w ∷ reverse (v ∷ (r ∷ rs))) most (front ++ w ∷ reverse rs) v r u is earlier (and_parts (is_ascii_alphanumeric r) (list_all is_ascii_alphanumeric rs) parts.1).0 parts.0 in
-    let inner = letters_run word front w r rs off.0 hw parts.1 in
+    let previous = word_printable word r (and_parts (is_word_byte word r) (list_all (is_word_byte word) rs) parts.1).0 in
+    let off = byte_off word (front ++ w ∷ reverse (v ∷ (r ∷ rs))) most (front ++ w ∷ reverse rs) v r u is earlier previous parts.0 in
+    let inner = bytes_run word front w r rs off.0 hw parts.1 in
     let first = kinds word (clusters (front ++ w ∷ [])) in (
       inner.0 ++ length most ∷ [],
       ap (kinds word) off.1 ∙ map-append (λ x. (x.0, kind_of word x.1)) (clusters most) ((length most, v ∷ []) ∷ [])
-          ∙ ap₂ (λ xs k. xs ++ (length most, k) ∷ []) inner.1 (kind_of_letter word v parts.0)
+          ∙ ap₂ (λ xs k. xs ++ (length most, k) ∷ []) inner.1 (kind_of_word_byte word v parts.0)
           ∙ append_assoc first (map (λ i. (i, InWord)) ((length front + 1) ∷ inner.0)) ((length most, InWord) ∷ [])
           ∙ ap (λ t. first ++ (length front + 1, InWord) ∷ t) (sym (map-append (λ i. (i, InWord)) inner.0 (length most ∷ []))),
     )
 
-split_letters : (word : Word) (text front ws : List ℕ) (w : ℕ) → IsUtf8 text → text ≡ front ++ w ∷ ws → 0 < length ws → list_all is_ascii_alphanumeric (w ∷ ws) ≡ true → EndsInRun word text (length front + 1) InWord
-split_letters word text front ws w u is some h = by (reverse ws) (sym (reverse-reverse ws)) (reversed_all is_ascii_alphanumeric ws parts.1)
+split_bytes : (word : Word) (text front ws : List ℕ) (w : ℕ) → IsUtf8 text → text ≡ front ++ w ∷ ws → 0 < length ws → is_printable w ≡ true → list_all (is_word_byte word) ws ≡ true → EndsInRun word text (length front + 1) InWord
+split_bytes word text front ws w u is some hw h = by (reverse ws) (sym (reverse-reverse ws)) (reversed_all (is_word_byte word) ws h)
   where
-    parts : (is_ascii_alphanumeric w ≡ true) × (list_all is_ascii_alphanumeric ws ≡ true)
-    parts = and_parts (is_ascii_alphanumeric w) (list_all is_ascii_alphanumeric ws) h
-
     long : length text ≡ length front + 1 + length ws
     long = omega (arith, ap length is, length-append front (w ∷ ws))
 
@@ -123,29 +123,36 @@ split_letters word text front ws w u is some h = by (reverse ws) (sym (reverse-r
     begin : take (length front + 1) text ≡ front ++ w ∷ []
     begin = ap (take (length front + 1)) (is ∙ sym (append_assoc front (w ∷ []) ws)) ∙ take_at (front ++ w ∷ []) ws (length front + 1) (length-append front (w ∷ []))
 
-    by : (rs : List ℕ) → ws ≡ reverse rs → list_all is_ascii_alphanumeric rs ≡ true → EndsInRun word text (length front + 1) InWord
+    by : (rs : List ℕ) → ws ≡ reverse rs → list_all (is_word_byte word) rs ≡ true → EndsInRun word text (length front + 1) InWord
     by [] e k = absurd (omega (arith, some, ap length e))
     by (v ∷ rs) e k =
         let same : text ≡ front ++ w ∷ reverse (v ∷ rs) = is ∙ ap (λ t. front ++ w ∷ t) e in
-        let run = letters_run word front w v rs (subst IsUtf8 same u) parts.0 k in
+        let run = bytes_run word front w v rs (subst IsUtf8 same u) hw k in
         record {
-          start = IsCharBoundary-after_ascii text (length front) u (omega (arith, long)) (omega (arith, here, letter_ascii w parts.0));
+          start = IsCharBoundary-after_ascii text (length front) u (omega (arith, long)) (omega (arith, here, printable_ascii w hw));
           shorter = omega (arith, long, some);
           later = run.0;
           splits = ap (λ t. kinds word (clusters t)) same ∙ run.1 ∙ ap (λ t. kinds word (clusters t) ++ map (λ i. (i, InWord)) ((length front + 1) ∷ run.0)) (sym begin);
         }
 
-pub ends_in_letters : (word : Word) (text : List ℕ) (start : ℕ) → IsUtf8 text → start + 1 < length text → list_all is_ascii_alphanumeric (drop start text) ≡ true → EndsInRun word text (start + 1) InWord
-ends_in_letters word text start u l h = by (drop start text) refl h
-  where
-    long : length (take start text) ≡ start
-    long = length-take-le start text (omega (arith, l))
+-- such bytes behind a printable one
+ends_behind : (word : Word) (text : List ℕ) (i : ℕ) → IsUtf8 text → i + 1 < length text → is_printable (get_or text i 0) ≡ true → list_all (is_word_byte word) (drop (i + 1) text) ≡ true → EndsInRun word text (i + 1) InWord
+ends_behind word text i u l p h =
+    let some : 0 < length (drop (i + 1) text) = omega (arith, l, length-drop (i + 1) text) in
+    subst (λ n. EndsInRun word text (n + 1) InWord) (length-take-le i text (omega (arith, l)))
+    (split_bytes word text (take i text) (drop (i + 1) text) (get_or text i 0) u (sym (take-append-drop i text) ∙ ap (λ t. take i text ++ t) (drop_more text i 0 (omega (arith, l)))) some p h)
 
-    by : (end : List ℕ) → drop start text ≡ end → list_all is_ascii_alphanumeric end ≡ true → EndsInRun word text (start + 1) InWord
-    by [] e k = absurd (omega (arith, l, length-drop start text, ap length e))
-    by (w ∷ ws) e k =
-        subst (λ n. EndsInRun word text (n + 1) InWord) long
-        (split_letters word text (take start text) ws w u (sym (take-append-drop start text) ∙ ap (λ t. take start text ++ t) e) (omega (arith, l, length-drop start text, ap length e)) k)
+pub ends_in_word : (word : Word) (text : List ℕ) (start : ℕ) → IsUtf8 text → 0 < start → start < length text → is_printable (get_or text (start - 1) 0) ≡ true → list_all (is_word_byte word) (drop start text) ≡ true → EndsInRun word text start InWord
+ends_in_word word text start u l m p h =
+    let same : start - 1 + 1 ≡ start = omega (arith, l) in
+    subst (λ n. EndsInRun word text n InWord) same
+    (ends_behind word text (start - 1) u (omega (arith, l, m)) p (subst (λ n. list_all (is_word_byte word) (drop n text) ≡ true) (sym same) h))
+
+-- the first byte may be joined to what stands before it
+pub ends_behind_first : (word : Word) (text : List ℕ) (start : ℕ) → IsUtf8 text → start + 1 < length text → list_all (is_word_byte word) (drop start text) ≡ true → EndsInRun word text (start + 1) InWord
+ends_behind_first word text start u l h =
+    let parts = and_parts (is_word_byte word (get_or text start 0)) (list_all (is_word_byte word) (drop (start + 1) text)) (sym (ap (list_all (is_word_byte word)) (drop_more text start 0 (omega (arith, l)))) ∙ h) in
+    ends_behind word text start u l (word_printable word (get_or text start 0) parts.0) parts.1
 
 -- ---- the last cluster alone
 pub ends_in_cluster : (word : Word) (text : List ℕ) (start : ℕ) (cluster : List ℕ) (kind : ClusterKind) → IsUtf8 text → Some (start, cluster) ≡ last_or None (take 1 (reverse (clusters text)))

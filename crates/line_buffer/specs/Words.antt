@@ -1,7 +1,7 @@
 -- Where words start and end, and the places to which motions by words lead.
 use Rattle.std.specs.Prelude.{◌≡◌, ℕ, ◌+◌, ◌==◌, ◌<◌, Bool, true, false, not, ◌||◌, if◌then◌else◌, List, [], ◌∷◌, ◌++◌, length, map, reverse, filter, zip, take, drop, chars, IsCharBoundary, bytes_eq, Option, None, Some, option_map, option_to_list}
 use Rattle.std.specs.List.{list_all, last_or}
-use Rattle.std.specs.Char.{is_whitespace}
+use Rattle.std.specs.Char.{is_ascii_alphanumeric, is_ascii_graphic, is_whitespace}
 use Rattle.unicode_segmentation.specs.Grapheme.{graphemes}
 use Rattle.unicode_segmentation.specs.Segments.{is_alphanumeric, with_offsets}
 use Rattle.line_buffer.specs.declared.types.At.{At}
@@ -27,6 +27,12 @@ kind_of Big cluster = if has_no_whitespace cluster then InWord else Blank
 kind_of Vi cluster =
     if is_alphanumeric_cluster cluster || bytes_eq cluster (95 ∷ []) then InWord
     else (if has_no_whitespace cluster then Other else Blank)
+
+-- the visible bytes of ASCII that are in a word, as clusters of one byte
+abbrev pub is_word_byte : Word → ℕ → Bool
+is_word_byte Emacs byte = is_ascii_alphanumeric byte
+is_word_byte Big byte = is_ascii_graphic byte
+is_word_byte Vi byte = is_ascii_alphanumeric byte || (byte == 95)
 
 -- a word starts between clusters of these kinds
 abbrev pub starts_between : ClusterKind → ClusterKind → Bool

@@ -4,15 +4,16 @@
 //! at which it can stop, or at the last one if there are fewer.
 
 ghost use Rattle.std.specs.Prelude.{◌≡◌, ◌-◌, ◌<◌, ◌≤◌, length, take, drop, reverse, is_some, slice_get, IfSome, MatchOption, None, true, IsCharBoundary};
-ghost use Rattle.std.specs.Char.{is_ascii_alphanumeric};
 ghost use Rattle.std.specs.List.{last_or, list_all};
 ghost use Rattle.unicode_segmentation.specs.Segments as Segments;
 ghost use Rattle.line_buffer.specs.Clusters.{clusters, nth_or_last};
 ghost use Rattle.line_buffer.specs.Line.{with_cursor_at};
 ghost use Rattle.line_buffer.specs.Words as Words;
+ghost use Rattle.line_buffer.specs.declared.types.Word.TheVariants.{Big, Emacs, Vi};
 
 use crate::line_buffer::LineBuffer;
 use crate::motion::{nth_cluster, nth_cluster_back};
+use crate::printable::Printable;
 use crate::runs::{ByteClass, run_from, run_upto};
 use crate::types::{At, RepeatCount, Word};
 use unicode::properties::{GeneralCategory, is_alphabetic};
@@ -30,6 +31,9 @@ enum ClusterKind {
 pub fn is_alphanumeric(c: char) -> bool
     ensures { result ≡ Segments.is_alphanumeric c }
 {
+    if c.is_ascii() {
+        return c.is_ascii_alphanumeric();
+    }
     is_alphabetic(c)
         || matches!(
             GeneralCategory::for_char(c),
@@ -88,25 +92,75 @@ fn edge_between(at: At, left: (usize, ClusterKind), right: (usize, ClusterKind))
     }
 }
 
-/// The letters and digits of ASCII.
-struct Letters;
+/// The bytes of ASCII in words of Emacs: letters and digits.
+struct InEmacsWord;
 
-impl ByteClass for Letters {
-    ghost class = { is_ascii_alphanumeric };
+impl ByteClass for InEmacsWord {
+    ghost class = { Words.is_word_byte Emacs };
 
     fn has(byte: u8) -> bool {
         byte.is_ascii_alphanumeric()
     }
 }
 
-/// The last clusters of a text, of one kind: where they start, and the kind. Letters of ASCII are
-/// clusters each, except the first, which may be joined to what stands before it.
+/// The bytes of ASCII in big words: all that are visible.
+struct InBigWord;
+
+impl ByteClass for InBigWord {
+    ghost class = { Words.is_word_byte Big };
+
+    fn has(byte: u8) -> bool {
+        byte.is_ascii_graphic()
+    }
+}
+
+/// The bytes of ASCII in words of Vi: letters, digits and `_`.
+struct InViWord;
+
+impl ByteClass for InViWord {
+    ghost class = { Words.is_word_byte Vi };
+
+    fn has(byte: u8) -> bool {
+        byte.is_ascii_alphanumeric() || byte == b'_'
+    }
+}
+
+/// Where the bytes of a word at the end of the bytes begin.
+fn word_from(word: Word, bytes: &[u8]) -> usize
+    ensures bound { result ≤ length bytes.now }
+    ensures run { list_all (Words.is_word_byte word) (drop result bytes.now) ≡ true }
+{
+    match word {
+        Word::Emacs => run_from::<InEmacsWord>(bytes),
+        Word::Big => run_from::<InBigWord>(bytes),
+        Word::Vi => run_from::<InViWord>(bytes),
+    }
+}
+
+/// How far the bytes of a word at the front of the bytes reach.
+fn word_upto(word: Word, bytes: &[u8]) -> usize
+    ensures bound { result ≤ length bytes.now }
+    ensures run { list_all (Words.is_word_byte word) (take result bytes.now) ≡ true }
+{
+    match word {
+        Word::Emacs => run_upto::<InEmacsWord>(bytes),
+        Word::Big => run_upto::<InBigWord>(bytes),
+        Word::Vi => run_upto::<InViWord>(bytes),
+    }
+}
+
+/// The last clusters of a text, of one kind: where they start, and the kind. The bytes of a word are
+/// clusters each, except the first if it may be joined to what stands before it.
 fn last_run(text: &str, word: Word) -> Option<(usize, ClusterKind)>
     ensures { MatchOption result (length text.now ≡ 0)
         (λ run. Words.EndsInRun word text.now run.0 run.1) }
 {
-    let start = run_from::<Letters>(text.as_bytes());
-    if start + 1 < text.len() {
+    let bytes = text.as_bytes();
+    let start = word_from(word, bytes);
+    if 0 < start && start < bytes.len() && Printable::has(bytes[start - 1]) {
+        return Some((start, ClusterKind::InWord));
+    }
+    if start + 1 < bytes.len() {
         return Some((start + 1, ClusterKind::InWord));
     }
     let (start, cluster) = nth_cluster_back(text, 1)?;
@@ -136,12 +190,16 @@ fn nth_start_back(text: &str, word: Word, n: RepeatCount) -> Option<usize>
 }
 
 /// The first clusters of a text, of one kind: where the last of them starts and ends, and the kind.
-/// Letters of ASCII are clusters each, except the last, to which what follows may be joined.
+/// The bytes of a word are clusters each, except the last if what follows may be joined to it.
 fn first_run(text: &str, word: Word) -> Option<(usize, usize, ClusterKind)>
     ensures { MatchOption result (length text.now ≡ 0)
         (λ run. Words.BeginsInRun word text.now run.0 run.1 run.2) }
 {
-    let count = run_upto::<Letters>(text.as_bytes());
+    let bytes = text.as_bytes();
+    let count = word_upto(word, bytes);
+    if 0 < count && count < bytes.len() && Printable::has(bytes[count]) {
+        return Some((count - 1, count, ClusterKind::InWord));
+    }
     if count > 1 {
         return Some((count - 2, count - 1, ClusterKind::InWord));
     }

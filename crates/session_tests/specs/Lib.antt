@@ -1,2 +1,1 @@
-pub mod Styles
 pub mod Told

@@ -1,10 +1,7 @@
-//! Whole sessions written as rows of text: the words of a row, what plays it, and the tests of
-//! `keyline`.
+//! Tests of `keyline`: single calls, and whole sessions.
 #![tactic(auto)]
 
 #[cfg(test)]
 mod calls;
-pub mod rows;
 #[cfg(test)]
 mod sessions;
-pub mod words;

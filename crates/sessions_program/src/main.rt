@@ -15,9 +15,9 @@ mod drawings;
 mod edits;
 
 use anyhow::Result;
-use session_tests::rows::each::told_of_each;
-use session_tests::rows::play::{Played, play};
-use session_tests::rows::refusals::{play_grown, play_refused};
+use session_rows::rows::each::told_of_each;
+use session_rows::rows::play::{Played, play};
+use session_rows::rows::refusals::{play_grown, play_refused};
 use std::{env, fs, io};
 
 const FILES: [&str; 11] = [

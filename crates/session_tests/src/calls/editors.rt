@@ -1,10 +1,10 @@
 //! Editors that return one line per call.
 
-use crate::words::notation::display_meant;
 use keyline::{
     Ending, HelperParts, LineEditor, ReadlineError, SliceSource, Source, StandardHighlighter,
     VecSink, session_builder,
 };
+use session_rows::words::notation::display_meant;
 use stand_ins::rows::{Player, raised, rows_hold, trimmed};
 use std::alloc::{AllocError, Global};
 use std::test::Fail;

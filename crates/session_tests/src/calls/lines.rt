@@ -1,9 +1,9 @@
 //! Lines returned one by one, each with its own columns and prompt; how a line begins after another
 //! one failed; and entries added to a history by hand.
 
-use crate::words::notation::{display_meant, typed};
 use keyline::prompter::Prompter;
 use keyline::{Bindings, Config, History, ReadlineError, Session, SliceSource, VecSink, laws};
+use session_rows::words::notation::{display_meant, typed};
 use stand_ins::rows::{Player, raised, rows_hold, trimmed};
 use stand_ins::tables::{meant_bytes, pictured_bytes};
 use std::alloc::{AllocError, Global};

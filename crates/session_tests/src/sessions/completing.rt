@@ -3,12 +3,12 @@
 ghost use Rattle.std.specs.Prelude.{[], ◌∷◌, false, if◌then◌else◌, bytes_eq, codes};
 ghost use Rattle.line_keys.specs.Replies.{gives_unless};
 
-use crate::rows::play::Left;
 use crate::sessions::fixtures::{ending_and_lines, told};
 use keyline::{
     Bindings, Config, FilenameCompleter, HelperParts, HookFault, Listed, Lister, ReadlineError,
     Session, SliceSource, VecSink,
 };
+use session_rows::rows::play::Left;
 use stand_ins::rows::{Player, rows_hold};
 use stand_ins::tables::meant_bytes;
 use std::alloc::Global;

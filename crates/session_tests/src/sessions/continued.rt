@@ -1,9 +1,9 @@
 //! One session after another. Other sessions are in the rows of `sessions_program`.
 
-use crate::rows::play::ended;
 use crate::sessions::fixtures::plain;
-use crate::words::notation::display_meant;
 use keyline::{Ended, ReadlineError, Sink, SliceSource, Source, VecSink};
+use session_rows::rows::play::ended;
+use session_rows::words::notation::display_meant;
 use stand_ins::rows::raised;
 use std::alloc::{AllocError, Global};
 use std::process::Abort;

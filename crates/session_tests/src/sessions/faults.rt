@@ -2,12 +2,12 @@
 
 ghost use Rattle.std.specs.Prelude.{◌≡◌, false};
 
-use crate::rows::play::{Left, copied, ended, left_of};
 use crate::sessions::fixtures::{plain, told};
-use crate::words::notation::{display_meant, field, setting_of};
 use keyline::{
     Bindings, Config, Ending, ReadlineError, Session, Sink, SliceSource, Source, Unopened, VecSink,
 };
+use session_rows::rows::play::{Left, copied, ended, left_of};
+use session_rows::words::notation::{display_meant, field, setting_of};
 use stand_ins::rows::{Player, raised, rows_hold};
 use stand_ins::sinks::FailingSink;
 use stand_ins::sources::Faltering;

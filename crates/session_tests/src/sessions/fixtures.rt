@@ -1,8 +1,8 @@
 //! Shared by the tests: the result of a session, in words.
 
-use crate::rows::play::Left;
-use crate::words::notation::{Setting, display_meant, setting_of};
 use keyline::Ending;
+use session_rows::rows::play::Left;
+use session_rows::words::notation::{Setting, display_meant, setting_of};
 use stand_ins::tables::{or_nothing, pictured_bytes};
 use std::alloc::{AllocError, Global};
 

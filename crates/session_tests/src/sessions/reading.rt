@@ -1,12 +1,12 @@
 //! Sessions over std's readers and writers: keys in pieces, and devices that share one log.
 
-use crate::rows::play::{ended, left_of};
 use crate::sessions::fixtures::{plain, told};
-use crate::words::notation::display_meant;
 use keyline::{
     Bindings, Cmd, Config, EditMode, Ended, Ending, Event, EventHandler, KeyEvent, ReadSource,
     ReadlineError, Sink, SliceSource, Source, VecSink, WriteSink, session_builder,
 };
+use session_rows::rows::play::{ended, left_of};
+use session_rows::words::notation::display_meant;
 use stand_ins::devices::{Log, LoggedReader, LoggedWriter, Pieces, Turns};
 use stand_ins::rows::{Player, raised, rows_hold};
 use std::alloc::{AllocError, Global};

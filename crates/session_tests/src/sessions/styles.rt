@@ -1,11 +1,11 @@
 //! Styles that are turned on and off between lines. Other sessions with styles are in the rows of
 //! `sessions_program`.
 
-use crate::words::notation::display_meant;
 use keyline::{
     Bindings, Config, Decides, Ended, Helper, HelperParts, ReadlineError, Session, Sink,
     SliceSource, Source, StandardHighlighter, VecSink,
 };
+use session_rows::words::notation::display_meant;
 use std::alloc::Global;
 use std::test::Fail;
 

@@ -137,7 +137,7 @@ impl Adviser<'_> {
 
 impl Completer for Adviser<'_> {
     ghost use Rattle.std.specs.Prelude.{◌∷◌, [], ◌++◌};
-    ghost use Rattle.session_tests.specs.declared.words.advice.Offer.TheVariants.{Nothing, One, Two};
+    ghost use Rattle.session_rows.specs.declared.words.advice.Offer.TheVariants.{Nothing, One, Two};
 
     type Candidate = WholeWord;
 
@@ -217,7 +217,7 @@ impl<'a> Hinter for Adviser<'a> {
 
 impl Highlighter for Adviser<'_> {
     ghost use Rattle.std.specs.Prelude.{◌||◌};
-    ghost use Rattle.session_tests.specs.Styles.{text_with_styles};
+    ghost use Rattle.session_rows.specs.Styles.{text_with_styles};
 
     ghost marks = { λ self. record {
       marked = λ line pos kind. (pos == self.marked_at) || nat_le self.marks_from (length line);
@@ -272,7 +272,7 @@ impl Highlighter for Adviser<'_> {
 
 impl Validator for Adviser<'_> {
     ghost use Rattle.line_help.specs.declared.helpers.validate.ValidationResult.TheVariants as results;
-    ghost use Rattle.session_tests.specs.declared.words.advice.Verdict.TheVariants.{Incomplete, Invalid, InvalidTold, Valid, ValidTold};
+    ghost use Rattle.session_rows.specs.declared.words.advice.Verdict.TheVariants.{Incomplete, Invalid, InvalidTold, Valid, ValidTold};
 
     ghost verdict_of = { λ self text. gives_unless (nat_le self.verdict_fails_from (length text))
         (elim (if nat_le self.later_from (length text) then self.later else self.verdict) [

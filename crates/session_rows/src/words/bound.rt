@@ -26,7 +26,7 @@ pub enum Answering {
 impl ConditionalEventHandler for Answering {
     ghost use Rattle.std.specs.Prelude.{Some};
     ghost use Rattle.line_keys.specs.Replies.{gives};
-    ghost use Rattle.session_tests.specs.declared.words.bound.Answering.TheVariants as kinds;
+    ghost use Rattle.session_rows.specs.declared.words.bound.Answering.TheVariants as kinds;
     ghost use Rattle.stand_ins.specs.Handlers.{hint_or_kill, one_way};
 
     ghost meaning = { λ h s. elim h [

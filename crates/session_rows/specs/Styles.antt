@@ -6,7 +6,7 @@ use Rattle.line_help.specs.declared.helpers.style.Part.TheVariants.{Prompt, Line
 use Rattle.line_help.specs.declared.helpers.style.Span.{Span}
 use Rattle.line_help.specs.declared.helpers.style.Style.{Style}
 use Rattle.line_help.specs.Paints.{plain}
-use Rattle.session_tests.specs.declared.words.styles.Styles.{Styles}
+use Rattle.session_rows.specs.declared.words.styles.Styles.{Styles}
 
 -- so many bytes after those that are plain
 abbrev pub behind_plain : ℕ → ℕ → Style → Span × Span

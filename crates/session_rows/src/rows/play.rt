@@ -246,6 +246,13 @@ pub fn ended<S: Source + Drop, D: Sink + Drop, L: Sink + Drop, T: Sink + Drop>(
     handed_back(alloc, setting, source, display, lines, text, &mut handed)
 }
 
+/// A result with what `tell_handed` adds to it.
+fn with_handed(setting: &Setting<'_>, left: Left, handed: &[u8]) -> Result<Left, AllocError> {
+    let mut left = left;
+    tell_handed(setting, &mut left, handed)?;
+    Ok(left)
+}
+
 /// Also writes the returned lines, if they differ from those in the sink of lines, except for one
 /// that a failure cut. If they don't differ, and for a session that was run, it takes no memory.
 fn tell_handed(setting: &Setting<'_>, left: &mut Left, handed: &[u8]) -> Result<(), AllocError> {
@@ -274,10 +281,19 @@ fn left_in_trays<S: Source + Drop>(
     );
     let mut handed = Vec::new(alloc);
     let end = handed_back(alloc, setting, source, display, lines, text, &mut handed)?;
+    raised(copied_with(alloc, setting, &end, &handed))
+}
+
+/// A copy of what a session over such sinks leaves, with the returned lines.
+fn copied_with<S: Source>(
+    alloc: Global,
+    setting: &Setting<'_>,
+    end: &Ended<S, FailingSink, FailingSink, FailingSink>,
+    handed: &[u8],
+) -> Result<Left, AllocError> {
     let (shown, lines) = (end.display.bytes(), end.lines.bytes());
-    let mut left = copied(alloc, end.ending, shown, lines, end.text.bytes())?;
-    tell_handed(setting, &mut left, &handed)?;
-    Ok(left)
+    let left = copied(alloc, end.ending, shown, lines, end.text.bytes())?;
+    with_handed(setting, left, handed)
 }
 
 /// What a session leaves, copied.
@@ -319,14 +335,13 @@ pub fn left_of<S: Source + Drop>(
     );
     let mut handed = Vec::new(alloc);
     let end = handed_back(alloc, setting, source, display, lines, text, &mut handed)?;
-    let mut left = Left {
+    let left = Left {
         ending: end.ending,
         lines: end.lines.into_bytes(),
         saved: end.text.into_bytes(),
         shown: end.display.into_bytes(),
     };
-    tell_handed(setting, &mut left, &handed)?;
-    Ok(left)
+    raised(with_handed(setting, left, &handed))
 }
 
 /// A result, in words.

@@ -6,7 +6,7 @@
 
 ghost use Rattle.std.specs.Prelude.{◌≡◌};
 ghost use Rattle.line_help.specs.Paints.{IsNextSpan};
-ghost use Rattle.session_tests.specs.Styles.{spans_of, text_with_styles};
+ghost use Rattle.session_rows.specs.Styles.{spans_of, text_with_styles};
 
 use crate::words::notation::after;
 use line_help::{Colour, Hue, Mark, Part, Span, Style};
