@@ -20,9 +20,14 @@ ROW_PROGRAM = built("sessions_program")
 # Columns of the rows, which most lines fill once or twice.
 COLUMNS = (2, 3, 5, 10, 20, 40, 80, 200)
 LEFT, RIGHT, HOME, END, BACKSPACE = b"\x1b[D", b"\x1b[C", b"\x01", b"\x05", b"\x7f"
-# Ctrl-D, Ctrl-K, Ctrl-T, Ctrl-U, Ctrl-W, Ctrl-Y, Ctrl-_, M-d, M-b, M-f, M-u, and M-3 before a letter.
-EDITS = [b"\x04", b"\x0b", b"\x14", b"\x15", b"\x17", b"\x19", b"\x1f", b"\x1bd", b"\x1bb", b"\x1bf", b"\x1bu", b"\x1b3x"]
-VI = [b"h", b"l", b"0", b"$", b"x", b"X", b"D", b"dw", b"db", b"u", b"p", b"~", b"rz", b"iq\x1b", b"aq\x1b", b"3iq\x1b"]
+# Ctrl-D, Ctrl-K, Ctrl-T, Ctrl-U, Ctrl-W, Ctrl-Y, Ctrl-_, M-d, M-b, M-f, M-u, M-y, M-3 before a letter, pasted texts, and Enter after
+# an open bracket.
+EDITS = [b"\x04", b"\x0b", b"\x14", b"\x15", b"\x17", b"\x19", b"\x1f", b"\x1bd", b"\x1bb", b"\x1bf", b"\x1bu", b"\x19\x1by", b"\x1b3x",
+         b"\x1b[200~b\x1b[201~", "\x1b[200~é\n漢c\x1b[201~".encode(), b"\x05(\r"]
+VI = [b"h", b"l", b"0", b"$", b"x", b"X", b"D", b"dw", b"db", b"u", b"p", b"P", b"~", b"rz", "r漢".encode(), b"Rq\x1b", b"cw\x1b", b"iq\x1b",
+      b"aq\x1b", b"3iq\x1b"]
+# A history that gives hints, and brackets that are matched.
+HELPED = ("helped", "loaded:#V2␊abc␠de(f)␊b漢␊c␠a(b)␊deef␊")
 # Characters that stand apart from one another, and others: marks, tones of skin, joiners, syllables in parts, halves of a flag, a
 # linker and consonants after it.
 APART = ["é", "я", "漢", "字", "한", "👍", "🔥"]
@@ -52,6 +57,7 @@ def session(rng):
     others = rng.choice([0.05, 0.05, 0.5])
     line = b"".join(b"\x16\n" if rng.random() < 0.02 else typed(rng, others / 2) for _ in range(min(length, 200)))
     words = (f"columns:{columns}", "modal") + rng.choice([(), ("tabs",)]) + (("vi",) if mode == "vi" else ())
+    words += rng.choice([(), (), HELPED, ("colours",) + HELPED])
     keys = [line, b"\x1b" if mode == "vi" else rng.choice([HOME, END])]
     return words, keys + [edit(rng, mode, others) for _ in range(rng.randrange(1, 39))]
 

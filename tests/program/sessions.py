@@ -102,10 +102,11 @@ class Row:
         return b"\t" in self.lines + self.loaded + self.prompt or re.search(rb"\x1b\[200~.*\t|[\x11\x16]\t", self.keys) is not None
 
     def is_drawn_in_part(self):
-        """Whether a row may show a character that `--extended` draws alone, at the end of a line: one that isn't ASCII is typed,
-        or a line without a paste fills its row."""
-        typed = re.sub(rb"\x1b\[200~.*?\x1b\[201~", b"", self.keys, flags=re.DOTALL)
-        return not typed.isascii() or typed == self.keys and b"\r\n\x1b[m\x1b[m" in (self.display or b"")
+        """Whether a row shows a change that `--extended` draws in part: a text is pasted, a character that isn't ASCII is typed,
+        or a line fills its row."""
+        if self.display is None:
+            return False
+        return NAMED["Paste"] in self.keys or not self.keys.isascii() or b"\r\n\x1b[m\x1b[m" in self.display
 
     def is_played(self):
         """Whether the program can play the row: it binds no key, gives no hint, keeps a hundred lines, lists candidates, and

@@ -76,7 +76,8 @@ impl CallLog {
 /// A drawing is `draw '> a|b{c}' at 0,3 to 0,5`. It has prompt, line with a bar at the cursor, and
 /// hint or message in braces, then the place of the cursor and the end. `below 2` follows if the
 /// older drawing's cursor is in row 2, and `fresh` if there is no older one. If a highlighter is
-/// passed in, `lit` follows, then `marked` if the line is, and `told` if a message follows it.
+/// passed in, `lit` follows, then `marked` if the line is, and `told` if a message follows it. The
+/// rest of a line is `rest 'b{c}' at 0,3 to 0,5` behind the move to where it begins.
 #[derive(Drop)]
 pub struct CallList {
     pub log: CallLog,
@@ -165,6 +166,23 @@ fn drawing(
     )?;
     tell_rest(&mut call, old, lit)?;
     Ok(call)
+}
+
+// The rest of a line, and what follows it.
+fn hinted(alloc: Global, rest: &str, hint: Option<&str>) -> Result<String, AllocError> {
+    let mut text = pictured(alloc, rest)?;
+    if let Some(hint) = hint {
+        tell_hint(alloc, &mut text, hint)?;
+    }
+    Ok(text)
+}
+
+// Its drawing in words.
+fn rest_drawing(alloc: Global, text: &str, new: &Layout, lit: &str) -> Result<String, AllocError> {
+    format!(in alloc;
+        "rest '{text}' at {},{} to {},{}{lit}",
+        new.cursor.row, new.cursor.col, new.end.row, new.end.col
+    )
 }
 
 // Where the drawing of a text ends that starts at a place, as a terminal's renderer measures it.
@@ -280,6 +298,28 @@ impl Renderer for CallList {
         let log = &mut self.log;
         log.note(format!(in log.alloc; "append '{text}' at {},{}", at.row, at.col))?;
         Ok(self.calculate_position(text, at))
+    }
+
+    fn refresh_rest<H: Highlighter>(
+        &mut self,
+        rest: &str,
+        hint: Option<&str>,
+        old: Position,
+        at: Position,
+        new_layout: &Layout,
+        highlighter: Option<&H>,
+        told: bool,
+    ) -> Result<(), ReadlineError> {
+        self.move_cursor(old, at)?;
+        let lit = match highlighter {
+            Some(_) => lit_words(false, told && hint.is_some()),
+            None => "",
+        };
+        let call = match hinted(self.log.alloc, rest, hint) {
+            Ok(text) => rest_drawing(self.log.alloc, text.as_str(), new_layout, lit),
+            Err(refusal) => Err(refusal),
+        };
+        self.log.note(call)
     }
 
     fn move_cursor_at_leftmost(&mut self) -> Result<(), ReadlineError> {

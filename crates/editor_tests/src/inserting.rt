@@ -120,10 +120,6 @@ const INSIDE: &str = "
     a|b: SelfInsert 1 x = ax|b / put 'x' before 'b' 0,4 0,5
     ab␊|c: SelfInsert 1 x = ab␊x|c / put 'x' before 'c' 1,1 1,2
     ab|: SelfInsert 1 c = abc| / append 'c' at 0,4
-    a|b: SelfInsert 2 x = axx|b / draw '> axx|b' at 0,5 to 0,6
-    a|b: SelfInsert 1 é = aé|b / draw '> aé|b' at 0,4 to 0,5
-    é|b: SelfInsert 1 x = éx|b / draw '> éx|b' at 0,4 to 0,5
-    a|b␊c: SelfInsert 1 x = ax|b␊c / draw '> ax|b␊c' at 0,4 to 1,1
 
     columns: 10 = nothing
     abcdef|g: SelfInsert 1 x = abcdefx|g / put 'x' before 'g' 0,9 1,0
@@ -135,7 +131,63 @@ const INSIDE: &str = "
     |abcdefghijklmnopqrstuvwxyzabcdefghijklmnopqrst: SelfInsert 1 x = x|abcdefghijklmnopqrstuvwxyzabcdefghijklmnopqrst / draw '> x|abcdefghijklmnopqrstuvwxyzabcdefghijklmnopqrst' at 1,1 to 24,1 below 1
 ";
 
-const TABLES: [&str; 4] = [INSERTIONS, HINTS_AND_HIGHLIGHTS, AFTER_TABS, INSIDE];
+// From the changed place on, if lines are drawn in part.
+const FROM_A_PLACE: &str = "
+    partial: yes = nothing
+    a|b: SelfInsert 2 x = axx|b / move 0,3 to 0,3; rest 'xxb' at 0,5 to 0,6
+    a|b: SelfInsert 1 é = aé|b / move 0,3 to 0,3; rest 'éb' at 0,4 to 0,5
+    é|b: SelfInsert 1 x = éx|b / move 0,3 to 0,3; rest 'xb' at 0,4 to 0,5
+    |漢字: SelfInsert 1 x = x|漢字 / move 0,2 to 0,2; rest 'x漢字' at 0,3 to 0,7
+    a|b␊c: SelfInsert 1 x = ax|b␊c / move 0,3 to 0,3; rest 'xb␊c' at 0,4 to 1,1
+    é|b␊漢: SelfInsert 1 x = éx|b␊漢 / move 0,3 to 0,3; rest 'xb␊漢' at 0,4 to 1,2
+    漢|: Newline = 漢␊| / move 0,4 to 0,4; rest '␊' at 1,0 to 1,0
+    a|b: Newline = a␊|b / move 0,3 to 0,3; rest '␊b' at 1,0 to 1,1
+    ab|: SelfInsert 1 ␉ = ab␉| / draw '> ab␉|' at 0,5 to 0,5
+    ␉|b: SelfInsert 1 x = ␉x|b / draw '> ␉x|b' at 0,4 to 0,5
+    e|: SelfInsert 1 \u{301} = e\u{301}| / draw '> e\u{301}|' at 0,3 to 0,3
+    a|\u{301}b: SelfInsert 1 x = ax|\u{301}b / draw '> ax|\u{301}b' at 0,4 to 0,5
+
+    a|b: Insert 1 xy = axy|b / move 0,3 to 0,3; rest 'xyb' at 0,5 to 0,6
+    a|b: Insert 1 x␊y = ax␊y|b / move 0,3 to 0,3; rest 'x␊yb' at 1,1 to 1,2
+    a|b: Insert 0 xy = a|b / move 0,3 to 0,3; rest 'b' at 0,3 to 0,4
+    a|b: Insert 1 = a|b /
+
+    a|bcd: ReplaceChar 2 x = ax|xd / move 0,3 to 0,3; rest 'xxd' at 0,4 to 0,6
+    ab|c: ReplaceChar 1 漢 = ab|漢 / move 0,4 to 0,4; rest '漢' at 0,4 to 0,6
+    |e\u{301}b: ReplaceChar 1 x = |xb / move 0,2 to 0,2; rest 'xb' at 0,2 to 0,4
+    abc|: ReplaceChar 1 x = abc| /
+    a|bc: Overwrite x = ax|c / move 0,3 to 0,3; rest 'xc' at 0,4 to 0,5
+    |漢字: Overwrite x = x|字 / move 0,2 to 0,2; rest 'x字' at 0,3 to 0,5
+    a|bc: Overwrite \u{301} = a\u{301}|c / draw '> a\u{301}|c' at 0,3 to 0,4
+    abc|: Overwrite x = abc| /
+
+    columns: 10 = nothing
+    éabcdef|gh: SelfInsert 1 x = éabcdefx|gh / move 0,9 to 0,9; rest 'xgh' at 1,0 to 1,2
+    éabcdefghi|j: SelfInsert 1 x = éabcdefghix|j / move 1,2 to 1,2; rest 'xj' at 1,3 to 1,4
+    columns: 80 = nothing
+
+    history: abcd = nothing
+    helper: Valid = nothing
+    a|: SelfInsert 1 b = ab| / move 0,3 to 0,3; rest 'b{cd}' at 0,4 to 0,6
+    ab|: Repaint; SelfInsert 1 x = abx| / move 0,4 to 0,4; rest 'x' at 0,5 to 0,5
+    ab|: Repaint; SelfInsert 1 x; SelfInsert 1 y = abxy| / append 'y' at 0,5
+    ab|: Repaint; SelfInsert 1 c = abc| / move 0,4 to 0,4; rest 'c{d}' at 0,5 to 0,6
+
+    history: = nothing
+    colours: yes = nothing
+    marks: 3 = nothing
+    ab|: SelfInsert 1 c = abc| / draw '> abc|' at 0,5 to 0,5 lit marked
+    ab|: SelfInsert 1 c; SelfInsert 1 d = abcd| / draw '> abcd|' at 0,6 to 0,6 lit
+    ab|: SelfInsert 2 d = abdd| / move 0,4 to 0,4; rest 'dd' at 0,6 to 0,6 lit
+";
+
+const TABLES: [&str; 5] = [
+    INSERTIONS,
+    HINTS_AND_HIGHLIGHTS,
+    AFTER_TABS,
+    INSIDE,
+    FROM_A_PLACE,
+];
 
 #[test]
 fn insertions(rt: HostRuntime) -> Result<(), Fail> {

@@ -114,10 +114,6 @@ const INSIDE: &str = "
     one |two three: Kill ForwardWord 1 AfterEnd Emacs = one | three / move 0,6 to 0,6; take out 3 before ' three' 0,12
     ab␊c|de: Kill ForwardChar 1 = ab␊c|e / move 1,1 to 1,1; take out 1 before 'e' 1,2
     a|bc: Kill EndOfLine = a| / move 0,3 to 0,3; clear row
-    a|b␊c: Kill ForwardChar 1 = a|␊c / draw '> a|␊c' at 0,3 to 1,1
-    a|␊bc: Kill ForwardChar 1 = a|bc / draw '> a|bc' at 0,3 to 0,5
-    é|ab: Kill ForwardChar 1 = é|b / draw '> é|b' at 0,3 to 0,4
-    a|éb: Kill ForwardChar 1 = a|b / draw '> a|b' at 0,3 to 0,4
 
     columns: 10 = nothing
     |abcdefghij: Kill ForwardChar 1 = |bcdefghij / move 0,2 to 0,2; take out 1 before 'bcdefghij' 1,1
@@ -131,7 +127,28 @@ const INSIDE: &str = "
     abc|defghijklmnopqrst: Kill ForwardChar 2 = abc|fghijklmnopqrst / move 0,5 to 0,5; take out 2 before 'fghijklmnopqrst' 2,0
 ";
 
-const TABLES: [&str; 4] = [DRAWN, KEPT, WITH_HINTS, INSIDE];
+// From the changed place on, if lines are drawn in part.
+const FROM_A_PLACE: &str = "
+    partial: yes = nothing
+    a|b␊c: Kill ForwardChar 1 = a|␊c / move 0,3 to 0,3; rest '␊c' at 0,3 to 1,1
+    one two|␊c: Kill BackwardWord 1 Emacs = one |␊c / move 0,9 to 0,6; rest '␊c' at 0,6 to 1,1
+    a|␊bc: Kill ForwardChar 1 = a|bc / move 0,3 to 0,3; rest 'bc' at 0,3 to 0,5
+    é|ab: Kill ForwardChar 1 = é|b / move 0,3 to 0,3; rest 'b' at 0,3 to 0,4
+    a|éb: Kill ForwardChar 1 = a|b / move 0,3 to 0,3; rest 'b' at 0,3 to 0,4
+    漢字|a␊b: Kill BackwardChar 1 = 漢|a␊b / move 0,6 to 0,4; rest 'a␊b' at 0,4 to 1,1
+    ab␊漢c|d␊ef: Kill LineUp 1 = |ef / move 1,3 to 0,2; rest 'ef' at 0,2 to 0,4
+    e\u{301}|: Kill BackwardChar 1 = | / move 0,3 to 0,2; rest '' at 0,2 to 0,2
+    ex|\u{301}: Kill BackwardChar 1 = e|\u{301} / draw '> e|\u{301}' at 0,3 to 0,3
+    |abc: Replace ForwardChar 1 with x = |xbc / move 0,2 to 0,2; take out 1 before 'bc' 0,4; move 0,2 to 0,2; rest 'xbc' at 0,2 to 0,5
+
+    history: abcd = nothing
+    helper: Valid = nothing
+    abx|: Repaint; Kill BackwardChar 1 = ab| / move 0,5 to 0,4; rest '{cd}' at 0,4 to 0,6
+    ab|: Repaint; Kill BackwardChar 2 = | / move 0,4 to 0,2; rest '' at 0,2 to 0,2
+    abx|y: Repaint; Kill BackwardChar 1 = ab|y / move 0,5 to 0,4; take out 1 before 'y' 0,5
+";
+
+const TABLES: [&str; 5] = [DRAWN, KEPT, WITH_HINTS, INSIDE, FROM_A_PLACE];
 
 #[test]
 fn kills(rt: HostRuntime) -> Result<(), Fail> {

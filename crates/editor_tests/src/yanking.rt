@@ -33,7 +33,23 @@ const YANKS: &str = "
     one two|: Yank 0 Before; YankPop = |  / 'two' / one| 
 ";
 
+// From the changed place on, if lines are drawn in part.
+const FROM_A_PLACE: &str = "
+    partial: yes = nothing
+    a|bc: Kill EndOfLine; Yank 1 Before = abc| / move 0,3 to 0,3; rest 'bc' at 0,5 to 0,5
+    a|bc: Kill EndOfLine; Yank 0 Before = a| / move 0,3 to 0,3; rest '' at 0,3 to 0,3
+    a b|漢: Kill BackwardWord 1 Emacs; Yank 1 Before = a b|漢 / move 0,4 to 0,4; rest 'b漢' at 0,5 to 0,7
+    a|bc: Kill EndOfLine; Move BeginningOfLine; Yank 1 After = abc| / move 0,2 to 0,3; rest 'bc' at 0,5 to 0,5
+    ab|c: Kill ViCharSearch 1 BackwardAfter b; Yank 1 After = abc| / move 0,4 to 0,5; rest '' at 0,5 to 0,5
+    \u{301}|: Kill BackwardChar 1; SelfInsert 1 e; Insert 1 \u{301} = e\u{301}| / draw '> e\u{301}|' at 0,3 to 0,3
+
+    first: Kill BackwardWord 1 Emacs; Move BackwardChar 1; Kill BackwardWord 1 Emacs = nothing
+    one two|: Yank 1 Before; YankPop = two|  / move 0,5 to 0,2; rest 'two ' at 0,5 to 0,6
+    漢 one two|: Yank 1 Before; YankPop = 漢 two|  / move 0,8 to 0,5; rest 'two ' at 0,8 to 0,9
+    one two|: Yank 0 Before; YankPop = |  /
+";
+
 #[test]
 fn yanks(rt: HostRuntime) -> Result<(), Fail> {
-    holds(&rt, &[YANKS])
+    holds(&rt, &[YANKS, FROM_A_PLACE])
 }

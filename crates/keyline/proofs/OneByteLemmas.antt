@@ -15,7 +15,7 @@ use Rattle.line_keys.specs.declared.command.Cmd.{Cmd}
 use Rattle.line_keys.specs.declared.command.Cmd.TheVariants.{SelfInsert}
 use Rattle.line_editor.specs.RenderCalls.{Marks}
 use Rattle.line_editor.specs.RenderCalls.Call.{Append}
-use Rattle.line_editor.specs.Drawing.{redraw_of, ask_anew_effect}
+use Rattle.line_editor.specs.Drawing.{since, ask_anew_effect}
 use Rattle.line_keys.specs.Replies.{Reply, fails}
 use Rattle.line_editor.specs.Asks.{shown_in}
 use Rattle.line_editor.specs.Inserting.{is_bare, may_be_typed, may_be_appended, may_be_put_in, insertion_way, put_redraw, show_inserted_effect, insert_char}
@@ -25,7 +25,7 @@ use Rattle.line_editor.specs.LineScripts.{Meets, LineState, turn_start, line_pla
 use Rattle.line_editor.specs.Modal.{Modal, is_at_rest}
 use Rattle.line_editor.specs.NextCommand.{line_phrase}
 use Rattle.line_editor.specs.Redraws.{RedrawCalls, full, nothing_asked, move_call, char_call, append_call, erase_call, put_in_short, taken_out_short, fits_in_row, may_type, may_take, may_erase, may_put_in, may_take_out}
-use Rattle.line_editor.specs.Redraws.Redraw.{Drawn, Moved, Typed, Appended, Taken, Erased, PutIn, TakenOut, Bared, ToEnd, Beeped, Cleared}
+use Rattle.line_editor.specs.Redraws.Redraw.{Drawn, Moved, Typed, Appended, Taken, Erased, PutIn, TakenOut, DrawnFrom, Bared, ToEnd, Beeped, Cleared}
 use Rattle.line_editor.specs.Sights.{Sight, sight, Fits}
 use Rattle.line_editor.specs.EditSteps.{one}
 use Rattle.line_editor.specs.Values.{shown_marks, Value, Setting, Effect, EditStep, help_steps, hint_reply, no_effect}
@@ -90,6 +90,7 @@ one_tells s own l x (Draws v m (TakenOut prompt count text at)) h fits = by_test
         → TellsSight (if b then taken_out_short l ((ruler_of s).measure (take at text) l.prompt_size) count (drop at text) else full (ruler_of s) (shown_marks v m) l prompt true text at None).layout (sight x (Draws v m (TakenOut prompt count text at)))
     by_test true e = record { info_is = not-true l.has_info (and_parts (not l.has_info) _ e).0; given_is = h.given_is ∙ fits.0 }
     by_test false e = record { info_is = refl; given_is = refl }
+one_tells s own l x (Draws v m (DrawnFrom prompt from text at info)) h fits = record { info_is = refl; given_is = refl }
 one_tells s own l x (Draws v m (Bared prompt text at)) h fits = by_test l.default_prompt (h.given_is ∙ fits)
   where
     by_test : (b : Bool) → b ≡ true → TellsSight (if b then nothing_asked l else full (ruler_of s) (shown_marks v m) l prompt true text at None).layout x
@@ -115,13 +116,13 @@ printed : (tabs : Bool) (v : Value) (c : ℕ) → may_be_typed tabs c 1 v ≡ tr
 printed tabs v c alone = (and_parts (is_printable c) _ (and_parts (is_bare v) (is_typed_at_end tabs c v.line.text v.line.place) alone).1).0
 
 -- its drawing goes this way, behind a step that sends nothing and what the helper is asked
-shown_short : (a : Setting) (u : Value) (step : EditStep) (c : ℕ) (b : Bool) (way : Way) → b ≡ true
-    → (let shown = show_inserted_effect c way a u in let e : Effect = if b then record { value = shown.value; steps = step ∷ shown.steps } else no_effect a u in
-    is_bare e.value ≡ true → e.steps ≡ step ∷ (help_steps u (hint_reply a u) ++ (Draws e.value a.marks (put_redraw way c a e.value) ∷ [])))
-shown_short a u step c true way room after =
+shown_short : (a : Setting) (u : Value) (step : EditStep) (c : ℕ) (b : Bool) (way : Way) (from : Option ℕ) → b ≡ true
+    → (let shown = show_inserted_effect c way from a u in let e : Effect = if b then record { value = shown.value; steps = step ∷ shown.steps } else no_effect a u in
+    is_bare e.value ≡ true → e.steps ≡ step ∷ (help_steps u (hint_reply a u) ++ (Draws e.value a.marks (put_redraw way c from a e.value) ∷ [])))
+shown_short a u step c true way from room after =
     let w = (ask_anew_effect a u).value in
-    ap (λ b. step ∷ (help_steps u (hint_reply a u) ++ (Draws w a.marks (put_redraw (if b then way else Whole) c a w) ∷ []))) after
-shown_short a u step c false way room after = cc
+    ap (λ b. step ∷ (help_steps u (hint_reply a u) ++ (Draws w a.marks (put_redraw (if b then way else Whole) c from a w) ∷ []))) after
+shown_short a u step c false way from room after = cc
 
 -- neither sends anything
 help_bytes : {A : Type 0} (s : Screen) (l : Layout) (u : Value) (step : EditStep) (reply : Option (Reply A)) (steps : List EditStep) → one (ruler_of s) l step ≡ nothing_asked l
@@ -129,25 +130,25 @@ help_bytes : {A : Type 0} (s : Screen) (l : Layout) (u : Value) (step : EditStep
 help_bytes s l u step None steps nothing = ap (λ a. flat_map (bytes_of s) (a.calls ++ (calls_by_screen s a.layout steps).calls)) nothing
 help_bytes s l u step (Some reply) steps nothing = ap (λ a. flat_map (bytes_of s) (a.calls ++ (calls_by_screen s a.layout (Helped u (fails reply) reply.takes ∷ steps)).calls)) nothing
 
-sent_short : (s : Screen) (l : Layout) (a : Setting) (u : Value) (step : EditStep) (c : ℕ) (b : Bool) (way : Way) → b ≡ true
-    → (let shown = show_inserted_effect c way a u in let e : Effect = if b then record { value = shown.value; steps = step ∷ shown.steps } else no_effect a u in
-    is_bare e.value ≡ true → one (ruler_of s) l step ≡ nothing_asked l → bytes_for s l e.steps ≡ bytes_for s l (Draws e.value a.marks (put_redraw way c a e.value) ∷ []))
-sent_short s l a u step c b way room after nothing =
-    let shown = show_inserted_effect c way a u in
+sent_short : (s : Screen) (l : Layout) (a : Setting) (u : Value) (step : EditStep) (c : ℕ) (b : Bool) (way : Way) (from : Option ℕ) → b ≡ true
+    → (let shown = show_inserted_effect c way from a u in let e : Effect = if b then record { value = shown.value; steps = step ∷ shown.steps } else no_effect a u in
+    is_bare e.value ≡ true → one (ruler_of s) l step ≡ nothing_asked l → bytes_for s l e.steps ≡ bytes_for s l (Draws e.value a.marks (put_redraw way c from a e.value) ∷ []))
+sent_short s l a u step c b way from room after nothing =
+    let shown = show_inserted_effect c way from a u in
     let e : Effect = if b then record { value = shown.value; steps = step ∷ shown.steps } else no_effect a u in
-    ap (bytes_for s l) (shown_short a u step c b way room after)
-    ∙ help_bytes s l u step (hint_reply a u) (Draws e.value a.marks (put_redraw way c a e.value) ∷ []) nothing
+    ap (bytes_for s l) (shown_short a u step c b way from room after)
+    ∙ help_bytes s l u step (hint_reply a u) (Draws e.value a.marks (put_redraw way c from a e.value) ∷ []) nothing
 
 -- by its own drawing if the line may be drawn in part, and ends apart; otherwise by its byte
 typed_way : (a : Setting) (v : Value) (c : ℕ) → TypedAtEnd a v c → insertion_way a c 1 v ≡ (if may_be_appended a.config.partial_redraw c 1 v then Alone else AtEnd)
 typed_way a v c t = ap (λ b. if may_be_appended a.config.partial_redraw c 1 v then Alone else if b then AtEnd else if may_be_put_in a.config.partial_redraw c 1 v then Inside else Whole) t.alone
 
 typed_bytes : (s : Screen) (l : Layout) (a : Setting) (v : Value) (c : ℕ) → TypedAtEnd a v c
-    → (let e = insert_char c 1 a v in let way = if may_be_appended a.config.partial_redraw c 1 v then Alone else AtEnd in bytes_for s l e.steps ≡ bytes_for s l (Draws e.value a.marks (put_redraw way c a e.value) ∷ []))
+    → (let e = insert_char c 1 a v in let way = if may_be_appended a.config.partial_redraw c 1 v then Alone else AtEnd in bytes_for s l e.steps ≡ bytes_for s l (Draws e.value a.marks (put_redraw way c (since a v.line.place v) a e.value) ∷ []))
 typed_bytes s l a v c t =
     let e = insert_char c 1 a v in
-    sent_short s l a _ _ c (is_some (insertion c 1 v.line).answer) (insertion_way a c 1 v) t.room t.after refl
-    ∙ ap (λ way. bytes_for s l (Draws e.value a.marks (put_redraw way c a e.value) ∷ [])) (typed_way a v c t)
+    sent_short s l a _ _ c (is_some (insertion c 1 v.line).answer) (insertion_way a c 1 v) (since a v.line.place v) t.room t.after refl
+    ∙ ap (λ way. bytes_for s l (Draws e.value a.marks (put_redraw way c (since a v.line.place v) a e.value) ∷ [])) (typed_way a v c t)
 
 short_bytes : (s : Screen) (l : Layout) (v : Value) (m : Option Marks) (prompt : List ℕ) (c : ℕ) (text : List ℕ) (at : ℕ) → is_printable c ≡ true → may_type (ruler_of s) l ≡ true → bytes_for s l (Draws v m (Typed prompt c text at) ∷ []) ≡ c ∷ []
 short_bytes s l v m prompt c text at printable may =
@@ -174,10 +175,10 @@ alone_bytes s l v m prompt c text at printable may =
     ap (λ b. flat_map (bytes_of s) ((if b then full (ruler_of s) (shown_marks v m) l prompt true text at None else append_call (ruler_of s) l c).calls ++ [])) (not-true l.has_info parts.0)
     ∙ append-nil (bytes_of s (Append (encode_utf8 c) l.cursor)) ∙ letter_bytes s c l.cursor printable parts.1
 
-either_bytes : (s : Screen) (l : Layout) (a : Setting) (v : Value) (c : ℕ) (b : Bool) → is_printable c ≡ true → may_type (ruler_of s) l ≡ true
-    → bytes_for s l (Draws v a.marks (put_redraw (if b then Alone else AtEnd) c a v) ∷ []) ≡ c ∷ []
-either_bytes s l a v c true printable may = alone_bytes s l v a.marks a.prompt c v.line.text v.line.place printable may
-either_bytes s l a v c false printable may = short_bytes s l v a.marks a.prompt c v.line.text v.line.place printable may
+either_bytes : (s : Screen) (l : Layout) (a : Setting) (v : Value) (c : ℕ) (b : Bool) (from : Option ℕ) → is_printable c ≡ true → may_type (ruler_of s) l ≡ true
+    → bytes_for s l (Draws v a.marks (put_redraw (if b then Alone else AtEnd) c from a v) ∷ []) ≡ c ∷ []
+either_bytes s l a v c true from printable may = alone_bytes s l v a.marks a.prompt c v.line.text v.line.place printable may
+either_bytes s l a v c false from printable may = short_bytes s l v a.marks a.prompt c v.line.text v.line.place printable may
 
 turned_steps : (n : ℕ) (a : Setting) (custom : Custom) (k : LineState) (c : ℕ) → is_at_rest k.modal.standing ≡ true → (let phrase = phrase_script n custom (turn_start k) in ReadAlone a k phrase c
     → (made_from a (turn_script n custom) k).steps ≡ (made_from a phrase k).steps ++ (insert_char c 1 a k.value).steps)
@@ -214,4 +215,4 @@ one_byte n s l a custom k c rests alone t may =
     let e = insert_char c 1 a k.value in
     ap (bytes_for s l) (turned_steps n a custom k c rests alone)
     ∙ unasked_bytes s l first e.steps (alone.unasked s l)
-    ∙ typed_bytes s l a k.value c t ∙ either_bytes s l a e.value c (may_be_appended a.config.partial_redraw c 1 k.value) (printed (is_some a.tabs) k.value c t.alone) may
+    ∙ typed_bytes s l a k.value c t ∙ either_bytes s l a e.value c (may_be_appended a.config.partial_redraw c 1 k.value) (since a k.value.line.place k.value) (printed (is_some a.tabs) k.value c t.alone) may

@@ -42,6 +42,7 @@ use Rattle.line_record.specs.Ring.{new_ring}
 use Rattle.line_editor.specs.Accepting.{accept_or_insert}
 use Rattle.line_editor.specs.Asks.{shown_in}
 use Rattle.line_editor.specs.Commands.{in_vi_command, means_of}
+use Rattle.line_editor.specs.Drawing.{since}
 use Rattle.line_editor.specs.LineScripts.{Begins, Keys, Obeys, LineState, LineAsk, turn_start, line_state, left_at, line_plan, line_script, meet_script, phrase_script, played_from, turn_script, line_script_after, turns_script, line_begun}
 use Rattle.line_editor.specs.NextCommand.{ring_after_reset}
 use Rattle.line_editor.specs.Moving.{cursor_moved_if}
@@ -130,7 +131,7 @@ pasted_text : (vi : Bool) (text : List ℕ) (s : Setting) (v : Value) → v.line
 pasted_text vi text s v empty grows =
     let put : Bool = is_some (yanked_in text 1 v.line).answer in
     let before : Value = at_line v.line v in
-    ap (λ l. l.text) (drawn_if (put || false) vi text 1 s before)
+    ap (λ l. l.text) (drawn_if (put || false) vi text 1 (since s before.line.place v) s before)
     ∙ stepped_if put vi _
     ∙ put_into_empty text v.line empty grows
 

@@ -9,16 +9,16 @@ use Rattle.line_buffer.specs.Printable.{is_printable, is_plain, at_simple_end}
 use Rattle.line_buffer.specs.declared.layout.Layout.{Layout}
 use Rattle.line_buffer.specs.declared.layout.Position.{Position}
 use Rattle.line_editor.specs.RenderCalls.{Call, Marks}
-use Rattle.line_editor.specs.RenderCalls.Call.{Draw, Move, Write, Beep, ClearScreen, MoveAndClearToEol, InsertChar, MoveAndDelete, Append, Help}
-use Rattle.line_editor.specs.Redraws.{RedrawCalls, info_text, fresh, layout_of, full, nothing_asked, move_call, column_on, column_back, cell_on, char_call, append_call, erase_call, put_in_short, taken_out_short, fits_in_row, may_type, may_take, may_erase, may_put_in, may_take_out}
-use Rattle.line_editor.specs.Redraws.Redraw.{Drawn, Moved, Typed, Appended, Taken, Erased, PutIn, TakenOut, Bared, ToEnd, Beeped, Cleared}
-use Rattle.line_editor.specs.Sights.{Sight, PartSpans, SameStyles, sight_with, sight_as, no_sight, sight, ended_sight, TypedFits, AppendedFits, TakenFits, ErasedFits, PutInFits, TakenOutFits, Fits}
+use Rattle.line_editor.specs.RenderCalls.Call.{Draw, Move, Write, Beep, ClearScreen, MoveAndClearToEol, InsertChar, MoveAndDelete, Append, DrawRest, Help}
+use Rattle.line_editor.specs.Redraws.{RedrawCalls, info_text, fresh, layout_of, full, nothing_asked, move_call, column_on, column_back, cell_on, char_call, append_call, erase_call, put_in_short, taken_out_short, rest_call, fits_in_row, may_type, may_take, may_erase, may_put_in, may_take_out}
+use Rattle.line_editor.specs.Redraws.Redraw.{Drawn, Moved, Typed, Appended, Taken, Erased, PutIn, TakenOut, DrawnFrom, Bared, ToEnd, Beeped, Cleared}
+use Rattle.line_editor.specs.Sights.{Sight, PartSpans, SameStyles, drawn_spans, sight_with, sight_as, no_sight, sight, ended_sight, TypedFits, AppendedFits, TakenFits, ErasedFits, PutInFits, TakenOutFits, DrawnFromFits, Fits}
 use Rattle.line_editor.specs.EditSteps.{one}
 use Rattle.line_editor.specs.Values.{shown_marks, EditStep}
 use Rattle.line_editor.specs.Values.EditStep.{Draws, Helped, Edits, TakesBack, Takes}
-use Rattle.line_screen.specs.ScreenCalls.{Screen, bytes_of, ruler_of}
-use Rattle.line_screen.specs.Colours.{span_of}
-use Rattle.line_screen.specs.Chain.{View, Good, Inside, LeadsView, empty_view, Types, with_text, Picture, shown_items, finish_of, cursor_of, above}
+use Rattle.line_screen.specs.ScreenCalls.{Screen, bytes_of, ruler_of, styles_of, info_styles}
+use Rattle.line_screen.specs.Colours.{Styles, span_of}
+use Rattle.line_screen.specs.Chain.{View, Good, Inside, LeadsView, empty_view, Types, with_text, with_info_styles, Picture, shown_items, finish_of, cursor_of, above}
 use Rattle.line_screen.specs.Display.{Placed}
 use Rattle.line_screen.specs.Drawing.{DrawnItem, row_break, text_items, place_after}
 use Rattle.line_screen.specs.Laws.{widths, TellsView}
@@ -27,7 +27,7 @@ use Rattle.line_screen.proofs.Fitting.{items_fit, fit_append, after_inside}
 use Rattle.line_screen.proofs.LawLemmas.{calls_lead, place_is_free, measures_go_on}
 use Rattle.line_screen.proofs.Leading.{line_cursor, line_finish, over_again}
 use Rattle.line_screen.proofs.ListLemmas.{filter_none, list_all_true}
-use Rattle.line_screen.proofs.ShortLemmas.{typing_leads, appending_leads, killing_leads, erasing_leads, putting_in_leads, taking_out_leads}
+use Rattle.line_screen.proofs.ShortLemmas.{typing_leads, appending_leads, killing_leads, erasing_leads, putting_in_leads, taking_out_leads, drawing_rest_leads}
 use Rattle.std.proofs.lemmas.List.{take_at, drop_at}
 use Rattle.keyline.specs.Shows.{picture, place_in, view_in, DisplayHolds, Low, LowStep, top_by, above_by}
 
@@ -469,6 +469,58 @@ module _ (s : Screen) (low : 2 ≤ s.columns) (high : s.columns ≤ 1000) where
       (subst (λ n. DisplayHolds s (bytes ++ flat_map (bytes_of s) (after n t.rest).calls) over top (after n t.rest).layout (sight_as m prompt text at None)) (sym t.count_is)
       (subst (DisplayHolds s new over top (after gone t.rest).layout) (sym same) done))
 
+  -- ---- the rest of a line, and what stands after it
+
+  same_info : (m : Option Marks) (prompt text : List ℕ) (at : ℕ) (info : List ℕ) → (drawn_spans m true [] [] 0 info).info ≡ (drawn_spans m true prompt text at info).info
+  same_info None prompt text at info = refl
+  same_info (Some m) prompt text at info = refl
+
+  rest_styles : (m : Option Marks) (x : Sight) (prompt : List ℕ) (from : ℕ) (text : List ℕ) (at : ℕ) (info : Option (List ℕ)) → DrawnFromFits x m prompt from text at info
+      → with_info_styles (styles_of x.spans) (info_styles m (info_text info)) ≡ styles_of (drawn_spans m true prompt text at (info_text info))
+  rest_styles m x prompt from text at info t =
+      let spans = drawn_spans m true prompt text at (info_text info) in
+      let alone = (drawn_spans m true [] [] 0 (info_text info)).info in
+      ap (λ p. styles_of (record { prompt = p; line = x.spans.line; info = alone })) (sym t.prompt_styles)
+      ∙ ap (λ p. styles_of (record { prompt = spans.prompt; line = p; info = alone })) (t.unstyled ∙ sym t.still_unstyled)
+      ∙ ap (λ p. styles_of (record { prompt = spans.prompt; line = spans.line; info = p })) (same_info m prompt text at (info_text info))
+
+  drawn_from_is : (m : Option Marks) (x : Sight) (prompt : List ℕ) (from : ℕ) (text : List ℕ) (at : ℕ) (info : Option (List ℕ)) → DrawnFromFits x m prompt from text at info
+      → (let v : Picture = record { prompt = x.prompt; line = text; place = at; info = info_text info; styles = with_info_styles (styles_of x.spans) (info_styles m (info_text info)) } in v ≡ picture (sight_as m prompt text at info))
+  drawn_from_is m x prompt from text at info t =
+      ap₂ (λ p (styles : Styles). let v : Picture = record { prompt = p; line = text; place = at; info = info_text info; styles = styles } in v) (sym t.prompt_is) (rest_styles m x prompt from text at info t)
+
+  drawn_from_holds : (bytes : List ℕ) (over : List Placed) (top : ℕ) (m : Option Marks) (l : Layout) (x : Sight) (prompt : List ℕ) (from : ℕ) (text : List ℕ) (at : ℕ) (info : Option (List ℕ)) → DisplayHolds s bytes over top l x
+      → DrawnFromFits x m prompt from text at info → Low s (sight_as m prompt text at info)
+      → (let a = rest_call (ruler_of s) m l from text at info in DisplayHolds s (bytes ++ flat_map (bytes_of s) a.calls) over top a.layout (sight_as m prompt text at info))
+  drawn_from_holds bytes over top m l x prompt from text at info h t rows =
+      let w = view_in s top x in
+      let y = sight_as m prompt text at info in
+      let line = t.before ++ t.rest in
+      let v : List ℕ → Picture = λ line. record { prompt = x.prompt; line = line; place = at; info = info_text info; styles = with_info_styles (styles_of x.spans) (info_styles m (info_text info)) } in
+      let new : List ℕ → Layout = λ line. layout_of (ruler_of s) l.prompt_size true line at info in
+      let call : List ℕ → List ℕ → List ℕ → Call = λ before rest line. DrawRest rest info l.cursor (measure_of s.mode s.tab s.columns before l.prompt_size) (new line) m in
+      let same : v line ≡ picture y = ap v (sym t.text_is) ∙ drawn_from_is m x prompt from text at info t in
+      let cursor_low = subst (λ p. (cursor_of s.columns (widths s) p).row ≤ 65535) (sym same) rows.cursor in
+      let finish_low = subst (λ p. (finish_of s.columns (widths s) p).row ≤ 65535) (sym same) rows.finish in
+      let leads = drawing_rest_leads s low high l w t.before t.gone t.rest at info m (tells bytes over top l x h) (no_styles_in x t.unstyled) t.whole t.gone_apart t.rest_apart h.prompt_size cursor_low finish_low in
+      let there : View = record { shown = v line; top = top; place = (new line).cursor } in
+      let good : Good s.columns (widths s) (bytes ++ flat_map (bytes_of s) (call t.before t.rest line ∷ [])) over there = one_led bytes over w there (call t.before t.rest line) h.good leads.0 refl (λ e. cc) in
+      let before_is : t.before ≡ take from text = sym (ap₂ take t.from_is t.text_is ∙ take_at t.before t.rest (length t.before) refl) in
+      let rest_is : t.rest ≡ drop from text = sym (ap₂ drop t.from_is t.text_is ∙ drop_at t.before t.rest (length t.before) refl) in
+      let bytes_are : bytes ++ flat_map (bytes_of s) (call t.before t.rest line ∷ []) ≡ bytes ++ flat_map (bytes_of s) (call (take from text) (drop from text) text ∷ []) =
+      ap₂ (λ before rest. bytes ++ flat_map (bytes_of s) (call before rest line ∷ [])) before_is rest_is
+      ∙ ap (λ line. bytes ++ flat_map (bytes_of s) (call (take from text) (drop from text) line ∷ [])) (sym t.text_is) in
+      let cursor_is : (new line).cursor ≡ cursor_of s.columns (widths s) (picture y) = leads.1 ∙ ap (cursor_of s.columns (widths s)) same in
+      let at_place : there ≡ view_in s top y = ap₂ (λ (p : Picture) q. let b : View = record { shown = p; top = top; place = q } in b) same cursor_is in
+      record {
+        good = subst (λ z. Good s.columns (widths s) z over (view_in s top y)) bytes_are (subst (Good s.columns (widths s) (bytes ++ flat_map (bytes_of s) (call t.before t.rest line ∷ [])) over) at_place good);
+        cursor = ap (λ line. (new line).cursor) t.text_is ∙ cursor_is;
+        finish = ap (λ line. (new line).end) t.text_is ∙ leads.2 ∙ ap (finish_of s.columns (widths s)) same;
+        prompt_size = h.prompt_size ∙ ap (λ p. measure_of s.mode s.tab s.columns p origin) (sym t.prompt_is);
+        info_is = refl;
+        given_is = refl;
+      }
+
   -- ---- no call, also if the session's own prompt stands
 
   still_holds : (bytes : List ℕ) (over : List Placed) (top : ℕ) (l : Layout) (x : Sight) → DisplayHolds s bytes over top l x → DisplayHolds s (bytes ++ []) over top l x
@@ -510,6 +562,7 @@ module _ (s : Screen) (low : 2 ≤ s.columns) (high : s.columns ≤ 1000) where
   step own bytes over top l x (Draws v m (PutIn prompt c text at)) h fits rows = put_in_if bytes over top (shown_marks v m) l x prompt c text at (may_put_in (ruler_of s) l (drop at text)) h fits.0 fits.2 fits.3 fits.4 rows refl
   step own bytes over top l x (Draws v m (TakenOut prompt count text at)) h fits rows =
       taken_out_if bytes over top (shown_marks v m) l x prompt count text at (may_take_out (ruler_of s) l (measure_of s.mode s.tab s.columns (take at text) l.prompt_size) count (drop at text)) h fits.0 fits.2 fits.3 rows refl
+  step own bytes over top l x (Draws v m (DrawnFrom prompt from text at info)) h fits rows = drawn_from_holds bytes over top (shown_marks v m) l x prompt from text at info h fits.2 rows
   step own bytes over top l x (Draws v m (Bared prompt text at)) h fits rows = bared_if bytes over top (shown_marks v m) l x prompt text at l.default_prompt h (h.given_is ∙ fits)
   step own bytes over top l x (Draws v m ToEnd) h fits rows = end_if bytes over top l x (same_cell l.cursor l.end) h (record { finish = rows.finish; cursor = rows.cursor }) refl
   step own bytes over top l x (Draws v m Beeped) h fits rows = same_holds bytes over top l x Beep h refl (λ e. cc)

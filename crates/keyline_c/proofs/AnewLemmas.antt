@@ -16,18 +16,18 @@ use Rattle.line_buffer.specs.declared.layout.TabStops.{TabStops}
 use Rattle.line_config.specs.declared.settings.BellStyle.{BellStyle}
 use Rattle.line_config.specs.declared.settings.BellStyle.TheVariants as Bell
 use Rattle.line_editor.specs.RenderCalls.{Marks, Ruler}
-use Rattle.line_editor.specs.Redraws.{info_text, fresh, full, nothing_asked, move_call, char_call, append_call, erase_call, put_in_short, taken_out_short, cell_on, column_back, may_type, may_take, may_erase, may_put_in, may_take_out}
-use Rattle.line_editor.specs.Redraws.Redraw.{Drawn, Moved, Typed, Appended, Taken, Erased, PutIn, TakenOut, Bared, ToEnd, Beeped, Cleared}
-use Rattle.line_editor.specs.Sights.{Sight, sight_with, sight_as, no_sight, sight, sight_all, spans_by, Fits, FitsAll, TypedFits, PutInFits}
+use Rattle.line_editor.specs.Redraws.{info_text, fresh, full, nothing_asked, move_call, char_call, append_call, erase_call, put_in_short, taken_out_short, rest_call, layout_of, cell_on, column_back, may_type, may_take, may_erase, may_put_in, may_take_out}
+use Rattle.line_editor.specs.Redraws.Redraw.{Drawn, Moved, Typed, Appended, Taken, Erased, PutIn, TakenOut, DrawnFrom, Bared, ToEnd, Beeped, Cleared}
+use Rattle.line_editor.specs.Sights.{Sight, sight_with, sight_as, no_sight, sight, sight_all, spans_by, drawn_spans, Fits, FitsAll, TypedFits, PutInFits}
 use Rattle.line_editor.specs.EditSteps.{one}
 use Rattle.line_editor.specs.Values.{EditStep, Value, shown_marks}
 use Rattle.line_editor.specs.Values.EditStep.{Draws, Helped, Edits, TakesBack, Takes}
-use Rattle.line_screen.specs.ScreenCalls.{Screen, bell_bytes, bytes_of, ruler_of, styles_by}
+use Rattle.line_screen.specs.ScreenCalls.{Screen, bell_bytes, bytes_of, ruler_of, styles_by, info_styles}
 use Rattle.line_screen.specs.Chain.{Good, empty_view}
 use Rattle.line_screen.specs.Colours.{AreStyles, PaintedItem, Styles, all_unpainted, is_style, bytes_of_all_painted, painted_drawing, bytes_of_painted, bytes_of_painted_texts, painted_text, shaded_break, style_bytes, items_without_style}
 use Rattle.line_screen.specs.Colours.PaintedItem.{Bare as Plain, Begins, Shaded, Fenced, Padded}
 use Rattle.line_screen.specs.Display.{Placed, is_parameter, is_text}
-use Rattle.line_screen.specs.Drawing.{DrawnItem, Widths, blanks, text_items, no_style, break_if, break_unless, cluster_in_fence, fitted_col, bytes_of_item, bytes_of_items, col_after_one, col_after, control_sequence, erase_to_row_end, open_cell, take_cells_out, row_break, row_move, col_move, move_bytes, left_col, pushed_on, insertion_bytes, pulled_back, deletion_bytes, place_after_insertion, place_after_deletion, shown_text, drawing}
+use Rattle.line_screen.specs.Drawing.{DrawnItem, Widths, blanks, text_items, no_style, break_if, break_unless, cluster_in_fence, fitted_col, bytes_of_item, bytes_of_items, col_after_one, col_after, control_sequence, erase_to_end, erase_to_row_end, in_fence, open_cell, take_cells_out, row_break, row_move, col_move, move_bytes, left_col, pushed_on, insertion_bytes, pulled_back, deletion_bytes, place_after_insertion, place_after_deletion, shown_text, drawing}
 use Rattle.line_screen.specs.Drawing.DrawnItem.{NewRow, Letter, Cluster, Tab}
 use Rattle.line_screen.specs.Laws.{widths}
 use Rattle.line_screen.specs.Measure.{in_row}
@@ -297,6 +297,7 @@ cleared_or (Draws v m (Taken prompt count text at)) = inl tt
 cleared_or (Draws v m (Erased prompt c text at)) = inl tt
 cleared_or (Draws v m (PutIn prompt c text at)) = inl tt
 cleared_or (Draws v m (TakenOut prompt count text at)) = inl tt
+cleared_or (Draws v m (DrawnFrom prompt from text at info)) = inl tt
 cleared_or (Draws v m (Bared prompt text at)) = inl tt
 cleared_or (Draws v m ToEnd) = inl tt
 cleared_or (Draws v m Beeped) = inl tt
@@ -441,6 +442,30 @@ module _ (s : Screen) (low : 2 ≤ s.columns) (high : s.columns ≤ 1000) (own :
       calm_both (move_bytes l.cursor cell ++ (out ++ back)) []
       (calm_both (move_bytes l.cursor cell) (out ++ back) (calm_move l.cursor cell) (calm_both out back (calm_pulled s.columns count cell.col cell.col rest k) (calm_move from cell))) refl
 
+  calm_in_fence : (text bytes : List ℕ) → calm bytes ≡ true → calm (in_fence text bytes) ≡ true
+  calm_in_fence [] bytes h = refl
+  calm_in_fence (b ∷ text) bytes h = calm_both (no_style ++ bytes) no_style (calm_both no_style bytes refl h) refl
+
+  calm_rest : (l : Layout) (m : Option Marks) (from : ℕ) (text : List ℕ) (at : ℕ) (info : Option (List ℕ)) → calm (flat_map (bytes_of s) (rest_call (ruler_of s) m l from text at info).calls) ≡ true
+  calm_rest l m from text at info =
+      let rest = drop from text in
+      let behind = info_text info in
+      let spans = info_styles m behind in
+      let cell = (ruler_of s).measure (take from text) l.prompt_size in
+      let new = layout_of (ruler_of s) l.prompt_size true text at info in
+      let items = text_items wide rest in
+      let col = (in_row s.columns cell).col in
+      let end = col_after s.columns items col in
+      let fits = items_fit s.mode s.tab s.columns some in
+      let painted = bytes_of_all_painted s.columns (painted_text wide spans behind) end in
+      let calm_painted_behind = calm_painted s.columns wide.cluster (painted_text wide spans behind) end (text_painted s.columns wide spans behind (styles_are (drawn_spans m true [] [] 0 behind)).info (fits behind)) in
+      let drawn = bytes_of_items s.columns items col ++ in_fence behind painted in
+      let calm_drawn = calm_both (bytes_of_items s.columns items col) (in_fence behind painted) (calm_sent s.columns wide.cluster items col (fits rest)) (calm_in_fence behind painted calm_painted_behind) in
+      let first = move_bytes l.cursor cell ++ (erase_to_end ++ drawn) in
+      let calm_first = calm_both (move_bytes l.cursor cell) (erase_to_end ++ drawn) (calm_move l.cursor cell) (calm_both erase_to_end drawn refl calm_drawn) in
+      let back = move_bytes new.end new.cursor in
+      calm_both (first ++ back) [] (calm_both first back calm_first (calm_move new.end new.cursor)) refl
+
   abbrev After : List ℕ → Layout → EditStep → Sight → Type 0
   After bytes l r x = Anew (bytes ++ flat_map (bytes_of s) (one (ruler_of s) l r).calls) (one (ruler_of s) l r).layout (sight x r)
 
@@ -542,6 +567,9 @@ module _ (s : Screen) (low : 2 ≤ s.columns) (high : s.columns ≤ 1000) (own :
   step_anew (Draws v m (PutIn prompt c text at)) bytes l x a fits rows none = put_in_by v bytes m l x prompt c text at (may_put_in (ruler_of s) l (drop at text)) refl a fits rows
   step_anew (Draws v m (TakenOut prompt count text at)) bytes l x a fits rows none =
       taken_out_by v bytes m l x prompt count text at (may_take_out (ruler_of s) l ((ruler_of s).measure (take at text) l.prompt_size) count (drop at text)) refl a fits rows
+  step_anew (Draws v m (DrawnFrom prompt from text at info)) bytes l x a fits rows none =
+      let r = Draws v m (DrawnFrom prompt from text at info) in
+      kept_on bytes l x (flat_map (bytes_of s) (one (ruler_of s) l r).calls) (one (ruler_of s) l r).layout (sight x r) (sym a.tabs_are) a (calm_rest l (shown_marks v m) from text at info) (λ before over top h. step s low high own before over top l x r h fits rows)
   step_anew (Draws v m (Bared prompt text at)) bytes l x a fits rows none = bared_by v bytes m l x prompt text at l.default_prompt refl a fits rows
   step_anew (Draws v m ToEnd) bytes l x a fits rows none =
       let r = Draws v m ToEnd in
@@ -573,6 +601,7 @@ module _ (s : Screen) (low : 2 ≤ s.columns) (high : s.columns ≤ 1000) (own :
   step_bare (Draws v m (Erased prompt c text at)) bytes l x b fits rows = absurd (not_given x b fits.0)
   step_bare (Draws v m (PutIn prompt c text at)) bytes l x b fits rows = absurd (not_given x b fits.0)
   step_bare (Draws v m (TakenOut prompt count text at)) bytes l x b fits rows = absurd (not_given x b fits.0)
+  step_bare (Draws v m (DrawnFrom prompt from text at info)) bytes l x b fits rows = absurd (not_given x b fits.0)
   step_bare (Draws v m (Bared prompt text at)) bytes l x b fits rows = absurd (not_given x b fits)
   step_bare (Draws v m ToEnd) bytes l x b fits rows = inr (record { given = b.given; prompt = b.prompt })
   step_bare (Draws v m Beeped) bytes l x b fits rows = inr b

@@ -6,7 +6,7 @@ use Rattle.line_buffer.specs.declared.layout.Position.{Position}
 use Rattle.line_config.specs.declared.memory.VecSink.{VecSink}
 use Rattle.line_editor.specs.RenderCalls.{Marks}
 use Rattle.line_editor.specs.Redraws.{fresh, full, move_call, may_take, may_erase, may_type, may_put_in, may_take_out, nothing_asked, erase_call, char_call, append_call, put_in_short, taken_out_short}
-use Rattle.line_editor.specs.Redraws.Redraw.{Drawn, Moved, Typed, Appended, Taken, Erased, PutIn, TakenOut, Bared, ToEnd, Beeped, Cleared}
+use Rattle.line_editor.specs.Redraws.Redraw.{Drawn, Moved, Typed, Appended, Taken, Erased, PutIn, TakenOut, DrawnFrom, Bared, ToEnd, Beeped, Cleared}
 use Rattle.line_editor.specs.Sights.{PartSpans, Sight}
 use Rattle.line_editor.specs.EditSteps.{one}
 use Rattle.line_editor.specs.Values.{EditStep, shown_marks}
@@ -65,6 +65,7 @@ module _ (s : Screen) where
   step_counts (Draws v m (PutIn prompt c text at)) l h = put_in_counts l (shown_marks v m) c (drop at text) prompt text at (may_put_in (ruler_of s) l (drop at text)) h
   step_counts (Draws v m (TakenOut prompt count text at)) l h =
       (let cell = (ruler_of s).measure (take at text) l.prompt_size in taken_out_counts l (shown_marks v m) cell count (drop at text) prompt text at (may_take_out (ruler_of s) l cell count (drop at text)) h)
+  step_counts (Draws v m (DrawnFrom prompt from text at info)) l h = refl
   step_counts (Draws v m (Bared prompt text at)) l h = bared_counts l (shown_marks v m) prompt text at l.default_prompt h
   step_counts (Draws v m ToEnd) l h = moved_counts l l.end (same_cell l.cursor l.end) h
   step_counts (Draws v m Beeped) l h = h

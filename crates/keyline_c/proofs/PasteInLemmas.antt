@@ -14,6 +14,7 @@ use Rattle.line_keys.specs.CustomBindings.{Custom}
 use Rattle.line_keys.specs.Coming.{Coming, Pressed, Pasted}
 use Rattle.line_keys.specs.PhraseScripts.{Input}
 use Rattle.line_editor.specs.Commands.{in_vi_command, means_of}
+use Rattle.line_editor.specs.Drawing.{since}
 use Rattle.line_editor.specs.LineScripts.{Begins, LineState, LineAsk, turn_start, line_plan, meet_script, phrase_script, played_from, turn_script}
 use Rattle.line_editor.specs.NextCommand.{ring_after_reset}
 use Rattle.line_editor.specs.Modal.{is_at_rest}
@@ -59,7 +60,7 @@ pasted_line : (vi : Bool) (text : List ℕ) (s : Setting) (v : Value) → v.line
 pasted_line vi text s v grows =
     let put : Bool = is_some (yanked_in text 1 v.line).answer in
     let before : Value = at_line v.line v in
-    drawn_if (put || false) vi text 1 s before ∙ stepped_if put vi _ ∙ grown_on text v.line vi grows
+    drawn_if (put || false) vi text 1 (since s before.line.place v) s before ∙ stepped_if put vi _ ∙ grown_on text v.line vi grows
 
 -- the last change has no part in it
 same_mode : (mode : EditMode) (text : List ℕ) (input : Input) (k : LineState)

@@ -1,19 +1,19 @@
 -- The characters that stand apart: the narrow ones come before the others. And the last of a text.
-use Rattle.std.proofs.Common.{◌≡◌, ℕ, ◌<◌, ◌≤◌, ◌==◌, Bool, true, false, ◌&&◌, ◌||◌, if◌then◌else◌, List, [], ◌∷◌, ◌++◌, drop, length, Option, Some, None, refl, sym, ap, ◌∙◌, arith, length-append, append-nil}
-use Rattle.std.specs.Prelude.{IsUtf8, chars, encode_utf8, encode_utf8_all, nat_le, nat_lt}
+use Rattle.std.proofs.Common.{◌≡◌, ℕ, ◌<◌, ◌≤◌, ◌==◌, Bool, true, false, ◌&&◌, ◌||◌, if◌then◌else◌, List, [], ◌∷◌, ◌++◌, take, drop, length, Option, Some, None, refl, sym, ap, subst, ◌∙◌, arith, length-append, append-nil, slice_get}
+use Rattle.std.specs.Prelude.{IsTrue, ◌↔◌, IsUtf8, IsCharBoundary, chars, encode_utf8, encode_utf8_all, nat_le, nat_lt}
 use Rattle.std.specs.Char.{IsScalar}
 use Rattle.std.specs.Int.{is_in_range}
 use Rattle.std.specs.List.{last_or}
 use Rattle.std.specs.Str.{is_utf8}
 use Rattle.std.proofs.lemmas.Bool.Decides.{nat_tests}
-use Rattle.std.proofs.lemmas.Bool.{and_parts}
+use Rattle.std.proofs.lemmas.Bool.{and_parts, eqb-true, leb-true}
 use Rattle.std.proofs.lemmas.Option.{same_Some}
-use Rattle.std.proofs.lemmas.Str.{chars-append, chars-nil, chars-IsAscii, encodes-append, encodes-chars, IsUtf8-encode, IsUtf8-from_ascii, IsUtf8-from_is_utf8, is_utf8-from_IsUtf8}
+use Rattle.std.proofs.lemmas.Str.{IsCharBoundary-from_drop, chars-append, chars-nil, chars-IsAscii, encodes-append, encodes-chars, IsUtf8-encode, IsUtf8-from_ascii, IsUtf8-from_is_utf8, is_utf8-from_IsUtf8}
 use Rattle.std.proofs.Math.Seq.{drop-append_seam}
 use Rattle.unicode_segmentation.proofs.TextLemmas.{IsUtf8-before, chars-encode_utf8}
 use Rattle.line_buffer.specs.Printable.{is_printable, is_plain_byte, is_plain}
 use Rattle.line_editor.proofs.KillLemmas.{plain_low}
-use Rattle.line_editor.specs.Characters.{is_narrow, is_wide, is_pictograph, is_apart, ends_apart, stands_apart}
+use Rattle.line_editor.specs.Characters.{is_narrow, is_wide, is_pictograph, is_apart, ends_apart, stands_apart, starts_apart, begins_apart, begins_apart_at}
 
 below_by_one : (c : ℕ) → nat_lt c 0x7F ≡ nat_le c 0x7E
 below_by_one c = grind (arith, nat_tests)
@@ -131,3 +131,38 @@ plain_apart text c plain printable =
     let narrow : is_apart c ≡ true = ap (λ b. (b || (is_in_range 0xA1 0xAC c || (is_in_range 0xAE 0x2FF c || (is_in_range 0x370 0x482 c || is_in_range 0x48A 0x58F c)))) || (is_wide c || is_pictograph c)) printable in
     let ends : ends_apart (last_or None (chars text)) ≡ true = ap (λ cs. ends_apart (last_or None cs)) (chars-IsAscii text low) ∙ plain_last None text refl plain in
     (λ i. is_utf8-from_IsUtf8 text (IsUtf8-from_ascii text low) i && (narrow i && ends i))
+
+-- ---- the rest of a text
+
+first_none : (text cs : List ℕ) → None ≡ slice_get cs 0 → true ≡ starts_apart text cs
+first_none text [] h = refl
+first_none text (c ∷ cs) h = cc
+
+first_some : (text cs : List ℕ) (c : ℕ) → Some c ≡ slice_get cs 0 → ((c == 0x0A) || stands_apart text c) ≡ starts_apart text cs
+first_some text [] c h = cc
+first_some text (d ∷ cs) c h = ap (λ x. (x == 0x0A) || stands_apart text x) (same_Some c d h)
+
+pub begins_with_none : (text rest : List ℕ) → IsUtf8 rest → None ≡ slice_get (chars rest) 0 → true ≡ begins_apart text rest
+begins_with_none text rest u h = sym (λ i. is_utf8-from_IsUtf8 rest u i && sym (first_none text (chars rest) h) i)
+
+pub begins_with : (text rest : List ℕ) (c : ℕ) (is : Bool) → IsUtf8 rest → Some c ≡ slice_get (chars rest) 0 → is ≡ ((c == 0x0A) || stands_apart text c) → is ≡ begins_apart text rest
+begins_with text rest c is u h test = test ∙ first_some text (chars rest) c h ∙ sym (λ i. is_utf8-from_IsUtf8 rest u i && starts_apart text (chars rest))
+
+pub is_newline : (c : ℕ) → c ≡ 0x0A → true ≡ (c == 0x0A)
+is_newline c is = ap (λ x. x == 0x0A) (sym is)
+
+pub no_newline : (c : ℕ) → (c ≡ 0x0A → ⊥) → false ≡ (c == 0x0A)
+no_newline c h = by_test (c == 0x0A) refl
+  where
+    by_test : (b : Bool) → (c == 0x0A) ≡ b → false ≡ b
+    by_test true e = absurd (h (eqb-true c 0x0A e))
+    by_test false e = refl
+
+-- a text can't be cut inside a character
+pub no_parts_at : (text : List ℕ) (at : ℕ) (r : Bool) → (IsTrue r ↔ IsCharBoundary text at) → r ≡ false → r ≡ begins_apart_at text at
+no_parts_at text at r is refused = refused ∙ by_tests (nat_le at (length text)) (is_utf8 (drop at text)) refl refl
+  where
+    by_tests : (low utf8 : Bool) → nat_le at (length text) ≡ low → is_utf8 (drop at text) ≡ utf8 → false ≡ (low && (utf8 && starts_apart (take at text) (chars (drop at text))))
+    by_tests false utf8 e u = refl
+    by_tests true false e u = refl
+    by_tests true true e u = cc (subst IsTrue refused (is.1 (IsCharBoundary-from_drop text at (leb-true at (length text) e) (IsUtf8-from_is_utf8 (drop at text) u))))

@@ -1,5 +1,5 @@
 -- Each command leads from its value to the next.
-use Rattle.std.proofs.Common.{◌≡◌, ℕ, ◌+◌, ◌-◌, ◌==◌, ◌||◌, not, max, Bool, true, false, List, [], ◌∷◌, ◌++◌, length, Option, Some, None, is_some, slice_get, refl, sym, ap, ◌∙◌, subst, if◌then◌else◌}
+use Rattle.std.proofs.Common.{◌≡◌, ℕ, ◌+◌, ◌-◌, ◌==◌, ◌≤◌, ◌||◌, arith, not, max, Bool, true, false, List, [], ◌∷◌, ◌++◌, length, Option, Some, None, is_some, slice_get, refl, sym, ap, ◌∙◌, subst, if◌then◌else◌}
 use Rattle.std.specs.Prelude.{⊤}
 use Rattle.std.proofs.lemmas.Bool.{eqb-true}
 use Rattle.line_buffer.specs.Clusters.{place_forward}
@@ -35,7 +35,7 @@ use Rattle.line_record.specs.Ring.{yank_exchange}
 use Rattle.line_editor.specs.Accepting.{bare_value, bare, verdict, message_effect_if, verdict_told, verdict_effect, verdict_given, verdict_asked, group_and_verdict_effect, validate_by, validate, newline, accept, accepts, newline_if, accept_or_insert}
 use Rattle.line_editor.specs.Commands.{in_vi_command, line_up_or_previous, line_down_or_next}
 use Rattle.line_editor.specs.Completing.{common_text, word_replaced, updates, complete_effect_with, complete_effect, candidates_given, candidates_asked, complete_if}
-use Rattle.line_editor.specs.Drawing.{draw_effect_behind, repaint_effect, ask_anew_effect, refresh_effect, cursor_end_effect}
+use Rattle.line_editor.specs.Drawing.{since, draw_effect_behind, repaint_effect, ask_anew_effect, refresh_effect, refresh_effect_since, cursor_end_effect}
 use Rattle.line_editor.specs.Hinting.{at_row_end, complete_hint_effect, complete_by}
 use Rattle.line_editor.specs.Inserting.{insert_char}
 use Rattle.line_editor.specs.Killing.{copy_effect}
@@ -48,7 +48,8 @@ use Rattle.line_editor.specs.Sights.{sight_with, sight_of, ended_sight, Turns, i
 use Rattle.line_editor.specs.Values.{Value, Setting, Effect, hint_reply, verdict_reply, completion_reply, update_reply, shown_hint, shown_marks, no_effect, value_with_edit, line_and_record_of, at_line}
 use Rattle.line_editor.specs.Values.EditStep.{Draws, Takes}
 use Rattle.line_editor.specs.Yanking.{line_at_anchor, steps_over, behind_yank, value_after_yank, yank_text, yank_lent, pop_lent}
-use Rattle.line_editor.proofs.LeadLemmas.{turns_both, info_both, both_lead, either, help_turns, Alike, alike_sight, or_none, asking_leads, edit_leads, back_leads, take_leads, redraw_leads, redrawn_leads, refresh_leads, told_leads, rest_leads, beep_leads, clear_leads, refresh_if_leads, step_leads, motion_leads, none_if, insertion_leads, kill_leads, replace_leads}
+use Rattle.line_editor.proofs.KnownLemmas.{Begins, yank_begins, pop_begins, over_begins, replaced_begins}
+use Rattle.line_editor.proofs.LeadLemmas.{turns_both, info_both, both_lead, either, help_turns, Alike, alike_sight, or_none, asking_leads, edit_leads, back_leads, take_leads, redraw_leads, redrawn_leads, refresh_leads, refresh_since_leads, redraw_since_leads, refresh_since_if_leads, told_leads, rest_leads, beep_leads, clear_leads, refresh_if_leads, step_leads, motion_leads, none_if, insertion_leads, kill_leads, replace_leads}
 
 not_none : (b : Bool) → not b ≡ false → b ≡ true
 not_none true h = refl
@@ -79,13 +80,33 @@ yank_rests vi text n v h =
     let is : value_after_yank vi text n v ≡ w = if_none (is_some (yanked_in text n v.line).answer) (at_line (behind_yank vi w.line) w) w h in
     subst (Alike v) (sym is) (no_yank text n v.line (length text == 0) h, refl, refl)
 
+-- the cursor may go back behind it
+yanked_text : (vi : Bool) (text : List ℕ) (n : ℕ) (v : Value) → (value_after_yank vi text n v).line.text ≡ (yanked_in text n v.line).line.text
+yanked_text vi text n v = by_test vi (is_some (yanked_in text n v.line).answer)
+  where
+    by_test : (vi b : Bool) → (let w = value_with_edit (by (yank_steps text n)) v in (if b then at_line (behind_yank vi w.line) w else w).line.text ≡ (yanked_in text n v.line).line.text)
+    by_test true true = refl
+    by_test false true = refl
+    by_test vi false = refl
+
 yank_leads : (vi : Bool) (text : List ℕ) (anchor : Anchor) (n : ℕ) (s : Setting) (v : Value) → Leads s v (yank_text vi text anchor n s v)
 yank_leads vi text anchor n s v =
     let before = at_line (line_at_anchor anchor v.line) v in
-    either s v (is_some (yanked_in text n before.line).answer || steps_over anchor v.line) _ _ (λ e. edit_leads (with_answer tt (yank_steps text n before.line)) s v before (refresh_effect s (value_after_yank vi text n before)) (refresh_leads s v (value_after_yank vi text n before))) (λ e.
+    let w = value_after_yank vi text n before in
+    let place = before.line.place in
+    either s v (is_some (yanked_in text n before.line).answer || steps_over anchor v.line) _ _ (λ e.
+    edit_leads (with_answer tt (yank_steps text n before.line)) s v before (refresh_effect_since (since s place v) s w)
+    (refresh_since_leads place s v w (λ low. yanked_behind anchor low))) (λ e.
     let parts = or_none _ _ e in
     let rests = yank_rests vi text n before parts.0 in
-    rest_leads s v (value_after_yank vi text n before) (rests.0 ∙ not_anchored anchor v.line parts.1, rests.1, rests.2))
+    rest_leads s v w (rests.0 ∙ not_anchored anchor v.line parts.1, rests.1, rests.2))
+  where
+    yanked_behind : (anchor : Anchor)
+        → (let before : Value = at_line (line_at_anchor anchor v.line) v in before.line.place ≤ length v.line.text → Begins before.line.place v.line.text (value_after_yank vi text n before).line.text)
+    yanked_behind After low =
+        let before : Value = at_line (line_at_anchor After v.line) v in
+        subst (λ xs. Begins before.line.place v.line.text xs) (sym (yanked_text vi text n before)) (yank_begins text n before.line.place before.line (omega arith) low)
+    yanked_behind Before low = subst (λ xs. Begins v.line.place v.line.text xs) (sym (yanked_text vi text n v)) (yank_begins text n v.line.place v.line (omega arith) low)
 
 lent_leads : (vi : Bool) (anchor : Anchor) (n : ℕ) (o : Option (List ℕ)) (s : Setting) (v : Value) → Leads s v (yank_lent vi anchor n o s v)
 lent_leads vi anchor n None s v = rest_leads s v v (refl, refl, refl)
@@ -93,7 +114,7 @@ lent_leads vi anchor n (Some text) s v = yank_leads vi text anchor n s v
 
 pop_leads : (o : Option (ℕ × List ℕ)) (s : Setting) (v : Value) → Leads s v (pop_lent o s v)
 pop_leads None s v = rest_leads s v v (refl, refl, refl)
-pop_leads (Some lent) s v = either s v (can_take_before lent.0 v.line) _ _ (λ e. redraw_leads (pop_group lent.0 lent.1) s v v) (λ e. rest_leads s v v (refl, refl, refl))
+pop_leads (Some lent) s v = either s v (can_take_before lent.0 v.line) _ _ (λ e. redraw_since_leads (pop_group lent.0 lent.1) (v.line.place - lent.0) s v v (pop_begins lent.0 lent.1 (v.line.place - lent.0) v.line (omega arith))) (λ e. rest_leads s v v (refl, refl, refl))
 
 -- ---- words
 
@@ -280,11 +301,13 @@ commands_lead m (Move movement) s v = motion_leads movement s v
 commands_lead m NextHistory s v = step_back_leads false s v
 commands_lead m Noop s v = rest_leads s v v (refl, refl, refl)
 commands_lead m Repaint s v = refresh_leads s v v
-commands_lead m (Overwrite c) s v = refresh_if_leads (overwrite_steps c) s v (is_some (place_forward 1 v.line)) (over_rests c (place_forward 1 v.line) (line_and_record_of v))
+commands_lead m (Overwrite c) s v = refresh_since_if_leads (overwrite_steps c) s v (is_some (place_forward 1 v.line)) (over_rests c (place_forward 1 v.line) (line_and_record_of v))
+    (over_begins c (place_forward 1 v.line) v.line.place (line_and_record_of v) (omega arith))
 commands_lead m PreviousHistory s v = step_back_leads true s v
 commands_lead m QuotedInsert s v = rest_leads s v v (refl, refl, refl)
-commands_lead m (ReplaceChar n c) s v = refresh_if_leads (replace_group_if_any c n) s v (is_some (place_forward n v.line))
+commands_lead m (ReplaceChar n c) s v = refresh_since_if_leads (replace_group_if_any c n) s v (is_some (place_forward n v.line))
     (λ e. ap (λ (steps : WriteSteps Bool). (effect_of_edit steps (line_and_record_of v)).line) (if_none (is_some (place_forward n v.line)) (with_answer true (replace_group c n v.line)) (no_steps false) e))
+    (replaced_begins c n v.line.place (line_and_record_of v) (omega arith))
 commands_lead m (Replace movement text) s v = replace_leads movement text s v
 commands_lead m ReverseSearchHistory s v = rest_leads s v v (refl, refl, refl)
 commands_lead m (SearchAgain way) s v = rest_leads s v v (refl, refl, refl)

@@ -19,8 +19,8 @@ use Rattle.line_help.specs.declared.helpers.hint as hints
 use Rattle.line_help.specs.declared.helpers.highlight as highlights
 use Rattle.line_help.specs.declared.helpers.validate as verdicts
 use Rattle.line_help.specs.declared.history as histories
-use Rattle.line_editor.specs.Drawing.{refresh_effect, refresh_effect_if}
-use Rattle.line_editor.specs.Inserting.{insertion_way, show_inserted_effect, insert_char, insert_text}
+use Rattle.line_editor.specs.Drawing.{since, refresh_effect, refresh_effect_if, refresh_effect_since, refresh_effect_since_if}
+use Rattle.line_editor.specs.Inserting.{has_printable_rest, insertion_way, show_inserted_effect, insert_char, insert_text}
 use Rattle.line_editor.specs.Killing.{may_be_taken, may_be_taken_out, text_gone, last_of_bare, way_erased, kill_way, show_killed_effect, show_taken, kill_effect}
 use Rattle.line_editor.specs.States.{value_of, setting_of, surface_of, Stays, Does}
 use Rattle.line_editor.specs.EditSteps.{Surface, CutEditSteps, SameBeside}
@@ -54,20 +54,30 @@ pub overwrites_if : (c : ℕ) (l : Line) (answer : Bool) → answer ≡ (overwri
 overwrites_if c l answer is = sym (is ∙ written_over_if c (place_forward 1 l) l)
 
 -- a text that isn't empty is put in
-pub text_put : (text : List ℕ) (s : Setting) (v : Value) → (length text == 0) ≡ false → then_do (edit_effect (text_steps text)) refresh_effect s v ≡ insert_text text s v
-text_put text s v is = ap (λ b. if b then no_effect s v else then_do (edit_effect (text_steps text)) refresh_effect s v) (sym is)
+pub text_put : (text : List ℕ) (s : Setting) (v : Value) → (length text == 0) ≡ false → then_do (edit_effect (text_steps text)) (refresh_effect_since (since s v.line.place v)) s v ≡ insert_text text s v
+text_put text s v is = ap (λ b. if b then no_effect s v else then_do (edit_effect (text_steps text)) (refresh_effect_since (since s v.line.place v)) s v) (sym is)
+
+pub text_put_by : (text : List ℕ) (from : Option ℕ) (s : Setting) (v : Value) → (length text == 0) ≡ false → from ≡ since s v.line.place v
+    → then_do (edit_effect (text_steps text)) (refresh_effect_since from) s v ≡ insert_text text s v
+text_put_by text from s v some is = ap (λ f. then_do (edit_effect (text_steps text)) (refresh_effect_since f) s v) is ∙ text_put text s v some
 
 -- a text is put in place of what was yanked
-pub text_popped : (size : ℕ) (text : List ℕ) (s : Setting) (v : Value) → can_take_before size v.line ≡ true → then_do (edit_effect (pop_group size text)) refresh_effect s v ≡ pop_text size text s v
-text_popped size text s v is = ap (λ b. if b then then_do (edit_effect (pop_group size text)) refresh_effect s v else no_effect s v) (sym is)
+pub text_popped : (size : ℕ) (text : List ℕ) (from : Option ℕ) (s : Setting) (v : Value) → can_take_before size v.line ≡ true → from ≡ since s (v.line.place - size) v
+    → then_do (edit_effect (pop_group size text)) (refresh_effect_since from) s v ≡ pop_text size text s v
+text_popped size text from s v some is =
+    ap (λ f. then_do (edit_effect (pop_group size text)) (refresh_effect_since f) s v) is
+    ∙ ap (λ b. if b then then_do (edit_effect (pop_group size text)) (refresh_effect_since (since s (v.line.place - size) v)) s v else no_effect s v) (sym some)
 
 -- a character is put in
-pub char_put : (c n : ℕ) (s : Setting) (v : Value) → is_some (insertion c n v.line).answer ≡ true → then_do (edit_effect (char_steps c n)) (show_inserted_effect c (insertion_way s c n v)) s v ≡ insert_char c n s v
-char_put c n s v is = ap (λ b. if b then then_do (edit_effect (char_steps c n)) (show_inserted_effect c (insertion_way s c n v)) s v else no_effect s (value_with_edit (by (char_steps c n)) v)) (sym is)
+pub char_put : (c n : ℕ) (s : Setting) (v : Value) → is_some (insertion c n v.line).answer ≡ true → then_do (edit_effect (char_steps c n)) (show_inserted_effect c (insertion_way s c n v) (since s v.line.place v)) s v ≡ insert_char c n s v
+char_put c n s v is = ap (λ b. if b then then_do (edit_effect (char_steps c n)) (show_inserted_effect c (insertion_way s c n v) (since s v.line.place v)) s v else no_effect s (value_with_edit (by (char_steps c n)) v)) (sym is)
 
-pub char_put_by : (c n : ℕ) (way : Way) (s : Setting) (v : Value) → is_some (insertion c n v.line).answer ≡ true → way ≡ insertion_way s c n v
-    → then_do (edit_effect (char_steps c n)) (show_inserted_effect c way) s v ≡ insert_char c n s v
-char_put_by c n way s v some is = ap (λ w. then_do (edit_effect (char_steps c n)) (show_inserted_effect c w) s v) is ∙ char_put c n s v some
+pub char_put_by : (c n : ℕ) (way : Way) (from : Option ℕ) (s : Setting) (v : Value) → is_some (insertion c n v.line).answer ≡ true → way ≡ insertion_way s c n v → from ≡ since s v.line.place v
+    → then_do (edit_effect (char_steps c n)) (show_inserted_effect c way from) s v ≡ insert_char c n s v
+char_put_by c n way from s v some is stays =
+    ap (λ w. then_do (edit_effect (char_steps c n)) (show_inserted_effect c w from) s v) is
+    ∙ ap (λ f. then_do (edit_effect (char_steps c n)) (show_inserted_effect c (insertion_way s c n v) f) s v) stays
+    ∙ char_put c n s v some
 
 -- words were exchanged, or the cursor moved
 abbrev pub words_drawn : ℕ → Value → Transition
@@ -78,13 +88,13 @@ pub part_killed : (movement : Movement) (s : Setting) (v : Value) → is_some (r
 part_killed movement s v is = ap (λ b. if b then then_do (edit_effect (kill_steps movement)) (show_taken v) s v else no_effect s (value_with_edit (by (kill_steps movement)) v)) (sym is)
 
 nothing_put : (c n : ℕ) (s : Setting) (v : Value) → is_some (insertion c n v.line).answer ≡ false → no_effect s (value_with_edit (by (char_steps c n)) v) ≡ insert_char c n s v
-nothing_put c n s v is = ap (λ b. if b then then_do (edit_effect (char_steps c n)) (show_inserted_effect c (insertion_way s c n v)) s v else no_effect s (value_with_edit (by (char_steps c n)) v)) (sym is)
+nothing_put c n s v is = ap (λ b. if b then then_do (edit_effect (char_steps c n)) (show_inserted_effect c (insertion_way s c n v) (since s v.line.place v)) s v else no_effect s (value_with_edit (by (char_steps c n)) v)) (sym is)
 
 -- how a kill is shown, by what its text and the line before allow
 abbrev way_by : Bool → Bool → Option ℕ → ℕ → Line → Way
 way_by alone inside last count l =
     if alone && at_plain_end l.text l.place then AtEnd
-    else if inside && (nat_lt 0 count && nat_lt l.place (length l.text)) then Inside
+    else if inside && (nat_lt 0 count && (nat_lt l.place (length l.text) && has_printable_rest l)) then Inside
     else way_erased count l last
 
 some_gone : (all left : ℕ) → nat_lt 0 (all - left) ≡ nat_lt left all
@@ -139,6 +149,17 @@ module _ {Out H Hi K T : Type 0} {renderer : renderers.Renderer.Ghosts Out} {com
   undrawn_if {A} b s x is =
       subst (λ y. Does {A = A} (refresh_effect_if y) s s (Ok x)) (sym is) (record { value = refl; calls = refl; layout = refl; stays = stays_same s; reason = tt; stops = tt })
 
+  -- from a place on, if the line may be drawn so
+  pub drawn_since_if : {A : Type 0} (from stays : Option ℕ) (b : Bool) (s t : State Out H Hi K T renderer completer candidate hinter hint highlighter validator history) (result : Result A ReadlineError)
+      → from ≡ stays → b ≡ true → Does (refresh_effect_since from) s t result → Does (refresh_effect_since_if stays b) s t result
+  drawn_since_if {A} from stays b s t result at is h =
+      subst (λ x. Does {A = A} (refresh_effect_since_if stays x) s t result) (sym is)
+      (subst (λ f. Does {A = A} (refresh_effect_since_if f true) s t result) at (does_as (refresh_effect_since from) (refresh_effect_since_if from true) s t result refl h))
+
+  pub undrawn_since_if : {A : Type 0} (stays : Option ℕ) (b : Bool) (s : State Out H Hi K T renderer completer candidate hinter hint highlighter validator history) (x : A) → b ≡ false → Does (refresh_effect_since_if stays b) s s (Ok x)
+  undrawn_since_if {A} stays b s x is =
+      subst (λ y. Does {A = A} (refresh_effect_since_if stays y) s s (Ok x)) (sym is) (record { value = refl; calls = refl; layout = refl; stays = stays_same s; reason = tt; stops = tt })
+
   -- it was made, and nothing follows
   edit_alone : {A B E : Type 0} (whole : Transition) (edit : Line → WriteSteps A) (s t : State Out H Hi K T renderer completer candidate hinter hint highlighter validator history) (answer : A) (x : B)
       → no_effect (setting_of s) (value_with_edit (by edit) (value_of s)) ≡ whole (setting_of s) (value_of s) → EditsRecorded {E = E} (edit s.recorded.line) s.recorded t.recorded (Ok answer)
@@ -160,12 +181,12 @@ module _ {Out H Hi K T : Type 0} {renderer : renderers.Renderer.Ghosts Out} {com
       edit_alone (insert_char c n) (char_steps c n) s t answer x (nothing_put c n (setting_of s) (value_of s) (ap is_some (sym wrote.writes.answers) ∙ none)) wrote rest surface stays
 
   -- what was taken is shown by how much it was
-  pub taken_by : {A : Type 0} (count : ℕ) (alone inside : Bool) (last : Option ℕ) (way : Way) (before : Value) (l : Line) (s t : State Out H Hi K T renderer completer candidate hinter hint highlighter validator history) (result : Result A ReadlineError)
+  pub taken_by : {A : Type 0} (count : ℕ) (alone inside : Bool) (last : Option ℕ) (way : Way) (from : Option ℕ) (before : Value) (l : Line) (s t : State Out H Hi K T renderer completer candidate hinter hint highlighter validator history) (result : Result A ReadlineError)
       → count ≡ length before.line.text - length s.recorded.line.text → alone ≡ may_be_taken (drop (length l.text) before.line.text) before
       → inside ≡ may_be_taken_out (setting_of s).config.partial_redraw (text_gone before.line l) before → last ≡ last_of_bare (setting_of s).config.partial_redraw before → s.recorded.line ≡ l
-      → way ≡ way_by alone inside last count s.recorded.line
-      → Does (show_killed_effect count way) s t result → Does (show_taken before) s t result
-  taken_by count alone inside last way before l s t result is shown moved ends left by h =
+      → way ≡ way_by alone inside last count s.recorded.line → from ≡ since (setting_of s) l.place before
+      → Does (show_killed_effect count way from) s t result → Does (show_taken before) s t result
+  taken_by count alone inside last way from before l s t result is shown moved ends left by at h =
       let m = s.recorded.line in
       let gone = length before.line.text - length m.text in
       let partial = (setting_of s).config.partial_redraw in
@@ -176,8 +197,9 @@ module _ {Out H Hi K T : Type 0} {renderer : renderers.Renderer.Ghosts Out} {com
       ∙ ap (λ b. way_by (may_be_taken (drop (length m.text) before.line.text) before) b last gone m) (moved ∙ ap out_of (sym left))
       ∙ ap (λ o. way_by (may_be_taken (drop (length m.text) before.line.text) before) (out_of m) o gone m) ends
       ∙ ap (λ b. if may_be_taken (drop (length m.text) before.line.text) before && at_plain_end m.text m.place then AtEnd
-      else if out_of m && (b && nat_lt m.place (length m.text)) then Inside else way_erased gone m (last_of_bare partial before))
+      else if out_of m && (b && (nat_lt m.place (length m.text) && has_printable_rest m)) then Inside else way_erased gone m (last_of_bare partial before))
       (some_gone (length before.line.text) (length m.text)) in
-      does_as (show_killed_effect count way) (show_taken before) s t result
-      (ap (λ n. show_killed_effect n way (setting_of s) (value_of s)) is
-      ∙ ap (λ w. show_killed_effect gone w (setting_of s) (value_of s)) way_is) h
+      does_as (show_killed_effect count way from) (show_taken before) s t result
+      (ap (λ n. show_killed_effect n way from (setting_of s) (value_of s)) is
+      ∙ ap (λ w. show_killed_effect gone w from (setting_of s) (value_of s)) way_is
+      ∙ ap (λ f. show_killed_effect gone (kill_way (setting_of s) before m) f (setting_of s) (value_of s)) (at ∙ ap (λ (x : Line). since (setting_of s) x.place before) (sym left))) h

@@ -1,10 +1,8 @@
 -- What a state makes of asking its helper.
-use Rattle.std.proofs.Common.{◌≡◌, ◌⊎◌, ◌&&◌, inl, inr, ℕ, Bool, true, false, true≢false, List, [], refl, sym, ap, subst, ◌∙◌, if◌then◌else◌}
+use Rattle.std.proofs.Common.{◌≡◌, ◌⊎◌, inl, inr, ℕ, Bool, true, false, true≢false, List, [], refl, sym, ap, subst, ◌∙◌}
 use Rattle.std.specs.Prelude.{Option, Some, None, is_some, option_map, Result, Ok, Err, IsErrAnd, IsTrue, IsFalse}
 use Rattle.std.specs.List.{FoldsTo}
-use Rattle.std.proofs.Math.Bool.{and-false}
 use Rattle.line_buffer.specs.Line.{Line}
-use Rattle.line_buffer.specs.Printable.{at_plain_end}
 use Rattle.line_config.specs.declared.errors.ReadlineError.{ReadlineError}
 use Rattle.line_config.specs.declared.errors.ReadlineError.TheVariants.{Helper, Memory}
 use Rattle.line_edits.specs.Written.{group_opened}
@@ -20,7 +18,7 @@ use Rattle.line_help.specs.declared.history as histories
 use Rattle.line_keys.specs.declared.command.CmdKind.TheVariants.{Other}
 use Rattle.line_editor.specs.Accepting.{verdict, verdict_by, group_and_verdict_effect, verdict_effect, validate_by, validate}
 use Rattle.line_editor.specs.RenderCalls.{MadeIn}
-use Rattle.line_editor.specs.Drawing.{redraw_of, draw_effect_behind, repaint_effect, hint_asked, ask_anew_effect, refresh_effect}
+use Rattle.line_editor.specs.Drawing.{draw_effect_behind, draw_effect_since, repaint_effect, hint_asked, ask_anew_effect, refresh_effect}
 use Rattle.line_editor.specs.Inserting.{way_if_bare, put_redraw, show_char_effect, show_inserted_effect}
 use Rattle.line_editor.specs.Killing.{taken_redraw, show_taken_effect, show_killed_effect}
 use Rattle.line_editor.specs.EditSteps.{calls_of_steps}
@@ -65,11 +63,11 @@ update_reason hooks line start text failed e why = hook_reason (λ h. h.updates 
 
 -- ---- one of two drawings
 
-abbrev put : ℕ → Way → Setting → Value → Effect
-put c way s v = draw_effect (put_redraw way c s v) s v
+abbrev put : ℕ → Way → Option ℕ → Setting → Value → Effect
+put c way from s v = draw_effect (put_redraw way c from s v) s v
 
-abbrev taken : ℕ → Way → Setting → Value → Effect
-taken count way s v = draw_effect (taken_redraw way count s v) s v
+abbrev taken : ℕ → Way → Option ℕ → Setting → Value → Effect
+taken count way from s v = draw_effect (taken_redraw way count from s v) s v
 
 -- ---- with a helper
 
@@ -133,40 +131,32 @@ module _ {Out H Hi K T : Type 0} {renderer : renderers.Renderer.Ghosts Out} {com
   refresh_made prompt s m t x result is h k =
       does_both ask_anew_effect repaint_effect s m t x result h (does_as (draw_effect_behind prompt true) repaint_effect m t result (ap (λ p. draw_effect_behind p true (setting_of m) (value_of m)) is) k)
 
-  module _ (c : ℕ) (way : Way) where
-    -- in one of the ways, or by a whole drawing
+  module _ (c : ℕ) (way : Way) (from : Option ℕ) where
+    -- in one of the ways, or by a drawing of the line
     pub put_made : {A B : Type 0} (shown : Way) (s m t : State Out H Hi K T renderer completer candidate hinter hint highlighter validator history) (x : A) (result : Result B ReadlineError)
-        → way_if_bare way (value_of m) ≡ shown → Does ask_anew_effect s m (Ok x) → Does (put c shown) m t result → Does (show_inserted_effect c way) s t result
+        → way_if_bare way (value_of m) ≡ shown → Does ask_anew_effect s m (Ok x) → Does (put c shown from) m t result → Does (show_inserted_effect c way from) s t result
     put_made shown s m t x result is h k =
-        does_both ask_anew_effect (show_char_effect c way) s m t x result h
-        (does_as (put c shown) (show_char_effect c way) m t result (ap (λ w. put c w (setting_of m) (value_of m)) (sym is)) k)
+        does_both ask_anew_effect (show_char_effect c way from) s m t x result h
+        (does_as (put c shown from) (show_char_effect c way from) m t result (ap (λ w. put c w from (setting_of m) (value_of m)) (sym is)) k)
 
-    pub put_drawn : {A B : Type 0} (prompt : List ℕ) (s m t : State Out H Hi K T renderer completer candidate hinter hint highlighter validator history) (x : A) (result : Result B ReadlineError)
-        → prompt ≡ m.prompt.now → ((d : ℕ) × (way_if_bare way (value_of m) ≡ Back d)) ⊎ (way_if_bare way (value_of m) ≡ Whole) → Does ask_anew_effect s m (Ok x)
-        → Does (draw_effect_behind prompt true) m t result → Does (show_inserted_effect c way) s t result
-    put_drawn prompt s m t x result own (inl is) h k =
-        put_made (Back is.0) s m t x result is.1 h
-        (does_as (draw_effect_behind prompt true) (put c (Back is.0)) m t result (ap (λ p. draw_effect_behind p true (setting_of m) (value_of m)) own) k)
-    put_drawn prompt s m t x result own (inr is) h k =
-        put_made Whole s m t x result is h
-        (does_as (draw_effect_behind prompt true) (put c Whole) m t result (ap (λ p. draw_effect_behind p true (setting_of m) (value_of m)) own) k)
+    pub put_drawn : {A B : Type 0} (s m t : State Out H Hi K T renderer completer candidate hinter hint highlighter validator history) (x : A) (result : Result B ReadlineError)
+        → ((d : ℕ) × (way_if_bare way (value_of m) ≡ Back d)) ⊎ (way_if_bare way (value_of m) ≡ Whole) → Does ask_anew_effect s m (Ok x)
+        → Does (draw_effect_since from) m t result → Does (show_inserted_effect c way from) s t result
+    put_drawn s m t x result (inl is) h k = put_made (Back is.0) s m t x result is.1 h (does_as (draw_effect_since from) (put c (Back is.0) from) m t result refl k)
+    put_drawn s m t x result (inr is) h k = put_made Whole s m t x result is h (does_as (draw_effect_since from) (put c Whole from) m t result refl k)
 
-  module _ (count : ℕ) (way : Way) where
+  module _ (count : ℕ) (way : Way) (from : Option ℕ) where
     pub taken_made : {A B : Type 0} (shown : Way) (s m t : State Out H Hi K T renderer completer candidate hinter hint highlighter validator history) (x : A) (result : Result B ReadlineError)
-        → way_if_bare way (value_of m) ≡ shown → Does ask_anew_effect s m (Ok x) → Does (taken count shown) m t result → Does (show_killed_effect count way) s t result
+        → way_if_bare way (value_of m) ≡ shown → Does ask_anew_effect s m (Ok x) → Does (taken count shown from) m t result → Does (show_killed_effect count way from) s t result
     taken_made shown s m t x result is h k =
-        does_both ask_anew_effect (show_taken_effect count way) s m t x result h
-        (does_as (taken count shown) (show_taken_effect count way) m t result (ap (λ w. taken count w (setting_of m) (value_of m)) (sym is)) k)
+        does_both ask_anew_effect (show_taken_effect count way from) s m t x result h
+        (does_as (taken count shown from) (show_taken_effect count way from) m t result (ap (λ w. taken count w from (setting_of m) (value_of m)) (sym is)) k)
 
-    pub killed_drawn : {A B : Type 0} (prompt : List ℕ) (s m t : State Out H Hi K T renderer completer candidate hinter hint highlighter validator history) (x : A) (result : Result B ReadlineError)
-        → prompt ≡ m.prompt.now → (way_if_bare way (value_of m) ≡ Alone) ⊎ (way_if_bare way (value_of m) ≡ Whole) → Does ask_anew_effect s m (Ok x)
-        → Does (draw_effect_behind prompt true) m t result → Does (show_killed_effect count way) s t result
-    killed_drawn prompt s m t x result own (inl is) h k =
-        taken_made Alone s m t x result is h
-        (does_as (draw_effect_behind prompt true) (taken count Alone) m t result (ap (λ p. draw_effect_behind p true (setting_of m) (value_of m)) own) k)
-    killed_drawn prompt s m t x result own (inr is) h k =
-        taken_made Whole s m t x result is h
-        (does_as (draw_effect_behind prompt true) (taken count Whole) m t result (ap (λ p. draw_effect_behind p true (setting_of m) (value_of m)) own) k)
+    pub killed_drawn : {A B : Type 0} (s m t : State Out H Hi K T renderer completer candidate hinter hint highlighter validator history) (x : A) (result : Result B ReadlineError)
+        → (way_if_bare way (value_of m) ≡ Alone) ⊎ (way_if_bare way (value_of m) ≡ Whole) → Does ask_anew_effect s m (Ok x)
+        → Does (draw_effect_since from) m t result → Does (show_killed_effect count way from) s t result
+    killed_drawn s m t x result (inl is) h k = taken_made Alone s m t x result is h (does_as (draw_effect_since from) (taken count Alone from) m t result refl k)
+    killed_drawn s m t x result (inr is) h k = taken_made Whole s m t x result is h (does_as (draw_effect_since from) (taken count Whole from) m t result refl k)
 
   -- ---- a verdict
 

@@ -2,7 +2,8 @@
 use Rattle.std.proofs.Common.{◌≡◌, ℕ, ◌+◌, ◌-◌, ◌==◌, ◌||◌, ◌&&◌, not, ◌<◌, ◌≤◌, nat_le, nat_lt, Bool, true, false, List, [], ◌∷◌, ◌++◌, take, drop, length, length-append, take_all, Option, Some, None, IfSome, is_some, encode_utf8, refl, sym, ap, ◌∙◌, subst, append_assoc, append-nil, arith, if◌then◌else◌}
 use Rattle.std.specs.Prelude.{⊤, chars}
 use Rattle.std.specs.List.{list_all, last_or, insert_slice, replace_range}
-use Rattle.std.proofs.lemmas.Bool.{and_parts, eqb-true, ltb-true}
+use Rattle.std.proofs.lemmas.Bool.{and_parts, eqb-true, leb-true, ltb-true}
+use Rattle.std.proofs.lemmas.Option.{same_Some}
 use Rattle.std.proofs.lemmas.List.{drop_all, take-append-drop, length-drop, length-take, length-take-le, drop-drop}
 use Rattle.std.proofs.lemmas.Str.{encode_ascii}
 use Rattle.unicode_segmentation.proofs.TextLemmas.{encode_utf8_nonempty}
@@ -30,9 +31,9 @@ use Rattle.line_keys.specs.Replies.{Reply}
 use Rattle.line_keys.specs.declared.command.CmdKind.{CmdKind}
 use Rattle.line_keys.specs.declared.command.CmdKind.TheVariants.{MoveCursor}
 use Rattle.line_record.specs.Held.{HeldItem}
-use Rattle.line_editor.specs.Characters.{stands_apart}
-use Rattle.line_editor.specs.Drawing.{redraw_of, repaint_effect, ask_anew_effect, refresh_effect, refresh_effect_if, message_effect, cursor_moved, beep_effect, clear_and_draw_effect}
-use Rattle.line_editor.specs.Inserting.{is_bare, may_be_typed, may_be_appended, may_be_put_in, insertion_way, way_if_bare, put_redraw, show_char_effect, show_inserted_effect, insert_char, insert_text}
+use Rattle.line_editor.specs.Characters.{stands_apart, begins_apart}
+use Rattle.line_editor.specs.Drawing.{redraw_of, may_begin_at, since, redraw_since, draw_effect_since, repaint_effect, ask_anew_effect, refresh_effect, refresh_effect_if, refresh_effect_since, refresh_effect_since_if, message_effect, cursor_moved, beep_effect, clear_and_draw_effect}
+use Rattle.line_editor.specs.Inserting.{is_bare, has_printable_rest, may_be_typed, may_be_appended, may_be_put_in, insertion_way, way_if_bare, put_redraw, show_char_effect, show_inserted_effect, insert_char, insert_text}
 use Rattle.line_editor.specs.declared.way.Way.{Way}
 use Rattle.line_editor.specs.declared.way.Way.TheVariants.{AtEnd, Alone, Back, Inside, Whole}
 use Rattle.line_editor.specs.Killing.{may_be_taken, may_be_taken_out, text_gone, is_cut_inside, is_erased, last_of_bare, way_erased, kill_way, taken_redraw, show_taken_effect, show_taken, kill_effect, insert_text_if, replace}
@@ -40,12 +41,13 @@ use Rattle.line_editor.specs.Leads.{Leads}
 use Rattle.line_editor.specs.Moving.{cursor_moved_if, to_found, to_place, move_home, move_to_next_word, move_to_first_print, move_by}
 use Rattle.line_editor.specs.RenderCalls.{Marks}
 use Rattle.line_editor.specs.Redraws.{Redraw, info_text}
-use Rattle.line_editor.specs.Redraws.Redraw.{Drawn, Moved, Typed, Appended, Taken, Erased, PutIn, TakenOut, Cleared}
+use Rattle.line_editor.specs.Redraws.Redraw.{Drawn, DrawnFrom, Moved, Typed, Appended, Taken, Erased, PutIn, TakenOut, Cleared}
 use Rattle.line_editor.specs.Sights.{PartSpans, drawn_spans, Sight, SameStyles, sight_as, sight, sight_all, Fits, FitsAll, Turns, info_one, info_after, sight_of}
-use Rattle.line_editor.specs.Values.{Value, Setting, EditStep, Effect, Transition, no_effect, then_do, hint_reply, help_steps, value_with_edit, edit_effect, at_line, with_mark, marks_seen, shown_marks}
+use Rattle.line_editor.specs.Values.{Value, Setting, EditStep, Effect, Transition, no_effect, then_do, hint_reply, help_steps, value_with_edit, edit_effect, at_line, with_mark, marks_seen, shown_marks, shown_hint, line_and_record_of}
 use Rattle.line_editor.specs.Values.EditStep.{Draws, Edits, TakesBack, Takes}
 use Rattle.line_editor.proofs.CharacterRanges.{end_is_last}
 use Rattle.line_editor.proofs.KillLemmas.{Low, cut_short, cut_text, range_low}
+use Rattle.line_editor.proofs.KnownLemmas.{Begins, behind_place, text_begins, typed_begins}
 use Rattle.line_editor.proofs.SimpleLemmas.{typed_at_any}
 
 -- ---- one after the other
@@ -203,6 +205,103 @@ refresh_if_leads edit s v b h =
     let w = value_with_edit (by edit) v in
     edit_leads (with_answer tt (edit v.line)) s v v (refresh_effect_if b s w) (either s v b (refresh_effect s w) (no_effect s w) (λ e. refresh_leads s v w) (λ e. rest_leads s v w (h e, refl, refl)))
 
+-- drawn in full
+whole_leads : (s : Setting) (v w : Value) → Leads s v (record { value = w; steps = Draws w s.marks (redraw_of s w) ∷ [] })
+whole_leads s v w info = record { fits = ((λ x. refl), tt); leads = refl }
+
+-- ---- drawn from a place on
+
+-- a prompt's spans depend on nothing else
+same_prompt : (marks : Option Marks) (marked told was_marked was_told : Bool) (prompt text other : List ℕ) (place at : ℕ) (info gone : List ℕ)
+    → (drawn_spans (marks_seen marked told marks) true prompt text place info).prompt ≡ (drawn_spans (marks_seen was_marked was_told marks) true prompt other at gone).prompt
+same_prompt None marked told was_marked was_told prompt text other place at info gone = refl
+same_prompt (Some m) marked told was_marked was_told prompt text other place at info gone = refl
+
+not_marked : (b : Bool) → not b ≡ true → b ≡ false
+not_marked true h = cc
+not_marked false h = refl
+
+unstyled_by : (s : Setting) (v : Value) (info : List ℕ) → v.marked ≡ false → (drawn_spans (shown_marks v s.marks) true s.prompt v.line.text v.line.place info).line ≡ []
+unstyled_by s v info is =
+    ap (λ x. (drawn_spans (marks_seen x (not (is_some v.hint)) s.marks) true s.prompt v.line.text v.line.place info).line) is
+    ∙ unmarked_line s.marks (not (is_some v.hint)) s.prompt v.line.text v.line.place info
+
+from_leads : (from : ℕ) (s : Setting) (v w : Value) → may_begin_at from v ≡ true → may_begin_at from w ≡ true → take from w.line.text ≡ take from v.line.text
+    → Leads s v (record { value = w; steps = Draws w s.marks (DrawnFrom s.prompt from w.line.text w.line.place (shown_hint w)) ∷ [] })
+from_leads from s v w first later same info =
+    let a = and_parts (not v.marked) _ first in
+    let b = and_parts (nat_le from (length v.line.text)) _ a.1 in
+    let c = and_parts (not w.marked) _ later in
+    let d = and_parts (nat_le from (length w.line.text)) _ c.1 in
+    let hint = info_text (shown_hint w) in
+    record {
+      fits = (
+        (
+          refl,
+          refl,
+          record {
+            before = take from v.line.text;
+            gone = drop from v.line.text;
+            rest = drop from w.line.text;
+            whole = sym (take-append-drop from v.line.text);
+            text_is = sym (take-append-drop from w.line.text) ∙ ap (λ xs. xs ++ drop from w.line.text) same;
+            from_is = sym (length-take-le from v.line.text (leb-true from (length v.line.text) b.0));
+            gone_apart = b.1;
+            rest_apart = ap (λ xs. begins_apart xs (drop from w.line.text)) (sym same) ∙ d.1;
+            prompt_is = refl;
+            unstyled = unstyled_by s v (info_text info) (not_marked v.marked a.0);
+            still_unstyled = unstyled_by s w hint (not_marked w.marked c.0);
+            prompt_styles = same_prompt s.marks w.marked (not (is_some w.hint)) v.marked (not (is_some v.hint)) s.prompt w.line.text v.line.text w.line.place v.line.place hint (info_text info);
+          },
+        ),
+        tt,
+      );
+      leads = refl;
+    }
+
+some_by : (b : Bool) (o : Option ℕ) (c : ℕ) → (if b then o else None) ≡ Some c → (b ≡ true) × (o ≡ Some c)
+some_by true o c h = (refl, h)
+some_by false o c h = cc
+
+-- a change left the line up to there
+pub since_leads : (from : ℕ) (s : Setting) (v w : Value) → (from ≤ length v.line.text → Begins from v.line.text w.line.text)
+    → Leads s v (record { value = w; steps = Draws w s.marks (redraw_since (since s from v) s w) ∷ [] })
+since_leads from s v w stays = by_place (since s from v) refl
+  where
+    by_test : (b : Bool) → may_begin_at from w ≡ b → may_begin_at from v ≡ true → take from w.line.text ≡ take from v.line.text
+        → Leads s v (record { value = w; steps = Draws w s.marks (if b then DrawnFrom s.prompt from w.line.text w.line.place (shown_hint w) else redraw_of s w) ∷ [] })
+    by_test true later first same = from_leads from s v w first later same
+    by_test false later first same = whole_leads s v w
+
+    by_place : (o : Option ℕ) → since s from v ≡ o → Leads s v (record { value = w; steps = Draws w s.marks (redraw_since o s w) ∷ [] })
+    by_place None is = whole_leads s v w
+    by_place (Some at) is =
+        let found = some_by (s.config.partial_redraw && may_begin_at from v) (Some from) at is in
+        let first = (and_parts s.config.partial_redraw _ found.0).1 in
+        let inside = (and_parts (nat_le from (length v.line.text)) _ (and_parts (not v.marked) _ first).1).0 in
+        let begins = stays (leb-true from (length v.line.text) inside) in
+        subst (λ k. Leads s v (record { value = w; steps = Draws w s.marks (redraw_since (Some k) s w) ∷ [] })) (same_Some from at found.1)
+        (by_test (may_begin_at from w) refl first begins.same)
+
+pub refresh_since_leads : (from : ℕ) (s : Setting) (v w : Value) → (from ≤ length v.line.text → Begins from v.line.text w.line.text) → Leads s v (refresh_effect_since (since s from v) s w)
+refresh_since_leads from s v w stays =
+    let asked = (ask_anew_effect s w).value in
+    help_leads w (hint_reply s w) s v (draw_effect_since (since s from v) s asked) (since_leads from s v asked stays)
+
+pub redraw_since_leads : {A : Type 0} (edit : Line → WriteSteps A) (from : ℕ) (s : Setting) (v w : Value) → (from ≤ length v.line.text → Begins from v.line.text (by edit (line_and_record_of w)).line.text)
+    → Leads s v (then_do (edit_effect edit) (refresh_effect_since (since s from v)) s w)
+redraw_since_leads edit from s v w stays =
+    edit_leads (with_answer tt (edit w.line)) s v w (refresh_effect_since (since s from v) s (value_with_edit (by edit) w)) (refresh_since_leads from s v (value_with_edit (by edit) w) stays)
+
+pub refresh_since_if_leads : {A : Type 0} (edit : Line → WriteSteps A) (s : Setting) (v : Value) (b : Bool)
+    → (b ≡ false → (value_with_edit (by edit) v).line ≡ v.line) → (v.line.place ≤ length v.line.text → Begins v.line.place v.line.text (by edit (line_and_record_of v)).line.text)
+    → Leads s v (then_do (edit_effect edit) (refresh_effect_since_if (since s v.line.place v) b) s v)
+refresh_since_if_leads edit s v b h stays =
+    let w = value_with_edit (by edit) v in
+    let from = since s v.line.place v in
+    edit_leads (with_answer tt (edit v.line)) s v v (refresh_effect_since_if from b s w)
+    (either s v b (refresh_effect_since from s w) (no_effect s w) (λ e. refresh_since_leads v.line.place s v w stays) (λ e. rest_leads s v w (h e, refl, refl)))
+
 -- ---- the cursor
 
 shown_or_drawn : (s : Setting) (v w : Value) (b : Bool) → (v.marked || w.marked) ≡ b → is_some w.hint ≡ is_some v.hint → w.line.text ≡ v.line.text
@@ -267,10 +366,6 @@ put_at_end text place added e =
     ∙ ap (λ xs. text ++ (added ++ xs)) (drop_all place text (omega arith))
     ∙ ap (λ xs. text ++ xs) (append-nil added)
 
--- drawn in full
-whole_leads : (s : Setting) (v w : Value) → Leads s v (record { value = w; steps = Draws w s.marks (redraw_of s w) ∷ [] })
-whole_leads s v w info = record { fits = ((λ x. refl), tt); leads = refl }
-
 -- the way that was chosen, if the line is bare
 abbrev chosen : Bool → Bool → Bool → Bool → ℕ → Bool → Way
 chosen bare alone first second c back = if bare then (if alone then Alone else if first then AtEnd else if second then Inside else if back then Back c else Whole) else Whole
@@ -307,7 +402,8 @@ back_if true false false true c back d h = cc
 back_if true false false false c true d h = (refl, refl, cc)
 back_if true false false false c false d h = cc
 
-module _ (s : Setting) (c n : ℕ) (v w : Value) (put : (n == 1) ≡ true → w.line ≡ with_text_at_cursor (encode_utf8 c) v.line) where
+module _ (s : Setting) (c n : ℕ) (v w : Value) (put : (n == 1) ≡ true → w.line ≡ with_text_at_cursor (encode_utf8 c) v.line)
+    (stays : v.line.place ≤ length v.line.text → Begins v.line.place v.line.text w.line.text) where
   typed_leads : is_bare w ≡ true → may_be_typed (is_some s.tabs) c n v ≡ true → Leads s v (record { value = w; steps = Draws w s.marks (Typed s.prompt c w.line.text w.line.place) ∷ [] })
   typed_leads bare typing info =
       let b = and_parts (n == 1) _ typing in
@@ -374,7 +470,8 @@ module _ (s : Setting) (c n : ℕ) (v w : Value) (put : (n == 1) ≡ true → w.
       let b = and_parts (n == 1) _ a.1 in
       let d = and_parts (is_bare v) _ b.1 in
       let e = and_parts (is_printable c) _ d.1 in
-      let f = and_parts (nat_lt at (length text)) (is_plain text) e.1 in
+      let f = and_parts (nat_lt at (length text)) _ e.1 in
+      let kept = and_parts (is_plain text) (has_printable_rest v.line) f.1 in
       let one : encode_utf8 c ≡ c ∷ [] = encode_ascii c (small c e.0) in
       let low : at < length text = ltb-true at (length text) f.0 in
       let size : length (take at text) ≡ at = length-take-le at text (omega arith) in
@@ -393,7 +490,7 @@ module _ (s : Setting) (c n : ℕ) (v w : Value) (put : (n == 1) ≡ true → w.
               text_is = new ∙ append_assoc (take at text) (encode_utf8 c) (drop at text) ∙ ap (λ x. take at text ++ (x ++ drop at text)) one;
               at = sym size;
               behind = place ∙ ap (λ x. at + length x) one ∙ ap (λ n. n + 1) (sym size);
-              plain = f.1;
+              plain = kept.0;
               printable = e.0;
               prompt_is = refl;
             },
@@ -404,7 +501,7 @@ module _ (s : Setting) (c n : ℕ) (v w : Value) (put : (n == 1) ≡ true → w.
         leads = refl;
       }
 
-  put_by : (way : Way) → way_if_bare (insertion_way s c n v) w ≡ way → Leads s v (record { value = w; steps = Draws w s.marks (put_redraw way c s w) ∷ [] })
+  put_by : (way : Way) → way_if_bare (insertion_way s c n v) w ≡ way → Leads s v (record { value = w; steps = Draws w s.marks (put_redraw way c (since s v.line.place v) s w) ∷ [] })
   put_by AtEnd is =
       let parts = at_end_if (is_bare w) (may_be_appended s.config.partial_redraw c n v) (may_be_typed (is_some s.tabs) c n v) (may_be_put_in s.config.partial_redraw c n v) 0 false is in
       typed_leads parts.0 parts.1
@@ -414,8 +511,8 @@ module _ (s : Setting) (c n : ℕ) (v w : Value) (put : (n == 1) ≡ true → w.
   put_by Inside is =
       let parts = in_row_if (is_bare w) (may_be_appended s.config.partial_redraw c n v) (may_be_typed (is_some s.tabs) c n v) (may_be_put_in s.config.partial_redraw c n v) 0 false is in
       put_in_leads parts.0 parts.1
-  put_by (Back d) is = whole_leads s v w
-  put_by Whole is = whole_leads s v w
+  put_by (Back d) is = since_leads v.line.place s v w stays
+  put_by Whole is = since_leads v.line.place s v w stays
 
 pub none_if : (told : ChangeEvent) (added : List ℕ) (l : Line) (b : Bool)
     → (let i : Insertion = if b then record { answer = Some (l.place == length l.text); events = told ∷ []; line = with_text_at_cursor added l } else no_insertion l in is_some i.answer ≡ false → i.line ≡ l)
@@ -441,24 +538,28 @@ pub insertion_leads : (c n : ℕ) (s : Setting) (v : Value) → Leads s v (inser
 insertion_leads c n s v =
     let w = value_with_edit (by (char_steps c n)) v in
     let way = insertion_way s c n v in
-    either s v (is_some (insertion c n v.line).answer) (then_do (edit_effect (char_steps c n)) (show_inserted_effect c way) s v) (no_effect s w)
+    let from = since s v.line.place v in
+    either s v (is_some (insertion c n v.line).answer) (then_do (edit_effect (char_steps c n)) (show_inserted_effect c way from) s v) (no_effect s w)
     (λ some. let asked = (ask_anew_effect s w).value in
-    edit_leads (with_answer tt (char_steps c n v.line)) s v v (show_inserted_effect c way s w)
-    (help_leads w (hint_reply s w) s v (show_char_effect c way s asked) (put_by s c n v asked (λ one. one_typed c n v.line (n == 1) one some) (way_if_bare way asked) refl)))
+    edit_leads (with_answer tt (char_steps c n v.line)) s v v (show_inserted_effect c way from s w)
+    (help_leads w (hint_reply s w) s v (show_char_effect c way from s asked)
+    (put_by s c n v asked (λ one. one_typed c n v.line (n == 1) one some) (λ low. typed_begins c n v.line.place v.line (omega arith) low) (way_if_bare way asked) refl)))
     (λ none. rest_leads s v w (no_typing c n v.line (n == 1) none, refl, refl))
 
 pub text_leads : (text : List ℕ) (s : Setting) (v : Value) → Leads s v (insert_text text s v)
-text_leads text s v = either s v (length text == 0) _ _ (λ e. rest_leads s v v (refl, refl, refl)) (λ e. redraw_leads (text_steps text) s v v)
+text_leads text s v = either s v (length text == 0) _ _ (λ e. rest_leads s v v (refl, refl, refl))
+    (λ e. redraw_since_leads (text_steps text) v.line.place s v v (text_begins text v.line.place v.line (omega arith)))
 
 -- ---- a kill
-
-some_by : (b : Bool) (o : Option ℕ) (c : ℕ) → (if b then o else None) ≡ Some c → (b ≡ true) × (o ≡ Some c)
-some_by true o c h = (refl, h)
-some_by false o c h = cc
 
 module _ (s : Setting) (v w : Value) (from upto : ℕ) (text : w.line.text ≡ replace_range v.line.text from upto []) (place : w.line.place ≡ from) where
   abbrev count : ℕ
   count = length v.line.text - length w.line.text
+
+  left_leads : Leads s v (record { value = w; steps = Draws w s.marks (redraw_since (since s w.line.place v) s w) ∷ [] })
+  left_leads = since_leads w.line.place s v w (λ low.
+      subst (λ k. Begins k v.line.text w.line.text) (sym place)
+      (subst (λ xs. Begins from v.line.text xs) (sym text) (behind_place from upto v.line.text [] (subst (λ k. k ≤ length v.line.text) place low))))
 
   taken_leads : is_bare w ≡ true → (may_be_taken (drop (length w.line.text) v.line.text) v && at_plain_end w.line.text w.line.place) ≡ true → (is_plain v.line.text ≡ true → Low v.line.text from upto)
       → Leads s v (record { value = w; steps = Draws w s.marks (Taken s.prompt count w.line.text w.line.place) ∷ [] })
@@ -503,9 +604,10 @@ module _ (s : Setting) (v w : Value) (from upto : ℕ) (text : w.line.text ≡ r
       let b = and_parts s.config.partial_redraw _ a.0 in
       let d = and_parts (is_bare v) _ b.1 in
       let p = and_parts (is_plain before) (list_all is_printable (text_gone v.line w.line)) d.1 in
-      let f = and_parts (nat_lt (length now) (length before)) (nat_lt w.line.place (length now)) a.1 in
+      let f = and_parts (nat_lt (length now) (length before)) _ a.1 in
+      let kept = and_parts (nat_lt w.line.place (length now)) (has_printable_rest w.line) f.1 in
       let less = ltb-true (length now) (length before) f.0 in
-      let inside = ltb-true w.line.place (length now) f.1 in
+      let inside = ltb-true w.line.place (length now) kept.0 in
       let whole : now ≡ take from before ++ drop upto before = text ∙ append_assoc (take from before) [] (drop upto before) in
       let size : length now ≡ length (take from before) + length (drop upto before) = ap length whole ∙ length-append (take from before) (drop upto before) in
       let first = length-take from before in
@@ -579,21 +681,21 @@ module _ (s : Setting) (v w : Value) (from upto : ℕ) (text : w.line.text ≡ r
   taken_of : (way : Way) (c : ℕ) (back : Bool)
       → chosen (is_bare w) false (may_be_taken (drop (length w.line.text) v.line.text) v && at_plain_end w.line.text w.line.place) (may_be_taken_out s.config.partial_redraw (text_gone v.line w.line) v && is_cut_inside v.line w.line) c back ≡ way
       → (back ≡ true → (last_of_bare s.config.partial_redraw v ≡ Some c) × (is_erased c count w.line ≡ true)) → (is_plain v.line.text ≡ true → Low v.line.text from upto)
-      → Leads s v (record { value = w; steps = Draws w s.marks (taken_redraw way count s w) ∷ [] })
+      → Leads s v (record { value = w; steps = Draws w s.marks (taken_redraw way count (since s w.line.place v) s w) ∷ [] })
   taken_of AtEnd c back is last low = let parts = at_end_if (is_bare w) false _ _ c back is in taken_leads parts.0 parts.1 low
   taken_of Inside c back is last low = let parts = in_row_if (is_bare w) false _ _ c back is in taken_out_leads parts.0 parts.1
   taken_of (Back d) c back is last low =
       let parts = back_if (is_bare w) false _ _ c back d is in
       let k = last parts.1 in
       erased_leads d parts.0 (k.0 ∙ ap Some parts.2) (ap (λ x. is_erased x count w.line) (sym parts.2) ∙ k.1)
-  taken_of Alone c back is last low = whole_leads s v w
-  taken_of Whole c back is last low = whole_leads s v w
+  taken_of Alone c back is last low = left_leads
+  taken_of Whole c back is last low = left_leads
 
   taken_by : (way : Way) (last : Option ℕ) → last_of_bare s.config.partial_redraw v ≡ last
       → way_if_bare (if may_be_taken (drop (length w.line.text) v.line.text) v && at_plain_end w.line.text w.line.place then AtEnd
       else if may_be_taken_out s.config.partial_redraw (text_gone v.line w.line) v && is_cut_inside v.line w.line then Inside else way_erased count w.line last) w ≡ way
       → (is_plain v.line.text ≡ true → Low v.line.text from upto)
-      → Leads s v (record { value = w; steps = Draws w s.marks (taken_redraw way count s w) ∷ [] })
+      → Leads s v (record { value = w; steps = Draws w s.marks (taken_redraw way count (since s w.line.place v) s w) ∷ [] })
   taken_by way None last is low = taken_of way 0 false is (λ b. cc) low
   taken_by way (Some c) last is low = taken_of way c (is_erased c count w.line) is (λ b. (last, b)) low
 
@@ -606,7 +708,7 @@ killed_by edit s v held (Some span) h =
     let asked = (ask_anew_effect s w).value in
     let way = kill_way s v w.line in
     edit_leads edit s v v (show_taken v s w) (help_leads w (hint_reply s w) s v
-    (show_taken_effect (length v.line.text - length w.line.text) way s asked)
+    (show_taken_effect (length v.line.text - length w.line.text) way (since s w.line.place v) s asked)
     (taken_by s v asked span.from span.upto refl refl (way_if_bare way asked) (last_of_bare s.config.partial_redraw v) refl refl h))
 
 pub kill_leads : (m : Movement) (s : Setting) (v : Value) → Leads s v (kill_effect m s v)

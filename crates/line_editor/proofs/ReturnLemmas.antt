@@ -54,7 +54,7 @@ use Rattle.line_editor.specs.Moving.{cursor_moved_if, to_found, to_place, move_h
 use Rattle.line_editor.specs.History.{with_saved_line, value_on_leaving, recall, come_back_effect as back_at_end, history_step, history_end}
 use Rattle.line_editor.specs.Returns.{ValueStep, value_after, value_after_all, command_that_leaves, is_search, searches, StaysAway, ComesBack}
 use Rattle.line_editor.specs.Returns.ValueStep.{Done, Asked, Met}
-use Rattle.line_editor.specs.Drawing.{refresh_effect, refresh_effect_if}
+use Rattle.line_editor.specs.Drawing.{since, refresh_effect, refresh_effect_if, refresh_effect_since_if}
 use Rattle.line_editor.specs.Transforms.{edit_word_effect}
 use Rattle.line_editor.specs.ModalCommands.{meeting_effect, meeting_at_rest, meeting_in_prefixes, meeting_after_tab, meeting_anew, meeting_in_list, meeting_in_cycle, meeting_in, meeting_in_search}
 use Rattle.line_editor.specs.Modal.{Modal, modal_at_rest, wish_of}
@@ -164,6 +164,9 @@ pop_keeps (Some lent) s v = either v (can_take_before lent.0 v.line) _ _ (kept r
 
 drawn_keeps : (b : Bool) (s : Setting) (v w : Value) → Keeps v w → Keeps v (refresh_effect_if b s w).value
 drawn_keeps b s v w h = either v b _ _ (kept h.saved h.history h.growth) h
+
+drawn_since_keeps : (from : Option ℕ) (b : Bool) (s : Setting) (v w : Value) → Keeps v w → Keeps v (refresh_effect_since_if from b s w).value
+drawn_since_keeps from b s v w h = either v b _ _ (kept h.saved h.history h.growth) h
 
 told_keeps : (draws : Bool) (text : Option (List ℕ)) (kind : CmdKind) (s : Setting) (v w : Value) → Keeps v w → Keeps v (message_effect_if draws text kind s w).value
 told_keeps draws text kind s v w h = either v (draws || is_some text) _ _ (kept h.saved h.history h.growth) h
@@ -333,9 +336,9 @@ command_held m (Kill movement) s text at v quiet inside h away = keeps_held s te
 command_held m (Move movement) s text at v quiet inside h away = keeps_held s text at v (effect m (Move movement) s v).value h away (motion_keeps movement s v)
 command_held m Noop s text at v quiet inside h away = keeps_held s text at v (effect m Noop s v).value h away (same v)
 command_held m Repaint s text at v quiet inside h away = keeps_held s text at v (effect m Repaint s v).value h away (kept refl refl refl)
-command_held m (Overwrite c) s text at v quiet inside h away = keeps_held s text at v (effect m (Overwrite c) s v).value h away (drawn_keeps (is_some (place_forward 1 v.line)) s v (value_with_edit (by (overwrite_steps c)) v) (kept refl refl (over_grows c (place_forward 1 v.line) (line_and_record_of v))))
+command_held m (Overwrite c) s text at v quiet inside h away = keeps_held s text at v (effect m (Overwrite c) s v).value h away (drawn_since_keeps (since s v.line.place v) (is_some (place_forward 1 v.line)) s v (value_with_edit (by (overwrite_steps c)) v) (kept refl refl (over_grows c (place_forward 1 v.line) (line_and_record_of v))))
 command_held m QuotedInsert s text at v quiet inside h away = keeps_held s text at v (effect m QuotedInsert s v).value h away (same v)
-command_held m (ReplaceChar n c) s text at v quiet inside h away = keeps_held s text at v (effect m (ReplaceChar n c) s v).value h away (drawn_keeps (is_some (place_forward n v.line)) s v (value_with_edit (by (replace_group_if_any c n)) v) (kept refl refl (any_grows (is_some (place_forward n v.line)) c n v)))
+command_held m (ReplaceChar n c) s text at v quiet inside h away = keeps_held s text at v (effect m (ReplaceChar n c) s v).value h away (drawn_since_keeps (since s v.line.place v) (is_some (place_forward n v.line)) s v (value_with_edit (by (replace_group_if_any c n)) v) (kept refl refl (any_grows (is_some (place_forward n v.line)) c n v)))
 command_held m (Replace movement new) s text at v quiet inside h away = keeps_held s text at v (effect m (Replace movement new) s v).value h away (then_keeps v (kill_effect movement s v).value _ (kill_keeps movement s v) (text_keeps new s (kill_effect movement s v).value))
 command_held m ReverseSearchHistory s text at v quiet inside h away = keeps_held s text at v (effect m ReverseSearchHistory s v).value h away (same v)
 command_held m (SearchAgain way) s text at v quiet inside h away = keeps_held s text at v (effect m (SearchAgain way) s v).value h away (same v)

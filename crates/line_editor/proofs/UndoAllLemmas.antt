@@ -61,7 +61,7 @@ use Rattle.line_editor.specs.Moving.{cursor_moved_if, to_found, to_place, move_h
 use Rattle.line_editor.specs.History.{with_saved_line, at_place, value_on_leaving, recall, value_with_entry, value_from_saved, hit_effect, history_step, history_end, history_search}
 use Rattle.line_editor.specs.Returns.{ValueStep, value_after, value_after_all, BegunSound, UndoesAll}
 use Rattle.line_editor.specs.Returns.ValueStep.{Done, Asked, Met}
-use Rattle.line_editor.specs.Drawing.{refresh_effect, refresh_effect_if}
+use Rattle.line_editor.specs.Drawing.{since, refresh_effect, refresh_effect_if, refresh_effect_since_if}
 use Rattle.line_editor.specs.Transforms.{edit_word_effect}
 use Rattle.line_editor.specs.ModalCommands.{meeting_at_rest, meeting_in_prefixes, meeting_after_tab, meeting_anew, meeting_in_list, meeting_in_cycle, meeting_in, meeting_in_search}
 use Rattle.line_editor.specs.Modal.{Modal, modal_at_rest, wish_of}
@@ -218,6 +218,9 @@ pop_reached (Some lent) s v first ok r =
 drawn_reached : (b : Bool) (s : Setting) (v : Value) (first : List ℕ) → Reached first v → Reached first (refresh_effect_if b s v).value
 drawn_reached b s v first r = either first b _ _ r r
 
+drawn_since_reached : (from : Option ℕ) (b : Bool) (s : Setting) (v : Value) (first : List ℕ) → Reached first v → Reached first (refresh_effect_since_if from b s v).value
+drawn_since_reached from b s v first r = either first b _ _ r r
+
 told_reached : (draws : Bool) (text : Option (List ℕ)) (kind : CmdKind) (s : Setting) (v : Value) (first : List ℕ) → Reached first v → Reached first (message_effect_if draws text kind s v).value
 told_reached draws text kind s v first r = either first (draws || is_some text) _ _ r r
 
@@ -282,11 +285,11 @@ char_reached c n s v first ok r =
     let w = line_and_record_of v in
     let count = clusters_after n v.line in
     let some = is_some (place_forward n v.line) in
-    drawn_reached some s (value_with_edit (by (replace_group_if_any c n)) v) first (made_reached first some (with_answer true (replace_group c n v.line)) (no_steps false) w
+    drawn_since_reached (since s v.line.place v) some s (value_with_edit (by (replace_group_if_any c n)) v) first (made_reached first some (with_answer true (replace_group c n v.line)) (no_steps false) w
     (group_reaches (by (exchange_steps c n count)) w first (λ k. typing_reaches c count (by (delete_steps n) (group_opened w)) first (deleting_reaches first (group_opened w) ok.utf8 ok.boundary k n)) r) r)
 
 over_reached : (c : ℕ) (s : Setting) (v : Value) (first : List ℕ) → Sound v → Reached first v → Reached first (overwrite_char c s v).value
-over_reached c s v first ok r = drawn_reached (is_some (place_forward 1 v.line)) s (value_with_edit (by (overwrite_steps c)) v) first (overwriting_reaches first (line_and_record_of v) ok.utf8 ok.boundary r c)
+over_reached c s v first ok r = drawn_since_reached (since s v.line.place v) (is_some (place_forward 1 v.line)) s (value_with_edit (by (overwrite_steps c)) v) first (overwriting_reaches first (line_and_record_of v) ok.utf8 ok.boundary r c)
 
 word_reached : (action : WordAction) (s : Setting) (v : Value) (first : List ℕ) → Sound v → Reached first v → Reached first (edit_word_effect action s v).value
 word_reached action s v first ok r =

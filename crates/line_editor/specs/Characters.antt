@@ -1,5 +1,5 @@
 -- Characters that are clusters of their own next to each other (UAX #29).
-use Rattle.std.specs.Prelude.{ℕ, ◌==◌, ◌&&◌, ◌||◌, Bool, true, List, Option, Some, None, chars}
+use Rattle.std.specs.Prelude.{ℕ, ◌==◌, ◌&&◌, ◌||◌, nat_le, Bool, true, List, [], ◌∷◌, take, drop, length, Option, Some, None, chars}
 use Rattle.std.specs.Int.{is_in_range}
 use Rattle.std.specs.List.{last_or}
 use Rattle.std.specs.Str.{is_utf8}
@@ -38,3 +38,18 @@ ends_apart (Some last) = (last == 0x0A) || is_apart last
 -- False means that this isn't known
 abbrev pub stands_apart : List ℕ → ℕ → Bool
 stands_apart text c = is_utf8 text && (is_apart c && ends_apart (last_or None (chars text)))
+
+-- characters after a text leave its clusters as they are: there are none, or a newline or a
+-- character apart comes first
+abbrev pub starts_apart : List ℕ → List ℕ → Bool
+starts_apart text [] = true
+starts_apart text (c ∷ cs) = (c == 0x0A) || stands_apart text c
+
+-- the clusters of a text and those of the rest after it are the clusters of both. False means that
+-- this isn't known
+abbrev pub begins_apart : List ℕ → List ℕ → Bool
+begins_apart text rest = is_utf8 rest && starts_apart text (chars rest)
+
+-- the same for the two parts of a text at one of its places
+abbrev pub begins_apart_at : List ℕ → ℕ → Bool
+begins_apart_at text at = nat_le at (length text) && begins_apart (take at text) (drop at text)

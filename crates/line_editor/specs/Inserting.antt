@@ -1,11 +1,13 @@
 -- Insertions of characters and texts, and clusters replaced by characters.
-use Rattle.std.specs.Prelude.{ℕ, ◌==◌, ◌&&◌, nat_lt, not, Bool, if◌then◌else◌, List, length, is_some}
+use Rattle.std.specs.Prelude.{ℕ, ◌==◌, ◌&&◌, nat_lt, not, Bool, if◌then◌else◌, List, drop, length, Option, is_some}
+use Rattle.std.specs.List.{list_all}
 use Rattle.line_buffer.specs.Clusters.{place_forward}
 use Rattle.line_buffer.specs.Insertions.{insert as insertion}
+use Rattle.line_buffer.specs.Line.{Line}
 use Rattle.line_edits.specs.Edits.{char_steps, text_steps, replace_group_if_any, overwrite_steps, by}
 use Rattle.line_buffer.specs.Printable.{is_printable, is_plain, is_typed_at_end}
 use Rattle.line_editor.specs.Characters.{stands_apart}
-use Rattle.line_editor.specs.Drawing.{redraw_of, ask_anew_effect, refresh_effect, refresh_effect_if}
+use Rattle.line_editor.specs.Drawing.{since, redraw_since, ask_anew_effect, refresh_effect_since, refresh_effect_since_if}
 use Rattle.line_editor.specs.Redraws.{Redraw}
 use Rattle.line_editor.specs.Redraws.Redraw.{Typed, Appended, PutIn}
 use Rattle.line_editor.specs.Values.{Value, Setting, Transition, no_effect, then_do, draw_effect, value_with_edit, edit_effect}
@@ -29,12 +31,17 @@ may_be_appended partial c n v =
     partial && ((n == 1) && (is_bare v && ((v.line.place == length v.line.text)
     && stands_apart v.line.text c)))
 
+-- the text after the cursor is printable characters
+abbrev pub has_printable_rest : Line → Bool
+has_printable_rest l = list_all is_printable (drop l.place l.text)
+
 -- whether moving the rest of the line may show it: a single printable character, put before the end
--- of a line that is bare and plain, if lines may be drawn in part
+-- of a line that is bare and plain, in its last row, if lines may be drawn in part
 abbrev pub may_be_put_in : Bool → ℕ → ℕ → Value → Bool
 may_be_put_in partial c n v =
     partial && ((n == 1) && (is_bare v && (is_printable c
-    && (nat_lt v.line.place (length v.line.text) && is_plain v.line.text))))
+    && (nat_lt v.line.place (length v.line.text)
+    && (is_plain v.line.text && has_printable_rest v.line)))))
 
 abbrev pub insertion_way : Setting → ℕ → ℕ → Value → Way
 insertion_way s c n v =
@@ -47,41 +54,42 @@ insertion_way s c n v =
 abbrev pub way_if_bare : Way → Value → Way
 way_if_bare way v = if is_bare v then way else Whole
 
--- the drawing of an inserted character
-abbrev pub put_redraw : Way → ℕ → Setting → Value → Redraw
-put_redraw AtEnd c s v = Typed s.prompt c v.line.text v.line.place
-put_redraw Alone c s v = Appended s.prompt c v.line.text v.line.place
-put_redraw (Back d) c s v = redraw_of s v
-put_redraw Inside c s v = PutIn s.prompt c v.line.text v.line.place
-put_redraw Whole c s v = redraw_of s v
+-- the drawing of an inserted character, before which the line may stay up to a place
+abbrev pub put_redraw : Way → ℕ → Option ℕ → Setting → Value → Redraw
+put_redraw AtEnd c from s v = Typed s.prompt c v.line.text v.line.place
+put_redraw Alone c from s v = Appended s.prompt c v.line.text v.line.place
+put_redraw (Back d) c from s v = redraw_since from s v
+put_redraw Inside c from s v = PutIn s.prompt c v.line.text v.line.place
+put_redraw Whole c from s v = redraw_since from s v
 
-abbrev pub show_char_effect : ℕ → Way → Transition
-show_char_effect c way s v = draw_effect (put_redraw (way_if_bare way v) c s v) s v
+abbrev pub show_char_effect : ℕ → Way → Option ℕ → Transition
+show_char_effect c way from s v = draw_effect (put_redraw (way_if_bare way v) c from s v) s v
 
 -- with a new hint
-abbrev pub show_inserted_effect : ℕ → Way → Transition
-show_inserted_effect c way = then_do ask_anew_effect (show_char_effect c way)
+abbrev pub show_inserted_effect : ℕ → Way → Option ℕ → Transition
+show_inserted_effect c way from = then_do ask_anew_effect (show_char_effect c way from)
 
 abbrev pub insert_char : ℕ → ℕ → Transition
 insert_char c n s v =
     if is_some (insertion c n v.line).answer
     then then_do (edit_effect (char_steps c n))
-    (show_inserted_effect c (insertion_way s c n v)) s v
+    (show_inserted_effect c (insertion_way s c n v) (since s v.line.place v)) s v
     else no_effect s (value_with_edit (by (char_steps c n)) v)
 
 -- a text inserted at the cursor, which stays before it
 abbrev pub insert_text : List ℕ → Transition
 insert_text text s v =
     if length text == 0 then no_effect s v
-    else then_do (edit_effect (text_steps text)) refresh_effect s v
+    else then_do (edit_effect (text_steps text))
+    (refresh_effect_since (since s v.line.place v)) s v
 
 -- drawn if there is a cluster after the cursor
 abbrev pub replace_char : ℕ → ℕ → Transition
 replace_char c n s v =
     then_do (edit_effect (replace_group_if_any c n))
-    (refresh_effect_if (is_some (place_forward n v.line))) s v
+    (refresh_effect_since_if (since s v.line.place v) (is_some (place_forward n v.line))) s v
 
 abbrev pub overwrite_char : ℕ → Transition
 overwrite_char c s v =
     then_do (edit_effect (overwrite_steps c))
-    (refresh_effect_if (is_some (place_forward 1 v.line))) s v
+    (refresh_effect_since_if (since s v.line.place v) (is_some (place_forward 1 v.line))) s v

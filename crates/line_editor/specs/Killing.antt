@@ -10,8 +10,8 @@ use Rattle.line_record.specs.Ring.{Ring, ring_all, ring_with_kill}
 use Rattle.line_edits.specs.Edits.{kill_steps, by}
 use Rattle.line_buffer.specs.Printable.{is_printable, is_plain, at_plain_end}
 use Rattle.line_editor.specs.Characters.{stands_apart}
-use Rattle.line_editor.specs.Drawing.{redraw_of, ask_anew_effect}
-use Rattle.line_editor.specs.Inserting.{is_bare, way_if_bare, insert_text}
+use Rattle.line_editor.specs.Drawing.{since, redraw_since, ask_anew_effect}
+use Rattle.line_editor.specs.Inserting.{is_bare, has_printable_rest, way_if_bare, insert_text}
 use Rattle.line_editor.specs.Redraws.{Redraw}
 use Rattle.line_editor.specs.Redraws.Redraw.{Taken, Erased, TakenOut}
 use Rattle.line_editor.specs.Values.{Value, Setting, Transition, no_effect, memory_effect, then_do, draw_effect, value_with_edit, edit_effect}
@@ -33,10 +33,11 @@ may_be_taken_out partial killed v =
 abbrev pub text_gone : Line → Line → List ℕ
 text_gone before l = take (length before.text - length l.text) (drop l.place before.text)
 
--- some text is gone, and some is left after the cursor
+-- some text is gone, and some is left after the cursor: printable characters
 abbrev pub is_cut_inside : Line → Line → Bool
 is_cut_inside before l =
-    nat_lt (length l.text) (length before.text) && nat_lt l.place (length l.text)
+    nat_lt (length l.text) (length before.text)
+    && (nat_lt l.place (length l.text) && has_printable_rest l)
 
 -- the last character of a bare line, if lines may be drawn in part
 abbrev pub last_of_bare : Bool → Value → Option ℕ
@@ -65,25 +66,27 @@ kill_way s before l =
     else way_erased (length before.line.text - length l.text) l
     (last_of_bare s.config.partial_redraw before)
 
--- the drawing after a deletion of `count` bytes
-abbrev pub taken_redraw : Way → ℕ → Setting → Value → Redraw
-taken_redraw AtEnd count s v = Taken s.prompt count v.line.text v.line.place
-taken_redraw Inside count s v = TakenOut s.prompt count v.line.text v.line.place
-taken_redraw Alone count s v = redraw_of s v
-taken_redraw (Back c) count s v = Erased s.prompt c v.line.text v.line.place
-taken_redraw Whole count s v = redraw_of s v
+-- the drawing after a deletion of `count` bytes, before which the line may stay up to a place
+abbrev pub taken_redraw : Way → ℕ → Option ℕ → Setting → Value → Redraw
+taken_redraw AtEnd count from s v = Taken s.prompt count v.line.text v.line.place
+taken_redraw Inside count from s v = TakenOut s.prompt count v.line.text v.line.place
+taken_redraw Alone count from s v = redraw_since from s v
+taken_redraw (Back c) count from s v = Erased s.prompt c v.line.text v.line.place
+taken_redraw Whole count from s v = redraw_since from s v
 
-abbrev pub show_taken_effect : ℕ → Way → Transition
-show_taken_effect count way s v = draw_effect (taken_redraw (way_if_bare way v) count s v) s v
+abbrev pub show_taken_effect : ℕ → Way → Option ℕ → Transition
+show_taken_effect count way from s v =
+    draw_effect (taken_redraw (way_if_bare way v) count from s v) s v
 
 -- with a new hint
-abbrev pub show_killed_effect : ℕ → Way → Transition
-show_killed_effect count way = then_do ask_anew_effect (show_taken_effect count way)
+abbrev pub show_killed_effect : ℕ → Way → Option ℕ → Transition
+show_killed_effect count way from = then_do ask_anew_effect (show_taken_effect count way from)
 
--- the same for a deletion from a value
+-- the same for a deletion from a value, which leaves the cursor where it was
 abbrev pub show_taken : Value → Transition
 show_taken before s v =
-    show_killed_effect (length before.line.text - length v.line.text) (kill_way s before v.line) s v
+    show_killed_effect (length before.line.text - length v.line.text) (kill_way s before v.line)
+    (since s v.line.place before) s v
 
 abbrev pub kill_effect : Movement → Transition
 kill_effect movement s v =

@@ -7,7 +7,7 @@ use Rattle.line_buffer.specs.declared.layout.GraphemeClusterMode.{GraphemeCluste
 use Rattle.line_buffer.specs.declared.layout.Layout.{Layout}
 use Rattle.line_buffer.specs.declared.layout.Position.{Position}
 use Rattle.line_editor.specs.RenderCalls.{Call, Marks, Ruler}
-use Rattle.line_editor.specs.RenderCalls.Call.{Draw, Move, Write, Beep, ClearScreen, MoveAndClearToEol, InsertChar, MoveAndDelete, Append}
+use Rattle.line_editor.specs.RenderCalls.Call.{Draw, Move, Write, Beep, ClearScreen, MoveAndClearToEol, InsertChar, MoveAndDelete, Append, DrawRest}
 
 -- a redraw doesn't depend on columns
 pub data Redraw : Type 0 where
@@ -28,6 +28,9 @@ pub data Redraw : Type 0 where
   PutIn : (prompt : List ℕ) (c : ℕ) (text : List ℕ) (place : ℕ) → Redraw
   -- `count` printable characters of a plain line deleted, with no information before or after that
   TakenOut : (prompt : List ℕ) (count : ℕ) (text : List ℕ) (place : ℕ) → Redraw
+  -- drawn from a place on, before which the line is as it was drawn, without styles
+  DrawnFrom : (prompt : List ℕ) (from : ℕ) (text : List ℕ) (place : ℕ) (info : Option (List ℕ))
+      → Redraw
   -- redrawn, without hint and message, only if another prompt than the session's own is shown
   Bared : (prompt : List ℕ) (text : List ℕ) (place : ℕ) → Redraw
   -- the cursor moved to the drawing's end
@@ -143,6 +146,17 @@ taken_out_short l at count rest =
       layout = record l { cursor = at; end = end };
     }
 
+-- the rest of the line drawn anew, and the information after it
+abbrev pub rest_call : Ruler → Option Marks → Layout → ℕ → List ℕ → ℕ → Option (List ℕ)
+    → RedrawCalls
+rest_call r marks l from text place info =
+    let at = r.measure (take from text) l.prompt_size in
+    let new = layout_of r l.prompt_size true text place info in
+    record {
+      calls = DrawRest (drop from text) info l.cursor at new marks ∷ [];
+      layout = new;
+    }
+
 -- a byte written at a cell doesn't fill the row
 abbrev pub fits_in_row : ℕ → Position → Bool
 fits_in_row columns at = nat_lt (at.col + 1) columns
@@ -199,6 +213,8 @@ calls_of_redraw r marks l (TakenOut prompt count text place) =
     let rest = drop place text in
     if may_take_out r l at count rest then taken_out_short l at count rest
     else full r marks l prompt true text place None
+calls_of_redraw r marks l (DrawnFrom prompt from text place info) =
+    rest_call r marks l from text place info
 calls_of_redraw r marks l (Bared prompt text place) =
     if l.default_prompt then nothing_asked l else full r marks l prompt true text place None
 calls_of_redraw r marks l ToEnd = move_calls l l.end

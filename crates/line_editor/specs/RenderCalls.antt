@@ -33,6 +33,10 @@ pub data Call : Type 0 where
   MoveAndDelete : (old new : Position) (count : ℕ) (rest : List ℕ) (finish : Position) → Call
   -- a text drawn behind what is drawn, from the drawing's end on
   Append : (text : List ℕ) (at : Position) → Call
+  -- a move to a cell inside the drawing, and the rest of the line drawn in place of what stands
+  -- from there on, with the information after it
+  DrawRest : (rest : List ℕ) (info : Option (List ℕ)) (old at : Position) (new : Layout)
+      (marks : Option Marks) → Call
   ToLeftmost : Call
   -- a call of the helper, which answers or fails; nothing is drawn
   Help : (fails : Bool) → Call

@@ -2,10 +2,10 @@
 use Rattle.std.specs.Prelude.{◌≡◌, ⊤, ℕ, ◌+◌, Bool, true, false, List, [], ◌∷◌, ◌++◌, length, Option, Some, None, encode_utf8}
 use Rattle.std.specs.List.{list_all}
 use Rattle.line_buffer.specs.Printable.{is_printable, is_plain, at_plain_end, is_typed_at_end}
-use Rattle.line_editor.specs.Characters.{stands_apart}
+use Rattle.line_editor.specs.Characters.{stands_apart, begins_apart}
 use Rattle.line_editor.specs.RenderCalls.{Marks}
 use Rattle.line_editor.specs.Redraws.{Redraw, info_text}
-use Rattle.line_editor.specs.Redraws.Redraw.{Drawn, Moved, Typed, Appended, Taken, Erased, PutIn, TakenOut, Bared, ToEnd, Beeped, Cleared}
+use Rattle.line_editor.specs.Redraws.Redraw.{Drawn, Moved, Typed, Appended, Taken, Erased, PutIn, TakenOut, DrawnFrom, Bared, ToEnd, Beeped, Cleared}
 use Rattle.line_editor.specs.Values.{Value, Setting, EditStep, shown_marks}
 use Rattle.line_editor.specs.Values.EditStep.{Draws}
 use Rattle.line_help.specs.Paints.{first_mark}
@@ -78,6 +78,8 @@ sight_drawn x marks (Taken prompt count text place) = sight_as marks prompt text
 sight_drawn x marks (Erased prompt c text place) = sight_as marks prompt text place None
 sight_drawn x marks (PutIn prompt c text place) = sight_as marks prompt text place None
 sight_drawn x marks (TakenOut prompt count text place) = sight_as marks prompt text place None
+sight_drawn x marks (DrawnFrom prompt from text place info) =
+    sight_as marks prompt text place info
 sight_drawn x marks (Bared prompt text place) = x
 sight_drawn x marks ToEnd = record x { ended = true }
 sight_drawn x marks Beeped = x
@@ -154,6 +156,23 @@ pub record TakenOutFits (x : Sight) (prompt : List ℕ) (count : ℕ) (text : Li
   pub printable : list_all is_printable killed ≡ true
   pub prompt_is : prompt ≡ x.prompt
 
+-- a line without styles before and after, of which the text before a place stays, with its clusters
+pub record DrawnFromFits (x : Sight) (marks : Option Marks) (prompt : List ℕ) (from : ℕ)
+    (text : List ℕ) (place : ℕ) (info : Option (List ℕ)) : Type 0 where
+  pub before : List ℕ
+  pub gone : List ℕ
+  pub rest : List ℕ
+  pub whole : x.line ≡ before ++ gone
+  pub text_is : text ≡ before ++ rest
+  pub from_is : from ≡ length before
+  pub gone_apart : begins_apart before gone ≡ true
+  pub rest_apart : begins_apart before rest ≡ true
+  pub prompt_is : prompt ≡ x.prompt
+  pub unstyled : x.spans.line ≡ []
+  pub still_unstyled : (drawn_spans marks true prompt text place (info_text info)).line ≡ []
+  pub prompt_styles : (drawn_spans marks true prompt text place (info_text info)).prompt
+      ≡ x.spans.prompt
+
 -- when each redraw is allowed; `own` is the session's prompt
 abbrev pub FitsDrawn : List ℕ → Sight → Option Marks → Redraw → Type 0
 FitsDrawn own x marks (Drawn prompt given text place info) = given ≡ true → prompt ≡ own
@@ -176,6 +195,8 @@ FitsDrawn own x marks (PutIn prompt c text place) =
 FitsDrawn own x marks (TakenOut prompt count text place) =
     (x.given ≡ true) × (prompt ≡ own) × TakenOutFits x prompt count text place
     × SameStyles x marks prompt text place
+FitsDrawn own x marks (DrawnFrom prompt from text place info) =
+    (x.given ≡ true) × (prompt ≡ own) × DrawnFromFits x marks prompt from text place info
 FitsDrawn own x marks (Bared prompt text place) = x.given ≡ true
 FitsDrawn own x marks redraw = ⊤
 
@@ -206,6 +227,7 @@ info_drawn info (Taken prompt count text place) = None
 info_drawn info (Erased prompt c text place) = None
 info_drawn info (PutIn prompt c text place) = None
 info_drawn info (TakenOut prompt count text place) = None
+info_drawn info (DrawnFrom prompt from text place new) = new
 info_drawn info Cleared = None
 info_drawn info redraw = info
 

@@ -1,5 +1,5 @@
 -- Texts yanked from the ring, and replaced.
-use Rattle.std.specs.Prelude.{ℕ, ◌||◌, Bool, true, false, if◌then◌else◌, List, [], ◌∷◌, Option, Some, None, is_some}
+use Rattle.std.specs.Prelude.{ℕ, ◌-◌, ◌||◌, Bool, true, false, if◌then◌else◌, List, [], ◌∷◌, Option, Some, None, is_some}
 use Rattle.line_buffer.specs.Clusters.{place_forward, place_backward}
 use Rattle.line_buffer.specs.Insertions.{yank as yanked_in, can_take_before}
 use Rattle.line_buffer.specs.Line.{Line, with_cursor_at}
@@ -7,7 +7,7 @@ use Rattle.line_buffer.specs.declared.types.Anchor.{Anchor}
 use Rattle.line_buffer.specs.declared.types.Anchor.TheVariants.{After, Before}
 use Rattle.line_edits.specs.Edits.{yank_steps, pop_group, by}
 use Rattle.line_edits.specs.WriteSteps.{with_answer}
-use Rattle.line_editor.specs.Drawing.{refresh_effect}
+use Rattle.line_editor.specs.Drawing.{since, refresh_effect_since}
 use Rattle.line_editor.specs.Values.{Value, Transition, no_effect, then_do, value_with_edit, edit_effect, at_line}
 use Rattle.line_editor.specs.Values.EditStep.{Edits}
 
@@ -40,14 +40,16 @@ abbrev pub yank_text : Bool → List ℕ → Anchor → ℕ → Transition
 yank_text vi text anchor n s v =
     let before = at_line (line_at_anchor anchor v.line) v in
     if is_some (yanked_in text n before.line).answer || steps_over anchor v.line
-    then then_do (yank_effect vi text n) refresh_effect s before
+    then then_do (yank_effect vi text n)
+    (refresh_effect_since (since s before.line.place v)) s before
     else no_effect s (value_after_yank vi text n before)
 
--- if so many bytes precede the cursor, from a character boundary on
+-- if so many bytes precede the cursor, from a character boundary on; the line stays up to them
 abbrev pub pop_text : ℕ → List ℕ → Transition
 pop_text size text s v =
     if can_take_before size v.line
-    then then_do (edit_effect (pop_group size text)) refresh_effect s v
+    then then_do (edit_effect (pop_group size text))
+    (refresh_effect_since (since s (v.line.place - size) v)) s v
     else no_effect s v
 
 -- ---- the ring's text

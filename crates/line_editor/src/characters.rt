@@ -1,9 +1,9 @@
 //! Characters that are clusters of their own next to each other.
 
-ghost use Rattle.std.specs.Prelude.{◌≡◌, ◌||◌, None, chars};
+ghost use Rattle.std.specs.Prelude.{◌≡◌, ◌||◌, None, chars, IsTrue, IsCharBoundary};
 ghost use Rattle.std.specs.Char.{IsScalar};
 ghost use Rattle.std.specs.List.{last_or};
-ghost use Rattle.line_editor.specs.Characters.{is_narrow, is_wide, is_pictograph, is_apart, ends_apart, stands_apart};
+ghost use Rattle.line_editor.specs.Characters.{is_narrow, is_wide, is_pictograph, is_apart, ends_apart, stands_apart, begins_apart, begins_apart_at};
 
 use line_buffer::is_printable;
 
@@ -101,4 +101,23 @@ pub fn stands_apart(text: &str, c: char) -> bool
     ensures { result ≡ stands_apart text.now c }
 {
     is_apart(c) && ends_apart(text)
+}
+
+/// Whether the rest of a text is known to leave the clusters before it as they are: there is none,
+/// or a newline or a character apart comes first.
+fn begins_apart(text: &str, rest: &str) -> bool
+    ensures { result ≡ begins_apart text.now rest.now }
+{
+    match rest.chars().next() {
+        None => true,
+        Some(first) => first == '\n' || stands_apart(text, first),
+    }
+}
+
+/// Whether a place of a text is known to lie between two of its clusters, or at its start or end.
+pub(crate) fn begins_apart_at(text: &str, at: usize) -> bool
+    ensures value { result ≡ begins_apart_at text.now at }
+    ensures boundary { IsTrue result → IsCharBoundary text.now at }
+{
+    text.is_char_boundary(at) && begins_apart(&text[..at], &text[at..])
 }

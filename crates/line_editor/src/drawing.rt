@@ -15,7 +15,7 @@ use line_help::{Helper, Highlighter, Hint, Hinter, History};
 use line_keys::CmdKind;
 
 /// The text of a hint.
-fn display_of<T: Hint>(hint: &Option<T>) -> Option<&str>
+pub(crate) fn display_of<T: Hint>(hint: &Option<T>) -> Option<&str>
     ensures { option_copied result ≡ option_map (λ h. (T.says h).display) hint.now }
 {
     match hint {
@@ -148,7 +148,7 @@ fn cell_on(columns: Unit, at: Position) -> Position
 }
 
 /// Whether a text after the line is a message: there is no hint.
-fn tells<T: Hint>(hint: &Option<T>) -> bool
+pub(crate) fn tells<T: Hint>(hint: &Option<T>) -> bool
     ensures { result ≡ not (is_some (option_map T.says hint.now)) }
 {
     match hint {

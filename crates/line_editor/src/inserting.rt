@@ -8,14 +8,14 @@ use crate::measured::known_within;
 use crate::renderer::Renderer;
 use crate::state::State;
 use crate::way::Way;
-use line_buffer::{RepeatCount, is_printable, is_simple};
+use line_buffer::{RepeatCount, is_printable, is_printable_text, is_simple};
 use line_config::ReadlineError;
 use line_help::{Helper, History};
 
 #[tactic(auto, using(crate::proofs::StopsLemmas::edits_stop))]
 impl<'p, 'h, Out: Renderer, H: Helper + Drop, Hi: History> State<'p, 'h, Out, H, Hi> {
     ghost use Rattle.line_editor.specs.States.{value_of, setting_of, Does};
-    ghost use Rattle.line_editor.specs.Inserting.{is_bare, may_be_typed, may_be_appended, may_be_put_in, insertion_way, way_if_bare, show_inserted_effect, insert_char, insert_text, replace_char, overwrite_char};
+    ghost use Rattle.line_editor.specs.Inserting.{is_bare, has_printable_rest, may_be_typed, may_be_appended, may_be_put_in, insertion_way, way_if_bare, show_inserted_effect, insert_char, insert_text, replace_char, overwrite_char};
 
     /// Whether neither a hint nor a highlighted character is shown.
     pub(crate) fn is_bare(&self) -> bool
@@ -70,8 +70,16 @@ impl<'p, 'h, Out: Renderer, H: Helper + Drop, Hi: History> State<'p, 'h, Out, H,
                     && (self.recorded.line.is_cursor_at_end() && self.is_apart_from_end(ch))))
     }
 
+    /// Whether the text after the cursor is printable characters.
+    pub(crate) fn has_printable_rest(&self) -> bool
+        ensures { result ≡ has_printable_rest self.now.recorded.line }
+    {
+        let pos = self.recorded.line.pos();
+        is_printable_text(&self.recorded.line.as_str()[pos..])
+    }
+
     /// Whether moving the rest of the line may show a character: a single printable one, put before
-    /// the end of a line that is bare and plain, if lines may be drawn in part.
+    /// the end of a line that is bare and plain, in its last row, if lines may be drawn in part.
     fn may_be_put_in(&self, ch: char, n: RepeatCount) -> bool
         ensures { result ≡ may_be_put_in (setting_of self.now).config.partial_redraw ch n
             (value_of self.now) }
@@ -81,7 +89,7 @@ impl<'p, 'h, Out: Renderer, H: Helper + Drop, Hi: History> State<'p, 'h, Out, H,
                 && (self.is_bare()
                     && (is_printable(ch)
                         && (self.recorded.line.pos() < self.recorded.line.len()
-                            && self.recorded.plain))))
+                            && (self.recorded.plain && self.has_printable_rest())))))
     }
 
     /// How a character that is to be inserted may be shown.
@@ -106,19 +114,22 @@ impl<'p, 'h, Out: Renderer, H: Helper + Drop, Hi: History> State<'p, 'h, Out, H,
         if self.is_bare() { way } else { Way::Whole }
     }
 
-    /// Shows an inserted character in this way, if the line is still bare, with a new hint.
-    fn show_inserted(&mut self, ch: char, way: Way) -> Result<(), ReadlineError>
-        ensures does { Does (show_inserted_effect ch way) self.old self.new result }
+    /// Shows an inserted character in this way, if the line is still bare, with a new hint. Else the
+    /// line is drawn, from a place on if it may be.
+    fn show_inserted(
+        &mut self,
+        ch: char,
+        way: Way,
+        since: Option<usize>,
+    ) -> Result<(), ReadlineError>
+        ensures does { Does (show_inserted_effect ch way since) self.old self.new result }
     {
         self.ask_anew()?;
         match self.way_if_bare(way) {
             Way::AtEnd => self.show_short_typed(ch),
             Way::Alone => self.show_appended(ch),
             Way::Inside => self.show_put_in(ch),
-            Way::Back(_) | Way::Whole => {
-                let prompt = self.prompt;
-                self.draw(prompt, true)
-            }
+            Way::Back(_) | Way::Whole => self.draw_since(since),
         }
     }
 
@@ -128,14 +139,16 @@ impl<'p, 'h, Out: Renderer, H: Helper + Drop, Hi: History> State<'p, 'h, Out, H,
         ensures does { Does (insert_char ch n) self.old self.new result }
     {
         let way = self.insertion_way(ch, n);
-        let known = known_within(self.recorded.line.pos(), self.known);
+        let pos = self.recorded.line.pos();
+        let since = self.since(pos);
+        let known = known_within(pos, self.known);
         self.known = None;
         let inserted = self.recorded.insert_char(self.alloc, ch, n)?;
         self.known = known;
         if inserted.is_none() {
             return Ok(());
         }
-        self.show_inserted(ch, way)
+        self.show_inserted(ch, way, since)
     }
 
     /// Inserts a text at the cursor, which stays before it.
@@ -145,26 +158,46 @@ impl<'p, 'h, Out: Renderer, H: Helper + Drop, Hi: History> State<'p, 'h, Out, H,
         if text.is_empty() {
             return Ok(());
         }
+        let pos = self.recorded.line.pos();
+        let since = self.since(pos);
+        let known = known_within(pos, self.known);
         self.known = None;
         self.recorded.insert_text(self.alloc, text)?;
-        self.refresh()
+        self.known = known;
+        self.refresh_since(since)
     }
 
     /// Replaces up to `n` clusters after the cursor by a character each.
     pub fn edit_replace_char(&mut self, ch: char, n: RepeatCount) -> Result<(), ReadlineError>
         ensures does { Does (replace_char ch n) self.old self.new result }
     {
+        let pos = self.recorded.line.pos();
+        let since = self.since(pos);
+        let known = known_within(pos, self.known);
         self.known = None;
         let replaced = self.recorded.replace_chars(self.alloc, ch, n)?;
-        if replaced { self.refresh() } else { Ok(()) }
+        self.known = known;
+        if replaced {
+            self.refresh_since(since)
+        } else {
+            Ok(())
+        }
     }
 
     /// Overwrites the cluster at the cursor with a character.
     pub fn edit_overwrite_char(&mut self, ch: char) -> Result<(), ReadlineError>
         ensures does { Does (overwrite_char ch) self.old self.new result }
     {
+        let pos = self.recorded.line.pos();
+        let since = self.since(pos);
+        let known = known_within(pos, self.known);
         self.known = None;
         let written = self.recorded.overwrite(self.alloc, ch)?;
-        if written { self.refresh() } else { Ok(()) }
+        self.known = known;
+        if written {
+            self.refresh_since(since)
+        } else {
+            Ok(())
+        }
     }
 }

@@ -21,6 +21,8 @@ use line_record::KillRing;
 #[tactic(auto, using(crate::proofs::StopsLemmas::edits_stop))]
 impl<'p, 'h, Out: Renderer, H: Helper + Drop, Hi: History> State<'p, 'h, Out, H, Hi> {
     ghost use Rattle.line_editor.specs.States.{value_of, setting_of, Does, Stays};
+    ghost use Rattle.line_editor.specs.Drawing.{since};
+    ghost use Rattle.line_editor.specs.Inserting.{has_printable_rest};
     ghost use Rattle.line_editor.specs.Killing.{may_be_taken, may_be_taken_out, text_gone, last_of_bare, way_erased, show_killed_effect, kill_way, kill_effect, insert_text_if, replace, ring_with_kill_of, ring_with_copy};
 
     /// Whether erasing the rest of the row may show the kill of a range: printable characters,
@@ -91,32 +93,51 @@ impl<'p, 'h, Out: Renderer, H: Helper + Drop, Hi: History> State<'p, 'h, Out, H,
     fn kill_way(&self, alone: bool, inside: bool, last: Option<char>, count: usize) -> Way
         ensures { let line = self.now.recorded.line in
             result ≡ (if alone && at_plain_end line.text line.place then AtEnd
-            else if inside && (nat_lt 0 count && nat_lt line.place (length line.text)) then Inside
+            else if inside && (nat_lt 0 count
+            && (nat_lt line.place (length line.text) && has_printable_rest line)) then Inside
             else way_erased count line last) }
     {
         if alone && self.is_at_plain_end() {
             Way::AtEnd
-        } else if inside && (0 < count && self.recorded.line.pos() < self.recorded.line.len()) {
+        } else if inside
+            && (0 < count
+                && (self.recorded.line.pos() < self.recorded.line.len()
+                    && self.has_printable_rest()))
+        {
             Way::Inside
         } else {
             self.way_erased(last, count)
         }
     }
 
+    /// The place at which a kill of a range leaves the cursor, if the line may be drawn from there
+    /// on, and in part.
+    fn since_kill(&self, span: Option<TextSpan>) -> Option<usize>
+        ensures { result ≡ since (setting_of self.now)
+            (deletion_line span self.now.recorded.line).place (value_of self.now) }
+    {
+        match span {
+            Some(span) => self.since(span.from),
+            None => self.since(self.recorded.line.pos()),
+        }
+    }
+
     /// Shows that `count` bytes were killed in this way, if the line is still bare, with a new
-    /// hint.
-    fn show_killed(&mut self, count: usize, way: Way) -> Result<(), ReadlineError>
-        ensures does { Does (show_killed_effect count way) self.old self.new result }
+    /// hint. Else the line is drawn, from a place on if it may be.
+    fn show_killed(
+        &mut self,
+        count: usize,
+        way: Way,
+        since: Option<usize>,
+    ) -> Result<(), ReadlineError>
+        ensures does { Does (show_killed_effect count way since) self.old self.new result }
     {
         self.ask_anew()?;
         match self.way_if_bare(way) {
             Way::AtEnd => self.show_short_taken(count),
             Way::Back(ch) => self.show_erased(ch),
             Way::Inside => self.show_taken_out(count),
-            Way::Alone | Way::Whole => {
-                let prompt = self.prompt;
-                self.draw(prompt, true)
-            }
+            Way::Alone | Way::Whole => self.draw_since(since),
         }
     }
 
@@ -142,6 +163,7 @@ impl<'p, 'h, Out: Renderer, H: Helper + Drop, Hi: History> State<'p, 'h, Out, H,
         let alone = self.may_be_taken(span);
         let inside = self.may_be_taken_out(span);
         let last = self.last_of_bare();
+        let since = self.since_kill(span);
         let before = self.recorded.line.len();
         let known = self.known_before(movement);
         self.known = None;
@@ -152,7 +174,7 @@ impl<'p, 'h, Out: Renderer, H: Helper + Drop, Hi: History> State<'p, 'h, Out, H,
         }
         let count = before - self.recorded.line.len();
         let way = self.kill_way(alone, inside, last, count);
-        self.show_killed(count, way)
+        self.show_killed(count, way, since)
     }
 
     /// Inserts a text at the cursor, if there is one.

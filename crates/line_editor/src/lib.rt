@@ -8,6 +8,7 @@ pub mod characters;
 pub mod commands;
 mod completing;
 mod drawing;
+mod drawing_rest;
 mod faults;
 mod hinting;
 mod history;

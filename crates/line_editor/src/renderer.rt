@@ -1,10 +1,10 @@
 //! The trait of renderers.
-ghost use Rattle.std.specs.Prelude.{◌≡◌, ◌+◌, ◌<◌, ◌≤◌, true, take, Some, OnErr, IfOk, IfErr, IsTrue, IsCharBoundary, option_copied, option_map};
+ghost use Rattle.std.specs.Prelude.{◌≡◌, ◌+◌, ◌<◌, ◌≤◌, true, false, take, Some, OnErr, IfOk, IfErr, IsTrue, IsCharBoundary, option_copied, option_map};
 ghost use Rattle.line_buffer.specs.Printable.{is_plain};
 ghost use Rattle.line_editor.specs.KnownPlaces.{IsKnown};
 ghost use Rattle.line_config.specs.declared.errors.ReadlineError.TheVariants.{Display};
 ghost use Rattle.line_editor.specs.RenderCalls.{Canvas, Makes, Idles};
-ghost use Rattle.line_editor.specs.RenderCalls.Call.{Draw, Move, Write, Beep, ClearScreen, ClearRows, ClearToEol, MoveAndClearToEol, InsertChar, MoveAndDelete, Append, ToLeftmost};
+ghost use Rattle.line_editor.specs.RenderCalls.Call.{Draw, Move, Write, Beep, ClearScreen, ClearRows, ClearToEol, MoveAndClearToEol, InsertChar, MoveAndDelete, Append, DrawRest, ToLeftmost};
 ghost use Rattle.line_editor.specs.Redraws.{layout_of};
 ghost use Rattle.line_editor.specs.Values.{marks_seen};
 
@@ -113,6 +113,26 @@ pub trait Renderer: Drop {
     fn append_text(&mut self, text: &str, at: Position) -> Result<Position, ReadlineError>
         ensures makes { Makes canvas (Append text.now at) self.old self.new result }
         ensures end { IfOk result (λ end. end ≡ (canvas.ruler self.old).measure text.now at) };
+
+    /// Moves the cursor from `old` to `at`, a cell inside the drawing, and draws the rest of a line
+    /// and the hint or message after it in place of everything from there on. Then the cursor goes
+    /// to its place in the new layout.
+    ///
+    /// A highlighter is given if the display has colours; the rest of the line has no styles. The
+    /// text after it is a message if `told`, else a hint.
+    fn refresh_rest<H: Highlighter>(
+        &mut self,
+        rest: &str,
+        hint: Option<&str>,
+        old: Position,
+        at: Position,
+        new_layout: &Layout,
+        highlighter: Option<&H>,
+        told: bool,
+    ) -> Result<(), ReadlineError>
+        ensures { Makes canvas (DrawRest rest.now (option_copied hint.entry) old at new_layout.now
+            (marks_seen false told (option_map H.marks (option_copied highlighter.entry))))
+            self.old self.new result };
 
     /// Moves the cursor to the first cell of its row, if the display left it elsewhere.
     fn move_cursor_at_leftmost(&mut self) -> Result<(), ReadlineError>

@@ -2,6 +2,7 @@
 ghost use Rattle.std.specs.Prelude.{◌≡◌, slice_get};
 ghost use Rattle.line_editor.specs.Yanking.{line_at_anchor, steps_over, behind_yank};
 
+use crate::measured::known_within;
 use crate::renderer::Renderer;
 use crate::state::State;
 use line_buffer::{Anchor, LineBuffer, RepeatCount};
@@ -51,15 +52,24 @@ impl<'p, 'h, Out: Renderer, H: Helper + Drop, Hi: History> State<'p, 'h, Out, H,
             (yank_text (is_vi_command input_state.now.mode input_state.now.input_mode)
             text.now anchor n) self.old self.new result }
     {
+        let known = self.known;
         self.known = None;
         let recorded = &mut self.recorded;
         let stepped = step_on(&mut recorded.line, anchor);
+        let pos = self.recorded.line.pos();
+        let since = self.since(pos);
+        let recorded = &mut self.recorded;
         let put = recorded.yank(self.alloc, text, n)?;
         if put.is_some() {
             step_back(&mut recorded.line, input_state.is_vi_cmd_mode());
-            return self.refresh();
+            self.known = known_within(pos, known);
+            return self.refresh_since(since);
         }
-        if stepped { self.refresh() } else { Ok(()) }
+        if stepped {
+            self.refresh_since(since)
+        } else {
+            Ok(())
+        }
     }
 
     /// Replaces the `yank_size` bytes before the cursor by a text, if there are as many.
@@ -69,9 +79,13 @@ impl<'p, 'h, Out: Renderer, H: Helper + Drop, Hi: History> State<'p, 'h, Out, H,
         if !self.recorded.line.can_take_before(yank_size) {
             return Ok(());
         }
+        let from = self.recorded.line.pos() - yank_size;
+        let since = self.since(from);
+        let known = known_within(from, self.known);
         self.known = None;
         self.recorded.yank_pop(self.alloc, yank_size, text)?;
-        self.refresh()
+        self.known = known;
+        self.refresh_since(since)
     }
 
     /// Yanks the ring's text.

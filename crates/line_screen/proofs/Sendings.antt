@@ -1,12 +1,12 @@
 -- What a call sends that makes others, one after the other.
-use Rattle.std.proofs.Common.{◌≡◌, ℕ, ◌+◌, ◌==◌, nat_le, Bool, List, [], ◌∷◌, ◌++◌, ◌∙◌, sym, ap, Result, Ok, Err, IsTrue, if◌then◌else◌, subst, append_assoc}
+use Rattle.std.proofs.Common.{◌≡◌, ℕ, ◌+◌, ◌==◌, nat_le, Bool, false, List, [], ◌∷◌, ◌++◌, length, ◌∙◌, refl, sym, ap, Result, Ok, Err, IsTrue, if◌then◌else◌, subst, append_assoc}
 use Rattle.std.specs.Prelude.{decimal}
 use Rattle.std.specs.Result.{IsErrAnd}
-use Rattle.std.proofs.lemmas.Bool.{ne_eqb}
+use Rattle.std.proofs.lemmas.Bool.{ne_eqb, false≢true}
 use Rattle.line_config.specs.declared.device.DeviceFailed.{DeviceFailed}
 use Rattle.line_config.specs.Sending.{Takes, TakesSome, Sends}
 use Rattle.line_config.proofs.Taking.{takes_then, some_of_more, some_then, sends_then, sends_cut}
-use Rattle.line_screen.specs.Drawing.{control_sequence, no_style, left_col, break_if, break_unless, fitted_col, cluster_in_fence, bytes_of_item, col_after_one, SendsTo}
+use Rattle.line_screen.specs.Drawing.{control_sequence, no_style, in_fence, left_col, break_if, break_unless, fitted_col, cluster_in_fence, bytes_of_item, col_after_one, SendsTo}
 use Rattle.line_screen.specs.Drawing.DrawnItem.{Cluster}
 
 module _ {D : Type 0} (held : D → List ℕ) (failed : D → Bool) where
@@ -80,6 +80,11 @@ module _ {D : Type 0} (held : D → List ℕ) (failed : D → Bool) where
         → SendsTo full next columns held failed c d r → SendsCluster a d r
     whole {a = a} {b = b} {c = c} took works took_text works_on s =
         sends_to_then next columns (room ++ cluster_in_fence cluster) full (takes_then held a b c room (cluster_in_fence cluster) took took_text) (works_on ∙ works) s
+
+-- a text's fence
+pub fence_of : (text bytes : List ℕ) → false ≡ (length text == 0) → in_fence text bytes ≡ (no_style ++ bytes) ++ no_style
+fence_of [] bytes some = absurd (false≢true some)
+fence_of (c ∷ text) bytes some = refl
 
 -- parts that each begin without style, and the end
 pub shown_parts : (prompt line info : List ℕ)

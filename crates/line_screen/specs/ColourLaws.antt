@@ -4,7 +4,7 @@ use Rattle.std.specs.List.{flat_map, FoldsTo, list_all}
 use Rattle.line_buffer.specs.declared.layout.Layout.{Layout}
 use Rattle.line_config.specs.declared.config.Config.{Config}
 use Rattle.line_editor.specs.RenderCalls.{Call}
-use Rattle.line_editor.specs.RenderCalls.Call.{Draw}
+use Rattle.line_editor.specs.RenderCalls.Call.{Draw, DrawRest}
 use Rattle.line_editor.specs.Redraws.{Redraw, calls_of_redraw}
 use Rattle.line_editor.specs.LineRun.{Helping, setting_by}
 use Rattle.line_editor.specs.Values.{Value, shown_marks}
@@ -43,6 +43,7 @@ BeginsNoStyle bytes =
 -- a call doesn't draw with a highlighter
 abbrev pub has_no_marks : Call → Bool
 has_no_marks (Draw prompt text place info old new marks) = not (is_some marks)
+has_no_marks (DrawRest rest info old at new marks) = not (is_some marks)
 has_no_marks call = true
 
 -- the bytes of calls without a highlighter begin no style

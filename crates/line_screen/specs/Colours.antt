@@ -15,8 +15,9 @@ use Rattle.line_screen.specs.declared.drawing.painted.Brush as brush
 use Rattle.line_screen.specs.declared.drawing.painted.Spans as spans
 use Rattle.line_screen.specs.declared.drawing.coloured.Painting as painting
 use Rattle.line_screen.specs.Styles.{numbers}
-use Rattle.line_screen.specs.Drawing.{SendsTo, DrawnItem, Widths, blanks, is_letter, drawn_item, split_rows, row_break, no_style, break_if, break_unless, fitted_col, bytes_of_item, col_after, clearing_bytes, move_bytes}
+use Rattle.line_screen.specs.Drawing.{SendsTo, DrawnItem, Widths, blanks, is_letter, drawn_item, split_rows, row_break, no_style, break_if, break_unless, fitted_col, bytes_of_item, bytes_of_items, col_after, text_items, in_fence, erase_to_end, clearing_bytes, move_bytes}
 use Rattle.line_screen.specs.Drawing.DrawnItem.{NewRow, Letter, Cluster, Tab}
+use Rattle.line_screen.specs.Measure.{in_row}
 
 -- ---- styles
 
@@ -217,6 +218,26 @@ painted_bytes columns wide styles None prompt line info finish cursor =
     painted_drawing columns wide styles prompt line info finish cursor
 painted_bytes columns wide styles (Some row) prompt line info finish cursor =
     painted_full_drawing columns wide styles row prompt line info finish cursor
+
+-- the rest of a line without styles, in a column, and what stands after it
+abbrev pub rest_bytes : ℕ → Widths → List ℕ → List ℕ → List SgrSpan → ℕ → List ℕ
+rest_bytes columns wide rest info spans col =
+    let items = text_items wide rest in
+    bytes_of_items columns items col
+    ++ in_fence info (bytes_of_all_painted columns (painted_text wide spans info)
+    (col_after columns items col))
+
+-- a move, everything from there on erased, and the rest drawn there
+abbrev pub rest_from : ℕ → Widths → List ℕ → List ℕ → List SgrSpan → Position → Position → List ℕ
+rest_from columns wide rest info spans old at =
+    move_bytes old at
+    ++ (erase_to_end ++ rest_bytes columns wide rest info spans (in_row columns at).col)
+
+-- then the move to the cursor
+abbrev pub rest_drawing : ℕ → Widths → List ℕ → List ℕ → List SgrSpan → Position → Position
+    → Position → Position → List ℕ
+rest_drawing columns wide rest info spans old at finish cursor =
+    rest_from columns wide rest info spans old at ++ move_bytes finish cursor
 
 -- ---- the spans of a highlighter
 

@@ -1,5 +1,5 @@
 -- The bytes of each drawing call on a screen, and the effect of a call on the screen and its sink.
-use Rattle.std.specs.Prelude.{◌≡◌, ℕ, Bool, false, encode_utf8, IsTrue, List, [], ◌∷◌, ◌++◌, Option, Some, None, map, option_map, Result, Ok, Err}
+use Rattle.std.specs.Prelude.{◌≡◌, ℕ, Bool, true, false, encode_utf8, IsTrue, List, [], ◌∷◌, ◌++◌, Option, Some, None, map, option_map, Result, Ok, Err}
 use Rattle.line_buffer.specs.declared.layout.GraphemeClusterMode.{GraphemeClusterMode}
 use Rattle.line_buffer.specs.declared.layout.Layout.{Layout}
 use Rattle.line_buffer.specs.declared.layout.Position.{Position}
@@ -9,12 +9,12 @@ use Rattle.line_config.specs.Sending.{Takes, TakesSome}
 use Rattle.line_config.specs.declared.settings.BellStyle.{BellStyle}
 use Rattle.line_config.specs.declared.settings.BellStyle.TheVariants.{Audible}
 use Rattle.line_editor.specs.RenderCalls.{Call, Canvas, Ruler}
-use Rattle.line_editor.specs.RenderCalls.Call.{Draw, Move, Write, Beep, ClearScreen, ClearRows, ClearToEol, MoveAndClearToEol, InsertChar, MoveAndDelete, Append}
+use Rattle.line_editor.specs.RenderCalls.Call.{Draw, Move, Write, Beep, ClearScreen, ClearRows, ClearToEol, MoveAndClearToEol, InsertChar, MoveAndDelete, Append, DrawRest}
 use Rattle.line_editor.specs.Redraws.{info_text}
 use Rattle.line_screen.specs.Drawing.{Widths, text_items, bytes_of_items, drawing, full_drawing, clearing_bytes, move_bytes, erase_to_end, erase_to_row_end, go_home, insertion_bytes, deletion_bytes, place_after_insertion, place_after_deletion}
-use Rattle.line_editor.specs.Sights.{PartSpans, spans_by}
+use Rattle.line_editor.specs.Sights.{PartSpans, spans_by, drawn_spans}
 use Rattle.line_help.specs.Paints.{Marks}
-use Rattle.line_screen.specs.Colours.{Styles, span_of, painted_bytes}
+use Rattle.line_screen.specs.Colours.{Styles, SgrSpan, span_of, painted_bytes, rest_drawing}
 use Rattle.line_screen.specs.Measure.{widths_by, measure_of, in_row}
 use Rattle.line_screen.specs.declared.renderer.ScreenRenderer.{ScreenRenderer}
 use Rattle.script.specs.Scripts.{World, Goes}
@@ -78,6 +78,10 @@ styles_of x = record {
 abbrev pub styles_by : Marks → Bool → List ℕ → List ℕ → ℕ → List ℕ → Styles
 styles_by m own prompt text place info = styles_of (spans_by m own prompt text place info)
 
+-- the styles of what stands after a line
+abbrev pub info_styles : Option Marks → List ℕ → List SgrSpan
+info_styles marks info = (styles_of (drawn_spans marks true [] [] 0 info)).info
+
 abbrev pub bell_bytes : BellStyle → List ℕ
 bell_bytes Audible = 0x07 ∷ []
 bell_bytes style = []
@@ -109,6 +113,9 @@ bytes_of s (MoveAndDelete old new count rest finish) =
 bytes_of s (Append text at) =
     bytes_of_items s.columns (text_items (widths_by s.mode s.tab s.columns) text)
     (in_row s.columns at).col
+bytes_of s (DrawRest rest info old at new marks) =
+    rest_drawing s.columns (widths_by s.mode s.tab s.columns) rest (info_text info)
+    (info_styles marks (info_text info)) old at new.end new.cursor
 bytes_of s call = []
 
 -- a failed device becomes the display's error

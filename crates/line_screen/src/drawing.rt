@@ -2,6 +2,7 @@
 
 pub(crate) mod coloured;
 pub(crate) mod painted;
+pub(crate) mod rest;
 pub(crate) mod sequences;
 pub(crate) mod shifted;
 pub(crate) mod styles;

@@ -1,12 +1,13 @@
 //! The renderer: the calls by which an editor draws.
 
-ghost use Rattle.std.specs.Prelude.{◌≡◌, ◌≤◌, ◌++◌, ◌∷◌, [], IsTrue, OnOk, OnErr, IfErr, false};
-ghost use Rattle.line_screen.specs.ScreenCalls.{Screen, screen_of, sink_of, canvas_of, display_answer, styles_by};
-ghost use Rattle.line_screen.specs.Colours.{styles_in};
-ghost use Rattle.line_editor.specs.Values.{seen_marks};
+ghost use Rattle.std.specs.Prelude.{◌≡◌, ◌≤◌, ◌++◌, ◌∷◌, [], IsTrue, OnOk, OnErr, IfErr, false, option_copied, option_map};
+ghost use Rattle.line_screen.specs.ScreenCalls.{Screen, screen_of, sink_of, canvas_of, display_answer, styles_by, info_styles};
+ghost use Rattle.line_screen.specs.Colours.{brush_spans, styles_in};
+ghost use Rattle.line_editor.specs.Values.{marks_seen, seen_marks};
 
 use crate::drawing::coloured::{Painting, paint};
 use crate::drawing::painted::Brush;
+use crate::drawing::rest::{Rest, draw_rest};
 use crate::drawing::sequences::{clear, go, move_and_erase, send_flushed};
 use crate::drawing::shifted::{move_and_take_out, put_before};
 use crate::drawing::whole::{DrawnTexts, draw, draw_behind};
@@ -208,6 +209,29 @@ impl<D: Sink + Drop> Renderer for ScreenRenderer<D> {
         answer(draw_behind(&mut self.sink, self.grid, at, text))
     }
 
+    /// If the column of `at` isn't one of the screen's, the rest is drawn as from the first one. All
+    /// bytes are passed on together.
+    fn refresh_rest<H: Highlighter>(
+        &mut self,
+        rest: &str,
+        hint: Option<&str>,
+        old: Position,
+        at: Position,
+        new_layout: &Layout,
+        highlighter: Option<&H>,
+        told: bool,
+    ) -> Result<(), ReadlineError> {
+        let info = brush_of_info(highlighter, told, hint.unwrap_or(""));
+        let (cursor, end) = (new_layout.cursor, new_layout.end);
+        let shown = Rest {
+            text: rest,
+            info,
+            end,
+            cursor,
+        };
+        answer(draw_rest(&mut self.sink, self.grid, old, at, &shown))
+    }
+
     /// Writes nothing: no call leaves the cursor elsewhere.
     fn move_cursor_at_leftmost(&mut self) -> Result<(), ReadlineError> {
         Ok(())
@@ -279,7 +303,6 @@ fn painting_of<'a, H: Highlighter>(
     ensures end { result.end ≡ layout.now.end }
     ensures cursor { result.cursor ≡ layout.now.cursor }
 {
-    let part = if told { Part::Message } else { Part::Hint };
     Painting {
         prompt: Brush {
             highlighter: Some(highlighter),
@@ -291,13 +314,29 @@ fn painting_of<'a, H: Highlighter>(
             part: Part::Line(line.pos()),
             text: line.as_str(),
         },
-        info: Brush {
-            highlighter: Some(highlighter),
-            part,
-            text: info,
-        },
+        info: brush_of_info(Some(highlighter), told, info),
         end: layout.end,
         cursor: layout.cursor,
+    }
+}
+
+/// The text after a line with a highlighter's styles, if there is one: those of a hint, or of a
+/// message if `told`.
+fn brush_of_info<'a, H: Highlighter>(
+    highlighter: Option<&'a H>,
+    told: bool,
+    info: &'a str,
+) -> Brush<'a, H>
+    ensures styles { brush_spans H.marks result
+        ≡ info_styles (marks_seen false told (option_map H.marks (option_copied highlighter.entry)))
+        info.now }
+    ensures text { result.text.now ≡ info.now }
+{
+    let part = if told { Part::Message } else { Part::Hint };
+    Brush {
+        highlighter,
+        part,
+        text: info,
     }
 }
 

@@ -166,14 +166,14 @@ row_22 = record (row 22 settings_7 (codes "alp\t\t\u{1b}[999xx\r") (codes "alpx\
       codes "\n");
 }
 
--- alp Tab Tab Paste x Pasted Enter = alpx | shows {} a l p ␇ {alp␛[m␍␊alpha␍␊alpine␛[m␛[2A␛[1D {alp} {alpx} ␍␊ {} ␍␊
+-- alp Tab Tab Paste x Pasted Enter = alpx | shows {} a l p ␇ {alp␛[m␍␊alpha␍␊alpine␛[m␛[2A␛[1D {alp} ␛[Jx ␍␊ {} ␍␊
 abbrev pub row_23 : Row
 row_23 = record (row 23 settings_7 (codes "alp\t\t\u{1b}[200~x\u{1b}[201~\r") (codes "alpx\n")) {
   shows = Some
       (codes "\r\u{1b}[J\u{1b}[m> \u{1b}[m\u{1b}[m\u{1b}[malp\u{7}\r\u{1b}[J\u{1b}[m> \u{1b}" ++
       codes "[malp\u{1b}[m\r\nalpha\r\nalpine\u{1b}[m\u{1b}[2A\u{1b}[1D\r\u{1b}[J\u{1b}[m> " ++
-      codes "\u{1b}[malp\u{1b}[m\u{1b}[m\r\u{1b}[J\u{1b}[m> \u{1b}[malpx\u{1b}[m\u{1b}[m\r" ++
-      codes "\n\r\u{1b}[J\u{1b}[m> \u{1b}[m\u{1b}[m\u{1b}[m\r\n");
+      codes "\u{1b}[malp\u{1b}[m\u{1b}[m\u{1b}[Jx\r\n\r\u{1b}[J\u{1b}[m> \u{1b}[m\u{1b}[m" ++
+      codes "\u{1b}[m\r\n");
 }
 
 -- alp Tab Tab C-V Tab Enter = alp␉ | shows {} a l p ␇ {alp␛[m␍␊alpha␍␊alpine␛[m␛[2A␛[1D {alp} {alp␛[m?␛[m} ␍␊ {} ␍␊
@@ -247,16 +247,15 @@ row_33 = record (row 33 settings_7 (codes "alp\t\u{1b}2\t\r") (codes "alp\n")) {
       codes "> \u{1b}[m\u{1b}[m\u{1b}[m\r\n");
 }
 
--- alp Tab Tab M-2 k Enter = alpkk | shows {} a l p ␇ {alp␛[m␍␊alpha␍␊alpine␛[m␛[2A␛[1D ␍␛[J␛[m(arg:␠2)␠␛[malp␛[m␛[m {alp} {alp} {alpkk} ␍␊ {} ␍␊
+-- alp Tab Tab M-2 k Enter = alpkk | shows {} a l p ␇ {alp␛[m␍␊alpha␍␊alpine␛[m␛[2A␛[1D ␍␛[J␛[m(arg:␠2)␠␛[malp␛[m␛[m {alp} {alp} ␛[Jkk ␍␊ {} ␍␊
 abbrev pub row_34 : Row
 row_34 = record (row 34 settings_7 (codes "alp\t\t\u{1b}2k\r") (codes "alpkk\n")) {
   shows = Some
       (codes "\r\u{1b}[J\u{1b}[m> \u{1b}[m\u{1b}[m\u{1b}[malp\u{7}\r\u{1b}[J\u{1b}[m> \u{1b}" ++
       codes "[malp\u{1b}[m\r\nalpha\r\nalpine\u{1b}[m\u{1b}[2A\u{1b}[1D\r\u{1b}[J\u{1b}[m(a" ++
       codes "rg: 2) \u{1b}[malp\u{1b}[m\u{1b}[m\r\u{1b}[J\u{1b}[m> \u{1b}[malp\u{1b}[m" ++
-      codes "\u{1b}[m\r\u{1b}[J\u{1b}[m> \u{1b}[malp\u{1b}[m\u{1b}[m\r\u{1b}[J\u{1b}[m> " ++
-      codes "\u{1b}[malpkk\u{1b}[m\u{1b}[m\r\n\r\u{1b}[J\u{1b}[m> \u{1b}[m\u{1b}[m\u{1b}[m" ++
-      codes "\r\n");
+      codes "\u{1b}[m\r\u{1b}[J\u{1b}[m> \u{1b}[malp\u{1b}[m\u{1b}[m\u{1b}[Jkk\r\n\r\u{1b}[" ++
+      codes "J\u{1b}[m> \u{1b}[m\u{1b}[m\u{1b}[m\r\n");
 }
 
 -- zz Tab Tab Enter = zz | shows {} z z ␇ ␇ ␍␊ {} ␍␊
@@ -319,15 +318,15 @@ row_45 = record (row 45 settings_7 (codes "al x\u{1b}[D\u{1b}[D\t\ty\r") (codes 
       codes "> \u{1b}[m\u{1b}[m\u{1b}[m\r\n");
 }
 
--- Paste x␊al Pasted Tab Tab Enter = x␊alp | shows {} {x␍␊al} ␛[1A{x␍␊alp} ␛[1A{x␍␊alp␛[m␍␊alpha␍␊alpine␛[m␛[2A␛[3D ␛[1A{x␍␊alp} ␍␊ {} ␍␊
+-- Paste x␊al Pasted Tab Tab Enter = x␊alp | shows {} ␛[Jx␍␊al ␛[1A{x␍␊alp} ␛[1A{x␍␊alp␛[m␍␊alpha␍␊alpine␛[m␛[2A␛[3D ␛[1A{x␍␊alp} ␍␊ {} ␍␊
 abbrev pub row_46 : Row
 row_46 = record (row 46 settings_7 (codes "\u{1b}[200~x\nal\u{1b}[201~\t\t\r") (codes "x\nalp\n")) {
   shows = Some
-      (codes "\r\u{1b}[J\u{1b}[m> \u{1b}[m\u{1b}[m\u{1b}[m\r\u{1b}[J\u{1b}[m> \u{1b}[mx\r\na" ++
-      codes "l\u{1b}[m\u{1b}[m\u{1b}[1A\r\u{1b}[J\u{1b}[m> \u{1b}[mx\r\nalp\u{1b}[m\u{1b}[m" ++
-      codes "\u{1b}[1A\r\u{1b}[J\u{1b}[m> \u{1b}[mx\r\nalp\u{1b}[m\r\nalpha\r\nalpine\u{1b}" ++
-      codes "[m\u{1b}[2A\u{1b}[3D\u{1b}[1A\r\u{1b}[J\u{1b}[m> \u{1b}[mx\r\nalp\u{1b}[m" ++
-      codes "\u{1b}[m\r\n\r\u{1b}[J\u{1b}[m> \u{1b}[m\u{1b}[m\u{1b}[m\r\n");
+      (codes "\r\u{1b}[J\u{1b}[m> \u{1b}[m\u{1b}[m\u{1b}[m\u{1b}[Jx\r\nal\u{1b}[1A\r\u{1b}[J" ++
+      codes "\u{1b}[m> \u{1b}[mx\r\nalp\u{1b}[m\u{1b}[m\u{1b}[1A\r\u{1b}[J\u{1b}[m> \u{1b}[" ++
+      codes "mx\r\nalp\u{1b}[m\r\nalpha\r\nalpine\u{1b}[m\u{1b}[2A\u{1b}[3D\u{1b}[1A\r" ++
+      codes "\u{1b}[J\u{1b}[m> \u{1b}[mx\r\nalp\u{1b}[m\u{1b}[m\r\n\r\u{1b}[J\u{1b}[m> " ++
+      codes "\u{1b}[m\u{1b}[m\u{1b}[m\r\n");
 }
 
 -- modal listed vi words:alpha,alpine

@@ -105,7 +105,7 @@ row_14 = record (row 14 settings_7 (codes "draft\u{12}ma\r") (codes "make test\n
       codes "\u{1b}[m\u{1b}[m\u{1b}[m\r\n");
 }
 
--- C-R git C-K C-Y Enter = git␠commit␠-m␠one | shows {} ''} 'g'git␠commit␠-m␠one}␛[17D 'gi'git␠commit␠-m␠one}␛[17D 'git'git␠commit␠-m␠one}␛[17D {git␠commit␠-m␠one}␛[17D ␛[K {git␠commit␠-m␠one} ␍␊ {} ␍␊
+-- C-R git C-K C-Y Enter = git␠commit␠-m␠one | shows {} ''} 'g'git␠commit␠-m␠one}␛[17D 'gi'git␠commit␠-m␠one}␛[17D 'git'git␠commit␠-m␠one}␛[17D {git␠commit␠-m␠one}␛[17D ␛[K ␛[Jgit␠commit␠-m␠one ␍␊ {} ␍␊
 abbrev pub row_15 : Row
 row_15 = record (row 15 settings_7 (codes "\u{12}git\u{b}\u{19}\r") (codes "git commit -m one\n")) {
   shows = Some
@@ -115,8 +115,7 @@ row_15 = record (row 15 settings_7 (codes "\u{12}git\u{b}\u{19}\r") (codes "git 
       codes "h)`gi': \u{1b}[mgit commit -m one\u{1b}[m\u{1b}[m\u{1b}[17D\r\u{1b}[J\u{1b}[m(" ++
       codes "reverse-i-search)`git': \u{1b}[mgit commit -m one\u{1b}[m\u{1b}[m\u{1b}[17D\r" ++
       codes "\u{1b}[J\u{1b}[m> \u{1b}[mgit commit -m one\u{1b}[m\u{1b}[m\u{1b}[17D\u{1b}[K" ++
-      codes "\r\u{1b}[J\u{1b}[m> \u{1b}[mgit commit -m one\u{1b}[m\u{1b}[m\r\n\r\u{1b}[J" ++
-      codes "\u{1b}[m> \u{1b}[m\u{1b}[m\u{1b}[m\r\n");
+      codes "\u{1b}[Jgit commit -m one\r\n\r\u{1b}[J\u{1b}[m> \u{1b}[m\u{1b}[m\u{1b}[m\r\n");
 }
 
 -- C-R st C-L Enter = make␠test | shows {} ''} 's'ls␠-l}␛[4D 'st'make␠test}␛[2D {make␠test}␛[2D ␛[H␛[J {make␠test}␛[2D ␛[2C␍␊ {} ␍␊
@@ -603,15 +602,13 @@ row_66 = record (row 66 settings_7 (codes "git\u{1b}2\u{1b}[A\r") (codes "git co
       codes "C\r\n\r\u{1b}[J\u{1b}[m> \u{1b}[m\u{1b}[m\u{1b}[m\r\n");
 }
 
--- Paste a␊b Pasted Up x Enter = xa␊b | shows {} {a␍␊b} ␛[1A␛[1C {xa␍␊b}␛[1A␛[2C ␛[1B␛[2D␍␊ {} ␍␊
+-- Paste a␊b Pasted Up x Enter = xa␊b | shows {} ␛[Ja␍␊b ␛[1A␛[1C ␛[Jxa␍␊b␛[1A␛[2C ␛[1B␛[2D␍␊ {} ␍␊
 abbrev pub row_67 : Row
 row_67 = record (row 67 settings_7 (codes "\u{1b}[200~a\nb\u{1b}[201~\u{1b}[Ax\r")
     (codes "xa\nb\n")) {
-      shows = Some
-          (codes "\r\u{1b}[J\u{1b}[m> \u{1b}[m\u{1b}[m\u{1b}[m\r\u{1b}[J\u{1b}[m> \u{1b}[ma\r\nb" ++
-          codes "\u{1b}[m\u{1b}[m\u{1b}[1A\u{1b}[1C\r\u{1b}[J\u{1b}[m> \u{1b}[mxa\r\nb\u{1b}[m" ++
-          codes "\u{1b}[m\u{1b}[1A\u{1b}[2C\u{1b}[1B\u{1b}[2D\r\n\r\u{1b}[J\u{1b}[m> \u{1b}[m" ++
-          codes "\u{1b}[m\u{1b}[m\r\n");
+      shows = Some (codes "\r\u{1b}[J\u{1b}[m> \u{1b}[m\u{1b}[m\u{1b}[m\u{1b}[Ja\r\nb\u{1b}[1A\u{1b}[1C"
+          ++ codes "\u{1b}[Jxa\r\nb\u{1b}[1A\u{1b}[2C\u{1b}[1B\u{1b}[2D\r\n\r\u{1b}[J\u{1b}[m> " ++
+          codes "\u{1b}[m\u{1b}[m\u{1b}[m\r\n");
     }
 
 -- C-R ma Up Enter = ls␠-l | shows {} ''} 'm'git␠commit␠-m␠one}␛[11D 'ma'make␠test}␛[9D {make␠test}␛[9D {ls␠-l} ␍␊ {} ␍␊
@@ -775,17 +772,16 @@ row_87 = record (row 87 settings_7 (codes "\u{12}gi\u{1b}2\u{7f}\r") (codes "git
 abbrev pub row_88 : Row
 row_88 = row 88 settings_7 (codes "\u{12}ma\u{1b}-\u{7f}\r") (codes "ake test\n")
 
--- C-R Paste git Pasted Enter = git | shows {} ''} {} {git} ␍␊ {} ␍␊
+-- C-R Paste git Pasted Enter = git | shows {} ''} {} ␛[Jgit ␍␊ {} ␍␊
 abbrev pub row_89 : Row
 row_89 = record (row 89 settings_7 (codes "\u{12}\u{1b}[200~git\u{1b}[201~\r") (codes "git\n")) {
   shows = Some
       (codes "\r\u{1b}[J\u{1b}[m> \u{1b}[m\u{1b}[m\u{1b}[m\r\u{1b}[J\u{1b}[m(reverse-i-searc" ++
-      codes "h)`': \u{1b}[m\u{1b}[m\u{1b}[m\r\u{1b}[J\u{1b}[m> \u{1b}[m\u{1b}[m\u{1b}[m\r" ++
-      codes "\u{1b}[J\u{1b}[m> \u{1b}[mgit\u{1b}[m\u{1b}[m\r\n\r\u{1b}[J\u{1b}[m> \u{1b}[m" ++
-      codes "\u{1b}[m\u{1b}[m\r\n");
+      codes "h)`': \u{1b}[m\u{1b}[m\u{1b}[m\r\u{1b}[J\u{1b}[m> \u{1b}[m\u{1b}[m\u{1b}[m" ++
+      codes "\u{1b}[Jgit\r\n\r\u{1b}[J\u{1b}[m> \u{1b}[m\u{1b}[m\u{1b}[m\r\n");
 }
 
--- C-R ma Paste X Pasted Enter = Xmake␠test | shows {} ''} 'm'git␠commit␠-m␠one}␛[11D 'ma'make␠test}␛[9D {make␠test}␛[9D {Xmake␠test}␛[9D ␛[9C␍␊ {} ␍␊
+-- C-R ma Paste X Pasted Enter = Xmake␠test | shows {} ''} 'm'git␠commit␠-m␠one}␛[11D 'ma'make␠test}␛[9D {make␠test}␛[9D ␛[JXmake␠test␛[9D ␛[9C␍␊ {} ␍␊
 abbrev pub row_90 : Row
 row_90 = record (row 90 settings_7 (codes "\u{12}ma\u{1b}[200~X\u{1b}[201~\r")
     (codes "Xmake test\n")) {
@@ -794,9 +790,8 @@ row_90 = record (row 90 settings_7 (codes "\u{12}ma\u{1b}[200~X\u{1b}[201~\r")
           codes "h)`': \u{1b}[m\u{1b}[m\u{1b}[m\r\u{1b}[J\u{1b}[m(reverse-i-search)`m': \u{1b}[" ++
           codes "mgit commit -m one\u{1b}[m\u{1b}[m\u{1b}[11D\r\u{1b}[J\u{1b}[m(reverse-i-searc" ++
           codes "h)`ma': \u{1b}[mmake test\u{1b}[m\u{1b}[m\u{1b}[9D\r\u{1b}[J\u{1b}[m> \u{1b}[m" ++
-          codes "make test\u{1b}[m\u{1b}[m\u{1b}[9D\r\u{1b}[J\u{1b}[m> \u{1b}[mXmake test\u{1b}" ++
-          codes "[m\u{1b}[m\u{1b}[9D\u{1b}[9C\r\n\r\u{1b}[J\u{1b}[m> \u{1b}[m\u{1b}[m\u{1b}[m\r" ++
-          codes "\n");
+          codes "make test\u{1b}[m\u{1b}[m\u{1b}[9D\u{1b}[JXmake test\u{1b}[9D\u{1b}[9C\r\n\r" ++
+          codes "\u{1b}[J\u{1b}[m> \u{1b}[m\u{1b}[m\u{1b}[m\r\n");
     }
 
 -- modal partial vi loaded:#V2␊git␠status␊make␠test␊git␠commit␠-m␠one␊ls␠-l␊

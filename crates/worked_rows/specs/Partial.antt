@@ -1,56 +1,57 @@
 -- The rows of partial.txt; tests/definition/worked_rows.py writes them.
-use Rattle.std.specs.Prelude.{List, [], ◌∷◌, ◌++◌, Some, codes, encode_utf8_all}
+use Rattle.line_config.specs.declared.errors.ReadlineError.TheVariants.{Interrupted}
+use Rattle.std.specs.Prelude.{List, [], ◌∷◌, ◌++◌, None, Some, true, codes, encode_utf8_all}
 use Rattle.worked_rows.specs.Playing.{Row, row}
-use Rattle.worked_rows.specs.Settings.{Settings, modal, partial, plain, vi}
+use Rattle.worked_rows.specs.Settings.{Settings, aide, colours, modal, partial, plain, vi}
 
 -- partial modal
-abbrev pub settings_7 : Settings
-settings_7 = record plain {
+abbrev pub settings_8 : Settings
+settings_8 = record plain {
   config = partial (modal plain.config);
 }
 
 -- ac Left b Enter = abc | shows {} a c ␛[1D ␛[@b ␛[1C␍␊ {} ␍␊
-abbrev pub row_7 : Row
-row_7 = record (row 7 settings_7 (codes "ac\u{1b}[Db\r") (codes "abc\n")) {
+abbrev pub row_8 : Row
+row_8 = record (row 8 settings_8 (codes "ac\u{1b}[Db\r") (codes "abc\n")) {
   shows = Some
       (codes "\r\u{1b}[J\u{1b}[m> \u{1b}[m\u{1b}[m\u{1b}[mac\u{1b}[1D\u{1b}[@b\u{1b}[1C\r\n" ++
       codes "\r\u{1b}[J\u{1b}[m> \u{1b}[m\u{1b}[m\u{1b}[m\r\n");
 }
 
 -- bc C-a a Enter = abc | shows {} b c ␛[2D ␛[@a ␛[2C␍␊ {} ␍␊
-abbrev pub row_8 : Row
-row_8 = record (row 8 settings_7 (codes "bc\u{1}a\r") (codes "abc\n")) {
+abbrev pub row_9 : Row
+row_9 = record (row 9 settings_8 (codes "bc\u{1}a\r") (codes "abc\n")) {
   shows = Some
       (codes "\r\u{1b}[J\u{1b}[m> \u{1b}[m\u{1b}[m\u{1b}[mbc\u{1b}[2D\u{1b}[@a\u{1b}[2C\r\n" ++
       codes "\r\u{1b}[J\u{1b}[m> \u{1b}[m\u{1b}[m\u{1b}[m\r\n");
 }
 
 -- ad Left bc Enter = abcd | shows {} a d ␛[1D ␛[@b ␛[@c ␛[1C␍␊ {} ␍␊
-abbrev pub row_9 : Row
-row_9 = record (row 9 settings_7 (codes "ad\u{1b}[Dbc\r") (codes "abcd\n")) {
+abbrev pub row_10 : Row
+row_10 = record (row 10 settings_8 (codes "ad\u{1b}[Dbc\r") (codes "abcd\n")) {
   shows = Some (codes "\r\u{1b}[J\u{1b}[m> \u{1b}[m\u{1b}[m\u{1b}[mad\u{1b}[1D\u{1b}[@b\u{1b}[@c" ++
       codes "\u{1b}[1C\r\n\r\u{1b}[J\u{1b}[m> \u{1b}[m\u{1b}[m\u{1b}[m\r\n");
 }
 
 -- ac Left b C-e d Enter = abcd | shows {} a c ␛[1D ␛[@b ␛[1C d ␍␊ {} ␍␊
-abbrev pub row_10 : Row
-row_10 = record (row 10 settings_7 (codes "ac\u{1b}[Db\u{5}d\r") (codes "abcd\n")) {
+abbrev pub row_11 : Row
+row_11 = record (row 11 settings_8 (codes "ac\u{1b}[Db\u{5}d\r") (codes "abcd\n")) {
   shows = Some
       (codes "\r\u{1b}[J\u{1b}[m> \u{1b}[m\u{1b}[m\u{1b}[mac\u{1b}[1D\u{1b}[@b\u{1b}[1Cd\r\n" ++
       codes "\r\u{1b}[J\u{1b}[m> \u{1b}[m\u{1b}[m\u{1b}[m\r\n");
 }
 
 -- ac Left ␠ Enter = a␠c | shows {} a c ␛[1D ␛[@␠ ␛[1C␍␊ {} ␍␊
-abbrev pub row_11 : Row
-row_11 = record (row 11 settings_7 (codes "ac\u{1b}[D \r") (codes "a c\n")) {
+abbrev pub row_12 : Row
+row_12 = record (row 12 settings_8 (codes "ac\u{1b}[D \r") (codes "a c\n")) {
   shows = Some
       (codes "\r\u{1b}[J\u{1b}[m> \u{1b}[m\u{1b}[m\u{1b}[mac\u{1b}[1D\u{1b}[@ \u{1b}[1C\r\n" ++
       codes "\r\u{1b}[J\u{1b}[m> \u{1b}[m\u{1b}[m\u{1b}[m\r\n");
 }
 
 -- aé漢👍b Enter = aé漢👍b | shows {} a ␛[mé␛[m ␛[m漢␛[m ␛[m👍␛[m b ␍␊ {} ␍␊
-abbrev pub row_14 : Row
-row_14 = record (row 14 settings_7 (encode_utf8_all (codes "aé漢👍b\r")) (encode_utf8_all
+abbrev pub row_15 : Row
+row_15 = record (row 15 settings_8 (encode_utf8_all (codes "aé漢👍b\r")) (encode_utf8_all
     (codes "aé漢👍b\n"))) {
       shows = Some (encode_utf8_all
           (codes "\r\u{1b}[J\u{1b}[m> \u{1b}[m\u{1b}[m\u{1b}[ma\u{1b}[mé\u{1b}[m\u{1b}[m漢\u{1b}[" ++
@@ -58,8 +59,8 @@ row_14 = record (row 14 settings_7 (encode_utf8_all (codes "aé漢👍b\r")) (en
     }
 
 -- 👍🏽x Enter = 👍🏽x | shows {} ␛[m👍␛[m {␛[m👍🏽␛[m} {␛[m👍🏽␛[mx} ␍␊ {} ␍␊
-abbrev pub row_15 : Row
-row_15 = record (row 15 settings_7 (encode_utf8_all (codes "👍🏽x\r")) (encode_utf8_all
+abbrev pub row_16 : Row
+row_16 = record (row 16 settings_8 (encode_utf8_all (codes "👍🏽x\r")) (encode_utf8_all
     (codes "👍🏽x\n"))) {
       shows = Some (encode_utf8_all
           (codes "\r\u{1b}[J\u{1b}[m> \u{1b}[m\u{1b}[m\u{1b}[m\u{1b}[m👍\u{1b}[m\r\u{1b}[J\u{1b}[" ++
@@ -69,27 +70,26 @@ row_15 = record (row 15 settings_7 (encode_utf8_all (codes "👍🏽x\r")) (enco
     }
 
 -- é Left Right a Enter = éa | shows {} ␛[mé␛[m ␛[1D ␛[1C a ␍␊ {} ␍␊
-abbrev pub row_16 : Row
-row_16 = record (row 16 settings_7 (encode_utf8_all (codes "é\u{1b}[D\u{1b}[Ca\r")) (encode_utf8_all
+abbrev pub row_17 : Row
+row_17 = record (row 17 settings_8 (encode_utf8_all (codes "é\u{1b}[D\u{1b}[Ca\r")) (encode_utf8_all
     (codes "éa\n"))) {
       shows = Some (encode_utf8_all
           (codes "\r\u{1b}[J\u{1b}[m> \u{1b}[m\u{1b}[m\u{1b}[m\u{1b}[mé\u{1b}[m\u{1b}[1D\u{1b}[1" ++
           codes "Ca\r\n\r\u{1b}[J\u{1b}[m> \u{1b}[m\u{1b}[m\u{1b}[m\r\n"));
     }
 
--- Paste a␊ Pasted é Enter = a␊é | shows {} {a␍␊} ␛[mé␛[m ␍␊ {} ␍␊
-abbrev pub row_17 : Row
-row_17 = record (row 17 settings_7 (encode_utf8_all (codes "\u{1b}[200~a\n\u{1b}[201~é\r"))
+-- Paste a␊ Pasted é Enter = a␊é | shows {} ␛[Ja␍␊ ␛[mé␛[m ␍␊ {} ␍␊
+abbrev pub row_18 : Row
+row_18 = record (row 18 settings_8 (encode_utf8_all (codes "\u{1b}[200~a\n\u{1b}[201~é\r"))
     (encode_utf8_all (codes "a\né\n"))) {
       shows = Some (encode_utf8_all
-          (codes "\r\u{1b}[J\u{1b}[m> \u{1b}[m\u{1b}[m\u{1b}[m\r\u{1b}[J\u{1b}[m> \u{1b}[ma\r\n" ++
-          codes "\u{1b}[m\u{1b}[m\u{1b}[mé\u{1b}[m\r\n\r\u{1b}[J\u{1b}[m> \u{1b}[m\u{1b}[m" ++
-          codes "\u{1b}[m\r\n"));
+          (codes "\r\u{1b}[J\u{1b}[m> \u{1b}[m\u{1b}[m\u{1b}[m\u{1b}[Ja\r\n\u{1b}[mé\u{1b}[m\r\n" ++
+          codes "\r\u{1b}[J\u{1b}[m> \u{1b}[m\u{1b}[m\u{1b}[m\r\n"));
     }
 
 -- aé漢 Backspace Backspace b Enter = ab | shows {} a ␛[mé␛[m ␛[m漢␛[m ␛[2D␛[K ␛[1D␛[K b ␍␊ {} ␍␊
-abbrev pub row_20 : Row
-row_20 = record (row 20 settings_7 (encode_utf8_all (codes "aé漢\u{7f}\u{7f}b\r")) (codes "ab\n")) {
+abbrev pub row_21 : Row
+row_21 = record (row 21 settings_8 (encode_utf8_all (codes "aé漢\u{7f}\u{7f}b\r")) (codes "ab\n")) {
   shows = Some (encode_utf8_all
       (codes "\r\u{1b}[J\u{1b}[m> \u{1b}[m\u{1b}[m\u{1b}[ma\u{1b}[mé\u{1b}[m\u{1b}[m漢\u{1b}[" ++
       codes "m\u{1b}[2D\u{1b}[K\u{1b}[1D\u{1b}[Kb\r\n\r\u{1b}[J\u{1b}[m> \u{1b}[m\u{1b}[m" ++
@@ -97,216 +97,300 @@ row_20 = record (row 20 settings_7 (encode_utf8_all (codes "aé漢\u{7f}\u{7f}b\
 }
 
 -- aя Left C-d Enter = a | shows {} a ␛[mя␛[m ␛[1D ␛[K ␍␊ {} ␍␊
-abbrev pub row_21 : Row
-row_21 = record (row 21 settings_7 (encode_utf8_all (codes "aя\u{1b}[D\u{4}\r")) (codes "a\n")) {
+abbrev pub row_22 : Row
+row_22 = record (row 22 settings_8 (encode_utf8_all (codes "aя\u{1b}[D\u{4}\r")) (codes "a\n")) {
   shows = Some (encode_utf8_all
       (codes "\r\u{1b}[J\u{1b}[m> \u{1b}[m\u{1b}[m\u{1b}[ma\u{1b}[mя\u{1b}[m\u{1b}[1D\u{1b}[" ++
       codes "K\r\n\r\u{1b}[J\u{1b}[m> \u{1b}[m\u{1b}[m\u{1b}[m\r\n"));
 }
 
--- 👍🏽 Backspace x Enter = x | shows {} ␛[m👍␛[m {␛[m👍🏽␛[m} {} x ␍␊ {} ␍␊
-abbrev pub row_22 : Row
-row_22 = record (row 22 settings_7 (encode_utf8_all (codes "👍🏽\u{7f}x\r")) (codes "x\n")) {
+-- 👍🏽 Backspace x Enter = x | shows {} ␛[m👍␛[m {␛[m👍🏽␛[m} ␛[2D␛[J x ␍␊ {} ␍␊
+abbrev pub row_23 : Row
+row_23 = record (row 23 settings_8 (encode_utf8_all (codes "👍🏽\u{7f}x\r")) (codes "x\n")) {
   shows = Some (encode_utf8_all
       (codes "\r\u{1b}[J\u{1b}[m> \u{1b}[m\u{1b}[m\u{1b}[m\u{1b}[m👍\u{1b}[m\r\u{1b}[J\u{1b}[" ++
-      codes "m> \u{1b}[m\u{1b}[m👍🏽\u{1b}[m\u{1b}[m\u{1b}[m\r\u{1b}[J\u{1b}[m> \u{1b}[m" ++
-      codes "\u{1b}[m\u{1b}[mx\r\n\r\u{1b}[J\u{1b}[m> \u{1b}[m\u{1b}[m\u{1b}[m\r\n"));
+      codes "m> \u{1b}[m\u{1b}[m👍🏽\u{1b}[m\u{1b}[m\u{1b}[m\u{1b}[2D\u{1b}[Jx\r\n\r\u{1b}[J" ++
+      codes "\u{1b}[m> \u{1b}[m\u{1b}[m\u{1b}[m\r\n"));
 }
 
--- aé C-w Enter = "" | shows {} a ␛[mé␛[m {} ␍␊ {} ␍␊
-abbrev pub row_23 : Row
-row_23 = record (row 23 settings_7 (encode_utf8_all (codes "aé\u{17}\r")) (codes "\n")) {
+-- aé C-w Enter = "" | shows {} a ␛[mé␛[m ␛[2D␛[J ␍␊ {} ␍␊
+abbrev pub row_24 : Row
+row_24 = record (row 24 settings_8 (encode_utf8_all (codes "aé\u{17}\r")) (codes "\n")) {
   shows = Some (encode_utf8_all
-      (codes "\r\u{1b}[J\u{1b}[m> \u{1b}[m\u{1b}[m\u{1b}[ma\u{1b}[mé\u{1b}[m\r\u{1b}[J\u{1b}" ++
-      codes "[m> \u{1b}[m\u{1b}[m\u{1b}[m\r\n\r\u{1b}[J\u{1b}[m> \u{1b}[m\u{1b}[m\u{1b}[m\r" ++
-      codes "\n"));
+      (codes "\r\u{1b}[J\u{1b}[m> \u{1b}[m\u{1b}[m\u{1b}[ma\u{1b}[mé\u{1b}[m\u{1b}[2D\u{1b}[" ++
+      codes "J\r\n\r\u{1b}[J\u{1b}[m> \u{1b}[m\u{1b}[m\u{1b}[m\r\n"));
 }
 
 -- ab Enter = ab | shows {} a b ␍␊ {} ␍␊
-abbrev pub row_26 : Row
-row_26 = record (row 26 settings_7 (codes "ab\r") (codes "ab\n")) {
+abbrev pub row_27 : Row
+row_27 = record (row 27 settings_8 (codes "ab\r") (codes "ab\n")) {
   shows = Some
       (codes "\r\u{1b}[J\u{1b}[m> \u{1b}[m\u{1b}[m\u{1b}[mab\r\n\r\u{1b}[J\u{1b}[m> \u{1b}[m" ++
       codes "\u{1b}[m\u{1b}[m\r\n");
 }
 
 -- ab Backspace Enter = a | shows {} a b ␛[1D␛[K ␍␊ {} ␍␊
-abbrev pub row_27 : Row
-row_27 = record (row 27 settings_7 (codes "ab\u{7f}\r") (codes "a\n")) {
+abbrev pub row_28 : Row
+row_28 = record (row 28 settings_8 (codes "ab\u{7f}\r") (codes "a\n")) {
   shows = Some
       (codes "\r\u{1b}[J\u{1b}[m> \u{1b}[m\u{1b}[m\u{1b}[mab\u{1b}[1D\u{1b}[K\r\n\r\u{1b}[J" ++
       codes "\u{1b}[m> \u{1b}[m\u{1b}[m\u{1b}[m\r\n");
 }
 
 -- abc Left C-k Enter = ab | shows {} a b c ␛[1D ␛[K ␍␊ {} ␍␊
-abbrev pub row_28 : Row
-row_28 = record (row 28 settings_7 (codes "abc\u{1b}[D\u{b}\r") (codes "ab\n")) {
+abbrev pub row_29 : Row
+row_29 = record (row 29 settings_8 (codes "abc\u{1b}[D\u{b}\r") (codes "ab\n")) {
   shows = Some
       (codes "\r\u{1b}[J\u{1b}[m> \u{1b}[m\u{1b}[m\u{1b}[mabc\u{1b}[1D\u{1b}[K\r\n\r\u{1b}[J" ++
       codes "\u{1b}[m> \u{1b}[m\u{1b}[m\u{1b}[m\r\n");
 }
 
 -- abc Left Backspace Enter = ac | shows {} a b c ␛[1D ␛[1D␛[P ␛[1C␍␊ {} ␍␊
-abbrev pub row_31 : Row
-row_31 = record (row 31 settings_7 (codes "abc\u{1b}[D\u{7f}\r") (codes "ac\n")) {
+abbrev pub row_32 : Row
+row_32 = record (row 32 settings_8 (codes "abc\u{1b}[D\u{7f}\r") (codes "ac\n")) {
   shows = Some (codes "\r\u{1b}[J\u{1b}[m> \u{1b}[m\u{1b}[m\u{1b}[mabc\u{1b}[1D\u{1b}[1D\u{1b}[P" ++
       codes "\u{1b}[1C\r\n\r\u{1b}[J\u{1b}[m> \u{1b}[m\u{1b}[m\u{1b}[m\r\n");
 }
 
 -- abc Left Left C-d Enter = ac | shows {} a b c ␛[1D ␛[1D ␛[P ␛[1C␍␊ {} ␍␊
-abbrev pub row_32 : Row
-row_32 = record (row 32 settings_7 (codes "abc\u{1b}[D\u{1b}[D\u{4}\r") (codes "ac\n")) {
+abbrev pub row_33 : Row
+row_33 = record (row 33 settings_8 (codes "abc\u{1b}[D\u{1b}[D\u{4}\r") (codes "ac\n")) {
   shows = Some (codes "\r\u{1b}[J\u{1b}[m> \u{1b}[m\u{1b}[m\u{1b}[mabc\u{1b}[1D\u{1b}[1D\u{1b}[P" ++
       codes "\u{1b}[1C\r\n\r\u{1b}[J\u{1b}[m> \u{1b}[m\u{1b}[m\u{1b}[m\r\n");
 }
 
 -- ab␠c Left C-w Enter = c | shows {} a b ␠ c ␛[1D ␛[3D␛[3P ␛[1C␍␊ {} ␍␊
-abbrev pub row_33 : Row
-row_33 = record (row 33 settings_7 (codes "ab c\u{1b}[D\u{17}\r") (codes "c\n")) {
+abbrev pub row_34 : Row
+row_34 = record (row 34 settings_8 (codes "ab c\u{1b}[D\u{17}\r") (codes "c\n")) {
   shows = Some (codes "\r\u{1b}[J\u{1b}[m> \u{1b}[m\u{1b}[m\u{1b}[mab c\u{1b}[1D\u{1b}[3D\u{1b}[3P"
       ++ codes "\u{1b}[1C\r\n\r\u{1b}[J\u{1b}[m> \u{1b}[m\u{1b}[m\u{1b}[m\r\n");
 }
 
 -- ab␠c C-a M-d Enter = ␠c | shows {} a b ␠ c ␛[4D ␛[2P ␛[2C␍␊ {} ␍␊
-abbrev pub row_34 : Row
-row_34 = record (row 34 settings_7 (codes "ab c\u{1}\u{1b}d\r") (codes " c\n")) {
+abbrev pub row_35 : Row
+row_35 = record (row 35 settings_8 (codes "ab c\u{1}\u{1b}d\r") (codes " c\n")) {
   shows = Some
       (codes "\r\u{1b}[J\u{1b}[m> \u{1b}[m\u{1b}[m\u{1b}[mab c\u{1b}[4D\u{1b}[2P\u{1b}[2C\r" ++
       codes "\n\r\u{1b}[J\u{1b}[m> \u{1b}[m\u{1b}[m\u{1b}[m\r\n");
 }
 
 -- abc Left C-u Enter = c | shows {} a b c ␛[1D ␛[2D␛[2P ␛[1C␍␊ {} ␍␊
-abbrev pub row_35 : Row
-row_35 = record (row 35 settings_7 (codes "abc\u{1b}[D\u{15}\r") (codes "c\n")) {
+abbrev pub row_36 : Row
+row_36 = record (row 36 settings_8 (codes "abc\u{1b}[D\u{15}\r") (codes "c\n")) {
   shows = Some (codes "\r\u{1b}[J\u{1b}[m> \u{1b}[m\u{1b}[m\u{1b}[mabc\u{1b}[1D\u{1b}[2D\u{1b}[2P"
       ++ codes "\u{1b}[1C\r\n\r\u{1b}[J\u{1b}[m> \u{1b}[m\u{1b}[m\u{1b}[m\r\n");
 }
 
 -- abc Left Backspace Backspace x Enter = xc | shows {} a b c ␛[1D ␛[1D␛[P ␛[1D␛[P ␛[@x ␛[1C␍␊ {} ␍␊
-abbrev pub row_36 : Row
-row_36 = record (row 36 settings_7 (codes "abc\u{1b}[D\u{7f}\u{7f}x\r") (codes "xc\n")) {
+abbrev pub row_37 : Row
+row_37 = record (row 37 settings_8 (codes "abc\u{1b}[D\u{7f}\u{7f}x\r") (codes "xc\n")) {
   shows = Some (codes "\r\u{1b}[J\u{1b}[m> \u{1b}[m\u{1b}[m\u{1b}[mabc\u{1b}[1D\u{1b}[1D\u{1b}[P" ++
       codes "\u{1b}[1D\u{1b}[P\u{1b}[@x\u{1b}[1C\r\n\r\u{1b}[J\u{1b}[m> \u{1b}[m\u{1b}[m" ++
       codes "\u{1b}[m\r\n");
 }
 
--- Paste a␊bc Pasted Left x Enter = a␊bxc | shows {} {a␍␊bc} ␛[1D ␛[@x ␛[1C␍␊ {} ␍␊
-abbrev pub row_39 : Row
-row_39 = record (row 39 settings_7 (codes "\u{1b}[200~a\nbc\u{1b}[201~\u{1b}[Dx\r")
+-- Paste a␊bc Pasted Left x Enter = a␊bxc | shows {} ␛[Ja␍␊bc ␛[1D ␛[@x ␛[1C␍␊ {} ␍␊
+abbrev pub row_40 : Row
+row_40 = record (row 40 settings_8 (codes "\u{1b}[200~a\nbc\u{1b}[201~\u{1b}[Dx\r")
     (codes "a\nbxc\n")) {
       shows = Some
-          (codes "\r\u{1b}[J\u{1b}[m> \u{1b}[m\u{1b}[m\u{1b}[m\r\u{1b}[J\u{1b}[m> \u{1b}[ma\r\nb" ++
-          codes "c\u{1b}[m\u{1b}[m\u{1b}[1D\u{1b}[@x\u{1b}[1C\r\n\r\u{1b}[J\u{1b}[m> \u{1b}[m" ++
-          codes "\u{1b}[m\u{1b}[m\r\n");
+          (codes "\r\u{1b}[J\u{1b}[m> \u{1b}[m\u{1b}[m\u{1b}[m\u{1b}[Ja\r\nbc\u{1b}[1D\u{1b}[@x" ++
+          codes "\u{1b}[1C\r\n\r\u{1b}[J\u{1b}[m> \u{1b}[m\u{1b}[m\u{1b}[m\r\n");
     }
 
--- Paste a␊bc Pasted Left Backspace Enter = a␊c | shows {} {a␍␊bc} ␛[1D ␛[1D␛[P ␛[1C␍␊ {} ␍␊
-abbrev pub row_40 : Row
-row_40 = record (row 40 settings_7 (codes "\u{1b}[200~a\nbc\u{1b}[201~\u{1b}[D\u{7f}\r")
+-- Paste a␊bc Pasted Left Backspace Enter = a␊c | shows {} ␛[Ja␍␊bc ␛[1D ␛[1D␛[P ␛[1C␍␊ {} ␍␊
+abbrev pub row_41 : Row
+row_41 = record (row 41 settings_8 (codes "\u{1b}[200~a\nbc\u{1b}[201~\u{1b}[D\u{7f}\r")
     (codes "a\nc\n")) {
       shows = Some
-          (codes "\r\u{1b}[J\u{1b}[m> \u{1b}[m\u{1b}[m\u{1b}[m\r\u{1b}[J\u{1b}[m> \u{1b}[ma\r\nb" ++
-          codes "c\u{1b}[m\u{1b}[m\u{1b}[1D\u{1b}[1D\u{1b}[P\u{1b}[1C\r\n\r\u{1b}[J\u{1b}[m> " ++
+          (codes "\r\u{1b}[J\u{1b}[m> \u{1b}[m\u{1b}[m\u{1b}[m\u{1b}[Ja\r\nbc\u{1b}[1D\u{1b}[1D" ++
+          codes "\u{1b}[P\u{1b}[1C\r\n\r\u{1b}[J\u{1b}[m> \u{1b}[m\u{1b}[m\u{1b}[m\r\n");
+    }
+
+-- Paste ab␊c Pasted C-a x Enter = ab␊xc | shows {} ␛[Jab␍␊c ␛[1D ␛[@x ␛[1C␍␊ {} ␍␊
+abbrev pub row_42 : Row
+row_42 = record (row 42 settings_8 (codes "\u{1b}[200~ab\nc\u{1b}[201~\u{1}x\r") (codes "ab\nxc\n")) {
+  shows = Some
+      (codes "\r\u{1b}[J\u{1b}[m> \u{1b}[m\u{1b}[m\u{1b}[m\u{1b}[Jab\r\nc\u{1b}[1D\u{1b}[@x" ++
+      codes "\u{1b}[1C\r\n\r\u{1b}[J\u{1b}[m> \u{1b}[m\u{1b}[m\u{1b}[m\r\n");
+}
+
+-- Paste ab␊c Pasted Up x Enter = xab␊c | shows {} ␛[Jab␍␊c ␛[1A␛[1C ␛[Jxab␍␊c␛[1A␛[2C ␛[1B␛[2D␍␊ {} ␍␊
+abbrev pub row_43 : Row
+row_43 = record (row 43 settings_8 (codes "\u{1b}[200~ab\nc\u{1b}[201~\u{1b}[Ax\r")
+    (codes "xab\nc\n")) {
+      shows = Some
+          (codes "\r\u{1b}[J\u{1b}[m> \u{1b}[m\u{1b}[m\u{1b}[m\u{1b}[Jab\r\nc\u{1b}[1A\u{1b}[1C" ++
+          codes "\u{1b}[Jxab\r\nc\u{1b}[1A\u{1b}[2C\u{1b}[1B\u{1b}[2D\r\n\r\u{1b}[J\u{1b}[m> " ++
           codes "\u{1b}[m\u{1b}[m\u{1b}[m\r\n");
     }
 
--- Paste ab␊c Pasted C-a x Enter = ab␊xc | shows {} {ab␍␊c} ␛[1D ␛[@x ␛[1C␍␊ {} ␍␊
-abbrev pub row_41 : Row
-row_41 = record (row 41 settings_7 (codes "\u{1b}[200~ab\nc\u{1b}[201~\u{1}x\r") (codes "ab\nxc\n")) {
-  shows = Some
-      (codes "\r\u{1b}[J\u{1b}[m> \u{1b}[m\u{1b}[m\u{1b}[m\r\u{1b}[J\u{1b}[m> \u{1b}[mab\r\n" ++
-      codes "c\u{1b}[m\u{1b}[m\u{1b}[1D\u{1b}[@x\u{1b}[1C\r\n\r\u{1b}[J\u{1b}[m> \u{1b}[m" ++
-      codes "\u{1b}[m\u{1b}[m\r\n");
-}
-
--- Paste ab␊c Pasted Up x Enter = xab␊c | shows {} {ab␍␊c} ␛[1A␛[1C {xab␍␊c}␛[1A␛[2C ␛[1B␛[2D␍␊ {} ␍␊
-abbrev pub row_42 : Row
-row_42 = record (row 42 settings_7 (codes "\u{1b}[200~ab\nc\u{1b}[201~\u{1b}[Ax\r")
-    (codes "xab\nc\n")) {
+-- Paste ab␊c Pasted Up C-d Enter = b␊c | shows {} ␛[Jab␍␊c ␛[1A␛[1C ␛[Jb␍␊c␛[1A␛[1C ␛[1B␛[1D␍␊ {} ␍␊
+abbrev pub row_44 : Row
+row_44 = record (row 44 settings_8 (codes "\u{1b}[200~ab\nc\u{1b}[201~\u{1b}[A\u{4}\r")
+    (codes "b\nc\n")) {
       shows = Some
-          (codes "\r\u{1b}[J\u{1b}[m> \u{1b}[m\u{1b}[m\u{1b}[m\r\u{1b}[J\u{1b}[m> \u{1b}[mab\r\n" ++
-          codes "c\u{1b}[m\u{1b}[m\u{1b}[1A\u{1b}[1C\r\u{1b}[J\u{1b}[m> \u{1b}[mxab\r\nc\u{1b}[" ++
-          codes "m\u{1b}[m\u{1b}[1A\u{1b}[2C\u{1b}[1B\u{1b}[2D\r\n\r\u{1b}[J\u{1b}[m> \u{1b}[m" ++
-          codes "\u{1b}[m\u{1b}[m\r\n");
+          (codes "\r\u{1b}[J\u{1b}[m> \u{1b}[m\u{1b}[m\u{1b}[m\u{1b}[Jab\r\nc\u{1b}[1A\u{1b}[1C" ++
+          codes "\u{1b}[Jb\r\nc\u{1b}[1A\u{1b}[1C\u{1b}[1B\u{1b}[1D\r\n\r\u{1b}[J\u{1b}[m> " ++
+          codes "\u{1b}[m\u{1b}[m\u{1b}[m\r\n");
     }
 
--- Paste ab␊c Pasted Left Backspace Enter = abc | shows {} {ab␍␊c} ␛[1D ␛[1A{abc}␛[1D ␛[1C␍␊ {} ␍␊
-abbrev pub row_43 : Row
-row_43 = record (row 43 settings_7 (codes "\u{1b}[200~ab\nc\u{1b}[201~\u{1b}[D\u{7f}\r")
+-- Paste ab␊c Pasted Left Backspace Enter = abc | shows {} ␛[Jab␍␊c ␛[1D ␛[1A␛[4C␛[Jc␛[1D ␛[1C␍␊ {} ␍␊
+abbrev pub row_45 : Row
+row_45 = record (row 45 settings_8 (codes "\u{1b}[200~ab\nc\u{1b}[201~\u{1b}[D\u{7f}\r")
     (codes "abc\n")) {
       shows = Some
-          (codes "\r\u{1b}[J\u{1b}[m> \u{1b}[m\u{1b}[m\u{1b}[m\r\u{1b}[J\u{1b}[m> \u{1b}[mab\r\n" ++
-          codes "c\u{1b}[m\u{1b}[m\u{1b}[1D\u{1b}[1A\r\u{1b}[J\u{1b}[m> \u{1b}[mabc\u{1b}[m" ++
-          codes "\u{1b}[m\u{1b}[1D\u{1b}[1C\r\n\r\u{1b}[J\u{1b}[m> \u{1b}[m\u{1b}[m\u{1b}[m\r\n");
+          (codes "\r\u{1b}[J\u{1b}[m> \u{1b}[m\u{1b}[m\u{1b}[m\u{1b}[Jab\r\nc\u{1b}[1D\u{1b}[1A" ++
+          codes "\u{1b}[4C\u{1b}[Jc\u{1b}[1D\u{1b}[1C\r\n\r\u{1b}[J\u{1b}[m> \u{1b}[m\u{1b}[m" ++
+          codes "\u{1b}[m\r\n");
     }
 
--- é a Left x Enter = éxa | shows {} ␛[mé␛[m a ␛[1D {␛[mé␛[mxa}␛[1D ␛[1C␍␊ {} ␍␊
-abbrev pub row_46 : Row
-row_46 = record (row 46 settings_7 (encode_utf8_all (codes "éa\u{1b}[Dx\r")) (encode_utf8_all
+-- é a Left x Enter = éxa | shows {} ␛[mé␛[m a ␛[1D ␛[Jxa␛[1D ␛[1C␍␊ {} ␍␊
+abbrev pub row_48 : Row
+row_48 = record (row 48 settings_8 (encode_utf8_all (codes "éa\u{1b}[Dx\r")) (encode_utf8_all
     (codes "éxa\n"))) {
       shows = Some (encode_utf8_all
-          (codes "\r\u{1b}[J\u{1b}[m> \u{1b}[m\u{1b}[m\u{1b}[m\u{1b}[mé\u{1b}[ma\u{1b}[1D\r" ++
-          codes "\u{1b}[J\u{1b}[m> \u{1b}[m\u{1b}[mé\u{1b}[mxa\u{1b}[m\u{1b}[m\u{1b}[1D\u{1b}[1" ++
-          codes "C\r\n\r\u{1b}[J\u{1b}[m> \u{1b}[m\u{1b}[m\u{1b}[m\r\n"));
+          (codes "\r\u{1b}[J\u{1b}[m> \u{1b}[m\u{1b}[m\u{1b}[m\u{1b}[mé\u{1b}[ma\u{1b}[1D\u{1b}[" ++
+          codes "Jxa\u{1b}[1D\u{1b}[1C\r\n\r\u{1b}[J\u{1b}[m> \u{1b}[m\u{1b}[m\u{1b}[m\r\n"));
     }
 
--- ab Left é Enter = aéb | shows {} a b ␛[1D {a␛[mé␛[mb}␛[1D ␛[1C␍␊ {} ␍␊
-abbrev pub row_47 : Row
-row_47 = record (row 47 settings_7 (encode_utf8_all (codes "ab\u{1b}[Dé\r")) (encode_utf8_all
+-- ab Left é Enter = aéb | shows {} a b ␛[1D ␛[J␛[mé␛[mb␛[1D ␛[1C␍␊ {} ␍␊
+abbrev pub row_49 : Row
+row_49 = record (row 49 settings_8 (encode_utf8_all (codes "ab\u{1b}[Dé\r")) (encode_utf8_all
     (codes "aéb\n"))) {
       shows = Some (encode_utf8_all
-          (codes "\r\u{1b}[J\u{1b}[m> \u{1b}[m\u{1b}[m\u{1b}[mab\u{1b}[1D\r\u{1b}[J\u{1b}[m> " ++
-          codes "\u{1b}[ma\u{1b}[mé\u{1b}[mb\u{1b}[m\u{1b}[m\u{1b}[1D\u{1b}[1C\r\n\r\u{1b}[J" ++
-          codes "\u{1b}[m> \u{1b}[m\u{1b}[m\u{1b}[m\r\n"));
+          (codes "\r\u{1b}[J\u{1b}[m> \u{1b}[m\u{1b}[m\u{1b}[mab\u{1b}[1D\u{1b}[J\u{1b}[mé\u{1b}" ++
+          codes "[mb\u{1b}[1D\u{1b}[1C\r\n\r\u{1b}[J\u{1b}[m> \u{1b}[m\u{1b}[m\u{1b}[m\r\n"));
     }
 
 -- ac Left b C-_ Enter = ac | shows {} a c ␛[1D ␛[@b {ac}␛[1D ␛[1C␍␊ {} ␍␊
-abbrev pub row_48 : Row
-row_48 = record (row 48 settings_7 (codes "ac\u{1b}[Db\u{1f}\r") (codes "ac\n")) {
+abbrev pub row_50 : Row
+row_50 = record (row 50 settings_8 (codes "ac\u{1b}[Db\u{1f}\r") (codes "ac\n")) {
   shows = Some (codes "\r\u{1b}[J\u{1b}[m> \u{1b}[m\u{1b}[m\u{1b}[mac\u{1b}[1D\u{1b}[@b\r\u{1b}[J"
       ++ codes "\u{1b}[m> \u{1b}[mac\u{1b}[m\u{1b}[m\u{1b}[1D\u{1b}[1C\r\n\r\u{1b}[J\u{1b}[m> " ++
       codes "\u{1b}[m\u{1b}[m\u{1b}[m\r\n");
 }
 
--- abc Left C-w C-y Enter = abc | shows {} a b c ␛[1D ␛[2D␛[2P {abc}␛[1D ␛[1C␍␊ {} ␍␊
-abbrev pub row_49 : Row
-row_49 = record (row 49 settings_7 (codes "abc\u{1b}[D\u{17}\u{19}\r") (codes "abc\n")) {
-  shows = Some (codes "\r\u{1b}[J\u{1b}[m> \u{1b}[m\u{1b}[m\u{1b}[mabc\u{1b}[1D\u{1b}[2D\u{1b}[2P\r"
-      ++ codes "\u{1b}[J\u{1b}[m> \u{1b}[mabc\u{1b}[m\u{1b}[m\u{1b}[1D\u{1b}[1C\r\n\r\u{1b}[J" ++
-      codes "\u{1b}[m> \u{1b}[m\u{1b}[m\u{1b}[m\r\n");
+-- abc Left C-w C-y Enter = abc | shows {} a b c ␛[1D ␛[2D␛[2P ␛[Jabc␛[1D ␛[1C␍␊ {} ␍␊
+abbrev pub row_51 : Row
+row_51 = record (row 51 settings_8 (codes "abc\u{1b}[D\u{17}\u{19}\r") (codes "abc\n")) {
+  shows = Some (codes "\r\u{1b}[J\u{1b}[m> \u{1b}[m\u{1b}[m\u{1b}[mabc\u{1b}[1D\u{1b}[2D\u{1b}[2P"
+      ++ codes "\u{1b}[Jabc\u{1b}[1D\u{1b}[1C\r\n\r\u{1b}[J\u{1b}[m> \u{1b}[m\u{1b}[m\u{1b}[m" ++
+      codes "\r\n");
 }
 
+-- ab C-w C-y Enter = ab | shows {} a b ␛[2D␛[K ␛[Jab ␍␊ {} ␍␊
+abbrev pub row_52 : Row
+row_52 = record (row 52 settings_8 (codes "ab\u{17}\u{19}\r") (codes "ab\n")) {
+  shows = Some
+      (codes "\r\u{1b}[J\u{1b}[m> \u{1b}[m\u{1b}[m\u{1b}[mab\u{1b}[2D\u{1b}[K\u{1b}[Jab\r\n" ++
+      codes "\r\u{1b}[J\u{1b}[m> \u{1b}[m\u{1b}[m\u{1b}[m\r\n");
+}
+
+-- ab C-w cd C-w C-y M-y Enter = ab | shows {} a b ␛[2D␛[K c d ␛[2D␛[K ␛[Jcd ␛[2D␛[Jab ␍␊ {} ␍␊
+abbrev pub row_53 : Row
+row_53 = record (row 53 settings_8 (codes "ab\u{17}cd\u{17}\u{19}\u{1b}y\r") (codes "ab\n")) {
+  shows = Some (codes "\r\u{1b}[J\u{1b}[m> \u{1b}[m\u{1b}[m\u{1b}[mab\u{1b}[2D\u{1b}[Kcd\u{1b}[2D"
+      ++ codes "\u{1b}[K\u{1b}[Jcd\u{1b}[2D\u{1b}[Jab\r\n\r\u{1b}[J\u{1b}[m> \u{1b}[m\u{1b}[m" ++
+      codes "\u{1b}[m\r\n");
+}
+
+-- 漢 Left a Enter = a漢 | shows {} ␛[m漢␛[m ␛[2D ␛[Ja␛[m漢␛[m␛[2D ␛[2C␍␊ {} ␍␊
+abbrev pub row_54 : Row
+row_54 = record (row 54 settings_8 (encode_utf8_all (codes "漢\u{1b}[Da\r")) (encode_utf8_all
+    (codes "a漢\n"))) {
+      shows = Some (encode_utf8_all
+          (codes "\r\u{1b}[J\u{1b}[m> \u{1b}[m\u{1b}[m\u{1b}[m\u{1b}[m漢\u{1b}[m\u{1b}[2D\u{1b}[J" ++
+          codes "a\u{1b}[m漢\u{1b}[m\u{1b}[2D\u{1b}[2C\r\n\r\u{1b}[J\u{1b}[m> \u{1b}[m\u{1b}[m" ++
+          codes "\u{1b}[m\r\n"));
+    }
+
+-- 漢a Left Left C-d Enter = a | shows {} ␛[m漢␛[m a ␛[1D ␛[2D ␛[Ja␛[1D ␛[1C␍␊ {} ␍␊
+abbrev pub row_55 : Row
+row_55 = record (row 55 settings_8 (encode_utf8_all (codes "漢a\u{1b}[D\u{1b}[D\u{4}\r"))
+    (codes "a\n")) {
+      shows = Some (encode_utf8_all
+          (codes "\r\u{1b}[J\u{1b}[m> \u{1b}[m\u{1b}[m\u{1b}[m\u{1b}[m漢\u{1b}[ma\u{1b}[1D\u{1b}[" ++
+          codes "2D\u{1b}[Ja\u{1b}[1D\u{1b}[1C\r\n\r\u{1b}[J\u{1b}[m> \u{1b}[m\u{1b}[m\u{1b}[m" ++
+          codes "\r\n"));
+    }
+
+-- Paste é␊c Pasted Up C-k Enter = ␊c | shows {} ␛[J␛[mé␛[m␍␊c ␛[1A␛[1C ␛[J␍␊c␛[1A␛[1C ␛[1B␛[1D␍␊ {} ␍␊
+abbrev pub row_56 : Row
+row_56 = record (row 56 settings_8 (encode_utf8_all
+    (codes "\u{1b}[200~é\nc\u{1b}[201~\u{1b}[A\u{b}\r")) (codes "\nc\n")) {
+      shows = Some (encode_utf8_all
+          (codes "\r\u{1b}[J\u{1b}[m> \u{1b}[m\u{1b}[m\u{1b}[m\u{1b}[J\u{1b}[mé\u{1b}[m\r\nc" ++
+          codes "\u{1b}[1A\u{1b}[1C\u{1b}[J\r\nc\u{1b}[1A\u{1b}[1C\u{1b}[1B\u{1b}[1D\r\n\r" ++
+          codes "\u{1b}[J\u{1b}[m> \u{1b}[m\u{1b}[m\u{1b}[m\r\n"));
+    }
+
+-- a M-2 x Enter = axx | shows {} a ␍␛[J␛[m(arg:␠2)␠␛[ma␛[m␛[m {a} ␛[Jxx ␍␊ {} ␍␊
+abbrev pub row_57 : Row
+row_57 = record (row 57 settings_8 (codes "a\u{1b}2x\r") (codes "axx\n")) {
+  shows = Some
+      (codes "\r\u{1b}[J\u{1b}[m> \u{1b}[m\u{1b}[m\u{1b}[ma\r\u{1b}[J\u{1b}[m(arg: 2) \u{1b}" ++
+      codes "[ma\u{1b}[m\u{1b}[m\r\u{1b}[J\u{1b}[m> \u{1b}[ma\u{1b}[m\u{1b}[m\u{1b}[Jxx\r\n" ++
+      codes "\r\u{1b}[J\u{1b}[m> \u{1b}[m\u{1b}[m\u{1b}[m\r\n");
+}
+
+-- 👍🏽a Left b Enter = 👍🏽ba | shows {} ␛[m👍␛[m {␛[m👍🏽␛[m} {␛[m👍🏽␛[ma} ␛[1D {␛[m👍🏽␛[mba}␛[1D ␛[1C␍␊ {} ␍␊
+abbrev pub row_60 : Row
+row_60 = record (row 60 settings_8 (encode_utf8_all (codes "👍🏽a\u{1b}[Db\r")) (encode_utf8_all
+    (codes "👍🏽ba\n"))) {
+      shows = Some (encode_utf8_all
+          (codes "\r\u{1b}[J\u{1b}[m> \u{1b}[m\u{1b}[m\u{1b}[m\u{1b}[m👍\u{1b}[m\r\u{1b}[J\u{1b}[" ++
+          codes "m> \u{1b}[m\u{1b}[m👍🏽\u{1b}[m\u{1b}[m\u{1b}[m\r\u{1b}[J\u{1b}[m> \u{1b}[m" ++
+          codes "\u{1b}[m👍🏽\u{1b}[ma\u{1b}[m\u{1b}[m\u{1b}[1D\r\u{1b}[J\u{1b}[m> \u{1b}[m\u{1b}" ++
+          codes "[m👍🏽\u{1b}[mba\u{1b}[m\u{1b}[m\u{1b}[1D\u{1b}[1C\r\n\r\u{1b}[J\u{1b}[m> \u{1b}" ++
+          codes "[m\u{1b}[m\u{1b}[m\r\n"));
+    }
+
 -- partial modal vi
-abbrev pub settings_52 : Settings
-settings_52 = record plain {
+abbrev pub settings_63 : Settings
+settings_63 = record plain {
   config = partial (modal (vi plain.config));
 }
 
 -- abc Esc hx Enter = ac | shows {} a b c ␛[1D ␛[1D ␛[P ␛[1C␍␊ {} ␍␊
-abbrev pub row_52 : Row
-row_52 = record (row 52 settings_52 (codes "abc\u{1b}hx\r") (codes "ac\n")) {
+abbrev pub row_63 : Row
+row_63 = record (row 63 settings_63 (codes "abc\u{1b}hx\r") (codes "ac\n")) {
   shows = Some (codes "\r\u{1b}[J\u{1b}[m> \u{1b}[m\u{1b}[m\u{1b}[mabc\u{1b}[1D\u{1b}[1D\u{1b}[P" ++
       codes "\u{1b}[1C\r\n\r\u{1b}[J\u{1b}[m> \u{1b}[m\u{1b}[m\u{1b}[m\r\n");
 }
 
+-- abc Esc rX Enter = abX | shows {} a b c ␛[1D ␛[JX␛[1D ␛[1C␍␊ {} ␍␊
+abbrev pub row_64 : Row
+row_64 = record (row 64 settings_63 (codes "abc\u{1b}rX\r") (codes "abX\n")) {
+  shows = Some (codes "\r\u{1b}[J\u{1b}[m> \u{1b}[m\u{1b}[m\u{1b}[mabc\u{1b}[1D\u{1b}[JX\u{1b}[1D"
+      ++ codes "\u{1b}[1C\r\n\r\u{1b}[J\u{1b}[m> \u{1b}[m\u{1b}[m\u{1b}[m\r\n");
+}
+
+-- abc Esc 0Rx Enter = xbc | shows {} a b c ␛[1D ␛[2D ␛[Jxbc␛[2D ␛[2C␍␊ {} ␍␊
+abbrev pub row_65 : Row
+row_65 = record (row 65 settings_63 (codes "abc\u{1b}0Rx\r") (codes "xbc\n")) {
+  shows = Some (codes "\r\u{1b}[J\u{1b}[m> \u{1b}[m\u{1b}[m\u{1b}[mabc\u{1b}[1D\u{1b}[2D\u{1b}[Jxbc"
+      ++ codes "\u{1b}[2D\u{1b}[2C\r\n\r\u{1b}[J\u{1b}[m> \u{1b}[m\u{1b}[m\u{1b}[m\r\n");
+}
+
 -- partial modal columns:10
-abbrev pub settings_56 : Settings
-settings_56 = record plain {
+abbrev pub settings_69 : Settings
+settings_69 = record plain {
   config = partial (modal plain.config);
   columns = 10;
 }
 
 -- abcdefghi Enter = abcdefghi | shows {} a b c d e f g h␍␊ i ␍␊ {} ␍␊
-abbrev pub row_56 : Row
-row_56 = record (row 56 settings_56 (codes "abcdefghi\r") (codes "abcdefghi\n")) {
+abbrev pub row_69 : Row
+row_69 = record (row 69 settings_69 (codes "abcdefghi\r") (codes "abcdefghi\n")) {
   shows = Some
       (codes "\r\u{1b}[J\u{1b}[m> \u{1b}[m\u{1b}[m\u{1b}[mabcdefgh\r\ni\r\n\r\u{1b}[J\u{1b}[" ++
       codes "m> \u{1b}[m\u{1b}[m\u{1b}[m\r\n");
 }
 
 -- abcdef漢a Enter = abcdef漢a | shows {} a b c d e f ␛[m漢␛[m␍␊ a ␍␊ {} ␍␊
-abbrev pub row_57 : Row
-row_57 = record (row 57 settings_56 (encode_utf8_all (codes "abcdef漢a\r")) (encode_utf8_all
+abbrev pub row_70 : Row
+row_70 = record (row 70 settings_69 (encode_utf8_all (codes "abcdef漢a\r")) (encode_utf8_all
     (codes "abcdef漢a\n"))) {
       shows = Some (encode_utf8_all
           (codes "\r\u{1b}[J\u{1b}[m> \u{1b}[m\u{1b}[m\u{1b}[mabcdef\u{1b}[m漢\u{1b}[m\r\na\r\n\r" ++
@@ -314,8 +398,8 @@ row_57 = record (row 57 settings_56 (encode_utf8_all (codes "abcdef漢a\r")) (en
     }
 
 -- abcdefg漢a Enter = abcdefg漢a | shows {} a b c d e f g ␍␊␛[m漢␛[m a ␍␊ {} ␍␊
-abbrev pub row_58 : Row
-row_58 = record (row 58 settings_56 (encode_utf8_all (codes "abcdefg漢a\r")) (encode_utf8_all
+abbrev pub row_71 : Row
+row_71 = record (row 71 settings_69 (encode_utf8_all (codes "abcdefg漢a\r")) (encode_utf8_all
     (codes "abcdefg漢a\n"))) {
       shows = Some (encode_utf8_all
           (codes "\r\u{1b}[J\u{1b}[m> \u{1b}[m\u{1b}[m\u{1b}[mabcdefg\r\n\u{1b}[m漢\u{1b}[ma\r\n" ++
@@ -323,8 +407,8 @@ row_58 = record (row 58 settings_56 (encode_utf8_all (codes "abcdefg漢a\r")) (e
     }
 
 -- abcdefg漢 Backspace Enter = abcdefg | shows {} a b c d e f g ␍␊␛[m漢␛[m ␛[1A{abcdefg} ␍␊ {} ␍␊
-abbrev pub row_59 : Row
-row_59 = record (row 59 settings_56 (encode_utf8_all (codes "abcdefg漢\u{7f}\r"))
+abbrev pub row_72 : Row
+row_72 = record (row 72 settings_69 (encode_utf8_all (codes "abcdefg漢\u{7f}\r"))
     (codes "abcdefg\n")) {
       shows = Some (encode_utf8_all
           (codes "\r\u{1b}[J\u{1b}[m> \u{1b}[m\u{1b}[m\u{1b}[mabcdefg\r\n\u{1b}[m漢\u{1b}[m\u{1b}" ++
@@ -333,8 +417,8 @@ row_59 = record (row 59 settings_56 (encode_utf8_all (codes "abcdefg漢\u{7f}\r"
     }
 
 -- abcdefgh漢 Backspace Enter = abcdefgh | shows {} a b c d e f g h␍␊ ␛[m漢␛[m ␛[1A{abcdefgh␍␊} ␍␊ {} ␍␊
-abbrev pub row_60 : Row
-row_60 = record (row 60 settings_56 (encode_utf8_all (codes "abcdefgh漢\u{7f}\r"))
+abbrev pub row_73 : Row
+row_73 = record (row 73 settings_69 (encode_utf8_all (codes "abcdefgh漢\u{7f}\r"))
     (codes "abcdefgh\n")) {
       shows = Some (encode_utf8_all
           (codes "\r\u{1b}[J\u{1b}[m> \u{1b}[m\u{1b}[m\u{1b}[mabcdefgh\r\n\u{1b}[m漢\u{1b}[m" ++
@@ -343,8 +427,8 @@ row_60 = record (row 60 settings_56 (encode_utf8_all (codes "abcdefgh漢\u{7f}\r
     }
 
 -- abcdefghi漢 Backspace Enter = abcdefghi | shows {} a b c d e f g h␍␊ i ␛[m漢␛[m ␛[2D␛[K ␍␊ {} ␍␊
-abbrev pub row_61 : Row
-row_61 = record (row 61 settings_56 (encode_utf8_all (codes "abcdefghi漢\u{7f}\r"))
+abbrev pub row_74 : Row
+row_74 = record (row 74 settings_69 (encode_utf8_all (codes "abcdefghi漢\u{7f}\r"))
     (codes "abcdefghi\n")) {
       shows = Some (encode_utf8_all
           (codes "\r\u{1b}[J\u{1b}[m> \u{1b}[m\u{1b}[m\u{1b}[mabcdefgh\r\ni\u{1b}[m漢\u{1b}[m" ++
@@ -352,24 +436,24 @@ row_61 = record (row 61 settings_56 (encode_utf8_all (codes "abcdefghi漢\u{7f}\
     }
 
 -- abcdef Left x Enter = abcdexf | shows {} a b c d e f ␛[1D ␛[@x ␛[1C␍␊ {} ␍␊
-abbrev pub row_65 : Row
-row_65 = record (row 65 settings_56 (codes "abcdef\u{1b}[Dx\r") (codes "abcdexf\n")) {
+abbrev pub row_78 : Row
+row_78 = record (row 78 settings_69 (codes "abcdef\u{1b}[Dx\r") (codes "abcdexf\n")) {
   shows = Some
       (codes "\r\u{1b}[J\u{1b}[m> \u{1b}[m\u{1b}[m\u{1b}[mabcdef\u{1b}[1D\u{1b}[@x\u{1b}[1C" ++
       codes "\r\n\r\u{1b}[J\u{1b}[m> \u{1b}[m\u{1b}[m\u{1b}[m\r\n");
 }
 
 -- abcdefg Left x Enter = abcdefxg | shows {} a b c d e f g ␛[1D ␛[@x␍␊␛[1A␛[9C ␛[1B␛[9D␍␊ {} ␍␊
-abbrev pub row_66 : Row
-row_66 = record (row 66 settings_56 (codes "abcdefg\u{1b}[Dx\r") (codes "abcdefxg\n")) {
+abbrev pub row_79 : Row
+row_79 = record (row 79 settings_69 (codes "abcdefg\u{1b}[Dx\r") (codes "abcdefxg\n")) {
   shows = Some (codes "\r\u{1b}[J\u{1b}[m> \u{1b}[m\u{1b}[m\u{1b}[mabcdefg\u{1b}[1D\u{1b}[@x\r\n" ++
       codes "\u{1b}[1A\u{1b}[9C\u{1b}[1B\u{1b}[9D\r\n\r\u{1b}[J\u{1b}[m> \u{1b}[m\u{1b}[m" ++
       codes "\u{1b}[m\r\n");
 }
 
 -- abcdefghij Left x Left Left y Enter = abcdefghyixj | shows {} a b c d e f g h␍␊ i j ␛[1D ␛[@x ␛[1D ␛[1D ␛[@y ␛[3C␍␊ {} ␍␊
-abbrev pub row_67 : Row
-row_67 = record (row 67 settings_56 (codes "abcdefghij\u{1b}[Dx\u{1b}[D\u{1b}[Dy\r")
+abbrev pub row_80 : Row
+row_80 = record (row 80 settings_69 (codes "abcdefghij\u{1b}[Dx\u{1b}[D\u{1b}[Dy\r")
     (codes "abcdefghyixj\n")) {
       shows = Some (codes "\r\u{1b}[J\u{1b}[m> \u{1b}[m\u{1b}[m\u{1b}[mabcdefgh\r\nij\u{1b}[1D\u{1b}[@x"
           ++ codes "\u{1b}[1D\u{1b}[1D\u{1b}[@y\u{1b}[3C\r\n\r\u{1b}[J\u{1b}[m> \u{1b}[m\u{1b}[m" ++
@@ -377,8 +461,8 @@ row_67 = record (row 67 settings_56 (codes "abcdefghij\u{1b}[Dx\u{1b}[D\u{1b}[Dy
     }
 
 -- abcdefghij C-a x Enter = xabcdefghij | shows {} a b c d e f g h␍␊ i j ␛[1A ␛[@x␍␊␛[@h␛[1A␛[2C ␛[1B␍␊ {} ␍␊
-abbrev pub row_68 : Row
-row_68 = record (row 68 settings_56 (codes "abcdefghij\u{1}x\r") (codes "xabcdefghij\n")) {
+abbrev pub row_81 : Row
+row_81 = record (row 81 settings_69 (codes "abcdefghij\u{1}x\r") (codes "xabcdefghij\n")) {
   shows = Some
       (codes "\r\u{1b}[J\u{1b}[m> \u{1b}[m\u{1b}[m\u{1b}[mabcdefgh\r\nij\u{1b}[1A\u{1b}[@x\r" ++
       codes "\n\u{1b}[@h\u{1b}[1A\u{1b}[2C\u{1b}[1B\r\n\r\u{1b}[J\u{1b}[m> \u{1b}[m\u{1b}[m" ++
@@ -386,57 +470,53 @@ row_68 = record (row 68 settings_56 (codes "abcdefghij\u{1}x\r") (codes "xabcdef
 }
 
 -- abcdefghij Left Left Left x Enter = abcdefgxhij | shows {} a b c d e f g h␍␊ i j ␛[1D ␛[1D ␛[1A␛[9C ␛[@x␍␊␛[@h␛[1D ␛[3C␍␊ {} ␍␊
-abbrev pub row_69 : Row
-row_69 = record (row 69 settings_56 (codes "abcdefghij\u{1b}[D\u{1b}[D\u{1b}[Dx\r")
+abbrev pub row_82 : Row
+row_82 = record (row 82 settings_69 (codes "abcdefghij\u{1b}[D\u{1b}[D\u{1b}[Dx\r")
     (codes "abcdefgxhij\n")) {
       shows = Some (codes "\r\u{1b}[J\u{1b}[m> \u{1b}[m\u{1b}[m\u{1b}[mabcdefgh\r\nij\u{1b}[1D\u{1b}[1D"
           ++ codes "\u{1b}[1A\u{1b}[9C\u{1b}[@x\r\n\u{1b}[@h\u{1b}[1D\u{1b}[3C\r\n\r\u{1b}[J\u{1b}" ++
           codes "[m> \u{1b}[m\u{1b}[m\u{1b}[m\r\n");
     }
 
--- Paste abcdefghijklmnopqrst Pasted C-a x Enter = xabcdefghijklmnopqrst | shows {} {abcdefgh␍␊ijklmnopqr␍␊st} ␛[2A ␛[@x␍␊␛[@h␍␊␛[@r␛[2A␛[2C ␛[2B␍␊ {} ␍␊
-abbrev pub row_70 : Row
-row_70 = record (row 70 settings_56 (codes "\u{1b}[200~abcdefghijklmnopqrst\u{1b}[201~\u{1}x\r")
+-- Paste abcdefghijklmnopqrst Pasted C-a x Enter = xabcdefghijklmnopqrst | shows {} ␛[Jabcdefgh␍␊ijklmnopqr␍␊st ␛[2A ␛[@x␍␊␛[@h␍␊␛[@r␛[2A␛[2C ␛[2B␍␊ {} ␍␊
+abbrev pub row_83 : Row
+row_83 = record (row 83 settings_69 (codes "\u{1b}[200~abcdefghijklmnopqrst\u{1b}[201~\u{1}x\r")
     (codes "xabcdefghijklmnopqrst\n")) {
       shows = Some
-          (codes "\r\u{1b}[J\u{1b}[m> \u{1b}[m\u{1b}[m\u{1b}[m\r\u{1b}[J\u{1b}[m> \u{1b}[mabcdef" ++
-          codes "gh\r\nijklmnopqr\r\nst\u{1b}[m\u{1b}[m\u{1b}[2A\u{1b}[@x\r\n\u{1b}[@h\r\n" ++
-          codes "\u{1b}[@r\u{1b}[2A\u{1b}[2C\u{1b}[2B\r\n\r\u{1b}[J\u{1b}[m> \u{1b}[m\u{1b}[m" ++
-          codes "\u{1b}[m\r\n");
+          (codes "\r\u{1b}[J\u{1b}[m> \u{1b}[m\u{1b}[m\u{1b}[m\u{1b}[Jabcdefgh\r\nijklmnopqr\r\n" ++
+          codes "st\u{1b}[2A\u{1b}[@x\r\n\u{1b}[@h\r\n\u{1b}[@r\u{1b}[2A\u{1b}[2C\u{1b}[2B\r\n" ++
+          codes "\r\u{1b}[J\u{1b}[m> \u{1b}[m\u{1b}[m\u{1b}[m\r\n");
     }
 
--- Paste abcdefghijklmnopq Pasted C-a x Enter = xabcdefghijklmnopq | shows {} {abcdefgh␍␊ijklmnopq} ␛[1A␛[7D ␛[@x␍␊␛[@h␍␊␛[2A␛[3C ␛[2B␛[3D␍␊ {} ␍␊
-abbrev pub row_71 : Row
-row_71 = record (row 71 settings_56 (codes "\u{1b}[200~abcdefghijklmnopq\u{1b}[201~\u{1}x\r")
+-- Paste abcdefghijklmnopq Pasted C-a x Enter = xabcdefghijklmnopq | shows {} ␛[Jabcdefgh␍␊ijklmnopq ␛[1A␛[7D ␛[@x␍␊␛[@h␍␊␛[2A␛[3C ␛[2B␛[3D␍␊ {} ␍␊
+abbrev pub row_84 : Row
+row_84 = record (row 84 settings_69 (codes "\u{1b}[200~abcdefghijklmnopq\u{1b}[201~\u{1}x\r")
     (codes "xabcdefghijklmnopq\n")) {
-      shows = Some
-          (codes "\r\u{1b}[J\u{1b}[m> \u{1b}[m\u{1b}[m\u{1b}[m\r\u{1b}[J\u{1b}[m> \u{1b}[mabcdef" ++
-          codes "gh\r\nijklmnopq\u{1b}[m\u{1b}[m\u{1b}[1A\u{1b}[7D\u{1b}[@x\r\n\u{1b}[@h\r\n" ++
-          codes "\u{1b}[2A\u{1b}[3C\u{1b}[2B\u{1b}[3D\r\n\r\u{1b}[J\u{1b}[m> \u{1b}[m\u{1b}[m" ++
-          codes "\u{1b}[m\r\n");
+      shows = Some (codes "\r\u{1b}[J\u{1b}[m> \u{1b}[m\u{1b}[m\u{1b}[m\u{1b}[Jabcdefgh\r\nijklmnopq" ++
+          codes "\u{1b}[1A\u{1b}[7D\u{1b}[@x\r\n\u{1b}[@h\r\n\u{1b}[2A\u{1b}[3C\u{1b}[2B\u{1b}[" ++
+          codes "3D\r\n\r\u{1b}[J\u{1b}[m> \u{1b}[m\u{1b}[m\u{1b}[m\r\n");
     }
 
--- Paste a␊bcdefghijklm Pasted C-a x Enter = a␊xbcdefghijklm | shows {} {a␍␊bcdefghijk␍␊lm} ␛[1A␛[2D ␛[@x␍␊␛[@k␛[1A ␛[1B␛[2C␍␊ {} ␍␊
-abbrev pub row_72 : Row
-row_72 = record (row 72 settings_56 (codes "\u{1b}[200~a\nbcdefghijklm\u{1b}[201~\u{1}x\r")
+-- Paste a␊bcdefghijklm Pasted C-a x Enter = a␊xbcdefghijklm | shows {} ␛[Ja␍␊bcdefghijk␍␊lm ␛[1A␛[2D ␛[@x␍␊␛[@k␛[1A ␛[1B␛[2C␍␊ {} ␍␊
+abbrev pub row_85 : Row
+row_85 = record (row 85 settings_69 (codes "\u{1b}[200~a\nbcdefghijklm\u{1b}[201~\u{1}x\r")
     (codes "a\nxbcdefghijklm\n")) {
-      shows = Some
-          (codes "\r\u{1b}[J\u{1b}[m> \u{1b}[m\u{1b}[m\u{1b}[m\r\u{1b}[J\u{1b}[m> \u{1b}[ma\r\nb" ++
-          codes "cdefghijk\r\nlm\u{1b}[m\u{1b}[m\u{1b}[1A\u{1b}[2D\u{1b}[@x\r\n\u{1b}[@k\u{1b}[" ++
-          codes "1A\u{1b}[1B\u{1b}[2C\r\n\r\u{1b}[J\u{1b}[m> \u{1b}[m\u{1b}[m\u{1b}[m\r\n");
+      shows = Some (codes "\r\u{1b}[J\u{1b}[m> \u{1b}[m\u{1b}[m\u{1b}[m\u{1b}[Ja\r\nbcdefghijk\r\nlm" ++
+          codes "\u{1b}[1A\u{1b}[2D\u{1b}[@x\r\n\u{1b}[@k\u{1b}[1A\u{1b}[1B\u{1b}[2C\r\n\r" ++
+          codes "\u{1b}[J\u{1b}[m> \u{1b}[m\u{1b}[m\u{1b}[m\r\n");
     }
 
 -- abcdefghij C-a C-d Enter = bcdefghij | shows {} a b c d e f g h␍␊ i j ␛[1A ␛[P␛[7Ci␍␊␛[P␛[1A␛[2C ␛[1B␛[1D␍␊ {} ␍␊
-abbrev pub row_75 : Row
-row_75 = record (row 75 settings_56 (codes "abcdefghij\u{1}\u{4}\r") (codes "bcdefghij\n")) {
+abbrev pub row_88 : Row
+row_88 = record (row 88 settings_69 (codes "abcdefghij\u{1}\u{4}\r") (codes "bcdefghij\n")) {
   shows = Some (codes "\r\u{1b}[J\u{1b}[m> \u{1b}[m\u{1b}[m\u{1b}[mabcdefgh\r\nij\u{1b}[1A\u{1b}[P"
       ++ codes "\u{1b}[7Ci\r\n\u{1b}[P\u{1b}[1A\u{1b}[2C\u{1b}[1B\u{1b}[1D\r\n\r\u{1b}[J\u{1b}" ++
       codes "[m> \u{1b}[m\u{1b}[m\u{1b}[m\r\n");
 }
 
 -- abcdefghij Left Left Backspace Enter = abcdefgij | shows {} a b c d e f g h␍␊ i j ␛[1D ␛[1D ␛[1A␛[9C␛[Pi␍␊␛[P␛[1A␛[9C ␛[1B␛[8D␍␊ {} ␍␊
-abbrev pub row_76 : Row
-row_76 = record (row 76 settings_56 (codes "abcdefghij\u{1b}[D\u{1b}[D\u{7f}\r")
+abbrev pub row_89 : Row
+row_89 = record (row 89 settings_69 (codes "abcdefghij\u{1b}[D\u{1b}[D\u{7f}\r")
     (codes "abcdefgij\n")) {
       shows = Some (codes "\r\u{1b}[J\u{1b}[m> \u{1b}[m\u{1b}[m\u{1b}[mabcdefgh\r\nij\u{1b}[1D\u{1b}[1D"
           ++ codes "\u{1b}[1A\u{1b}[9C\u{1b}[Pi\r\n\u{1b}[P\u{1b}[1A\u{1b}[9C\u{1b}[1B\u{1b}[8D\r" ++
@@ -444,60 +524,131 @@ row_76 = record (row 76 settings_56 (codes "abcdefghij\u{1b}[D\u{1b}[D\u{7f}\r")
     }
 
 -- abcdefghi C-a C-d Enter = bcdefghi | shows {} a b c d e f g h␍␊ i ␛[1A␛[1C ␛[P␛[7Ci␍␊␛[P␛[1A␛[2C ␛[1B␛[2D␍␊ {} ␍␊
-abbrev pub row_77 : Row
-row_77 = record (row 77 settings_56 (codes "abcdefghi\u{1}\u{4}\r") (codes "bcdefghi\n")) {
+abbrev pub row_90 : Row
+row_90 = record (row 90 settings_69 (codes "abcdefghi\u{1}\u{4}\r") (codes "bcdefghi\n")) {
   shows = Some (codes "\r\u{1b}[J\u{1b}[m> \u{1b}[m\u{1b}[m\u{1b}[mabcdefgh\r\ni\u{1b}[1A\u{1b}[1C"
       ++ codes "\u{1b}[P\u{1b}[7Ci\r\n\u{1b}[P\u{1b}[1A\u{1b}[2C\u{1b}[1B\u{1b}[2D\r\n\r\u{1b}" ++
       codes "[J\u{1b}[m> \u{1b}[m\u{1b}[m\u{1b}[m\r\n");
 }
 
 -- abcdefgh C-a C-d Enter = bcdefgh | shows {} a b c d e f g h␍␊ ␛[1A␛[2C {bcdefgh}␛[7D ␛[7C␍␊ {} ␍␊
-abbrev pub row_78 : Row
-row_78 = record (row 78 settings_56 (codes "abcdefgh\u{1}\u{4}\r") (codes "bcdefgh\n")) {
+abbrev pub row_91 : Row
+row_91 = record (row 91 settings_69 (codes "abcdefgh\u{1}\u{4}\r") (codes "bcdefgh\n")) {
   shows = Some (codes "\r\u{1b}[J\u{1b}[m> \u{1b}[m\u{1b}[m\u{1b}[mabcdefgh\r\n\u{1b}[1A\u{1b}[2C\r"
       ++ codes "\u{1b}[J\u{1b}[m> \u{1b}[mbcdefgh\u{1b}[m\u{1b}[m\u{1b}[7D\u{1b}[7C\r\n\r" ++
       codes "\u{1b}[J\u{1b}[m> \u{1b}[m\u{1b}[m\u{1b}[m\r\n");
 }
 
--- Paste ab␠cdefghijkl Pasted C-a M-d Enter = ␠cdefghijkl | shows {} {ab␠cdefg␍␊hijkl} ␛[1A␛[3D ␛[2P␛[6Chi␍␊␛[2P␛[1A␛[2C ␛[1B␛[1C␍␊ {} ␍␊
-abbrev pub row_79 : Row
-row_79 = record (row 79 settings_56 (codes "\u{1b}[200~ab cdefghijkl\u{1b}[201~\u{1}\u{1b}d\r")
+-- Paste ab␠cdefghijkl Pasted C-a M-d Enter = ␠cdefghijkl | shows {} ␛[Jab␠cdefg␍␊hijkl ␛[1A␛[3D ␛[2P␛[6Chi␍␊␛[2P␛[1A␛[2C ␛[1B␛[1C␍␊ {} ␍␊
+abbrev pub row_92 : Row
+row_92 = record (row 92 settings_69 (codes "\u{1b}[200~ab cdefghijkl\u{1b}[201~\u{1}\u{1b}d\r")
     (codes " cdefghijkl\n")) {
       shows = Some
-          (codes "\r\u{1b}[J\u{1b}[m> \u{1b}[m\u{1b}[m\u{1b}[m\r\u{1b}[J\u{1b}[m> \u{1b}[mab cde" ++
-          codes "fg\r\nhijkl\u{1b}[m\u{1b}[m\u{1b}[1A\u{1b}[3D\u{1b}[2P\u{1b}[6Chi\r\n\u{1b}[2P" ++
-          codes "\u{1b}[1A\u{1b}[2C\u{1b}[1B\u{1b}[1C\r\n\r\u{1b}[J\u{1b}[m> \u{1b}[m\u{1b}[m" ++
-          codes "\u{1b}[m\r\n");
+          (codes "\r\u{1b}[J\u{1b}[m> \u{1b}[m\u{1b}[m\u{1b}[m\u{1b}[Jab cdefg\r\nhijkl\u{1b}[1A" ++
+          codes "\u{1b}[3D\u{1b}[2P\u{1b}[6Chi\r\n\u{1b}[2P\u{1b}[1A\u{1b}[2C\u{1b}[1B\u{1b}[1C" ++
+          codes "\r\n\r\u{1b}[J\u{1b}[m> \u{1b}[m\u{1b}[m\u{1b}[m\r\n");
     }
 
--- Paste abcdefghijklmnopqrst Pasted C-a C-d Enter = bcdefghijklmnopqrst | shows {} {abcdefgh␍␊ijklmnopqr␍␊st} ␛[2A ␛[P␛[7Ci␍␊␛[P␛[9Cs␍␊␛[P␛[2A␛[2C ␛[2B␛[1D␍␊ {} ␍␊
-abbrev pub row_80 : Row
-row_80 = record (row 80 settings_56 (codes "\u{1b}[200~abcdefghijklmnopqrst\u{1b}[201~\u{1}\u{4}\r")
+-- Paste abcdefghijklmnopqrst Pasted C-a C-d Enter = bcdefghijklmnopqrst | shows {} ␛[Jabcdefgh␍␊ijklmnopqr␍␊st ␛[2A ␛[P␛[7Ci␍␊␛[P␛[9Cs␍␊␛[P␛[2A␛[2C ␛[2B␛[1D␍␊ {} ␍␊
+abbrev pub row_93 : Row
+row_93 = record (row 93 settings_69 (codes "\u{1b}[200~abcdefghijklmnopqrst\u{1b}[201~\u{1}\u{4}\r")
     (codes "bcdefghijklmnopqrst\n")) {
       shows = Some
-          (codes "\r\u{1b}[J\u{1b}[m> \u{1b}[m\u{1b}[m\u{1b}[m\r\u{1b}[J\u{1b}[m> \u{1b}[mabcdef" ++
-          codes "gh\r\nijklmnopqr\r\nst\u{1b}[m\u{1b}[m\u{1b}[2A\u{1b}[P\u{1b}[7Ci\r\n\u{1b}[P" ++
-          codes "\u{1b}[9Cs\r\n\u{1b}[P\u{1b}[2A\u{1b}[2C\u{1b}[2B\u{1b}[1D\r\n\r\u{1b}[J\u{1b}" ++
-          codes "[m> \u{1b}[m\u{1b}[m\u{1b}[m\r\n");
+          (codes "\r\u{1b}[J\u{1b}[m> \u{1b}[m\u{1b}[m\u{1b}[m\u{1b}[Jabcdefgh\r\nijklmnopqr\r\n" ++
+          codes "st\u{1b}[2A\u{1b}[P\u{1b}[7Ci\r\n\u{1b}[P\u{1b}[9Cs\r\n\u{1b}[P\u{1b}[2A\u{1b}" ++
+          codes "[2C\u{1b}[2B\u{1b}[1D\r\n\r\u{1b}[J\u{1b}[m> \u{1b}[m\u{1b}[m\u{1b}[m\r\n");
+    }
+
+-- Paste abcdefgh漢字 Pasted C-a x Enter = xabcdefgh漢字 | shows {} ␛[Jabcdefgh␍␊␛[m漢␛[m␛[m字␛[m ␛[1A␛[2D ␛[Jxabcdefg␍␊h␛[m漢␛[m␛[m字␛[m␛[1A␛[2D ␛[1B␛[2C␍␊ {} ␍␊
+abbrev pub row_96 : Row
+row_96 = record (row 96 settings_69 (encode_utf8_all
+    (codes "\u{1b}[200~abcdefgh漢字\u{1b}[201~\u{1}x\r")) (encode_utf8_all (codes "xabcdefgh漢字\n"))) {
+      shows = Some (encode_utf8_all
+          (codes "\r\u{1b}[J\u{1b}[m> \u{1b}[m\u{1b}[m\u{1b}[m\u{1b}[Jabcdefgh\r\n\u{1b}[m漢" ++
+          codes "\u{1b}[m\u{1b}[m字\u{1b}[m\u{1b}[1A\u{1b}[2D\u{1b}[Jxabcdefg\r\nh\u{1b}[m漢" ++
+          codes "\u{1b}[m\u{1b}[m字\u{1b}[m\u{1b}[1A\u{1b}[2D\u{1b}[1B\u{1b}[2C\r\n\r\u{1b}[J" ++
+          codes "\u{1b}[m> \u{1b}[m\u{1b}[m\u{1b}[m\r\n"));
+    }
+
+-- abcdefg漢 Left x Enter = abcdefgx漢 | shows {} a b c d e f g ␍␊␛[m漢␛[m ␛[1A␛[7C ␛[Jx␍␊␛[m漢␛[m␛[2D ␛[2C␍␊ {} ␍␊
+abbrev pub row_97 : Row
+row_97 = record (row 97 settings_69 (encode_utf8_all (codes "abcdefg漢\u{1b}[Dx\r")) (encode_utf8_all
+    (codes "abcdefgx漢\n"))) {
+      shows = Some (encode_utf8_all
+          (codes "\r\u{1b}[J\u{1b}[m> \u{1b}[m\u{1b}[m\u{1b}[mabcdefg\r\n\u{1b}[m漢\u{1b}[m\u{1b}" ++
+          codes "[1A\u{1b}[7C\u{1b}[Jx\r\n\u{1b}[m漢\u{1b}[m\u{1b}[2D\u{1b}[2C\r\n\r\u{1b}[J" ++
+          codes "\u{1b}[m> \u{1b}[m\u{1b}[m\u{1b}[m\r\n"));
     }
 
 -- partial vi
-abbrev pub settings_83 : Settings
-settings_83 = record plain {
+abbrev pub settings_100 : Settings
+settings_100 = record plain {
   config = partial (vi plain.config);
 }
 
 -- abc Esc 0iX Enter = Xabc | shows {} a b c ␛[1D ␛[2D ␛[@X ␛[3C␍␊ {} ␍␊
-abbrev pub row_83 : Row
-row_83 = record (row 83 settings_83 (codes "abc\u{1b}0iX\r") (codes "Xabc\n")) {
+abbrev pub row_100 : Row
+row_100 = record (row 100 settings_100 (codes "abc\u{1b}0iX\r") (codes "Xabc\n")) {
   shows = Some (codes "\r\u{1b}[J\u{1b}[m> \u{1b}[m\u{1b}[m\u{1b}[mabc\u{1b}[1D\u{1b}[2D\u{1b}[@X"
       ++ codes "\u{1b}[3C\r\n\r\u{1b}[J\u{1b}[m> \u{1b}[m\u{1b}[m\u{1b}[m\r\n");
 }
 
+-- partial helped loaded:#V2␊hello␊
+abbrev pub settings_104 : Settings
+settings_104 = record plain {
+  config = partial plain.config;
+  helping = aide true None;
+  loaded = codes "#V2\nhello\n";
+}
+
+-- he Enter = he | shows {} ␛[Jh␛[mello␛[m␛[4D ␛[Je␛[mllo␛[m␛[3D {he} ␍␊ {} ␍␊
+abbrev pub row_104 : Row
+row_104 = record (row 104 settings_104 (codes "he\r") (codes "he\n")) {
+  shows = Some (codes "\r\u{1b}[J\u{1b}[m> \u{1b}[m\u{1b}[m\u{1b}[m\u{1b}[Jh\u{1b}[mello\u{1b}[m" ++
+      codes "\u{1b}[4D\u{1b}[Je\u{1b}[mllo\u{1b}[m\u{1b}[3D\r\u{1b}[J\u{1b}[m> \u{1b}[mhe" ++
+      codes "\u{1b}[m\u{1b}[m\r\n\r\u{1b}[J\u{1b}[m> \u{1b}[m\u{1b}[m\u{1b}[m\r\n");
+}
+
+-- he Backspace Enter = h | shows {} ␛[Jh␛[mello␛[m␛[4D ␛[Je␛[mllo␛[m␛[3D ␛[1D␛[J␛[mello␛[m␛[4D {h} ␍␊ {} ␍␊
+abbrev pub row_105 : Row
+row_105 = record (row 105 settings_104 (codes "he\u{7f}\r") (codes "h\n")) {
+  shows = Some (codes "\r\u{1b}[J\u{1b}[m> \u{1b}[m\u{1b}[m\u{1b}[m\u{1b}[Jh\u{1b}[mello\u{1b}[m" ++
+      codes "\u{1b}[4D\u{1b}[Je\u{1b}[mllo\u{1b}[m\u{1b}[3D\u{1b}[1D\u{1b}[J\u{1b}[mello" ++
+      codes "\u{1b}[m\u{1b}[4D\r\u{1b}[J\u{1b}[m> \u{1b}[mh\u{1b}[m\u{1b}[m\r\n\r\u{1b}[J" ++
+      codes "\u{1b}[m> \u{1b}[m\u{1b}[m\u{1b}[m\r\n");
+}
+
+-- é] Enter Left x C-C = nothing | ends Interrupted | shows {} ␛[mé␛[m ] {␛[mé␛[m]␛[mMismatched␠brackets:␠']'␠is␠unpaired␛[m␛[36D ␛[1D ␛[Jx]␛[1D ␛[1C␍␊
+abbrev pub row_106 : Row
+row_106 = record (row 106 settings_104 (encode_utf8_all (codes "é]\r\u{1b}[Dx\u{3}")) []) {
+  ends = Interrupted;
+  shows = Some (encode_utf8_all
+      (codes "\r\u{1b}[J\u{1b}[m> \u{1b}[m\u{1b}[m\u{1b}[m\u{1b}[mé\u{1b}[m]\r\u{1b}[J\u{1b}" ++
+      codes "[m> \u{1b}[m\u{1b}[mé\u{1b}[m]\u{1b}[mMismatched brackets: ']' is unpaired" ++
+      codes "\u{1b}[m\u{1b}[36D\u{1b}[1D\u{1b}[Jx]\u{1b}[1D\u{1b}[1C\r\n"));
+}
+
+-- partial colours helped loaded:#V2␊hello␊
+abbrev pub settings_109 : Settings
+settings_109 = record plain {
+  config = partial (colours plain.config);
+  helping = aide true None;
+  loaded = codes "#V2\nhello\n";
+}
+
+-- h Enter = h | shows {} ␛[Jh␛[m␛[0;2mello␛[m␛[m␛[4D {h} ␍␊ {} ␍␊
+abbrev pub row_109 : Row
+row_109 = record (row 109 settings_109 (codes "h\r") (codes "h\n")) {
+  shows = Some (codes "\r\u{1b}[J\u{1b}[m> \u{1b}[m\u{1b}[m\u{1b}[m\u{1b}[Jh\u{1b}[m\u{1b}[0;2mello"
+      ++ codes "\u{1b}[m\u{1b}[m\u{1b}[4D\r\u{1b}[J\u{1b}[m> \u{1b}[mh\u{1b}[m\u{1b}[m\r\n\r" ++
+      codes "\u{1b}[J\u{1b}[m> \u{1b}[m\u{1b}[m\u{1b}[m\r\n");
+}
+
 abbrev pub partial_rows : List Row
-partial_rows = row_7 ∷ row_8 ∷ row_9 ∷ row_10 ∷ row_11 ∷ row_14 ∷ row_15 ∷ row_16 ∷ row_17 ∷ row_20
-    ∷ row_21 ∷ row_22 ∷ row_23 ∷ row_26 ∷ row_27 ∷ row_28 ∷ row_31 ∷ row_32 ∷ row_33 ∷ row_34 ∷
-    row_35 ∷ row_36 ∷ row_39 ∷ row_40 ∷ row_41 ∷ row_42 ∷ row_43 ∷ row_46 ∷ row_47 ∷ row_48 ∷ row_49
-    ∷ row_52 ∷ row_56 ∷ row_57 ∷ row_58 ∷ row_59 ∷ row_60 ∷ row_61 ∷ row_65 ∷ row_66 ∷ row_67 ∷
-    row_68 ∷ row_69 ∷ row_70 ∷ row_71 ∷ row_72 ∷ row_75 ∷ row_76 ∷ row_77 ∷ row_78 ∷ row_79 ∷ row_80
-    ∷ row_83 ∷ []
+partial_rows = row_8 ∷ row_9 ∷ row_10 ∷ row_11 ∷ row_12 ∷ row_15 ∷ row_16 ∷ row_17 ∷ row_18 ∷ row_21
+    ∷ row_22 ∷ row_23 ∷ row_24 ∷ row_27 ∷ row_28 ∷ row_29 ∷ row_32 ∷ row_33 ∷ row_34 ∷ row_35 ∷
+    row_36 ∷ row_37 ∷ row_40 ∷ row_41 ∷ row_42 ∷ row_43 ∷ row_44 ∷ row_45 ∷ row_48 ∷ row_49 ∷ row_50
+    ∷ row_51 ∷ row_52 ∷ row_53 ∷ row_54 ∷ row_55 ∷ row_56 ∷ row_57 ∷ row_60 ∷ row_63 ∷ row_64 ∷
+    row_65 ∷ row_69 ∷ row_70 ∷ row_71 ∷ row_72 ∷ row_73 ∷ row_74 ∷ row_78 ∷ row_79 ∷ row_80 ∷ row_81
+    ∷ row_82 ∷ row_83 ∷ row_84 ∷ row_85 ∷ row_88 ∷ row_89 ∷ row_90 ∷ row_91 ∷ row_92 ∷ row_93 ∷
+    row_96 ∷ row_97 ∷ row_100 ∷ row_104 ∷ row_105 ∷ row_106 ∷ row_109 ∷ []

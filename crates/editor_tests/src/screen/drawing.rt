@@ -4,6 +4,7 @@ use crate::screen::sinks::Gathers;
 use line_buffer::{GraphemeClusterMode, Layout, LineBuffer, Position};
 use line_config::{BellStyle, ReadlineError, Sink, VecSink};
 use line_editor::Renderer;
+use line_help::StandardHighlighter;
 use line_screen::{ScreenRenderer, laws};
 use stand_ins::lines::line_of;
 use stand_ins::rows::{Player, raised, rows_hold, same};
@@ -118,6 +119,7 @@ enum Ask {
     Drawing,
     Tabs,
     Call,
+    Rest,
     FailedWrite,
     PassedOn,
 }
@@ -128,6 +130,7 @@ impl Player for Ask {
             Ask::Drawing => drawn(alloc, None, call),
             Ask::Tabs => drawn_with_stops(alloc, call),
             Ask::Call => sent(alloc, call),
+            Ask::Rest => rest_sent(alloc, call),
             Ask::FailedWrite => refusals_told(alloc, call),
             Ask::PassedOn => passed_on(alloc, call),
         };
@@ -316,6 +319,7 @@ fn call_made<Out: Renderer>(
         "delete_char" => taken_at_edge(screen, 1, text.as_str()),
         "delete_chars" => taken_at_edge(screen, 2, text.as_str()),
         "append_text" => screen.append_text(text.as_str(), HERE).map(|_| ()),
+        "refresh_rest" => draw_rest(screen, "plain", "", text, ""),
         "clear_screen" => screen.clear_screen(),
         "clear_rows" => screen.clear_rows(&layout),
         "leftmost" => screen.move_cursor_at_leftmost(),
@@ -349,6 +353,71 @@ fn makes_the_other_calls(rt: HostRuntime) -> Result<(), Fail> {
     let mut screen = screen(VecSink::new(rt.alloc()), 80, BellStyle::Audible);
     assert!(rt; keeps_its_size(&mut screen));
     Ok(())
+}
+
+// How a rest is drawn: without a highlighter, or with one that draws hints faint and messages red.
+// Then columns, what stands before the rest, from the first cell on, the rest with the cursor, and
+// a hint or message; the bytes. The cursor was in the first cell.
+const RESTS: &str = "
+    plain 80 ab c|d         = ␛[2C␛[Jcd␛[1D
+    plain 80 ab |           = ␛[2C␛[J
+    plain 4 ab c|de         = ␛[2C␛[Jcd␍␊e␛[1A␛[2C
+    plain 4 abcdef g|       = ␛[1B␛[2C␛[Jg
+    plain 4 abc 漢|         = ␛[3C␛[J␍␊␛[m漢␛[m
+    plain 80 none é|a       = ␛[J␛[mé␛[ma␛[1D
+    plain 80 a b|␊c hint    = ␛[1C␛[Jb␍␊c␛[mhint␛[m␛[1A␛[3D
+    plain 80 a | hint       = ␛[1C␛[J␛[mhint␛[m␛[4D
+    hint 80 h i|            = ␛[1C␛[Ji
+    hint 80 h i| there      = ␛[1C␛[Ji␛[m␛[0;2mthere␛[m␛[m␛[5D
+    message 80 a | no       = ␛[1C␛[J␛[m␛[0;31mno␛[m␛[m␛[2D
+";
+
+// Draws a rest behind a text.
+fn draw_rest<Out: Renderer>(
+    screen: &mut Out,
+    how: &str,
+    before: &str,
+    rest: &LineBuffer,
+    info: &str,
+) -> Result<(), ReadlineError> {
+    let at = screen.calculate_position(before, ORIGIN);
+    let info = if info.is_empty() { None } else { Some(info) };
+    let new = screen.compute_layout(at, true, rest, info);
+    let styled = StandardHighlighter::new();
+    let highlighter = if how == "plain" { None } else { Some(&styled) };
+    let told = how == "message";
+    screen.refresh_rest(rest.as_str(), info, ORIGIN, at, &new, highlighter, told)
+}
+
+// The bytes of a rest and what follows it.
+fn rest_behind(
+    alloc: Global,
+    how: &str,
+    columns: u16,
+    before: &str,
+    shown: &str,
+) -> Result<String, ReadlineError> {
+    let (rest, info) = word_and_rest(shown);
+    let rest = line_of(alloc, rest)?;
+    let info = meant(alloc, info)?;
+    let mut screen = screen(VecSink::new(alloc), columns, BellStyle::Audible);
+    draw_rest(&mut screen, how, before, &rest, info.as_str())?;
+    raised(pictured_bytes(alloc, screen.into_sink().bytes()))
+}
+
+// The bytes of a row's rest.
+fn rest_sent(alloc: Global, call: &str) -> Result<String, ReadlineError> {
+    let (how, call) = word_and_rest(call);
+    let (columns, call) = word_and_rest(call);
+    let (before, shown) = word_and_rest(call);
+    let before = prompt_of(alloc, before)?;
+    let columns = columns.parse().unwrap_or(0);
+    rest_behind(alloc, how, columns, before.as_str(), shown)
+}
+
+#[test]
+fn draws_rests(rt: HostRuntime) -> Result<(), Fail> {
+    rows_hold(rt.alloc(), &mut Ask::Rest, RESTS)
 }
 
 fn keeps_its_size(screen: &mut ScreenRenderer<VecSink>) -> bool {
@@ -424,6 +493,7 @@ const PASSED_ON: &str = "
     delete_chars        = written
     append_text a       = written
     append_text é       = written
+    refresh_rest ab     = written
     stay                = nothing
 ";
 

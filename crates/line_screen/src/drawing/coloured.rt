@@ -24,7 +24,7 @@ pub(crate) struct Painting<'a, H> {
 }
 
 /// One of the texts, from a column on. Returns the column after it.
-fn send_part<D: Sink, H: Highlighter>(
+pub(crate) fn send_part<D: Sink, H: Highlighter>(
     sink: &mut D,
     grid: &Grid,
     start: Unit,

@@ -10,8 +10,14 @@ use Rattle.worked_rows.proofs.partial.Goals as goal
 abbrev part : ℕ → List Row
 part n = take 7 (drop n partial_rows)
 
+abbrev from_63 : List Row
+from_63 = drop 63 partial_rows
+
+abbrev from_56 : List Row
+from_56 = part 56 ++ from_63
+
 abbrev from_49 : List Row
-from_49 = drop 49 partial_rows
+from_49 = part 49 ++ from_56
 
 abbrev from_42 : List Row
 from_42 = part 42 ++ from_49
@@ -114,16 +120,38 @@ unshown-42 = refl
 shown-42 : AllShown (short (part 42))
 shown-42 = all_shown (short (part 42)) unshown-42
 
-given-49 : differing from_49 ≡ []
+given-49 : differing (part 49) ≡ []
 unfolding computing
 given-49 = refl
 
-unshown-49 : unshown (short from_49) ≡ []
+unshown-49 : unshown (short (part 49)) ≡ []
 unfolding computing
 unshown-49 = refl
 
-shown-49 : AllShown (short from_49)
-shown-49 = all_shown (short from_49) unshown-49
+shown-49 : AllShown (short (part 49))
+shown-49 = all_shown (short (part 49)) unshown-49
+
+given-56 : differing (part 56) ≡ []
+unfolding computing
+given-56 = refl
+
+unshown-56 : unshown (short (part 56)) ≡ []
+unfolding computing
+unshown-56 = refl
+
+shown-56 : AllShown (short (part 56))
+shown-56 = all_shown (short (part 56)) unshown-56
+
+given-63 : differing from_63 ≡ []
+unfolding computing
+given-63 = refl
+
+unshown-63 : unshown (short from_63) ≡ []
+unfolding computing
+unshown-63 = refl
+
+shown-63 : AllShown (short from_63)
+shown-63 = all_shown (short from_63) unshown-63
 
 pub returns-clause-given : goal.returns-clause-given
 returns-clause-given c = subst (λ rows. differing rows ≡ []) all-rows
@@ -133,7 +161,9 @@ returns-clause-given c = subst (λ rows. differing rows ≡ []) all-rows
     (both_given (part 21) from_28 given-21
     (both_given (part 28) from_35 given-28
     (both_given (part 35) from_42 given-35
-    (both_given (part 42) from_49 given-42 given-49)))))))
+    (both_given (part 42) from_49 given-42
+    (both_given (part 49) from_56 given-49
+    (both_given (part 56) from_63 given-56 given-63)))))))))
 
 pub returns-clause-shown : goal.returns-clause-shown
 returns-clause-shown c = subst (λ rows. AllShown (short rows)) all-rows
@@ -143,4 +173,6 @@ returns-clause-shown c = subst (λ rows. AllShown (short rows)) all-rows
     (both_shown (part 21) from_28 shown-21
     (both_shown (part 28) from_35 shown-28
     (both_shown (part 35) from_42 shown-35
-    (both_shown (part 42) from_49 shown-42 shown-49)))))))
+    (both_shown (part 42) from_49 shown-42
+    (both_shown (part 49) from_56 shown-49
+    (both_shown (part 56) from_63 shown-56 shown-63)))))))))
