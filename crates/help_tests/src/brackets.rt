@@ -207,6 +207,14 @@ const VERDICTS: &str = "
     漢          = valid
     ([]{()})    = valid
     (a␊b)       = valid
+
+    abcdefghijklmno)    = invalid, for Mismatched brackets: ')' is unpaired
+    abcdefghijklmnop}   = invalid, for Mismatched brackets: '}' is unpaired
+    [abcdefghijklmnopq} = invalid, for Mismatched brackets: '[' is not properly closed
+    abcdefghijklmno{    = incomplete
+    漢漢漢漢漢漢(漢漢漢漢漢[漢] = incomplete
+    '*Z^z~'*Z^z~'*Z^z~  = valid
+    (abcdefghij[klmn{opqrstuvwxy}zabcdefghijk]lmnopqrstuvw)xyz = valid
 ";
 
 // A validator's verdict on a text, in a word.

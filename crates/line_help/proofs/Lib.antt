@@ -10,6 +10,7 @@ pub mod FoundLemmas
 pub mod HighlightLemmas
 mod HistoryRows
 pub mod InTurnLemmas
+pub mod LaneLemmas
 pub mod LoadLemmas
 pub mod MatchLemmas
 pub mod MessageLemmas

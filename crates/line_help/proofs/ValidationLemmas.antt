@@ -1,13 +1,14 @@
 -- Validation by brackets: the two steps at which a closing bracket doesn't fit, and a text with a bracket.
-use Rattle.std.proofs.Common.{◌≡◌, ℕ, ◌<◌, ◌≤◌, true, false, List, [], ◌∷◌, ◌++◌, length, drop, reverse, refl, sym, ap, ◌∙◌, ◌≢◌, Some, slice_index_or}
-use Rattle.std.specs.Prelude.{◌==◌, ◌||◌, slice_range, Result, Ok, Err, IsErrAnd, IfErr}
-use Rattle.std.specs.List.{list_any}
-use Rattle.std.proofs.lemmas.List.Folds.{list_any_at, drop_split}
-use Rattle.std.proofs.lemmas.List.{drop_more, reverse-append, nil_from_length}
+use Rattle.std.proofs.Common.{◌≡◌, ℕ, suc, ◌+◌, ◌<◌, ◌≤◌, Bool, true, false, not, if◌then◌else◌, List, [], ◌∷◌, ◌++◌, length, drop, reverse, refl, sym, ap, ◌∙◌, ◌≢◌, Some, slice_index_or, arith}
+use Rattle.std.specs.Prelude.{◌==◌, ◌||◌, Result, Ok, Err, IsErrAnd, IfErr}
+use Rattle.std.specs.List.{list_any, position_or_len}
+use Rattle.std.proofs.lemmas.List.Folds.{list_any_at}
+use Rattle.std.proofs.lemmas.List.Sums.{prefix_len-le-length}
+use Rattle.std.proofs.lemmas.List.{drop_more, drop-drop, length-drop, reverse-append, nil_from_length}
 use Rattle.std.proofs.lemmas.Bool.{ne_eqb, or_parts}
 use Rattle.line_config.specs.declared.errors.HookFault.{HookFault}
 use Rattle.line_config.specs.declared.errors.HookFault.TheVariants.{Memory}
-use Rattle.line_help.specs.Brackets.{is_opening, is_closing, is_bracket, is_near_bracket, partner}
+use Rattle.line_help.specs.Brackets.{is_opening, is_closing, is_bracket, partner}
 use Rattle.line_help.specs.Validation.{HasNoBracket, verdict_from, bracket_verdict, not_closed, message_of_unpaired}
 use Rattle.line_help.specs.declared.helpers.validate.ValidationResult.TheVariants.{Invalid}
 
@@ -32,23 +33,28 @@ unpaired_found input bytes items message i same so_far within none not_opening c
 other_passed : (unclosed text : List ℕ) (byte : ℕ) → is_opening byte ≡ false → is_closing byte ≡ false → verdict_from unclosed (byte ∷ text) ≡ verdict_from unclosed text
 other_passed unclosed text byte h k = rw (h, k) refl
 
-apart : (byte other : ℕ) → is_near_bracket other ≡ true → is_near_bracket byte ≡ false → (byte == other) ≡ false
-apart byte other h k = ne_eqb byte other (λ e. let both : true ≡ false = sym h ∙ ap is_near_bracket (sym e) ∙ k in cc)
+-- what precedes the first bracket is passed
+passed_on : (unclosed text : List ℕ) (byte : ℕ) (b : Bool) → is_bracket byte ≡ b → verdict_from unclosed text ≡ verdict_from unclosed (drop (position_or_len is_bracket text) text)
+    → verdict_from unclosed (byte ∷ text) ≡ verdict_from unclosed (drop (if not b then 1 + position_or_len is_bracket text else 0) (byte ∷ text))
+passed_on unclosed text byte true e rest = refl
+passed_on unclosed text byte false e rest =
+    let n = position_or_len is_bracket text in
+    let none = or_parts (is_opening byte) (is_closing byte) e in
+    let more : suc n ≡ 1 + n = omega arith in
+    other_passed unclosed text byte none.0 none.1 ∙ rest ∙ ap (λ k. verdict_from unclosed (drop k (byte ∷ text))) more
 
-not_near : (byte : ℕ) → is_near_bracket byte ≡ false → (is_opening byte ≡ false) × (is_closing byte ≡ false)
-not_near byte h =
-    (rw (apart byte 40 refl h, apart byte 91 refl h, apart byte 123 refl h) refl, rw (apart byte 41 refl h, apart byte 93 refl h, apart byte 125 refl h) refl)
+others_passed : (unclosed text : List ℕ) → verdict_from unclosed text ≡ verdict_from unclosed (drop (position_or_len is_bracket text) text)
+others_passed unclosed [] = refl
+others_passed unclosed (byte ∷ text) = passed_on unclosed text byte (is_bracket byte) refl (others_passed unclosed text)
 
-others_passed : (unclosed before text : List ℕ) → list_any is_near_bracket before ≡ false → verdict_from unclosed (before ++ text) ≡ verdict_from unclosed text
-others_passed unclosed [] text h = refl
-others_passed unclosed (byte ∷ before) text h =
-    let here = or_parts (is_near_bracket byte) (list_any is_near_bracket before) h in
-    let none = not_near byte here.0 in
-    other_passed unclosed (before ++ text) byte none.0 none.1 ∙ others_passed unclosed before text here.1
+pub bracket_next : (text : List ℕ) (from place : ℕ) → place ≡ from + position_or_len is_bracket (drop from text) → HasNoBracket text from place
+bracket_next text from place is unclosed =
+    let n = position_or_len is_bracket (drop from text) in
+    others_passed unclosed (drop from text) ∙ ap (verdict_from unclosed) (drop-drop n from text ∙ ap (λ i. drop i text) (sym is))
 
-pub block_skipped : (text : List ℕ) (from i j : ℕ) → i ≤ j → list_any is_near_bracket (slice_range text i j) ≡ false → HasNoBracket text from i → HasNoBracket text from j
-block_skipped text from i j l h before unclosed =
-    before unclosed ∙ ap (verdict_from unclosed) (drop_split text i j l) ∙ others_passed unclosed (slice_range text i j) (drop j text) h
+pub bracket_within : (text : List ℕ) (from place : ℕ) → from ≤ length text → place ≡ from + position_or_len is_bracket (drop from text) → place ≤ length text
+bracket_within text from place l is =
+    omega (arith, is, prefix_len-le-length (λ byte. not (is_bracket byte)) (drop from text), length-drop from text)
 
 -- memory ran out for it
 pub wants_for : {A X : Type 0} (result : Result A HookFault) → IsErrAnd result (λ e. e ≡ Memory) → X → IfErr result (λ e. (e ≡ Memory) × X)

@@ -1,6 +1,5 @@
 -- Brackets: which bytes they are, and which texts of them are balanced.
 use Rattle.std.specs.Prelude.{◌≡◌, ℕ, ◌==◌, ◌&&◌, ◌||◌, Bool, true, false, if◌then◌else◌, List, [], ◌∷◌, ◌++◌, suc, ◌+◌, ◌-◌, not, nat_le, length, take, drop, reverse, Option, Some, None, option_map, slice_get, ◌↔◌}
-use Rattle.std.specs.Int.{is_in_range}
 use Rattle.std.specs.List.{list_any}
 use Rattle.std.specs.Option.{option_or}
 
@@ -27,11 +26,6 @@ is_closing byte = closes_some all_kinds byte
 
 abbrev pub is_bracket : ℕ → Bool
 is_bracket byte = is_opening byte || is_closing byte
-
--- a bracket, or a backslash or bar, which stand between brackets
-abbrev pub is_near_bracket : ℕ → Bool
-is_near_bracket byte =
-    is_in_range 40 41 byte || (is_in_range 91 93 byte || is_in_range 123 125 byte)
 
 -- the other bracket of a bracket's kind; of any other byte the byte itself
 abbrev pub partner_in : List (ℕ × ℕ) → ℕ → ℕ

@@ -1,15 +1,17 @@
 //! Validates lines by their brackets.
-ghost use Rattle.std.specs.Prelude.{◌≡◌, ◌++◌, ◌≤◌, length, false, IsTrue, IfOk, IfErr, codes, encode_utf8};
-ghost use Rattle.std.specs.List.{list_any};
+ghost use Rattle.std.specs.Prelude.{◌≡◌, ◌==◌, if◌then◌else◌, ◌++◌, ◌+◌, ◌≤◌, length, take, drop, false, IsTrue, IfOk, IfErr, codes, encode_utf8};
+ghost use Rattle.std.specs.Int.{w64, trailing_zeros};
+ghost use Rattle.std.specs.List.{list_any, position_or_len};
 ghost use Rattle.line_config.specs.declared.errors.HookFault.TheVariants.{Memory};
-ghost use Rattle.line_help.specs.Brackets.{is_bracket, is_near_bracket};
+ghost use Rattle.line_help.specs.Brackets.{is_bracket};
 ghost use Rattle.line_help.specs.Validation.{HasNoBracket, bracket_reply, bracket_verdict};
 
-use crate::helpers::brackets::{is_closing, is_opening, partner};
+use crate::helpers::brackets::{is_bracket, is_closing, is_opening, partner};
 use crate::helpers::validate::{ValidationContext, ValidationResult, Validator};
 use line_config::HookFault;
 use line_keys::Text;
 use std::alloc::{AllocError, Global};
+use std::simd::prelude::*;
 
 /// A line may be accepted if its brackets are balanced. If closing brackets are missing, it is
 /// incomplete.
@@ -43,56 +45,68 @@ impl Validator for MatchingBracketValidator {
     }
 }
 
-/// Whether a byte is a bracket, a backslash or a bar, which stand between brackets: three ranges
-/// are tested faster than six bytes.
-fn is_near_bracket(byte: u8) -> bool
-    ensures { result ≡ is_near_bracket byte }
-{
-    (b'(' <= byte && byte <= b')')
-        || (b'[' <= byte && byte <= b']')
-        || (b'{' <= byte && byte <= b'}')
-}
-
-/// Whether one of the bytes is such.
-fn has_near_bracket(bytes: &[u8]) -> bool
-    ensures { result ≡ list_any is_near_bracket bytes.now }
-{
-    let mut any = false;
-    for byte in bytes {
-        any |= is_near_bracket(*byte);
-    }
-    any
-}
-
 /// How many bytes are tested at once for brackets.
-const BLOCK: usize = 64;
+const LANES: usize = 16;
 
-/// The place after whole blocks without a bracket.
-fn past_blocks(bytes: &[u8], from: usize) -> usize
-    requires { from ≤ length bytes.now }
-    ensures bound { result ≤ length bytes.now }
-    ensures later { from ≤ result }
-    ensures skips { HasNoBracket bytes.now from result }
+/// The place of the lowest bit that is set, or how many bits there are.
+fn lowest_lane(mask: u64) -> usize
+    ensures { result ≡ if mask == 0 then LANES else trailing_zeros w64 mask }
 {
-    let mut place = from;
-    while bytes.len() - place >= BLOCK && !has_near_bracket(&bytes[place..place + BLOCK]) {
-        place += BLOCK;
+    if mask == 0 {
+        LANES
+    } else {
+        mask.trailing_zeros() as usize
     }
-    place
 }
 
-/// The place itself, or that after blocks without a bracket if a block begins there.
-fn next_place(bytes: &[u8], from: usize) -> usize
+/// How many bytes precede the first bracket, of those from a place on that are tested at once.
+fn lanes_before_bracket(bytes: &[u8], at: usize) -> usize
+    requires { at + LANES ≤ length bytes.now }
+    ensures count { result ≡ position_or_len is_bracket (take LANES (drop at bytes.now)) }
+    ensures bound { result ≤ LANES }
+{
+    // One bit is all that `(` and `)` differ in, and `[` and `{`, and `]` and `}`.
+    let lanes = u8x16::from_slice(&bytes[at..]);
+    let round = (lanes & u8x16::splat(0xFE)).simd_eq(u8x16::splat(b'('));
+    let folded = lanes | u8x16::splat(0x20);
+    let opening = folded.simd_eq(u8x16::splat(b'{'));
+    let closing = folded.simd_eq(u8x16::splat(b'}'));
+    lowest_lane((round | opening | closing).to_bitmask())
+}
+
+/// The place of the first bracket from a place on, or the text's end. Tests a byte at a time.
+fn bracket_in_rest(bytes: &[u8], from: usize) -> usize
     requires { from ≤ length bytes.now }
+    ensures { result ≡ from + position_or_len is_bracket (drop from bytes.now) }
+{
+    for place in from..bytes.len() {
+        if is_bracket(bytes[place]) {
+            return place;
+        }
+    }
+    bytes.len()
+}
+
+/// The same, but tests several bytes at a time.
+fn next_bracket(bytes: &[u8], from: usize) -> usize
+    requires { from ≤ length bytes.now }
+    ensures place { result ≡ from + position_or_len is_bracket (drop from bytes.now) }
     ensures bound { result ≤ length bytes.now }
-    ensures later { from ≤ result }
     ensures skips { HasNoBracket bytes.now from result }
 {
-    if from % BLOCK == 0 {
-        past_blocks(bytes, from)
-    } else {
-        from
+    // Brackets often stand side by side.
+    if from < bytes.len() && is_bracket(bytes[from]) {
+        return from;
     }
+    let mut place = from;
+    while bytes.len() - place >= LANES {
+        let count = lanes_before_bracket(bytes, place);
+        place += count;
+        if count < LANES {
+            return place;
+        }
+    }
+    bracket_in_rest(bytes, place)
 }
 
 /// Whether the brackets of a text are balanced. The first closing bracket that doesn't fit makes it
@@ -105,7 +119,7 @@ pub fn validate_brackets(alloc: Global, input: &str) -> Result<ValidationResult,
 {
     let bytes = input.as_bytes();
     let mut unclosed: Vec<u8> = Vec::new(alloc);
-    let mut place = next_place(bytes, 0);
+    let mut place = next_bracket(bytes, 0);
     while place < bytes.len() {
         let byte = bytes[place];
         if is_opening(byte) {
@@ -124,7 +138,7 @@ pub fn validate_brackets(alloc: Global, input: &str) -> Result<ValidationResult,
                 }
             }
         }
-        place = next_place(bytes, place + 1);
+        place = next_bracket(bytes, place + 1);
     }
     if unclosed.is_empty() {
         Ok(ValidationResult::Valid(None))

@@ -1,6 +1,6 @@
 //! Brackets: the one at the cursor, and its match.
 ghost use Rattle.std.specs.Prelude.{◌≡◌, ◌+◌, ◌-◌, ◌<◌, IfSome, Some, option_map, slice_get, length, take, drop, reverse};
-ghost use Rattle.line_help.specs.Brackets.{is_opening, is_closing, partner, bracket_at, bracket_near, bracket_to_match, bytes_between, match_of};
+ghost use Rattle.line_help.specs.Brackets.{is_opening, is_closing, is_bracket, partner, bracket_at, bracket_near, bracket_to_match, bytes_between, match_of};
 
 /// Whether a byte opens brackets.
 pub(crate) fn is_opening(byte: u8) -> bool
@@ -14,6 +14,13 @@ pub(crate) fn is_closing(byte: u8) -> bool
     ensures { result ≡ is_closing byte }
 {
     matches!(byte, b')' | b']' | b'}')
+}
+
+/// Whether a byte is a bracket.
+pub(crate) fn is_bracket(byte: u8) -> bool
+    ensures { result ≡ is_bracket byte }
+{
+    is_opening(byte) || is_closing(byte)
 }
 
 /// The other bracket of the same kind.
