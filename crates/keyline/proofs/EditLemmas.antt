@@ -1,5 +1,5 @@
 -- A session opened by options, and run, is what the options say.
-use Rattle.std.proofs.Common.{◌≡◌, ◌∙◌, ℕ, Bool, List, [], Option, ap, subst}
+use Rattle.std.proofs.Common.{◌≡◌, ℕ, Bool, List, [], Option, ap, refl, subst}
 use Rattle.std.specs.Prelude.{string_bytes}
 use Rattle.line_config.specs.Feed.{Feed}
 use Rattle.line_config.specs.declared.config.Config.{Config}
@@ -15,6 +15,7 @@ use Rattle.keyline.specs.Sessions.{Given, given_of}
 use Rattle.keyline.specs.declared.desk.Desk.{Desk}
 use Rattle.keyline.specs.declared.options.Options.{Options}
 use Rattle.keyline.specs.declared.session.Ended.{Ended}
+use Rattle.keyline.proofs.OpenedLemmas.{given_as}
 
 pub none_bound : {D : Type 0} (bindings : List (Event × D)) (means : D → Meaning) → bindings ≡ [] → custom_of bindings means ≡ nothing_bound
 none_bound bindings means none = ap (λ b. custom_of b means) none
@@ -31,12 +32,9 @@ module _ {F S D L T : Type 0} (loads : F → Feed) (k : KnownDevices S D L) (hel
       → config' ≡ config → prompt ≡ string_bytes options.prompt → helper ≡ helper_of config options words → text' ≡ text → custom ≡ nothing_bound
       → EditsBy loads k held failed config options words history source display lines text ended
   edited config options words history source display lines text text' ended desk config' custom prompt helper opens runs config_is prompt_is helper_is text_is custom_is =
-      let screen = screen_of desk.out in
-      let helping = edit_helping desk.helper in
-      let given : given_of config' custom prompt screen helping ≡ given_to config options desk =
-      ap (λ (x : Config). given_of x custom prompt screen helping) config_is
-      ∙ (ap (λ (x : Custom). given_of config x prompt screen helping) custom_is
-      ∙ ap (λ (x : List ℕ). given_of config nothing_bound x screen helping) prompt_is) in
+      let given : given_of config' custom prompt (screen_of desk.out) (edit_helping desk.helper) ≡ given_to config options desk =
+      given_as config config' nothing_bound custom (string_bytes options.prompt) prompt (screen_of desk.out) (screen_of desk.out) desk.helper desk.helper
+      config_is custom_is prompt_is refl refl in
       let runs' = subst (λ (x : Given). RunsSession k held failed x desk text' ended) given runs in
       record {
         desk = desk;

@@ -13,6 +13,7 @@ pub mod InvocationLemmas
 pub mod LineFuel
 pub mod LinesLemmas
 pub mod OneByteLemmas
+pub mod OpenedLemmas
 pub mod OptionsLemmas
 pub mod OrderLemmas
 pub mod PasteLemmas

@@ -1,6 +1,6 @@
 -- A session by options, over all that is said of its keys.
 use Rattle.std.proofs.Common.{◌≡◌, ℕ, ◌+◌, ◌<◌, ◌^◌, Bool, true, false, IsTrue, List, [], ◌∷◌, ◌++◌, Option, refl, sym, ap, subst, ◌∙◌, append-nil, arith}
-use Rattle.std.specs.Prelude.{if◌then◌else◌, IfErr, IfOk, IsErr, IsOk, None, OnOk, Result, Ok, Err, is_err, string_bytes}
+use Rattle.std.specs.Prelude.{if◌then◌else◌, IfErr, IfOk, IsErr, IsOk, None, OnOk, Result, Ok, Err, is_err}
 use Rattle.line_config.specs.Feed.{AlwaysTold, Feed, fresh_feed}
 use Rattle.std.proofs.lemmas.Result.{IfErr-weaker}
 use Rattle.line_config.specs.Adapters.{to_come}
@@ -14,23 +14,20 @@ use Rattle.line_config.specs.declared.errors.ReadlineError.{ReadlineError}
 use Rattle.line_config.specs.declared.errors.ReadlineError.TheVariants.{Display, Helper, HistoryText, Lines, Memory, Reader}
 use Rattle.line_help.specs.History.{Filed, all_saved}
 use Rattle.line_help.specs.HistoryText.{text_to_save}
-use Rattle.line_keys.specs.Coming.{Coming}
 use Rattle.line_keys.specs.KeyFeeds.{Paste}
-use Rattle.line_record.specs.Ring.{Ring, new_ring}
-use Rattle.line_screen.specs.ScreenCalls.{Screen}
 use Rattle.line_screen.specs.Reader.{byte_ahead_of}
 use Rattle.line_screen.specs.Reading.{count_of_kept}
 use Rattle.keyline.specs.Desks.{GoesShown, desk_feed, session_state_of, work_of}
 use Rattle.keyline.specs.Events.{SessionEvent, Takes, Helped, Draws, Hears, Breaks, Keeps, Writes, session}
 use Rattle.keyline.specs.KnownDevices.{KnownDevices}
-use Rattle.keyline.specs.Program.{EditHelper, EditsBy, edit_helping, given_by, given_to, nothing_bound, PlaysBytes, PlaysOver, UnopensOver, start_by}
+use Rattle.keyline.specs.Program.{EditsBy, given_by, given_to, helper_of, PlaysBytes, PlaysOver, UnopensOver, start_by}
 use Rattle.keyline.specs.SessionEffects.{CutSessionEvent, SessionReason, Stands, Work, work}
-use Rattle.keyline.specs.SessionRuns.{LoadRefused, history_loaded_from, loads}
-use Rattle.keyline.specs.Sessions.{Given, SessionState, given_of, coming_from, each}
+use Rattle.keyline.specs.SessionRuns.{LoadRefused, loads}
+use Rattle.keyline.specs.Sessions.{Given, SessionState, each}
 use Rattle.keyline.specs.declared.options.Options.{Options}
-use Rattle.keyline.specs.declared.session.TheConstants.{KILL_RING_SIZE}
 use Rattle.keyline.specs.declared.session.Ended.{Ended}
 use Rattle.keyline.specs.declared.session.Unopened.{Unopened}
+use Rattle.keyline.proofs.OpenedLemmas.{given_as, state_first}
 use Rattle.keyline.proofs.PlaysLemmas.{reason_at_end}
 
 below : (most kept bound n : ℕ) → kept ≡ 0 → bound ≡ most + kept → most < n → bound < n
@@ -59,9 +56,6 @@ history_at_end : (saved : Bool) (kept history : Filed) → (saved ≡ true → h
     → history ≡ (if saved then all_saved kept else kept)
 history_at_end true kept history done refused = done refl
 history_at_end false kept history done refused = refused refl
-
-abbrev state_by : Ring → List ℕ → Filed → Coming → SessionState
-state_by ring query history coming = record { ring = ring; query = query; history = history; coming = coming }
 
 -- a device that has failed has failed afterwards
 reason_still : (g : Given) (source display display' lines lines' : Bool) (why : ReadlineError) → (IsTrue display → IsTrue display') → (IsTrue lines → IsTrue lines')
@@ -139,20 +133,12 @@ module _ {F S D L T : Type 0} (text_of : F → Feed) (k : KnownDevices S D L) (h
       let g = given_by config options words in
       let start = start_by config old bytes last in
       let given_is : given_to config options desk ≡ g =
-      ap (λ (s : Screen). given_of config nothing_bound (string_bytes options.prompt) s (edit_helping desk.helper)) opens.screen
-      ∙ ap (λ (h : Option EditHelper). (record g { helping = edit_helping h })) opens.helper_is in
-      let coming : (desk_feed k desk).coming ≡ coming_from config.edit_mode bytes last =
-      opens.coming ∙ (ap (λ bs. coming_from config.edit_mode bs (k.feed source).last) coming_is ∙ ap (λ l. coming_from config.edit_mode bytes l) last_is) in
-      let loaded_is = history_loaded_from config (fresh_feed old End) in
-      let history_is : desk.history ≡ loaded_is = opens.loaded.history_is always ∙ ap (λ (f : Feed). history_loaded_from config f) text_is in
+      given_as _ _ _ _ _ _ _ _ _ _ refl refl refl opens.screen opens.helper_is in
+      let start_is : session_state_of k desk ≡ start =
+      state_first text_of k config history (helper_of config options words) source options.columns display lines desk old bytes last opens always text_is coming_is last_is in
       let bound : (desk_feed k desk).bound ≡ 2 ^ 63 + count_of_kept (byte_ahead_of desk.reader) =
       ap (λ (s : S). (k.feed s).bound + count_of_kept (byte_ahead_of desk.reader)) opens.source_is ∙ ap (λ b. b + count_of_kept (byte_ahead_of desk.reader)) bound_is in
       let left = (desk_feed k left_desk).coming in
-      let start_is : session_state_of k desk ≡ start =
-      ap (λ (r : Ring). state_by r (string_bytes desk.last_query) desk.history (desk_feed k desk).coming) opens.ring
-      ∙ (ap (λ query. state_by (new_ring KILL_RING_SIZE) query desk.history (desk_feed k desk).coming) opens.query
-      ∙ (ap (λ (h : Filed). state_by (new_ring KILL_RING_SIZE) [] h (desk_feed k desk).coming) history_is
-      ∙ ap (λ (c : Coming). state_by (new_ring KILL_RING_SIZE) [] loaded_is c) coming)) in
       record {
         kept = left_desk.history;
         reader = left_desk.reader;
@@ -166,13 +152,13 @@ module _ {F S D L T : Type 0} (text_of : F → Feed) (k : KnownDevices S D L) (h
             GoesShown k.shown k.written_in g.config.auto_add_history lines.events (work_of k desk) (work_of k left_desk) (why ≡ lines.answer) (λ e. why ≡ e) in
             let r = subst (λ (x : SessionState). G g x) start_is (subst (λ (g : Given). G g (session_state_of k desk)) given_is went) in
             let lines = session n g (each g) start in
-            let H : Filed → Coming → Type 0 = λ h c.
-            GoesShown (λ (d : List ℕ). d) (λ (l : List ℕ). l) g.config.auto_add_history lines.events (work drawn wrote h c)
+            let H : SessionState → Type 0 = λ x.
+            GoesShown (λ (d : List ℕ). d) (λ (l : List ℕ). l) g.config.auto_add_history lines.events (work drawn wrote x.history x.coming)
             (work (k.shown display') (k.written_in lines') left_desk.history left) (why ≡ lines.answer) (λ e. why ≡ e) in
-            subst (λ (c : Coming). H loaded_is c) coming (subst (λ (h : Filed). H h (desk_feed k desk).coming) history_is
+            subst H start_is
             (as_bytes k.shown k.written_in g.config.auto_add_history lines.events (work_of k desk) (work_of k left_desk) (why ≡ lines.answer) (λ e. why ≡ e)
             drawn wrote (k.shown display') (k.written_in lines')
-            (ap k.shown opens.display_is ∙ had_drawn) (drawn_is ∙ ap k.shown end.display_is) (ap k.written_in opens.lines_are ∙ had_wrote) (wrote_is ∙ ap k.written_in end.lines_are) r));
+            (ap k.shown opens.display_is ∙ had_drawn) (drawn_is ∙ ap k.shown end.display_is) (ap k.written_in opens.lines_are ∙ had_wrote) (wrote_is ∙ ap k.written_in end.lines_are) r);
         done = λ s. (end.saves.done s).1 ∙ ap (λ front. front ++ text_to_save left_desk.history) blank;
         refused = λ s.
             let r = end.saves.refused s in

@@ -1,18 +1,16 @@
 -- A session over memory that its keys ended is the definition's.
 use Rattle.std.proofs.Common.{◌≡◌, ℕ, ◌+◌, ◌<◌, Bool, true, false, IsTrue, List, [], ◌∷◌, ◌++◌, Option, length, refl, sym, ap, subst, ◌∙◌, arith}
-use Rattle.std.specs.Prelude.{flat_map, string_bytes}
+use Rattle.std.specs.Prelude.{flat_map}
 use Rattle.line_config.specs.Feed.{AlwaysTold, Feed, fresh_feed}
 use Rattle.line_config.specs.declared.config.Config.{Config}
 use Rattle.line_config.specs.declared.device.Last.TheVariants.{End}
 use Rattle.line_config.specs.declared.errors.ReadlineError.{ReadlineError}
 use Rattle.line_config.specs.declared.errors.ReadlineError.TheVariants.{Eof, Interrupted, NotUtf8, PasteOutOfPlace, Display, Lines, Helper, Memory}
-use Rattle.line_help.specs.History.{Filed}
 use Rattle.line_help.specs.HistoryText.{text_to_save}
 use Rattle.line_keys.specs.CustomBindings.{Custom}
-use Rattle.line_keys.specs.Coming.{Coming, bytes_to_come}
+use Rattle.line_keys.specs.Coming.{bytes_to_come}
 use Rattle.line_keys.specs.KeyFeeds.{Paste}
-use Rattle.line_record.specs.Ring.{Ring, new_ring}
-use Rattle.line_screen.specs.ScreenCalls.{Screen, screen_of}
+use Rattle.line_screen.specs.ScreenCalls.{screen_of}
 use Rattle.line_screen.specs.Reader.{byte_ahead_of, bytes_left_in, source_of}
 use Rattle.line_screen.specs.Reading.{count_of_kept, with_kept}
 use Rattle.line_screen.proofs.Outcomes.{unread_in}
@@ -20,16 +18,16 @@ use Rattle.keyline.specs.Desks.{GoesShown, desk_feed, session_state_of, work_of}
 use Rattle.keyline.specs.Endings.{ending_of}
 use Rattle.keyline.specs.KnownDevices.{KnownDevices}
 use Rattle.keyline.specs.SessionEffects.{AreDone, CutSessionEvent, Stands, Went, Work, ending_after}
-use Rattle.keyline.specs.SessionRuns.{Opens, RunsSession, history_loaded_from}
-use Rattle.keyline.specs.Program.{EditHelper, edit_helping}
+use Rattle.keyline.specs.SessionRuns.{Opens, RunsSession}
+use Rattle.keyline.specs.Program.{EditHelper, edit_helping, given_over, start_by}
 use Rattle.keyline.specs.Events.{SessionEvent, Takes, Helped, Draws, Hears, Breaks, Keeps, Writes, bytes_drawn, coming_after_events, lines_kept, lines_written, session}
-use Rattle.keyline.specs.Sessions.{Given, SessionState, coming_from, each, given_of, lines_text, history_with_if, screen_by}
+use Rattle.keyline.specs.Sessions.{Given, SessionState, each, given_of, lines_text, history_with_if}
 use Rattle.keyline.specs.Shows.{EachShown}
-use Rattle.keyline.specs.Transcripts.{Transcribes, given_by, is_cut, start_by, word_helper}
+use Rattle.keyline.specs.Transcripts.{Transcribes, is_cut, word_helper}
 use Rattle.keyline.specs.declared.desk.Desk.{Desk}
 use Rattle.keyline.specs.declared.over_memory.Transcript.{Transcript}
-use Rattle.keyline.specs.declared.session.TheConstants.{KILL_RING_SIZE}
 use Rattle.keyline.specs.declared.session.Ended.{Ended}
+use Rattle.keyline.proofs.OpenedLemmas.{given_as, state_first}
 
 -- no fault ends a session so
 no_fault : {D L : Type 0} (shown : D → List ℕ) (written_in : L → List ℕ) (adds : Bool) (x y : Work D L) (event : SessionEvent) (why : ReadlineError)
@@ -88,9 +86,6 @@ was_saved false failed refused works = absurd (let broken : failed ≡ true = re
 no_byte_kept : (kept bound count : ℕ) → kept ≡ 0 → bound ≡ count + kept → bound ≡ count
 no_byte_kept kept bound count none is = omega arith
 
-abbrev state_by : Ring → List ℕ → Filed → Coming → SessionState
-state_by ring query history coming = record { ring = ring; query = query; history = history; coming = coming }
-
 module _ {F S D L T : Type 0} (text_of : F → Feed) (k : KnownDevices S D L) (held : T → List ℕ) (failed : T → Bool) where
   pub transcribed : (config config' : Config) (words : Option (List (List ℕ))) (helper : Option EditHelper) (custom custom' : Custom) (prompt prompt' : List ℕ) (columns : ℕ) (old keys : List ℕ) (history : F) (source : S)
       (display : D) (lines : L) (text text' : T) (desk : Desk S EditHelper D L) (ended : Ended S D L T) (t : Transcript)
@@ -102,29 +97,18 @@ module _ {F S D L T : Type 0} (text_of : F → Feed) (k : KnownDevices S D L) (h
       → is_cut ended.ending ≡ false → failed ended.text ≡ false
       → t.lines.items ≡ k.written_in ended.lines → t.display.items ≡ k.shown ended.display → t.history.items ≡ held ended.text → t.ending ≡ ended.ending
       → t.unread.items ≡ (with_kept ended.ahead (k.feed ended.source)).coming
-      → Transcribes (given_by config words custom prompt columns) (start_by config old keys) keys t
+      → Transcribes (given_over config custom prompt columns (word_helper words)) (start_by config old keys End) keys t
   transcribed config config' words helper custom custom' prompt prompt' columns old keys history source display lines text text' desk ended t opens runs helper_is config_is custom_is prompt_is text_is
       always told text_of_is source_is none bare blank uncut works lines_are display_is history_is ending_is unread_is =
-      let g = given_by config words custom prompt columns in
-      let start = start_by config old keys in
+      let g = given_over config custom prompt columns (word_helper words) in
+      let start = start_by config old keys End in
       let end = runs.finishes in
       let why = runs.why in
       let last = runs.last in
       let given_is : given_of config' custom' prompt' (screen_of desk.out) (edit_helping desk.helper) ≡ g =
-      ap (λ (x : Config). given_of x custom' prompt' (screen_of desk.out) (edit_helping desk.helper)) config_is
-      ∙ (ap (λ (x : Custom). given_of config x prompt' (screen_of desk.out) (edit_helping desk.helper)) custom_is
-      ∙ (ap (λ (x : List ℕ). given_of config custom x (screen_of desk.out) (edit_helping desk.helper)) prompt_is
-      ∙ (ap (λ (x : Screen). given_of config custom prompt x (edit_helping desk.helper)) opens.screen
-      ∙ ap (λ (x : Option EditHelper). given_of config custom prompt (screen_by config columns) (edit_helping x)) (opens.helper_is ∙ helper_is)))) in
-      let loaded = history_loaded_from config (fresh_feed old End) in
-      let coming : (desk_feed k desk).coming ≡ coming_from config.edit_mode keys End =
-      opens.coming ∙ ap (λ (f : Feed). coming_from config.edit_mode f.coming f.last) source_is in
-      let filed : desk.history ≡ loaded = opens.loaded.history_is always ∙ ap (λ (f : Feed). history_loaded_from config f) text_of_is in
+      given_as _ _ _ _ _ _ _ _ _ _ config_is custom_is prompt_is opens.screen (opens.helper_is ∙ helper_is) in
       let state_is : session_state_of k desk ≡ start =
-      ap (λ (r : Ring). state_by r (string_bytes desk.last_query) desk.history (desk_feed k desk).coming) opens.ring
-      ∙ (ap (λ query. state_by (new_ring KILL_RING_SIZE) query desk.history (desk_feed k desk).coming) opens.query
-      ∙ (ap (λ (h : Filed). state_by (new_ring KILL_RING_SIZE) [] h (desk_feed k desk).coming) filed
-      ∙ ap (λ (c : Coming). state_by (new_ring KILL_RING_SIZE) [] loaded c) coming)) in
+      state_first text_of k config history helper source columns display lines desk old keys End opens always text_of_is (ap (λ (f : Feed). f.coming) source_is) (ap (λ (f : Feed). f.last) source_is) in
       let bound : (desk_feed k desk).bound ≡ length keys =
       no_byte_kept (count_of_kept (byte_ahead_of desk.reader)) (desk_feed k desk).bound (length keys) (ap count_of_kept opens.kept)
       (ap (λ (s : S). (k.feed s).bound + count_of_kept (byte_ahead_of desk.reader)) opens.source_is ∙ ap (λ (f : Feed). f.bound + count_of_kept (byte_ahead_of desk.reader)) source_is) in
@@ -147,10 +131,10 @@ module _ {F S D L T : Type 0} (text_of : F → Feed) (k : KnownDevices S D L) (h
         gives = λ n low.
             let all = whole n low in
             let done = all.are_done in
-            let kept_is : last.history ≡ history_with_if adds (flat_map lines_kept (events n)) loaded =
-            done.history_is ∙ ap (λ (h : Filed). history_with_if adds (flat_map lines_kept (events n)) h) filed in
-            let rest_is : (desk_feed k last).coming ≡ coming_after_events (coming_from config.edit_mode keys End) (events n) =
-            done.left_is ∙ ap (λ c. coming_after_events c (events n)) coming in
+            let kept_is : last.history ≡ history_with_if adds (flat_map lines_kept (events n)) start.history =
+            done.history_is ∙ ap (λ (x : SessionState). history_with_if adds (flat_map lines_kept (events n)) x.history) state_is in
+            let rest_is : (desk_feed k last).coming ≡ coming_after_events start.coming (events n) =
+            done.left_is ∙ ap (λ (x : SessionState). coming_after_events x.coming (events n)) state_is in
             let left : t.unread.items ≡ bytes_left_in k.feed last.reader =
             unread_is ∙ (ap (λ a. (with_kept a (k.feed ended.source)).coming) end.ahead_is ∙ ap (λ (s : S). (with_kept (byte_ahead_of last.reader) (k.feed s)).coming) end.source_is) in
             record {

@@ -7,7 +7,6 @@ use Rattle.std.specs.declared.env.FillError.TheVariants.{NotPresent, TooLong}
 use Rattle.line_config.specs.Config.{default_config, timeout_of}
 use Rattle.line_config.specs.Feed.{Feed, fresh_feed}
 use Rattle.line_config.specs.declared.config.Config.{Config}
-use Rattle.line_config.specs.declared.settings.CompletionType.{CompletionType}
 use Rattle.line_config.specs.declared.settings.CompletionType.TheVariants.{Circular, List as AsList}
 use Rattle.line_keys.specs.Replies.{gives, gives_at_once}
 use Rattle.line_help.specs.Completion.{nothing_offered, word_reply}
@@ -95,21 +94,21 @@ EditHelper = HelperParts (Option (List (List ℕ))) ⊤ (Prompted StandardHighli
 abbrev pub word_texts : Option (Vec (String Global)) → Option (List (List ℕ))
 word_texts words = option_map (λ ws. map string_bytes ws.items) words
 
-abbrev pub validator_of : Options → Option MatchingBracketValidator
-validator_of options = if options.brackets then Some (record {}) else None
-
 abbrev pub prompt_with_spans : List Span → Prompted StandardHighlighter
 prompt_with_spans spans = record { spans = spans; others = record { brackets = None } }
+
+abbrev pub helper_with : Option (List (List ℕ)) → List Span → Bool → EditHelper
+helper_with words spans brackets = record {
+  completer = words;
+  hinter = tt;
+  highlighter = prompt_with_spans spans;
+  validator = if brackets then Some (record {}) else None;
+}
 
 -- there is none if nothing was requested and no colours are drawn
 abbrev pub helper_of : Config → Options → Option (List (List ℕ)) → Option EditHelper
 helper_of config options words = if options.brackets || is_some words || config.draw_colours
-    then Some (record {
-      completer = words;
-      hinter = tt;
-      highlighter = prompt_with_spans options.prompt_styles.items;
-      validator = validator_of options;
-    })
+    then Some (helper_with words options.prompt_styles.items options.brackets)
     else None
 
 -- its replies and its styles; it helps with nothing else
@@ -142,10 +141,18 @@ pub record EditsBy {F S D L T : Type 0} (loads : F → Feed) (k : KnownDevices S
 
 -- ---- by bytes alone: those of its keys, those that its devices took, and its ending
 
--- what these settings, options and words pass in for a session
+-- what is passed in for a session with these settings, bindings, prompt, columns and helper
+abbrev pub given_over : Config → Custom → List ℕ → ℕ → Option EditHelper → Given
+given_over config custom prompt columns helper =
+    given_of config custom prompt (screen_by config columns) (edit_helping helper)
+
+-- the same with the program's options and words
+abbrev pub given_with : Config → Custom → Options → Option (List (List ℕ)) → Given
+given_with config custom options words = given_over config custom (string_bytes options.prompt)
+    options.columns (helper_of config options words)
+
 abbrev pub given_by : Config → Options → Option (List (List ℕ)) → Given
-given_by config options words = given_of config nothing_bound (string_bytes options.prompt)
-    (screen_by config options.columns) (edit_helping (helper_of config options words))
+given_by config options words = given_with config nothing_bound options words
 
 abbrev pub program_given : Options → Option (List (List ℕ)) → Given
 program_given options words = given_by (config_of options) options words

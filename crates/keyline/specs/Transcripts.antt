@@ -1,45 +1,22 @@
 -- The result of a session over memory, as equations with the definition of a session.
 use Rattle.std.specs.Prelude.{◌≡◌, ℕ, ◌<◌, Bool, true, false, List, [], Option, Some, None, length}
 use Rattle.std.specs.List.{flat_map}
-use Rattle.line_config.specs.Feed.{fresh_feed}
-use Rattle.line_config.specs.declared.config.Config.{Config}
-use Rattle.line_config.specs.declared.device.Last.TheVariants.{End}
 use Rattle.line_config.specs.declared.errors.ReadlineError.{ReadlineError}
 use Rattle.line_help.specs.HistoryText.{text_to_save}
-use Rattle.line_keys.specs.CustomBindings.{Custom}
 use Rattle.line_keys.specs.Coming.{bytes_to_come}
-use Rattle.line_record.specs.Ring.{new_ring}
 use Rattle.keyline.specs.Endings.{ending_of}
-use Rattle.keyline.specs.SessionRuns.{history_loaded_from}
-use Rattle.keyline.specs.Program.{EditHelper, edit_helping, prompt_with_spans}
+use Rattle.keyline.specs.Program.{EditHelper, helper_with}
 use Rattle.keyline.specs.Events.{Course, bytes_drawn, coming_after_events, lines_kept, lines_written, session}
-use Rattle.keyline.specs.Sessions.{Given, SessionState, each, given_of, lines_text, history_with_if, screen_by, state_over}
+use Rattle.keyline.specs.Sessions.{Given, SessionState, each, lines_text, history_with_if}
 use Rattle.keyline.specs.Shows.{EachShown, Face, IsAtRest}
 use Rattle.keyline.specs.declared.ending.Ending.{Ending}
 use Rattle.keyline.specs.declared.ending.Ending.TheVariants.{Eof, Interrupted, NotUtf8, PasteOutOfPlace, Handler}
 use Rattle.keyline.specs.declared.over_memory.Transcript.{Transcript}
-use Rattle.keyline.specs.declared.session.TheConstants.{KILL_RING_SIZE}
 
--- ---- arguments
-
+-- completes these words, and has no styles of a prompt
 abbrev pub word_helper : Option (List (List ℕ)) → Option EditHelper
 word_helper None = None
-word_helper (Some words) = Some (record {
-  completer = Some words;
-  hinter = tt;
-  highlighter = prompt_with_spans [];
-  validator = None;
-})
-
-abbrev pub given_by : Config → Option (List (List ℕ)) → Custom → List ℕ → ℕ → Given
-given_by config words custom prompt columns =
-    given_of config custom prompt (screen_by config columns) (edit_helping (word_helper words))
-
--- before the first line: the history's text is loaded, and no key is read
-abbrev pub start_by : Config → List ℕ → List ℕ → SessionState
-start_by config history keys =
-    state_over (new_ring KILL_RING_SIZE) []
-    (history_loaded_from config (fresh_feed history End)) config.edit_mode keys End
+word_helper (Some words) = Some (helper_with (Some words) [] false)
 
 -- ---- result
 

@@ -1,6 +1,6 @@
-//! Devices in boxes, so that moving a session doesn't move them.
+//! Devices in boxes. Moving one moves a pointer, and not the device's array.
 
-ghost use Rattle.std.specs.Prelude.{◌≡◌, ◌^◌, IfErr, IfOk, MatchResult, false};
+ghost use Rattle.std.specs.Prelude.{◌≡◌, ◌^◌, IfErr, IfOk, false};
 
 use line_config::{DeviceFailed, Foretold, ReadSource, Sink, Source, WriteSink};
 use std::alloc::Global;
@@ -134,39 +134,11 @@ impl<D: Sink> Sink for Boxed<D> {
     }
 }
 
-/// The devices of a session, each in a box.
+/// The devices of a session over a reader and two writers, each in a box.
 pub(crate) struct Devices<S, D, L> {
     pub(crate) source: Boxed<S>,
     pub(crate) display: Boxed<D>,
     pub(crate) lines: Boxed<L>,
-}
-
-impl<S, D, L> Devices<S, D, L> {
-    /// If a box can't be allocated, the devices are returned.
-    #[inline(never)]
-    pub(crate) fn new(alloc: Global, source: S, display: D, lines: L) -> Result<Self, (S, D, L)>
-        ensures { MatchResult result
-            (λ it. (it.source ≡ source) × (it.display ≡ display) × (it.lines ≡ lines))
-            (λ back. back ≡ (source, display, lines)) }
-    {
-        let source = match Boxed::new(alloc, source) {
-            Ok(source) => source,
-            Err(source) => return Err((source, display, lines)),
-        };
-        let display = match Boxed::new(alloc, display) {
-            Ok(display) => display,
-            Err(display) => return Err((source.into_inner(), display, lines)),
-        };
-        let lines = match Boxed::new(alloc, lines) {
-            Ok(lines) => lines,
-            Err(lines) => return Err((source.into_inner(), display.into_inner(), lines)),
-        };
-        Ok(Devices {
-            source,
-            display,
-            lines,
-        })
-    }
 }
 
 impl<R: Read, K: Foretold<R>, E: Write, W: Write> Devices<

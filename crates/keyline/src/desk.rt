@@ -1,13 +1,13 @@
 //! Reads, draws, stores and writes one line after the other.
 
-ghost use Rattle.std.specs.Prelude.{◌≡◌, ◌++◌, ◌∷◌, ◌&&◌, [], IfErr, IfOk, IsTrue, MatchResult, OnOk, OnErr, string_bytes};
+ghost use Rattle.std.specs.Prelude.{◌≡◌, ◌≤◌, ◌++◌, ◌∷◌, ◌&&◌, [], IfErr, IfOk, IsTrue, MatchResult, OnOk, OnErr, string_bytes};
 ghost use Rattle.line_config.specs.declared.errors.ReadlineError.TheVariants.{Display, Lines, Memory};
 ghost use Rattle.line_config.specs.Sending.{Sends};
 ghost use Rattle.line_help.specs.History.{takes};
 ghost use Rattle.line_keys.specs.Coming.{answer_map};
 ghost use Rattle.line_screen.specs.ScreenCalls.{screen_of, sink_of, NothingWaits};
 ghost use Rattle.keyline.specs.SessionEffects.{Closes, DrawsEnd, RowIsCut, RowIsDrawn, breaks, work};
-ghost use Rattle.keyline.specs.Sessions.{given_of, line_text, history_with_if};
+ghost use Rattle.keyline.specs.Sessions.{given_of, line_text, history_with_if, screen_by};
 
 use crate::boxed::Boxed;
 use crate::held::Held;
@@ -18,6 +18,19 @@ use line_keys::{Decides, EventMap};
 use line_record::KillRing;
 use line_screen::{KeyReader, ScreenRenderer};
 use std::alloc::Global;
+
+/// What draws on a display by the settings, in rows of so many columns. Nothing is drawn yet.
+pub fn renderer_over<D: Sink + Drop>(config: &Config, columns: u16, display: D) -> ScreenRenderer<D>
+    requires { (2 ≤ columns) × (columns ≤ 1000) }
+    ensures sink { sink_of result ≡ display }
+    ensures screen { screen_of result ≡ screen_by config.now columns }
+{
+    let mode = config.grapheme_cluster_mode();
+    let mut out = ScreenRenderer::new(display, columns, mode, config.bell_style());
+    out.set_colours(config.draw_colours());
+    out.set_tab_stop(config.drawn_tab_stop());
+    out
+}
 
 /// Writes a text and a newline, and flushes them.
 fn send_line<L: Sink>(lines: &mut L, text: &str) -> Result<(), DeviceFailed>
@@ -140,11 +153,12 @@ fn close<D: Sink + Drop, L: Sink>(
     }
 }
 
-/// The state that is passed from line to line, with the devices, which are behind pointers.
+/// The state that is passed from line to line, with the devices. The display, which each line takes
+/// out, is in a box.
 #[derive(Drop)]
 pub struct Desk<S: Source, H, D: Sink, L: Sink> {
     /// Reads keys from the source, and stores what was read ahead.
-    pub(crate) reader: KeyReader<Boxed<S>>,
+    pub(crate) reader: KeyReader<S>,
     /// Draws on the display.
     pub(crate) out: Held<ScreenRenderer<Boxed<D>>>,
     pub(crate) helper: Option<H>,
@@ -153,7 +167,7 @@ pub struct Desk<S: Source, H, D: Sink, L: Sink> {
     /// The text of the last search.
     pub(crate) last_query: String,
     /// The sink of accepted lines.
-    pub(crate) lines: Boxed<L>,
+    pub(crate) lines: L,
 }
 
 impl<S: Source + Drop, H: Helper + Drop, D: Sink + Drop, L: Sink + Drop> Desk<S, H, D, L> {

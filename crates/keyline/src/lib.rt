@@ -36,6 +36,7 @@ pub use builder::session_builder;
 pub use builder::standard_builder;
 pub use desk::Desk;
 pub use desk::end_line;
+pub use desk::renderer_over;
 pub use edit_helper::EditHelper;
 pub use editor::LineEditor;
 pub use ending::Ending;

@@ -6,15 +6,16 @@ ghost use Rattle.line_config.specs.declared.device.Last.TheVariants.{End};
 ghost use Rattle.line_config.specs.declared.errors.ReadlineError.TheVariants.{Memory};
 ghost use Rattle.line_keys.specs.CustomBindings.{custom_of};
 ghost use Rattle.line_screen.specs.Reading.{with_kept};
-ghost use Rattle.keyline.specs.Program.{word_texts};
+ghost use Rattle.keyline.specs.Program.{given_over, start_by, word_texts};
 ghost use Rattle.keyline.specs.SessionRuns.{loads};
-ghost use Rattle.keyline.specs.Transcripts.{Transcribes, given_by, is_cut, start_by, word_helper};
+ghost use Rattle.keyline.specs.Transcripts.{Transcribes, is_cut, word_helper};
 
 use crate::edit_helper::EditHelper;
 use crate::ending::Ending;
+use crate::program::helper_with;
 use crate::session::{Ended, Session};
 use line_config::{Config, ReadlineError, Sink, SliceSource, Source, VecSink};
-use line_help::{HelperParts, PromptHighlighter, Span, StandardHighlighter, WordCompleter};
+use line_help::Span;
 use line_keys::{Decides, EventMap};
 use std::alloc::{AllocError, Global};
 
@@ -40,12 +41,7 @@ fn helper_by<'s>(words: Option<Vec<String>>, none: &'s [Span]) -> Option<EditHel
     if words.is_none() {
         return None;
     }
-    Some(HelperParts {
-        completer: words.map(WordCompleter::new),
-        hinter: (),
-        highlighter: PromptHighlighter::new(none, StandardHighlighter::new()),
-        validator: None,
-    })
+    Some(helper_with(words, none, false))
 }
 
 /// Whether a device or a lack of memory ended a session, and not its keys.
@@ -96,8 +92,9 @@ pub fn transcribe<B: Decides>(
 ) -> Result<Transcript, ReadlineError>
     requires { (2 ≤ columns) × (columns ≤ 1000) }
     ensures session { IfOk result (Transcribes
-        (given_by config (word_texts words) (custom_of bindings B.decides) prompt.now columns)
-        (start_by config history.now keys.now) keys.now) }
+        (given_over config (custom_of bindings B.decides) prompt.now columns
+        (word_helper (word_texts words)))
+        (start_by config history.now keys.now End) keys.now) }
     ensures refused { IfErr result (λ why. (why ≡ Memory)
         ⊎ (loads config (fresh_feed history.now End) ≡ Err why)) }
 {

@@ -3,7 +3,7 @@
 ghost use Rattle.std.specs.Prelude.{◌≡◌, ◌≤◌, IfErr, IfOk, [], false, if◌then◌else◌};
 ghost use Rattle.line_config.specs.Adapters.{reader_of, writer_of};
 ghost use Rattle.keyline.specs.KnownDevices.{devices_by};
-ghost use Rattle.keyline.specs.Program.{EditsBy, PlaysOver, UnopensOver, IsByEnvironment, config_of, had_by, has_text, helper_of, invoked_config, profile_of, config_without_colours, word_texts};
+ghost use Rattle.keyline.specs.Program.{EditsBy, PlaysOver, UnopensOver, IsByEnvironment, config_of, had_by, has_text, helper_of, helper_with, invoked_config, profile_of, config_without_colours, word_texts};
 ghost use Rattle.keyline.specs.SessionRuns.{Unopens};
 
 use crate::boxed::{Boxed, Devices};
@@ -16,7 +16,8 @@ use line_config::{
     Source, VecSink, WriteSink,
 };
 use line_help::{
-    HelperParts, MatchingBracketValidator, PromptHighlighter, StandardHighlighter, WordCompleter,
+    HelperParts, MatchingBracketValidator, PromptHighlighter, Span, StandardHighlighter,
+    WordCompleter,
 };
 use line_keys::Bindings;
 use std::alloc::Global;
@@ -90,20 +91,30 @@ pub fn helper_of<'s>(
     if !options.brackets && words.is_none() && !config.draw_colours() {
         return None;
     }
-    let validator = if options.brackets {
+    let styles = options.prompt_styles.as_slice();
+    Some(helper_with(words, styles, options.brackets))
+}
+
+/// A helper that completes these words if there are any, has these styles of the prompt, and
+/// validates brackets if requested.
+pub(crate) fn helper_with<'s>(
+    words: Option<Vec<String>>,
+    styles: &'s [Span],
+    brackets: bool,
+) -> EditHelper<'s>
+    ensures { result ≡ helper_with (word_texts words) styles.entry.now brackets }
+{
+    let validator = if brackets {
         Some(MatchingBracketValidator::new())
     } else {
         None
     };
-    Some(HelperParts {
+    HelperParts {
         completer: words.map(WordCompleter::new),
         hinter: (),
-        highlighter: PromptHighlighter::new(
-            options.prompt_styles.as_slice(),
-            StandardHighlighter::new(),
-        ),
+        highlighter: PromptHighlighter::new(styles, StandardHighlighter::new()),
         validator,
-    })
+    }
 }
 
 /// Opens a session with options and runs it. The words, if given, complete the word before the
@@ -175,62 +186,24 @@ pub fn edit_with<
         config options.now (word_texts words) history source display lines text) }
     ensures refused { IfErr result (Unopens F.feed config history source display lines text) }
 {
-    let devices = match Devices::new(alloc, source, display, lines) {
-        Ok(devices) => devices,
-        Err((source, display, lines)) => return Err(Unopened::new(
-            ReadlineError::Memory,
-            history,
-            source,
-            display,
-            lines,
-            text,
-        )),
-    };
-    match edit_boxed(alloc, config, options, words, history, devices, text) {
-        Ok(ended) => Ok(ended.unboxed()),
-        Err(unopened) => Err(unopened.unboxed()),
-    }
-}
-
-/// The same with devices that are in their boxes.
-fn edit_boxed<F: Source + Drop, S: Source + Drop, D: Sink + Drop, L: Sink + Drop, T: Sink + Drop>(
-    alloc: Global,
-    config: Config,
-    options: &Options,
-    words: Option<Vec<String>>,
-    history: F,
-    devices: Devices<S, D, L>,
-    text: T,
-) -> Result<Ended<Boxed<S>, Boxed<D>, Boxed<L>, T>, Unopened<F, Boxed<S>, Boxed<D>, Boxed<L>, T>>
-    requires columns { (2 ≤ options.now.columns) × (options.now.columns ≤ 1000) }
-    requires history { (F.feed history).failed ≡ false }
-    requires source { (S.feed devices.source).failed ≡ false }
-    requires display { D.has_failed devices.display ≡ false }
-    requires lines { L.has_failed devices.lines ≡ false }
-    requires text { T.has_failed text ≡ false }
-    ensures edits { IfOk result (EditsBy F.feed
-        (devices_by S.feed D.held D.waits D.has_failed L.held L.waits L.has_failed) T.held
-        T.has_failed config options.now (word_texts words) history devices.source devices.display
-        devices.lines text) }
-    ensures refused { IfErr result (Unopens F.feed config history devices.source devices.display
-        devices.lines text) }
-{
     let helper = helper_of(&config, options, words);
-    let session = match Session::open_boxed(
+    let session = match Session::open(
         alloc,
         config,
         Bindings::new(alloc).unwrap(),
         history,
         helper,
         options.prompt.as_str(),
-        devices,
+        source,
         options.columns,
+        display,
+        lines,
         text,
     ) {
         Ok(session) => session,
         Err(unopened) => return Err(unopened),
     };
-    Ok(session.run_boxed())
+    Ok(session.run())
 }
 
 /// The same over any reader of keys and any writers, which are flushed at the end, and with a
@@ -303,7 +276,11 @@ pub fn play_with<'a, K: Foretold<R>, R: Read + Drop, E: Write + Drop, W: Write +
     ensures refused { IfErr result (UnopensOver ⟦<SliceSource<'a> as Source>⟧.feed config
         old.entry.now keys display lines) }
 {
-    let devices = match Devices::over(alloc, keys, display, lines) {
+    let Devices {
+        source,
+        display,
+        lines,
+    } = match Devices::over(alloc, keys, display, lines) {
         Ok(devices) => devices,
         Err((keys, display, lines)) => return Err(Unopened::new(
             ReadlineError::Memory,
@@ -314,13 +291,15 @@ pub fn play_with<'a, K: Foretold<R>, R: Read + Drop, E: Write + Drop, W: Write +
             VecSink::new(alloc),
         )),
     };
-    let mut played = match edit_boxed::<_, ReadSource<R, K>, _, _, _>(
+    let mut played = match edit_with::<_, Boxed<ReadSource<R, K>>, _, _, _>(
         alloc,
         config,
         options,
         words,
         SliceSource::new(old),
-        devices,
+        source,
+        display,
+        lines,
         VecSink::new(alloc),
     ) {
         Ok(played) => played,

@@ -10,15 +10,15 @@ ghost use Rattle.keyline.specs.SessionEffects.{Saves, ending_after};
 ghost use Rattle.keyline.specs.Opened.{HasGiven, ReadsNext, SetsColours, SetsColumns, desk_of, given_in, history_of, prompt_of, text_sink, with_entry, with_helper};
 ghost use Rattle.keyline.specs.SessionRuns.{BeginsSession, Finishes, LoadRefused, Loaded, Opens, Remains, RunsSession, Unopens, text_to_save};
 
-use crate::boxed::{Boxed, Devices};
-use crate::desk::Desk;
+use crate::boxed::Boxed;
+use crate::desk::{Desk, renderer_over};
 use crate::ending::Ending;
 use crate::held::Held;
 use line_config::{Config, ReadlineError, Sink, Source, VecSink};
 use line_help::{FileHistory, Helper, History};
 use line_keys::{Decides, EventHandler, EventMap};
 use line_record::KillRing;
-use line_screen::{KeyReader, ScreenRenderer};
+use line_screen::KeyReader;
 use std::alloc::Global;
 use std::{fmt, mem};
 
@@ -85,23 +85,6 @@ impl<F, S, D, L, T> Unopened<F, S, D, L, T> {
     }
 }
 
-impl<F, S, D, L, T> Unopened<F, Boxed<S>, Boxed<D>, Boxed<L>, T> {
-    /// The same with the devices out of their boxes.
-    #[inline(never)]
-    pub(crate) fn unboxed(self) -> Unopened<F, S, D, L, T>
-        ensures { result ≡ self }
-    {
-        Unopened {
-            why: self.why,
-            history: self.history,
-            source: self.source.into_inner(),
-            display: self.display.into_inner(),
-            lines: self.lines.into_inner(),
-            text: self.text,
-        }
-    }
-}
-
 /// Shown as the reason.
 impl<F, S, D, L, T> fmt::Debug for Unopened<F, S, D, L, T> {
     fn fmt<W: fmt::Write>(&self, f: &mut fmt::Formatter<W>) -> fmt::Result {
@@ -136,24 +119,6 @@ pub struct Ended<S, D, L, T> {
     pub lines: L,
     /// The sink of the history's text.
     pub text: T,
-}
-
-impl<S, D, L, T> Ended<Boxed<S>, Boxed<D>, Boxed<L>, T> {
-    /// The same with the devices out of their boxes.
-    #[inline(never)]
-    pub(crate) fn unboxed(self) -> Ended<S, D, L, T>
-        ensures { result ≡ self }
-    {
-        Ended {
-            ending: self.ending,
-            history: self.history,
-            source: self.source.into_inner(),
-            ahead: self.ahead,
-            display: self.display.into_inner(),
-            lines: self.lines.into_inner(),
-            text: self.text,
-        }
-    }
 }
 
 impl<S, D, L> Ended<S, D, L, VecSink> {
@@ -278,71 +243,28 @@ where
         ensures given { IfOk result (HasGiven config bindings prompt.now text) }
         ensures refused { IfErr result (Unopens F.feed config history source display lines text) }
     {
-        let devices = match Devices::new(alloc, source, display, lines) {
-            Ok(devices) => devices,
-            Err((source, display, lines)) => return Err(Unopened::new(
-                ReadlineError::Memory,
-                history,
-                source,
-                display,
-                lines,
-                text,
-            )),
-        };
-        match Session::open_boxed(
-            alloc, config, bindings, history, helper, prompt, devices, columns, text,
-        ) {
-            Ok(session) => Ok(session),
-            Err(unopened) => Err(unopened.unboxed()),
-        }
-    }
-
-    /// The same with devices that are in their boxes.
-    #[inline(never)]
-    pub(crate) fn open_boxed<F: Source + Drop>(
-        alloc: Global,
-        config: Config,
-        bindings: EventMap<B>,
-        history: F,
-        helper: Option<H>,
-        prompt: &str,
-        devices: Devices<S, D, L>,
-        columns: u16,
-        text: T,
-    ) -> Result<Self, Unopened<F, Boxed<S>, Boxed<D>, Boxed<L>, T>>
-        requires columns { (2 ≤ columns) × (columns ≤ 1000) }
-        requires history { (F.feed history).failed ≡ false }
-        requires source { (S.feed devices.source).failed ≡ false }
-        requires display { D.has_failed devices.display ≡ false }
-        requires lines { L.has_failed devices.lines ≡ false }
-        requires text { T.has_failed text ≡ false }
-        ensures desk { IfOk result (λ s. Opens F.feed S.feed config history helper devices.source
-            columns devices.display devices.lines (desk_of s)) }
-        ensures given { IfOk result (HasGiven config bindings prompt.now text) }
-        ensures refused { IfErr result (Unopens F.feed config history devices.source
-            devices.display devices.lines text) }
-    {
         let mut history = history;
-        let Devices {
-            source,
-            display,
-            lines,
-        } = devices;
+        let display = match Boxed::new(alloc, display) {
+            Ok(display) => display,
+            Err(display) => {
+                let why = ReadlineError::Memory;
+                return Err(Unopened::new(why, history, source, display, lines, text));
+            }
+        };
         let Beginning {
             prompt,
             ring,
             history: loaded,
         } = match begin(alloc, &config, prompt, &mut history) {
             Ok(beginning) => beginning,
-            Err(why) => return Err(Unopened::new(why, history, source, display, lines, text)),
+            Err(why) => {
+                let display = display.into_inner();
+                return Err(Unopened::new(why, history, source, display, lines, text));
+            }
         };
-        let mode = config.grapheme_cluster_mode();
-        let mut out = ScreenRenderer::new(display, columns, mode, config.bell_style());
-        out.set_colours(config.draw_colours());
-        out.set_tab_stop(config.drawn_tab_stop());
         let desk = Desk {
             reader: KeyReader::new(source, config.edit_mode()),
-            out: Held::new(out),
+            out: Held::new(renderer_over(&config, columns, display)),
             helper,
             history: loaded,
             ring,
@@ -431,14 +353,6 @@ where
     pub fn finish(self, why: ReadlineError) -> Ended<S, D, L, T>
         ensures { Finishes S.feed T.held T.has_failed (desk_of self) (text_sink self) why result }
     {
-        self.finish_boxed(why).unboxed()
-    }
-
-    /// The same with the devices in their boxes.
-    #[inline(never)]
-    fn finish_boxed(self, why: ReadlineError) -> Ended<Boxed<S>, Boxed<D>, Boxed<L>, T>
-        ensures { Finishes S.feed T.held T.has_failed (desk_of self) (text_sink self) why result }
-    {
         let Session { desk, mut text, .. } = self;
         let Desk {
             reader,
@@ -455,7 +369,7 @@ where
             history,
             source,
             ahead,
-            display: out.into_inner().into_sink(),
+            display: out.into_inner().into_sink().into_inner(),
             lines,
             text,
         }
@@ -472,26 +386,13 @@ where
             RunsSession known T.held T.has_failed (given_in B.decides helps (prompt_of self) self)
             (desk_of self) (text_sink self) result }
     {
-        self.run_boxed().unboxed()
-    }
-
-    /// The same with the devices in their boxes.
-    #[inline(never)]
-    pub(crate) fn run_boxed(self) -> Ended<Boxed<S>, Boxed<D>, Boxed<L>, T>
-        ensures { let known = devices_by S.feed D.held D.waits D.has_failed L.held L.waits
-            L.has_failed in
-            let helps = helper_from_hooks H.hint_of H.verdict_of H.completion_of H.update_of
-            H.marks in
-            RunsSession known T.held T.has_failed (given_in B.decides helps (prompt_of self) self)
-            (desk_of self) (text_sink self) result }
-    {
         let mut session = self;
         let empty = String::new(session.alloc);
         let prompt = mem::replace(&mut session.prompt, empty);
         loop {
             match session.read_line(prompt.as_str()) {
                 Ok(_) => {}
-                Err(why) => return session.finish_boxed(why),
+                Err(why) => return session.finish(why),
             }
         }
     }

@@ -8,11 +8,11 @@ use Rattle.line_help.specs.History.{Filed}
 use Rattle.line_keys.specs.declared.events.Event.{Event}
 use Rattle.line_record.specs.Ring.{Ring}
 use Rattle.keyline.specs.SessionRuns.{history_loaded_from}
-use Rattle.keyline.specs.Program.{config_of}
+use Rattle.keyline.specs.Program.{config_of, given_with}
 use Rattle.keyline.specs.Sessions.{SessionState, state_over}
 use Rattle.keyline.specs.declared.options.Options.{Options}
 use Rattle.keyline_c.specs.Asks.{AreAsked, custom_by_asking}
-use Rattle.keyline_c.specs.Lines.{ReadsKeys, ReadsLine, given_with, last_of}
+use Rattle.keyline_c.specs.Lines.{ReadsKeys, ReadsLine, last_of}
 use Rattle.keyline_c.specs.Meant.{AreMeant, AreValid, settings_by, whole, words_in}
 use Rattle.keyline_c.specs.Slots.{IsRingOf}
 use Rattle.keyline_c.specs.declared.asking.Asking.{Asking}

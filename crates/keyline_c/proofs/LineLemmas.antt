@@ -4,7 +4,6 @@ use Rattle.std.specs.List.{flat_map}
 use Rattle.std.specs.Prelude.{⊤, IsErrAnd, String, if◌then◌else◌, string_bytes}
 use Rattle.std.proofs.lemmas.Grind.{flat_map-append}
 use Rattle.std.specs.Global.{Global}
-use Rattle.line_config.specs.Config.{drawn_tab_stop}
 use Rattle.line_config.specs.Feed.{Feed}
 use Rattle.line_config.specs.declared.config.Config.{Config}
 use Rattle.line_config.specs.declared.device.Last.{Last}
@@ -29,20 +28,21 @@ use Rattle.line_keys.specs.PhraseScripts.{Input}
 use Rattle.line_buffer.specs.Line.{Line}
 use Rattle.line_buffer.specs.declared.layout.Layout.{Layout}
 use Rattle.line_record.specs.Ring.{Ring}
-use Rattle.line_screen.specs.ScreenCalls.{Screen, canvas_of, screen_of, sink_of, ruler_of}
+use Rattle.line_screen.specs.ScreenCalls.{canvas_of, screen_of, sink_of, ruler_of}
 use Rattle.line_screen.specs.Reader.{coming_in, bytes_left_in}
 use Rattle.line_screen.proofs.Outcomes.{unread_in}
 use Rattle.line_screen.specs.Reading.{count_of_kept}
 use Rattle.line_screen.specs.Drawing.{break_if}
 use Rattle.line_screen.specs.declared.reading.reader.KeyReader.{KeyReader}
 use Rattle.line_screen.specs.declared.renderer.ScreenRenderer.{ScreenRenderer}
-use Rattle.keyline.specs.Program.{EditHelper, edit_helping, helper_of}
+use Rattle.keyline.specs.Program.{EditHelper, edit_helping, given_with, helper_of}
 use Rattle.keyline.specs.declared.options.Options.{Options}
 use Rattle.keyline.specs.Events.{Breaks, SessionEvent, asks_events, bytes_drawn, end_events, line_course, line_play_in}
 use Rattle.keyline.specs.SessionEffects.{EndIsDrawn, breaks}
-use Rattle.keyline.specs.Sessions.{coming_from, Given, SessionState, given_of, history_after, setting_in, state_over}
+use Rattle.keyline.specs.Sessions.{coming_from, Given, SessionState, given_of, history_after, screen_by, setting_in, state_over}
 use Rattle.keyline.proofs.EventLemmas.{Whole, line_went, went_not}
-use Rattle.keyline_c.specs.Lines.{IsWant, LeftBy, ReadsLine, given_with}
+use Rattle.keyline.proofs.OpenedLemmas.{given_as}
+use Rattle.keyline_c.specs.Lines.{IsWant, LeftBy, ReadsLine}
 use Rattle.keyline_c.specs.declared.line.Left.{Left}
 
 wanting : (failed : Bool) (hook : Type 0) (e : ReadlineError) → reason_of failed hook e → IsWant e
@@ -137,19 +137,16 @@ pub line_read : {K T : Type 0} (held waits : VecSink → List ℕ) (failed : Vec
     → Runs (canvas_of held waits failed) edit_helping custom prompt helper history.kept.entries config old ring query feed ran ring' query' feed' → IsTrue feed'.told
     → EndIsDrawn held failed true (outcome_of ran) (sink_of ran.out) display history history' → held (sink_of old) ≡ []
     → config.auto_add_history ≡ true → custom ≡ bound_to → prompt ≡ string_bytes options.prompt → helper ≡ helper_of config options words
-    → screen_of old ≡ record { columns = options.columns; mode = config.grapheme_cluster_mode; bell = config.bell_style; colours = config.draw_colours; tab = drawn_tab_stop config }
+    → screen_of old ≡ screen_by config options.columns
     → feed.coming ≡ coming_from options.mode keys last → feed.bound ≡ length keys
     → query ≡ [] → left.outcome ≡ ran.outcome → left.open_line ≡ ran.open_line → left.display ≡ display → left.ring ≡ ring' → left.history ≡ history'
     → left.rest ≡ length (bytes_left_in F reader) → coming_in F reader ≡ feed'.coming
     → ReadsLine held (given_with config bound_to options words) (state_over ring [] history options.mode keys last) (length keys) left
 line_read held waits failed config options words keys last custom bound_to prompt helper old display ring ring' query query' history history' feed feed' ran F reader left runs told ends fresh adds custom_is prompt_is helper_is screen_is coming_is bound_is none a open_is b d e rest_is left_is =
     let read = reads_line held waits failed edit_helping config custom prompt helper old display ring ring' query query' history history' feed feed' ran F reader left ends fresh adds a open_is b d e rest_is left_is runs told in
-    let columns : Screen = record { columns = options.columns; mode = config.grapheme_cluster_mode; bell = config.bell_style; colours = config.draw_colours; tab = drawn_tab_stop config } in
     let given_is : given_of config custom prompt (screen_of old) (edit_helping helper) ≡ given_with config bound_to options words =
-    ap (λ (x : Screen). given_of config custom prompt x (edit_helping helper)) screen_is
-    ∙ (ap (λ (x : Custom). given_of config x prompt columns (edit_helping helper)) custom_is
-    ∙ (ap (λ (x : List ℕ). given_of config bound_to x columns (edit_helping helper)) prompt_is
-    ∙ ap (λ (x : Option EditHelper). given_of config bound_to (string_bytes options.prompt) columns (edit_helping x)) helper_is)) in
+    given_as config config bound_to custom (string_bytes options.prompt) prompt (screen_by config options.columns) (screen_of old) (helper_of config options words) helper
+    refl custom_is prompt_is screen_is helper_is in
     let on : List ℕ → Given → Coming → ℕ → Type 0 = λ query g c n. ReadsLine held g (record { ring = ring; query = query; history = history; coming = c }) n left in
     let at : Given → Coming → ℕ → Type 0 = on query in
     subst (λ query. on query (given_with config bound_to options words) (coming_from options.mode keys last) (length keys)) none

@@ -1,8 +1,7 @@
 -- A line of the keys so far: its arguments and its result.
-use Rattle.std.specs.Prelude.{◌≡◌, ◌⊎◌, ℕ, ◌<◌, Bool, if◌then◌else◌, List, [], Option, Result, IsErrAnd, length, string_bytes}
+use Rattle.std.specs.Prelude.{◌≡◌, ◌⊎◌, ℕ, ◌<◌, Bool, if◌then◌else◌, List, [], Result, IsErrAnd, length, string_bytes}
 use Rattle.std.specs.List.{flat_map}
 use Rattle.line_buffer.specs.Line.{Line}
-use Rattle.line_config.specs.declared.config.Config.{Config}
 use Rattle.line_config.specs.declared.device.Last.{Last}
 use Rattle.line_config.specs.declared.device.Last.TheVariants.{End, Failed}
 use Rattle.line_config.specs.declared.errors.ReadlineError.{ReadlineError}
@@ -10,13 +9,12 @@ use Rattle.line_config.specs.declared.errors.ReadlineError.TheVariants.{Display,
 use Rattle.line_config.specs.declared.memory.VecSink.{VecSink}
 use Rattle.line_editor.specs.LineRun.{IsOpen}
 use Rattle.line_editor.specs.Values.{Value, first_value}
-use Rattle.line_keys.specs.CustomBindings.{Custom}
 use Rattle.line_keys.specs.Coming.{answer_map, bytes_to_come}
 use Rattle.line_keys.specs.declared.events.Event.{Event}
-use Rattle.keyline.specs.Program.{config_of, edit_helping, helper_of}
+use Rattle.keyline.specs.Program.{config_of, given_with}
 use Rattle.keyline.specs.SessionRuns.{history_loaded_from}
 use Rattle.keyline.specs.Events.{Course, bytes_drawn, line_course, line_play_in}
-use Rattle.keyline.specs.Sessions.{Given, SessionState, given_of, screen_by, setting_in, state_over}
+use Rattle.keyline.specs.Sessions.{Given, SessionState, setting_in, state_over}
 use Rattle.keyline.specs.declared.options.Options.{Options}
 use Rattle.keyline_c.specs.Asks.{AreAsked, custom_by_asking}
 use Rattle.keyline_c.specs.Meant.{AreMeant, AreValid, settings_by, whole, words_in}
@@ -33,11 +31,6 @@ last_of ended = if ended then End else Failed
 -- memory ran out: for the line, for its display bytes, or for its helper
 abbrev pub IsWant : ReadlineError → Type 0
 IsWant e = (e ≡ Memory) ⊎ ((e ≡ Display) ⊎ (e ≡ Helper))
-
--- what is passed in for a line with these settings, bindings, options and words
-abbrev pub given_with : Config → Custom → Options → Option (List (List ℕ)) → Given
-given_with config custom options words = given_of config custom (string_bytes options.prompt)
-    (screen_by config options.columns) (edit_helping (helper_of config options words))
 
 -- the line as it stands at its end, or where the keys end
 abbrev pub line_at_end : ℕ → Given → SessionState → Line

@@ -2,23 +2,22 @@
 
 ghost use Rattle.std.specs.Prelude.{[], ◌≡◌, ◌≤◌, MatchResult, length, true};
 ghost use Rattle.line_config.specs.Feed.{fresh_feed};
-ghost use Rattle.line_screen.specs.ScreenCalls.{screen_of, sink_of};
 ghost use Rattle.line_screen.specs.Reader.{bytes_left_in};
-ghost use Rattle.keyline.specs.Program.{word_texts};
-ghost use Rattle.keyline.specs.Sessions.{screen_by, state_over};
+ghost use Rattle.keyline.specs.Program.{given_with, word_texts};
+ghost use Rattle.keyline.specs.Sessions.{state_over};
 ghost use Rattle.keyline_c.specs.Asks.{custom_by_asking};
-ghost use Rattle.keyline_c.specs.Lines.{IsWant, ReadsLine, given_with, last_of};
+ghost use Rattle.keyline_c.specs.Lines.{IsWant, ReadsLine, last_of};
 
 use crate::asking::Asking;
 use keyline::{
     Config, FileHistory, Options, ReadlineError, Sink, SliceSource, Source, VecSink, end_line,
-    helper_of,
+    helper_of, renderer_over,
 };
 use line_buffer::LineBuffer;
 use line_editor::{Ran, run};
 use line_keys::EventMap;
 use line_record::KillRing;
-use line_screen::{KeyReader, ScreenRenderer};
+use line_screen::KeyReader;
 use std::alloc::Global;
 
 /// The result of a line.
@@ -45,23 +44,6 @@ fn source_of<'k>(keys: &'k [u8], ended: bool) -> SliceSource<'k>
     } else {
         SliceSource::failing_after(keys)
     }
-}
-
-/// A display in memory, with the options' columns.
-fn screen(alloc: Global, options: &Options, config: &Config) -> ScreenRenderer<VecSink>
-    requires { (2 ≤ options.now.columns) × (options.now.columns ≤ 1000) }
-    ensures empty { ⟦<VecSink as Sink>⟧.held (sink_of result) ≡ [] }
-    ensures screen { screen_of result ≡ screen_by config.now options.now.columns }
-{
-    let mut screen = ScreenRenderer::new(
-        VecSink::new(alloc),
-        options.columns,
-        config.grapheme_cluster_mode(),
-        config.bell_style(),
-    );
-    screen.set_colours(config.draw_colours());
-    screen.set_tab_stop(config.drawn_tab_stop());
-    screen
 }
 
 /// The number of bytes that a reader has left: those of its source, and the one read ahead.
@@ -101,7 +83,7 @@ pub(crate) fn read_line<'k>(
     let mut ring = ring;
     let mut last_query = String::new(alloc);
     let mut reader = KeyReader::new(source_of(keys, ended), options.mode);
-    let out = screen(alloc, options, config);
+    let out = renderer_over(config, options.columns, VecSink::new(alloc));
     let helper = helper_of(config, options, words);
     let prompt = options.prompt.as_str();
     let Ran {

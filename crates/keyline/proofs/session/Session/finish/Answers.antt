@@ -2,7 +2,7 @@
 use Rattle.std.proofs.Common.{ap, ◌∙◌, rules}
 use Rattle.keyline.specs.Endings.{ending_of}
 use Rattle.keyline.proofs.Unread.{unread_at_end}
-use Rattle.keyline.proofs.session.Session.finish_boxed.Goals as goal
+use Rattle.keyline.proofs.session.Session.finish.Goals as goal
 
 pub returns : goal.returns
 returns g c = record {
