@@ -34,6 +34,7 @@ CASES = [
     ("Vi's x there", VI, b"a", ESCAPE + b"0", b"x", (1_000, 10_000)),
     ("M-b and M-f over one word", EMACS, b"a", b"", BACK_WORD + NEXT_WORD, (10_000, 100_000)),
     ("M-b over a word of sentences", EMACS, SENTENCE, b"", BACK_WORD, (40, 400)),
+    ("M-b over a word of Cyrillic", EMACS, "яблоко и груша ".encode(), b"", BACK_WORD, (40, 400)),
     ("Ctrl-W and Ctrl-Y of a path", EMACS, PATH, b"", KILL_WORD + YANK, (1_000, 10_000)),
     ("Home and End of a row behind another", EMACS, b"a", HOME + pasted(b"a\r") + END, HOME + END, (10_000, 100_000)),
     ("a letter typed after Han", EMACS, HAN, b"", b"b", (300, 3_000)),

@@ -183,7 +183,8 @@ pub trait Renderer: Drop {
         ensures { result ≡ (canvas.ruler self.now).measure text.now orig };
 
     /// Where the drawing of a text up to a place ends, computed from a place for which this is
-    /// known, if the text is `plain` or a character apart from those before it is between the two.
+    /// known, if the text is `plain` or a few characters are between the two, each apart from those
+    /// before it.
     fn position_from(
         &self,
         text: &str,
