@@ -43,7 +43,7 @@ MOST_ROWS = 65535
 PRINTABLE = re.compile(r"[ -~]*\Z")
 # The beginning of a drawing over an old one of one row, and of a line's first drawing.
 REDRAWN = b"\r\x1b[J"
-TOKENS = re.compile(rb"(?P<nothing>(\x1b\[m)+)|(?P<text>[ -~\x80-\xff]+)|(?P<plain>\x1b\[[JKH@P]|[\r\n\x07])"
+TOKENS = re.compile(rb"(?P<nothing>(\x1b\[m)+)|(?P<text>[ -~\x80-\xff]+)|(?P<plain>\x1b\[[JKH@P]|[\r\n\x07\x08])"
                     rb"|\x1b\[(?P<by>[1-9][0-9]*)(?P<way>[A-DP])|\x1b\[0(?P<style>(;[0-9]+)+)m")
 
 
@@ -349,8 +349,14 @@ class Display(Rows):
         wide = sum(item[1] for item in items)
         if wide == 0 or col + wide > self.columns:
             self.tell(f"{text!r} has no place")
-        if row < self.top or not self.row(row).keys().isdisjoint(range(col, col + wide)):
-            self.tell(f"{text!r} goes over what stands there")
+        cells = self.row(row)
+        if row < self.top:
+            self.tell(f"{text!r} goes over the lines above")
+        if cells.get(col) is self.INSIDE or cells.get(col + wide) is self.INSIDE:
+            self.tell(f"{text!r} cuts a cluster")
+        for held in [cells, *self.styles[row:row + 1]]:
+            for at in range(col, col + wide):
+                held.pop(at, None)
         for cluster, each in items:
             self.put(row, col, cluster, each, self.pen)
             col += each
@@ -381,6 +387,9 @@ class Display(Rows):
             self.cursor = (row, 0)
             return
         self.stay_inside()
+        if word == b"\x08":
+            self.move(1, b"D")
+            return
         if self.pen and word != b"\x07":
             self.tell(f"{word!r} while the style {self.pen} stands")
         if word == b"\n":

@@ -322,6 +322,18 @@ impl Renderer for CallList {
         self.log.note(call)
     }
 
+    fn write_over(
+        &mut self,
+        letters: &str,
+        old: Position,
+        at: Position,
+        new: Position,
+    ) -> Result<(), ReadlineError> {
+        self.move_cursor(old, at)?;
+        let log = &mut self.log;
+        log.note(format!(in log.alloc; "write over '{letters}' {},{}", new.row, new.col))
+    }
+
     fn move_cursor_at_leftmost(&mut self) -> Result<(), ReadlineError> {
         let log = &mut self.log;
         log.note(format!(in log.alloc; "leftmost"))

@@ -58,7 +58,22 @@ const CHANGES: &str = "
     |: SelfInsert 1 a; SelfInsert 1 +; Undo 1 = a| / - / |
 ";
 
+// Characters written over others, if lines are drawn in part.
+const WRITTEN_OVER: &str = "
+    partial: yes = nothing
+    a|bc: TransposeChars = ba|c / move 0,3 to 0,2; write over 'ba' 0,4
+    abc|: TransposeChars = acb| / move 0,5 to 0,3; write over 'cb' 0,5
+    ab␊c|d: TransposeChars = ab␊dc| / move 1,1 to 1,0; write over 'dc' 1,2
+    ab|␊c: TransposeChars = a␊b|c / draw '> a␊b|c' at 1,1 to 1,2
+    a|é: TransposeChars = éa| / draw '> éa|' at 0,4 to 0,4
+    |ab: TransposeChars = |ab /
+
+    columns: 6 = nothing
+    ab|: TransposeChars = ba| / move 0,4 to 0,2; write over 'ba' 0,4
+    abc|d: TransposeChars = abdc| / draw '> abdc|' at 1,0 to 1,0
+";
+
 #[test]
 fn words_and_rows_changed(rt: HostRuntime) -> Result<(), Fail> {
-    holds(&rt, &[CHANGES])
+    holds(&rt, &[CHANGES, WRITTEN_OVER])
 }

@@ -1,5 +1,6 @@
 -- The count of one byte.
 use Rattle.std.proofs.Common.{◌≡◌, ℕ, ◌+◌, ◌<◌, ◌==◌, not, nat_lt, nat_le, Bool, true, false, List, [], ◌∷◌, ◌++◌, take, drop, Option, Some, None, is_some, encode_utf8, refl, ap, ◌∙◌, append-nil, arith, if◌then◌else◌}
+use Rattle.std.specs.Prelude.{length, slice_range}
 use Rattle.std.specs.List.{flat_map}
 use Rattle.std.proofs.lemmas.Bool.{and_parts, and_from, not-true, lt-ltb, ltb-true}
 use Rattle.std.proofs.lemmas.Bool.Decides.{nat_tests}
@@ -24,8 +25,8 @@ use Rattle.line_editor.specs.declared.way.Way.TheVariants.{AtEnd, Alone, Inside,
 use Rattle.line_editor.specs.LineScripts.{Meets, LineState, turn_start, line_plan, made_from, meet_script, obey_script, phrase_script, played_from, steps_along, turn_script}
 use Rattle.line_editor.specs.Modal.{Modal, is_at_rest}
 use Rattle.line_editor.specs.NextCommand.{line_phrase}
-use Rattle.line_editor.specs.Redraws.{RedrawCalls, full, nothing_asked, move_call, char_call, append_call, erase_call, put_in_short, taken_out_short, fits_in_row, may_type, may_take, may_erase, may_put_in, may_take_out}
-use Rattle.line_editor.specs.Redraws.Redraw.{Drawn, Moved, Typed, Appended, Taken, Erased, PutIn, TakenOut, DrawnFrom, Bared, ToEnd, Beeped, Cleared}
+use Rattle.line_editor.specs.Redraws.{RedrawCalls, full, nothing_asked, move_call, char_call, append_call, erase_call, put_in_short, taken_out_short, fits_in_row, may_type, may_take, may_erase, may_put_in, may_take_out, write_over_call, may_write_over}
+use Rattle.line_editor.specs.Redraws.Redraw.{Drawn, Moved, Typed, Appended, Taken, Erased, PutIn, TakenOut, DrawnFrom, Bared, ToEnd, Beeped, Cleared, Rewritten}
 use Rattle.line_editor.specs.Sights.{Sight, sight, Fits}
 use Rattle.line_editor.specs.EditSteps.{one}
 use Rattle.line_editor.specs.Values.{shown_marks, Value, Setting, Effect, EditStep, help_steps, hint_reply, no_effect}
@@ -91,6 +92,12 @@ one_tells s own l x (Draws v m (TakenOut prompt count text at)) h fits = by_test
     by_test true e = record { info_is = not-true l.has_info (and_parts (not l.has_info) _ e).0; given_is = h.given_is ∙ fits.0 }
     by_test false e = record { info_is = refl; given_is = refl }
 one_tells s own l x (Draws v m (DrawnFrom prompt from text at info)) h fits = record { info_is = refl; given_is = refl }
+one_tells s own l x (Draws v m (Rewritten prompt from upto text at)) h fits = by_test (may_write_over (ruler_of s) l ((ruler_of s).measure (take from text) l.prompt_size) (length (slice_range text from upto))) refl
+  where
+    by_test : (b : Bool) → may_write_over (ruler_of s) l ((ruler_of s).measure (take from text) l.prompt_size) (length (slice_range text from upto)) ≡ b
+        → TellsSight (if b then write_over_call l (slice_range text from upto) ((ruler_of s).measure (take from text) l.prompt_size) ((ruler_of s).measure (take at text) l.prompt_size) else full (ruler_of s) (shown_marks v m) l prompt true text at None).layout (sight x (Draws v m (Rewritten prompt from upto text at)))
+    by_test true e = record { info_is = not-true l.has_info (and_parts (not l.has_info) _ e).0; given_is = h.given_is ∙ fits.0 }
+    by_test false e = record { info_is = refl; given_is = refl }
 one_tells s own l x (Draws v m (Bared prompt text at)) h fits = by_test l.default_prompt (h.given_is ∙ fits)
   where
     by_test : (b : Bool) → b ≡ true → TellsSight (if b then nothing_asked l else full (ruler_of s) (shown_marks v m) l prompt true text at None).layout x

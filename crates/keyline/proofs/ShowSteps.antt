@@ -1,18 +1,20 @@
 -- A step leads from what is shown before it to what is to be shown after it.
-use Rattle.std.proofs.Common.{◌≡◌, ◌≢◌, ℕ, ◌+◌, ◌==◌, not, ◌<◌, ◌≤◌, inl, inr, nat_lt, nat_le, Bool, true, false, List, [], ◌∷◌, ◌++◌, take, drop, take_all, ap₂, length, length-append, map, Option, Some, None, is_some, encode_utf8, refl, sym, ap, ◌∙◌, subst, append_assoc, append-nil, arith, if◌then◌else◌}
+use Rattle.std.proofs.Common.{◌≡◌, ◌≢◌, ℕ, ◌+◌, ◌-◌, ◌==◌, not, ◌<◌, ◌≤◌, inl, inr, nat_lt, nat_le, Bool, true, false, List, [], ◌∷◌, ◌++◌, take, drop, take_all, ap₂, length, length-append, map, Option, Some, None, is_some, encode_utf8, refl, sym, ap, ◌∙◌, subst, append_assoc, append-nil, arith, if◌then◌else◌}
+use Rattle.std.specs.Prelude.{slice_range}
 use Rattle.std.specs.List.{filter, flat_map}
-use Rattle.std.proofs.lemmas.Bool.{and_parts, not-true, eqb-true, lt-ltb, ltb-true}
+use Rattle.std.proofs.lemmas.Bool.{and_from, and_parts, not-true, eqb-true, lt-ltb, ltb-true}
 use Rattle.std.proofs.lemmas.Bool.Decides.{nat_tests}
+use Rattle.std.proofs.lemmas.List.Folds.{list_all-append}
 use Rattle.std.proofs.lemmas.Str.{encode_ascii}
 use Rattle.line_buffer.specs.Cells.{same_cell, origin}
-use Rattle.line_buffer.specs.Printable.{is_printable, is_plain, at_simple_end}
+use Rattle.line_buffer.specs.Printable.{is_printable, is_plain, is_plain_byte, at_simple_end}
 use Rattle.line_buffer.specs.declared.layout.Layout.{Layout}
 use Rattle.line_buffer.specs.declared.layout.Position.{Position}
 use Rattle.line_editor.specs.RenderCalls.{Call, Marks}
-use Rattle.line_editor.specs.RenderCalls.Call.{Draw, Move, Write, Beep, ClearScreen, MoveAndClearToEol, InsertChar, MoveAndDelete, Append, DrawRest, Help}
-use Rattle.line_editor.specs.Redraws.{RedrawCalls, info_text, fresh, layout_of, full, nothing_asked, move_call, column_on, column_back, cell_on, char_call, append_call, erase_call, put_in_short, taken_out_short, rest_call, fits_in_row, may_type, may_take, may_erase, may_put_in, may_take_out}
-use Rattle.line_editor.specs.Redraws.Redraw.{Drawn, Moved, Typed, Appended, Taken, Erased, PutIn, TakenOut, DrawnFrom, Bared, ToEnd, Beeped, Cleared}
-use Rattle.line_editor.specs.Sights.{Sight, PartSpans, SameStyles, drawn_spans, sight_with, sight_as, no_sight, sight, ended_sight, TypedFits, AppendedFits, TakenFits, ErasedFits, PutInFits, TakenOutFits, DrawnFromFits, Fits}
+use Rattle.line_editor.specs.RenderCalls.Call.{Draw, Move, Write, Beep, ClearScreen, MoveAndClearToEol, InsertChar, MoveAndDelete, Append, DrawRest, Help, WriteOver}
+use Rattle.line_editor.specs.Redraws.{RedrawCalls, info_text, fresh, layout_of, full, nothing_asked, move_call, column_on, column_back, cell_on, char_call, append_call, erase_call, put_in_short, taken_out_short, rest_call, fits_in_row, may_type, may_take, may_erase, may_put_in, may_take_out, write_over_call, may_write_over}
+use Rattle.line_editor.specs.Redraws.Redraw.{Drawn, Moved, Typed, Appended, Taken, Erased, PutIn, TakenOut, DrawnFrom, Bared, ToEnd, Beeped, Cleared, Rewritten}
+use Rattle.line_editor.specs.Sights.{Sight, PartSpans, SameStyles, drawn_spans, sight_with, sight_as, no_sight, sight, ended_sight, TypedFits, AppendedFits, TakenFits, ErasedFits, PutInFits, TakenOutFits, DrawnFromFits, Fits, RewrittenFits}
 use Rattle.line_editor.specs.EditSteps.{one}
 use Rattle.line_editor.specs.Values.{shown_marks, EditStep}
 use Rattle.line_editor.specs.Values.EditStep.{Draws, Helped, Edits, TakesBack, Takes}
@@ -25,9 +27,10 @@ use Rattle.line_screen.specs.Laws.{widths, TellsView}
 use Rattle.line_screen.specs.Measure.{measure_of, position_within_limit}
 use Rattle.line_screen.proofs.Fitting.{items_fit, fit_append, after_inside}
 use Rattle.line_screen.proofs.LawLemmas.{calls_lead, place_is_free, measures_go_on}
-use Rattle.line_screen.proofs.Leading.{line_cursor, line_finish, over_again}
+use Rattle.line_screen.proofs.Items.{all_plain}
+use Rattle.line_screen.proofs.Leading.{line_cursor, line_end, line_finish, plain_parts, over_again}
 use Rattle.line_screen.proofs.ListLemmas.{filter_none, list_all_true}
-use Rattle.line_screen.proofs.ShortLemmas.{typing_leads, appending_leads, killing_leads, erasing_leads, putting_in_leads, taking_out_leads, drawing_rest_leads}
+use Rattle.line_screen.proofs.ShortLemmas.{typing_leads, appending_leads, killing_leads, erasing_leads, putting_in_leads, taking_out_leads, drawing_rest_leads, part_above, writing_over_leads}
 use Rattle.std.proofs.lemmas.List.{take_at, drop_at}
 use Rattle.keyline.specs.Shows.{picture, place_in, view_in, DisplayHolds, Low, LowStep, top_by, above_by}
 
@@ -521,6 +524,71 @@ module _ (s : Screen) (low : 2 ≤ s.columns) (high : s.columns ≤ 1000) where
         given_is = refl;
       }
 
+  -- ---- characters replaced by as many
+
+  rewritten_is : (m : Option Marks) (x : Sight) (prompt : List ℕ) (from upto : ℕ) (text : List ℕ) (at : ℕ) → (t : RewrittenFits x prompt from upto text at) → SameStyles x m prompt text at → x.info ≡ None
+      → sight_as m prompt text at None ≡ bare_sight x.spans x.prompt (t.before ++ (t.letters ++ t.rest)) at
+  rewritten_is m x prompt from upto text at t k none =
+      ap (λ spans. bare_sight spans prompt text at) (k.same none) ∙ ap (λ p. bare_sight x.spans p text at) t.prompt_is ∙ ap (λ p. bare_sight x.spans x.prompt p at) t.text_is
+
+  pub rewritten_letters : (x : Sight) (prompt : List ℕ) (from upto : ℕ) (text : List ℕ) (at : ℕ) → (t : RewrittenFits x prompt from upto text at) → slice_range text from upto ≡ t.letters
+  rewritten_letters x prompt from upto text at t =
+      let first = t.from_is in
+      let last = t.upto_is in
+      let count : upto - from ≡ length t.letters = omega arith in
+      ap₂ take count (ap₂ drop t.from_is t.text_is ∙ drop_at t.before (t.letters ++ t.rest) (length t.before) refl) ∙ take_at t.letters t.rest (length t.letters) refl
+
+  rewritten_if : (bytes : List ℕ) (over : List Placed) (top : ℕ) (m : Option Marks) (l : Layout) (x : Sight) (prompt : List ℕ) (from upto : ℕ) (text : List ℕ) (at : ℕ) (b : Bool) → DisplayHolds s bytes over top l x
+      → x.given ≡ true → RewrittenFits x prompt from upto text at → SameStyles x m prompt text at → Low s (sight_as m prompt text at None)
+      → (let cell = measure_of s.mode s.tab s.columns (take from text) l.prompt_size in let letters = slice_range text from upto in may_write_over (ruler_of s) l cell (length letters) ≡ b
+      → (let a = if b then write_over_call l letters cell (measure_of s.mode s.tab s.columns (take at text) l.prompt_size) else full (ruler_of s) m l prompt true text at None in
+      DisplayHolds s (bytes ++ flat_map (bytes_of s) a.calls) over top a.layout (sight_as m prompt text at None)))
+  rewritten_if bytes over top m l x prompt from upto text at false h given t k rows e = drawn_holds bytes over top m l x prompt true text at None h.good h.cursor rows
+  rewritten_if bytes over top m l x prompt from upto text at true h given t k rows e =
+      let w = view_in s top x in
+      let measure = measure_of s.mode s.tab s.columns in
+      let cell = measure (take from text) l.prompt_size in
+      let cursor = measure (take at text) l.prompt_size in
+      let free = (and_parts (not l.has_info) _ e).0 in
+      let none = nothing_after bytes over top l x h free in
+      let tail = t.letters ++ t.rest in
+      let y = bare_sight x.spans x.prompt (t.before ++ tail) at in
+      let same = rewritten_is m x prompt from upto text at t k none in
+      let low_y : Low s y = subst (Low s) same rows in
+      -- the cells of the letters and of the cursor
+      let cursor_is : cursor ≡ cursor_of s.columns (widths s) (picture y) = ap₂ measure (ap (take at) t.text_is) h.prompt_size ∙ (measures_go_on s some (picture y)).0 low_y.cursor in
+      let parts = plain_parts s.columns (widths s) (picture x) t.before (t.gone ++ t.rest) t.whole t.plain in
+      let rest_plain = (and_parts (is_plain t.gone) (is_plain t.rest) (sym (list_all-append is_plain_byte t.gone t.rest) ∙ parts.1)).1 in
+      let tail_plain : is_plain tail ≡ true = list_all-append is_plain_byte t.letters t.rest ∙ and_from (is_plain t.letters) (is_plain t.rest) (all_plain t.letters t.printable) rest_plain in
+      let start = with_text w.shown t.before (length t.before) in
+      let begins : cursor_of s.columns (widths s) start ≡ line_end s.columns (widths s) w.shown t.before = line_cursor s.columns (widths s) start refl in
+      let above_end = part_above s.columns (widths s) w.shown t.before tail at parts.0 tail_plain in
+      let row = ap (λ p. p.row) begins in
+      let fewer = low_y.finish in
+      let first : take from text ≡ take (length t.before) t.before =
+      ap₂ take t.from_is t.text_is ∙ take_at t.before tail (length t.before) refl ∙ sym (take_all (length t.before) t.before (omega arith)) in
+      let cell_is : cell ≡ cursor_of s.columns (widths s) start = ap₂ measure first h.prompt_size ∙ (measures_go_on s some start).0 (omega arith) in
+      let letters_are = rewritten_letters x prompt from upto text at t in
+      let inside : Inside s.columns cursor = subst (Inside s.columns) (sym cursor_is) (inside_cursor y low_y) in
+      let there : View = record { shown = picture y; top = top; place = cursor } in
+      let leads = writing_over_leads s low high l w t.before t.gone t.letters t.rest at cell cursor (tells bytes over top l x h) (no_styles_in x k.unstyled) t.plain t.whole t.as_many t.gone_printable t.printable cell_is
+      (subst (λ xs. may_write_over (ruler_of s) l cell (length xs) ≡ true) letters_are e) inside (inside_finish y low_y).row in
+      let call : Position → Call = λ p. WriteOver t.letters p cell cursor in
+      let made = one_led bytes over w there (call w.place) h.good leads.0 refl (λ e. cc) in
+      let new = bytes ++ flat_map (bytes_of s) (call l.cursor ∷ []) in
+      let bytes_are : bytes ++ flat_map (bytes_of s) (call w.place ∷ []) ≡ new = ap (λ p. bytes ++ flat_map (bytes_of s) (call p ∷ [])) (sym h.cursor) in
+      let after : List ℕ → RedrawCalls = λ xs. write_over_call l xs cell cursor in
+      let done : DisplayHolds s new over top (after t.letters).layout y = record {
+        good = subst (λ p. Good s.columns (widths s) new over (record { shown = picture y; top = top; place = p })) cursor_is (subst (λ b. Good s.columns (widths s) b over there) bytes_are made);
+        cursor = cursor_is;
+        finish = h.finish ∙ sym leads.1;
+        prompt_size = h.prompt_size;
+        info_is = not-true l.has_info free;
+        given_is = h.given_is ∙ given;
+      } in
+      subst (λ xs. DisplayHolds s (bytes ++ flat_map (bytes_of s) (after xs).calls) over top (after xs).layout (sight_as m prompt text at None)) (sym letters_are)
+      (subst (DisplayHolds s new over top (after t.letters).layout) (sym same) done)
+
   -- ---- no call, also if the session's own prompt stands
 
   still_holds : (bytes : List ℕ) (over : List Placed) (top : ℕ) (l : Layout) (x : Sight) → DisplayHolds s bytes over top l x → DisplayHolds s (bytes ++ []) over top l x
@@ -563,6 +631,8 @@ module _ (s : Screen) (low : 2 ≤ s.columns) (high : s.columns ≤ 1000) where
   step own bytes over top l x (Draws v m (TakenOut prompt count text at)) h fits rows =
       taken_out_if bytes over top (shown_marks v m) l x prompt count text at (may_take_out (ruler_of s) l (measure_of s.mode s.tab s.columns (take at text) l.prompt_size) count (drop at text)) h fits.0 fits.2 fits.3 rows refl
   step own bytes over top l x (Draws v m (DrawnFrom prompt from text at info)) h fits rows = drawn_from_holds bytes over top (shown_marks v m) l x prompt from text at info h fits.2 rows
+  step own bytes over top l x (Draws v m (Rewritten prompt from upto text at)) h fits rows =
+      rewritten_if bytes over top (shown_marks v m) l x prompt from upto text at (may_write_over (ruler_of s) l (measure_of s.mode s.tab s.columns (take from text) l.prompt_size) (length (slice_range text from upto))) h fits.0 fits.2 fits.3 rows refl
   step own bytes over top l x (Draws v m (Bared prompt text at)) h fits rows = bared_if bytes over top (shown_marks v m) l x prompt text at l.default_prompt h (h.given_is ∙ fits)
   step own bytes over top l x (Draws v m ToEnd) h fits rows = end_if bytes over top l x (same_cell l.cursor l.end) h (record { finish = rows.finish; cursor = rows.cursor }) refl
   step own bytes over top l x (Draws v m Beeped) h fits rows = same_holds bytes over top l x Beep h refl (λ e. cc)

@@ -1,6 +1,6 @@
 -- From the last whole drawing on, the bytes of a line's steps show by themselves what all of them show.
 use Rattle.std.proofs.Common.{◌≡◌, ◌⊎◌, inl, inr, ℕ, zero, suc, ◌+◌, ◌-◌, ◌/◌, ◌%◌, ◌<◌, ◌≤◌, ◌==◌, nat_lt, nat_le, Bool, true, false, not, ◌&&◌, ◌||◌, List, [], ◌∷◌, ◌++◌, take, drop, decimal, Option, None, Some, refl, sym, ap, ◌∙◌, subst, append_assoc, append-nil, arith, true≢false, if◌then◌else◌}
-use Rattle.std.specs.Prelude.{⊤, codes, encode_utf8}
+use Rattle.std.specs.Prelude.{⊤, codes, encode_utf8, length, replicate, slice_range}
 use Rattle.std.specs.Fmt.{digits, digit_glyph, digits_onto}
 use Rattle.std.specs.List.{flat_map, list_all}
 use Rattle.std.specs.Option.{option_or}
@@ -16,9 +16,9 @@ use Rattle.line_buffer.specs.declared.layout.TabStops.{TabStops}
 use Rattle.line_config.specs.declared.settings.BellStyle.{BellStyle}
 use Rattle.line_config.specs.declared.settings.BellStyle.TheVariants as Bell
 use Rattle.line_editor.specs.RenderCalls.{Marks, Ruler}
-use Rattle.line_editor.specs.Redraws.{info_text, fresh, full, nothing_asked, move_call, char_call, append_call, erase_call, put_in_short, taken_out_short, rest_call, layout_of, cell_on, column_back, may_type, may_take, may_erase, may_put_in, may_take_out}
-use Rattle.line_editor.specs.Redraws.Redraw.{Drawn, Moved, Typed, Appended, Taken, Erased, PutIn, TakenOut, DrawnFrom, Bared, ToEnd, Beeped, Cleared}
-use Rattle.line_editor.specs.Sights.{Sight, sight_with, sight_as, no_sight, sight, sight_all, spans_by, drawn_spans, Fits, FitsAll, TypedFits, PutInFits}
+use Rattle.line_editor.specs.Redraws.{info_text, fresh, full, nothing_asked, move_call, char_call, append_call, erase_call, put_in_short, taken_out_short, rest_call, layout_of, cell_on, column_back, may_type, may_take, may_erase, may_put_in, may_take_out, write_over_call, may_write_over}
+use Rattle.line_editor.specs.Redraws.Redraw.{Drawn, Moved, Typed, Appended, Taken, Erased, PutIn, TakenOut, DrawnFrom, Bared, ToEnd, Beeped, Cleared, Rewritten}
+use Rattle.line_editor.specs.Sights.{Sight, sight_with, sight_as, no_sight, sight, sight_all, spans_by, drawn_spans, Fits, FitsAll, TypedFits, PutInFits, RewrittenFits}
 use Rattle.line_editor.specs.EditSteps.{one}
 use Rattle.line_editor.specs.Values.{EditStep, Value, shown_marks}
 use Rattle.line_editor.specs.Values.EditStep.{Draws, Helped, Edits, TakesBack, Takes}
@@ -26,8 +26,8 @@ use Rattle.line_screen.specs.ScreenCalls.{Screen, bell_bytes, bytes_of, ruler_of
 use Rattle.line_screen.specs.Chain.{Good, empty_view}
 use Rattle.line_screen.specs.Colours.{AreStyles, PaintedItem, Styles, all_unpainted, is_style, bytes_of_all_painted, painted_drawing, bytes_of_painted, bytes_of_painted_texts, painted_text, shaded_break, style_bytes, items_without_style}
 use Rattle.line_screen.specs.Colours.PaintedItem.{Bare as Plain, Begins, Shaded, Fenced, Padded}
-use Rattle.line_screen.specs.Display.{Placed, is_parameter, is_text}
-use Rattle.line_screen.specs.Drawing.{DrawnItem, Widths, blanks, text_items, no_style, break_if, break_unless, cluster_in_fence, fitted_col, bytes_of_item, bytes_of_items, col_after_one, col_after, control_sequence, erase_to_end, erase_to_row_end, in_fence, open_cell, take_cells_out, row_break, row_move, col_move, move_bytes, left_col, pushed_on, insertion_bytes, pulled_back, deletion_bytes, place_after_insertion, place_after_deletion, shown_text, drawing}
+use Rattle.line_screen.specs.Display.{Placed, is_parameter, is_text, right}
+use Rattle.line_screen.specs.Drawing.{DrawnItem, Widths, blanks, text_items, no_style, break_if, break_unless, cluster_in_fence, fitted_col, bytes_of_item, bytes_of_items, col_after_one, col_after, control_sequence, erase_to_end, erase_to_row_end, in_fence, open_cell, take_cells_out, row_break, row_move, col_move, move_bytes, left_col, pushed_on, insertion_bytes, pulled_back, deletion_bytes, place_after_insertion, place_after_deletion, shown_text, drawing, is_step_back, short_move, writing_bytes}
 use Rattle.line_screen.specs.Drawing.DrawnItem.{NewRow, Letter, Cluster, Tab}
 use Rattle.line_screen.specs.Laws.{widths}
 use Rattle.line_screen.specs.Measure.{in_row}
@@ -38,7 +38,7 @@ use Rattle.line_screen.proofs.StyleLemmas.{styles_are}
 use Rattle.line_screen.proofs.StyledTextLemmas.{text_painted}
 use Rattle.keyline.specs.Shows.{DisplayHolds, Low, LowStep, LowAll, bytes_for, calls_by_screen}
 use Rattle.keyline.proofs.ShowCourse.{flat_both}
-use Rattle.keyline.proofs.ShowSteps.{drawn_holds, fresh_holds, step}
+use Rattle.keyline.proofs.ShowSteps.{drawn_holds, fresh_holds, rewritten_letters, step}
 use Rattle.keyline_c.specs.Laws.{drawing_start, begins_drawing, last_drawing}
 
 -- ---- bytes in which no drawing begins: each CR is before an LF
@@ -198,6 +198,21 @@ calm_cols old new = calm_if (nat_lt new old) (control_sequence (old - new) 0x44)
 calm_move : (old new : Position) → calm (move_bytes old new) ≡ true
 calm_move old new = calm_both (row_move old.row new.row) (col_move old.col new.col) (calm_rows old.row new.row) (calm_cols old.col new.col)
 
+calm_steps : (n : ℕ) → calm (replicate n 0x08) ≡ true
+calm_steps zero = refl
+calm_steps (suc n) = calm_byte 0x08 (replicate n 0x08) refl (calm_steps n)
+
+calm_short : (old new : Position) → calm (short_move old new) ≡ true
+calm_short old new = calm_if (is_step_back old new) (replicate (old.col - new.col) 0x08) (move_bytes old new) (calm_steps (old.col - new.col)) (calm_move old new)
+
+-- ---- the bytes of letters written over others
+
+calm_written : (letters : List ℕ) (old at new : Position) → list_all is_printable letters ≡ true → calm (writing_bytes letters old at new) ≡ true
+calm_written letters old at new h =
+    let back = short_move (right (length letters) at) new in
+    calm_both (short_move old at) (letters ++ back) (calm_short old at)
+    (calm_both letters back (calm_plain letters (list_all_since is_printable (λ b. not (b == 0x0D)) letter_plain letters h)) (calm_short (right (length letters) at) new))
+
 -- ---- the bytes of letters that move in their rows
 
 calm_letter : (c : ℕ) → is_printable c ≡ true → calm (c ∷ []) ≡ true
@@ -298,6 +313,7 @@ cleared_or (Draws v m (Erased prompt c text at)) = inl tt
 cleared_or (Draws v m (PutIn prompt c text at)) = inl tt
 cleared_or (Draws v m (TakenOut prompt count text at)) = inl tt
 cleared_or (Draws v m (DrawnFrom prompt from text at info)) = inl tt
+cleared_or (Draws v m (Rewritten prompt from upto text at)) = inl tt
 cleared_or (Draws v m (Bared prompt text at)) = inl tt
 cleared_or (Draws v m ToEnd) = inl tt
 cleared_or (Draws v m Beeped) = inl tt
@@ -541,6 +557,26 @@ module _ (s : Screen) (low : 2 ≤ s.columns) (high : s.columns ≤ 1000) (own :
       let cell = (ruler_of s).measure (take at text) l.prompt_size in
       subst (λ t. (let q = if t then taken_out_short l cell count (drop at text) else full (ruler_of s) (shown_marks v m) l prompt true text at None in Anew (bytes ++ flat_map (bytes_of s) q.calls) q.layout (sight_as (shown_marks v m) prompt text at None))) (sym e) (whole bytes (shown_marks v m) l prompt true text at None rows)
 
+  rewritten_by : (v : Value) (bytes : List ℕ) (m : Option Marks) (l : Layout) (x : Sight) (prompt : List ℕ) (from upto : ℕ) (text : List ℕ) (at : ℕ) (b : Bool)
+      → (let cell = (ruler_of s).measure (take from text) l.prompt_size in let letters = slice_range text from upto in let r = Draws v m (Rewritten prompt from upto text at) in
+      may_write_over (ruler_of s) l cell (length letters) ≡ b → Anew bytes l x → Fits own x r → LowStep s x r → After bytes l r x)
+  rewritten_by v bytes m l x prompt from upto text at true e a fits rows =
+      let r = Draws v m (Rewritten prompt from upto text at) in
+      let cell = (ruler_of s).measure (take from text) l.prompt_size in
+      let letters = slice_range text from upto in
+      let cursor = (ruler_of s).measure (take at text) l.prompt_size in
+      let printable : list_all is_printable letters ≡ true = (let t : RewrittenFits x prompt from upto text at = fits.2 in ap (list_all is_printable) (rewritten_letters s low high x prompt from upto text at t) ∙ t.printable) in
+      kept_on bytes l x (flat_map (bytes_of s) (one (ruler_of s) l r).calls) (one (ruler_of s) l r).layout (sight x r)
+      (subst (λ t. (if t then write_over_call l letters cell cursor else full (ruler_of s) (shown_marks v m) l prompt true text at None).layout.tab_stops ≡ l.tab_stops) (sym e) refl) a
+      (subst (λ t. calm (flat_map (bytes_of s) (if t then write_over_call l letters cell cursor else full (ruler_of s) (shown_marks v m) l prompt true text at None).calls) ≡ true) (sym e)
+      (calm_both (writing_bytes letters l.cursor cell cursor) [] (calm_written letters l.cursor cell cursor printable) refl))
+      (λ before over top h. step s low high own before over top l x r h fits rows)
+  rewritten_by v bytes m l x prompt from upto text at false e a fits rows =
+      let cell = (ruler_of s).measure (take from text) l.prompt_size in
+      let letters = slice_range text from upto in
+      let cursor = (ruler_of s).measure (take at text) l.prompt_size in
+      subst (λ t. (let q = if t then write_over_call l letters cell cursor else full (ruler_of s) (shown_marks v m) l prompt true text at None in Anew (bytes ++ flat_map (bytes_of s) q.calls) q.layout (sight_as (shown_marks v m) prompt text at None))) (sym e) (whole bytes (shown_marks v m) l prompt true text at None rows)
+
   bared_by : (v : Value) (bytes : List ℕ) (m : Option Marks) (l : Layout) (x : Sight) (prompt text : List ℕ) (at : ℕ) (b : Bool) → l.default_prompt ≡ b
       → (let r = Draws v m (Bared prompt text at) in Anew bytes l x → Fits own x r → LowStep s x r → After bytes l r x)
   bared_by v bytes m l x prompt text at true e a fits rows =
@@ -570,6 +606,8 @@ module _ (s : Screen) (low : 2 ≤ s.columns) (high : s.columns ≤ 1000) (own :
   step_anew (Draws v m (DrawnFrom prompt from text at info)) bytes l x a fits rows none =
       let r = Draws v m (DrawnFrom prompt from text at info) in
       kept_on bytes l x (flat_map (bytes_of s) (one (ruler_of s) l r).calls) (one (ruler_of s) l r).layout (sight x r) (sym a.tabs_are) a (calm_rest l (shown_marks v m) from text at info) (λ before over top h. step s low high own before over top l x r h fits rows)
+  step_anew (Draws v m (Rewritten prompt from upto text at)) bytes l x a fits rows none =
+      rewritten_by v bytes m l x prompt from upto text at (may_write_over (ruler_of s) l ((ruler_of s).measure (take from text) l.prompt_size) (length (slice_range text from upto))) refl a fits rows
   step_anew (Draws v m (Bared prompt text at)) bytes l x a fits rows none = bared_by v bytes m l x prompt text at l.default_prompt refl a fits rows
   step_anew (Draws v m ToEnd) bytes l x a fits rows none =
       let r = Draws v m ToEnd in
@@ -602,6 +640,7 @@ module _ (s : Screen) (low : 2 ≤ s.columns) (high : s.columns ≤ 1000) (own :
   step_bare (Draws v m (PutIn prompt c text at)) bytes l x b fits rows = absurd (not_given x b fits.0)
   step_bare (Draws v m (TakenOut prompt count text at)) bytes l x b fits rows = absurd (not_given x b fits.0)
   step_bare (Draws v m (DrawnFrom prompt from text at info)) bytes l x b fits rows = absurd (not_given x b fits.0)
+  step_bare (Draws v m (Rewritten prompt from upto text at)) bytes l x b fits rows = absurd (not_given x b fits.0)
   step_bare (Draws v m (Bared prompt text at)) bytes l x b fits rows = absurd (not_given x b fits)
   step_bare (Draws v m ToEnd) bytes l x b fits rows = inr (record { given = b.given; prompt = b.prompt })
   step_bare (Draws v m Beeped) bytes l x b fits rows = inr b

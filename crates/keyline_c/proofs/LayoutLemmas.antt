@@ -1,12 +1,13 @@
 -- What is kept of a drawing is known from what it shows.
-use Rattle.std.proofs.Common.{◌≡◌, ℕ, Bool, true, false, List, [], ◌∷◌, ◌++◌, take, drop, Option, None, is_some, encode_utf8, refl, sym, ap, ◌∙◌, if◌then◌else◌}
+use Rattle.std.proofs.Common.{◌≡◌, ℕ, Bool, true, false, List, [], ◌∷◌, ◌++◌, take, drop, length, Option, None, is_some, encode_utf8, refl, sym, ap, ◌∙◌, if◌then◌else◌}
+use Rattle.std.specs.Prelude.{slice_range}
 use Rattle.line_buffer.specs.Cells.{origin, same_cell}
 use Rattle.line_buffer.specs.declared.layout.Layout.{Layout}
 use Rattle.line_buffer.specs.declared.layout.Position.{Position}
 use Rattle.line_config.specs.declared.memory.VecSink.{VecSink}
 use Rattle.line_editor.specs.RenderCalls.{Marks}
-use Rattle.line_editor.specs.Redraws.{fresh, full, move_call, may_take, may_erase, may_type, may_put_in, may_take_out, nothing_asked, erase_call, char_call, append_call, put_in_short, taken_out_short}
-use Rattle.line_editor.specs.Redraws.Redraw.{Drawn, Moved, Typed, Appended, Taken, Erased, PutIn, TakenOut, DrawnFrom, Bared, ToEnd, Beeped, Cleared}
+use Rattle.line_editor.specs.Redraws.{fresh, full, move_call, may_take, may_erase, may_type, may_put_in, may_take_out, nothing_asked, erase_call, char_call, append_call, put_in_short, taken_out_short, may_write_over, write_over_call}
+use Rattle.line_editor.specs.Redraws.Redraw.{Drawn, Moved, Typed, Appended, Taken, Erased, PutIn, TakenOut, DrawnFrom, Bared, ToEnd, Beeped, Cleared, Rewritten}
 use Rattle.line_editor.specs.Sights.{PartSpans, Sight}
 use Rattle.line_editor.specs.EditSteps.{one}
 use Rattle.line_editor.specs.Values.{EditStep, shown_marks}
@@ -51,6 +52,10 @@ module _ (s : Screen) where
   taken_out_counts l m cell count rest prompt text at true h = h
   taken_out_counts l m cell count rest prompt text at false h = refl
 
+  rewritten_counts : (l : Layout) (m : Option Marks) (letters : List ℕ) (cell cursor : Position) (prompt text : List ℕ) (at : ℕ) (b : Bool) → Counts l → Counts (if b then write_over_call l letters cell cursor else full (ruler_of s) m l prompt true text at None).layout
+  rewritten_counts l m letters cell cursor prompt text at true h = h
+  rewritten_counts l m letters cell cursor prompt text at false h = refl
+
   bared_counts : (l : Layout) (m : Option Marks) (prompt text : List ℕ) (at : ℕ) (b : Bool) → Counts l → Counts (if b then nothing_asked l else full (ruler_of s) m l prompt true text at None).layout
   bared_counts l m prompt text at true h = h
   bared_counts l m prompt text at false h = refl
@@ -66,6 +71,10 @@ module _ (s : Screen) where
   step_counts (Draws v m (TakenOut prompt count text at)) l h =
       (let cell = (ruler_of s).measure (take at text) l.prompt_size in taken_out_counts l (shown_marks v m) cell count (drop at text) prompt text at (may_take_out (ruler_of s) l cell count (drop at text)) h)
   step_counts (Draws v m (DrawnFrom prompt from text at info)) l h = refl
+  step_counts (Draws v m (Rewritten prompt from upto text at)) l h =
+      (let cell = (ruler_of s).measure (take from text) l.prompt_size in
+      let letters = slice_range text from upto in
+      rewritten_counts l (shown_marks v m) letters cell ((ruler_of s).measure (take at text) l.prompt_size) prompt text at (may_write_over (ruler_of s) l cell (length letters)) h)
   step_counts (Draws v m (Bared prompt text at)) l h = bared_counts l (shown_marks v m) prompt text at l.default_prompt h
   step_counts (Draws v m ToEnd) l h = moved_counts l l.end (same_cell l.cursor l.end) h
   step_counts (Draws v m Beeped) l h = h

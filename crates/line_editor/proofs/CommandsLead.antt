@@ -8,13 +8,13 @@ use Rattle.line_buffer.specs.Insertions.{no_insertion, insertion_of, can_take_be
 use Rattle.line_buffer.specs.LetterCase.{word_to_edit, recase_line}
 use Rattle.line_buffer.specs.Line.{Line, with_cursor_at}
 use Rattle.line_buffer.specs.Range.{copied_range}
-use Rattle.line_buffer.specs.Transpositions.{transposes_chars, transposes_words, transpose_words_line, after_words, before_words, first_word, swap_line, words_around}
+use Rattle.line_buffer.specs.Transpositions.{transposes_words, transpose_words_line, after_words, before_words, first_word, swap_line, words_around}
 use Rattle.line_buffer.specs.declared.types.Anchor.{Anchor}
 use Rattle.line_buffer.specs.declared.types.Anchor.TheVariants.{After, Before}
 use Rattle.line_buffer.specs.declared.types.Movement.{Movement}
 use Rattle.line_buffer.specs.declared.types.WordAction.{WordAction}
 use Rattle.line_buffer.specs.declared.types.WordAction.TheVariants.{Capitalize, Lowercase, Uppercase}
-use Rattle.line_edits.specs.Edits.{yank_steps, pop_group, update_steps, update_group, overwrite_steps, replace_group, replace_group_if_any, indent_steps, transpose_chars_group, transpose_words_group, word_group, after_undo, by, overwrite_steps_to}
+use Rattle.line_edits.specs.Edits.{yank_steps, pop_group, update_steps, update_group, overwrite_steps, replace_group, replace_group_if_any, indent_steps, transpose_words_group, word_group, after_undo, by, overwrite_steps_to}
 use Rattle.line_edits.specs.WriteSteps.{WriteSteps, effect_of_edit, with_answer, no_steps}
 use Rattle.line_edits.specs.Written.{Written, group_opened, group_closed}
 use Rattle.line_help.specs.Completion.{Completion}
@@ -43,13 +43,14 @@ use Rattle.line_editor.specs.Leads.{Leads, CommandsLead, SubmittingLeads, AsksLe
 use Rattle.line_editor.specs.Moving.{move_buffer_end}
 use Rattle.line_editor.specs.Redraws.Redraw.{Drawn, Bared, Beeped}
 use Rattle.line_editor.specs.History.{with_saved_line, at_place, value_on_leaving, leave_effect, recall, recall_earlier_effect, history_step, history_end, hit_effect, history_search}
-use Rattle.line_editor.specs.Transforms.{transpose_chars_effect, transpose_words_effect, edit_word_effect, value_without_marks, undo}
+use Rattle.line_editor.specs.Transforms.{transpose_words_effect, edit_word_effect, value_without_marks, undo}
 use Rattle.line_editor.specs.Sights.{sight_with, sight_of, ended_sight, Turns, info_after}
 use Rattle.line_editor.specs.Values.{Value, Setting, Effect, hint_reply, verdict_reply, completion_reply, update_reply, shown_hint, shown_marks, no_effect, value_with_edit, line_and_record_of, at_line}
 use Rattle.line_editor.specs.Values.EditStep.{Draws, Takes}
 use Rattle.line_editor.specs.Yanking.{line_at_anchor, steps_over, behind_yank, value_after_yank, yank_text, yank_lent, pop_lent}
 use Rattle.line_editor.proofs.KnownLemmas.{Begins, yank_begins, pop_begins, over_begins, replaced_begins}
 use Rattle.line_editor.proofs.LeadLemmas.{turns_both, info_both, both_lead, either, help_turns, Alike, alike_sight, or_none, asking_leads, edit_leads, back_leads, take_leads, redraw_leads, redrawn_leads, refresh_leads, refresh_since_leads, redraw_since_leads, refresh_since_if_leads, told_leads, rest_leads, beep_leads, clear_leads, refresh_if_leads, step_leads, motion_leads, none_if, insertion_leads, kill_leads, replace_leads}
+use Rattle.line_editor.proofs.RewrittenLeads.{chars_lead}
 
 not_none : (b : Bool) → not b ≡ false → b ≡ true
 not_none true h = refl
@@ -117,9 +118,6 @@ pop_leads None s v = rest_leads s v v (refl, refl, refl)
 pop_leads (Some lent) s v = either s v (can_take_before lent.0 v.line) _ _ (λ e. redraw_since_leads (pop_group lent.0 lent.1) (v.line.place - lent.0) s v v (pop_begins lent.0 lent.1 (v.line.place - lent.0) v.line (omega arith))) (λ e. rest_leads s v v (refl, refl, refl))
 
 -- ---- words
-
-chars_lead : (s : Setting) (v : Value) → Leads s v (transpose_chars_effect s v)
-chars_lead s v = refresh_if_leads transpose_chars_group s v (transposes_chars v.line) (λ e. if_none (transposes_chars v.line) _ v.line e)
 
 words_rest : (n : ℕ) (l : Line) → transposes_words n l ≡ false → (transpose_words_line n l).place ≡ l.place → transpose_words_line n l ≡ l
 unfolding after_words before_words

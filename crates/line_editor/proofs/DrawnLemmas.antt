@@ -1,5 +1,5 @@
 -- One redraw in place of another that asks the same.
-use Rattle.std.proofs.Common.{◌≡◌, ℕ, ◌≤◌, ◌==◌, ◌&&◌, nat_lt, Bool, List, take, drop, true, false, [], refl, sym, ap, subst, ◌∙◌, if◌then◌else◌}
+use Rattle.std.proofs.Common.{◌≡◌, ℕ, ◌≤◌, ◌==◌, ◌&&◌, nat_lt, Bool, List, take, drop, true, false, [], refl, sym, ap, subst, ◌∙◌, if◌then◌else◌, slice_range, length}
 use Rattle.std.specs.Prelude.{encode_utf8, not, Option, None, Some, Result, Ok, Err, OnOk, IsErrAnd, IsTrue}
 use Rattle.std.specs.List.{FoldsTo}
 use Rattle.std.proofs.lemmas.Bool.{le-ltb}
@@ -16,8 +16,8 @@ use Rattle.line_help.specs.declared.history as histories
 use Rattle.line_editor.specs.RenderCalls.{Ruler, MadeIn, CutCalls}
 use Rattle.line_editor.specs.RenderCalls.Call.{Move}
 use Rattle.line_editor.specs.Drawing.{draw_effect_with}
-use Rattle.line_editor.specs.Redraws.{Redraw, RedrawCalls, calls_of_redraw, nothing_asked, move_calls, move_call, then_asked, full, char_call, append_call, erase_call, put_in_short, taken_out_short, may_type, may_take, may_erase, may_put_in, may_take_out}
-use Rattle.line_editor.specs.Redraws.Redraw.{Drawn, Typed, Appended, Taken, Erased, PutIn, TakenOut, Bared}
+use Rattle.line_editor.specs.Redraws.{Redraw, RedrawCalls, calls_of_redraw, nothing_asked, move_calls, move_call, then_asked, full, char_call, append_call, erase_call, put_in_short, taken_out_short, write_over_call, may_type, may_take, may_erase, may_put_in, may_take_out, may_write_over}
+use Rattle.line_editor.specs.Redraws.Redraw.{Drawn, Typed, Appended, Taken, Erased, PutIn, TakenOut, Rewritten, Bared}
 use Rattle.line_editor.specs.States.{value_of, setting_of, surface_of, Stays, Does, Renders}
 use Rattle.line_editor.specs.EditSteps.{Surface}
 use Rattle.line_editor.specs.Values.{Setting, Value, Transition, draw_effect, shown_marks}
@@ -121,6 +121,19 @@ module _ {Out H Hi K T : Type 0} {renderer : renderers.Renderer.Ghosts Out} {com
       drawn_as (λ a v. Drawn a.prompt true v.line.text v.line.place None) (λ a v. TakenOut a.prompt count v.line.text v.line.place) s t result
       (ap (λ b. if b then taken_out_short s.layout there count behind else full r (shown_marks (value_of s) (setting_of s).marks) s.layout s.prompt.now true s.recorded.line.text s.recorded.line.place None)
       (sym (ap (λ p. may_take_out r s.layout p count behind) (sym cell) ∙ ap (λ xs. may_take_out r s.layout at count xs) (sym left) ∙ is))) h
+
+  pub rewritten_drawn : {A : Type 0} (from upto : ℕ) (at : Position) (letters : List ℕ) (s t : State Out H Hi K T renderer completer candidate hinter hint highlighter validator history) (result : Result A ReadlineError)
+      → at ≡ (renderer.canvas.ruler s.out).measure (take from s.recorded.line.text) s.layout.prompt_size → letters ≡ slice_range s.recorded.line.text from upto
+      → may_write_over (renderer.canvas.ruler s.out) s.layout at (length letters) ≡ false
+      → Does (draw_effect_with None) s t result → Does (λ a v. draw_effect (Rewritten a.prompt from upto v.line.text v.line.place) a v) s t result
+  rewritten_drawn from upto at letters s t result cell part is h =
+      let r = renderer.canvas.ruler s.out in
+      let text = s.recorded.line.text in
+      let there = r.measure (take from text) s.layout.prompt_size in
+      let written = write_over_call s.layout (slice_range text from upto) there (r.measure (take s.recorded.line.place text) s.layout.prompt_size) in
+      drawn_as (λ a v. Drawn a.prompt true v.line.text v.line.place None) (λ a v. Rewritten a.prompt from upto v.line.text v.line.place) s t result
+      (ap (λ b. if b then written else full r (shown_marks (value_of s) (setting_of s).marks) s.layout s.prompt.now true text s.recorded.line.place None)
+      (sym (ap (λ p. may_write_over r s.layout p (length (slice_range text from upto))) (sym cell) ∙ ap (λ xs. may_write_over r s.layout at (length xs)) (sym part) ∙ is))) h
 
   pub bared_drawn : {A : Type 0} (s t : State Out H Hi K T renderer completer candidate hinter hint highlighter validator history) (result : Result A ReadlineError)
       → s.layout.default_prompt ≡ false → Does (draw_effect_with None) s t result → Does (λ a v. draw_effect (Bared a.prompt v.line.text v.line.place) a v) s t result

@@ -5,11 +5,11 @@ use Rattle.line_buffer.specs.Clusters.{place_forward}
 use Rattle.line_buffer.specs.Insertions.{insert as insertion, can_take_before}
 use Rattle.line_buffer.specs.Line.{Line}
 use Rattle.line_buffer.specs.Range.{range_of}
-use Rattle.line_buffer.specs.Transpositions.{transposes_words}
+use Rattle.line_buffer.specs.Transpositions.{transposes_chars, transposes_words}
 use Rattle.line_buffer.specs.declared.types.Movement.{Movement}
 use Rattle.line_config.specs.declared.errors.ReadlineError.{ReadlineError}
 use Rattle.line_config.specs.declared.errors.ReadlineError.TheVariants.{Memory}
-use Rattle.line_edits.specs.Edits.{transpose_words_group, char_steps, kill_steps, text_steps, pop_group, replace_group, replace_group_if_any, overwrite_steps_to, overwrite_steps, by}
+use Rattle.line_edits.specs.Edits.{transpose_chars_group, transpose_words_group, char_steps, kill_steps, text_steps, pop_group, replace_group, replace_group_if_any, overwrite_steps_to, overwrite_steps, by}
 use Rattle.line_edits.specs.WriteSteps.{WriteSteps, with_answer, no_steps, CutEdit, Edits as EditsRecorded}
 use Rattle.line_edits.specs.Written.{Written, line_and_record_in}
 use Rattle.line_edits.specs.declared.recorded_line.RecordedLine.{RecordedLine}
@@ -22,6 +22,8 @@ use Rattle.line_help.specs.declared.history as histories
 use Rattle.line_editor.specs.Drawing.{since, refresh_effect, refresh_effect_if, refresh_effect_since, refresh_effect_since_if}
 use Rattle.line_editor.specs.Inserting.{has_printable_rest, insertion_way, show_inserted_effect, insert_char, insert_text}
 use Rattle.line_editor.specs.Killing.{may_be_taken, may_be_taken_out, text_gone, last_of_bare, way_erased, kill_way, show_killed_effect, show_taken, kill_effect}
+use Rattle.line_editor.specs.Rewriting.{may_be_rewritten, refresh_over_effect, refresh_over_if}
+use Rattle.line_editor.specs.Transforms.{pair_end, transpose_chars_effect}
 use Rattle.line_editor.specs.States.{value_of, setting_of, surface_of, Stays, Does}
 use Rattle.line_editor.specs.EditSteps.{Surface, CutEditSteps, SameBeside}
 use Rattle.line_editor.specs.Values.{Value, Setting, Effect, Transition, no_effect, then_do, value_with_edit, edit_effect, line_and_record_of}
@@ -82,6 +84,15 @@ char_put_by c n way from s v some is stays =
 -- words were exchanged, or the cursor moved
 abbrev pub words_drawn : ℕ → Value → Transition
 words_drawn n v = refresh_effect_if (transposes_words n v.line || not ((value_with_edit (by (transpose_words_group n)) v).line.place == v.line.place))
+
+-- characters were exchanged, and written over if they may
+pub chars_over : (over : Bool) (from end : ℕ) (s : Setting) (v : Value) → end ≡ pair_end v.line → from ≡ end - 2 → over ≡ may_be_rewritten s from end v
+    → then_do (edit_effect transpose_chars_group) (refresh_over_if over from end (transposes_chars v.line)) s v ≡ transpose_chars_effect s v
+chars_over over from end s v end_is from_is over_is =
+    let drawn : Bool → ℕ → ℕ → Effect = λ b x y. then_do (edit_effect transpose_chars_group) (refresh_over_if b x y (transposes_chars v.line)) s v in
+    ap (λ b. drawn b from end) over_is
+    ∙ ap (λ x. drawn (may_be_rewritten s x end v) x end) from_is
+    ∙ ap (λ y. drawn (may_be_rewritten s (y - 2) y v) (y - 2) y) end_is
 
 -- something is killed
 pub part_killed : (movement : Movement) (s : Setting) (v : Value) → is_some (range_of movement v.line) ≡ true → then_do (edit_effect (kill_steps movement)) (show_taken v) s v ≡ kill_effect movement s v
@@ -159,6 +170,16 @@ module _ {Out H Hi K T : Type 0} {renderer : renderers.Renderer.Ghosts Out} {com
   pub undrawn_since_if : {A : Type 0} (stays : Option ℕ) (b : Bool) (s : State Out H Hi K T renderer completer candidate hinter hint highlighter validator history) (x : A) → b ≡ false → Does (refresh_effect_since_if stays b) s s (Ok x)
   undrawn_since_if {A} stays b s x is =
       subst (λ y. Does {A = A} (refresh_effect_since_if stays y) s s (Ok x)) (sym is) (record { value = refl; calls = refl; layout = refl; stays = stays_same s; reason = tt; stops = tt })
+
+  -- or new letters are written
+  pub over_if : {A : Type 0} (over : Bool) (from upto : ℕ) (b : Bool) (s t : State Out H Hi K T renderer completer candidate hinter hint highlighter validator history) (result : Result A ReadlineError)
+      → b ≡ true → Does (refresh_over_effect over from upto) s t result → Does (refresh_over_if over from upto b) s t result
+  over_if {A} over from upto b s t result is h =
+      subst (λ x. Does {A = A} (refresh_over_if over from upto x) s t result) (sym is) (does_as (refresh_over_effect over from upto) (refresh_over_if over from upto true) s t result refl h)
+
+  pub unwritten_if : {A : Type 0} (over : Bool) (from upto : ℕ) (b : Bool) (s : State Out H Hi K T renderer completer candidate hinter hint highlighter validator history) (x : A) → b ≡ false → Does (refresh_over_if over from upto b) s s (Ok x)
+  unwritten_if {A} over from upto b s x is =
+      subst (λ y. Does {A = A} (refresh_over_if over from upto y) s s (Ok x)) (sym is) (record { value = refl; calls = refl; layout = refl; stays = stays_same s; reason = tt; stops = tt })
 
   -- it was made, and nothing follows
   edit_alone : {A B E : Type 0} (whole : Transition) (edit : Line → WriteSteps A) (s t : State Out H Hi K T renderer completer candidate hinter hint highlighter validator history) (answer : A) (x : B)

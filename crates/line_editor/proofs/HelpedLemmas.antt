@@ -24,6 +24,8 @@ use Rattle.line_editor.specs.Killing.{taken_redraw, show_taken_effect, show_kill
 use Rattle.line_editor.specs.EditSteps.{calls_of_steps}
 use Rattle.line_editor.specs.declared.way.Way.{Way}
 use Rattle.line_editor.specs.declared.way.Way.TheVariants.{Alone, Back, Whole}
+use Rattle.line_editor.specs.Redraws.Redraw.{Rewritten}
+use Rattle.line_editor.specs.Rewriting.{has_letters, show_rewritten_effect, refresh_over_effect}
 use Rattle.line_editor.specs.States.{hooks_of, value_of, setting_of, fails_by, IsHelpFault, error_of, reason_of, surface_of, Stays, Does}
 use Rattle.line_editor.specs.Values.{Value, Setting, Hooks, Effect, draw_effect, then_do, hint_reply, verdict_reply, help_steps, IsFailing, with_hint, with_mark, value_with_edit}
 use Rattle.line_editor.specs.Values.EditStep.{Takes}
@@ -68,6 +70,9 @@ put c way from s v = draw_effect (put_redraw way c from s v) s v
 
 abbrev taken : ℕ → Way → Option ℕ → Setting → Value → Effect
 taken count way from s v = draw_effect (taken_redraw way count from s v) s v
+
+abbrev rewritten : ℕ → ℕ → Bool → Setting → Value → Effect
+rewritten from upto b s v = draw_effect (if b then Rewritten s.prompt from upto v.line.text v.line.place else redraw_of s v) s v
 
 -- ---- with a helper
 
@@ -157,6 +162,21 @@ module _ {Out H Hi K T : Type 0} {renderer : renderers.Renderer.Ghosts Out} {com
         → Does (draw_effect_since from) m t result → Does (show_killed_effect count way from) s t result
     killed_drawn s m t x result (inl is) h k = taken_made Alone s m t x result is h (does_as (draw_effect_since from) (taken count Alone from) m t result refl k)
     killed_drawn s m t x result (inr is) h k = taken_made Whole s m t x result is h (does_as (draw_effect_since from) (taken count Whole from) m t result refl k)
+
+  module _ (over : Bool) (from upto : ℕ) where
+    pub written_over : {A B : Type 0} (s m t : State Out H Hi K T renderer completer candidate hinter hint highlighter validator history) (x : A) (result : Result B ReadlineError)
+        → (over && has_letters from upto (value_of m)) ≡ true → Does ask_anew_effect s m (Ok x) → Does (rewritten from upto true) m t result → Does (refresh_over_effect over from upto) s t result
+    written_over s m t x result is h k =
+        does_both ask_anew_effect (show_rewritten_effect over from upto) s m t x result h
+        (does_as (rewritten from upto true) (show_rewritten_effect over from upto) m t result (ap (λ b. rewritten from upto b (setting_of m) (value_of m)) (sym is)) k)
+
+    pub drawn_anew : {A B : Type 0} (prompt : List ℕ) (s m t : State Out H Hi K T renderer completer candidate hinter hint highlighter validator history) (x : A) (result : Result B ReadlineError)
+        → prompt ≡ m.prompt.now → (over && has_letters from upto (value_of m)) ≡ false → Does ask_anew_effect s m (Ok x)
+        → Does (draw_effect_behind prompt true) m t result → Does (refresh_over_effect over from upto) s t result
+    drawn_anew prompt s m t x result own is h k =
+        does_both ask_anew_effect (show_rewritten_effect over from upto) s m t x result h
+        (does_as (draw_effect_behind prompt true) (show_rewritten_effect over from upto) m t result
+        (ap (λ p. draw_effect_behind p true (setting_of m) (value_of m)) own ∙ ap (λ b. rewritten from upto b (setting_of m) (value_of m)) (sym is)) k)
 
   -- ---- a verdict
 

@@ -206,7 +206,7 @@ refresh_if_leads edit s v b h =
     edit_leads (with_answer tt (edit v.line)) s v v (refresh_effect_if b s w) (either s v b (refresh_effect s w) (no_effect s w) (λ e. refresh_leads s v w) (λ e. rest_leads s v w (h e, refl, refl)))
 
 -- drawn in full
-whole_leads : (s : Setting) (v w : Value) → Leads s v (record { value = w; steps = Draws w s.marks (redraw_of s w) ∷ [] })
+pub whole_leads : (s : Setting) (v w : Value) → Leads s v (record { value = w; steps = Draws w s.marks (redraw_of s w) ∷ [] })
 whole_leads s v w info = record { fits = ((λ x. refl), tt); leads = refl }
 
 -- ---- drawn from a place on

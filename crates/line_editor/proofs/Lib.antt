@@ -21,18 +21,21 @@ pub mod CarriesLemmas
 pub mod ObeyLemmas
 pub mod PastLemmas
 pub mod PhraseGoes
+pub mod PlainClusters
 pub mod ReachLemmas
 pub mod QueryLemmas
 pub mod RecallLemmas
 pub mod RefusedLemmas
 pub mod ReplaysLemmas
 pub mod ReturnLemmas
+pub mod RewrittenLeads
 pub mod RowLemmas
 mod Rows
 pub mod RunLemmas
 pub mod SimpleLemmas
 pub mod StopsLemmas
 pub mod ToldLemmas
+pub mod TransposedLemmas
 pub mod TurnLemmas
 pub mod UndoAllLemmas
 pub mod UndoLemmas

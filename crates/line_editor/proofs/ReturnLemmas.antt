@@ -55,7 +55,8 @@ use Rattle.line_editor.specs.History.{with_saved_line, value_on_leaving, recall,
 use Rattle.line_editor.specs.Returns.{ValueStep, value_after, value_after_all, command_that_leaves, is_search, searches, StaysAway, ComesBack}
 use Rattle.line_editor.specs.Returns.ValueStep.{Done, Asked, Met}
 use Rattle.line_editor.specs.Drawing.{since, refresh_effect, refresh_effect_if, refresh_effect_since_if}
-use Rattle.line_editor.specs.Transforms.{edit_word_effect}
+use Rattle.line_editor.specs.Transforms.{edit_word_effect, pair_end}
+use Rattle.line_editor.specs.Rewriting.{may_be_rewritten, refresh_over_if}
 use Rattle.line_editor.specs.ModalCommands.{meeting_effect, meeting_at_rest, meeting_in_prefixes, meeting_after_tab, meeting_anew, meeting_in_list, meeting_in_cycle, meeting_in, meeting_in_search}
 use Rattle.line_editor.specs.Modal.{Modal, modal_at_rest, wish_of}
 use Rattle.line_editor.specs.Prefixes.{is_prefix, is_own, earlier, later, rise_meeting, rises_if, fall_meeting}
@@ -167,6 +168,9 @@ drawn_keeps b s v w h = either v b _ _ (kept h.saved h.history h.growth) h
 
 drawn_since_keeps : (from : Option ℕ) (b : Bool) (s : Setting) (v w : Value) → Keeps v w → Keeps v (refresh_effect_since_if from b s w).value
 drawn_since_keeps from b s v w h = either v b _ _ (kept h.saved h.history h.growth) h
+
+rewritten_keeps : (over : Bool) (from upto : ℕ) (b : Bool) (s : Setting) (v w : Value) → Keeps v w → Keeps v (refresh_over_if over from upto b s w).value
+rewritten_keeps over from upto b s v w h = either v b _ _ (kept h.saved h.history h.growth) h
 
 told_keeps : (draws : Bool) (text : Option (List ℕ)) (kind : CmdKind) (s : Setting) (v w : Value) → Keeps v w → Keeps v (message_effect_if draws text kind s w).value
 told_keeps draws text kind s v w h = either v (draws || is_some text) _ _ (kept h.saved h.history h.growth) h
@@ -344,7 +348,7 @@ command_held m ReverseSearchHistory s text at v quiet inside h away = keeps_held
 command_held m (SearchAgain way) s text at v quiet inside h away = keeps_held s text at v (effect m (SearchAgain way) s v).value h away (same v)
 command_held m (SelfInsert n c) s text at v quiet inside h away = keeps_held s text at v (effect m (SelfInsert n c) s v).value h away (insertion_keeps c n s v)
 command_held m Suspend s text at v quiet inside h away = keeps_held s text at v (effect m Suspend s v).value h away (same v)
-command_held m TransposeChars s text at v quiet inside h away = keeps_held s text at v (effect m TransposeChars s v).value h away (drawn_keeps (transposes_chars v.line) s v (value_with_edit (by transpose_chars_group) v) (kept refl refl (chars_grow v.line)))
+command_held m TransposeChars s text at v quiet inside h away = keeps_held s text at v (effect m TransposeChars s v).value h away (let end = pair_end v.line in rewritten_keeps (may_be_rewritten s (end - 2) end v) (end - 2) end (transposes_chars v.line) s v (value_with_edit (by transpose_chars_group) v) (kept refl refl (chars_grow v.line)))
 command_held m (TransposeWords n) s text at v quiet inside h away = keeps_held s text at v (effect m (TransposeWords n) s v).value h away ((let w = value_with_edit (by (transpose_words_group n)) v in drawn_keeps (transposes_words n v.line || not (w.line.place == v.line.place)) s v w (kept refl refl (words_grow n v.line))))
 command_held m (Undo n) s text at v quiet inside h away = keeps_held s text at v (effect m (Undo n) s v).value h away (either v (has_step (max n 1) v.held) _ _ (kept refl refl (back_grows (max n 1) v.held v.line)) (kept refl refl refl))
 command_held m Unknown s text at v quiet inside h away = keeps_held s text at v (effect m Unknown s v).value h away (same v)

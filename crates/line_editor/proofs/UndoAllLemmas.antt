@@ -62,7 +62,8 @@ use Rattle.line_editor.specs.History.{with_saved_line, at_place, value_on_leavin
 use Rattle.line_editor.specs.Returns.{ValueStep, value_after, value_after_all, BegunSound, UndoesAll}
 use Rattle.line_editor.specs.Returns.ValueStep.{Done, Asked, Met}
 use Rattle.line_editor.specs.Drawing.{since, refresh_effect, refresh_effect_if, refresh_effect_since_if}
-use Rattle.line_editor.specs.Transforms.{edit_word_effect}
+use Rattle.line_editor.specs.Transforms.{edit_word_effect, pair_end}
+use Rattle.line_editor.specs.Rewriting.{may_be_rewritten, refresh_over_if}
 use Rattle.line_editor.specs.ModalCommands.{meeting_at_rest, meeting_in_prefixes, meeting_after_tab, meeting_anew, meeting_in_list, meeting_in_cycle, meeting_in, meeting_in_search}
 use Rattle.line_editor.specs.Modal.{Modal, modal_at_rest, wish_of}
 use Rattle.line_editor.specs.Prefixes.{is_prefix, is_own, earlier, later, rise_meeting, rises_if, fall_meeting}
@@ -221,6 +222,9 @@ drawn_reached b s v first r = either first b _ _ r r
 drawn_since_reached : (from : Option ℕ) (b : Bool) (s : Setting) (v : Value) (first : List ℕ) → Reached first v → Reached first (refresh_effect_since_if from b s v).value
 drawn_since_reached from b s v first r = either first b _ _ r r
 
+rewritten_reached : (over : Bool) (from upto : ℕ) (b : Bool) (s : Setting) (v : Value) (first : List ℕ) → Reached first v → Reached first (refresh_over_if over from upto b s v).value
+rewritten_reached over from upto b s v first r = either first b _ _ r r
+
 told_reached : (draws : Bool) (text : Option (List ℕ)) (kind : CmdKind) (s : Setting) (v : Value) (first : List ℕ) → Reached first v → Reached first (message_effect_if draws text kind s v).value
 told_reached draws text kind s v first r = either first (draws || is_some text) _ _ r r
 
@@ -351,7 +355,7 @@ command_reached m (Replace movement text) s v first ok r = text_reached text s (
 command_reached m (ReplaceChar n c) s v first ok r = char_reached c n s v first ok r
 command_reached m (Overwrite c) s v first ok r = over_reached c s v first ok r
 command_reached m (SelfInsert n c) s v first ok r = insertion_reached c n s v first r
-command_reached m TransposeChars s v first ok r = drawn_reached (transposes_chars v.line) s (value_with_edit (by transpose_chars_group) v) first
+command_reached m TransposeChars s v first ok r = let end = pair_end v.line in rewritten_reached (may_be_rewritten s (end - 2) end v) (end - 2) end (transposes_chars v.line) s (value_with_edit (by transpose_chars_group) v) first
     (group_reaches (by transpose_chars_steps) (line_and_record_of v) first (λ k. transposing_reaches (group_opened (line_and_record_of v)) first ok.utf8 ok.boundary k) r)
 command_reached m (TransposeWords n) s v first ok r =
     let w = value_with_edit (by (transpose_words_group n)) v in

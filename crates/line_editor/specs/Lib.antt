@@ -22,6 +22,7 @@ pub mod Redraws
 pub mod EditSteps
 pub mod History
 pub mod Returns
+pub mod Rewriting
 pub mod Transforms
 pub mod Searching
 pub mod LineRun

@@ -1,5 +1,5 @@
 -- The drawings of an effect, and the calls that they need on a display, with the layout to store.
-use Rattle.std.specs.Prelude.{ℕ, ◌+◌, ◌-◌, ◌==◌, ◌&&◌, not, nat_lt, nat_le, Bool, true, false, if◌then◌else◌, List, [], ◌∷◌, ◌++◌, take, drop, Option, Some, None, is_some, encode_utf8}
+use Rattle.std.specs.Prelude.{ℕ, ◌+◌, ◌-◌, ◌==◌, ◌&&◌, not, nat_lt, nat_le, Bool, true, false, if◌then◌else◌, List, [], ◌∷◌, ◌++◌, take, drop, length, slice_range, Option, Some, None, is_some, encode_utf8}
 use Rattle.std.specs.List.{list_all}
 use Rattle.line_buffer.specs.Cells.{same_cell, origin}
 use Rattle.line_buffer.specs.Printable.{is_printable}
@@ -7,7 +7,7 @@ use Rattle.line_buffer.specs.declared.layout.GraphemeClusterMode.{GraphemeCluste
 use Rattle.line_buffer.specs.declared.layout.Layout.{Layout}
 use Rattle.line_buffer.specs.declared.layout.Position.{Position}
 use Rattle.line_editor.specs.RenderCalls.{Call, Marks, Ruler}
-use Rattle.line_editor.specs.RenderCalls.Call.{Draw, Move, Write, Beep, ClearScreen, MoveAndClearToEol, InsertChar, MoveAndDelete, Append, DrawRest}
+use Rattle.line_editor.specs.RenderCalls.Call.{Draw, Move, Write, Beep, ClearScreen, MoveAndClearToEol, InsertChar, MoveAndDelete, Append, DrawRest, WriteOver}
 
 -- a redraw doesn't depend on columns
 pub data Redraw : Type 0 where
@@ -31,6 +31,9 @@ pub data Redraw : Type 0 where
   -- drawn from a place on, before which the line is as it was drawn, without styles
   DrawnFrom : (prompt : List ℕ) (from : ℕ) (text : List ℕ) (place : ℕ) (info : Option (List ℕ))
       → Redraw
+  -- the printable characters of a plain line from one place up to another replaced by as many, with
+  -- no information before or after that
+  Rewritten : (prompt : List ℕ) (from upto : ℕ) (text : List ℕ) (place : ℕ) → Redraw
   -- redrawn, without hint and message, only if another prompt than the session's own is shown
   Bared : (prompt : List ℕ) (text : List ℕ) (place : ℕ) → Redraw
   -- the cursor moved to the drawing's end
@@ -157,6 +160,13 @@ rest_call r marks l from text place info =
       layout = new;
     }
 
+-- letters written from a cell on, and the cursor moved to its place
+abbrev pub write_over_call : Layout → List ℕ → Position → Position → RedrawCalls
+write_over_call l letters at cursor = record {
+  calls = WriteOver letters l.cursor at cursor ∷ [];
+  layout = record l { cursor = cursor };
+}
+
 -- a byte written at a cell doesn't fill the row
 abbrev pub fits_in_row : ℕ → Position → Bool
 fits_in_row columns at = nat_lt (at.col + 1) columns
@@ -190,6 +200,10 @@ may_take_out r l at count rest =
     not l.has_info && (nat_lt 0 count && (nat_le (at.col + count) r.columns
     && (nat_le count l.end.col && list_all is_printable rest)))
 
+-- and whether so many letters can be written from a cell on: they don't fill its row
+abbrev pub may_write_over : Ruler → Layout → Position → ℕ → Bool
+may_write_over r l at count = not l.has_info && nat_lt (at.col + count) r.columns
+
 abbrev pub calls_of_redraw : Ruler → Option Marks → Layout → Redraw → RedrawCalls
 calls_of_redraw r marks l (Drawn prompt given text place info) =
     full r marks l prompt given text place info
@@ -215,6 +229,12 @@ calls_of_redraw r marks l (TakenOut prompt count text place) =
     else full r marks l prompt true text place None
 calls_of_redraw r marks l (DrawnFrom prompt from text place info) =
     rest_call r marks l from text place info
+calls_of_redraw r marks l (Rewritten prompt from upto text place) =
+    let at = r.measure (take from text) l.prompt_size in
+    let letters = slice_range text from upto in
+    if may_write_over r l at (length letters)
+    then write_over_call l letters at (r.measure (take place text) l.prompt_size)
+    else full r marks l prompt true text place None
 calls_of_redraw r marks l (Bared prompt text place) =
     if l.default_prompt then nothing_asked l else full r marks l prompt true text place None
 calls_of_redraw r marks l ToEnd = move_calls l l.end

@@ -37,6 +37,8 @@ pub data Call : Type 0 where
   -- from there on, with the information after it
   DrawRest : (rest : List ℕ) (info : Option (List ℕ)) (old at : Position) (new : Layout)
       (marks : Option Marks) → Call
+  -- a move, letters written from there on over as many in their row, and the move to the cursor
+  WriteOver : (letters : List ℕ) (old at new : Position) → Call
   ToLeftmost : Call
   -- a call of the helper, which answers or fails; nothing is drawn
   Help : (fails : Bool) → Call

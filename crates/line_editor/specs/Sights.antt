@@ -5,7 +5,7 @@ use Rattle.line_buffer.specs.Printable.{is_printable, is_plain, at_plain_end, is
 use Rattle.line_editor.specs.Characters.{stands_apart, begins_apart}
 use Rattle.line_editor.specs.RenderCalls.{Marks}
 use Rattle.line_editor.specs.Redraws.{Redraw, info_text}
-use Rattle.line_editor.specs.Redraws.Redraw.{Drawn, Moved, Typed, Appended, Taken, Erased, PutIn, TakenOut, DrawnFrom, Bared, ToEnd, Beeped, Cleared}
+use Rattle.line_editor.specs.Redraws.Redraw.{Drawn, Moved, Typed, Appended, Taken, Erased, PutIn, TakenOut, DrawnFrom, Bared, ToEnd, Beeped, Cleared, Rewritten}
 use Rattle.line_editor.specs.Values.{Value, Setting, EditStep, shown_marks}
 use Rattle.line_editor.specs.Values.EditStep.{Draws}
 use Rattle.line_help.specs.Paints.{first_mark}
@@ -80,6 +80,7 @@ sight_drawn x marks (PutIn prompt c text place) = sight_as marks prompt text pla
 sight_drawn x marks (TakenOut prompt count text place) = sight_as marks prompt text place None
 sight_drawn x marks (DrawnFrom prompt from text place info) =
     sight_as marks prompt text place info
+sight_drawn x marks (Rewritten prompt from upto text place) = sight_as marks prompt text place None
 sight_drawn x marks (Bared prompt text place) = x
 sight_drawn x marks ToEnd = record x { ended = true }
 sight_drawn x marks Beeped = x
@@ -173,6 +174,23 @@ pub record DrawnFromFits (x : Sight) (marks : Option Marks) (prompt : List ℕ) 
   pub prompt_styles : (drawn_spans marks true prompt text place (info_text info)).prompt
       ≡ x.spans.prompt
 
+-- printable characters replaced by as many
+pub record RewrittenFits (x : Sight) (prompt : List ℕ) (from upto : ℕ) (text : List ℕ)
+    (place : ℕ) : Type 0 where
+  pub before : List ℕ
+  pub gone : List ℕ
+  pub letters : List ℕ
+  pub rest : List ℕ
+  pub whole : x.line ≡ before ++ (gone ++ rest)
+  pub text_is : text ≡ before ++ (letters ++ rest)
+  pub as_many : length letters ≡ length gone
+  pub from_is : from ≡ length before
+  pub upto_is : upto ≡ length before + length letters
+  pub plain : is_plain x.line ≡ true
+  pub gone_printable : list_all is_printable gone ≡ true
+  pub printable : list_all is_printable letters ≡ true
+  pub prompt_is : prompt ≡ x.prompt
+
 -- when each redraw is allowed; `own` is the session's prompt
 abbrev pub FitsDrawn : List ℕ → Sight → Option Marks → Redraw → Type 0
 FitsDrawn own x marks (Drawn prompt given text place info) = given ≡ true → prompt ≡ own
@@ -197,6 +215,9 @@ FitsDrawn own x marks (TakenOut prompt count text place) =
     × SameStyles x marks prompt text place
 FitsDrawn own x marks (DrawnFrom prompt from text place info) =
     (x.given ≡ true) × (prompt ≡ own) × DrawnFromFits x marks prompt from text place info
+FitsDrawn own x marks (Rewritten prompt from upto text place) =
+    (x.given ≡ true) × (prompt ≡ own) × RewrittenFits x prompt from upto text place
+    × SameStyles x marks prompt text place
 FitsDrawn own x marks (Bared prompt text place) = x.given ≡ true
 FitsDrawn own x marks redraw = ⊤
 
@@ -228,6 +249,7 @@ info_drawn info (Erased prompt c text place) = None
 info_drawn info (PutIn prompt c text place) = None
 info_drawn info (TakenOut prompt count text place) = None
 info_drawn info (DrawnFrom prompt from text place new) = new
+info_drawn info (Rewritten prompt from upto text place) = None
 info_drawn info Cleared = None
 info_drawn info redraw = info
 

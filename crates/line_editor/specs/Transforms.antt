@@ -1,18 +1,27 @@
 -- Transpositions of clusters and words, changes of case, indentation, and undo.
-use Rattle.std.specs.Prelude.{ℕ, ◌==◌, ◌||◌, not, max, Bool, drop, if◌then◌else◌, [], ◌∷◌, is_some}
+use Rattle.std.specs.Prelude.{ℕ, ◌+◌, ◌-◌, ◌==◌, ◌||◌, not, nat_lt, max, Bool, length, drop, if◌then◌else◌, [], ◌∷◌, is_some}
 use Rattle.line_buffer.specs.LetterCase.{word_to_edit}
+use Rattle.line_buffer.specs.Line.{Line}
 use Rattle.line_buffer.specs.Transpositions.{transposes_chars, transposes_words}
 use Rattle.line_buffer.specs.declared.types.Movement.{Movement}
 use Rattle.line_buffer.specs.declared.types.WordAction.{WordAction}
 use Rattle.line_record.specs.Held.{has_step}
 use Rattle.line_edits.specs.Edits.{transpose_chars_group, transpose_words_group, word_group, indent_steps, after_undo, by}
 use Rattle.line_editor.specs.Drawing.{refresh_effect, refresh_effect_if}
+use Rattle.line_editor.specs.Rewriting.{may_be_rewritten, refresh_over_if}
 use Rattle.line_editor.specs.Values.{Value, Transition, then_do, value_with_edit, edit_effect}
 use Rattle.line_editor.specs.Values.EditStep.{TakesBack}
 
+-- behind the two clusters to transpose, if each has one byte
+abbrev pub pair_end : Line → ℕ
+pair_end l = if nat_lt l.place (length l.text) then l.place + 1 else l.place
+
 abbrev pub transpose_chars_effect : Transition
 transpose_chars_effect s v =
-    then_do (edit_effect transpose_chars_group) (refresh_effect_if (transposes_chars v.line)) s v
+    let end = pair_end v.line in
+    let over = may_be_rewritten s (end - 2) end v in
+    then_do (edit_effect transpose_chars_group)
+    (refresh_over_if over (end - 2) end (transposes_chars v.line)) s v
 
 -- even if only the cursor moved
 abbrev pub transpose_words_effect : ℕ → Transition

@@ -1,10 +1,11 @@
 //! Draws a state.
-ghost use Rattle.std.specs.Prelude.{◌≡◌, ◌+◌, ◌<◌, ◌≤◌, ◌==◌, encode_utf8, Some, None, is_some, not, if◌then◌else◌, IfOk, IsTrue, option_map, option_copied};
+ghost use Rattle.std.specs.Prelude.{◌≡◌, ◌+◌, ◌<◌, ◌≤◌, ◌==◌, true, length, encode_utf8, Some, None, is_some, not, if◌then◌else◌, IfOk, IsTrue, option_map, option_copied};
 ghost use Rattle.line_buffer.specs.Cells.{origin};
+ghost use Rattle.line_buffer.specs.Printable.{is_plain};
 ghost use Rattle.line_editor.specs.RenderCalls.{Makes};
 ghost use Rattle.line_editor.specs.RenderCalls.Call.{Draw};
 ghost use Rattle.line_editor.specs.Values.{hooks_by, is_marked_by, marks_seen};
-ghost use Rattle.line_editor.specs.Redraws.{layout_of, may_type, may_take, may_erase, may_put_in, may_take_out, cell_on};
+ghost use Rattle.line_editor.specs.Redraws.{layout_of, may_type, may_take, may_erase, may_put_in, may_take_out, may_write_over, cell_on};
 
 use crate::faults::error_of;
 use crate::renderer::{RefreshKind, Renderer};
@@ -128,6 +129,17 @@ fn may_take_out<Out: Renderer>(
                 && (count <= usize::from(layout.end.col) && is_printable_text(rest))))
 }
 
+/// Whether nothing is shown after the line, and `count` letters written from a cell on don't fill its
+/// row.
+fn may_write_over<Out: Renderer>(out: &Out, layout: &Layout, at: Position, count: usize) -> bool
+    ensures value { result ≡ may_write_over (Out.canvas.ruler out.now) layout.now at count }
+    ensures room { IsTrue result → at.col + count < (Out.canvas.ruler out.now).columns }
+{
+    let columns = usize::from(out.get_columns());
+    let col = usize::from(at.col);
+    !layout.has_info && (col < columns && count < columns - col)
+}
+
 /// The cell after another, in rows of so many columns. A full row is left at once.
 fn cell_on(columns: Unit, at: Position) -> Position
     requires col { at.col < columns }
@@ -207,7 +219,7 @@ impl<'p, 'h, Out: Renderer, H: Helper + Drop, Hi: History> State<'p, 'h, Out, H,
     ghost use Rattle.line_editor.specs.Drawing.{draw_effect_behind, draw_effect_with, repaint_effect, refresh_effect, refresh_effect_behind, message_effect, cursor_shown, cursor_moved, cursor_end_effect, beep_effect, clear_effect, clear_and_draw_effect};
     ghost use Rattle.line_editor.specs.Drawing.{hint_asked, ask_anew_effect};
     ghost use Rattle.line_editor.specs.Values.{draw_effect};
-    ghost use Rattle.line_editor.specs.Redraws.Redraw.{Typed, Appended, Taken, Erased, PutIn, TakenOut, Bared};
+    ghost use Rattle.line_editor.specs.Redraws.Redraw.{Typed, Appended, Taken, Erased, PutIn, TakenOut, Rewritten, Bared};
     ghost use Rattle.line_editor.specs.RenderCalls.Call.{ToLeftmost};
     ghost use Rattle.line_keys.specs.declared.command.CmdKind.TheVariants.{Other};
 
@@ -543,6 +555,30 @@ impl<'p, 'h, Out: Renderer, H: Helper + Drop, Hi: History> State<'p, 'h, Out, H,
                 .move_and_delete_chars(self.layout.cursor, at, count as u16, rest, end)?;
             self.layout.cursor = at;
             self.layout.end = end;
+            return Ok(());
+        }
+        self.draw_with(None)
+    }
+
+    /// Shows that printable characters of a plain line were replaced by as many: they are written
+    /// over the old ones, if they don't fill their row and nothing is shown after the line.
+    pub(crate) fn show_rewritten(&mut self, from: usize, upto: usize) -> Result<(), ReadlineError>
+        requires order { from ≤ upto }
+        requires inside { upto ≤ length self.old.recorded.line.text }
+        requires plain { is_plain self.old.recorded.line.text ≡ true }
+        ensures { Renders (λ s v. draw_effect
+            (Rewritten s.prompt from upto v.line.text v.line.place) s v)
+            self.old self.new result }
+    {
+        let pos = self.recorded.line.pos();
+        let at = self.position_at(from);
+        let cursor = self.position_at(pos);
+        let recorded = &self.recorded;
+        let letters = &recorded.line.as_str()[from..upto];
+        if may_write_over(&self.out, &self.layout, at, letters.len()) {
+            self.out
+                .write_over(letters, self.layout.cursor, at, cursor)?;
+            self.layout.cursor = cursor;
             return Ok(());
         }
         self.draw_with(None)

@@ -25,6 +25,7 @@ mod next_command;
 mod prefixes;
 mod refreshing;
 pub mod renderer;
+mod rewriting;
 pub mod saved;
 mod starting;
 pub mod state;

@@ -1,10 +1,10 @@
 //! The trait of renderers.
-ghost use Rattle.std.specs.Prelude.{◌≡◌, ◌+◌, ◌<◌, ◌≤◌, true, false, take, Some, OnErr, IfOk, IfErr, IsTrue, IsCharBoundary, option_copied, option_map};
+ghost use Rattle.std.specs.Prelude.{◌≡◌, ◌+◌, ◌<◌, ◌≤◌, true, false, take, Some, OnErr, IfOk, IfErr, IsTrue, IsCharBoundary, option_copied, option_map, length};
 ghost use Rattle.line_buffer.specs.Printable.{is_plain};
 ghost use Rattle.line_editor.specs.KnownPlaces.{IsKnown};
 ghost use Rattle.line_config.specs.declared.errors.ReadlineError.TheVariants.{Display};
 ghost use Rattle.line_editor.specs.RenderCalls.{Canvas, Makes, Idles};
-ghost use Rattle.line_editor.specs.RenderCalls.Call.{Draw, Move, Write, Beep, ClearScreen, ClearRows, ClearToEol, MoveAndClearToEol, InsertChar, MoveAndDelete, Append, DrawRest, ToLeftmost};
+ghost use Rattle.line_editor.specs.RenderCalls.Call.{Draw, Move, Write, Beep, ClearScreen, ClearRows, ClearToEol, MoveAndClearToEol, InsertChar, MoveAndDelete, Append, DrawRest, ToLeftmost, WriteOver};
 ghost use Rattle.line_editor.specs.Redraws.{layout_of};
 ghost use Rattle.line_editor.specs.Values.{marks_seen};
 
@@ -133,6 +133,18 @@ pub trait Renderer: Drop {
         ensures { Makes canvas (DrawRest rest.now (option_copied hint.entry) old at new_layout.now
             (marks_seen false told (option_map H.marks (option_copied highlighter.entry))))
             self.old self.new result };
+
+    /// Moves the cursor from `old` to `at`, writes letters from there on over as many in their row,
+    /// which they don't fill, and moves the cursor to `new`.
+    fn write_over(
+        &mut self,
+        letters: &str,
+        old: Position,
+        at: Position,
+        new: Position,
+    ) -> Result<(), ReadlineError>
+        requires room { at.col + length letters.now < (canvas.ruler self.old).columns }
+        ensures { Makes canvas (WriteOver letters.now old at new) self.old self.new result };
 
     /// Moves the cursor to the first cell of its row, if the display left it elsewhere.
     fn move_cursor_at_leftmost(&mut self) -> Result<(), ReadlineError>

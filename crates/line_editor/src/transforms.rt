@@ -1,10 +1,20 @@
 //! Transpositions, changes of case, indentation, and undo.
+ghost use Rattle.std.specs.Prelude.{◌≡◌};
+ghost use Rattle.line_editor.specs.Transforms.{pair_end};
 
 use crate::renderer::Renderer;
 use crate::state::State;
-use line_buffer::{Movement, RepeatCount, WordAction};
+use line_buffer::{LineBuffer, Movement, RepeatCount, WordAction};
 use line_config::ReadlineError;
 use line_help::{Helper, History};
+
+/// Behind the two clusters to transpose, if each has one byte.
+fn pair_end(line: &LineBuffer) -> usize
+    ensures { result ≡ pair_end line.now }
+{
+    let pos = line.pos();
+    if pos < line.len() { pos + 1 } else { pos }
+}
 
 #[tactic(auto, using(crate::proofs::StopsLemmas::undoes_stop))]
 impl<'p, 'h, Out: Renderer, H: Helper + Drop, Hi: History> State<'p, 'h, Out, H, Hi> {
@@ -16,9 +26,16 @@ impl<'p, 'h, Out: Renderer, H: Helper + Drop, Hi: History> State<'p, 'h, Out, H,
     pub fn edit_transpose_chars(&mut self) -> Result<(), ReadlineError>
         ensures does { Does transpose_chars_effect self.old self.new result }
     {
+        let end = pair_end(&self.recorded.line);
+        let from = end.saturating_sub(2);
+        let over = self.may_be_rewritten(from, end);
         self.known = None;
         let done = self.recorded.transpose_chars(self.alloc)?;
-        if done { self.refresh() } else { Ok(()) }
+        if done {
+            self.refresh_over(over, from, end)
+        } else {
+            Ok(())
+        }
     }
 
     /// Swaps the word at the cursor or after it with the one `n` words before it, as one step. The

@@ -4,7 +4,7 @@ use Rattle.std.specs.List.{list_all, filter}
 use Rattle.std.proofs.lemmas.Bool.{and_parts, not-true}
 use Rattle.std.proofs.lemmas.Bool.Decides.{nat_tests}
 use Rattle.line_buffer.specs.declared.layout.Position.{Position}
-use Rattle.line_screen.specs.Display.{Placed, cluster_placed_at, placed_in, right, ends_before, is_cut, touches, is_in_rest, is_pushed_out, goes_right, can_go_right, goes_left, can_go_left, is_taken_out}
+use Rattle.line_screen.specs.Display.{Placed, cluster_placed_at, placed_in, right, ends_before, is_cut, touches, is_in_rest, is_pushed_out, goes_right, can_go_right, goes_left, is_uncut, is_taken_out}
 use Rattle.line_screen.specs.Drawing.{next_row, lay_run}
 use Rattle.line_screen.proofs.LetterRows.{is_below}
 
@@ -154,12 +154,12 @@ goes_right_row at p = row_of_right at p (is_in_rest at p)
 pub left_unmoved : (count : ℕ) (at : Position) (p : Placed) → is_elsewhere at p ≡ true → goes_left count at p ≡ p
 left_unmoved count at p h = ap (λ b. if b then record p { col = p.col - count } else p) (not_in_rest (right count at) p (further_elsewhere count at p h))
 
-pub can_go_left_elsewhere : (count : ℕ) (at : Position) (p : Placed) → is_elsewhere at p ≡ true → can_go_left count at p ≡ true
-can_go_left_elsewhere count at p h =
+pub uncut_elsewhere : (count : ℕ) (at : Position) (p : Placed) → is_elsewhere at p ≡ true → is_uncut count at p ≡ true
+uncut_elsewhere count at p h =
     ap (λ b. b && not (is_cut (right count at) p)) (not_cut_elsewhere at p h) ∙ not_cut_elsewhere (right count at) p (further_elsewhere count at p h)
 
-pub letter_can_go_left : (count : ℕ) (at : Position) (c col : ℕ) → can_go_left count at (cluster_placed_at [] (c ∷ []) 1 (record { col = col; row = at.row })) ≡ true
-letter_can_go_left count at c col = grind (arith, nat_tests)
+pub letter_uncut : (count : ℕ) (at : Position) (c col : ℕ) → is_uncut count at (cluster_placed_at [] (c ∷ []) 1 (record { col = col; row = at.row })) ≡ true
+letter_uncut count at c col = grind (arith, nat_tests)
 
 pub kept_elsewhere : (count : ℕ) (at : Position) (p : Placed) → is_elsewhere at p ≡ true → not (is_taken_out count at p) ≡ true
 kept_elsewhere count at p h = ap (λ b. not (b && not (is_in_rest (right count at) p))) (not_in_rest at p h)

@@ -1,5 +1,5 @@
 -- What bytes make of the cells that a display shows from a row on: in the cursor's row a cell is opened, cells are taken out, letters are written; and the cursor moves.
-use Rattle.std.proofs.Common.{◌≡◌, ℕ, ◌+◌, ◌^◌, ◌<◌, ◌≤◌, nat_le, nat_lt, Bool, true, false, not, List, [], ◌∷◌, ◌++◌, map, length, Option, Some, None, refl, sym, ap, ap₂, ◌∙◌, subst, append_assoc, append-nil, arith, if◌then◌else◌}
+use Rattle.std.proofs.Common.{◌≡◌, ℕ, ◌+◌, ◌^◌, ◌<◌, ◌≤◌, nat_le, nat_lt, Bool, true, false, not, List, [], ◌∷◌, ◌++◌, map, length, Option, Some, refl, sym, ap, ap₂, ◌∙◌, subst, append_assoc, append-nil, arith, if◌then◌else◌}
 use Rattle.std.specs.List.{list_all, filter}
 use Rattle.std.proofs.lemmas.Bool.{and_parts, and_from, lt-ltb, le-leb}
 use Rattle.std.proofs.lemmas.Bool.Decides.{nat_tests}
@@ -9,25 +9,25 @@ use Rattle.std.proofs.lemmas.List.Folds.{list_all-append}
 use Rattle.line_buffer.specs.Printable.{is_printable}
 use Rattle.line_buffer.specs.declared.layout.Position.{Position}
 use Rattle.line_screen.specs.Chain.{Stands, above, from_top}
-use Rattle.line_screen.specs.Display.{Placed, cluster_placed_at, Display, reading_after_bytes, start, right, ends_before, put_cells, placed_in, touches, is_pushed_out, goes_right, can_go_right, cell_opened, goes_left, can_go_left, is_taken_out}
+use Rattle.line_screen.specs.Display.{Placed, cluster_placed_at, Display, reading_after_bytes, start, right, ends_before, put_cells, placed_in, touches, is_pushed_out, goes_right, can_go_right, cell_opened, goes_left, is_uncut, is_taken_out}
 use Rattle.line_screen.specs.Display.DisplayReading.{Text, Lost}
 use Rattle.line_screen.specs.Drawing.{next_row, row_break, lay_run, open_cell, take_cells_out, col_move}
-use Rattle.line_screen.proofs.Draws.{D, list_all_since, ends_apart, ends_right, ends_itself}
+use Rattle.line_screen.proofs.Draws.{D, list_all_since, put_blank, ends_apart, ends_right, ends_itself}
 use Rattle.line_screen.proofs.LetterRows.{run_both, run_all, is_below}
 use Rattle.line_screen.proofs.ListLemmas.{filter_all, filter_none, list_all_filter, all_by_parts, filter_comm}
 use Rattle.line_screen.proofs.Moves.{place, cells_out_read, col_move_stands}
-use Rattle.line_screen.proofs.RowShifts.{map_same, filter_mapped, placed_between, filter_placed, filter_lost, is_elsewhere, ended_elsewhere, below_elsewhere, is_beyond, below_beyond, beyond_apart, beyond_not_ended, can_go_elsewhere, stays_elsewhere, right_unmoved, letter_can_go, letter_stays, run_goes_right, goes_right_row, left_unmoved, can_go_left_elsewhere, letter_can_go_left, kept_elsewhere, letter_taken_out, letter_kept, run_goes_left, goes_left_row}
+use Rattle.line_screen.proofs.RowShifts.{map_same, filter_mapped, placed_between, filter_placed, filter_lost, is_elsewhere, ended_elsewhere, below_elsewhere, is_beyond, below_beyond, beyond_apart, beyond_not_ended, can_go_elsewhere, stays_elsewhere, right_unmoved, letter_can_go, letter_stays, run_goes_right, goes_right_row, left_unmoved, uncut_elsewhere, letter_uncut, kept_elsewhere, letter_taken_out, letter_kept, run_goes_left, goes_left_row}
 use Rattle.line_screen.proofs.Standing.{stands_text, read-append, step_control, step_letter, read_break}
 
 -- ---- tests
 
-lost_ended : (top : ℕ) (at : Position) → top ≤ at.row → (p : Placed) → from_top top p ≡ false → ends_before at p ≡ true
+pub lost_ended : (top : ℕ) (at : Position) → top ≤ at.row → (p : Placed) → from_top top p ≡ false → ends_before at p ≡ true
 lost_ended top at low p h = grind (arith, nat_tests)
 
-above_ended : (top : ℕ) (at : Position) → top ≤ at.row → (p : Placed) → above top p ≡ true → ends_before at p ≡ true
+pub above_ended : (top : ℕ) (at : Position) → top ≤ at.row → (p : Placed) → above top p ≡ true → ends_before at p ≡ true
 above_ended top at low p h = grind (arith, nat_tests)
 
-not_above : (top row : ℕ) → top ≤ row → nat_lt row top ≡ false
+pub not_above : (top row : ℕ) → top ≤ row → nat_lt row top ≡ false
 not_above top row low = grind (arith, nat_tests)
 
 -- ---- what the bytes so far mean
@@ -55,7 +55,7 @@ module _ (f : Placed → Placed) (keeps : Placed → Bool) where
   unmoved at stays same xs h = ap (map f) (filter_all keeps xs (list_all_since (is_elsewhere at) keeps stays xs h)) ∙ map_same f (is_elsewhere at) same xs h
 
 module _ (columns : ℕ) (wide : List ℕ → Option ℕ) (over : List Placed) (top : ℕ) where
-  stands_on : (bytes new : List ℕ) (d : Display) → Stands columns (reading_after_bytes columns wide (reading_after_bytes columns wide start bytes) new) d → Stands columns (reading_after_bytes columns wide start (bytes ++ new)) d
+  pub stands_on : (bytes new : List ℕ) (d : Display) → Stands columns (reading_after_bytes columns wide (reading_after_bytes columns wide start bytes) new) d → Stands columns (reading_after_bytes columns wide start (bytes ++ new)) d
   stands_on bytes new d s = subst (λ r. Stands columns r d) (sym (read-append columns wide start bytes new)) s
 
   text_on : (bytes new : List ℕ) (d : Display) → reading_after_bytes columns wide (reading_after_bytes columns wide start bytes) new ≡ Text d [] → Stands columns (reading_after_bytes columns wide start (bytes ++ new)) d
@@ -93,8 +93,7 @@ module _ (columns : ℕ) (wide : List ℕ → Option ℕ) (over : List Placed) (
       let shown_apart : list_all apart (xs ++ ys) ≡ true =
       list_all-append apart xs ys ∙ and_from (list_all apart xs) (list_all apart ys) (list_all_since (ends_before at) apart (ends_apart at 1) xs ends) (list_all_since (is_beyond at) apart (beyond_apart at) ys beyond) in
       let all_apart : list_all apart h.placed ≡ true = all_by_parts (from_top top) apart h.placed (ap (list_all apart) h.shown ∙ shown_apart) (λ p k. ends_apart at 1 p (lost_ended top at low p k)) in
-      let put_is : put_cells columns 1 (c ∷ []) (D h.placed at []) ≡ Some e =
-      ap (λ b. if b then Some e else None) (and_from (nat_le (at.col + 1) columns) (list_all apart h.placed) (le-leb (at.col + 1) columns room) all_apart) in
+      let put_is : put_cells columns 1 (c ∷ []) (D h.placed at []) ≡ Some e = put_blank columns 1 (c ∷ []) (D h.placed at []) all_apart room in
       record {
         placed = placed_in at new h.placed;
         stands = stands_on bytes (c ∷ []) e (step_letter columns wide (reading_after_bytes columns wide start bytes) (D h.placed at []) e c h.stands printable put_is);
@@ -203,13 +202,13 @@ module _ (columns : ℕ) (wide : List ℕ → Option ℕ) (over : List Placed) (
       let rest = lay_run [] mid (right count at) in
       let keeps = λ (p : Placed). not (is_taken_out count at p) in
       let taken : Display = D (map (goes_left count at) (filter keeps h.placed)) at [] in
-      let can_cut : list_all (can_go_left count at) h.placed ≡ true =
-      everywhere bytes front run lows at around h (can_go_left count at) (can_go_left_elsewhere count at)
-      (run_all (can_go_left count at) at.row at.col (at.col + length (killed ++ mid)) (λ x col here there. letter_can_go_left count at x col) (killed ++ mid) at refl (omega arith) (omega arith)) in
+      let can_cut : list_all (is_uncut count at) h.placed ≡ true =
+      everywhere bytes front run lows at around h (is_uncut count at) (uncut_elsewhere count at)
+      (run_all (is_uncut count at) at.row at.col (at.col + length (killed ++ mid)) (λ x col here there. letter_uncut count at x col) (killed ++ mid) at refl (omega arith) (omega arith)) in
       let is_read : reading_after_bytes columns wide (reading_after_bytes columns wide start bytes) (take_cells_out count) ≡ Text taken [] =
       cells_out_read columns wide (reading_after_bytes columns wide start bytes) (D h.placed at []) count h.stands (omega arith) (omega arith) some
       ∙ ap (λ b. if b then Text taken [] else Lost)
-      (and_from (nat_le (at.col + count) columns) _ (le-leb (at.col + count) columns room) (and_from (list_all (can_go_left count at) h.placed) true can_cut refl)) in
+      (and_from (nat_le (at.col + count) columns) _ (le-leb (at.col + count) columns room) (and_from (list_all (is_uncut count at) h.placed) true can_cut refl)) in
       let first_gone : filter keeps first ≡ [] =
       filter_none keeps first (run_all (λ p. not (keeps p)) at.row at.col (at.col + count) (λ x col here there. letter_taken_out count at x col here there) killed at refl (omega arith) (omega arith)) in
       let rest_kept : filter keeps rest ≡ rest =

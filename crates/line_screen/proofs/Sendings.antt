@@ -1,13 +1,26 @@
 -- What a call sends that makes others, one after the other.
-use Rattle.std.proofs.Common.{◌≡◌, ℕ, ◌+◌, ◌==◌, nat_le, Bool, false, List, [], ◌∷◌, ◌++◌, length, ◌∙◌, refl, sym, ap, Result, Ok, Err, IsTrue, if◌then◌else◌, subst, append_assoc}
-use Rattle.std.specs.Prelude.{decimal}
+use Rattle.std.proofs.Common.{◌≡◌, ℕ, ◌+◌, ◌==◌, nat_le, Bool, List, [], ◌∷◌, ◌++◌, length, ◌∙◌, refl, sym, ap, Result, Ok, Err, IsTrue, if◌then◌else◌, subst, append_assoc, zero, suc, ◌-◌, ◌<◌, ◌≤◌, nat_lt, true, ◌&&◌, arith}
+use Rattle.std.specs.Prelude.{decimal, replicate, take}
 use Rattle.std.specs.Result.{IsErrAnd}
-use Rattle.std.proofs.lemmas.Bool.{ne_eqb, false≢true}
+use Rattle.std.proofs.lemmas.Bool.{ne_eqb, false≢true, and_from, eq-eqb, lt-ltb, le-leb}
 use Rattle.line_config.specs.declared.device.DeviceFailed.{DeviceFailed}
 use Rattle.line_config.specs.Sending.{Takes, TakesSome, Sends}
 use Rattle.line_config.proofs.Taking.{takes_then, some_of_more, some_then, sends_then, sends_cut}
-use Rattle.line_screen.specs.Drawing.{control_sequence, no_style, in_fence, left_col, break_if, break_unless, fitted_col, cluster_in_fence, bytes_of_item, col_after_one, SendsTo}
+use Rattle.line_screen.specs.Drawing.{control_sequence, no_style, in_fence, left_col, break_if, break_unless, fitted_col, cluster_in_fence, bytes_of_item, col_after_one, SendsTo, move_bytes, is_step_back, short_move}
+use Rattle.line_buffer.specs.declared.layout.Position.{Position}
 use Rattle.line_screen.specs.Drawing.DrawnItem.{Cluster}
+
+-- so many BS, of four
+abbrev four_steps : List ℕ
+four_steps = 0x08 ∷ 0x08 ∷ 0x08 ∷ 0x08 ∷ []
+
+steps : (n : ℕ) → n ≤ 4 → take n four_steps ≡ replicate n 0x08
+steps zero h = refl
+steps (suc zero) h = refl
+steps (suc (suc zero)) h = refl
+steps (suc (suc (suc zero))) h = refl
+steps (suc (suc (suc (suc zero)))) h = refl
+steps (suc (suc (suc (suc (suc n))))) h = absurd (omega arith)
 
 module _ {D : Type 0} (held : D → List ℕ) (failed : D → Bool) where
   -- a sequence whose number isn't 0
@@ -16,6 +29,14 @@ module _ {D : Type 0} (held : D → List ℕ) (failed : D → Bool) where
   sends_control count final {a = a} {b = b} {r = r} not_none s =
       let P : Bool → Type 0 = λ none. Sends held failed (if none then [] else (0x1B ∷ 0x5B ∷ (decimal count ++ final ∷ []))) a b r in
       subst P (sym (ne_eqb count 0 not_none)) s
+
+  pub sends_steps : {A : Type 0} (old new : Position) (n : ℕ) {a b : D} {r : Result A DeviceFailed} → old.row ≡ new.row → new.col < old.col → n ≤ 4 → n ≡ old.col - new.col
+      → Sends held failed (take n four_steps) a b r → Sends held failed (short_move old new) a b r
+  sends_steps old new n {a = a} {b = b} {r = r} row low few is s =
+      let back : is_step_back old new ≡ true =
+      and_from (old.row == new.row) (nat_lt new.col old.col && nat_le old.col (new.col + 4)) (eq-eqb old.row new.row row)
+      (and_from (nat_lt new.col old.col) (nat_le old.col (new.col + 4)) (lt-ltb new.col old.col low) (le-leb old.col (new.col + 4) (omega arith))) in
+      subst (λ bytes. Sends held failed bytes a b r) (steps n few ∙ ap (λ m. replicate m 0x08) is ∙ ap (λ t. if t then replicate (old.col - new.col) 0x08 else move_bytes old new) (sym back)) s
 
   -- the same, where a column is answered
   pub sends_to_then : (column columns : ℕ) (xs ys : List ℕ) {a b c : D} {r : Result ℕ DeviceFailed}

@@ -14,28 +14,28 @@ use Rattle.line_buffer.specs.declared.layout.Position.{Position}
 use Rattle.line_config.specs.declared.settings.BellStyle.{BellStyle}
 use Rattle.line_config.specs.declared.settings.BellStyle.TheVariants as Bells
 use Rattle.line_editor.specs.RenderCalls.{Call, Ruler}
-use Rattle.line_editor.specs.RenderCalls.Call.{Draw, Move, Write, Beep, ClearScreen, ClearRows, ClearToEol, MoveAndClearToEol, InsertChar, MoveAndDelete, Append, DrawRest, ToLeftmost, Help}
-use Rattle.line_editor.specs.Redraws.{Redraw, RedrawCalls, calls_of_redraw, full, info_text, may_type, may_take, may_erase, may_put_in, may_take_out, move_call, nothing_asked, char_call, append_call, erase_call, put_in_short, taken_out_short}
-use Rattle.line_editor.specs.Redraws.Redraw.{Drawn, DrawnFrom, Moved, Typed, Appended, Taken, Erased, PutIn, TakenOut, Bared, ToEnd, Beeped, Cleared}
+use Rattle.line_editor.specs.RenderCalls.Call.{Draw, Move, Write, Beep, ClearScreen, ClearRows, ClearToEol, MoveAndClearToEol, InsertChar, MoveAndDelete, Append, DrawRest, ToLeftmost, Help, WriteOver}
+use Rattle.line_editor.specs.Redraws.{Redraw, RedrawCalls, calls_of_redraw, full, info_text, may_type, may_take, may_erase, may_put_in, may_take_out, move_call, nothing_asked, char_call, append_call, erase_call, put_in_short, taken_out_short, may_write_over, write_over_call}
+use Rattle.line_editor.specs.Redraws.Redraw.{Drawn, DrawnFrom, Moved, Typed, Appended, Taken, Erased, PutIn, TakenOut, Bared, ToEnd, Beeped, Cleared, Rewritten}
 use Rattle.line_editor.specs.Values.{shown_marks}
 use Rattle.line_screen.specs.ScreenCalls.{Screen, bytes_of, bell_bytes, old_row, drawing_bytes, ruler_of}
 use Rattle.line_screen.specs.Chain.{View, Good, Picture, Inside, Replaces, LeadsView, TakesOut, DrawsRest, picture_of_line, cursor_of}
 use Rattle.line_screen.specs.ColourLaws.{BeginsNoStyle, has_no_marks, UnmarkedCallsBeginNone, ScreensWithoutColours, Uncoloured}
 use Rattle.line_screen.specs.Colours.{no_styles, painted_text, bytes_of_all_painted, rest_drawing}
-use Rattle.line_screen.specs.Display.{Placed, is_text}
-use Rattle.line_screen.specs.Drawing.{DrawnItem, Widths, blanks, text_items, no_style, in_fence, break_if, break_unless, fitted_col, cluster_in_fence, bytes_of_item, col_after_one, bytes_of_items, col_after, control_sequence, erase_to_end, erase_to_row_end, open_cell, take_cells_out, row_break, left_col, pushed_on, insertion_bytes, pulled_back, deletion_bytes, place_after_insertion, place_after_deletion, row_move, col_move, move_bytes, clearing_bytes, shown_text, drawing}
+use Rattle.line_screen.specs.Display.{Placed, is_text, right}
+use Rattle.line_screen.specs.Drawing.{DrawnItem, Widths, blanks, text_items, no_style, in_fence, break_if, break_unless, fitted_col, cluster_in_fence, bytes_of_item, col_after_one, bytes_of_items, col_after, control_sequence, erase_to_end, erase_to_row_end, open_cell, take_cells_out, row_break, left_col, pushed_on, insertion_bytes, pulled_back, deletion_bytes, place_after_insertion, place_after_deletion, row_move, col_move, move_bytes, clearing_bytes, shown_text, drawing, is_step_back, short_move}
 use Rattle.line_screen.specs.Drawing.DrawnItem.{NewRow, Letter, Cluster, Tab}
 use Rattle.line_screen.specs.Laws.{widths}
 use Rattle.line_screen.specs.Measure.{cluster_width, widths_by, in_row}
 use Rattle.line_screen.proofs.Standing.{printable_text}
-use Rattle.line_screen.proofs.Draws.{Fits, AllFit}
+use Rattle.line_screen.proofs.Draws.{Fits, AllFit, list_all_since}
 use Rattle.line_screen.proofs.Fitting.{items_fit, fit_append, after_inside, drawable}
 use Rattle.line_screen.proofs.InsertedRows.{behind_first}
 use Rattle.line_screen.proofs.Moves.{place}
 use Rattle.line_screen.proofs.PlainDrawing.{plain_text}
 use Rattle.line_screen.proofs.LawLemmas.{calls_lead}
 use Rattle.line_screen.proofs.Leading.{no_styles_are, redraw_drawable, letter_small}
-use Rattle.std.specs.Prelude.{encode_utf8}
+use Rattle.std.specs.Prelude.{encode_utf8, length, replicate, slice_range}
 use Rattle.std.proofs.lemmas.Str.{encode_ascii}
 
 -- ---- sequences that begin otherwise
@@ -151,6 +151,13 @@ col_move_free old new few low =
 move_low : (old new : Position) → old.row < 2 ^ 64 → old.col < 2 ^ 64 → new.row < 2 ^ 64 → new.col < 2 ^ 64 → IsFree (move_bytes old new)
 move_low old new old_row old_col new_row new_col =
     free_then (row_move old.row new.row) (col_move old.col new.col) (row_move_free old.row new.row old_row new_row) (col_move_free old.col new.col old_col new_col)
+
+steps_free : (n : ℕ) → IsFree (replicate n 0x08)
+steps_free zero = refl
+steps_free (suc n) = steps_free n
+
+short_free : (old new : Position) → IsFree (move_bytes old new) → IsFree (short_move old new)
+short_free old new h = free_if (is_step_back old new) (replicate (old.col - new.col) 0x08) (move_bytes old new) (steps_free (old.col - new.col)) h
 
 clearing_free : (row : ℕ) → row < 2 ^ 64 → IsFree (clearing_bytes row)
 clearing_free row few = free_then (control_sequence row 0x41) (0x0D ∷ erase_to_end) (control_free row 0x41 few refl) refl
@@ -358,6 +365,15 @@ call_free s some few a b (MoveAndDelete old new count rest finish) here there h 
 call_free s some few a b (Append text at) here there h plain = part_free s.mode s.tab s.columns some few text (in_row s.columns at).col
 call_free s some few a b (DrawRest rest info old at new None) here there h plain = rest_call_free s.mode s.tab s.columns some few rest (info_text info) old at new.end new.cursor a b here there h
 call_free s some few a b (DrawRest rest info old at new (Some m)) here there h plain = absurd (false≢true plain)
+call_free s some few a b (WriteOver letters old at new) here there h plain =
+    let w = h.2 in
+    let at_in = h.1.inside in
+    let at_is : h.0.place ≡ at = ap (λ (x : View). x.place) h.1.view in
+    let last_in : Inside s.columns (right (length letters) at) = record { row = at_in.row; col = subst (λ p. p.col + length letters < s.columns) at_is w.fits } in
+    free_then (short_move old at) (letters ++ short_move (right (length letters) at) new)
+    (short_free old at (move_free s.mode s.tab s.columns some few old at (subst (Inside s.columns) (sym h.1.old_is) here) at_in))
+    (free_then letters (short_move (right (length letters) at) new) (text_free letters (list_all_since is_printable is_text printable_text letters w.printable))
+    (short_free (right (length letters) at) new (move_free s.mode s.tab s.columns some few (right (length letters) at) new last_in w.inside)))
 call_free s some few a b ToLeftmost here there h plain = refl
 call_free s some few a b (Help fails) here there h plain = refl
 
@@ -395,6 +411,10 @@ asked_plain r l (TakenOut prompt count text place) =
     let rest = drop place text in
     either_plain (may_take_out r l at count rest) (taken_out_short l at count rest) (full r None l prompt true text place None) refl refl
 asked_plain r l (DrawnFrom prompt from text place info) = refl
+asked_plain r l (Rewritten prompt from upto text place) =
+    let at = r.measure (take from text) l.prompt_size in
+    let letters = slice_range text from upto in
+    either_plain (may_write_over r l at (length letters)) (write_over_call l letters at (r.measure (take place text) l.prompt_size)) (full r None l prompt true text place None) refl refl
 asked_plain r l (Bared prompt text place) = either_plain l.default_prompt (nothing_asked l) (full r None l prompt true text place None) refl refl
 asked_plain r l ToEnd = either_plain (same_cell l.cursor l.end) (nothing_asked l) (move_call l l.end) refl refl
 asked_plain r l Beeped = refl

@@ -50,6 +50,10 @@ touches at width p =
 abbrev pub right : ℕ → Position → Position
 right width at = record { col = at.col + width; row = at.row }
 
+-- neither the first nor the last of so many cells cuts the cluster
+abbrev pub is_uncut : ℕ → Position → Placed → Bool
+is_uncut width at p = not (is_cut at p) && not (is_cut (right width at) p)
+
 abbrev pub cluster_placed_at : List ℕ → List ℕ → ℕ → Position → Placed
 cluster_placed_at style bytes width at =
     record { row = at.row; col = at.col; width = width; bytes = bytes; style = style }
@@ -67,12 +71,19 @@ put_down width run d = record {
   pen = d.pen;
 }
 
--- on blank cells of the cursor's row
+-- without the clusters in these cells
+abbrev pub with_blank_cells : ℕ → Display → Display
+with_blank_cells width d = record {
+  placed = filter (λ p. not (touches d.cursor width p)) d.placed;
+  cursor = d.cursor;
+  pen = d.pen;
+}
+
+-- in the cursor's row, in place of the clusters that stand there, of which none may be cut
 abbrev pub put_cells : ℕ → ℕ → List ℕ → Display → Option Display
 put_cells columns width bytes d =
-    if nat_le (d.cursor.col + width) columns
-    && list_all (λ p. not (touches d.cursor width p)) d.placed
-    then Some (put_down width bytes d) else None
+    if nat_le (d.cursor.col + width) columns && list_all (is_uncut width d.cursor) d.placed
+    then Some (put_down width bytes (with_blank_cells width d)) else None
 
 abbrev pub then_put : Option Display → (Display → Option Display) → Option Display
 then_put None f = None
@@ -130,14 +141,16 @@ is_inside columns d = nat_lt d.cursor.col columns
 abbrev pub is_plain_pen : Display → Bool
 is_plain_pen d = length d.pen == 0
 
--- CR goes to the row's start, LF a row down, BEL changes nothing; after the last cell only CR or
--- ESC may come
+-- CR goes to the row's start, LF a row down, BS a column to the left, BEL changes nothing; after the
+-- last cell only CR or ESC may come
 abbrev pub after_control : ℕ → Display → ℕ → DisplayReading
 after_control columns d byte =
     if byte == 0x0D then Text (at_cursor (record { col = 0; row = d.cursor.row }) d) []
     else if byte == 0x1B then Escape d
     else if (byte == 0x0A) && (is_inside columns d && is_plain_pen d)
     then Text (at_cursor (record { col = d.cursor.col; row = d.cursor.row + 1 }) d) []
+    else if (byte == 0x08) && (is_inside columns d && nat_lt 0 d.cursor.col)
+    then Text (at_cursor (record { col = d.cursor.col - 1; row = d.cursor.row }) d) []
     else if (byte == 0x07) && is_inside columns d then Text d []
     else Lost
 
@@ -191,13 +204,10 @@ abbrev pub goes_left : ℕ → Position → Placed → Placed
 goes_left count at p =
     if is_in_rest (right count at) p then record p { col = p.col - count } else p
 
-abbrev pub can_go_left : ℕ → Position → Placed → Bool
-can_go_left count at p = not (is_cut at p) && not (is_cut (right count at) p)
-
 abbrev pub cells_taken_out : ℕ → ℕ → Display → DisplayReading
 cells_taken_out columns count d =
     if nat_le (d.cursor.col + count) columns
-    && (list_all (can_go_left count d.cursor) d.placed && is_plain_pen d)
+    && (list_all (is_uncut count d.cursor) d.placed && is_plain_pen d)
     then Text (record {
       placed = map (goes_left count d.cursor)
           (filter (λ p. not (is_taken_out count d.cursor p)) d.placed);

@@ -9,9 +9,9 @@ use Rattle.line_config.specs.Sending.{Takes, TakesSome}
 use Rattle.line_config.specs.declared.settings.BellStyle.{BellStyle}
 use Rattle.line_config.specs.declared.settings.BellStyle.TheVariants.{Audible}
 use Rattle.line_editor.specs.RenderCalls.{Call, Canvas, Ruler}
-use Rattle.line_editor.specs.RenderCalls.Call.{Draw, Move, Write, Beep, ClearScreen, ClearRows, ClearToEol, MoveAndClearToEol, InsertChar, MoveAndDelete, Append, DrawRest}
+use Rattle.line_editor.specs.RenderCalls.Call.{Draw, Move, Write, Beep, ClearScreen, ClearRows, ClearToEol, MoveAndClearToEol, InsertChar, MoveAndDelete, Append, DrawRest, WriteOver}
 use Rattle.line_editor.specs.Redraws.{info_text}
-use Rattle.line_screen.specs.Drawing.{Widths, text_items, bytes_of_items, drawing, full_drawing, clearing_bytes, move_bytes, erase_to_end, erase_to_row_end, go_home, insertion_bytes, deletion_bytes, place_after_insertion, place_after_deletion}
+use Rattle.line_screen.specs.Drawing.{Widths, text_items, bytes_of_items, drawing, full_drawing, clearing_bytes, move_bytes, erase_to_end, erase_to_row_end, go_home, insertion_bytes, deletion_bytes, place_after_insertion, place_after_deletion, writing_bytes}
 use Rattle.line_editor.specs.Sights.{PartSpans, spans_by, drawn_spans}
 use Rattle.line_help.specs.Paints.{Marks}
 use Rattle.line_screen.specs.Colours.{Styles, SgrSpan, span_of, painted_bytes, rest_drawing}
@@ -116,6 +116,7 @@ bytes_of s (Append text at) =
 bytes_of s (DrawRest rest info old at new marks) =
     rest_drawing s.columns (widths_by s.mode s.tab s.columns) rest (info_text info)
     (info_styles marks (info_text info)) old at new.end new.cursor
+bytes_of s (WriteOver letters old at new) = writing_bytes letters old at new
 bytes_of s call = []
 
 -- a failed device becomes the display's error

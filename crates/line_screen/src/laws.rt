@@ -2,7 +2,7 @@
 
 ghost use Rattle.line_screen.specs.Input.{EncodedCharsAreRead, CharsAreEncoded};
 ghost use Rattle.line_screen.specs.KeyGrammar.{WholeKeysStay, PastedTextIsBeforeItsMark, PastedTextIsCutOff, ControlIsOneKey};
-ghost use Rattle.line_screen.specs.Laws.{TypingLeads, AppendingLeads, KillingLeads, ErasingLeads, PuttingInLeads, TakingOutLeads, DrawingRestLeads, FullDrawingShows, PlainDrawingsAreDrawings, StartIsEmpty, CallsLead, ChainsLead, PlaceIsFree, LineEndsAnywhere, EndedLineStays, MeasuresGoOn, ShownIsMeant, CellsAreShown};
+ghost use Rattle.line_screen.specs.Laws.{TypingLeads, AppendingLeads, KillingLeads, ErasingLeads, PuttingInLeads, TakingOutLeads, DrawingRestLeads, FullDrawingShows, PlainDrawingsAreDrawings, StartIsEmpty, CallsLead, ChainsLead, PlaceIsFree, LineEndsAnywhere, EndedLineStays, MeasuresGoOn, ShownIsMeant, CellsAreShown, WritingOverLeads};
 ghost use Rattle.line_screen.specs.ScreenCalls.{ReadsFindNothingWaiting};
 ghost use Rattle.line_screen.specs.ColourLaws.{ColoursStand, NumbersAreStyles, Uncoloured};
 
@@ -43,7 +43,7 @@ pub fn start()
 /// Each call leads from a display that shows one view to one that shows the next, if it is allowed
 /// there. The calls are a drawing, a move, the insertion of one byte, the erasure of a row's end, a
 /// character put before others, characters taken out before others, a text drawn behind the others,
-/// a line's rest drawn from a cell on, a beep, a clearing and CR LF.
+/// a line's rest drawn from a cell on, letters written over as many, a beep, a clearing and CR LF.
 pub fn calls()
     ensures { CallsLead }
 {}
@@ -93,6 +93,12 @@ pub fn row_kills()
 /// to the line with it and to the hint or message after it. No cluster may lie over that place.
 pub fn drawn_rests()
     ensures { DrawingRestLeads }
+{}
+
+/// If the editor writes letters over as many in a row, this leads to the line with them. The end
+/// stays.
+pub fn row_rewritings()
+    ensures { WritingOverLeads }
 {}
 
 /// Calls one after the other lead from what is shown before them to what is shown after them. The

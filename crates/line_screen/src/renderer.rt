@@ -6,6 +6,7 @@ ghost use Rattle.line_screen.specs.Colours.{brush_spans, styles_in};
 ghost use Rattle.line_editor.specs.Values.{marks_seen, seen_marks};
 
 use crate::drawing::coloured::{Painting, paint};
+use crate::drawing::over::write_letters;
 use crate::drawing::painted::Brush;
 use crate::drawing::rest::{Rest, draw_rest};
 use crate::drawing::sequences::{clear, go, move_and_erase, send_flushed};
@@ -230,6 +231,18 @@ impl<D: Sink + Drop> Renderer for ScreenRenderer<D> {
             cursor,
         };
         answer(draw_rest(&mut self.sink, self.grid, old, at, &shown))
+    }
+
+    /// All bytes are passed on together.
+    fn write_over(
+        &mut self,
+        letters: &str,
+        old: Position,
+        at: Position,
+        new: Position,
+    ) -> Result<(), ReadlineError> {
+        let letters = letters.as_bytes();
+        answer(write_letters(&mut self.sink, letters, old, at, new))
     }
 
     /// Writes nothing: no call leaves the cursor elsewhere.

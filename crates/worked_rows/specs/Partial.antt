@@ -580,38 +580,139 @@ row_97 = record (row 97 settings_69 (encode_utf8_all (codes "abcdefg漢\u{1b}[Dx
           codes "\u{1b}[m> \u{1b}[m\u{1b}[m\u{1b}[m\r\n"));
     }
 
+-- abc Left Left C-t Enter = bac | shows {} a b c ␛[1D ␛[1D ␈ba ␛[1C␍␊ {} ␍␊
+abbrev pub row_101 : Row
+row_101 = record (row 101 settings_8 (codes "abc\u{1b}[D\u{1b}[D\u{14}\r") (codes "bac\n")) {
+  shows = Some
+      (codes "\r\u{1b}[J\u{1b}[m> \u{1b}[m\u{1b}[m\u{1b}[mabc\u{1b}[1D\u{1b}[1D\u{8}ba\u{1b}" ++
+      codes "[1C\r\n\r\u{1b}[J\u{1b}[m> \u{1b}[m\u{1b}[m\u{1b}[m\r\n");
+}
+
+-- abcd Left Left C-t Enter = acbd | shows {} a b c d ␛[1D ␛[1D ␈cb ␛[1C␍␊ {} ␍␊
+abbrev pub row_102 : Row
+row_102 = record (row 102 settings_8 (codes "abcd\u{1b}[D\u{1b}[D\u{14}\r") (codes "acbd\n")) {
+  shows = Some (codes "\r\u{1b}[J\u{1b}[m> \u{1b}[m\u{1b}[m\u{1b}[mabcd\u{1b}[1D\u{1b}[1D\u{8}cb" ++
+      codes "\u{1b}[1C\r\n\r\u{1b}[J\u{1b}[m> \u{1b}[m\u{1b}[m\u{1b}[m\r\n");
+}
+
+-- abc C-t C-t x Enter = abcx | shows {} a b c ␈␈cb ␈␈bc x ␍␊ {} ␍␊
+abbrev pub row_103 : Row
+row_103 = record (row 103 settings_8 (codes "abc\u{14}\u{14}x\r") (codes "abcx\n")) {
+  shows = Some
+      (codes "\r\u{1b}[J\u{1b}[m> \u{1b}[m\u{1b}[m\u{1b}[mabc\u{8}\u{8}cb\u{8}\u{8}bcx\r\n\r" ++
+      codes "\u{1b}[J\u{1b}[m> \u{1b}[m\u{1b}[m\u{1b}[m\r\n");
+}
+
+-- Paste a␊bc Pasted C-t Enter = a␊cb | shows {} ␛[Ja␍␊bc ␈␈cb ␍␊ {} ␍␊
+abbrev pub row_104 : Row
+row_104 = record (row 104 settings_8 (codes "\u{1b}[200~a\nbc\u{1b}[201~\u{14}\r")
+    (codes "a\ncb\n")) {
+      shows = Some
+          (codes "\r\u{1b}[J\u{1b}[m> \u{1b}[m\u{1b}[m\u{1b}[m\u{1b}[Ja\r\nbc\u{8}\u{8}cb\r\n\r" ++
+          codes "\u{1b}[J\u{1b}[m> \u{1b}[m\u{1b}[m\u{1b}[m\r\n");
+    }
+
+-- Paste abc␊de Pasted Up Right C-t Enter = bac␊de | shows {} ␛[Jabc␍␊de ␛[1A ␛[1C ␈ba ␛[1B␛[2D␍␊ {} ␍␊
+abbrev pub row_105 : Row
+row_105 = record (row 105 settings_8 (codes "\u{1b}[200~abc\nde\u{1b}[201~\u{1b}[A\u{1b}[C\u{14}\r")
+    (codes "bac\nde\n")) {
+      shows = Some
+          (codes "\r\u{1b}[J\u{1b}[m> \u{1b}[m\u{1b}[m\u{1b}[m\u{1b}[Jabc\r\nde\u{1b}[1A\u{1b}[1" ++
+          codes "C\u{8}ba\u{1b}[1B\u{1b}[2D\r\n\r\u{1b}[J\u{1b}[m> \u{1b}[m\u{1b}[m\u{1b}[m\r\n");
+    }
+
+-- éab C-t Enter = éba | shows {} ␛[mé␛[m a b {␛[mé␛[mba} ␍␊ {} ␍␊
+abbrev pub row_108 : Row
+row_108 = record (row 108 settings_8 (encode_utf8_all (codes "éab\u{14}\r")) (encode_utf8_all
+    (codes "éba\n"))) {
+      shows = Some (encode_utf8_all
+          (codes "\r\u{1b}[J\u{1b}[m> \u{1b}[m\u{1b}[m\u{1b}[m\u{1b}[mé\u{1b}[mab\r\u{1b}[J" ++
+          codes "\u{1b}[m> \u{1b}[m\u{1b}[mé\u{1b}[mba\u{1b}[m\u{1b}[m\r\n\r\u{1b}[J\u{1b}[m> " ++
+          codes "\u{1b}[m\u{1b}[m\u{1b}[m\r\n"));
+    }
+
+-- Paste a␊b Pasted C-t Enter = ab␊ | shows {} ␛[Ja␍␊b ␛[1A{ab␍␊} ␍␊ {} ␍␊
+abbrev pub row_109 : Row
+row_109 = record (row 109 settings_8 (codes "\u{1b}[200~a\nb\u{1b}[201~\u{14}\r") (codes "ab\n\n")) {
+  shows = Some
+      (codes "\r\u{1b}[J\u{1b}[m> \u{1b}[m\u{1b}[m\u{1b}[m\u{1b}[Ja\r\nb\u{1b}[1A\r\u{1b}[J" ++
+      codes "\u{1b}[m> \u{1b}[mab\r\n\u{1b}[m\u{1b}[m\r\n\r\u{1b}[J\u{1b}[m> \u{1b}[m\u{1b}" ++
+      codes "[m\u{1b}[m\r\n");
+}
+
+-- partial helped loaded:#V2␊abc␊
+abbrev pub settings_113 : Settings
+settings_113 = record plain {
+  config = partial plain.config;
+  helping = aide true None;
+  loaded = codes "#V2\nabc\n";
+}
+
+-- ab C-t Enter = ba | shows {} ␛[Ja␛[mbc␛[m␛[2D ␛[Jb␛[mc␛[m␛[1D {ba} ␍␊ {} ␍␊
+abbrev pub row_113 : Row
+row_113 = record (row 113 settings_113 (codes "ab\u{14}\r") (codes "ba\n")) {
+  shows = Some
+      (codes "\r\u{1b}[J\u{1b}[m> \u{1b}[m\u{1b}[m\u{1b}[m\u{1b}[Ja\u{1b}[mbc\u{1b}[m\u{1b}[" ++
+      codes "2D\u{1b}[Jb\u{1b}[mc\u{1b}[m\u{1b}[1D\r\u{1b}[J\u{1b}[m> \u{1b}[mba\u{1b}[m" ++
+      codes "\u{1b}[m\r\n\r\u{1b}[J\u{1b}[m> \u{1b}[m\u{1b}[m\u{1b}[m\r\n");
+}
+
+-- abcdefghi Left Left C-t Enter = abcdefhgi | shows {} a b c d e f g h␍␊ i ␛[1D ␛[1A␛[9C {abcdefhg␍␊i}␛[1D ␛[1C␍␊ {} ␍␊
+abbrev pub row_117 : Row
+row_117 = record (row 117 settings_69 (codes "abcdefghi\u{1b}[D\u{1b}[D\u{14}\r")
+    (codes "abcdefhgi\n")) {
+      shows = Some (codes "\r\u{1b}[J\u{1b}[m> \u{1b}[m\u{1b}[m\u{1b}[mabcdefgh\r\ni\u{1b}[1D\u{1b}[1A"
+          ++ codes "\u{1b}[9C\r\u{1b}[J\u{1b}[m> \u{1b}[mabcdefhg\r\ni\u{1b}[m\u{1b}[m\u{1b}[1D" ++
+          codes "\u{1b}[1C\r\n\r\u{1b}[J\u{1b}[m> \u{1b}[m\u{1b}[m\u{1b}[m\r\n");
+    }
+
+-- abcdefghi C-t Enter = abcdefgih | shows {} a b c d e f g h␍␊ i ␛[1A{abcdefgi␍␊h} ␍␊ {} ␍␊
+abbrev pub row_118 : Row
+row_118 = record (row 118 settings_69 (codes "abcdefghi\u{14}\r") (codes "abcdefgih\n")) {
+  shows = Some (codes "\r\u{1b}[J\u{1b}[m> \u{1b}[m\u{1b}[m\u{1b}[mabcdefgh\r\ni\u{1b}[1A\r\u{1b}[J"
+      ++ codes "\u{1b}[m> \u{1b}[mabcdefgi\r\nh\u{1b}[m\u{1b}[m\r\n\r\u{1b}[J\u{1b}[m> \u{1b}[" ++
+      codes "m\u{1b}[m\u{1b}[m\r\n");
+}
+
+-- abcdefghij C-t Enter = abcdefghji | shows {} a b c d e f g h␍␊ i j ␈␈ji ␍␊ {} ␍␊
+abbrev pub row_119 : Row
+row_119 = record (row 119 settings_69 (codes "abcdefghij\u{14}\r") (codes "abcdefghji\n")) {
+  shows = Some (codes "\r\u{1b}[J\u{1b}[m> \u{1b}[m\u{1b}[m\u{1b}[mabcdefgh\r\nij\u{8}\u{8}ji\r\n\r"
+      ++ codes "\u{1b}[J\u{1b}[m> \u{1b}[m\u{1b}[m\u{1b}[m\r\n");
+}
+
 -- partial vi
-abbrev pub settings_100 : Settings
-settings_100 = record plain {
+abbrev pub settings_122 : Settings
+settings_122 = record plain {
   config = partial (vi plain.config);
 }
 
 -- abc Esc 0iX Enter = Xabc | shows {} a b c ␛[1D ␛[2D ␛[@X ␛[3C␍␊ {} ␍␊
-abbrev pub row_100 : Row
-row_100 = record (row 100 settings_100 (codes "abc\u{1b}0iX\r") (codes "Xabc\n")) {
+abbrev pub row_122 : Row
+row_122 = record (row 122 settings_122 (codes "abc\u{1b}0iX\r") (codes "Xabc\n")) {
   shows = Some (codes "\r\u{1b}[J\u{1b}[m> \u{1b}[m\u{1b}[m\u{1b}[mabc\u{1b}[1D\u{1b}[2D\u{1b}[@X"
       ++ codes "\u{1b}[3C\r\n\r\u{1b}[J\u{1b}[m> \u{1b}[m\u{1b}[m\u{1b}[m\r\n");
 }
 
 -- partial helped loaded:#V2␊hello␊
-abbrev pub settings_104 : Settings
-settings_104 = record plain {
+abbrev pub settings_126 : Settings
+settings_126 = record plain {
   config = partial plain.config;
   helping = aide true None;
   loaded = codes "#V2\nhello\n";
 }
 
 -- he Enter = he | shows {} ␛[Jh␛[mello␛[m␛[4D ␛[Je␛[mllo␛[m␛[3D {he} ␍␊ {} ␍␊
-abbrev pub row_104 : Row
-row_104 = record (row 104 settings_104 (codes "he\r") (codes "he\n")) {
+abbrev pub row_126 : Row
+row_126 = record (row 126 settings_126 (codes "he\r") (codes "he\n")) {
   shows = Some (codes "\r\u{1b}[J\u{1b}[m> \u{1b}[m\u{1b}[m\u{1b}[m\u{1b}[Jh\u{1b}[mello\u{1b}[m" ++
       codes "\u{1b}[4D\u{1b}[Je\u{1b}[mllo\u{1b}[m\u{1b}[3D\r\u{1b}[J\u{1b}[m> \u{1b}[mhe" ++
       codes "\u{1b}[m\u{1b}[m\r\n\r\u{1b}[J\u{1b}[m> \u{1b}[m\u{1b}[m\u{1b}[m\r\n");
 }
 
 -- he Backspace Enter = h | shows {} ␛[Jh␛[mello␛[m␛[4D ␛[Je␛[mllo␛[m␛[3D ␛[1D␛[J␛[mello␛[m␛[4D {h} ␍␊ {} ␍␊
-abbrev pub row_105 : Row
-row_105 = record (row 105 settings_104 (codes "he\u{7f}\r") (codes "h\n")) {
+abbrev pub row_127 : Row
+row_127 = record (row 127 settings_126 (codes "he\u{7f}\r") (codes "h\n")) {
   shows = Some (codes "\r\u{1b}[J\u{1b}[m> \u{1b}[m\u{1b}[m\u{1b}[m\u{1b}[Jh\u{1b}[mello\u{1b}[m" ++
       codes "\u{1b}[4D\u{1b}[Je\u{1b}[mllo\u{1b}[m\u{1b}[3D\u{1b}[1D\u{1b}[J\u{1b}[mello" ++
       codes "\u{1b}[m\u{1b}[4D\r\u{1b}[J\u{1b}[m> \u{1b}[mh\u{1b}[m\u{1b}[m\r\n\r\u{1b}[J" ++
@@ -619,8 +720,8 @@ row_105 = record (row 105 settings_104 (codes "he\u{7f}\r") (codes "h\n")) {
 }
 
 -- é] Enter Left x C-C = nothing | ends Interrupted | shows {} ␛[mé␛[m ] {␛[mé␛[m]␛[mMismatched␠brackets:␠']'␠is␠unpaired␛[m␛[36D ␛[1D ␛[Jx]␛[1D ␛[1C␍␊
-abbrev pub row_106 : Row
-row_106 = record (row 106 settings_104 (encode_utf8_all (codes "é]\r\u{1b}[Dx\u{3}")) []) {
+abbrev pub row_128 : Row
+row_128 = record (row 128 settings_126 (encode_utf8_all (codes "é]\r\u{1b}[Dx\u{3}")) []) {
   ends = Interrupted;
   shows = Some (encode_utf8_all
       (codes "\r\u{1b}[J\u{1b}[m> \u{1b}[m\u{1b}[m\u{1b}[m\u{1b}[mé\u{1b}[m]\r\u{1b}[J\u{1b}" ++
@@ -629,16 +730,16 @@ row_106 = record (row 106 settings_104 (encode_utf8_all (codes "é]\r\u{1b}[Dx\u
 }
 
 -- partial colours helped loaded:#V2␊hello␊
-abbrev pub settings_109 : Settings
-settings_109 = record plain {
+abbrev pub settings_131 : Settings
+settings_131 = record plain {
   config = partial (colours plain.config);
   helping = aide true None;
   loaded = codes "#V2\nhello\n";
 }
 
 -- h Enter = h | shows {} ␛[Jh␛[m␛[0;2mello␛[m␛[m␛[4D {h} ␍␊ {} ␍␊
-abbrev pub row_109 : Row
-row_109 = record (row 109 settings_109 (codes "h\r") (codes "h\n")) {
+abbrev pub row_131 : Row
+row_131 = record (row 131 settings_131 (codes "h\r") (codes "h\n")) {
   shows = Some (codes "\r\u{1b}[J\u{1b}[m> \u{1b}[m\u{1b}[m\u{1b}[m\u{1b}[Jh\u{1b}[m\u{1b}[0;2mello"
       ++ codes "\u{1b}[m\u{1b}[m\u{1b}[4D\r\u{1b}[J\u{1b}[m> \u{1b}[mh\u{1b}[m\u{1b}[m\r\n\r" ++
       codes "\u{1b}[J\u{1b}[m> \u{1b}[m\u{1b}[m\u{1b}[m\r\n");
@@ -651,4 +752,5 @@ partial_rows = row_8 ∷ row_9 ∷ row_10 ∷ row_11 ∷ row_12 ∷ row_15 ∷ r
     ∷ row_51 ∷ row_52 ∷ row_53 ∷ row_54 ∷ row_55 ∷ row_56 ∷ row_57 ∷ row_60 ∷ row_63 ∷ row_64 ∷
     row_65 ∷ row_69 ∷ row_70 ∷ row_71 ∷ row_72 ∷ row_73 ∷ row_74 ∷ row_78 ∷ row_79 ∷ row_80 ∷ row_81
     ∷ row_82 ∷ row_83 ∷ row_84 ∷ row_85 ∷ row_88 ∷ row_89 ∷ row_90 ∷ row_91 ∷ row_92 ∷ row_93 ∷
-    row_96 ∷ row_97 ∷ row_100 ∷ row_104 ∷ row_105 ∷ row_106 ∷ row_109 ∷ []
+    row_96 ∷ row_97 ∷ row_101 ∷ row_102 ∷ row_103 ∷ row_104 ∷ row_105 ∷ row_108 ∷ row_109 ∷ row_113
+    ∷ row_117 ∷ row_118 ∷ row_119 ∷ row_122 ∷ row_126 ∷ row_127 ∷ row_128 ∷ row_131 ∷ []

@@ -252,6 +252,10 @@ const CALLS: &str = "
     audible delete_chars abc = ␛[2A␛[66C␛[2Pab␍␊␛[2P␛[1A␛[78C
     audible append_text c = c
     audible append_text éc漢 = ␛[mé␛[mc␛[m漢␛[m
+    audible write_over  = ␈␈␛[2C
+    audible write_over a = ␈␈a␛[1C
+    audible write_over ab = ␈␈ab
+    audible write_far ab = ␛[2A␛[10Dab␈
     audible clear_screen = ␛[H␛[J
     audible leftmost    = nothing
     audible begin       = nothing
@@ -264,6 +268,12 @@ const CALLS: &str = "
 const HERE: Position = Position { col: 12, row: 3 };
 
 const THERE: Position = Position { col: 2, row: 1 };
+
+// Two columns before `HERE`.
+const NEAR: Position = Position { col: 10, row: 3 };
+
+// The cell after `THERE`.
+const NEXT: Position = Position { col: 3, row: 1 };
 
 // The last cell but one of a row.
 const EDGE: Position = Position { col: 78, row: 1 };
@@ -287,6 +297,19 @@ fn taken_at_edge<Out: Renderer>(
     let end = screen.calculate_position(rest, EDGE);
     if screen.get_columns() == 80 && 0 < count && count <= 2 {
         return screen.move_and_delete_chars(HERE, EDGE, count, rest, end);
+    }
+    Ok(())
+}
+
+// Writes up to three letters from a place on, and moves the cursor to another.
+fn written_over<Out: Renderer>(
+    screen: &mut Out,
+    letters: &str,
+    at: Position,
+    new: Position,
+) -> Result<(), ReadlineError> {
+    if screen.get_columns() == 80 && letters.len() <= 3 && at.col <= 12 {
+        return screen.write_over(letters, HERE, at, new);
     }
     Ok(())
 }
@@ -318,6 +341,8 @@ fn call_made<Out: Renderer>(
         "insert_char" => put_at_edge(screen, text.as_str()),
         "delete_char" => taken_at_edge(screen, 1, text.as_str()),
         "delete_chars" => taken_at_edge(screen, 2, text.as_str()),
+        "write_over" => written_over(screen, text.as_str(), NEAR, HERE),
+        "write_far" => written_over(screen, text.as_str(), THERE, NEXT),
         "append_text" => screen.append_text(text.as_str(), HERE).map(|_| ()),
         "refresh_rest" => draw_rest(screen, "plain", "", text, ""),
         "clear_screen" => screen.clear_screen(),
@@ -492,6 +517,7 @@ const PASSED_ON: &str = "
     delete_char         = written
     delete_chars        = written
     append_text a       = written
+    write_over ab       = written
     append_text é       = written
     refresh_rest ab     = written
     stay                = nothing

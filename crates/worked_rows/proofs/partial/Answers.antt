@@ -10,8 +10,14 @@ use Rattle.worked_rows.proofs.partial.Goals as goal
 abbrev part : ℕ → List Row
 part n = take 7 (drop n partial_rows)
 
+abbrev from_77 : List Row
+from_77 = drop 77 partial_rows
+
+abbrev from_70 : List Row
+from_70 = part 70 ++ from_77
+
 abbrev from_63 : List Row
-from_63 = drop 63 partial_rows
+from_63 = part 63 ++ from_70
 
 abbrev from_56 : List Row
 from_56 = part 56 ++ from_63
@@ -142,16 +148,38 @@ unshown-56 = refl
 shown-56 : AllShown (short (part 56))
 shown-56 = all_shown (short (part 56)) unshown-56
 
-given-63 : differing from_63 ≡ []
+given-63 : differing (part 63) ≡ []
 unfolding computing
 given-63 = refl
 
-unshown-63 : unshown (short from_63) ≡ []
+unshown-63 : unshown (short (part 63)) ≡ []
 unfolding computing
 unshown-63 = refl
 
-shown-63 : AllShown (short from_63)
-shown-63 = all_shown (short from_63) unshown-63
+shown-63 : AllShown (short (part 63))
+shown-63 = all_shown (short (part 63)) unshown-63
+
+given-70 : differing (part 70) ≡ []
+unfolding computing
+given-70 = refl
+
+unshown-70 : unshown (short (part 70)) ≡ []
+unfolding computing
+unshown-70 = refl
+
+shown-70 : AllShown (short (part 70))
+shown-70 = all_shown (short (part 70)) unshown-70
+
+given-77 : differing from_77 ≡ []
+unfolding computing
+given-77 = refl
+
+unshown-77 : unshown (short from_77) ≡ []
+unfolding computing
+unshown-77 = refl
+
+shown-77 : AllShown (short from_77)
+shown-77 = all_shown (short from_77) unshown-77
 
 pub returns-clause-given : goal.returns-clause-given
 returns-clause-given c = subst (λ rows. differing rows ≡ []) all-rows
@@ -163,7 +191,9 @@ returns-clause-given c = subst (λ rows. differing rows ≡ []) all-rows
     (both_given (part 35) from_42 given-35
     (both_given (part 42) from_49 given-42
     (both_given (part 49) from_56 given-49
-    (both_given (part 56) from_63 given-56 given-63)))))))))
+    (both_given (part 56) from_63 given-56
+    (both_given (part 63) from_70 given-63
+    (both_given (part 70) from_77 given-70 given-77)))))))))))
 
 pub returns-clause-shown : goal.returns-clause-shown
 returns-clause-shown c = subst (λ rows. AllShown (short rows)) all-rows
@@ -175,4 +205,6 @@ returns-clause-shown c = subst (λ rows. AllShown (short rows)) all-rows
     (both_shown (part 35) from_42 shown-35
     (both_shown (part 42) from_49 shown-42
     (both_shown (part 49) from_56 shown-49
-    (both_shown (part 56) from_63 shown-56 shown-63)))))))))
+    (both_shown (part 56) from_63 shown-56
+    (both_shown (part 63) from_70 shown-63
+    (both_shown (part 70) from_77 shown-70 shown-77)))))))))))

@@ -1,31 +1,46 @@
-use Rattle.std.proofs.Common.{refl, sym, ◌∙◌}
+use Rattle.std.proofs.Common.{refl, sym, ◌∙◌, arith}
 use Rattle.line_buffer.specs.Transpositions.{transposes_chars}
 use Rattle.line_edits.specs.Edits.{transpose_chars_group}
-use Rattle.line_editor.specs.Drawing.{refresh_effect_if}
+use Rattle.line_editor.specs.Rewriting.{refresh_over_if}
 use Rattle.line_editor.specs.Transforms.{transpose_chars_effect}
-use Rattle.line_editor.specs.States.{value_of}
-use Rattle.line_editor.proofs.EditLemmas.{edit_then, edit_refused, drawn_if, undrawn_if}
+use Rattle.line_editor.specs.States.{value_of, setting_of}
+use Rattle.line_editor.proofs.EditLemmas.{chars_over, edit_then, edit_refused, over_if, unwritten_if}
 use Rattle.line_editor.proofs.state.State.edit_transpose_chars.Goals as goal
 
 pub returns-in_err-done : goal.returns-in_err-done
 returns-in_err-done g c =
     let s = c.args.self.now in
+    let over = c.may_be_rewritten-over.result in
+    let from = c.saturating_sub-from.result in
+    let end = c.pair_end-end.result in
     record {
-      does = edit_refused transpose_chars_effect (refresh_effect_if (transposes_chars s.recorded.line)) transpose_chars_group (value_of s) s _ _ _ _ c.from_residual.ensures.1 refl refl c.in_err-done.ensures refl refl (record { ruler = refl; prompt = refl; history_is = refl; hooks_are = refl; marks_are = refl; config_is = refl });
+      does = edit_refused transpose_chars_effect (refresh_over_if over from end (transposes_chars s.recorded.line)) transpose_chars_group (value_of s) s _ _ _ _ c.from_residual.ensures.1
+          (chars_over over from end (setting_of s) (value_of s) c.pair_end-end.ensures (omega arith) c.may_be_rewritten-over.ensures)
+          refl c.in_err-done.ensures refl refl (record { ruler = refl; prompt = refl; history_is = refl; hooks_are = refl; marks_are = refl; config_is = refl });
     }
 
 pub returns-then-done : goal.returns-then-done
 returns-then-done g c =
     let s = c.args.self.now in
+    let over = c.may_be_rewritten-over.result in
+    let from = c.saturating_sub-from.result in
+    let end = c.pair_end-end.result in
     record {
-      does = edit_then transpose_chars_effect (refresh_effect_if (transposes_chars s.recorded.line)) transpose_chars_group (value_of s) s _ _ _ _ _ _ refl refl c.in_ok-done.ensures refl refl (record { ruler = refl; prompt = refl; history_is = refl; hooks_are = refl; marks_are = refl; config_is = refl })
-          (drawn_if (transposes_chars s.recorded.line) _ _ _ (sym c.in_ok-done.ensures.writes.answers ∙ c.if-done.true) c.refresh.ensures.does);
+      does = edit_then transpose_chars_effect (refresh_over_if over from end (transposes_chars s.recorded.line)) transpose_chars_group (value_of s) s _ _ _ _ _ _
+          (chars_over over from end (setting_of s) (value_of s) c.pair_end-end.ensures (omega arith) c.may_be_rewritten-over.ensures)
+          refl c.in_ok-done.ensures refl refl (record { ruler = refl; prompt = refl; history_is = refl; hooks_are = refl; marks_are = refl; config_is = refl })
+          (over_if over from end (transposes_chars s.recorded.line) _ _ _ (sym c.in_ok-done.ensures.writes.answers ∙ c.if-done.true) c.refresh_over.ensures.does);
     }
 
 pub returns-else-done : goal.returns-else-done
 returns-else-done g c =
     let s = c.args.self.now in
+    let over = c.may_be_rewritten-over.result in
+    let from = c.saturating_sub-from.result in
+    let end = c.pair_end-end.result in
     record {
-      does = edit_then transpose_chars_effect (refresh_effect_if (transposes_chars s.recorded.line)) transpose_chars_group (value_of s) s _ _ _ _ _ _ refl refl c.in_ok-done.ensures refl refl (record { ruler = refl; prompt = refl; history_is = refl; hooks_are = refl; marks_are = refl; config_is = refl })
-          (undrawn_if (transposes_chars s.recorded.line) _ _ (sym c.in_ok-done.ensures.writes.answers ∙ c.if-done.false));
+      does = edit_then transpose_chars_effect (refresh_over_if over from end (transposes_chars s.recorded.line)) transpose_chars_group (value_of s) s _ _ _ _ _ _
+          (chars_over over from end (setting_of s) (value_of s) c.pair_end-end.ensures (omega arith) c.may_be_rewritten-over.ensures)
+          refl c.in_ok-done.ensures refl refl (record { ruler = refl; prompt = refl; history_is = refl; hooks_are = refl; marks_are = refl; config_is = refl })
+          (unwritten_if over from end (transposes_chars s.recorded.line) _ _ (sym c.in_ok-done.ensures.writes.answers ∙ c.if-done.false));
     }

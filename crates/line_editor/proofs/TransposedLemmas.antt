@@ -1,0 +1,117 @@
+-- In a plain line the transposed clusters are two bytes.
+use Rattle.std.proofs.Common.{◌≡◌, ℕ, zero, suc, ◌+◌, ◌-◌, ◌<◌, ◌≤◌, ◌==◌, nat_lt, not, Bool, true, false, List, [], ◌∷◌, ◌++◌, take, drop, length, unwrap_or, refl, sym, ap, ap₂, ◌∙◌, arith, if◌then◌else◌}
+use Rattle.std.specs.Prelude.{slice_range}
+use Rattle.std.specs.List.{list_all}
+use Rattle.std.proofs.lemmas.Bool.{and_parts, and_from, eqb-false, eq-eqb, ne_eqb, ltb-true, ltb-false, not-true}
+use Rattle.std.proofs.lemmas.List.{length-append, length-map, take-append-drop}
+use Rattle.line_buffer.specs.Clusters.{place_backward}
+use Rattle.line_buffer.specs.Line.{Line, text_before, text_after, with_cursor_at, with_replacement}
+use Rattle.line_buffer.specs.Printable.{is_printable, is_plain}
+use Rattle.line_buffer.specs.Transpositions.{between_clusters, clusters_at, clusters_around, later_first, transposes_chars, transpose_chars_line}
+use Rattle.line_editor.specs.Transforms.{pair_end}
+use Rattle.line_editor.proofs.PlainClusters.{clusters_plain, plain_split, one_back, one_on}
+
+-- ---- two bytes of a text
+
+record Two (k : ℕ) (text : List ℕ) : Type 0 where
+  a : ℕ
+  b : ℕ
+  one : take 1 (drop k text) ≡ a ∷ []
+  next : take 1 (drop (k + 1) text) ≡ b ∷ []
+  both : take 2 (drop k text) ≡ a ∷ b ∷ []
+
+two : (k : ℕ) (text : List ℕ) → k + 2 ≤ length text → Two k text
+two k [] room = absurd (omega arith)
+two zero (a ∷ []) room = absurd (omega arith)
+two zero (a ∷ (b ∷ text)) room = record { a = a; b = b; one = refl; next = refl; both = refl }
+two (suc k) (c ∷ text) room =
+    let t = two k text (omega arith) in
+    let same : suc k + 1 ≡ suc (k + 1) = omega arith in
+    record { a = t.a; b = t.b; one = t.one; next = ap (λ n. take 1 (drop n (c ∷ text))) same ∙ t.next; both = t.both }
+
+-- exchanged
+pub record Exchanged (l : Line) (from upto : ℕ) : Type 0 where
+  pub letters : List ℕ
+  pub line : transpose_chars_line l ≡ with_replacement from upto letters l
+  pub size : upto ≡ from + length letters
+  pub printable : list_all is_printable (slice_range l.text from upto) ≡ true → list_all is_printable letters ≡ true
+
+-- ---- the places of the clusters
+
+module _ (l : Line) (plain : is_plain l.text ≡ true) (done : transposes_chars l ≡ true) where
+  counted : clusters_around l ≡ length l.text
+  counted =
+      let parts = plain_split l.place l.text plain in
+      let one = λ (c : ℕ). c ∷ [] in
+      ap₂ ◌+◌ (ap length (clusters_plain (text_before l) parts.0) ∙ length-map (text_before l) one) (ap length (clusters_plain (text_after l) parts.1) ∙ length-map (text_after l) one)
+      ∙ sym (length-append (text_before l) (text_after l)) ∙ ap length (take-append-drop l.place l.text)
+
+  several : 1 < length l.text
+  several = let parts = and_parts (not (l.place == 0)) (nat_lt 1 (clusters_around l)) done in ltb-true 1 (length l.text) (ap (nat_lt 1) (sym counted) ∙ parts.1)
+
+  inside : 0 < l.place
+  inside =
+      let parts = and_parts (not (l.place == 0)) (nat_lt 1 (clusters_around l)) done in
+      let differ = eqb-false l.place 0 (not-true (l.place == 0) parts.0) in
+      grind arith
+
+  -- with the cursor between them
+  places : (m : Line) (k : ℕ) → m.text ≡ l.text → m.place ≡ suc k → m.place < length l.text → clusters_at m ≡ (k, k + 1, k + 2)
+  places m k same at room =
+      let plain_too : is_plain m.text ≡ true = ap is_plain same ∙ plain in
+      let size = ap length same in
+      let before = one_back m k plain_too at (omega arith) in
+      let after = one_on m plain_too (omega arith) in
+      let here : m.place ≡ k + 1 = omega arith in
+      let there : m.place + 1 ≡ k + 2 = omega arith in
+      (λ i. (unwrap_or (before i) m.place, here i, unwrap_or (after i) m.place))
+      ∙ ap (λ n. (k, k + 1, n)) there
+
+  -- where the first one begins
+  places_if : (b : Bool) → nat_lt l.place (length l.text) ≡ b → (if b then l.place + 1 else l.place) ≤ length l.text
+      → (k : ℕ) × ((if b then l.place + 1 else l.place) ≡ k + 2) × (clusters_at (between_clusters l) ≡ (k, k + 1, k + 2))
+  places_if true e low =
+      let some = inside in
+      let before = ltb-true l.place (length l.text) e in
+      let apart : (l.place == length l.text) ≡ false = ne_eqb l.place (length l.text) (λ same. omega arith) in (
+        l.place - 1,
+        omega arith,
+        ap (λ b. clusters_at (if b then with_cursor_at (place_backward 1 l) l else l)) apart ∙ places l (l.place - 1) refl (omega arith) before,
+      )
+  places_if false e low =
+      let some = several in
+      let past = ltb-false l.place (length l.text) e in
+      let same : (l.place == length l.text) ≡ true = eq-eqb l.place (length l.text) (omega arith) in
+      let k = l.place - 2 in
+      let one = one_back l (suc k) plain (omega arith) (omega arith) in
+      let m : Line = record l { place = suc k } in (
+        k,
+        omega arith,
+        ap (λ b. clusters_at (if b then with_cursor_at (place_backward 1 l) l else l)) same ∙ ap (λ o. clusters_at (with_cursor_at o l)) one ∙ places m k refl refl (omega arith),
+      )
+
+  pub exchanged : pair_end l ≤ length l.text → Exchanged l (pair_end l - 2) (pair_end l)
+  exchanged low =
+      let found = places_if (nat_lt l.place (length l.text)) refl low in
+      let k = found.0 in
+      let from : pair_end l - 2 ≡ k = let e = found.1 in omega arith in
+      let text = l.text in
+      let letters = later_first (k, k + 1, k + 2) text in
+      let t = two k text (let e = found.1 in omega arith) in
+      let one : k + 1 - k ≡ 1 = omega arith in
+      let next : k + 2 - (k + 1) ≡ 1 = omega arith in
+      let both : k + 2 - k ≡ 2 = omega arith in
+      let letters_are : letters ≡ t.b ∷ t.a ∷ [] =
+      ap₂ ◌++◌ (ap (λ n. take n (drop (k + 1) text)) next ∙ t.next) (ap (λ n. take n (drop k text)) one ∙ t.one) in
+      let gone_is : slice_range text k (k + 2) ≡ t.a ∷ t.b ∷ [] = ap (λ n. take n (drop k text)) both ∙ t.both in
+      let count = ap length letters_are in
+      record {
+        letters = letters;
+        line = ap (λ b. let parts = clusters_at (between_clusters l) in if b then with_replacement parts.0 parts.2 (later_first parts text) l else l) done
+            ∙ ap (λ parts. with_replacement parts.0 parts.2 (later_first parts text) l) found.2
+            ∙ ap₂ (λ x y. with_replacement x y letters l) (sym from) (sym found.1);
+        size = let e = found.1 in omega arith;
+        printable = λ h.
+            let parts = and_parts (is_printable t.a) (list_all is_printable (t.b ∷ [])) (ap (list_all is_printable) (sym gone_is) ∙ ap₂ (λ x y. list_all is_printable (slice_range text x y)) (sym from) (sym found.1) ∙ h) in
+            ap (list_all is_printable) letters_are ∙ and_from (is_printable t.b) (list_all is_printable (t.a ∷ [])) (and_parts (is_printable t.b) true parts.1).0 (and_from (is_printable t.a) true parts.0 refl);
+      }
