@@ -44,7 +44,7 @@ PRINTABLE = re.compile(r"[ -~]*\Z")
 # The beginning of a drawing over an old one of one row, and of a line's first drawing.
 REDRAWN = b"\r\x1b[J"
 TOKENS = re.compile(rb"(?P<nothing>(\x1b\[m)+)|(?P<text>[ -~\x80-\xff]+)|(?P<plain>\x1b\[[JKH@P]|[\r\n\x07\x08])"
-                    rb"|\x1b\[(?P<by>[1-9][0-9]*)(?P<way>[A-DP])|\x1b\[0(?P<style>(;[0-9]+)+)m")
+                    rb"|\x1b\[(?P<by>[1-9][0-9]*)(?P<way>[A-DP])|\x1b\[0(?P<style>(;[0-9]+)+)m|\x1b\[4(?P<mode>[hl])")
 
 
 class Unjudged(Exception):
@@ -306,7 +306,7 @@ class Display(Rows):
 
     def __init__(self, columns, clusters="Unicode"):
         super().__init__(columns, clusters)
-        self.cursor, self.top, self.homed, self.pen = (0, 0), 0, False, ""
+        self.cursor, self.top, self.homed, self.pen, self.inserting = (0, 0), 0, False, "", False
 
     def tell(self, why):
         raise Meaningless(f"{why}, at row {self.cursor[0]}, column {self.cursor[1]}")
@@ -319,12 +319,18 @@ class Display(Rows):
                 break
             at = token.end()
             word = token.lastgroup
-            if word == "text":
+            if word == "text" and self.inserting:
+                self.insert(token["text"])
+            elif word == "text":
                 self.write(token["text"])
             elif word == "nothing":
                 self.pen = ""
             elif word == "style":
                 self.pen = token["style"].decode()
+            elif word == "mode":
+                self.set_mode(token["mode"] == b"h")
+            elif self.inserting and token[0] not in (b"\r", b"\n"):
+                self.tell(f"in insert mode no meaning has {token[0]!r}")
             elif word == "way":
                 self.move(int(token["by"]), token["way"])
             elif word == "plain":
@@ -361,6 +367,21 @@ class Display(Rows):
             self.put(row, col, cluster, each, self.pen)
             col += each
         self.cursor = (row, col)
+
+    def insert(self, run):
+        """Writes letters in insert mode: each moves the rest of its row by a cell."""
+        if not PRINTABLE.match(run.decode()):
+            self.tell(f"in insert mode no meaning has {run!r}")
+        for byte in run:
+            self.stay_inside()
+            self.shift(1)
+            self.write(bytes([byte]))
+
+    def set_mode(self, inserting):
+        self.stay_inside()
+        if self.inserting == inserting or self.pen:
+            self.tell("insert mode is begun or ended twice, or while a style stands")
+        self.inserting = inserting
 
     def move(self, by, way):
         row, col = self.cursor

@@ -27,7 +27,7 @@ use Rattle.line_screen.specs.Chain.{Good, empty_view}
 use Rattle.line_screen.specs.Colours.{AreStyles, PaintedItem, Styles, all_unpainted, is_style, bytes_of_all_painted, painted_drawing, bytes_of_painted, bytes_of_painted_texts, painted_text, shaded_break, style_bytes, items_without_style}
 use Rattle.line_screen.specs.Colours.PaintedItem.{Bare as Plain, Begins, Shaded, Fenced, Padded}
 use Rattle.line_screen.specs.Display.{Placed, is_parameter, is_text, right}
-use Rattle.line_screen.specs.Drawing.{DrawnItem, Widths, blanks, text_items, no_style, break_if, break_unless, cluster_in_fence, fitted_col, bytes_of_item, bytes_of_items, col_after_one, col_after, control_sequence, erase_to_end, erase_to_row_end, in_fence, open_cell, take_cells_out, row_break, row_move, col_move, move_bytes, left_col, pushed_on, insertion_bytes, pulled_back, deletion_bytes, place_after_insertion, place_after_deletion, shown_text, drawing, is_step_back, short_move, writing_bytes}
+use Rattle.line_screen.specs.Drawing.{DrawnItem, Widths, blanks, text_items, no_style, break_if, break_unless, cluster_in_fence, fitted_col, bytes_of_item, bytes_of_items, col_after_one, col_after, control_sequence, erase_to_end, erase_to_row_end, in_fence, open_cell, take_cells_out, row_break, row_move, col_move, move_bytes, left_col, pushed_on, insertion_bytes, pulled_back, deletion_bytes, place_after_insertion, place_after_deletion, shown_text, drawing, is_step_back, short_move, writing_bytes, begin_inserting, end_inserting, put_in, put_and_pushed, begins_two_rows}
 use Rattle.line_screen.specs.Drawing.DrawnItem.{NewRow, Letter, Cluster, Tab}
 use Rattle.line_screen.specs.Laws.{widths}
 use Rattle.line_screen.specs.Measure.{in_row}
@@ -218,22 +218,35 @@ calm_written letters old at new h =
 calm_letter : (c : ℕ) → is_printable c ≡ true → calm (c ∷ []) ≡ true
 calm_letter c h = calm_byte c [] (letter_plain c h) refl
 
-calm_pushed : (columns col : ℕ) (rest : List ℕ) → list_all is_printable rest ≡ true → calm (pushed_on columns col rest) ≡ true
-calm_pushed columns col [] h = refl
-calm_pushed columns col (c ∷ cs) h =
+calm_put : (inserting : Bool) (character : List ℕ) → calm character ≡ true → calm (put_in inserting character) ≡ true
+calm_put true character h = h
+calm_put false character h = calm_both open_cell character refl h
+
+calm_pushed : (inserting : Bool) (columns col : ℕ) (rest : List ℕ) → list_all is_printable rest ≡ true → calm (pushed_on inserting columns col rest) ≡ true
+calm_pushed inserting columns col [] h = refl
+calm_pushed inserting columns col (c ∷ cs) h =
     let parts = and_parts (is_printable c) (list_all is_printable cs) h in
-    let opened = open_cell ++ c ∷ [] in
-    let first = if col == 0 then opened else [] in
+    let one = put_in inserting (c ∷ []) in
+    let first = if col == 0 then one else [] in
     let end = break_if (col + 1 == columns) in
     let next = left_col columns (col + 1) in
-    let calm_opened = calm_both open_cell (c ∷ []) refl (calm_letter c parts.0) in
-    calm_both (first ++ end) (pushed_on columns next cs) (calm_both first end (calm_if (col == 0) opened [] calm_opened refl) (calm_break (col + 1 == columns))) (calm_pushed columns next cs parts.1)
+    calm_both (first ++ end) (pushed_on inserting columns next cs)
+    (calm_both first end (calm_if (col == 0) one [] (calm_put inserting (c ∷ []) (calm_letter c parts.0)) refl) (calm_break (col + 1 == columns)))
+    (calm_pushed inserting columns next cs parts.1)
+
+calm_put_and_pushed : (inserting : Bool) (columns col : ℕ) (character rest : List ℕ) → calm character ≡ true → list_all is_printable rest ≡ true → calm (put_and_pushed inserting columns col character rest) ≡ true
+calm_put_and_pushed inserting columns col character rest h k =
+    let first = put_in inserting character in
+    let end = break_if (col + 1 == columns) in
+    let next = left_col columns (col + 1) in
+    calm_both (first ++ end) (pushed_on inserting columns next rest) (calm_both first end (calm_put inserting character h) (calm_break (col + 1 == columns))) (calm_pushed inserting columns next rest k)
 
 calm_inserted : (columns col : ℕ) (character rest : List ℕ) → calm character ≡ true → list_all is_printable rest ≡ true → calm (insertion_bytes columns col character rest) ≡ true
 calm_inserted columns col character rest h k =
-    let end = break_if (col + 1 == columns) in
-    let next = left_col columns (col + 1) in
-    calm_both (open_cell ++ character ++ end) (pushed_on columns next rest) (calm_both (open_cell ++ character) end (calm_both open_cell character refl h) (calm_break (col + 1 == columns))) (calm_pushed columns next rest k)
+    let fast = put_and_pushed true columns col character rest in
+    calm_if (begins_two_rows columns col rest) (begin_inserting ++ (fast ++ end_inserting)) (put_and_pushed false columns col character rest)
+    (calm_both begin_inserting (fast ++ end_inserting) refl (calm_both fast end_inserting (calm_put_and_pushed true columns col character rest h k) refl))
+    (calm_put_and_pushed false columns col character rest h k)
 
 calm_cells_out : (count : ℕ) → calm (take_cells_out count) ≡ true
 calm_cells_out count = calm_if (count == 1) (0x1B ∷ codes "[P") (control_sequence count 0x50) refl (calm_sequence count 0x50 refl)

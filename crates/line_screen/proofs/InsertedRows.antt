@@ -6,7 +6,7 @@ use Rattle.std.proofs.lemmas.List.Folds.{list_all-append}
 use Rattle.line_buffer.specs.Printable.{is_printable}
 use Rattle.line_buffer.specs.declared.layout.Position.{Position}
 use Rattle.line_screen.specs.Display.{Placed, right, ends_before, is_pushed_out}
-use Rattle.line_screen.specs.Drawing.{next_row, place_after, row_break, break_if, left_col, lay_run, open_cell, pushed_on, insertion_bytes}
+use Rattle.line_screen.specs.Drawing.{next_row, place_after, row_break, break_if, left_col, lay_run, open_cell, pushed_on, put_and_pushed}
 use Rattle.line_screen.specs.Drawing.DrawnItem.{Letter}
 use Rattle.line_screen.specs.StyledTexts.{lay}
 use Rattle.line_screen.proofs.Draws.{list_all_since, ends_next}
@@ -19,30 +19,30 @@ use Rattle.line_screen.proofs.RowSteps.{Holds, Around, breaks, puts, opens}
 
 -- what follows a letter in this column
 abbrev on_from : ℕ → ℕ → List ℕ → List ℕ
-on_from columns col rest = break_if (col + 1 == columns) ++ pushed_on columns (left_col columns (col + 1)) rest
+on_from columns col rest = break_if (col + 1 == columns) ++ pushed_on false columns (left_col columns (col + 1)) rest
 
 abbrev on_if : ℕ → ℕ → List ℕ → Bool → List ℕ
-on_if columns col rest b = break_if b ++ pushed_on columns (if b then 0 else col + 1) rest
+on_if columns col rest b = break_if b ++ pushed_on false columns (if b then 0 else col + 1) rest
 
-on_in_row : (columns col : ℕ) (rest : List ℕ) → col + 1 < columns → on_from columns col rest ≡ pushed_on columns (col + 1) rest
+on_in_row : (columns col : ℕ) (rest : List ℕ) → col + 1 < columns → on_from columns col rest ≡ pushed_on false columns (col + 1) rest
 on_in_row columns col rest room = ap (on_if columns col rest) (ne_eqb (col + 1) columns (λ e. omega arith))
 
 -- in a column that isn't the first
-on_next : (columns col c : ℕ) (cs : List ℕ) → pushed_on columns (col + 1) (c ∷ cs) ≡ on_from columns (col + 1) cs
+on_next : (columns col c : ℕ) (cs : List ℕ) → pushed_on false columns (col + 1) (c ∷ cs) ≡ on_from columns (col + 1) cs
 on_next columns col c cs =
-    ap (λ b. (if b then open_cell ++ c ∷ [] else []) ++ break_if (col + 1 + 1 == columns) ++ pushed_on columns (left_col columns (col + 1 + 1)) cs) (ne_eqb (col + 1) 0 (λ e. omega arith))
+    ap (λ b. (if b then open_cell ++ c ∷ [] else []) ++ break_if (col + 1 + 1 == columns) ++ pushed_on false columns (left_col columns (col + 1 + 1)) cs) (ne_eqb (col + 1) 0 (λ e. omega arith))
 
 on_none : (columns : ℕ) (rest : List ℕ) (col : ℕ) → col + 1 + length rest < columns → on_from columns col rest ≡ []
 on_none columns [] col room = on_in_row columns col [] (omega arith)
 on_none columns (c ∷ cs) col room = on_in_row columns col (c ∷ cs) (omega arith) ∙ on_next columns col c cs ∙ on_none columns cs (col + 1) (omega arith)
 
-on_full : (columns : ℕ) (mid behind : List ℕ) (col : ℕ) → col + 1 + length mid ≡ columns → on_from columns col (mid ++ behind) ≡ row_break ++ pushed_on columns 0 behind
+on_full : (columns : ℕ) (mid behind : List ℕ) (col : ℕ) → col + 1 + length mid ≡ columns → on_from columns col (mid ++ behind) ≡ row_break ++ pushed_on false columns 0 behind
 on_full columns [] behind col full = ap (on_if columns col behind) (eq-eqb (col + 1) columns (omega arith))
 on_full columns (c ∷ cs) behind col full =
     on_in_row columns col (c ∷ (cs ++ behind)) (omega arith) ∙ on_next columns col c (cs ++ behind) ∙ on_full columns cs behind (col + 1) (omega arith)
 
-inserted : (columns col c : ℕ) (rest : List ℕ) → insertion_bytes columns col (c ∷ []) rest ≡ (open_cell ++ c ∷ []) ++ on_from columns col rest
-inserted columns col c rest = append_assoc (open_cell ++ c ∷ []) (break_if (col + 1 == columns)) (pushed_on columns (left_col columns (col + 1)) rest)
+inserted : (columns col c : ℕ) (rest : List ℕ) → put_and_pushed false columns col (c ∷ []) rest ≡ (open_cell ++ c ∷ []) ++ on_from columns col rest
+inserted columns col c rest = append_assoc (open_cell ++ c ∷ []) (break_if (col + 1 == columns)) (pushed_on false columns (left_col columns (col + 1)) rest)
 
 -- ---- what they leave
 
@@ -82,7 +82,7 @@ module _ (columns : ℕ) (wide : List ℕ → Option ℕ) (over : List Placed) (
       (puts columns wide over top (bytes ++ open_cell) c front (moved ++ lows) at printable (omega arith) around.low around.ends beyond (opens columns wide over top bytes front lows mid gone at around room out h))
 
   abbrev Pushes : List ℕ → ℕ → List ℕ → List Placed → Position → Type 0
-  Pushes bytes c rest front at = Pushed columns wide over top (bytes ++ insertion_bytes columns at.col (c ∷ []) rest) front (c ∷ rest) at
+  Pushes bytes c rest front at = Pushed columns wide over top (bytes ++ put_and_pushed false columns at.col (c ∷ []) rest) front (c ∷ rest) at
 
   -- what is shown before a letter is put before these letters, from this place on
   pub record Before (bytes : List ℕ) (rest : List ℕ) (front : List Placed) (at : Position) : Type 0 where
@@ -96,7 +96,7 @@ module _ (columns : ℕ) (wide : List ℕ → Option ℕ) (over : List Placed) (
   pushes_in_row bytes c rest front at printable room b =
       let done = written bytes c front [] rest [] at printable (record { low = b.low; ends = b.ends; below = refl }) (omega arith) refl
       (subst (λ ps. Holds columns wide bytes over top (front ++ ps) at) (alone columns rest at (omega arith)) b.holds) in
-      let bytes_are : insertion_bytes columns at.col (c ∷ []) rest ≡ open_cell ++ c ∷ [] =
+      let bytes_are : put_and_pushed false columns at.col (c ∷ []) rest ≡ open_cell ++ c ∷ [] =
       inserted columns at.col c rest ∙ ap (λ x. (open_cell ++ c ∷ []) ++ x) (on_none columns rest at.col room) ∙ append-nil (open_cell ++ c ∷ []) in
       let new_cells : lay_run [] (c ∷ rest) at ++ [] ≡ lay columns (plain_letters (c ∷ rest)) at = append-nil (lay_run [] (c ∷ rest) at) ∙ sym (letters_laid columns (c ∷ rest) at (omega arith)) in
       record {
@@ -114,7 +114,7 @@ module _ (columns : ℕ) (wide : List ℕ → Option ℕ) (over : List Placed) (
       (subst (λ ps. Holds columns wide bytes over top (front ++ ps) at) (alone columns mid at (omega arith)) b.holds) in
       let done = breaks columns wide over top (bytes ++ (open_cell ++ c ∷ [])) (front ++ (lay_run [] (c ∷ mid) at ++ [])) (right 1 at) some one in
       let new = fills columns (c ∷ mid) [] at b.inside (omega arith) in
-      let bytes_are : (bytes ++ (open_cell ++ c ∷ [])) ++ row_break ≡ bytes ++ insertion_bytes columns at.col (c ∷ []) mid =
+      let bytes_are : (bytes ++ (open_cell ++ c ∷ [])) ++ row_break ≡ bytes ++ put_and_pushed false columns at.col (c ∷ []) mid =
       append_assoc bytes (open_cell ++ c ∷ []) row_break
       ∙ ap (λ x. bytes ++ ((open_cell ++ c ∷ []) ++ x)) (sym (ap (on_from columns at.col) (sym (append-nil mid)) ∙ on_full columns mid [] at.col full))
       ∙ ap (λ x. bytes ++ x) (sym (inserted columns at.col c mid)) in
@@ -161,9 +161,9 @@ module _ (columns : ℕ) (wide : List ℕ → Option ℕ) (over : List Placed) (
       let rest = ih here (front ++ run) (next_row at)
       (record { inside = some; low = omega (arith, b.low); ends = ends; holds = subst (λ ps. Holds columns wide here over top ps (next_row at)) (sym (append_assoc front run lows)) next }) in
       let new = fills columns (c ∷ mid) (z ∷ more) at b.inside (omega arith) in
-      let bytes_are : here ++ insertion_bytes columns 0 (z ∷ []) more ≡ bytes ++ insertion_bytes columns at.col (c ∷ []) (mid ++ z ∷ more) =
-      append_assoc (bytes ++ (open_cell ++ c ∷ [])) row_break (pushed_on columns 0 (z ∷ more))
-      ∙ append_assoc bytes (open_cell ++ c ∷ []) (row_break ++ pushed_on columns 0 (z ∷ more))
+      let bytes_are : here ++ put_and_pushed false columns 0 (z ∷ []) more ≡ bytes ++ put_and_pushed false columns at.col (c ∷ []) (mid ++ z ∷ more) =
+      append_assoc (bytes ++ (open_cell ++ c ∷ [])) row_break (pushed_on false columns 0 (z ∷ more))
+      ∙ append_assoc bytes (open_cell ++ c ∷ []) (row_break ++ pushed_on false columns 0 (z ∷ more))
       ∙ ap (λ x. bytes ++ ((open_cell ++ c ∷ []) ++ x)) (sym (on_full columns mid (z ∷ more) at.col full))
       ∙ ap (λ x. bytes ++ x) (sym (inserted columns at.col c (mid ++ z ∷ more))) in
       let new_cells : (front ++ run) ++ lay columns (plain_letters (z ∷ more)) (next_row at) ≡ front ++ lay columns (plain_letters (c ∷ (mid ++ z ∷ more))) at =
@@ -171,7 +171,7 @@ module _ (columns : ℕ) (wide : List ℕ → Option ℕ) (over : List Placed) (
       record {
         last = rest.last;
         holds = subst (λ x. Holds columns wide x over top (front ++ lay columns (plain_letters (c ∷ (mid ++ z ∷ more))) at) rest.last) bytes_are
-            (subst (λ ps. Holds columns wide (here ++ insertion_bytes columns 0 (z ∷ []) more) over top ps rest.last) new_cells rest.holds);
+            (subst (λ ps. Holds columns wide (here ++ put_and_pushed false columns 0 (z ∷ []) more) over top ps rest.last) new_cells rest.holds);
         inside = rest.inside;
         is_behind = subst (λ p. IsBehind columns (length (c ∷ (mid ++ z ∷ more))) at p rest.last) (sym new.ends)
             (behind_row at (place_after columns (map Letter (z ∷ more)) (next_row at)) rest.last (length (z ∷ more)) (omega arith) (length (c ∷ (mid ++ z ∷ more))) rest.is_behind);

@@ -1,11 +1,11 @@
 -- The bytes of letters that move in their rows, row by row.
-use Rattle.std.proofs.Common.{◌≡◌, ℕ, zero, suc, ◌+◌, ◌-◌, ◌<◌, ◌≤◌, Bool, List, [], ◌∷◌, ◌++◌, length, get_or, take, drop, inl, inr, Some, None, Result, Ok, refl, sym, ap, ◌∙◌, subst, arith, append_assoc, append-nil, length-append, length-drop}
+use Rattle.std.proofs.Common.{◌≡◌, ℕ, zero, suc, ◌+◌, ◌-◌, ◌<◌, ◌≤◌, Bool, true, false, List, [], ◌∷◌, ◌++◌, length, get_or, take, drop, inl, inr, Some, None, Result, Ok, refl, sym, ap, ◌∙◌, subst, arith, append_assoc, append-nil, length-append, length-drop}
 use Rattle.std.specs.List.{slice_get}
 use Rattle.std.proofs.lemmas.Bool.{ne_eqb, eq-eqb, le-leb, lt-leb, cases_lt}
 use Rattle.std.proofs.lemmas.List.{drop-append-le, take-append-drop, length-take-le}
 use Rattle.line_config.specs.Sending.{Takes, Sends}
 use Rattle.line_config.proofs.Taking.{Underway, sends_then}
-use Rattle.line_screen.specs.Drawing.{row_break, take_cells_out, col_move, open_cell, pushed_on, insertion_bytes, pulled_back, deletion_bytes, refilled}
+use Rattle.line_screen.specs.Drawing.{row_break, take_cells_out, col_move, begin_inserting, end_inserting, put_in, pushed_on, put_and_pushed, insertion_bytes, pulled_back, deletion_bytes, refilled}
 
 module _ {D : Type 0} (held : D → List ℕ) (failed : D → Bool) where
   pub sends_all : {A E : Type 0} (bytes : List ℕ) {a b : D} (x : A) → Takes held a b bytes → failed b ≡ failed a → Sends {A = A} {E = E} held failed bytes a b (Ok x)
@@ -20,65 +20,81 @@ module _ {D : Type 0} (held : D → List ℕ) (failed : D → Bool) where
 -- ---- letters that move on
 
 -- letters behind a row's first cell, which don't fill the row
-pushed_inside : (columns col n : ℕ) (xs : List ℕ) → 0 < col → col + n ≡ columns → length xs < n → pushed_on columns col xs ≡ []
-pushed_inside columns col n [] low is short = refl
-pushed_inside columns col zero (c ∷ cs) low is short = absurd (omega arith)
-pushed_inside columns col (suc m) (c ∷ cs) low is short =
+pushed_inside : (inserting : Bool) (columns col n : ℕ) (xs : List ℕ) → 0 < col → col + n ≡ columns → length xs < n → pushed_on inserting columns col xs ≡ []
+pushed_inside inserting columns col n [] low is short = refl
+pushed_inside inserting columns col zero (c ∷ cs) low is short = absurd (omega arith)
+pushed_inside inserting columns col (suc m) (c ∷ cs) low is short =
     rw (ne_eqb col 0 (λ s. omega arith), ne_eqb (col + 1) columns (λ s. omega arith))
-    (pushed_inside columns (col + 1) m cs (omega arith) (omega arith) (omega arith))
+    (pushed_inside inserting columns (col + 1) m cs (omega arith) (omega arith) (omega arith))
 
 -- letters that fill it
-pushed_out : (columns col : ℕ) (row next : List ℕ) → 0 < col → 0 < length row → col + length row ≡ columns
-    → pushed_on columns col (row ++ next) ≡ row_break ++ pushed_on columns 0 next
-pushed_out columns col [] next low some is = absurd (omega arith)
-pushed_out columns col (c ∷ []) next low some is =
+pushed_out : (inserting : Bool) (columns col : ℕ) (row next : List ℕ) → 0 < col → 0 < length row → col + length row ≡ columns
+    → pushed_on inserting columns col (row ++ next) ≡ row_break ++ pushed_on inserting columns 0 next
+pushed_out inserting columns col [] next low some is = absurd (omega arith)
+pushed_out inserting columns col (c ∷ []) next low some is =
     rw (ne_eqb col 0 (λ s. omega arith), eq-eqb (col + 1) columns (omega arith)) refl
-pushed_out columns col (c ∷ d ∷ cs) next low some is =
+pushed_out inserting columns col (c ∷ d ∷ cs) next low some is =
     rw (ne_eqb col 0 (λ s. omega arith), ne_eqb (col + 1) columns (λ s. omega arith))
-    (pushed_out columns (col + 1) (d ∷ cs) next (omega arith) (omega arith) (omega arith))
+    (pushed_out inserting columns (col + 1) (d ∷ cs) next (omega arith) (omega arith) (omega arith))
 
 -- a full row, and the last one
-pushed_row : (columns : ℕ) (row next : List ℕ) → 0 < columns → length row ≡ columns
-    → pushed_on columns 0 (row ++ next) ≡ (0x1B ∷ 0x5B ∷ 0x40 ∷ get_or row 0 0 ∷ 0x0D ∷ 0x0A ∷ []) ++ pushed_on columns 0 next
-pushed_row columns [] next some is = absurd (omega arith)
-pushed_row columns (c ∷ []) next some is = rw (eq-eqb (0 + 1) columns (omega arith)) refl
-pushed_row columns (c ∷ d ∷ cs) next some is =
+pushed_row : (inserting : Bool) (columns : ℕ) (row next : List ℕ) → 0 < columns → length row ≡ columns
+    → pushed_on inserting columns 0 (row ++ next) ≡ put_in inserting (get_or row 0 0 ∷ []) ++ (row_break ++ pushed_on inserting columns 0 next)
+pushed_row inserting columns [] next some is = absurd (omega arith)
+pushed_row inserting columns (c ∷ []) next some is =
+    rw (eq-eqb (0 + 1) columns (omega arith)) (append_assoc (put_in inserting (c ∷ [])) row_break (pushed_on inserting columns 0 next))
+pushed_row inserting columns (c ∷ d ∷ cs) next some is =
+    let first = put_in inserting (c ∷ []) in
     rw (ne_eqb (0 + 1) columns (λ s. omega arith))
-    (ap (λ bs. open_cell ++ c ∷ [] ++ bs) (pushed_out columns 1 (d ∷ cs) next (omega arith) (omega arith) (omega arith)))
+    (ap (λ bs. bs ++ pushed_on inserting columns 1 (d ∷ (cs ++ next))) (append-nil first)
+    ∙ ap (λ bs. first ++ bs) (pushed_out inserting columns 1 (d ∷ cs) next (omega arith) (omega arith) (omega arith)))
 
-pushed_last : (columns c : ℕ) (xs : List ℕ) → length xs < columns → Some c ≡ slice_get xs 0 → pushed_on columns 0 xs ≡ 0x1B ∷ 0x5B ∷ 0x40 ∷ c ∷ []
-pushed_last columns c [] short first = absurd (cc)
-pushed_last columns c (x ∷ xs) short first =
+pushed_last : (inserting : Bool) (columns c : ℕ) (xs : List ℕ) → length xs < columns → Some c ≡ slice_get xs 0 → pushed_on inserting columns 0 xs ≡ put_in inserting (c ∷ [])
+pushed_last inserting columns c [] short first = absurd (cc)
+pushed_last inserting columns c (x ∷ xs) short first =
     let same : x ≡ c = cc in
+    let one = put_in inserting (x ∷ []) in
     rw (ne_eqb (0 + 1) columns (λ s. omega arith))
-    (ap (λ bs. open_cell ++ x ∷ [] ++ bs) (pushed_inside columns 1 (columns - 1) xs (omega arith) (omega arith) (omega arith))
-    ∙ ap (λ y. open_cell ++ y ∷ []) same)
+    (ap (λ bs. (one ++ []) ++ bs) (pushed_inside inserting columns 1 (columns - 1) xs (omega arith) (omega arith) (omega arith))
+    ∙ append-nil (one ++ []) ∙ append-nil one ∙ ap (λ y. put_in inserting (y ∷ [])) same)
 
-pushed_none : (columns : ℕ) (xs : List ℕ) → None ≡ slice_get xs 0 → pushed_on columns 0 xs ≡ []
-pushed_none columns [] none = refl
-pushed_none columns (x ∷ xs) none = absurd (cc)
+pushed_none : (inserting : Bool) (columns : ℕ) (xs : List ℕ) → None ≡ slice_get xs 0 → pushed_on inserting columns 0 xs ≡ []
+pushed_none inserting columns [] none = refl
+pushed_none inserting columns (x ∷ xs) none = absurd (cc)
 
 -- a character before letters that end in its row
-pub inserted_short : (columns col : ℕ) (character rest : List ℕ) → col < columns → length rest < columns - col - 1
-    → insertion_bytes columns col character rest ≡ open_cell ++ character
-inserted_short columns col character rest inside short =
-    rw (ne_eqb (col + 1) columns (λ s. omega arith), pushed_inside columns (col + 1) (columns - col - 1) rest (omega arith) (omega arith) (omega arith))
-    (ap (λ bs. open_cell ++ bs) (append-nil (character ++ []) ∙ append-nil character))
+pub inserted_short : (inserting : Bool) (columns col : ℕ) (character rest : List ℕ) → col < columns → length rest < columns - col - 1
+    → put_and_pushed inserting columns col character rest ≡ put_in inserting character
+inserted_short inserting columns col character rest inside short =
+    let first = put_in inserting character in
+    rw (ne_eqb (col + 1) columns (λ s. omega arith), pushed_inside inserting columns (col + 1) (columns - col - 1) rest (omega arith) (omega arith) (omega arith))
+    (append-nil (first ++ []) ∙ append-nil first)
 
 -- and before letters that go on in other rows
-inserted_row : (columns col : ℕ) (character row next : List ℕ) → col < columns → length row ≡ columns - col - 1
-    → insertion_bytes columns col character (row ++ next) ≡ open_cell ++ (character ++ (row_break ++ pushed_on columns 0 next))
-inserted_row columns col character [] next inside is =
-    rw (eq-eqb (col + 1) columns (omega arith)) (ap (λ bs. open_cell ++ bs) (append_assoc character row_break (pushed_on columns 0 next)))
-inserted_row columns col character (c ∷ cs) next inside is =
-    rw (ne_eqb (col + 1) columns (λ s. omega arith), pushed_out columns (col + 1) (c ∷ cs) next (omega arith) (omega arith) (omega arith))
-    (ap (λ bs. open_cell ++ (bs ++ (row_break ++ pushed_on columns 0 next))) (append-nil character))
+inserted_row : (inserting : Bool) (columns col : ℕ) (character row next : List ℕ) → col < columns → length row ≡ columns - col - 1
+    → put_and_pushed inserting columns col character (row ++ next) ≡ put_in inserting character ++ (row_break ++ pushed_on inserting columns 0 next)
+inserted_row inserting columns col character [] next inside is =
+    rw (eq-eqb (col + 1) columns (omega arith)) (append_assoc (put_in inserting character) row_break (pushed_on inserting columns 0 next))
+inserted_row inserting columns col character (c ∷ cs) next inside is =
+    rw (ne_eqb (col + 1) columns (λ s. omega arith), pushed_out inserting columns (col + 1) (c ∷ cs) next (omega arith) (omega arith) (omega arith))
+    (ap (λ bs. bs ++ (row_break ++ pushed_on inserting columns 0 next)) (append-nil (put_in inserting character)))
 
-pub inserted_on : (columns col n : ℕ) (character rest : List ℕ) → col < columns → n ≡ columns - col - 1 → n ≤ length rest
-    → insertion_bytes columns col character rest ≡ open_cell ++ (character ++ (row_break ++ pushed_on columns 0 (drop n rest)))
-inserted_on columns col n character rest inside is long =
-    ap (insertion_bytes columns col character) (sym (take-append-drop n rest))
-    ∙ inserted_row columns col character (take n rest) (drop n rest) inside (length-take-le n rest long ∙ is)
+pub inserted_on : (inserting : Bool) (columns col n : ℕ) (character rest : List ℕ) → col < columns → n ≡ columns - col - 1 → n ≤ length rest
+    → put_and_pushed inserting columns col character rest ≡ put_in inserting character ++ (row_break ++ pushed_on inserting columns 0 (drop n rest))
+inserted_on inserting columns col n character rest inside is long =
+    ap (put_and_pushed inserting columns col character) (sym (take-append-drop n rest))
+    ∙ inserted_row inserting columns col character (take n rest) (drop n rest) inside (length-take-le n rest long ∙ is)
+
+pub put_in_by : (inserting : Bool) (character : List ℕ) (b : Bool) → inserting ≡ b → put_in b character ≡ put_in inserting character
+put_in_by inserting character b is = ap (λ x. put_in x character) (sym is)
+
+-- insert mode is begun for them, or not
+pub not_inserting : (columns col : ℕ) (character rest : List ℕ) → length rest + col < columns + columns → insertion_bytes columns col character rest ≡ put_and_pushed false columns col character rest
+not_inserting columns col character rest short = rw (lt-leb (columns + columns) (col + length rest) (omega arith)) refl
+
+pub inserting_them : (columns col : ℕ) (character rest : List ℕ) → columns + columns ≤ length rest + col
+    → insertion_bytes columns col character rest ≡ begin_inserting ++ (put_and_pushed true columns col character rest ++ end_inserting)
+inserting_them columns col character rest long = rw (le-leb (columns + columns) (col + length rest) (omega arith)) refl
 
 -- ---- letters that move back
 
@@ -197,24 +213,20 @@ pulled_last columns count start rest some room short =
 
 -- ---- loops over rows: of all that is sent this is left
 
--- the first letter of a full row, in a cell opened there, and the row left
-abbrev pub opened : List ℕ → List ℕ
-opened row = 0x1B ∷ 0x5B ∷ 0x40 ∷ get_or row 0 0 ∷ 0x0D ∷ 0x0A ∷ []
-
 module _ {D : Type 0} (held : D → List ℕ) (failed : D → Bool) (all : List ℕ) where
-  pub pushes_row : (columns : ℕ) (row next before : List ℕ) {a b : D} → Underway held failed all (pushed_on columns 0 before) a b
-      → before ≡ row ++ next → 0 < columns → length row ≡ columns → Underway held failed all (opened row ++ pushed_on columns 0 next) a b
-  pushes_row columns row next before {a = a} {b = b} u split some full =
-      subst (λ bytes. Underway held failed all bytes a b) (ap (pushed_on columns 0) split ∙ pushed_row columns row next some full) u
+  pub pushes_row : (inserting : Bool) (columns : ℕ) (row next before : List ℕ) {a b : D} → Underway held failed all (pushed_on inserting columns 0 before) a b
+      → before ≡ row ++ next → 0 < columns → length row ≡ columns → Underway held failed all (put_in inserting (get_or row 0 0 ∷ []) ++ (row_break ++ pushed_on inserting columns 0 next)) a b
+  pushes_row inserting columns row next before {a = a} {b = b} u split some full =
+      subst (λ bytes. Underway held failed all bytes a b) (ap (pushed_on inserting columns 0) split ∙ pushed_row inserting columns row next some full) u
 
-  pub pushes_last : (columns c : ℕ) (xs : List ℕ) {a b : D} → Underway held failed all (pushed_on columns 0 xs) a b
-      → length xs < columns → Some c ≡ slice_get xs 0 → Underway held failed all (0x1B ∷ 0x5B ∷ 0x40 ∷ c ∷ []) a b
-  pushes_last columns c xs {a = a} {b = b} u short first =
-      subst (λ bytes. Underway held failed all bytes a b) (pushed_last columns c xs short first) u
+  pub pushes_last : (inserting : Bool) (columns c : ℕ) (xs : List ℕ) {a b : D} → Underway held failed all (pushed_on inserting columns 0 xs) a b
+      → length xs < columns → Some c ≡ slice_get xs 0 → Underway held failed all (put_in inserting (c ∷ [])) a b
+  pushes_last inserting columns c xs {a = a} {b = b} u short first =
+      subst (λ bytes. Underway held failed all bytes a b) (pushed_last inserting columns c xs short first) u
 
-  pub pushes_none : (columns : ℕ) (xs : List ℕ) {a b : D} → Underway held failed all (pushed_on columns 0 xs) a b
+  pub pushes_none : (inserting : Bool) (columns : ℕ) (xs : List ℕ) {a b : D} → Underway held failed all (pushed_on inserting columns 0 xs) a b
       → None ≡ slice_get xs 0 → Underway held failed all [] a b
-  pushes_none columns xs {a = a} {b = b} u none = subst (λ bytes. Underway held failed all bytes a b) (pushed_none columns xs none) u
+  pushes_none inserting columns xs {a = a} {b = b} u none = subst (λ bytes. Underway held failed all bytes a b) (pushed_none inserting columns xs none) u
 
   pub pulls_row : (columns count start : ℕ) (row next before : List ℕ) {a b : D} → Underway held failed all (deletion_bytes columns count start before) a b
       → before ≡ row ++ next → 0 < count → start + count ≤ columns → length row ≡ columns - start

@@ -23,7 +23,7 @@ use Rattle.line_screen.specs.Chain.{View, Good, Picture, Inside, Replaces, Leads
 use Rattle.line_screen.specs.ColourLaws.{BeginsNoStyle, has_no_marks, UnmarkedCallsBeginNone, ScreensWithoutColours, Uncoloured}
 use Rattle.line_screen.specs.Colours.{no_styles, painted_text, bytes_of_all_painted, rest_drawing}
 use Rattle.line_screen.specs.Display.{Placed, is_text, right}
-use Rattle.line_screen.specs.Drawing.{DrawnItem, Widths, blanks, text_items, no_style, in_fence, break_if, break_unless, fitted_col, cluster_in_fence, bytes_of_item, col_after_one, bytes_of_items, col_after, control_sequence, erase_to_end, erase_to_row_end, open_cell, take_cells_out, row_break, left_col, pushed_on, insertion_bytes, pulled_back, deletion_bytes, place_after_insertion, place_after_deletion, row_move, col_move, move_bytes, clearing_bytes, shown_text, drawing, is_step_back, short_move}
+use Rattle.line_screen.specs.Drawing.{DrawnItem, Widths, blanks, text_items, no_style, in_fence, break_if, break_unless, fitted_col, cluster_in_fence, bytes_of_item, col_after_one, bytes_of_items, col_after, control_sequence, erase_to_end, erase_to_row_end, open_cell, take_cells_out, row_break, left_col, begin_inserting, end_inserting, put_in, pushed_on, put_and_pushed, begins_two_rows, insertion_bytes, pulled_back, deletion_bytes, place_after_insertion, place_after_deletion, row_move, col_move, move_bytes, clearing_bytes, shown_text, drawing, is_step_back, short_move}
 use Rattle.line_screen.specs.Drawing.DrawnItem.{NewRow, Letter, Cluster, Tab}
 use Rattle.line_screen.specs.Laws.{widths}
 use Rattle.line_screen.specs.Measure.{cluster_width, widths_by, in_row}
@@ -197,21 +197,33 @@ items_free columns wide (item ∷ items) col h =
 
 -- ---- letters that move in their rows
 
-pushed_free : (columns : ℕ) (letters : List ℕ) (col : ℕ) → list_all is_printable letters ≡ true → IsFree (pushed_on columns col letters)
-pushed_free columns [] col h = refl
-pushed_free columns (c ∷ cs) col h =
+put_free : (inserting : Bool) (c : ℕ) → is_printable c ≡ true → IsFree (put_in inserting (c ∷ []))
+put_free true c h = letter_free c h
+put_free false c h = free_then open_cell (c ∷ []) refl (letter_free c h)
+
+pushed_free : (inserting : Bool) (columns : ℕ) (letters : List ℕ) (col : ℕ) → list_all is_printable letters ≡ true → IsFree (pushed_on inserting columns col letters)
+pushed_free inserting columns [] col h = refl
+pushed_free inserting columns (c ∷ cs) col h =
     let parts = and_parts (is_printable c) (list_all is_printable cs) h in
-    let first = if col == 0 then open_cell ++ c ∷ [] else [] in
-    free_then (first ++ break_if (col + 1 == columns)) (pushed_on columns (left_col columns (col + 1)) cs)
-    (free_then first (break_if (col + 1 == columns)) (free_if (col == 0) (open_cell ++ c ∷ []) [] (free_then open_cell (c ∷ []) refl (letter_free c parts.0)) refl) (break_free (col + 1 == columns)))
-    (pushed_free columns cs (left_col columns (col + 1)) parts.1)
+    let one = put_in inserting (c ∷ []) in
+    let first = if col == 0 then one else [] in
+    free_then (first ++ break_if (col + 1 == columns)) (pushed_on inserting columns (left_col columns (col + 1)) cs)
+    (free_then first (break_if (col + 1 == columns)) (free_if (col == 0) one [] (put_free inserting c parts.0) refl) (break_free (col + 1 == columns)))
+    (pushed_free inserting columns cs (left_col columns (col + 1)) parts.1)
+
+put_and_pushed_free : (inserting : Bool) (columns col c : ℕ) (rest : List ℕ) → is_printable c ≡ true → list_all is_printable rest ≡ true → IsFree (put_and_pushed inserting columns col (c ∷ []) rest)
+put_and_pushed_free inserting columns col c rest one letters =
+    let first = put_in inserting (c ∷ []) in
+    free_then (first ++ break_if (col + 1 == columns)) (pushed_on inserting columns (left_col columns (col + 1)) rest)
+    (free_then first (break_if (col + 1 == columns)) (put_free inserting c one) (break_free (col + 1 == columns)))
+    (pushed_free inserting columns rest (left_col columns (col + 1)) letters)
 
 insertion_free : (columns col c : ℕ) (rest : List ℕ) → is_printable c ≡ true → list_all is_printable rest ≡ true → IsFree (insertion_bytes columns col (c ∷ []) rest)
 insertion_free columns col c rest one letters =
-    let first = open_cell ++ c ∷ [] in
-    free_then (first ++ break_if (col + 1 == columns)) (pushed_on columns (left_col columns (col + 1)) rest)
-    (free_then first (break_if (col + 1 == columns)) (free_then open_cell (c ∷ []) refl (letter_free c one)) (break_free (col + 1 == columns)))
-    (pushed_free columns rest (left_col columns (col + 1)) letters)
+    let fast = put_and_pushed true columns col (c ∷ []) rest in
+    free_if (begins_two_rows columns col rest) (begin_inserting ++ (fast ++ end_inserting)) (put_and_pushed false columns col (c ∷ []) rest)
+    (free_then begin_inserting (fast ++ end_inserting) refl (free_then fast end_inserting (put_and_pushed_free true columns col c rest one letters) refl))
+    (put_and_pushed_free false columns col c rest one letters)
 
 out_free : (count : ℕ) → count < 2 ^ 64 → IsFree (take_cells_out count)
 out_free count few = free_if (count == 1) (0x1B ∷ (0x5B ∷ (0x50 ∷ []))) (control_sequence count 0x50) refl (control_free count 0x50 few refl)

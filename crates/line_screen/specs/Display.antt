@@ -1,7 +1,7 @@
 -- The meaning of bytes on a display: the part of ECMA-48 that a line editor sends. The display has
 -- unlimited rows of `columns` columns. `wide` says of a text whether it is one cluster that fits on
 -- a row, and how many columns it takes.
-use Rattle.std.specs.Prelude.{ℕ, ◌+◌, ◌-◌, ◌*◌, ◌==◌, nat_lt, nat_le, Bool, true, not, ◌&&◌, ◌||◌, List, [], ◌∷◌, ◌++◌, length, map, Option, Some, None, if◌then◌else◌}
+use Rattle.std.specs.Prelude.{ℕ, ◌+◌, ◌-◌, ◌*◌, ◌==◌, nat_lt, nat_le, Bool, true, not, ◌&&◌, ◌||◌, List, [], ◌∷◌, ◌++◌, length, map, codes, Option, Some, None, if◌then◌else◌}
 use Rattle.std.specs.List.{list_all, filter}
 use Rattle.line_buffer.specs.Cells.{origin}
 use Rattle.line_buffer.specs.declared.layout.Position.{Position}
@@ -107,13 +107,15 @@ put_run columns wide run d =
 -- ---- bytes, one after the other
 
 -- what was read: a display, and after it the run of text that is still open; or a sequence that
--- isn't finished. If bytes have no meaning, neither has anything that follows.
+-- isn't finished; or a display in insert mode, and the bytes that a sequence still needs. If bytes
+-- have no meaning, neither has anything that follows.
 pub data DisplayReading : Type 0 where
   Text : (display : Display) (run : List ℕ) → DisplayReading
   Escape : (display : Display) → DisplayReading
   Bracket : (display : Display) → DisplayReading
   Number : (display : Display) (count : ℕ) → DisplayReading
   Style : (display : Display) (parameters : List ℕ) → DisplayReading
+  Inserts : (display : Display) (awaited : List ℕ) → DisplayReading
   Lost : DisplayReading
 
 -- no ASCII control character
@@ -233,7 +235,8 @@ plain_sequence columns d byte =
     else Lost
 
 -- ESC [ n A (CUU) up, B (CUD) down, C (CUF) right, D (CUB) left, without leaving the display; there
--- is no last row. ESC [ n P (DCH) takes cells out of the cursor's row
+-- is no last row. ESC [ n P (DCH) takes cells out of the cursor's row. ESC [ 4 h (SM, IRM) begins
+-- insert mode
 abbrev pub moves_inside : ℕ → Position → ℕ → ℕ → Bool
 moves_inside columns at count final =
     if final == 0x41 then nat_le count at.row
@@ -253,7 +256,8 @@ numbered_sequence columns d count final =
     if is_inside columns d && moves_inside columns d.cursor count final
     then Text (at_cursor (position_after_move d.cursor count final) d) []
     else if is_inside columns d && (final == 0x50) then cells_taken_out columns count d
-    else Lost
+    else if is_inside columns d && ((final == 0x68) && ((count == 4) && is_plain_pen d))
+    then Inserts d [] else Lost
 
 -- the parameters of a style: digits and semicolons
 abbrev pub is_parameter : ℕ → Bool
@@ -269,6 +273,29 @@ abbrev pub on_run : ℕ → ℕ → Option Display → DisplayReading
 on_run columns byte None = Lost
 on_run columns byte (Some d) = after_control columns d byte
 
+abbrev pub in_insert_mode : Option Display → DisplayReading
+in_insert_mode None = Lost
+in_insert_mode (Some d) = Inserts d []
+
+-- a letter in the cell that was opened for it
+abbrev pub letter_inserted : ℕ → ℕ → DisplayReading → DisplayReading
+letter_inserted columns c (Text d run) = in_insert_mode (put_cells columns 1 (c ∷ []) d)
+letter_inserted columns c reading = Lost
+
+-- control characters keep their meaning, and ESC begins ESC [ 4 l (RM, IRM), which ends insert mode
+abbrev pub control_in_insert_mode : DisplayReading → DisplayReading
+control_in_insert_mode (Text d run) = Inserts d []
+control_in_insert_mode (Escape d) = Inserts d (codes "[4l")
+control_in_insert_mode reading = Lost
+
+-- in insert mode printable ASCII is put in as by ESC [ @ and the letter, each at once
+abbrev pub step_in_insert_mode : ℕ → Display → List ℕ → ℕ → DisplayReading
+step_in_insert_mode columns d [] byte =
+    if is_printable byte then letter_inserted columns byte (plain_sequence columns d 0x40)
+    else control_in_insert_mode (after_control columns d byte)
+step_in_insert_mode columns d (next ∷ []) byte = if byte == next then Text d [] else Lost
+step_in_insert_mode columns d (next ∷ more) byte = if byte == next then Inserts d more else Lost
+
 abbrev pub step : ℕ → (List ℕ → Option ℕ) → DisplayReading → ℕ → DisplayReading
 step columns wide (Text d run) byte =
     if is_text byte then Text d (run ++ byte ∷ [])
@@ -280,6 +307,7 @@ step columns wide (Number d count) byte =
     if is_digit byte then Number d (count * 10 + (byte - 0x30))
     else numbered_sequence columns d count byte
 step columns wide (Style d parameters) byte = style_sequence d parameters byte
+step columns wide (Inserts d awaited) byte = step_in_insert_mode columns d awaited byte
 step columns wide Lost byte = Lost
 
 abbrev pub reading_after_bytes : ℕ → (List ℕ → Option ℕ) → DisplayReading → List ℕ → DisplayReading

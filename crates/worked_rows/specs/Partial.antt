@@ -436,24 +436,24 @@ row_74 = record (row 74 settings_69 (encode_utf8_all (codes "abcdefghi漢\u{7f}\
     }
 
 -- abcdef Left x Enter = abcdexf | shows {} a b c d e f ␛[1D ␛[@x ␛[1C␍␊ {} ␍␊
-abbrev pub row_78 : Row
-row_78 = record (row 78 settings_69 (codes "abcdef\u{1b}[Dx\r") (codes "abcdexf\n")) {
+abbrev pub row_79 : Row
+row_79 = record (row 79 settings_69 (codes "abcdef\u{1b}[Dx\r") (codes "abcdexf\n")) {
   shows = Some
       (codes "\r\u{1b}[J\u{1b}[m> \u{1b}[m\u{1b}[m\u{1b}[mabcdef\u{1b}[1D\u{1b}[@x\u{1b}[1C" ++
       codes "\r\n\r\u{1b}[J\u{1b}[m> \u{1b}[m\u{1b}[m\u{1b}[m\r\n");
 }
 
 -- abcdefg Left x Enter = abcdefxg | shows {} a b c d e f g ␛[1D ␛[@x␍␊␛[1A␛[9C ␛[1B␛[9D␍␊ {} ␍␊
-abbrev pub row_79 : Row
-row_79 = record (row 79 settings_69 (codes "abcdefg\u{1b}[Dx\r") (codes "abcdefxg\n")) {
+abbrev pub row_80 : Row
+row_80 = record (row 80 settings_69 (codes "abcdefg\u{1b}[Dx\r") (codes "abcdefxg\n")) {
   shows = Some (codes "\r\u{1b}[J\u{1b}[m> \u{1b}[m\u{1b}[m\u{1b}[mabcdefg\u{1b}[1D\u{1b}[@x\r\n" ++
       codes "\u{1b}[1A\u{1b}[9C\u{1b}[1B\u{1b}[9D\r\n\r\u{1b}[J\u{1b}[m> \u{1b}[m\u{1b}[m" ++
       codes "\u{1b}[m\r\n");
 }
 
 -- abcdefghij Left x Left Left y Enter = abcdefghyixj | shows {} a b c d e f g h␍␊ i j ␛[1D ␛[@x ␛[1D ␛[1D ␛[@y ␛[3C␍␊ {} ␍␊
-abbrev pub row_80 : Row
-row_80 = record (row 80 settings_69 (codes "abcdefghij\u{1b}[Dx\u{1b}[D\u{1b}[Dy\r")
+abbrev pub row_81 : Row
+row_81 = record (row 81 settings_69 (codes "abcdefghij\u{1b}[Dx\u{1b}[D\u{1b}[Dy\r")
     (codes "abcdefghyixj\n")) {
       shows = Some (codes "\r\u{1b}[J\u{1b}[m> \u{1b}[m\u{1b}[m\u{1b}[mabcdefgh\r\nij\u{1b}[1D\u{1b}[@x"
           ++ codes "\u{1b}[1D\u{1b}[1D\u{1b}[@y\u{1b}[3C\r\n\r\u{1b}[J\u{1b}[m> \u{1b}[m\u{1b}[m" ++
@@ -461,8 +461,8 @@ row_80 = record (row 80 settings_69 (codes "abcdefghij\u{1b}[Dx\u{1b}[D\u{1b}[Dy
     }
 
 -- abcdefghij C-a x Enter = xabcdefghij | shows {} a b c d e f g h␍␊ i j ␛[1A ␛[@x␍␊␛[@h␛[1A␛[2C ␛[1B␍␊ {} ␍␊
-abbrev pub row_81 : Row
-row_81 = record (row 81 settings_69 (codes "abcdefghij\u{1}x\r") (codes "xabcdefghij\n")) {
+abbrev pub row_82 : Row
+row_82 = record (row 82 settings_69 (codes "abcdefghij\u{1}x\r") (codes "xabcdefghij\n")) {
   shows = Some
       (codes "\r\u{1b}[J\u{1b}[m> \u{1b}[m\u{1b}[m\u{1b}[mabcdefgh\r\nij\u{1b}[1A\u{1b}[@x\r" ++
       codes "\n\u{1b}[@h\u{1b}[1A\u{1b}[2C\u{1b}[1B\r\n\r\u{1b}[J\u{1b}[m> \u{1b}[m\u{1b}[m" ++
@@ -470,27 +470,49 @@ row_81 = record (row 81 settings_69 (codes "abcdefghij\u{1}x\r") (codes "xabcdef
 }
 
 -- abcdefghij Left Left Left x Enter = abcdefgxhij | shows {} a b c d e f g h␍␊ i j ␛[1D ␛[1D ␛[1A␛[9C ␛[@x␍␊␛[@h␛[1D ␛[3C␍␊ {} ␍␊
-abbrev pub row_82 : Row
-row_82 = record (row 82 settings_69 (codes "abcdefghij\u{1b}[D\u{1b}[D\u{1b}[Dx\r")
+abbrev pub row_83 : Row
+row_83 = record (row 83 settings_69 (codes "abcdefghij\u{1b}[D\u{1b}[D\u{1b}[Dx\r")
     (codes "abcdefgxhij\n")) {
       shows = Some (codes "\r\u{1b}[J\u{1b}[m> \u{1b}[m\u{1b}[m\u{1b}[mabcdefgh\r\nij\u{1b}[1D\u{1b}[1D"
           ++ codes "\u{1b}[1A\u{1b}[9C\u{1b}[@x\r\n\u{1b}[@h\u{1b}[1D\u{1b}[3C\r\n\r\u{1b}[J\u{1b}" ++
           codes "[m> \u{1b}[m\u{1b}[m\u{1b}[m\r\n");
     }
 
--- Paste abcdefghijklmnopqrst Pasted C-a x Enter = xabcdefghijklmnopqrst | shows {} ␛[Jabcdefgh␍␊ijklmnopqr␍␊st ␛[2A ␛[@x␍␊␛[@h␍␊␛[@r␛[2A␛[2C ␛[2B␍␊ {} ␍␊
-abbrev pub row_83 : Row
-row_83 = record (row 83 settings_69 (codes "\u{1b}[200~abcdefghijklmnopqrst\u{1b}[201~\u{1}x\r")
+-- Paste abcdefghijklmnopqrst Pasted C-a x Enter = xabcdefghijklmnopqrst | shows {} ␛[Jabcdefgh␍␊ijklmnopqr␍␊st ␛[2A ␛[4hx␍␊h␍␊r␛[4l␛[2A␛[2C ␛[2B␍␊ {} ␍␊
+abbrev pub row_84 : Row
+row_84 = record (row 84 settings_69 (codes "\u{1b}[200~abcdefghijklmnopqrst\u{1b}[201~\u{1}x\r")
     (codes "xabcdefghijklmnopqrst\n")) {
       shows = Some
           (codes "\r\u{1b}[J\u{1b}[m> \u{1b}[m\u{1b}[m\u{1b}[m\u{1b}[Jabcdefgh\r\nijklmnopqr\r\n" ++
-          codes "st\u{1b}[2A\u{1b}[@x\r\n\u{1b}[@h\r\n\u{1b}[@r\u{1b}[2A\u{1b}[2C\u{1b}[2B\r\n" ++
-          codes "\r\u{1b}[J\u{1b}[m> \u{1b}[m\u{1b}[m\u{1b}[m\r\n");
+          codes "st\u{1b}[2A\u{1b}[4hx\r\nh\r\nr\u{1b}[4l\u{1b}[2A\u{1b}[2C\u{1b}[2B\r\n\r" ++
+          codes "\u{1b}[J\u{1b}[m> \u{1b}[m\u{1b}[m\u{1b}[m\r\n");
+    }
+
+-- Paste abcdefghijklmnopqr Pasted C-a x Enter = xabcdefghijklmnopqr | shows {} ␛[Jabcdefgh␍␊ijklmnopqr␍␊ ␛[2A␛[2C ␛[4hx␍␊h␍␊r␛[4l␛[2A␛[2C ␛[2B␛[2D␍␊ {} ␍␊
+abbrev pub row_85 : Row
+row_85 = record (row 85 settings_69 (codes "\u{1b}[200~abcdefghijklmnopqr\u{1b}[201~\u{1}x\r")
+    (codes "xabcdefghijklmnopqr\n")) {
+      shows = Some
+          (codes "\r\u{1b}[J\u{1b}[m> \u{1b}[m\u{1b}[m\u{1b}[m\u{1b}[Jabcdefgh\r\nijklmnopqr\r\n" ++
+          codes "\u{1b}[2A\u{1b}[2C\u{1b}[4hx\r\nh\r\nr\u{1b}[4l\u{1b}[2A\u{1b}[2C\u{1b}[2B" ++
+          codes "\u{1b}[2D\r\n\r\u{1b}[J\u{1b}[m> \u{1b}[m\u{1b}[m\u{1b}[m\r\n");
+    }
+
+-- Paste abcdefghijklmnopqrstuvwxyzabcdefghijklmn Pasted C-a x Enter = xabcdefghijklmnopqrstuvwxyzabcdefghijklmn | shows {} ␛[Jabcdefgh␍␊ijklmnopqr␍␊stuvwxyzab␍␊cdefghijkl␍␊mn ␛[4A ␛[4hx␍␊h␍␊r␍␊b␍␊l␛[4l␛[4A␛[2C ␛[4B␍␊ {} ␍␊
+abbrev pub row_86 : Row
+row_86 = record (row 86 settings_69
+    (codes "\u{1b}[200~abcdefghijklmnopqrstuvwxyzabcdefghijklmn\u{1b}[201~\u{1}x\r")
+    (codes "xabcdefghijklmnopqrstuvwxyzabcdefghijklmn\n")) {
+      shows = Some
+          (codes "\r\u{1b}[J\u{1b}[m> \u{1b}[m\u{1b}[m\u{1b}[m\u{1b}[Jabcdefgh\r\nijklmnopqr\r\n" ++
+          codes "stuvwxyzab\r\ncdefghijkl\r\nmn\u{1b}[4A\u{1b}[4hx\r\nh\r\nr\r\nb\r\nl\u{1b}[4l" ++
+          codes "\u{1b}[4A\u{1b}[2C\u{1b}[4B\r\n\r\u{1b}[J\u{1b}[m> \u{1b}[m\u{1b}[m\u{1b}[m\r" ++
+          codes "\n");
     }
 
 -- Paste abcdefghijklmnopq Pasted C-a x Enter = xabcdefghijklmnopq | shows {} ␛[Jabcdefgh␍␊ijklmnopq ␛[1A␛[7D ␛[@x␍␊␛[@h␍␊␛[2A␛[3C ␛[2B␛[3D␍␊ {} ␍␊
-abbrev pub row_84 : Row
-row_84 = record (row 84 settings_69 (codes "\u{1b}[200~abcdefghijklmnopq\u{1b}[201~\u{1}x\r")
+abbrev pub row_87 : Row
+row_87 = record (row 87 settings_69 (codes "\u{1b}[200~abcdefghijklmnopq\u{1b}[201~\u{1}x\r")
     (codes "xabcdefghijklmnopq\n")) {
       shows = Some (codes "\r\u{1b}[J\u{1b}[m> \u{1b}[m\u{1b}[m\u{1b}[m\u{1b}[Jabcdefgh\r\nijklmnopq" ++
           codes "\u{1b}[1A\u{1b}[7D\u{1b}[@x\r\n\u{1b}[@h\r\n\u{1b}[2A\u{1b}[3C\u{1b}[2B\u{1b}[" ++
@@ -498,8 +520,8 @@ row_84 = record (row 84 settings_69 (codes "\u{1b}[200~abcdefghijklmnopq\u{1b}[2
     }
 
 -- Paste a␊bcdefghijklm Pasted C-a x Enter = a␊xbcdefghijklm | shows {} ␛[Ja␍␊bcdefghijk␍␊lm ␛[1A␛[2D ␛[@x␍␊␛[@k␛[1A ␛[1B␛[2C␍␊ {} ␍␊
-abbrev pub row_85 : Row
-row_85 = record (row 85 settings_69 (codes "\u{1b}[200~a\nbcdefghijklm\u{1b}[201~\u{1}x\r")
+abbrev pub row_88 : Row
+row_88 = record (row 88 settings_69 (codes "\u{1b}[200~a\nbcdefghijklm\u{1b}[201~\u{1}x\r")
     (codes "a\nxbcdefghijklm\n")) {
       shows = Some (codes "\r\u{1b}[J\u{1b}[m> \u{1b}[m\u{1b}[m\u{1b}[m\u{1b}[Ja\r\nbcdefghijk\r\nlm" ++
           codes "\u{1b}[1A\u{1b}[2D\u{1b}[@x\r\n\u{1b}[@k\u{1b}[1A\u{1b}[1B\u{1b}[2C\r\n\r" ++
@@ -507,16 +529,16 @@ row_85 = record (row 85 settings_69 (codes "\u{1b}[200~a\nbcdefghijklm\u{1b}[201
     }
 
 -- abcdefghij C-a C-d Enter = bcdefghij | shows {} a b c d e f g h␍␊ i j ␛[1A ␛[P␛[7Ci␍␊␛[P␛[1A␛[2C ␛[1B␛[1D␍␊ {} ␍␊
-abbrev pub row_88 : Row
-row_88 = record (row 88 settings_69 (codes "abcdefghij\u{1}\u{4}\r") (codes "bcdefghij\n")) {
+abbrev pub row_91 : Row
+row_91 = record (row 91 settings_69 (codes "abcdefghij\u{1}\u{4}\r") (codes "bcdefghij\n")) {
   shows = Some (codes "\r\u{1b}[J\u{1b}[m> \u{1b}[m\u{1b}[m\u{1b}[mabcdefgh\r\nij\u{1b}[1A\u{1b}[P"
       ++ codes "\u{1b}[7Ci\r\n\u{1b}[P\u{1b}[1A\u{1b}[2C\u{1b}[1B\u{1b}[1D\r\n\r\u{1b}[J\u{1b}" ++
       codes "[m> \u{1b}[m\u{1b}[m\u{1b}[m\r\n");
 }
 
 -- abcdefghij Left Left Backspace Enter = abcdefgij | shows {} a b c d e f g h␍␊ i j ␛[1D ␛[1D ␛[1A␛[9C␛[Pi␍␊␛[P␛[1A␛[9C ␛[1B␛[8D␍␊ {} ␍␊
-abbrev pub row_89 : Row
-row_89 = record (row 89 settings_69 (codes "abcdefghij\u{1b}[D\u{1b}[D\u{7f}\r")
+abbrev pub row_92 : Row
+row_92 = record (row 92 settings_69 (codes "abcdefghij\u{1b}[D\u{1b}[D\u{7f}\r")
     (codes "abcdefgij\n")) {
       shows = Some (codes "\r\u{1b}[J\u{1b}[m> \u{1b}[m\u{1b}[m\u{1b}[mabcdefgh\r\nij\u{1b}[1D\u{1b}[1D"
           ++ codes "\u{1b}[1A\u{1b}[9C\u{1b}[Pi\r\n\u{1b}[P\u{1b}[1A\u{1b}[9C\u{1b}[1B\u{1b}[8D\r" ++
@@ -524,24 +546,24 @@ row_89 = record (row 89 settings_69 (codes "abcdefghij\u{1b}[D\u{1b}[D\u{7f}\r")
     }
 
 -- abcdefghi C-a C-d Enter = bcdefghi | shows {} a b c d e f g h␍␊ i ␛[1A␛[1C ␛[P␛[7Ci␍␊␛[P␛[1A␛[2C ␛[1B␛[2D␍␊ {} ␍␊
-abbrev pub row_90 : Row
-row_90 = record (row 90 settings_69 (codes "abcdefghi\u{1}\u{4}\r") (codes "bcdefghi\n")) {
+abbrev pub row_93 : Row
+row_93 = record (row 93 settings_69 (codes "abcdefghi\u{1}\u{4}\r") (codes "bcdefghi\n")) {
   shows = Some (codes "\r\u{1b}[J\u{1b}[m> \u{1b}[m\u{1b}[m\u{1b}[mabcdefgh\r\ni\u{1b}[1A\u{1b}[1C"
       ++ codes "\u{1b}[P\u{1b}[7Ci\r\n\u{1b}[P\u{1b}[1A\u{1b}[2C\u{1b}[1B\u{1b}[2D\r\n\r\u{1b}" ++
       codes "[J\u{1b}[m> \u{1b}[m\u{1b}[m\u{1b}[m\r\n");
 }
 
 -- abcdefgh C-a C-d Enter = bcdefgh | shows {} a b c d e f g h␍␊ ␛[1A␛[2C {bcdefgh}␛[7D ␛[7C␍␊ {} ␍␊
-abbrev pub row_91 : Row
-row_91 = record (row 91 settings_69 (codes "abcdefgh\u{1}\u{4}\r") (codes "bcdefgh\n")) {
+abbrev pub row_94 : Row
+row_94 = record (row 94 settings_69 (codes "abcdefgh\u{1}\u{4}\r") (codes "bcdefgh\n")) {
   shows = Some (codes "\r\u{1b}[J\u{1b}[m> \u{1b}[m\u{1b}[m\u{1b}[mabcdefgh\r\n\u{1b}[1A\u{1b}[2C\r"
       ++ codes "\u{1b}[J\u{1b}[m> \u{1b}[mbcdefgh\u{1b}[m\u{1b}[m\u{1b}[7D\u{1b}[7C\r\n\r" ++
       codes "\u{1b}[J\u{1b}[m> \u{1b}[m\u{1b}[m\u{1b}[m\r\n");
 }
 
 -- Paste ab␠cdefghijkl Pasted C-a M-d Enter = ␠cdefghijkl | shows {} ␛[Jab␠cdefg␍␊hijkl ␛[1A␛[3D ␛[2P␛[6Chi␍␊␛[2P␛[1A␛[2C ␛[1B␛[1C␍␊ {} ␍␊
-abbrev pub row_92 : Row
-row_92 = record (row 92 settings_69 (codes "\u{1b}[200~ab cdefghijkl\u{1b}[201~\u{1}\u{1b}d\r")
+abbrev pub row_95 : Row
+row_95 = record (row 95 settings_69 (codes "\u{1b}[200~ab cdefghijkl\u{1b}[201~\u{1}\u{1b}d\r")
     (codes " cdefghijkl\n")) {
       shows = Some
           (codes "\r\u{1b}[J\u{1b}[m> \u{1b}[m\u{1b}[m\u{1b}[m\u{1b}[Jab cdefg\r\nhijkl\u{1b}[1A" ++
@@ -550,8 +572,8 @@ row_92 = record (row 92 settings_69 (codes "\u{1b}[200~ab cdefghijkl\u{1b}[201~\
     }
 
 -- Paste abcdefghijklmnopqrst Pasted C-a C-d Enter = bcdefghijklmnopqrst | shows {} ␛[Jabcdefgh␍␊ijklmnopqr␍␊st ␛[2A ␛[P␛[7Ci␍␊␛[P␛[9Cs␍␊␛[P␛[2A␛[2C ␛[2B␛[1D␍␊ {} ␍␊
-abbrev pub row_93 : Row
-row_93 = record (row 93 settings_69 (codes "\u{1b}[200~abcdefghijklmnopqrst\u{1b}[201~\u{1}\u{4}\r")
+abbrev pub row_96 : Row
+row_96 = record (row 96 settings_69 (codes "\u{1b}[200~abcdefghijklmnopqrst\u{1b}[201~\u{1}\u{4}\r")
     (codes "bcdefghijklmnopqrst\n")) {
       shows = Some
           (codes "\r\u{1b}[J\u{1b}[m> \u{1b}[m\u{1b}[m\u{1b}[m\u{1b}[Jabcdefgh\r\nijklmnopqr\r\n" ++
@@ -560,8 +582,8 @@ row_93 = record (row 93 settings_69 (codes "\u{1b}[200~abcdefghijklmnopqrst\u{1b
     }
 
 -- Paste abcdefgh漢字 Pasted C-a x Enter = xabcdefgh漢字 | shows {} ␛[Jabcdefgh␍␊␛[m漢␛[m␛[m字␛[m ␛[1A␛[2D ␛[Jxabcdefg␍␊h␛[m漢␛[m␛[m字␛[m␛[1A␛[2D ␛[1B␛[2C␍␊ {} ␍␊
-abbrev pub row_96 : Row
-row_96 = record (row 96 settings_69 (encode_utf8_all
+abbrev pub row_99 : Row
+row_99 = record (row 99 settings_69 (encode_utf8_all
     (codes "\u{1b}[200~abcdefgh漢字\u{1b}[201~\u{1}x\r")) (encode_utf8_all (codes "xabcdefgh漢字\n"))) {
       shows = Some (encode_utf8_all
           (codes "\r\u{1b}[J\u{1b}[m> \u{1b}[m\u{1b}[m\u{1b}[m\u{1b}[Jabcdefgh\r\n\u{1b}[m漢" ++
@@ -571,9 +593,9 @@ row_96 = record (row 96 settings_69 (encode_utf8_all
     }
 
 -- abcdefg漢 Left x Enter = abcdefgx漢 | shows {} a b c d e f g ␍␊␛[m漢␛[m ␛[1A␛[7C ␛[Jx␍␊␛[m漢␛[m␛[2D ␛[2C␍␊ {} ␍␊
-abbrev pub row_97 : Row
-row_97 = record (row 97 settings_69 (encode_utf8_all (codes "abcdefg漢\u{1b}[Dx\r")) (encode_utf8_all
-    (codes "abcdefgx漢\n"))) {
+abbrev pub row_100 : Row
+row_100 = record (row 100 settings_69 (encode_utf8_all (codes "abcdefg漢\u{1b}[Dx\r"))
+    (encode_utf8_all (codes "abcdefgx漢\n"))) {
       shows = Some (encode_utf8_all
           (codes "\r\u{1b}[J\u{1b}[m> \u{1b}[m\u{1b}[m\u{1b}[mabcdefg\r\n\u{1b}[m漢\u{1b}[m\u{1b}" ++
           codes "[1A\u{1b}[7C\u{1b}[Jx\r\n\u{1b}[m漢\u{1b}[m\u{1b}[2D\u{1b}[2C\r\n\r\u{1b}[J" ++
@@ -581,31 +603,31 @@ row_97 = record (row 97 settings_69 (encode_utf8_all (codes "abcdefg漢\u{1b}[Dx
     }
 
 -- abc Left Left C-t Enter = bac | shows {} a b c ␛[1D ␛[1D ␈ba ␛[1C␍␊ {} ␍␊
-abbrev pub row_101 : Row
-row_101 = record (row 101 settings_8 (codes "abc\u{1b}[D\u{1b}[D\u{14}\r") (codes "bac\n")) {
+abbrev pub row_104 : Row
+row_104 = record (row 104 settings_8 (codes "abc\u{1b}[D\u{1b}[D\u{14}\r") (codes "bac\n")) {
   shows = Some
       (codes "\r\u{1b}[J\u{1b}[m> \u{1b}[m\u{1b}[m\u{1b}[mabc\u{1b}[1D\u{1b}[1D\u{8}ba\u{1b}" ++
       codes "[1C\r\n\r\u{1b}[J\u{1b}[m> \u{1b}[m\u{1b}[m\u{1b}[m\r\n");
 }
 
 -- abcd Left Left C-t Enter = acbd | shows {} a b c d ␛[1D ␛[1D ␈cb ␛[1C␍␊ {} ␍␊
-abbrev pub row_102 : Row
-row_102 = record (row 102 settings_8 (codes "abcd\u{1b}[D\u{1b}[D\u{14}\r") (codes "acbd\n")) {
+abbrev pub row_105 : Row
+row_105 = record (row 105 settings_8 (codes "abcd\u{1b}[D\u{1b}[D\u{14}\r") (codes "acbd\n")) {
   shows = Some (codes "\r\u{1b}[J\u{1b}[m> \u{1b}[m\u{1b}[m\u{1b}[mabcd\u{1b}[1D\u{1b}[1D\u{8}cb" ++
       codes "\u{1b}[1C\r\n\r\u{1b}[J\u{1b}[m> \u{1b}[m\u{1b}[m\u{1b}[m\r\n");
 }
 
 -- abc C-t C-t x Enter = abcx | shows {} a b c ␈␈cb ␈␈bc x ␍␊ {} ␍␊
-abbrev pub row_103 : Row
-row_103 = record (row 103 settings_8 (codes "abc\u{14}\u{14}x\r") (codes "abcx\n")) {
+abbrev pub row_106 : Row
+row_106 = record (row 106 settings_8 (codes "abc\u{14}\u{14}x\r") (codes "abcx\n")) {
   shows = Some
       (codes "\r\u{1b}[J\u{1b}[m> \u{1b}[m\u{1b}[m\u{1b}[mabc\u{8}\u{8}cb\u{8}\u{8}bcx\r\n\r" ++
       codes "\u{1b}[J\u{1b}[m> \u{1b}[m\u{1b}[m\u{1b}[m\r\n");
 }
 
 -- Paste a␊bc Pasted C-t Enter = a␊cb | shows {} ␛[Ja␍␊bc ␈␈cb ␍␊ {} ␍␊
-abbrev pub row_104 : Row
-row_104 = record (row 104 settings_8 (codes "\u{1b}[200~a\nbc\u{1b}[201~\u{14}\r")
+abbrev pub row_107 : Row
+row_107 = record (row 107 settings_8 (codes "\u{1b}[200~a\nbc\u{1b}[201~\u{14}\r")
     (codes "a\ncb\n")) {
       shows = Some
           (codes "\r\u{1b}[J\u{1b}[m> \u{1b}[m\u{1b}[m\u{1b}[m\u{1b}[Ja\r\nbc\u{8}\u{8}cb\r\n\r" ++
@@ -613,8 +635,8 @@ row_104 = record (row 104 settings_8 (codes "\u{1b}[200~a\nbc\u{1b}[201~\u{14}\r
     }
 
 -- Paste abc␊de Pasted Up Right C-t Enter = bac␊de | shows {} ␛[Jabc␍␊de ␛[1A ␛[1C ␈ba ␛[1B␛[2D␍␊ {} ␍␊
-abbrev pub row_105 : Row
-row_105 = record (row 105 settings_8 (codes "\u{1b}[200~abc\nde\u{1b}[201~\u{1b}[A\u{1b}[C\u{14}\r")
+abbrev pub row_108 : Row
+row_108 = record (row 108 settings_8 (codes "\u{1b}[200~abc\nde\u{1b}[201~\u{1b}[A\u{1b}[C\u{14}\r")
     (codes "bac\nde\n")) {
       shows = Some
           (codes "\r\u{1b}[J\u{1b}[m> \u{1b}[m\u{1b}[m\u{1b}[m\u{1b}[Jabc\r\nde\u{1b}[1A\u{1b}[1" ++
@@ -622,8 +644,8 @@ row_105 = record (row 105 settings_8 (codes "\u{1b}[200~abc\nde\u{1b}[201~\u{1b}
     }
 
 -- éab C-t Enter = éba | shows {} ␛[mé␛[m a b {␛[mé␛[mba} ␍␊ {} ␍␊
-abbrev pub row_108 : Row
-row_108 = record (row 108 settings_8 (encode_utf8_all (codes "éab\u{14}\r")) (encode_utf8_all
+abbrev pub row_111 : Row
+row_111 = record (row 111 settings_8 (encode_utf8_all (codes "éab\u{14}\r")) (encode_utf8_all
     (codes "éba\n"))) {
       shows = Some (encode_utf8_all
           (codes "\r\u{1b}[J\u{1b}[m> \u{1b}[m\u{1b}[m\u{1b}[m\u{1b}[mé\u{1b}[mab\r\u{1b}[J" ++
@@ -632,8 +654,8 @@ row_108 = record (row 108 settings_8 (encode_utf8_all (codes "éab\u{14}\r")) (e
     }
 
 -- Paste a␊b Pasted C-t Enter = ab␊ | shows {} ␛[Ja␍␊b ␛[1A{ab␍␊} ␍␊ {} ␍␊
-abbrev pub row_109 : Row
-row_109 = record (row 109 settings_8 (codes "\u{1b}[200~a\nb\u{1b}[201~\u{14}\r") (codes "ab\n\n")) {
+abbrev pub row_112 : Row
+row_112 = record (row 112 settings_8 (codes "\u{1b}[200~a\nb\u{1b}[201~\u{14}\r") (codes "ab\n\n")) {
   shows = Some
       (codes "\r\u{1b}[J\u{1b}[m> \u{1b}[m\u{1b}[m\u{1b}[m\u{1b}[Ja\r\nb\u{1b}[1A\r\u{1b}[J" ++
       codes "\u{1b}[m> \u{1b}[mab\r\n\u{1b}[m\u{1b}[m\r\n\r\u{1b}[J\u{1b}[m> \u{1b}[m\u{1b}" ++
@@ -641,16 +663,16 @@ row_109 = record (row 109 settings_8 (codes "\u{1b}[200~a\nb\u{1b}[201~\u{14}\r"
 }
 
 -- partial helped loaded:#V2␊abc␊
-abbrev pub settings_113 : Settings
-settings_113 = record plain {
+abbrev pub settings_116 : Settings
+settings_116 = record plain {
   config = partial plain.config;
   helping = aide true None;
   loaded = codes "#V2\nabc\n";
 }
 
 -- ab C-t Enter = ba | shows {} ␛[Ja␛[mbc␛[m␛[2D ␛[Jb␛[mc␛[m␛[1D {ba} ␍␊ {} ␍␊
-abbrev pub row_113 : Row
-row_113 = record (row 113 settings_113 (codes "ab\u{14}\r") (codes "ba\n")) {
+abbrev pub row_116 : Row
+row_116 = record (row 116 settings_116 (codes "ab\u{14}\r") (codes "ba\n")) {
   shows = Some
       (codes "\r\u{1b}[J\u{1b}[m> \u{1b}[m\u{1b}[m\u{1b}[m\u{1b}[Ja\u{1b}[mbc\u{1b}[m\u{1b}[" ++
       codes "2D\u{1b}[Jb\u{1b}[mc\u{1b}[m\u{1b}[1D\r\u{1b}[J\u{1b}[m> \u{1b}[mba\u{1b}[m" ++
@@ -658,8 +680,8 @@ row_113 = record (row 113 settings_113 (codes "ab\u{14}\r") (codes "ba\n")) {
 }
 
 -- abcdefghi Left Left C-t Enter = abcdefhgi | shows {} a b c d e f g h␍␊ i ␛[1D ␛[1A␛[9C {abcdefhg␍␊i}␛[1D ␛[1C␍␊ {} ␍␊
-abbrev pub row_117 : Row
-row_117 = record (row 117 settings_69 (codes "abcdefghi\u{1b}[D\u{1b}[D\u{14}\r")
+abbrev pub row_120 : Row
+row_120 = record (row 120 settings_69 (codes "abcdefghi\u{1b}[D\u{1b}[D\u{14}\r")
     (codes "abcdefhgi\n")) {
       shows = Some (codes "\r\u{1b}[J\u{1b}[m> \u{1b}[m\u{1b}[m\u{1b}[mabcdefgh\r\ni\u{1b}[1D\u{1b}[1A"
           ++ codes "\u{1b}[9C\r\u{1b}[J\u{1b}[m> \u{1b}[mabcdefhg\r\ni\u{1b}[m\u{1b}[m\u{1b}[1D" ++
@@ -667,52 +689,52 @@ row_117 = record (row 117 settings_69 (codes "abcdefghi\u{1b}[D\u{1b}[D\u{14}\r"
     }
 
 -- abcdefghi C-t Enter = abcdefgih | shows {} a b c d e f g h␍␊ i ␛[1A{abcdefgi␍␊h} ␍␊ {} ␍␊
-abbrev pub row_118 : Row
-row_118 = record (row 118 settings_69 (codes "abcdefghi\u{14}\r") (codes "abcdefgih\n")) {
+abbrev pub row_121 : Row
+row_121 = record (row 121 settings_69 (codes "abcdefghi\u{14}\r") (codes "abcdefgih\n")) {
   shows = Some (codes "\r\u{1b}[J\u{1b}[m> \u{1b}[m\u{1b}[m\u{1b}[mabcdefgh\r\ni\u{1b}[1A\r\u{1b}[J"
       ++ codes "\u{1b}[m> \u{1b}[mabcdefgi\r\nh\u{1b}[m\u{1b}[m\r\n\r\u{1b}[J\u{1b}[m> \u{1b}[" ++
       codes "m\u{1b}[m\u{1b}[m\r\n");
 }
 
 -- abcdefghij C-t Enter = abcdefghji | shows {} a b c d e f g h␍␊ i j ␈␈ji ␍␊ {} ␍␊
-abbrev pub row_119 : Row
-row_119 = record (row 119 settings_69 (codes "abcdefghij\u{14}\r") (codes "abcdefghji\n")) {
+abbrev pub row_122 : Row
+row_122 = record (row 122 settings_69 (codes "abcdefghij\u{14}\r") (codes "abcdefghji\n")) {
   shows = Some (codes "\r\u{1b}[J\u{1b}[m> \u{1b}[m\u{1b}[m\u{1b}[mabcdefgh\r\nij\u{8}\u{8}ji\r\n\r"
       ++ codes "\u{1b}[J\u{1b}[m> \u{1b}[m\u{1b}[m\u{1b}[m\r\n");
 }
 
 -- partial vi
-abbrev pub settings_122 : Settings
-settings_122 = record plain {
+abbrev pub settings_125 : Settings
+settings_125 = record plain {
   config = partial (vi plain.config);
 }
 
 -- abc Esc 0iX Enter = Xabc | shows {} a b c ␛[1D ␛[2D ␛[@X ␛[3C␍␊ {} ␍␊
-abbrev pub row_122 : Row
-row_122 = record (row 122 settings_122 (codes "abc\u{1b}0iX\r") (codes "Xabc\n")) {
+abbrev pub row_125 : Row
+row_125 = record (row 125 settings_125 (codes "abc\u{1b}0iX\r") (codes "Xabc\n")) {
   shows = Some (codes "\r\u{1b}[J\u{1b}[m> \u{1b}[m\u{1b}[m\u{1b}[mabc\u{1b}[1D\u{1b}[2D\u{1b}[@X"
       ++ codes "\u{1b}[3C\r\n\r\u{1b}[J\u{1b}[m> \u{1b}[m\u{1b}[m\u{1b}[m\r\n");
 }
 
 -- partial helped loaded:#V2␊hello␊
-abbrev pub settings_126 : Settings
-settings_126 = record plain {
+abbrev pub settings_129 : Settings
+settings_129 = record plain {
   config = partial plain.config;
   helping = aide true None;
   loaded = codes "#V2\nhello\n";
 }
 
 -- he Enter = he | shows {} ␛[Jh␛[mello␛[m␛[4D ␛[Je␛[mllo␛[m␛[3D {he} ␍␊ {} ␍␊
-abbrev pub row_126 : Row
-row_126 = record (row 126 settings_126 (codes "he\r") (codes "he\n")) {
+abbrev pub row_129 : Row
+row_129 = record (row 129 settings_129 (codes "he\r") (codes "he\n")) {
   shows = Some (codes "\r\u{1b}[J\u{1b}[m> \u{1b}[m\u{1b}[m\u{1b}[m\u{1b}[Jh\u{1b}[mello\u{1b}[m" ++
       codes "\u{1b}[4D\u{1b}[Je\u{1b}[mllo\u{1b}[m\u{1b}[3D\r\u{1b}[J\u{1b}[m> \u{1b}[mhe" ++
       codes "\u{1b}[m\u{1b}[m\r\n\r\u{1b}[J\u{1b}[m> \u{1b}[m\u{1b}[m\u{1b}[m\r\n");
 }
 
 -- he Backspace Enter = h | shows {} ␛[Jh␛[mello␛[m␛[4D ␛[Je␛[mllo␛[m␛[3D ␛[1D␛[J␛[mello␛[m␛[4D {h} ␍␊ {} ␍␊
-abbrev pub row_127 : Row
-row_127 = record (row 127 settings_126 (codes "he\u{7f}\r") (codes "h\n")) {
+abbrev pub row_130 : Row
+row_130 = record (row 130 settings_129 (codes "he\u{7f}\r") (codes "h\n")) {
   shows = Some (codes "\r\u{1b}[J\u{1b}[m> \u{1b}[m\u{1b}[m\u{1b}[m\u{1b}[Jh\u{1b}[mello\u{1b}[m" ++
       codes "\u{1b}[4D\u{1b}[Je\u{1b}[mllo\u{1b}[m\u{1b}[3D\u{1b}[1D\u{1b}[J\u{1b}[mello" ++
       codes "\u{1b}[m\u{1b}[4D\r\u{1b}[J\u{1b}[m> \u{1b}[mh\u{1b}[m\u{1b}[m\r\n\r\u{1b}[J" ++
@@ -720,8 +742,8 @@ row_127 = record (row 127 settings_126 (codes "he\u{7f}\r") (codes "h\n")) {
 }
 
 -- é] Enter Left x C-C = nothing | ends Interrupted | shows {} ␛[mé␛[m ] {␛[mé␛[m]␛[mMismatched␠brackets:␠']'␠is␠unpaired␛[m␛[36D ␛[1D ␛[Jx]␛[1D ␛[1C␍␊
-abbrev pub row_128 : Row
-row_128 = record (row 128 settings_126 (encode_utf8_all (codes "é]\r\u{1b}[Dx\u{3}")) []) {
+abbrev pub row_131 : Row
+row_131 = record (row 131 settings_129 (encode_utf8_all (codes "é]\r\u{1b}[Dx\u{3}")) []) {
   ends = Interrupted;
   shows = Some (encode_utf8_all
       (codes "\r\u{1b}[J\u{1b}[m> \u{1b}[m\u{1b}[m\u{1b}[m\u{1b}[mé\u{1b}[m]\r\u{1b}[J\u{1b}" ++
@@ -730,16 +752,16 @@ row_128 = record (row 128 settings_126 (encode_utf8_all (codes "é]\r\u{1b}[Dx\u
 }
 
 -- partial colours helped loaded:#V2␊hello␊
-abbrev pub settings_131 : Settings
-settings_131 = record plain {
+abbrev pub settings_134 : Settings
+settings_134 = record plain {
   config = partial (colours plain.config);
   helping = aide true None;
   loaded = codes "#V2\nhello\n";
 }
 
 -- h Enter = h | shows {} ␛[Jh␛[m␛[0;2mello␛[m␛[m␛[4D {h} ␍␊ {} ␍␊
-abbrev pub row_131 : Row
-row_131 = record (row 131 settings_131 (codes "h\r") (codes "h\n")) {
+abbrev pub row_134 : Row
+row_134 = record (row 134 settings_134 (codes "h\r") (codes "h\n")) {
   shows = Some (codes "\r\u{1b}[J\u{1b}[m> \u{1b}[m\u{1b}[m\u{1b}[m\u{1b}[Jh\u{1b}[m\u{1b}[0;2mello"
       ++ codes "\u{1b}[m\u{1b}[m\u{1b}[4D\r\u{1b}[J\u{1b}[m> \u{1b}[mh\u{1b}[m\u{1b}[m\r\n\r" ++
       codes "\u{1b}[J\u{1b}[m> \u{1b}[m\u{1b}[m\u{1b}[m\r\n");
@@ -750,7 +772,8 @@ partial_rows = row_8 ∷ row_9 ∷ row_10 ∷ row_11 ∷ row_12 ∷ row_15 ∷ r
     ∷ row_22 ∷ row_23 ∷ row_24 ∷ row_27 ∷ row_28 ∷ row_29 ∷ row_32 ∷ row_33 ∷ row_34 ∷ row_35 ∷
     row_36 ∷ row_37 ∷ row_40 ∷ row_41 ∷ row_42 ∷ row_43 ∷ row_44 ∷ row_45 ∷ row_48 ∷ row_49 ∷ row_50
     ∷ row_51 ∷ row_52 ∷ row_53 ∷ row_54 ∷ row_55 ∷ row_56 ∷ row_57 ∷ row_60 ∷ row_63 ∷ row_64 ∷
-    row_65 ∷ row_69 ∷ row_70 ∷ row_71 ∷ row_72 ∷ row_73 ∷ row_74 ∷ row_78 ∷ row_79 ∷ row_80 ∷ row_81
-    ∷ row_82 ∷ row_83 ∷ row_84 ∷ row_85 ∷ row_88 ∷ row_89 ∷ row_90 ∷ row_91 ∷ row_92 ∷ row_93 ∷
-    row_96 ∷ row_97 ∷ row_101 ∷ row_102 ∷ row_103 ∷ row_104 ∷ row_105 ∷ row_108 ∷ row_109 ∷ row_113
-    ∷ row_117 ∷ row_118 ∷ row_119 ∷ row_122 ∷ row_126 ∷ row_127 ∷ row_128 ∷ row_131 ∷ []
+    row_65 ∷ row_69 ∷ row_70 ∷ row_71 ∷ row_72 ∷ row_73 ∷ row_74 ∷ row_79 ∷ row_80 ∷ row_81 ∷ row_82
+    ∷ row_83 ∷ row_84 ∷ row_85 ∷ row_86 ∷ row_87 ∷ row_88 ∷ row_91 ∷ row_92 ∷ row_93 ∷ row_94 ∷
+    row_95 ∷ row_96 ∷ row_99 ∷ row_100 ∷ row_104 ∷ row_105 ∷ row_106 ∷ row_107 ∷ row_108 ∷ row_111 ∷
+    row_112 ∷ row_116 ∷ row_120 ∷ row_121 ∷ row_122 ∷ row_125 ∷ row_129 ∷ row_130 ∷ row_131 ∷
+    row_134 ∷ []

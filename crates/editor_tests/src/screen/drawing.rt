@@ -119,6 +119,7 @@ enum Ask {
     Drawing,
     Tabs,
     Call,
+    Insertion,
     Rest,
     FailedWrite,
     PassedOn,
@@ -130,6 +131,7 @@ impl Player for Ask {
             Ask::Drawing => drawn(alloc, None, call),
             Ask::Tabs => drawn_with_stops(alloc, call),
             Ask::Call => sent(alloc, call),
+            Ask::Insertion => inserted(alloc, call),
             Ask::Rest => rest_sent(alloc, call),
             Ask::FailedWrite => refusals_told(alloc, call),
             Ask::PassedOn => passed_on(alloc, call),
@@ -378,6 +380,37 @@ fn makes_the_other_calls(rt: HostRuntime) -> Result<(), Fail> {
     let mut screen = screen(VecSink::new(rt.alloc()), 80, BellStyle::Audible);
     assert!(rt; keeps_its_size(&mut screen));
     Ok(())
+}
+
+// Columns, and letters before which `x` is put in column 1; the bytes.
+const INSERTIONS: &str = "
+    4 b             = ␛[@x
+    4 bcd           = ␛[@x␍␊␛[@d␛[1A␛[1C
+    4 bcdefg        = ␛[@x␍␊␛[@d␍␊␛[2A␛[2C
+    4 bcdefgh       = ␛[4hx␍␊d␍␊h␛[4l␛[2A␛[1C
+    4 bcdefghijk    = ␛[4hx␍␊d␍␊h␍␊␛[4l␛[3A␛[2C
+    4 bcdefghijkl   = ␛[4hx␍␊d␍␊h␍␊l␛[4l␛[3A␛[1C
+    2 b             = ␛[@x␍␊␛[@b␛[1D
+    2 bcd           = ␛[4hx␍␊b␍␊d␛[4l␛[1A␛[1D
+";
+
+// The bytes of a row's insertion.
+fn inserted(alloc: Global, call: &str) -> Result<String, ReadlineError> {
+    let (columns, rest) = word_and_rest(call);
+    let columns = columns.parse().unwrap_or(0);
+    let mut screen = screen(VecSink::new(alloc), columns, BellStyle::Audible);
+    let old = Position { col: 1, row: 0 };
+    let new = screen.calculate_position("x", old);
+    let end = screen.calculate_position(rest, new);
+    if 1 < screen.get_columns() {
+        screen.insert_char('x', rest, old, new, end)?;
+    }
+    raised(pictured_bytes(alloc, screen.into_sink().bytes()))
+}
+
+#[test]
+fn puts_a_letter_before_others(rt: HostRuntime) -> Result<(), Fail> {
+    rows_hold(rt.alloc(), &mut Ask::Insertion, INSERTIONS)
 }
 
 // How a rest is drawn: without a highlighter, or with one that draws hints faint and messages red.

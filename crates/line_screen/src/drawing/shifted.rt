@@ -1,34 +1,74 @@
 //! Letters that move in their rows: a character put before them, and cells taken out before them.
 
 ghost use Rattle.std.specs.Prelude.{◌≡◌, ◌+◌, ◌<◌, ◌≤◌, ◌++◌, [], encode_utf8, OnOk};
-ghost use Rattle.line_screen.specs.Drawing.{move_bytes, take_cells_out, pushed_on, insertion_bytes, refilled, deletion_bytes, place_after_insertion, place_after_deletion};
+ghost use Rattle.line_screen.specs.Drawing.{move_bytes, take_cells_out, put_in, pushed_on, put_and_pushed, insertion_bytes, refilled, deletion_bytes, place_after_insertion, place_after_deletion};
 ghost use Rattle.line_config.specs.Sending.{Sends};
 
 use crate::drawing::sequences::{flush, send, send_col_move, send_control, send_move};
 use line_buffer::{Position, Unit};
 use line_config::{DeviceFailed, Sink};
 
-/// Letters that move on by a cell each, from a row's start on: the first one of each row is written
+/// A character before the rest of its row, in insert mode or in a cell opened for it.
+fn put_in<D: Sink>(sink: &mut D, inserting: bool, character: &[u8]) -> Result<(), DeviceFailed>
+    ensures { Sends D.held D.has_failed (put_in inserting character.now) sink.old sink.new result }
+{
+    if inserting {
+        return send(sink, character);
+    }
+    send(sink, b"\x1B[@")?;
+    send(sink, character)
+}
+
+/// Letters that move on by a cell each, from a row's start on: the first one of each row is put in
 /// there.
-fn push_on<D: Sink>(sink: &mut D, columns: Unit, letters: &[u8]) -> Result<(), DeviceFailed>
+fn push_on<D: Sink>(
+    sink: &mut D,
+    columns: Unit,
+    inserting: bool,
+    letters: &[u8],
+) -> Result<(), DeviceFailed>
     requires some { 0 < columns }
-    ensures { Sends D.held D.has_failed (pushed_on columns 0 letters.now) sink.old sink.new
-        result }
+    ensures { Sends D.held D.has_failed (pushed_on inserting columns 0 letters.now)
+        sink.old sink.new result }
 {
     let columns = usize::from(columns);
     let mut rest = letters;
     while columns <= rest.len() {
         let (row, next) = rest.split_at(columns);
-        send(sink, &[0x1B, b'[', b'@', row[0], b'\r', b'\n'])?;
+        put_in(sink, inserting, &[row[0]])?;
+        send(sink, b"\r\n")?;
         rest = next;
     }
     match rest.first() {
-        Some(letter) => send(sink, &[0x1B, b'[', b'@', *letter]),
+        Some(letter) => put_in(sink, inserting, &[*letter]),
         None => Ok(()),
     }
 }
 
-/// A character in a cell opened before letters.
+/// A character put before letters.
+fn put_and_push<D: Sink>(
+    sink: &mut D,
+    columns: Unit,
+    inserting: bool,
+    col: Unit,
+    ch: char,
+    rest: &[u8],
+) -> Result<(), DeviceFailed>
+    requires inside { col < columns }
+    ensures { Sends D.held D.has_failed
+        (put_and_pushed inserting columns col (encode_utf8 ch) rest.now) sink.old sink.new result }
+{
+    let mut bytes = [0u8; 4];
+    put_in(sink, inserting, ch.encode_utf8(&mut bytes).as_bytes())?;
+    let free = usize::from(columns - col - 1);
+    if rest.len() < free {
+        return Ok(());
+    }
+    send(sink, b"\r\n")?;
+    push_on(sink, columns, inserting, &rest[free..])
+}
+
+/// A character put before letters, in insert mode if they begin two more rows.
 fn send_before<D: Sink>(
     sink: &mut D,
     columns: Unit,
@@ -40,15 +80,13 @@ fn send_before<D: Sink>(
     ensures { Sends D.held D.has_failed (insertion_bytes columns col (encode_utf8 ch) rest.now)
         sink.old sink.new result }
 {
-    let mut bytes = [0u8; 4];
-    send(sink, b"\x1B[@")?;
-    send(sink, ch.encode_utf8(&mut bytes).as_bytes())?;
-    let free = usize::from(columns - col - 1);
-    if rest.len() < free {
-        return Ok(());
+    let two_rows = usize::from(columns) + usize::from(columns - col);
+    if rest.len() < two_rows {
+        return put_and_push(sink, columns, false, col, ch, rest);
     }
-    send(sink, b"\r\n")?;
-    push_on(sink, columns, &rest[free..])
+    send(sink, b"\x1B[4h")?;
+    put_and_push(sink, columns, true, col, ch, rest)?;
+    send(sink, b"\x1B[4l")
 }
 
 /// Where the cursor is after that, if the drawing ends at `end` then.
