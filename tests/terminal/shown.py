@@ -183,8 +183,8 @@ def test_of(session):
 
 
 def typed_before_the_end(terminal, above):
-    """Types a letter that isn't ASCII ten times before a line's end, so that the line is redrawn ten times; returns how many
-    rows tmux then keeps above the window."""
+    """Types a letter that isn't ASCII ten times before a line's end, so that the line is redrawn ten times, or drawn from there
+    on; returns how many rows tmux then keeps above the window."""
     until_taken(terminal)
     for count, keys in enumerate(["a c Left", *"é" * 10]):
         deed(keys)(terminal)
@@ -193,15 +193,18 @@ def typed_before_the_end(terminal, above):
 
 
 def copies_that_tmux_keeps():
-    """tmux scrolls up what is erased from the window's first cell on. So it keeps a copy of each drawing of a line that begins
-    in the first row, unless it is configured not to."""
-    for above, setting, copies in (([], None, 10), (["above"], None, 0), ([], "off", 0)):
+    """tmux scrolls up what is erased from the window's first cell on. So it keeps a copy of each whole drawing of a line that
+    begins in the first row, unless it is configured not to."""
+    plain = f"{shlex.quote(SCRIPT)} --plain"
+    for run, above, setting, copies in (
+        (plain, [], None, 10), (shlex.quote(SCRIPT), [], None, 0), (plain, ["above"], None, 0), (plain, [], "off", 0)
+    ):
         with tempfile.TemporaryDirectory() as folder:
-            terminal = Terminal(folder, 80, "".join(f"echo {it}; " for it in above) + f"{shlex.quote(SCRIPT)}; exec sleep 120")
+            terminal = Terminal(folder, 80, "".join(f"echo {it}; " for it in above) + f"{run}; exec sleep 120")
             try:
                 if setting:
                     terminal.ask("set-option", "-g", "scroll-on-clear", setting)
-                same(f"copies under {above}, {setting}", typed_before_the_end(terminal, above), copies)
+                same(f"copies of {run} under {above}, {setting}", typed_before_the_end(terminal, above), copies)
             except subprocess.CalledProcessError as fault:
                 same("what this tmux, which has no such option, says", "invalid option" in fault.stderr, True)
             finally:

@@ -283,7 +283,7 @@ def the_width_at_the_start():
 
 def a_paste_between_marks():
     """A paste is one text, even with a newline and a Ctrl-C in it."""
-    ran = subprocess.run([PROGRAM], input=b"\x1b[200~one\rt\x03wo\x1b[201~\r", capture_output=True, timeout=HUNG)
+    ran = subprocess.run([PROGRAM, "--extended"], input=b"\x1b[200~one\rt\x03wo\x1b[201~\r", capture_output=True, timeout=HUNG)
     with Terminal() as terminal:
         terminal.expect(drawing(b""))
         terminal.type(b"\x1b[200~one\rt\x03wo\x1b[201~\r")

@@ -1,5 +1,5 @@
 -- A text that is sent as a paste, and then entered, is accepted as it is.
-use Rattle.std.proofs.Common.{◌≡◌, ◌≢◌, ℕ, suc, ◌==◌, ◌||◌, not, Bool, true, false, if◌then◌else◌, List, [], ◌∷◌, ◌++◌, length, take, drop, Option, None, Some, is_some, Ok, refl, sym, ap, ◌∙◌, append-nil, arith, subst, true≢false, codes}
+use Rattle.std.proofs.Common.{◌≡◌, ℕ, suc, ◌==◌, ◌||◌, not, Bool, true, false, if◌then◌else◌, List, [], ◌∷◌, ◌++◌, length, take, drop, Option, None, Some, is_some, Ok, refl, sym, ap, ◌∙◌, append-nil, arith, subst, true≢false, codes}
 use Rattle.std.specs.List.{repeat}
 use Rattle.std.proofs.Math.Seq.{take-nil, drop-nil}
 use Rattle.std.proofs.lemmas.Bool.Decides.{nat_tests}

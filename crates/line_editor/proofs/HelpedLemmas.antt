@@ -1,5 +1,5 @@
 -- What a state makes of asking its helper.
-use Rattle.std.proofs.Common.{◌≡◌, ◌⊎◌, inl, inr, ℕ, Bool, true, false, true≢false, List, [], refl, sym, ap, subst, ◌∙◌}
+use Rattle.std.proofs.Common.{◌≡◌, ◌⊎◌, inl, inr, ℕ, Bool, true, false, true≢false, List, [], refl, sym, ap, subst, ◌∙◌, if◌then◌else◌, ◌&&◌}
 use Rattle.std.specs.Prelude.{Option, Some, None, is_some, option_map, Result, Ok, Err, IsErrAnd, IsTrue, IsFalse}
 use Rattle.std.specs.List.{FoldsTo}
 use Rattle.line_buffer.specs.Line.{Line}
@@ -18,7 +18,7 @@ use Rattle.line_help.specs.declared.history as histories
 use Rattle.line_keys.specs.declared.command.CmdKind.TheVariants.{Other}
 use Rattle.line_editor.specs.Accepting.{verdict, verdict_by, group_and_verdict_effect, verdict_effect, validate_by, validate}
 use Rattle.line_editor.specs.RenderCalls.{MadeIn}
-use Rattle.line_editor.specs.Drawing.{draw_effect_behind, draw_effect_since, repaint_effect, hint_asked, ask_anew_effect, refresh_effect}
+use Rattle.line_editor.specs.Drawing.{draw_effect_behind, draw_effect_since, repaint_effect, hint_asked, ask_anew_effect, refresh_effect, redraw_of}
 use Rattle.line_editor.specs.Inserting.{way_if_bare, put_redraw, show_char_effect, show_inserted_effect}
 use Rattle.line_editor.specs.Killing.{taken_redraw, show_taken_effect, show_killed_effect}
 use Rattle.line_editor.specs.EditSteps.{calls_of_steps}

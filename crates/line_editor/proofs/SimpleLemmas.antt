@@ -1,5 +1,5 @@
 -- Plain texts are simple ones: what needs the one end of a text has the other.
-use Rattle.std.proofs.Common.{◌≡◌, ℕ, ◌==◌, ◌&&◌, Bool, true, false, List, [], ◌∷◌, length, refl}
+use Rattle.std.proofs.Common.{◌≡◌, ℕ, ◌==◌, Bool, true, false, List, [], ◌∷◌, length, refl}
 use Rattle.std.proofs.lemmas.Bool.{and_parts, and_from, or_right}
 use Rattle.line_buffer.specs.Printable.{is_printable, is_plain_byte, is_plain, is_simple, at_simple_end, is_typed_at_end}
 

@@ -14,7 +14,7 @@ use Rattle.line_keys.specs.declared.command.SearchAgain.TheVariants.{Same, Oppos
 use Rattle.line_keys.specs.declared.command.Cmd.{Cmd}
 use Rattle.line_keys.specs.declared.command.Cmd.TheVariants.{Abort, ForwardSearchHistory, Kill, ReverseSearchHistory, SelfInsert}
 use Rattle.line_editor.specs.Drawing.{beep_effect, refresh_effect, refresh_effect_behind}
-use Rattle.line_editor.specs.Modal.{Modal, modal_at_rest, Meeting, pass_meeting, takes}
+use Rattle.line_editor.specs.Modal.{Modal, Meeting, pass_meeting, takes}
 use Rattle.line_editor.specs.Transforms.{undo_effect}
 use Rattle.line_editor.specs.Values.{Value, Setting, Transition, no_effect, memory_effect, then_do, edit_effect, close_groups, at_line}
 use Rattle.line_editor.specs.declared.modal_state.Act.{Act}

@@ -1,5 +1,5 @@
 -- What a call sends that makes others, one after the other.
-use Rattle.std.proofs.Common.{◌≡◌, ℕ, ◌+◌, ◌==◌, nat_le, Bool, List, [], ◌∷◌, ◌++◌, length, ◌∙◌, refl, sym, ap, Result, Ok, Err, IsTrue, if◌then◌else◌, subst, append_assoc, zero, suc, ◌-◌, ◌<◌, ◌≤◌, nat_lt, true, ◌&&◌, arith}
+use Rattle.std.proofs.Common.{◌≡◌, ℕ, ◌+◌, ◌==◌, nat_le, Bool, List, [], ◌∷◌, ◌++◌, length, ◌∙◌, refl, sym, ap, Result, Ok, Err, IsTrue, if◌then◌else◌, subst, append_assoc, zero, suc, ◌-◌, ◌<◌, ◌≤◌, nat_lt, true, ◌&&◌, arith, false}
 use Rattle.std.specs.Prelude.{decimal, replicate, take}
 use Rattle.std.specs.Result.{IsErrAnd}
 use Rattle.std.proofs.lemmas.Bool.{ne_eqb, false≢true, and_from, eq-eqb, lt-ltb, le-leb}

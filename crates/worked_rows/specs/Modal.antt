@@ -699,22 +699,21 @@ row_77 = record (row 77 settings_7 (codes "\u{12}ls\u{7}\u{12}\u{5}\u{12}\u{12}\
           codes "m\u{1b}[5D\u{1b}[5C\r\n\r\u{1b}[J\u{1b}[m> \u{1b}[m\u{1b}[m\u{1b}[m\r\n");
     }
 
--- C-R ma Enter a Enter C-R C-R C-S Enter = make␠test a make␠test | shows {} ''} 'm'git␠commit␠-m␠one}␛[11D 'ma'make␠test}␛[9D {make␠test}␛[9D ␛[9C␍␊ {} a ␍␊ {} ''} 'ma'make␠test}␛[9D !>'ma'make␠test}␛[9D {make␠test}␛[9D ␛[9C␍␊ {} ␍␊
+-- C-R ma Enter C-R C-R C-S Enter = make␠test make␠test | shows {} ''} 'm'git␠commit␠-m␠one}␛[11D 'ma'make␠test}␛[9D {make␠test}␛[9D ␛[9C␍␊ {} ''} 'ma'make␠test}␛[9D !>'ma'make␠test}␛[9D {make␠test}␛[9D ␛[9C␍␊ {} ␍␊
 abbrev pub row_78 : Row
-row_78 = record (row 78 settings_7 (codes "\u{12}ma\ra\r\u{12}\u{12}\u{13}\r")
-    (codes "make test\na\nmake test\n")) {
+row_78 = record (row 78 settings_7 (codes "\u{12}ma\r\u{12}\u{12}\u{13}\r")
+    (codes "make test\nmake test\n")) {
       shows = Some
           (codes "\r\u{1b}[J\u{1b}[m> \u{1b}[m\u{1b}[m\u{1b}[m\r\u{1b}[J\u{1b}[m(reverse-i-searc" ++
           codes "h)`': \u{1b}[m\u{1b}[m\u{1b}[m\r\u{1b}[J\u{1b}[m(reverse-i-search)`m': \u{1b}[" ++
           codes "mgit commit -m one\u{1b}[m\u{1b}[m\u{1b}[11D\r\u{1b}[J\u{1b}[m(reverse-i-searc" ++
           codes "h)`ma': \u{1b}[mmake test\u{1b}[m\u{1b}[m\u{1b}[9D\r\u{1b}[J\u{1b}[m> \u{1b}[m" ++
           codes "make test\u{1b}[m\u{1b}[m\u{1b}[9D\u{1b}[9C\r\n\r\u{1b}[J\u{1b}[m> \u{1b}[m" ++
-          codes "\u{1b}[m\u{1b}[ma\r\n\r\u{1b}[J\u{1b}[m> \u{1b}[m\u{1b}[m\u{1b}[m\r\u{1b}[J" ++
-          codes "\u{1b}[m(reverse-i-search)`': \u{1b}[m\u{1b}[m\u{1b}[m\r\u{1b}[J\u{1b}[m(rever" ++
-          codes "se-i-search)`ma': \u{1b}[mmake test\u{1b}[m\u{1b}[m\u{1b}[9D\r\u{1b}[J\u{1b}[m" ++
-          codes "(failed i-search)`ma': \u{1b}[mmake test\u{1b}[m\u{1b}[m\u{1b}[9D\r\u{1b}[J" ++
-          codes "\u{1b}[m> \u{1b}[mmake test\u{1b}[m\u{1b}[m\u{1b}[9D\u{1b}[9C\r\n\r\u{1b}[J" ++
-          codes "\u{1b}[m> \u{1b}[m\u{1b}[m\u{1b}[m\r\n");
+          codes "\u{1b}[m\u{1b}[m\r\u{1b}[J\u{1b}[m(reverse-i-search)`': \u{1b}[m\u{1b}[m\u{1b}" ++
+          codes "[m\r\u{1b}[J\u{1b}[m(reverse-i-search)`ma': \u{1b}[mmake test\u{1b}[m\u{1b}[m" ++
+          codes "\u{1b}[9D\r\u{1b}[J\u{1b}[m(failed i-search)`ma': \u{1b}[mmake test\u{1b}[m" ++
+          codes "\u{1b}[m\u{1b}[9D\r\u{1b}[J\u{1b}[m> \u{1b}[mmake test\u{1b}[m\u{1b}[m\u{1b}[9" ++
+          codes "D\u{1b}[9C\r\n\r\u{1b}[J\u{1b}[m> \u{1b}[m\u{1b}[m\u{1b}[m\r\n");
     }
 
 -- C-R ma C-G C-S C-S Enter = ""

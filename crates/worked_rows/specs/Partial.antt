@@ -366,11 +366,12 @@ row_64 = record (row 64 settings_63 (codes "abc\u{1b}rX\r") (codes "abX\n")) {
       ++ codes "\u{1b}[1C\r\n\r\u{1b}[J\u{1b}[m> \u{1b}[m\u{1b}[m\u{1b}[m\r\n");
 }
 
--- abc Esc 0Rx Enter = xbc | shows {} a b c ␛[1D ␛[2D ␛[Jxbc␛[2D ␛[2C␍␊ {} ␍␊
+-- abc Esc 0Rx Esc $ Enter = xbc | shows {} a b c ␛[1D ␛[2D ␛[Jxbc␛[2D ␛[1D ␛[3C ␍␊ {} ␍␊
 abbrev pub row_65 : Row
-row_65 = record (row 65 settings_63 (codes "abc\u{1b}0Rx\r") (codes "xbc\n")) {
+row_65 = record (row 65 settings_63 (codes "abc\u{1b}0Rx\u{1b}$\r") (codes "xbc\n")) {
   shows = Some (codes "\r\u{1b}[J\u{1b}[m> \u{1b}[m\u{1b}[m\u{1b}[mabc\u{1b}[1D\u{1b}[2D\u{1b}[Jxbc"
-      ++ codes "\u{1b}[2D\u{1b}[2C\r\n\r\u{1b}[J\u{1b}[m> \u{1b}[m\u{1b}[m\u{1b}[m\r\n");
+      ++ codes "\u{1b}[2D\u{1b}[1D\u{1b}[3C\r\n\r\u{1b}[J\u{1b}[m> \u{1b}[m\u{1b}[m\u{1b}[m\r" ++
+      codes "\n");
 }
 
 -- partial modal columns:10

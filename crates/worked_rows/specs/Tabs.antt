@@ -2,7 +2,7 @@
 use Rattle.line_buffer.specs.declared.layout.GraphemeClusterMode.TheVariants.{NoZwj, WcWidth}
 use Rattle.std.specs.Prelude.{List, [], ◌∷◌, ◌++◌, None, Some, true, codes, encode_utf8_all, replicate}
 use Rattle.worked_rows.specs.Playing.{Row, row}
-use Rattle.worked_rows.specs.Settings.{Settings, adding, aide, colours, counting, modal, plain, stopping, tabs, vi}
+use Rattle.worked_rows.specs.Settings.{Settings, adding, aide, colours, counting, modal, partial, plain, stopping, tabs, vi}
 
 -- tabs modal
 abbrev pub settings_7 : Settings
@@ -460,18 +460,18 @@ row_83 = record (row 83 settings_83 (codes "\u{1b}[200~\t\u{1b}[201~x\r") (codes
       codes "\r\n\u{1b}[m\u{1b}[mx\r\n\r\u{1b}[J\u{1b}[m> \u{1b}[m\u{1b}[m\u{1b}[m\r\n");
 }
 
--- tabs stop:255 columns:300
+-- tabs stop:120 columns:130
 abbrev pub settings_86 : Settings
 settings_86 = record plain {
-  config = stopping 255 (tabs plain.config);
-  columns = 300;
+  config = stopping 120 (tabs plain.config);
+  columns = 130;
 }
 
--- Paste ␉x Pasted Enter = ␉x | shows {} {‹253*␠›x} ␍␊ {} ␍␊
+-- Paste ␉x Pasted Enter = ␉x | shows {} {‹118*␠›x} ␍␊ {} ␍␊
 abbrev pub row_86 : Row
 row_86 = record (row 86 settings_86 (codes "\u{1b}[200~\tx\u{1b}[201~\r") (codes "\tx\n")) {
   shows = Some (codes "\r\u{1b}[J\u{1b}[m> \u{1b}[m\u{1b}[m\u{1b}[m\r\u{1b}[J\u{1b}[m> \u{1b}[m" ++
-      replicate 253 32 ++
+      replicate 118 32 ++
       codes "x\u{1b}[m\u{1b}[m\r\n\r\u{1b}[J\u{1b}[m> \u{1b}[m\u{1b}[m\u{1b}[m\r\n");
 }
 
@@ -623,10 +623,10 @@ row_119 = record (row 119 settings_119 (codes "\u{1b}[200~a\tb\n0123456789\u{1b}
           codes "\u{1b}[J\u{1b}[m> \u{1b}[m\u{1b}[m\u{1b}[m\r\n");
     }
 
--- tabs colours modal helped
+-- tabs colours modal helped partial
 abbrev pub settings_137 : Settings
 settings_137 = record plain {
-  config = tabs (colours (modal plain.config));
+  config = partial (tabs (colours (modal plain.config)));
   helping = aide true None;
 }
 
@@ -639,16 +639,15 @@ row_137 = record (row 137 settings_137 (codes "\u{1b}[200~(\t)\u{1b}[201~\r") (c
       codes "\u{1b}[m\u{1b}[m\r\n\r\u{1b}[J\u{1b}[m> \u{1b}[m\u{1b}[m\u{1b}[m\r\n");
 }
 
--- Paste a␉ Pasted ( x Enter ) Enter = a␉(x␊) | shows {} {a␠␠␠␠␠} ( x {a␠␠␠␠␠(x␍␊} ␛[1A{a␠␠␠␠␠␛[0;1;34m(␛[mx␍␊)} ␛[1A{a␠␠␠␠␠(x␍␊)} ␍␊ {} ␍␊
+-- Paste a␉ Pasted ( x Enter ) Enter = a␉(x␊) | shows {} ␛[Ja␠␠␠␠␠ ( x ␛[J␍␊ ␛[1A{a␠␠␠␠␠␛[0;1;34m(␛[mx␍␊)} ␛[1A{a␠␠␠␠␠(x␍␊)} ␍␊ {} ␍␊
 abbrev pub row_138 : Row
 row_138 = record (row 138 settings_137 (codes "\u{1b}[200~a\t\u{1b}[201~(x\r)\r")
     (codes "a\t(x\n)\n")) {
       shows = Some
-          (codes "\r\u{1b}[J\u{1b}[m> \u{1b}[m\u{1b}[m\u{1b}[m\r\u{1b}[J\u{1b}[m> \u{1b}[ma     " ++
-          codes "\u{1b}[m\u{1b}[m(x\r\u{1b}[J\u{1b}[m> \u{1b}[ma     (x\r\n\u{1b}[m\u{1b}[m" ++
-          codes "\u{1b}[1A\r\u{1b}[J\u{1b}[m> \u{1b}[ma     \u{1b}[0;1;34m(\u{1b}[mx\r\n)\u{1b}" ++
-          codes "[m\u{1b}[m\u{1b}[1A\r\u{1b}[J\u{1b}[m> \u{1b}[ma     (x\r\n)\u{1b}[m\u{1b}[m\r" ++
-          codes "\n\r\u{1b}[J\u{1b}[m> \u{1b}[m\u{1b}[m\u{1b}[m\r\n");
+          (codes "\r\u{1b}[J\u{1b}[m> \u{1b}[m\u{1b}[m\u{1b}[m\u{1b}[Ja     (x\u{1b}[J\r\n\u{1b}" ++
+          codes "[1A\r\u{1b}[J\u{1b}[m> \u{1b}[ma     \u{1b}[0;1;34m(\u{1b}[mx\r\n)\u{1b}[m" ++
+          codes "\u{1b}[m\u{1b}[1A\r\u{1b}[J\u{1b}[m> \u{1b}[ma     (x\r\n)\u{1b}[m\u{1b}[m\r\n" ++
+          codes "\r\u{1b}[J\u{1b}[m> \u{1b}[m\u{1b}[m\u{1b}[m\r\n");
     }
 
 -- Paste a␉b Pasted x Enter = a␉bx | shows {} {a␛[m?␛[mb} {a␛[m?␛[mbx} ␍␊ {} ␍␊

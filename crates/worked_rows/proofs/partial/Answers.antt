@@ -8,43 +8,58 @@ use Rattle.worked_rows.proofs.partial.Goals as goal
 
 -- some rows at a time: one computation takes only so many steps
 abbrev part : ℕ → List Row
-part n = take 7 (drop n partial_rows)
+part n = take 5 (drop n partial_rows)
 
-abbrev from_77 : List Row
-from_77 = drop 77 partial_rows
+abbrev from_80 : List Row
+from_80 = drop 80 partial_rows
+
+abbrev from_75 : List Row
+from_75 = part 75 ++ from_80
 
 abbrev from_70 : List Row
-from_70 = part 70 ++ from_77
+from_70 = part 70 ++ from_75
 
-abbrev from_63 : List Row
-from_63 = part 63 ++ from_70
+abbrev from_65 : List Row
+from_65 = part 65 ++ from_70
 
-abbrev from_56 : List Row
-from_56 = part 56 ++ from_63
+abbrev from_60 : List Row
+from_60 = part 60 ++ from_65
 
-abbrev from_49 : List Row
-from_49 = part 49 ++ from_56
+abbrev from_55 : List Row
+from_55 = part 55 ++ from_60
 
-abbrev from_42 : List Row
-from_42 = part 42 ++ from_49
+abbrev from_50 : List Row
+from_50 = part 50 ++ from_55
+
+abbrev from_45 : List Row
+from_45 = part 45 ++ from_50
+
+abbrev from_40 : List Row
+from_40 = part 40 ++ from_45
 
 abbrev from_35 : List Row
-from_35 = part 35 ++ from_42
+from_35 = part 35 ++ from_40
 
-abbrev from_28 : List Row
-from_28 = part 28 ++ from_35
+abbrev from_30 : List Row
+from_30 = part 30 ++ from_35
 
-abbrev from_21 : List Row
-from_21 = part 21 ++ from_28
+abbrev from_25 : List Row
+from_25 = part 25 ++ from_30
 
-abbrev from_14 : List Row
-from_14 = part 14 ++ from_21
+abbrev from_20 : List Row
+from_20 = part 20 ++ from_25
 
-abbrev from_7 : List Row
-from_7 = part 7 ++ from_14
+abbrev from_15 : List Row
+from_15 = part 15 ++ from_20
+
+abbrev from_10 : List Row
+from_10 = part 10 ++ from_15
+
+abbrev from_5 : List Row
+from_5 = part 5 ++ from_10
 
 abbrev from_0 : List Row
-from_0 = part 0 ++ from_7
+from_0 = part 0 ++ from_5
 
 all-rows : from_0 ≡ partial_rows
 all-rows = refl
@@ -60,49 +75,71 @@ unshown-0 = refl
 shown-0 : AllShown (short (part 0))
 shown-0 = all_shown (short (part 0)) unshown-0
 
-given-7 : differing (part 7) ≡ []
+given-5 : differing (part 5) ≡ []
 unfolding computing
-given-7 = refl
+given-5 = refl
 
-unshown-7 : unshown (short (part 7)) ≡ []
+unshown-5 : unshown (short (part 5)) ≡ []
 unfolding computing
-unshown-7 = refl
+unshown-5 = refl
 
-shown-7 : AllShown (short (part 7))
-shown-7 = all_shown (short (part 7)) unshown-7
+shown-5 : AllShown (short (part 5))
+shown-5 = all_shown (short (part 5)) unshown-5
 
-given-14 : differing (part 14) ≡ []
+given-10 : differing (part 10) ≡ []
 unfolding computing
-given-14 = refl
+given-10 = refl
 
-unshown-14 : unshown (short (part 14)) ≡ []
+unshown-10 : unshown (short (part 10)) ≡ []
 unfolding computing
-unshown-14 = refl
+unshown-10 = refl
 
-shown-14 : AllShown (short (part 14))
-shown-14 = all_shown (short (part 14)) unshown-14
+shown-10 : AllShown (short (part 10))
+shown-10 = all_shown (short (part 10)) unshown-10
 
-given-21 : differing (part 21) ≡ []
+given-15 : differing (part 15) ≡ []
 unfolding computing
-given-21 = refl
+given-15 = refl
 
-unshown-21 : unshown (short (part 21)) ≡ []
+unshown-15 : unshown (short (part 15)) ≡ []
 unfolding computing
-unshown-21 = refl
+unshown-15 = refl
 
-shown-21 : AllShown (short (part 21))
-shown-21 = all_shown (short (part 21)) unshown-21
+shown-15 : AllShown (short (part 15))
+shown-15 = all_shown (short (part 15)) unshown-15
 
-given-28 : differing (part 28) ≡ []
+given-20 : differing (part 20) ≡ []
 unfolding computing
-given-28 = refl
+given-20 = refl
 
-unshown-28 : unshown (short (part 28)) ≡ []
+unshown-20 : unshown (short (part 20)) ≡ []
 unfolding computing
-unshown-28 = refl
+unshown-20 = refl
 
-shown-28 : AllShown (short (part 28))
-shown-28 = all_shown (short (part 28)) unshown-28
+shown-20 : AllShown (short (part 20))
+shown-20 = all_shown (short (part 20)) unshown-20
+
+given-25 : differing (part 25) ≡ []
+unfolding computing
+given-25 = refl
+
+unshown-25 : unshown (short (part 25)) ≡ []
+unfolding computing
+unshown-25 = refl
+
+shown-25 : AllShown (short (part 25))
+shown-25 = all_shown (short (part 25)) unshown-25
+
+given-30 : differing (part 30) ≡ []
+unfolding computing
+given-30 = refl
+
+unshown-30 : unshown (short (part 30)) ≡ []
+unfolding computing
+unshown-30 = refl
+
+shown-30 : AllShown (short (part 30))
+shown-30 = all_shown (short (part 30)) unshown-30
 
 given-35 : differing (part 35) ≡ []
 unfolding computing
@@ -115,49 +152,71 @@ unshown-35 = refl
 shown-35 : AllShown (short (part 35))
 shown-35 = all_shown (short (part 35)) unshown-35
 
-given-42 : differing (part 42) ≡ []
+given-40 : differing (part 40) ≡ []
 unfolding computing
-given-42 = refl
+given-40 = refl
 
-unshown-42 : unshown (short (part 42)) ≡ []
+unshown-40 : unshown (short (part 40)) ≡ []
 unfolding computing
-unshown-42 = refl
+unshown-40 = refl
 
-shown-42 : AllShown (short (part 42))
-shown-42 = all_shown (short (part 42)) unshown-42
+shown-40 : AllShown (short (part 40))
+shown-40 = all_shown (short (part 40)) unshown-40
 
-given-49 : differing (part 49) ≡ []
+given-45 : differing (part 45) ≡ []
 unfolding computing
-given-49 = refl
+given-45 = refl
 
-unshown-49 : unshown (short (part 49)) ≡ []
+unshown-45 : unshown (short (part 45)) ≡ []
 unfolding computing
-unshown-49 = refl
+unshown-45 = refl
 
-shown-49 : AllShown (short (part 49))
-shown-49 = all_shown (short (part 49)) unshown-49
+shown-45 : AllShown (short (part 45))
+shown-45 = all_shown (short (part 45)) unshown-45
 
-given-56 : differing (part 56) ≡ []
+given-50 : differing (part 50) ≡ []
 unfolding computing
-given-56 = refl
+given-50 = refl
 
-unshown-56 : unshown (short (part 56)) ≡ []
+unshown-50 : unshown (short (part 50)) ≡ []
 unfolding computing
-unshown-56 = refl
+unshown-50 = refl
 
-shown-56 : AllShown (short (part 56))
-shown-56 = all_shown (short (part 56)) unshown-56
+shown-50 : AllShown (short (part 50))
+shown-50 = all_shown (short (part 50)) unshown-50
 
-given-63 : differing (part 63) ≡ []
+given-55 : differing (part 55) ≡ []
 unfolding computing
-given-63 = refl
+given-55 = refl
 
-unshown-63 : unshown (short (part 63)) ≡ []
+unshown-55 : unshown (short (part 55)) ≡ []
 unfolding computing
-unshown-63 = refl
+unshown-55 = refl
 
-shown-63 : AllShown (short (part 63))
-shown-63 = all_shown (short (part 63)) unshown-63
+shown-55 : AllShown (short (part 55))
+shown-55 = all_shown (short (part 55)) unshown-55
+
+given-60 : differing (part 60) ≡ []
+unfolding computing
+given-60 = refl
+
+unshown-60 : unshown (short (part 60)) ≡ []
+unfolding computing
+unshown-60 = refl
+
+shown-60 : AllShown (short (part 60))
+shown-60 = all_shown (short (part 60)) unshown-60
+
+given-65 : differing (part 65) ≡ []
+unfolding computing
+given-65 = refl
+
+unshown-65 : unshown (short (part 65)) ≡ []
+unfolding computing
+unshown-65 = refl
+
+shown-65 : AllShown (short (part 65))
+shown-65 = all_shown (short (part 65)) unshown-65
 
 given-70 : differing (part 70) ≡ []
 unfolding computing
@@ -170,41 +229,62 @@ unshown-70 = refl
 shown-70 : AllShown (short (part 70))
 shown-70 = all_shown (short (part 70)) unshown-70
 
-given-77 : differing from_77 ≡ []
+given-75 : differing (part 75) ≡ []
 unfolding computing
-given-77 = refl
+given-75 = refl
 
-unshown-77 : unshown (short from_77) ≡ []
+unshown-75 : unshown (short (part 75)) ≡ []
 unfolding computing
-unshown-77 = refl
+unshown-75 = refl
 
-shown-77 : AllShown (short from_77)
-shown-77 = all_shown (short from_77) unshown-77
+shown-75 : AllShown (short (part 75))
+shown-75 = all_shown (short (part 75)) unshown-75
+
+given-80 : differing from_80 ≡ []
+unfolding computing
+given-80 = refl
+
+unshown-80 : unshown (short from_80) ≡ []
+unfolding computing
+unshown-80 = refl
+
+shown-80 : AllShown (short from_80)
+shown-80 = all_shown (short from_80) unshown-80
 
 pub returns-clause-given : goal.returns-clause-given
 returns-clause-given c = subst (λ rows. differing rows ≡ []) all-rows
-    (both_given (part 0) from_7 given-0
-    (both_given (part 7) from_14 given-7
-    (both_given (part 14) from_21 given-14
-    (both_given (part 21) from_28 given-21
-    (both_given (part 28) from_35 given-28
-    (both_given (part 35) from_42 given-35
-    (both_given (part 42) from_49 given-42
-    (both_given (part 49) from_56 given-49
-    (both_given (part 56) from_63 given-56
-    (both_given (part 63) from_70 given-63
-    (both_given (part 70) from_77 given-70 given-77)))))))))))
+    (both_given (part 0) from_5 given-0
+    (both_given (part 5) from_10 given-5
+    (both_given (part 10) from_15 given-10
+    (both_given (part 15) from_20 given-15
+    (both_given (part 20) from_25 given-20
+    (both_given (part 25) from_30 given-25
+    (both_given (part 30) from_35 given-30
+    (both_given (part 35) from_40 given-35
+    (both_given (part 40) from_45 given-40
+    (both_given (part 45) from_50 given-45
+    (both_given (part 50) from_55 given-50
+    (both_given (part 55) from_60 given-55
+    (both_given (part 60) from_65 given-60
+    (both_given (part 65) from_70 given-65
+    (both_given (part 70) from_75 given-70
+    (both_given (part 75) from_80 given-75 given-80))))))))))))))))
 
 pub returns-clause-shown : goal.returns-clause-shown
 returns-clause-shown c = subst (λ rows. AllShown (short rows)) all-rows
-    (both_shown (part 0) from_7 shown-0
-    (both_shown (part 7) from_14 shown-7
-    (both_shown (part 14) from_21 shown-14
-    (both_shown (part 21) from_28 shown-21
-    (both_shown (part 28) from_35 shown-28
-    (both_shown (part 35) from_42 shown-35
-    (both_shown (part 42) from_49 shown-42
-    (both_shown (part 49) from_56 shown-49
-    (both_shown (part 56) from_63 shown-56
-    (both_shown (part 63) from_70 shown-63
-    (both_shown (part 70) from_77 shown-70 shown-77)))))))))))
+    (both_shown (part 0) from_5 shown-0
+    (both_shown (part 5) from_10 shown-5
+    (both_shown (part 10) from_15 shown-10
+    (both_shown (part 15) from_20 shown-15
+    (both_shown (part 20) from_25 shown-20
+    (both_shown (part 25) from_30 shown-25
+    (both_shown (part 30) from_35 shown-30
+    (both_shown (part 35) from_40 shown-35
+    (both_shown (part 40) from_45 shown-40
+    (both_shown (part 45) from_50 shown-45
+    (both_shown (part 50) from_55 shown-50
+    (both_shown (part 55) from_60 shown-55
+    (both_shown (part 60) from_65 shown-60
+    (both_shown (part 65) from_70 shown-65
+    (both_shown (part 70) from_75 shown-70
+    (both_shown (part 75) from_80 shown-75 shown-80))))))))))))))))
