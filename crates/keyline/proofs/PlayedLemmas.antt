@@ -1,19 +1,16 @@
 -- A session by options, over all that is said of its keys.
 use Rattle.std.proofs.Common.{◌≡◌, ℕ, ◌+◌, ◌<◌, ◌^◌, Bool, true, false, IsTrue, List, [], ◌∷◌, ◌++◌, Option, refl, sym, ap, subst, ◌∙◌, append-nil, arith}
-use Rattle.std.specs.Prelude.{if◌then◌else◌, IfErr, IfOk, IsErr, IsOk, None, OnOk, Result, Ok, Err, is_err}
+use Rattle.std.specs.Prelude.{IfErr, IfOk, IsErr, IsOk, None, OnOk, Result, Ok, Err, is_err}
 use Rattle.line_config.specs.Feed.{AlwaysTold, Feed, fresh_feed}
 use Rattle.std.proofs.lemmas.Result.{IfErr-weaker}
 use Rattle.line_config.specs.Adapters.{to_come}
 use Rattle.line_config.specs.declared.adapters.ReadSource.{ReadSource}
 use Rattle.line_config.specs.declared.adapters.WriteSink.{WriteSink}
-use Rattle.line_config.specs.Sending.{AppendsSome}
 use Rattle.line_config.specs.declared.config.Config.{Config}
 use Rattle.line_config.specs.declared.device.Last.{Last}
 use Rattle.line_config.specs.declared.device.Last.TheVariants.{End}
 use Rattle.line_config.specs.declared.errors.ReadlineError.{ReadlineError}
 use Rattle.line_config.specs.declared.errors.ReadlineError.TheVariants.{Display, Helper, HistoryText, Lines, Memory, Reader}
-use Rattle.line_help.specs.History.{Filed, all_saved}
-use Rattle.line_help.specs.HistoryText.{text_to_save}
 use Rattle.line_keys.specs.KeyFeeds.{Paste}
 use Rattle.line_screen.specs.Reader.{byte_ahead_of}
 use Rattle.line_screen.specs.Reading.{count_of_kept}
@@ -50,12 +47,6 @@ fails_still result before after is for_good failed = is ∙ for_good failed
 pub handed_on : {A E P : Type 0} (result : Result A E) (failed : Bool) → failed ≡ is_err result → failed ≡ false → OnOk result P → P
 handed_on (Ok x) failed is works p = p
 handed_on (Err e) failed is works p = absurd (cc)
-
--- after the end nothing is new, or the history is as the lines left it
-history_at_end : (saved : Bool) (kept history : Filed) → (saved ≡ true → history ≡ all_saved kept) → (saved ≡ false → history ≡ kept)
-    → history ≡ (if saved then all_saved kept else kept)
-history_at_end true kept history done refused = done refl
-history_at_end false kept history done refused = refused refl
 
 -- a device that has failed has failed afterwards
 reason_still : (g : Given) (source display display' lines lines' : Bool) (why : ReadlineError) → (IsTrue display → IsTrue display') → (IsTrue lines → IsTrue lines')
@@ -116,15 +107,15 @@ module _ {D L : Type 0} (shown : D → List ℕ) (written_in : L → List ℕ) w
       (subst (λ d. R (shown old.display) (written_in old.lines) (shown new.display) d) (sym wrote_is) both)))
 
 module _ {F S D L T : Type 0} (text_of : F → Feed) (k : KnownDevices S D L) (held : T → List ℕ) (failed : T → Bool) where
-  pub played : (config : Config) (options : Options) (words : Option (List (List ℕ))) (drawn wrote old bytes : List ℕ) (last : Last) (history : F) (source : S) (display : D) (lines : L) (text : T)
+  pub played : (asked : Bool) (config : Config) (options : Options) (words : Option (List (List ℕ))) (drawn wrote old bytes : List ℕ) (last : Last) (history : F) (source : S) (display : D) (lines : L) (text : T)
       (ended : Ended S D L T) (display' : D) (lines' : L)
-      → EditsBy text_of k held failed config options words history source display lines text ended → AlwaysTold text_of → text_of history ≡ fresh_feed old End
+      → EditsBy text_of k held failed asked config options words history source display lines text ended → AlwaysTold text_of → text_of history ≡ fresh_feed old End
       → (k.feed source).coming ≡ bytes → (k.feed source).last ≡ last → (k.feed source).bound ≡ 2 ^ 63
       → k.shown display ≡ drawn → k.written_in lines ≡ wrote → held text ≡ []
       → k.shown display' ≡ k.shown ended.display → (IsTrue (k.show_failed ended.display) → IsTrue (k.show_failed display'))
       → k.written_in lines' ≡ k.written_in ended.lines → (IsTrue (k.write_failed ended.lines) → IsTrue (k.write_failed lines'))
-      → IsTrue (k.feed ended.source).told → PlaysBytes k held failed config options words drawn wrote old bytes last (record ended { display = display'; lines = lines' })
-  played config options words drawn wrote old bytes last history source display lines text ended display' lines' edits always text_is coming_is last_is bound_is had_drawn had_wrote blank drawn_is shows wrote_is writes agrees =
+      → IsTrue (k.feed ended.source).told → PlaysBytes k held failed asked config options words drawn wrote old bytes last (record ended { display = display'; lines = lines' })
+  played asked config options words drawn wrote old bytes last history source display lines text ended display' lines' edits always text_is coming_is last_is bound_is had_drawn had_wrote blank drawn_is shows wrote_is writes agrees =
       let desk = edits.desk in
       let opens = edits.opens in
       let left_desk = edits.runs.last in
@@ -159,11 +150,9 @@ module _ {F S D L T : Type 0} (text_of : F → Feed) (k : KnownDevices S D L) (h
             (as_bytes k.shown k.written_in g.config.auto_add_history lines.events (work_of k desk) (work_of k left_desk) (why ≡ lines.answer) (λ e. why ≡ e)
             drawn wrote (k.shown display') (k.written_in lines')
             (ap k.shown opens.display_is ∙ had_drawn) (drawn_is ∙ ap k.shown end.display_is) (ap k.written_in opens.lines_are ∙ had_wrote) (wrote_is ∙ ap k.written_in end.lines_are) r);
-        done = λ s. (end.saves.done s).1 ∙ ap (λ front. front ++ text_to_save left_desk.history) blank;
-        refused = λ s.
-            let r = end.saves.refused s in
-            (r.1, subst (λ before. AppendsSome before (text_to_save left_desk.history) (held ended.text)) blank r.2);
-        history_is = history_at_end end.saved _ _ (λ s. (end.saves.done s).0) (λ s. (end.saves.refused s).0);
+        text = text;
+        blank = blank;
+        saves = end.saves;
         source_is = end.source_is;
         ahead_is = end.ahead_is;
         unread_is = end.unread_is;
@@ -171,7 +160,7 @@ module _ {F S D L T : Type 0} (text_of : F → Feed) (k : KnownDevices S D L) (h
         reason = reason_still g (k.feed ended.source).failed (k.show_failed ended.display) (k.show_failed display') (k.write_failed ended.lines) (k.write_failed lines')
             why shows writes
             (subst (λ (g : Given). SessionReason g (k.feed ended.source).failed (k.show_failed ended.display) (k.write_failed ended.lines) why) given_is
-            (reason_at_end k held failed (given_to config options desk) left_desk text why ended end edits.runs.takes.reason));
+            (reason_at_end k held failed asked (given_to config options desk) left_desk text why ended end edits.runs.takes.reason));
       }
 
 -- ---- settings that are equal

@@ -72,7 +72,7 @@ module _ {D L : Type 0} (shown : D → List ℕ) (written_in : L → List ℕ) (
           absurd (no_fault went.at new event (subst Stopped (sym stands.2 ∙ is) stands.1))
 
 pub lines_by : {S D L T : Type 0} (known : KnownDevices S D L) (held : T → List ℕ) (failed : T → Bool) (options : Options) (words : Option (List (List ℕ))) (old bytes : List ℕ) (last : Last)
-    (ended : Ended S D L T) → PlaysBytes known held failed (config_of options) options words [] [] old bytes last ended → ended.ending ≡ how.Eof → (n : ℕ) → 2 ^ 63 < n
+    (ended : Ended S D L T) → PlaysBytes known held failed true (config_of options) options words [] [] old bytes last ended → ended.ending ≡ how.Eof → (n : ℕ) → 2 ^ 63 < n
     → known.written_in ended.lines ≡ lines_text (flat_map lines_written (session n (program_given options words) (each (program_given options words)) (program_start options old bytes last)).events)
 lines_by known held failed options words old bytes last ended p is n low =
     let g = program_given options words in
