@@ -64,12 +64,8 @@ mutual
 
 lone_few : (mode : EditMode) (here : List ℕ) (stop : Stop) (left : List ℕ) (again : Readings) → items again ≤ 0 → items (lone_escape mode here stop left again) ≤ 1
 lone_few mode [] AtFailure left again h = omega arith
-lone_few mode [] AtEnd left again h = omega arith
-lone_few mode [] AtBad left again h = omega arith
-lone_few mode [] Torn left again h = omega arith
-lone_few mode [] Inside left again h = omega arith
 lone_few Vi (byte ∷ bytes) stop left again h = omega arith
-lone_few Emacs (byte ∷ bytes) stop left again h = omega arith
+lone_few _ _ _ left again h = omega arith
 
 mutual
   few : (mode : EditMode) (chars : Chars) → items (readings mode chars) ≤ size chars

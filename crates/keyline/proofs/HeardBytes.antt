@@ -29,10 +29,9 @@ abbrev pub NeverEnds : Coming → Type 0
 NeverEnds (Pressed bytes k rest) = NeverEnds rest
 NeverEnds (Pasted bytes text rest) = NeverEnds rest
 NeverEnds (CutOff bytes EndItem left) = ⊥
-NeverEnds (CutOff bytes last left) = ⊤
 NeverEnds (NoMore bytes EndItem left) = ⊥
-NeverEnds (NoMore bytes last left) = ⊤
 NeverEnds (Refused bytes why) = ⊥
+NeverEnds coming = ⊤
 
 -- the keys and pastes of the one are the first of the other, and the one ends in no end of the input
 abbrev pub Opens : Coming → Coming → Type 0
@@ -154,25 +153,19 @@ lone_opens mode here there AtEnd left chars again again' is on = absurd is
 lone_opens mode here there Inside left chars again again' is on = absurd is
 
 stop_opens : (here there left : List ℕ) (stop : Stop) (chars : Chars) (other : Readings) → CharsOpen here (Over stop left) there chars → ReadingsOpen (Stops stop left) other
-stop_opens here there left AtFailure chars other is = λ bytes others. (tt, tt)
-stop_opens here there left AtBad chars other is = λ bytes others. (tt, tt)
-stop_opens here there left Torn chars other is = λ bytes others. (tt, tt)
 stop_opens here there left AtEnd chars other is = absurd is
 stop_opens here there left Inside chars other is = absurd is
+stop_opens here there left _ chars other is = λ bytes others. (tt, tt)
 
 inside_opens : (here there left : List ℕ) (stop : Stop) (chars : Chars) (other : Readings) → CharsOpen here (Over stop left) there chars → ReadingsOpen (Stops (inside stop) left) other
-inside_opens here there left AtFailure chars other is = λ bytes others. (tt, tt)
-inside_opens here there left AtBad chars other is = λ bytes others. (tt, tt)
-inside_opens here there left Torn chars other is = λ bytes others. (tt, tt)
 inside_opens here there left AtEnd chars other is = absurd is
 inside_opens here there left Inside chars other is = absurd is
+inside_opens here there left _ chars other is = λ bytes others. (tt, tt)
 
 cut_opens : (here there left : List ℕ) (stop : Stop) (chars : Chars) (other : Readings) → CharsOpen here (Over stop left) there chars → ReadingsOpen (Cut stop left) other
-cut_opens here there left AtFailure chars other is = λ bytes others. (tt, tt)
-cut_opens here there left AtBad chars other is = λ bytes others. (tt, tt)
-cut_opens here there left Torn chars other is = λ bytes others. (tt, tt)
 cut_opens here there left AtEnd chars other is = absurd is
 cut_opens here there left Inside chars other is = absurd is
+cut_opens here there left _ chars other is = λ bytes others. (tt, tt)
 
 mutual
   readings_open : (mode : EditMode) (here there : List ℕ) (x y : Chars) → CharsOpen here x there y → ReadingsOpen (readings mode x) (readings mode y)

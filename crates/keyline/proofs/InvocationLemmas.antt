@@ -9,14 +9,12 @@ use Rattle.clap.specs.Words.{Text}
 use Rattle.keyline.specs.Invocations.{decides, place_of_extended}
 
 passes : (a b : Bool) (x y z : Option ℕ) → (a || b) ≡ false → (if a then x else if b then y else z) ≡ z
-passes true b x y z doesnt = absurd (cc)
-passes false true x y z doesnt = absurd (cc)
 passes false false x y z doesnt = refl
+passes _ _ x y z doesnt = absurd (cc)
 
 stops : (a b : Bool) (z : Option ℕ) → (a || b) ≡ true → (if a then Some 0 else if b then None else z) ≡ (if a then Some 0 else None)
-stops true b z does = refl
-stops false true z does = refl
 stops false false z does = absurd (cc)
+stops _ _ z does = refl
 
 later : (a : Bool) (i : ℕ) → option_map suc (if a then Some i else None) ≡ (if a then Some (suc i) else None)
 later true i = refl

@@ -51,10 +51,8 @@ handed_on (Err e) failed is works p = absurd (cc)
 -- a device that has failed has failed afterwards
 reason_still : (g : Given) (source display display' lines lines' : Bool) (why : ReadlineError) → (IsTrue display → IsTrue display') → (IsTrue lines → IsTrue lines')
     → SessionReason g source display lines why → SessionReason g source display' lines' why
-reason_still g source display display' lines lines' Reader shows writes r = r
 reason_still g source display display' lines lines' Display shows writes r = shows r
 reason_still g source display display' lines lines' Lines shows writes r = writes r
-reason_still g source display display' lines lines' HistoryText shows writes r = r
 reason_still g source display display' lines lines' _ shows writes r = r
 
 -- ---- what goes on devices goes on their bytes

@@ -36,7 +36,6 @@ module _ (s : Screen) (a : Setting) where
   stays_as : (k : LineState) (ask : LineAsk) → k.modal.standing ≡ Off → (left_at a k ask).modal ≡ k.modal
   stays_as k (Meets cmd) off = ap (λ (m : Meeting). m.modal) (off_passes k.modal cmd a k.value off)
   stays_as k (Keys (Reads item)) off = refl
-  stays_as k (Keys (Becomes input)) off = refl
   stays_as k _ off = refl
 
   one_alike : {X : Type 0} (ask : LineAsk) (f g : LineAnswer ask → LineScript X) (l : Layout) (k : LineState) → k.modal.standing ≡ Off → (r : Result (LineAnswer ask) ReadlineError)
