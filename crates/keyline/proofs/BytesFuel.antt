@@ -3,9 +3,9 @@ use Rattle.std.proofs.Common.{◌≡◌, ℕ, suc, ◌+◌, ◌≤◌, Bool, tru
 use Rattle.std.specs.Prelude.{codes, ◌&&◌, ◌||◌, ◌==◌, nat_lt, take, slice_index}
 use Rattle.line_config.specs.declared.device.Last.{Last}
 use Rattle.line_config.specs.declared.settings.EditMode.{EditMode}
-use Rattle.line_config.specs.declared.settings.EditMode.TheVariants.{Emacs, Vi}
+use Rattle.line_config.specs.declared.settings.EditMode.TheVariants.{Vi}
 use Rattle.line_keys.specs.Keys.{alt, key_of, none}
-use Rattle.line_screen.specs.Input.{AtBad, AtEnd, AtFailure, Chars, Continuation, Inside, Next, Over, Stop, Torn, after_byte, char_then, chars_of, in_char, lead_in, lead_rows, value_with, is_scalar}
+use Rattle.line_screen.specs.Input.{AtBad, AtFailure, Chars, Continuation, Next, Over, Stop, after_byte, char_then, chars_of, in_char, lead_in, lead_rows, value_with, is_scalar}
 use Rattle.line_screen.specs.KeyGrammar.{Cut, Key, Paste, Readings, Stops, announces, byte_is, coming_of, esc, in_escape, in_paste, in_sequence, keeps_byte, lone_escape, marker, paste_with_char, readings}
 use Rattle.line_screen.specs.Sequences.{awaits_more, sequence_key}
 use Rattle.keyline.specs.Sessions.{coming_from}
@@ -64,12 +64,8 @@ mutual
 
 lone_few : (mode : EditMode) (here : List ℕ) (stop : Stop) (left : List ℕ) (again : Readings) → items again ≤ 0 → items (lone_escape mode here stop left again) ≤ 1
 lone_few mode [] AtFailure left again h = omega arith
-lone_few mode [] AtEnd left again h = omega arith
-lone_few mode [] AtBad left again h = omega arith
-lone_few mode [] Torn left again h = omega arith
-lone_few mode [] Inside left again h = omega arith
 lone_few Vi (byte ∷ bytes) stop left again h = omega arith
-lone_few Emacs (byte ∷ bytes) stop left again h = omega arith
+lone_few _ _ _ left again h = omega arith
 
 mutual
   few : (mode : EditMode) (chars : Chars) → items (readings mode chars) ≤ size chars

@@ -8,7 +8,7 @@ use Rattle.line_keys.specs.declared.key.KeyCode.TheVariants.{BracketedPasteStart
 use Rattle.line_keys.specs.Coming.{Coming, Pressed, Pasted, CutOff, Ends, End as AtItsEnd, bytes_to_come}
 use Rattle.line_keys.specs.Keys.{key_of, key_with, none, alt}
 use Rattle.line_screen.specs.KeyGrammar.{readings_then, Readings, Key, Paste, Cut, Stops, readings, lone_escape, in_escape, in_sequence, in_paste, are_whole, announces, byte_is, coming_of, esc, inside, keeps_byte, marker, paste_with_char}
-use Rattle.line_screen.specs.Input.{Chars, Next, Over, Stop, AtEnd, AtBad, AtFailure, Torn, Inside, ReadsFirst, chars_of}
+use Rattle.line_screen.specs.Input.{Chars, Next, Over, Stop, AtEnd, AtFailure, ReadsFirst, chars_of}
 use Rattle.line_screen.specs.Sequences.{awaits_more, sequence_key}
 use Rattle.line_screen.proofs.FollowingLemmas.{whole_keys_stay}
 use Rattle.line_screen.proofs.Outcomes.{unread_of}
@@ -29,10 +29,7 @@ bare_chars bytes (Next c behind rest) is =
     bare_chars behind rest (sym r.2)
 bare_chars bytes (Over AtEnd left) is =
     let r : ReadsFirst End bytes (Over AtEnd left) = subst (ReadsFirst End bytes) is (chars_are_encoded bytes End) in r.0
-bare_chars bytes (Over AtBad left) is = tt
-bare_chars bytes (Over AtFailure left) is = tt
-bare_chars bytes (Over Torn left) is = tt
-bare_chars bytes (Over Inside left) is = tt
+bare_chars bytes (Over _ left) is = tt
 
 abbrev Bare : List ℕ → Readings → Type 0
 Bare here (Key k behind rest) = Bare behind rest
@@ -47,24 +44,15 @@ bare_by false here x y p q = q
 
 bare_inside : (here : List ℕ) (stop : Stop) (left : List ℕ) → Bare here (Stops (inside stop) left)
 bare_inside here AtEnd left = tt
-bare_inside here AtBad left = tt
-bare_inside here AtFailure left = tt
-bare_inside here Torn left = tt
-bare_inside here Inside left = tt
+bare_inside here _ left = tt
 
 bare_alone : (mode : EditMode) (outer here : List ℕ) (stop : Stop) (left : List ℕ) (again : Readings) → BareChars here (Over stop left) → Bare here again
     → Bare outer (lone_escape mode here stop left again)
 bare_alone mode outer [] AtFailure left again is on = tt
-bare_alone mode outer [] AtEnd left again is on = on
-bare_alone mode outer [] AtBad left again is on = on
-bare_alone mode outer [] Torn left again is on = on
-bare_alone mode outer [] Inside left again is on = on
+bare_alone mode outer [] _ left again is on = on
 bare_alone Vi outer (b ∷ bs) stop left again is on = on
 bare_alone Emacs outer (b ∷ bs) AtEnd left again is on = absurd (cc)
-bare_alone Emacs outer (b ∷ bs) AtBad left again is on = tt
-bare_alone Emacs outer (b ∷ bs) AtFailure left again is on = tt
-bare_alone Emacs outer (b ∷ bs) Torn left again is on = tt
-bare_alone Emacs outer (b ∷ bs) Inside left again is on = tt
+bare_alone Emacs outer (b ∷ bs) _ left again is on = tt
 
 mutual
   bare : (mode : EditMode) (here : List ℕ) (chars : Chars) → BareChars here chars → Bare here (readings mode chars)
@@ -73,10 +61,7 @@ mutual
       bare_by (c == 0x1B) here (in_escape mode behind rest (readings mode rest)) (Key (key_of c none) behind (readings mode rest))
       (bare_escape mode here behind rest (readings mode rest) is next) next
   bare mode here (Over AtEnd left) is = is
-  bare mode here (Over AtBad left) is = tt
-  bare mode here (Over AtFailure left) is = tt
-  bare mode here (Over Torn left) is = tt
-  bare mode here (Over Inside left) is = tt
+  bare mode here (Over _ left) is = tt
 
   bare_escape : (mode : EditMode) (outer here : List ℕ) (chars : Chars) (again : Readings) → BareChars here chars → Bare here again → Bare outer (in_escape mode here chars again)
   bare_escape mode outer here (Next c behind rest) again is on =
@@ -121,12 +106,8 @@ coming_follows here (Paste text behind rest) more following is whole =
     let later = coming_follows behind rest more following is whole in
     ap (λ bytes. Pasted (here ++ bytes) text (coming_of (behind ++ more) (readings_then rest more following))) (sym (unread_of more following))
     ∙ ap (Pasted (here ++ bytes_to_come (coming_of more following)) text) later
-coming_follows here (Cut stop left) more following is whole = absurd (cc)
 coming_follows here (Stops AtEnd left) more following is whole = ap (λ bytes. coming_of (bytes ++ more) following) is
-coming_follows here (Stops AtBad left) more following is whole = absurd (cc)
-coming_follows here (Stops AtFailure left) more following is whole = absurd (cc)
-coming_follows here (Stops Torn left) more following is whole = absurd (cc)
-coming_follows here (Stops Inside left) more following is whole = absurd (cc)
+coming_follows here _ more following is whole = absurd (cc)
 
 pub cuts_are_free : CutsAreFree
 cuts_are_free mode bytes more last free whole =

@@ -63,9 +63,8 @@ err_given (Err d) f e P p is = let same : d ≡ e = cc in subst P same p
 
 ok_given : {A : Type 0} (o : Result A ReadlineError) (f : A → List ℕ) (result : Result (List ℕ) ReadlineError) (P : Type 0) → OnOk o P → result ≡ answer_map f o → OnOk result P
 ok_given (Ok x) f (Ok u) P p is = p
-ok_given (Ok x) f (Err e) P p is = tt
 ok_given (Err d) f (Ok u) P p is = absurd (cc)
-ok_given (Err d) f (Err e) P p is = tt
+ok_given _ f (Err e) P p is = tt
 
 ok_of_cut : (result : Result (List ℕ) ReadlineError) (e : ReadlineError) (P : Type 0) → result ≡ Err e → OnOk result P
 ok_of_cut (Ok u) e P is = absurd (cc)
@@ -241,12 +240,9 @@ module _ {S H D L K T : Type 0} (k : KnownDevices S D L) (helps : Option H → H
         let of_line = reason_by given _ (k.show_failed (sink_of ran.out)) (k.write_failed lines) (items_of k.feed reader) _ e (λ r. r) cause in
         let P : Bool → Type 0 = λ failed. SessionReason given (k.feed reader.bytes.source).failed failed (k.write_failed lines) e in
         subst P (sym p.1) of_line
-    reason_of_close runs e (inr (inl p)) =
-        let P : ReadlineError → Type 0 = DeskReason k given new in subst P (sym p.0) p.1
-    reason_of_close runs e (inr (inr (inl p))) =
-        let P : ReadlineError → Type 0 = DeskReason k given new in subst P (sym p.0) p.1
-    reason_of_close runs e (inr (inr (inr p))) =
-        let P : ReadlineError → Type 0 = DeskReason k given new in subst P (sym p.0) tt
+    reason_of_close runs e (inr (inl p)) = subst (λ (e : ReadlineError). DeskReason k given new e) (sym p.0) p.1
+    reason_of_close runs e (inr (inr (inl p))) = subst (λ (e : ReadlineError). DeskReason k given new e) (sym p.0) p.1
+    reason_of_close runs e (inr (inr (inr p))) = subst (λ (e : ReadlineError). DeskReason k given new e) (sym p.0) tt
 
     pub takes_line : RunsAt → Ends (outcome_of ran) → screen_of out ≡ screen_of ran.out → (HasPassedOn k (sink_of ran.out) → HasPassedOn k (sink_of out))
         → (HasPassedLines k old.lines → HasPassedLines k lines) → TakesLine k given given' old new result

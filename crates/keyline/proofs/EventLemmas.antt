@@ -15,12 +15,12 @@ use Rattle.line_keys.specs.KeyFeeds.{InputItem, IsReadFault, Paste, behind}
 use Rattle.line_keys.specs.PhraseScripts.{Reads}
 use Rattle.line_editor.specs.RenderCalls.{Call, Canvas, MadeIn, CutCall, CutCalls}
 use Rattle.line_editor.specs.RenderCalls.Call.{Help}
-use Rattle.line_editor.specs.LineScripts.{Begins as TurnBegins, DrawnBy, CutLineAsk, Keys, LineAsk, LineScript, LineStage, LineState, Obeys, Stopped, effect_at, left_at, line_world, line_stage, played_from, steps_along}
+use Rattle.line_editor.specs.LineScripts.{DrawnBy, CutLineAsk, Keys, LineAsk, LineScript, LineStage, LineState, Obeys, Stopped, effect_at, left_at, line_world, line_stage, played_from, steps_along}
 use Rattle.line_editor.specs.Redraws.{RedrawCalls, calls_of_redraw}
 use Rattle.line_editor.specs.States.{reason_of}
 use Rattle.line_editor.specs.EditSteps.{one, Surface, CutStep, CutHelp, CutEditSteps as StepsStop}
 use Rattle.line_editor.specs.Values.{Value, Setting, EditStep, shown_marks}
-use Rattle.line_editor.specs.Values.EditStep.{Draws as DrawStep, Helped as HelpStep, Edits as EditingStep, TakesBack as BackStep, Takes as TakingStep}
+use Rattle.line_editor.specs.Values.EditStep.{Draws as DrawStep, Helped as HelpStep}
 use Rattle.line_editor.proofs.StopsLemmas.{asked_both}
 use Rattle.line_editor.proofs.ToldLemmas.{AllDone, StoppedIn, left_along, rest_along, stopped_cause, went}
 use Rattle.line_screen.specs.ScreenCalls.{Screen, bytes_of, canvas_of, ruler_of, screen_of, sink_of}
@@ -72,39 +72,32 @@ module _ (s : Screen) where
       ap (λ b. b ++ drawn_in (step_events s a.layout rs)) (all_of_map (bytes_of s) a.calls)
       ∙ ap (λ b. flat_map (bytes_of s) a.calls ++ b) (step_bytes a.layout rs)
       ∙ sym (flat_map-append (bytes_of s) a.calls more)
-  step_bytes l (HelpStep v fails takes ∷ rs) = step_bytes l rs
   step_bytes l (_ ∷ rs) = step_bytes l rs
 
   step_left : (c : Coming) (l : Layout) (rs : List EditStep) → coming_after_events c (step_events s l rs) ≡ c
   step_left c l [] = refl
   step_left c l (DrawStep v marks redraw ∷ rs) = step_left c (calls_of_redraw (ruler_of s) (shown_marks v marks) l redraw).layout rs
-  step_left c l (HelpStep v fails takes ∷ rs) = step_left c l rs
   step_left c l (_ ∷ rs) = step_left c l rs
 
   pub step_quiet : (l : Layout) (rs : List EditStep) → (flat_map lines_kept (step_events s l rs) ≡ []) × (flat_map lines_written (step_events s l rs) ≡ [])
   step_quiet l [] = (refl, refl)
   step_quiet l (DrawStep v marks redraw ∷ rs) = step_quiet (calls_of_redraw (ruler_of s) (shown_marks v marks) l redraw).layout rs
-  step_quiet l (HelpStep v fails takes ∷ rs) = step_quiet l rs
   step_quiet l (_ ∷ rs) = step_quiet l rs
 
   module _ (a : Setting) where
     own_bytes : (k : LineState) (ask : LineAsk) (more : List SessionEvent) → drawn_in (own_events a k ask ++ more) ≡ drawn_in more
-    own_bytes k TurnBegins more = refl
     own_bytes k (Keys (Reads item)) more = refl
     own_bytes k _ more = refl
 
     own_left : (k : LineState) (ask : LineAsk) (more : List SessionEvent) → coming_after_events k.coming (own_events a k ask ++ more) ≡ coming_after_events (left_at a k ask).coming more
-    own_left k TurnBegins more = refl
     own_left k (Keys (Reads item)) more = refl
     own_left k _ more = refl
 
     pub own_quiet : (k : LineState) (ask : LineAsk) → (flat_map lines_kept (own_events a k ask) ≡ []) × (flat_map lines_written (own_events a k ask) ≡ [])
-    own_quiet k TurnBegins = (refl, refl)
     own_quiet k (Keys (Reads item)) = (refl, refl)
     own_quiet k _ = (refl, refl)
 
     own_answered : (k : LineState) (ask : LineAsk) → AllAnswered (own_events a k ask)
-    own_answered k TurnBegins = tt
     own_answered k (Keys (Reads item)) = tt
     own_answered k _ = tt
 
@@ -301,9 +294,7 @@ module _ {D L : Type 0} (shown : D → List ℕ) (written_in : L → List ℕ) (
         let parts = folds_apart (MadeIn canvas) x.calls (calls_by_screen s x.layout rs).calls a b made in
         steps_answered x.layout rs parts.0 b parts.2
     steps_answered l (HelpStep v fails takes ∷ rs) a b made = (made.1.0, steps_answered l rs made.0 b made.2)
-    steps_answered l (EditingStep v edit ∷ rs) a b made = steps_answered l rs a b made
-    steps_answered l (BackStep v count ∷ rs) a b made = steps_answered l rs a b made
-    steps_answered l (TakingStep v ∷ rs) a b made = steps_answered l rs a b made
+    steps_answered l (_ ∷ rs) a b made = steps_answered l rs a b made
 
     steps_done : (rs : List EditStep) (c : Coming) (a b : Surface (ScreenRenderer D)) → screen_of a.out ≡ s → Drawn (calls_by_screen s a.layout rs).calls a.out b.out → Sums (step_events s a.layout rs) (on a.out c) (on b.out c)
     steps_done rs c a b is made =
@@ -337,15 +328,8 @@ module _ {D L : Type 0} (shown : D → List ℕ) (written_in : L → List ℕ) (
         by Helper p = (p, same)
         by Memory p = (p, same)
         by _ p = absurd p
-    step_stopped (EditingStep v edit) c e left a b is h =
+    step_stopped _ c e left a b is h =
         subst (λ why. CutSessionEvent shown written_in adds (on a.out c) Takes why (on b.out c)) (sym h.0) (ap (λ (x : Surface (ScreenRenderer D)). on x.out c) h.1)
-    step_stopped (BackStep v count) c e left a b is h =
-        subst (λ why. CutSessionEvent shown written_in adds (on a.out c) Takes why (on b.out c)) (sym h.0) (ap (λ (x : Surface (ScreenRenderer D)). on x.out c) h.1)
-    step_stopped (TakingStep v) c e left a b is h =
-        subst (λ why. CutSessionEvent shown written_in adds (on a.out c) Takes why (on b.out c)) (sym h.0) (ap (λ (x : Surface (ScreenRenderer D)). on x.out c) h.1)
-
-    step_one : (step : EditStep) (a : Surface (ScreenRenderer D)) (rs : List EditStep) → step_events s a.layout (step ∷ rs) ≡ step_events s a.layout (step ∷ []) ++ step_events s (one (ruler_of s) a.layout step).layout rs
-    step_one step a rs = refl
 
     one_calls : (step : EditStep) (l : Layout) → (calls_by_screen s l (step ∷ [])).calls ≡ (one (ruler_of s) l step).calls
     one_calls step l = append-nil (one (ruler_of s) l step).calls

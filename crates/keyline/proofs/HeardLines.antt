@@ -6,7 +6,7 @@ use Rattle.line_config.specs.declared.errors.ReadlineError.{ReadlineError}
 use Rattle.line_config.specs.declared.device.Last.TheVariants.{Failed as SourceFailed}
 use Rattle.line_help.specs.History.{Filed}
 use Rattle.line_keys.specs.Coming.{Coming, Pressed, Pasted, CutOff, Ends as NoMore, Refused}
-use Rattle.line_keys.specs.Coming.LastItem.{End as EndItem, Bad, Failed}
+use Rattle.line_keys.specs.Coming.LastItem.{End as EndItem}
 use Rattle.line_keys.specs.KeyFeeds.{InputItem, InputOf, Key, Paste, behind, item_at}
 use Rattle.script.specs.Played.{Played, play_with_first_ask, play_after_answer}
 use Rattle.script.specs.Scripts.{Ends, Asks}
@@ -23,7 +23,7 @@ use Rattle.line_editor.proofs.ToldLemmas.{left_along, played_each}
 use Rattle.line_screen.specs.ScreenCalls.{Screen, ruler_of}
 use Rattle.keyline.specs.Events.{Begins, Breaks, Course, SessionEvent, Hears, asks_events, end_events, course_after_line, line_course, own_events, line_play_in, session, step_events}
 use Rattle.keyline.specs.SessionLaws.{IsBeginning, LinesBegin, SessionsBegin}
-use Rattle.keyline.specs.Sessions.{Given, SessionState, coming_from, setting_in, state_over, history_after, LineGiven, for_line}
+use Rattle.keyline.specs.Sessions.{Given, SessionState, coming_from, setting_in, state_at, state_over, history_after, LineGiven, for_line}
 use Rattle.keyline.specs.Shows.{calls_by_screen}
 use Rattle.keyline.proofs.EventLemmas.{asks_both}
 use Rattle.keyline.proofs.HeardBytes.{NeverEnds, Opens, bytes_open}
@@ -32,34 +32,19 @@ use Rattle.keyline.proofs.HeardBytes.{NeverEnds, Opens, bytes_open}
 
 refused_unbroken : (item : InputItem) (h : Coming) → NeverEnds h → IfErr (item_at item h) (λ e. breaks_after e ≡ false)
 refused_unbroken Key (Pressed bytes k rest) never = tt
-refused_unbroken Key (Pasted bytes text rest) never = refl
-refused_unbroken Key (CutOff bytes last left) never = refl
 refused_unbroken Key (NoMore bytes EndItem left) never = absurd never
-refused_unbroken Key (NoMore bytes Bad left) never = refl
-refused_unbroken Key (NoMore bytes Failed left) never = refl
-refused_unbroken Key (Refused bytes why) never = absurd never
-refused_unbroken Paste (Pressed bytes k rest) never = refl
 refused_unbroken Paste (Pasted bytes text rest) never = tt
 refused_unbroken Paste (CutOff bytes EndItem left) never = absurd never
-refused_unbroken Paste (CutOff bytes Bad left) never = refl
-refused_unbroken Paste (CutOff bytes Failed left) never = refl
-refused_unbroken Paste (NoMore bytes last left) never = refl
-refused_unbroken Paste (Refused bytes why) never = absurd never
+refused_unbroken item (Refused bytes why) never = absurd never
+refused_unbroken _ _ never = refl
 
 -- what is read of the one is read of the other
 read_alike : (item : InputItem) (h c : Coming) → Opens h c → OnOk (item_at item h) ((item_at item h ≡ item_at item c) × Opens (behind item h) (behind item c))
 read_alike Key (Pressed bytes k rest) (Pressed others next left) on = (ap Ok on.0.0, (on.0.1, on.1))
 read_alike Key (Pressed bytes k rest) _ on = absurd (on.0)
-read_alike Key (Pasted bytes text rest) c on = tt
-read_alike Key (CutOff bytes last left) c on = tt
-read_alike Key (NoMore bytes last left) c on = tt
-read_alike Key (Refused bytes why) c on = tt
 read_alike Paste (Pasted bytes text rest) (Pasted others next left) on = (ap Ok on.0.0, (on.0.1, on.1))
 read_alike Paste (Pasted bytes text rest) _ on = absurd (on.0)
-read_alike Paste (Pressed bytes k rest) c on = tt
-read_alike Paste (CutOff bytes last left) c on = tt
-read_alike Paste (NoMore bytes last left) c on = tt
-read_alike Paste (Refused bytes why) c on = tt
+read_alike _ _ c on = tt
 
 -- ---- a script
 
@@ -143,9 +128,6 @@ nothing_after : (why : ReadlineError) → breaks_after why ≡ false → end_eve
 nothing_after why unbroken = ap (λ b. if b then Breaks ∷ [] else []) unbroken
 
 -- ---- a line
-
-abbrev state_at : Ring → List ℕ → Filed → Coming → SessionState
-state_at ring query history coming = record { ring = ring; query = query; history = history; coming = coming }
 
 module _ (n : ℕ) (g : Given) (ring : Ring) (query : List ℕ) (history : Filed) (h c : Coming) (on : Opens h c) where
   abbrev one : Course (Result (List ℕ) ReadlineError × SessionState)

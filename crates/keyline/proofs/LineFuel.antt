@@ -60,10 +60,9 @@ key_then custom n m h at key (suc j) low low' =
 
 turns_alike : (custom : Custom) (n m : ℕ) → TurnsAlike custom n m
 unfolding turns_script turn_script and_then with_read
-turns_alike custom zero m k low low' = absurd (omega arith)
-turns_alike custom (suc n) zero k low low' = absurd (omega arith)
 turns_alike custom (suc n) (suc m) k low low' =
     ((λ at. Asks (Keys (Reads Key)) (turn_after m custom at)), refl, λ at. (turn_after m custom at, refl, λ key. key_then custom n m (turns_alike custom n m) at key k low low'))
+turns_alike custom _ _ k low low' = absurd (omega arith)
 
 pub line_alike : (custom : Custom) (n m k : ℕ) → k < n → k < m → Alike is_line_read k (line_script n custom) (line_script m custom)
 unfolding line_script

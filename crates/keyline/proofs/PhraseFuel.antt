@@ -45,10 +45,9 @@ counted_next on n m h c key zero o low low' = tt
 counted_next on n m h c key (suc j) o low low' = counted_by on n m h c key j o (omega arith) (omega arith)
 
 counting_alike : (on : ℤ → KeyEvent → Option ℤ) (n m : ℕ) → CountingAlike on n m
-counting_alike on zero m c k low low' = absurd (omega arith)
-counting_alike on (suc n) zero c k low low' = absurd (omega arith)
 counting_alike on (suc n) (suc m) c k low low' =
     ((λ key. rest_of_count_by (λ d. prompting d (rest_of_count_in on d m)) c key (on c key)), refl, λ key. counted_next on n m (counting_alike on n m) c key k (on c key) low low')
+counting_alike on _ _ c k low low' = absurd (omega arith)
 
 s_counting : (on : ℤ → KeyEvent → Option ℤ) (c : ℤ) → Steady (rest_of_count on c)
 unfolding rest_of_count
@@ -85,9 +84,8 @@ read_on s n m h keys k low low' true = (more_keys s keys m, refl, λ key. key_ne
 read_on s n m h keys k low low' false = refl
 
 following_alike : (s : Situation) (n m : ℕ) → FollowingAlike s n m
-following_alike s zero m keys k low low' = absurd (omega arith)
-following_alike s (suc n) zero keys k low low' = absurd (omega arith)
 following_alike s (suc n) (suc m) keys k low low' = read_on s n m (following_alike s n m) keys k low low' (s.custom.begins keys)
+following_alike s _ _ keys k low low' = absurd (omega arith)
 
 s_following : (s : Situation) (keys : List KeyEvent) → Steady (rest_of_sequence s keys)
 unfolding rest_of_sequence

@@ -1,23 +1,20 @@
 -- A session by options, over all that is said of its keys.
-use Rattle.std.proofs.Common.{◌≡◌, ℕ, ◌+◌, ◌<◌, ◌^◌, Bool, true, false, IsTrue, List, [], ◌∷◌, ◌++◌, Option, refl, sym, ap, subst, ◌∙◌, append-nil, arith}
-use Rattle.std.specs.Prelude.{if◌then◌else◌, IfErr, IfOk, IsErr, IsOk, None, OnOk, Result, Ok, Err, is_err}
+use Rattle.std.proofs.Common.{◌≡◌, ℕ, ◌+◌, ◌<◌, ◌^◌, Bool, false, IsTrue, List, [], ◌∷◌, ◌++◌, Option, refl, sym, ap, subst, ◌∙◌, append-nil, arith}
+use Rattle.std.specs.Prelude.{IfErr, IfOk, IsErr, IsOk, None, OnOk, Result, Ok, Err, is_err}
 use Rattle.line_config.specs.Feed.{AlwaysTold, Feed, fresh_feed}
 use Rattle.std.proofs.lemmas.Result.{IfErr-weaker}
 use Rattle.line_config.specs.Adapters.{to_come}
 use Rattle.line_config.specs.declared.adapters.ReadSource.{ReadSource}
 use Rattle.line_config.specs.declared.adapters.WriteSink.{WriteSink}
-use Rattle.line_config.specs.Sending.{AppendsSome}
 use Rattle.line_config.specs.declared.config.Config.{Config}
 use Rattle.line_config.specs.declared.device.Last.{Last}
 use Rattle.line_config.specs.declared.device.Last.TheVariants.{End}
 use Rattle.line_config.specs.declared.errors.ReadlineError.{ReadlineError}
-use Rattle.line_config.specs.declared.errors.ReadlineError.TheVariants.{Display, Helper, HistoryText, Lines, Memory, Reader}
-use Rattle.line_help.specs.History.{Filed, all_saved}
-use Rattle.line_help.specs.HistoryText.{text_to_save}
+use Rattle.line_config.specs.declared.errors.ReadlineError.TheVariants.{Display, Helper, Lines, Memory}
 use Rattle.line_keys.specs.KeyFeeds.{Paste}
 use Rattle.line_screen.specs.Reader.{byte_ahead_of}
 use Rattle.line_screen.specs.Reading.{count_of_kept}
-use Rattle.keyline.specs.Desks.{GoesShown, desk_feed, session_state_of, work_of}
+use Rattle.keyline.specs.Desks.{DeskReason, GoesShown, desk_feed, session_state_of, work_of}
 use Rattle.keyline.specs.Events.{SessionEvent, Takes, Helped, Draws, Hears, Breaks, Keeps, Writes, session}
 use Rattle.keyline.specs.KnownDevices.{KnownDevices}
 use Rattle.keyline.specs.Program.{EditsBy, given_by, given_to, helper_of, PlaysBytes, PlaysOver, UnopensOver, start_by}
@@ -28,7 +25,6 @@ use Rattle.keyline.specs.declared.options.Options.{Options}
 use Rattle.keyline.specs.declared.session.Ended.{Ended}
 use Rattle.keyline.specs.declared.session.Unopened.{Unopened}
 use Rattle.keyline.proofs.OpenedLemmas.{given_as, state_first}
-use Rattle.keyline.proofs.PlaysLemmas.{reason_at_end}
 
 below : (most kept bound n : ℕ) → kept ≡ 0 → bound ≡ most + kept → most < n → bound < n
 below most kept bound n none is low = omega arith
@@ -51,19 +47,11 @@ pub handed_on : {A E P : Type 0} (result : Result A E) (failed : Bool) → faile
 handed_on (Ok x) failed is works p = p
 handed_on (Err e) failed is works p = absurd (cc)
 
--- after the end nothing is new, or the history is as the lines left it
-history_at_end : (saved : Bool) (kept history : Filed) → (saved ≡ true → history ≡ all_saved kept) → (saved ≡ false → history ≡ kept)
-    → history ≡ (if saved then all_saved kept else kept)
-history_at_end true kept history done refused = done refl
-history_at_end false kept history done refused = refused refl
-
 -- a device that has failed has failed afterwards
 reason_still : (g : Given) (source display display' lines lines' : Bool) (why : ReadlineError) → (IsTrue display → IsTrue display') → (IsTrue lines → IsTrue lines')
     → SessionReason g source display lines why → SessionReason g source display' lines' why
-reason_still g source display display' lines lines' Reader shows writes r = r
 reason_still g source display display' lines lines' Display shows writes r = shows r
 reason_still g source display display' lines lines' Lines shows writes r = writes r
-reason_still g source display display' lines lines' HistoryText shows writes r = r
 reason_still g source display display' lines lines' _ shows writes r = r
 
 -- ---- what goes on devices goes on their bytes
@@ -97,10 +85,8 @@ module _ {D L : Type 0} (shown : D → List ℕ) (written_in : L → List ℕ) w
       → GoesShown shown written_in adds events old new Whole Faulted
       → GoesShown seen seen adds events (work first before old.history old.coming) (work drawn wrote new.history new.coming) Whole Faulted
   as_bytes adds events old new Whole Faulted first before drawn wrote first_is drawn_is before_is wrote_is goes =
-      let R : List ℕ → List ℕ → List ℕ → List ℕ → Type 0 = λ a b c d.
-      GoesShown seen seen adds events (work a b old.history old.coming) (work c d new.history new.coming) Whole Faulted in
       let w = goes.went in
-      let both : R (shown old.display) (written_in old.lines) (shown new.display) (written_in new.lines) = record {
+      rw (sym first_is, sym before_is, drawn_is, wrote_is) (record {
         went = record {
           done = w.done;
           others = w.others;
@@ -110,21 +96,18 @@ module _ {D L : Type 0} (shown : D → List ℕ) (written_in : L → List ℕ) w
           stands = stands_in_bytes adds w.others w.at new Whole Faulted w.stands;
         };
         shows = goes.shows;
-      } in
-      subst (λ a. R a before drawn wrote) first_is (subst (λ b. R (shown old.display) b drawn wrote) before_is
-      (subst (λ c. R (shown old.display) (written_in old.lines) c wrote) (sym drawn_is)
-      (subst (λ d. R (shown old.display) (written_in old.lines) (shown new.display) d) (sym wrote_is) both)))
+      })
 
 module _ {F S D L T : Type 0} (text_of : F → Feed) (k : KnownDevices S D L) (held : T → List ℕ) (failed : T → Bool) where
-  pub played : (config : Config) (options : Options) (words : Option (List (List ℕ))) (drawn wrote old bytes : List ℕ) (last : Last) (history : F) (source : S) (display : D) (lines : L) (text : T)
+  pub played : (asked : Bool) (config : Config) (options : Options) (words : Option (List (List ℕ))) (drawn wrote old bytes : List ℕ) (last : Last) (history : F) (source : S) (display : D) (lines : L) (text : T)
       (ended : Ended S D L T) (display' : D) (lines' : L)
-      → EditsBy text_of k held failed config options words history source display lines text ended → AlwaysTold text_of → text_of history ≡ fresh_feed old End
+      → EditsBy text_of k held failed asked config options words history source display lines text ended → AlwaysTold text_of → text_of history ≡ fresh_feed old End
       → (k.feed source).coming ≡ bytes → (k.feed source).last ≡ last → (k.feed source).bound ≡ 2 ^ 63
       → k.shown display ≡ drawn → k.written_in lines ≡ wrote → held text ≡ []
       → k.shown display' ≡ k.shown ended.display → (IsTrue (k.show_failed ended.display) → IsTrue (k.show_failed display'))
       → k.written_in lines' ≡ k.written_in ended.lines → (IsTrue (k.write_failed ended.lines) → IsTrue (k.write_failed lines'))
-      → IsTrue (k.feed ended.source).told → PlaysBytes k held failed config options words drawn wrote old bytes last (record ended { display = display'; lines = lines' })
-  played config options words drawn wrote old bytes last history source display lines text ended display' lines' edits always text_is coming_is last_is bound_is had_drawn had_wrote blank drawn_is shows wrote_is writes agrees =
+      → IsTrue (k.feed ended.source).told → PlaysBytes k held failed asked config options words drawn wrote old bytes last (record ended { display = display'; lines = lines' })
+  played asked config options words drawn wrote old bytes last history source display lines text ended display' lines' edits always text_is coming_is last_is bound_is had_drawn had_wrote blank drawn_is shows wrote_is writes agrees =
       let desk = edits.desk in
       let opens = edits.opens in
       let left_desk = edits.runs.last in
@@ -159,19 +142,16 @@ module _ {F S D L T : Type 0} (text_of : F → Feed) (k : KnownDevices S D L) (h
             (as_bytes k.shown k.written_in g.config.auto_add_history lines.events (work_of k desk) (work_of k left_desk) (why ≡ lines.answer) (λ e. why ≡ e)
             drawn wrote (k.shown display') (k.written_in lines')
             (ap k.shown opens.display_is ∙ had_drawn) (drawn_is ∙ ap k.shown end.display_is) (ap k.written_in opens.lines_are ∙ had_wrote) (wrote_is ∙ ap k.written_in end.lines_are) r);
-        done = λ s. (end.saves.done s).1 ∙ ap (λ front. front ++ text_to_save left_desk.history) blank;
-        refused = λ s.
-            let r = end.saves.refused s in
-            (r.1, subst (λ before. AppendsSome before (text_to_save left_desk.history) (held ended.text)) blank r.2);
-        history_is = history_at_end end.saved _ _ (λ s. (end.saves.done s).0) (λ s. (end.saves.refused s).0);
+        text = text;
+        blank = blank;
+        saves = end.saves;
         source_is = end.source_is;
         ahead_is = end.ahead_is;
         unread_is = end.unread_is;
         ending_is = end.ending_is;
         reason = reason_still g (k.feed ended.source).failed (k.show_failed ended.display) (k.show_failed display') (k.write_failed ended.lines) (k.write_failed lines')
             why shows writes
-            (subst (λ (g : Given). SessionReason g (k.feed ended.source).failed (k.show_failed ended.display) (k.write_failed ended.lines) why) given_is
-            (reason_at_end k held failed (given_to config options desk) left_desk text why ended end edits.runs.takes.reason));
+            (rw (end.source_is, end.display_is, end.lines_are) (subst (λ (g : Given). DeskReason k g left_desk why) given_is edits.runs.takes.reason));
       }
 
 -- ---- settings that are equal

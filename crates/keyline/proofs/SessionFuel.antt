@@ -4,16 +4,15 @@ use Rattle.script.specs.Played.{Played, play_with_first_ask, play_after_answer}
 use Rattle.script.specs.Scripts.{Ends, Asks}
 use Rattle.line_config.specs.declared.errors.ReadlineError.{ReadlineError}
 use Rattle.line_config.specs.declared.errors.ReadlineError.TheVariants.{Eof}
-use Rattle.line_editor.specs.LineScripts.{Begins, Keys, Meets, Obeys, Makes, LineAnswer, LineAsk, LineScript, LineState, answer_at, turn_start, left_at, line_begun, line_script, played_from, turn_script, turns_script}
-use Rattle.line_editor.specs.Redraws.{fresh}
+use Rattle.line_editor.specs.LineScripts.{Begins, Keys, Makes, LineAnswer, LineAsk, LineScript, LineState, answer_at, turn_start, left_at, line_begun, line_script, played_from, turn_script, turns_script}
 use Rattle.line_editor.specs.LineRun.{first_line_state}
 use Rattle.line_editor.specs.Values.{Setting}
 use Rattle.line_keys.specs.CustomBindings.{Custom}
 use Rattle.line_keys.specs.Coming.{Coming, Pressed, Pasted, CutOff, Ends as Ended, Refused, coming_after_error, refusal_of}
 use Rattle.line_keys.specs.KeyFeeds.{InputItem, InputOf, Key, Paste, behind, item_at}
-use Rattle.line_keys.specs.PhraseScripts.{Needs, Shows, Reads, Becomes, Refuses, and_then, with_read}
+use Rattle.line_keys.specs.PhraseScripts.{Reads, and_then, with_read}
 use Rattle.line_keys.specs.declared.key.KeyEvent.{KeyEvent}
-use Rattle.keyline.specs.Events.{Begins as LineBegins, Course, asks_events, end_events, events_first, course_after_line, line_course, line_play_in, session}
+use Rattle.keyline.specs.Events.{Begins as LineBegins, Course, end_events, events_first, events_of, course_after_line, line_course, line_play_in, session}
 use Rattle.keyline.specs.Sessions.{Given, LineGiven, SessionState, for_line, setting_in, state_after}
 use Rattle.keyline.specs.Fuel.{keys_and_pastes}
 use Rattle.keyline.proofs.AlikeScripts.{Alike, Next}
@@ -23,55 +22,28 @@ use Rattle.keyline.proofs.LineFuel.{is_line_read, line_alike, turn_after}
 
 read_falls : (item : InputItem) (c : Coming) (x : InputOf item) → item_at item c ≡ Ok x → suc (keys_and_pastes (behind item c)) ≤ keys_and_pastes c
 read_falls Key (Pressed bytes k rest) x is = omega arith
-read_falls Key (Pasted bytes text rest) x is = absurd (cc)
-read_falls Key (CutOff bytes last left) x is = absurd (cc)
-read_falls Key (Ended bytes last left) x is = absurd (cc)
-read_falls Key (Refused bytes why) x is = absurd (cc)
-read_falls Paste (Pressed bytes k rest) x is = absurd (cc)
 read_falls Paste (Pasted bytes text rest) x is = omega arith
-read_falls Paste (CutOff bytes last left) x is = absurd (cc)
-read_falls Paste (Ended bytes last left) x is = absurd (cc)
-read_falls Paste (Refused bytes why) x is = absurd (cc)
+read_falls _ _ x is = absurd (cc)
 
 none_by : (e : ReadlineError) (left : List ℕ) → keys_and_pastes (coming_after_error e left) ≡ 0
 none_by Eof left = refl
 none_by _ left = refl
 
 read_stays : (item : InputItem) (c : Coming) → keys_and_pastes (behind item c) ≤ keys_and_pastes c
-read_stays Key (Pressed bytes k rest) = omega arith
-read_stays Key (Pasted bytes text rest) = omega arith
-read_stays Key (CutOff bytes last left) = omega arith
 read_stays Key (Ended bytes last left) = let none = none_by (refusal_of last) left in omega arith
-read_stays Key (Refused bytes why) = let none = none_by why bytes in omega arith
-read_stays Paste (Pressed bytes k rest) = omega arith
-read_stays Paste (Pasted bytes text rest) = omega arith
 read_stays Paste (CutOff bytes last left) = let none = none_by (refusal_of last) left in omega arith
-read_stays Paste (Ended bytes last left) = omega arith
-read_stays Paste (Refused bytes why) = let none = none_by why bytes in omega arith
+read_stays item (Refused bytes why) = let none = none_by why bytes in omega arith
+read_stays _ _ = omega arith
 
 module _ (s : Setting) where
   left_le : (c : LineState) (ask : LineAsk) → keys_and_pastes (left_at s c ask).coming ≤ keys_and_pastes c.coming
   left_le c (Keys (Reads item)) = read_stays item c.coming
-  left_le c (Keys Needs) = omega arith
-  left_le c (Keys (Shows ask)) = omega arith
-  left_le c (Keys (Becomes input)) = omega arith
-  left_le c (Keys (Refuses why)) = omega arith
-  left_le c Begins = omega arith
-  left_le c (Meets cmd) = omega arith
-  left_le c (Obeys cmd) = omega arith
-  left_le c (Makes edit) = omega arith
+  left_le c _ = omega arith
 
   falls : (c : LineState) (ask : LineAsk) (x : LineAnswer ask) → answer_at s c ask ≡ Ok x → is_line_read ask ≡ true
       → suc (keys_and_pastes (left_at s c ask).coming) ≤ keys_and_pastes c.coming
   falls c (Keys (Reads item)) x is reads = read_falls item c.coming x is
-  falls c (Keys Needs) x is reads = absurd (cc)
-  falls c (Keys (Shows ask)) x is reads = absurd (cc)
-  falls c (Keys (Becomes input)) x is reads = absurd (cc)
-  falls c (Keys (Refuses why)) x is reads = absurd (cc)
-  falls c Begins x is reads = absurd (cc)
-  falls c (Meets cmd) x is reads = absurd (cc)
-  falls c (Obeys cmd) x is reads = absurd (cc)
-  falls c (Makes edit) x is reads = absurd (cc)
+  falls c _ x is reads = absurd (cc)
 
   -- ---- alike scripts come to the same
 
@@ -127,12 +99,10 @@ module _ (s : Setting) where
 -- ---- sessions
 
 abbrev course_by : Given → SessionState → Played LineAsk LineState ReadlineError (List ℕ) → Course (Result (List ℕ) ReadlineError × SessionState)
-course_by g x p =
-    let a = setting_in g x.history.kept.entries in
-    record {
-      events = LineBegins g.screen ∷ (asks_events g.screen a (fresh g.screen.mode) (first_line_state a x.ring x.query x.coming) p.asks ++ end_events p.answer);
-      answer = (p.answer, state_after g.config.auto_add_history p.answer p.rest.ring p.rest.modal.query p.rest.coming x);
-    }
+course_by g x p = record {
+  events = LineBegins g.screen ∷ (events_of g x p.asks ++ end_events p.answer);
+  answer = (p.answer, state_after g.config.auto_add_history p.answer p.rest.ring p.rest.modal.query p.rest.coming x);
+}
 
 line_is : (n m : ℕ) (g : Given) (x : SessionState) → keys_and_pastes x.coming < n → keys_and_pastes x.coming < m → line_course n g x ≡ line_course m g x
 line_is n m g x low low' =
@@ -147,8 +117,6 @@ going_same a b (Err e) y h = refl
 
 pub session_is : (n m : ℕ) (g : Given) (at : ℕ → LineGiven) (x : SessionState) → keys_and_pastes x.coming < n → keys_and_pastes x.coming < m → session n g at x ≡ session m g at x
 unfolding session
-session_is zero m g at x low low' = absurd (omega arith)
-session_is (suc n) zero g at x low low' = absurd (omega arith)
 session_is (suc n) (suc m) g at x low low' =
     let here = for_line g (at 0) in
     let p = line_play_in (suc n) here x in
@@ -160,3 +128,4 @@ session_is (suc n) (suc m) g at x low low' =
     (λ text ok. let less = line_falls s n here.custom (first_line_state s x.ring x.query x.coming) text ok in
     session_is n m g others (state_after here.config.auto_add_history p.answer p.rest.ring p.rest.modal.query p.rest.coming x) (omega arith) (omega arith)))
     ∙ ap (λ (line : Course (Result (List ℕ) ReadlineError × SessionState)). events_first line.events (course_after_line (session m g others) line.answer)) (line_is (suc n) (suc m) here x low low')
+session_is _ _ g at x low low' = absurd (omega arith)

@@ -1,5 +1,6 @@
 -- What columns matter to, and what a history holds.
 use Rattle.std.proofs.Common.{◌≡◌, ℕ, zero, suc, ◌≤◌, Bool, true, false, List, [], ◌∷◌, ◌++◌, length, map, Option, None, Result, Ok, Err, refl, sym, ap, ◌∙◌, subst, append_assoc, append-nil, arith, if◌then◌else◌}
+use Rattle.std.proofs.lemmas.List.{map-append}
 use Rattle.std.specs.List.{flat_map}
 use Rattle.line_buffer.specs.declared.layout.Layout.{Layout}
 use Rattle.line_buffer.specs.declared.layout.TabStops.{TabStops}
@@ -9,7 +10,7 @@ use Rattle.line_editor.specs.Redraws.{fresh}
 use Rattle.line_editor.specs.LineRun.{first_line_state, line_played}
 use Rattle.line_editor.specs.EditSteps.{one}
 use Rattle.line_editor.specs.Values.{EditStep, Setting, shown_marks}
-use Rattle.line_editor.specs.Values.EditStep.{Draws as DrawStep, Helped as HelpStep, Edits as EditingStep, TakesBack as BackStep, Takes as TakingStep}
+use Rattle.line_editor.specs.Values.EditStep.{Draws as DrawStep, Helped as HelpStep}
 use Rattle.line_help.specs.History.{Filed, nothing_filed, ignores_line, history_with_lines, newest, count_of_unsaved}
 use Rattle.line_help.proofs.NewestLemmas.{all_new, length-newest, newest_behind}
 use Rattle.line_screen.specs.ScreenCalls.{Screen, ruler_of}
@@ -20,19 +21,13 @@ use Rattle.keyline.specs.Shows.{calls_by_screen}
 
 -- ---- columns
 
-mapped_both : {A B : Type 0} (f : A → B) (xs ys : List A) → map f (xs ++ ys) ≡ map f xs ++ map f ys
-mapped_both f [] ys = refl
-mapped_both f (x ∷ xs) ys = ap (λ zs. f x ∷ zs) (mapped_both f xs ys)
-
 module _ (s t : Screen) where
   -- whatever is kept of the drawing
   step_alike : (l m : Layout) (rs : List EditStep) → map event_without_columns (step_events s l rs) ≡ map event_without_columns (step_events t m rs)
   step_alike l m [] = refl
   step_alike l m (DrawStep v marks redraw ∷ rs) = ap (λ events. Draws (shown_marks v marks) redraw [] ∷ events) (step_alike (one (ruler_of s) l (DrawStep v marks redraw)).layout (one (ruler_of t) m (DrawStep v marks redraw)).layout rs)
   step_alike l m (HelpStep v fails takes ∷ rs) = ap (λ events. Helped fails takes ∷ events) (step_alike l m rs)
-  step_alike l m (EditingStep v edit ∷ rs) = ap (λ events. Takes ∷ events) (step_alike l m rs)
-  step_alike l m (BackStep v count ∷ rs) = ap (λ events. Takes ∷ events) (step_alike l m rs)
-  step_alike l m (TakingStep v ∷ rs) = ap (λ events. Takes ∷ events) (step_alike l m rs)
+  step_alike l m (_ ∷ rs) = ap (λ events. Takes ∷ events) (step_alike l m rs)
 
   asks_alike : (a : Setting) (l m : Layout) (k : LineState) (asks : List LineAsk) → map event_without_columns (asks_events s a l k asks) ≡ map event_without_columns (asks_events t a m k asks)
   asks_alike a l m k [] = refl
@@ -42,12 +37,12 @@ module _ (s t : Screen) where
       let own = own_events a k ask in
       let one_rest = asks_events s a (calls_by_screen s l rs).layout left asks in
       let other_rest = asks_events t a (calls_by_screen t m rs).layout left asks in
-      mapped_both event_without_columns (step_events s l rs) (own ++ one_rest)
+      map-append event_without_columns (step_events s l rs) (own ++ one_rest)
       ∙ ap (λ events. events ++ map event_without_columns (own ++ one_rest)) (step_alike l m rs)
-      ∙ ap (λ events. map event_without_columns (step_events t m rs) ++ events) (mapped_both event_without_columns own one_rest
+      ∙ ap (λ events. map event_without_columns (step_events t m rs) ++ events) (map-append event_without_columns own one_rest
       ∙ ap (λ events. map event_without_columns own ++ events) (asks_alike a (calls_by_screen s l rs).layout (calls_by_screen t m rs).layout left asks)
-      ∙ sym (mapped_both event_without_columns own other_rest))
-      ∙ sym (mapped_both event_without_columns (step_events t m rs) (own ++ other_rest))
+      ∙ sym (map-append event_without_columns own other_rest))
+      ∙ sym (map-append event_without_columns (step_events t m rs) (own ++ other_rest))
 
 -- where tabs end on its rows
 abbrev tabs_of : Given → Option TabStops
@@ -92,9 +87,9 @@ lines_alike n g x columns t e =
     ∙ ap (λ tabs. course_on n g x s (setting_at g entries (prompt_column g) tabs)) t in
     let alike : Alike (course_on n g x s a) (line_course n g x) = record {
       events = ap (λ events. Begins (record s { columns = 0 }) ∷ events)
-          (mapped_both event_without_columns (asks s) (end_events p.answer)
+          (map-append event_without_columns (asks s) (end_events p.answer)
           ∙ ap (λ events. events ++ map event_without_columns (end_events p.answer)) (asks_alike s g.screen a (fresh s.mode) (fresh g.screen.mode) k p.asks)
-          ∙ sym (mapped_both event_without_columns (asks g.screen) (end_events p.answer)));
+          ∙ sym (map-append event_without_columns (asks g.screen) (end_events p.answer)));
       answer = refl;
     } in
     subst (λ c. Alike c (line_course n g x)) (sym same) alike
@@ -110,8 +105,8 @@ line_first c d f h alike so =
 
     first : (one other : Course ReadlineError) → Alike one other → Alike (events_first c.events one) (events_first d.events other)
     first one other is = record {
-      events = mapped_both event_without_columns c.events one.events ∙ ap (λ events. events ++ map event_without_columns one.events) alike.events ∙ ap (λ events. map event_without_columns d.events ++ events) is.events
-          ∙ sym (mapped_both event_without_columns d.events other.events);
+      events = map-append event_without_columns c.events one.events ∙ ap (λ events. events ++ map event_without_columns one.events) alike.events ∙ ap (λ events. map event_without_columns d.events ++ events) is.events
+          ∙ sym (map-append event_without_columns d.events other.events);
       answer = is.answer;
     }
 

@@ -36,9 +36,8 @@ read_next p h (suc j) n m low low' = h j n m (omega arith) (omega arith)
 
 reads_alike : {Y : Type 0} (item : InputItem) (next : InputOf item → PhrasePart Y) → ((x : InputOf item) → Steady (next x)) → (k n m : ℕ) → k < n → k < m
     → Plays k (read_upto item next n) (read_upto item next m)
-reads_alike item next h k zero m low low' = absurd (omega arith)
-reads_alike item next h k (suc n) zero low low' = absurd (omega arith)
 reads_alike item next h k (suc n) (suc m) low low' = ((λ x. steps (next x) m), refl, λ x. read_next (next x) (h x) k n m low low')
+reads_alike item next h k _ _ low low' = absurd (omega arith)
 
 pub s_with_read : {Y : Type 0} (item : InputItem) (next : InputOf item → PhrasePart Y) → ((x : InputOf item) → Steady (next x)) → Steady (with_read item next)
 unfolding with_read

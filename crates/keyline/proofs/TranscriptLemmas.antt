@@ -1,11 +1,11 @@
 -- A session over memory that its keys ended is the definition's.
-use Rattle.std.proofs.Common.{◌≡◌, ℕ, ◌+◌, ◌<◌, Bool, true, false, IsTrue, List, [], ◌∷◌, ◌++◌, Option, length, refl, sym, ap, subst, ◌∙◌, arith}
+use Rattle.std.proofs.Common.{◌≡◌, ℕ, ◌+◌, ◌<◌, Bool, true, false, IsTrue, List, [], ◌∷◌, ◌++◌, Option, length, refl, sym, ap, subst, ◌∙◌, append-nil, arith}
 use Rattle.std.specs.Prelude.{flat_map}
 use Rattle.line_config.specs.Feed.{AlwaysTold, Feed, fresh_feed}
 use Rattle.line_config.specs.declared.config.Config.{Config}
 use Rattle.line_config.specs.declared.device.Last.TheVariants.{End}
 use Rattle.line_config.specs.declared.errors.ReadlineError.{ReadlineError}
-use Rattle.line_config.specs.declared.errors.ReadlineError.TheVariants.{Eof, Interrupted, NotUtf8, PasteOutOfPlace, Display, Lines, Helper, Memory}
+use Rattle.line_config.specs.declared.errors.ReadlineError.TheVariants.{Eof, Display, Lines, Helper, Memory}
 use Rattle.line_help.specs.HistoryText.{text_to_save}
 use Rattle.line_keys.specs.CustomBindings.{Custom}
 use Rattle.line_keys.specs.Coming.{bytes_to_come}
@@ -42,10 +42,6 @@ no_fault shown written_in adds x y (Keeps line) Memory is h = absurd (cc)
 no_fault shown written_in adds x y (Writes line) Lines is h = absurd (cc)
 no_fault shown written_in adds x y _ _ is h = absurd h
 
-append_nothing : {A : Type 0} (xs : List A) → xs ++ [] ≡ xs
-append_nothing [] = refl
-append_nothing (x ∷ xs) = ap (λ ys. x ∷ ys) (append_nothing xs)
-
 module _ {D L : Type 0} (shown : D → List ℕ) (written_in : L → List ℕ) (adds : Bool) (why answer : ReadlineError) where
   abbrev FaultIs : ReadlineError → Type 0
   FaultIs e = why ≡ e
@@ -64,7 +60,7 @@ module _ {D L : Type 0} (shown : D → List ℕ) (written_in : L → List ℕ) (
   all_done : (events : List SessionEvent) (old new : Work D L) (w : Went shown written_in adds events old new (why ≡ answer) FaultIs) → is_cut (ending_of why) ≡ false → AllDone events w.done old new
   all_done events old new w by_keys =
       let left = none_left w.others w.at new by_keys w.stands in
-      let done_is : w.done ≡ events = sym (w.split ∙ (ap (λ o. w.done ++ o) left.0 ∙ append_nothing w.done)) in
+      let done_is : w.done ≡ events = sym (w.split ∙ (ap (λ o. w.done ++ o) left.0 ∙ append-nil w.done)) in
       record {
         answer_is = left.1;
         done_is = done_is;
@@ -74,9 +70,6 @@ module _ {D L : Type 0} (shown : D → List ℕ) (written_in : L → List ℕ) (
 -- a history that was saved isn't why
 when_saved : (why : ReadlineError) → ending_after why true ≡ why
 when_saved Eof = refl
-when_saved Interrupted = refl
-when_saved NotUtf8 = refl
-when_saved PasteOutOfPlace = refl
 when_saved _ = refl
 
 was_saved : (saved failed : Bool) → (saved ≡ false → IsTrue failed) → failed ≡ false → saved ≡ true

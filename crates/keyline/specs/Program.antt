@@ -27,7 +27,7 @@ use Rattle.line_screen.specs.declared.reading.reader.KeyReader.{KeyReader}
 use Rattle.keyline.specs.Desks.{GoesShown}
 use Rattle.keyline.specs.Events.{session}
 use Rattle.keyline.specs.KnownDevices.{KnownDevices}
-use Rattle.keyline.specs.SessionRuns.{LoadRefused, Opens, RunsSession, history_loaded_from, loads}
+use Rattle.keyline.specs.SessionRuns.{LoadRefused, Opens, Runs, history_loaded_from, loads}
 use Rattle.keyline.specs.Sessions.{Given, SessionState, each, given_of, screen_by, state_over}
 use Rattle.keyline.specs.declared.desk.Desk.{Desk}
 use Rattle.keyline.specs.declared.invocation.Invocation.{Invocation}
@@ -36,17 +36,15 @@ use Rattle.keyline.specs.declared.session.TheConstants.{KILL_RING_SIZE}
 use Rattle.keyline.specs.declared.session.Ended.{Ended}
 use Rattle.keyline.specs.declared.session.Unopened.{Unopened}
 use Rattle.line_config.specs.Adapters.{bytes_sent, bytes_taken}
-use Rattle.line_config.specs.Sending.{AppendsSome}
 use Rattle.line_config.specs.declared.adapters.ReadSource.{ReadSource}
 use Rattle.line_config.specs.declared.adapters.WriteSink.{WriteSink}
 use Rattle.line_config.specs.declared.device.Last.{Last}
 use Rattle.line_config.specs.declared.device.Last.TheVariants.{End}
 use Rattle.line_config.specs.declared.errors.ReadlineError.{ReadlineError}
-use Rattle.line_help.specs.History.{Filed, all_saved}
-use Rattle.line_help.specs.HistoryText.{text_to_save}
+use Rattle.line_help.specs.History.{Filed}
 use Rattle.line_record.specs.Ring.{new_ring}
 use Rattle.keyline.specs.Endings.{ending_of}
-use Rattle.keyline.specs.SessionEffects.{SessionReason, ending_after, work}
+use Rattle.keyline.specs.SessionEffects.{SavesIf, SessionReason, ending_after, work}
 
 -- the default: each accepted line is added to the history
 abbrev pub standard_config : Config
@@ -129,15 +127,16 @@ abbrev pub given_to : {S D L : Type 0} → Config → Options → Desk S EditHel
 given_to config options desk = given_of config nothing_bound (string_bytes options.prompt)
     (screen_of desk.out) (edit_helping desk.helper)
 
--- a session was opened by these settings, options and words, and run
+-- a session was opened by these settings, options and words, and run. Its history was saved, if
+-- that was asked for
 pub record EditsBy {F S D L T : Type 0} (loads : F → Feed) (k : KnownDevices S D L)
-    (held : T → List ℕ) (failed : T → Bool) (config : Config) (options : Options)
+    (held : T → List ℕ) (failed : T → Bool) (asked : Bool) (config : Config) (options : Options)
     (words : Option (List (List ℕ))) (history : F) (source : S) (display : D) (lines : L) (text : T) (ended : Ended S D L T)
     : Type 0 where
   pub desk : Desk S EditHelper D L
   pub opens : Opens loads k.feed config history (helper_of config options words) source
       options.columns display lines desk
-  pub runs : RunsSession k held failed (given_to config options desk) desk text ended
+  pub runs : Runs k held failed asked (given_to config options desk) desk text ended
 
 -- ---- by bytes alone: those of its keys, those that its devices took, and its ending
 
@@ -154,16 +153,10 @@ given_with config custom options words = given_over config custom (string_bytes 
 abbrev pub given_by : Config → Options → Option (List (List ℕ)) → Given
 given_by config options words = given_with config nothing_bound options words
 
-abbrev pub program_given : Options → Option (List (List ℕ)) → Given
-program_given options words = given_by (config_of options) options words
-
 -- the state before its first line, over this history's text and these keys
 abbrev pub start_by : Config → List ℕ → List ℕ → Last → SessionState
 start_by config old bytes last = state_over (new_ring KILL_RING_SIZE) []
     (history_loaded_from config (fresh_feed old End)) config.edit_mode bytes last
-
-abbrev pub program_start : Options → List ℕ → List ℕ → Last → SessionState
-program_start options old bytes last = start_by (config_of options) old bytes last
 
 -- what a writer has, if it reports its bytes
 abbrev pub had_by : {W : Type 0} → (W → Option (List ℕ)) → W → List ℕ
@@ -171,10 +164,12 @@ had_by contents writer = unwrap_or (contents writer) []
 
 -- the session of these settings, options and words, of a history's text, and of all these bytes
 -- followed by this, on a display and a sink of lines that had these bytes. What is drawn, written
--- and saved are its bytes, its lines and its history, or a prefix of them if a fault cut it
+-- and saved are its bytes, its lines and its history, or a prefix of them if a fault cut it. The
+-- history is saved if that was asked for, to a sink that had nothing
 pub record PlaysBytes {S D L T : Type 0} (known : KnownDevices S D L) (held : T → List ℕ)
-    (failed : T → Bool) (config : Config) (options : Options) (words : Option (List (List ℕ)))
-    (shown wrote old bytes : List ℕ) (last : Last) (ended : Ended S D L T) : Type 0 where
+    (failed : T → Bool) (asked : Bool) (config : Config) (options : Options)
+    (words : Option (List (List ℕ))) (shown wrote old bytes : List ℕ) (last : Last)
+    (ended : Ended S D L T) : Type 0 where
   -- the history and the reader of keys as the lines left them, why there was no further line, and
   -- whether the history was saved
   pub kept : Filed
@@ -189,10 +184,9 @@ pub record PlaysBytes {S D L T : Type 0} (known : KnownDevices S D L) (held : T 
       (work shown wrote start.history start.coming)
       (work (known.shown ended.display) (known.written_in ended.lines) kept
       (coming_in known.feed reader)) (why ≡ lines.answer) (λ e. why ≡ e)
-  pub done : saved ≡ true → held ended.text ≡ text_to_save kept
-  pub refused : saved ≡ false → IsTrue (failed ended.text)
-      × AppendsSome [] (text_to_save kept) (held ended.text)
-  pub history_is : ended.history ≡ (if saved then all_saved kept else kept)
+  pub text : T
+  pub blank : held text ≡ []
+  pub saves : SavesIf held failed asked kept ended.history text ended.text saved
   pub source_is : ended.source ≡ source_of reader
   pub ahead_is : ended.ahead ≡ byte_ahead_of reader
   pub unread_is : bytes_to_come (coming_in known.feed reader)
@@ -203,14 +197,16 @@ pub record PlaysBytes {S D L T : Type 0} (known : KnownDevices S D L) (held : T 
 
 -- the relation of the program's session, over a reader and two writers that had these bytes. If
 -- what the reads gave agrees with the bytes that were assumed of the reader as it was passed in,
--- the session is that of these bytes. A writer that hasn't failed got everything that its sink took
+-- the session is that of these bytes. A writer that hasn't failed got everything that its sink took.
+-- The history's text is made if the options name a file for it; otherwise its sink took nothing
 pub record PlaysOver {R K E W T : Type 0}
     (known : KnownDevices (ReadSource R K) (WriteSink E) (WriteSink W)) (held : T → List ℕ)
     (failed : T → Bool) (config : Config) (options : Options) (words : Option (List (List ℕ)))
     (shown wrote old bytes : List ℕ) (last : Last)
     (ended : Ended (ReadSource R K) (WriteSink E) (WriteSink W) T) : Type 0 where
   pub plays : IsTrue (known.feed ended.source).told
-      → PlaysBytes known held failed config options words shown wrote old bytes last ended
+      → PlaysBytes known held failed (is_some options.history) config options words shown wrote old
+      bytes last ended
   pub drawn : known.show_failed ended.display ≡ false
       → bytes_sent ended.display ≡ bytes_taken ended.display
   pub written : known.write_failed ended.lines ≡ false → bytes_sent ended.lines

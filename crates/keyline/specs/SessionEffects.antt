@@ -162,6 +162,14 @@ pub record Saves {T : Type 0} (held : T → List ℕ) (failed : T → Bool)
       × AppendsSome (held text) (text_to_save kept) (held text')
   pub nothing : kept.unsaved ≡ 0 → (saved ≡ true) × (text' ≡ text)
 
+-- the same if the text is asked for; otherwise the sink isn't called, and new entries stay new
+abbrev pub SavesIf : {T : Type 0} → (T → List ℕ) → (T → Bool) → Bool → Filed → Filed → T → T
+    → Bool → Type 0
+SavesIf held failed true kept history' text text' saved =
+    Saves held failed kept history' text text' saved
+SavesIf held failed false kept history' text text' saved =
+    (saved ≡ true) × (history' ≡ kept) × (text' ≡ text)
+
 -- a fault comes before that of the history's text
 abbrev pub ending_after : ReadlineError → Bool → ReadlineError
 ending_after Eof false = HistoryText

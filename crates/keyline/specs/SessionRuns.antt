@@ -1,5 +1,5 @@
 -- A session that is opened and run: what it is opened with, and what it returns.
-use Rattle.std.specs.Prelude.{◌≡◌, ℕ, Bool, cond, false, List, [], Option, None, Result, Err, IsOk, IsTrue, string_bytes}
+use Rattle.std.specs.Prelude.{◌≡◌, ℕ, Bool, cond, false, true, List, [], Option, None, Result, Err, IsOk, IsTrue, string_bytes}
 use Rattle.line_config.specs.Feed.{AlwaysTold, Feed}
 use Rattle.line_config.specs.declared.config.Config.{Config}
 use Rattle.line_config.specs.declared.errors.ReadlineError.{ReadlineError}
@@ -14,7 +14,7 @@ use Rattle.line_screen.specs.Reading.{with_kept}
 use Rattle.keyline.specs.Desks.{TakesLines}
 use Rattle.keyline.specs.KnownDevices.{KnownDevices}
 use Rattle.keyline.specs.Endings.{ending_of}
-use Rattle.keyline.specs.SessionEffects.{Saves, ending_after}
+use Rattle.keyline.specs.SessionEffects.{SavesIf, ending_after}
 use Rattle.keyline.specs.Sessions.{Given, coming_from, each, screen_by}
 use Rattle.keyline.specs.declared.desk.Desk.{Desk}
 use Rattle.keyline.specs.declared.session.TheConstants.{KILL_RING_SIZE}
@@ -97,13 +97,14 @@ pub record Opens {F S H D L : Type 0} (text : F → Feed) (feed : S → Feed) (c
 
 -- ---- running
 
--- a session has ended for this reason: its history was saved, and its devices are returned. The
--- bytes of the remaining input are the byte that was read ahead, and then those of the source
+-- a session has ended for this reason: its history was saved, if that was asked for, and its
+-- devices are returned. The bytes of the remaining input are the byte that was read ahead, and then
+-- those of the source
 pub record Finishes {S H D L T : Type 0} (feed : S → Feed) (held : T → List ℕ)
-    (failed : T → Bool) (desk : Desk S H D L) (text : T) (why : ReadlineError)
+    (failed : T → Bool) (asked : Bool) (desk : Desk S H D L) (text : T) (why : ReadlineError)
     (ended : Ended S D L T) : Type 0 where
   pub saved : Bool
-  pub saves : Saves held failed desk.history ended.history text ended.text saved
+  pub saves : SavesIf held failed asked desk.history ended.history text ended.text saved
   pub ending_is : ended.ending ≡ ending_of (ending_after why saved)
   pub source_is : ended.source ≡ source_of desk.reader
   pub ahead_is : ended.ahead ≡ byte_ahead_of desk.reader
@@ -117,13 +118,17 @@ pub record Finishes {S H D L T : Type 0} (feed : S → Feed) (held : T → List 
 abbrev pub text_to_save : {T : Type 0} → (T → List ℕ) → (T → Bool) → T → List ℕ
 text_to_save held failed text = cond (failed text) [] (held text)
 
--- the relation of `run`: lines until one fails, and then the session's end. Display, lines and
--- history are what the session's events make of them, and each moment is shown
-pub record RunsSession {S H D L T : Type 0} (k : KnownDevices S D L) (held : T → List ℕ)
-    (failed : T → Bool) (g : Given) (desk : Desk S H D L) (text : T) (ended : Ended S D L T)
-    : Type 0 where
-  -- the desk as the lines left it, and why there was no further line
-  pub last : Desk S H D L
-  pub why : ReadlineError
-  pub takes : TakesLines k g (each g) desk last why
-  pub finishes : Finishes k.feed held failed last text why ended
+module _ {S H D L T : Type 0} (k : KnownDevices S D L) (held : T → List ℕ) (failed : T → Bool) where
+  -- lines until one fails, and then the session's end. Display, lines and history are what the
+  -- session's events make of them, and each moment is shown
+  pub record Runs (asked : Bool) (g : Given) (desk : Desk S H D L) (text : T)
+      (ended : Ended S D L T) : Type 0 where
+    -- the desk as the lines left it, and why there was no further line
+    pub last : Desk S H D L
+    pub why : ReadlineError
+    pub takes : TakesLines k g (each g) desk last why
+    pub finishes : Finishes k.feed held failed asked last text why ended
+
+  -- the relation of `run`
+  abbrev pub RunsSession : Given → Desk S H D L → T → Ended S D L T → Type 0
+  RunsSession = Runs true

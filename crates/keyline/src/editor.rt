@@ -1,6 +1,6 @@
 //! A session that an error ends for good.
 
-ghost use Rattle.std.specs.Prelude.{◌≡◌, None, string_bytes};
+ghost use Rattle.std.specs.Prelude.{◌≡◌, None, string_bytes, true};
 ghost use Rattle.std.specs.Option.{option_map_or};
 ghost use Rattle.line_config.specs.declared.errors.ReadlineError.TheVariants.{Eof};
 ghost use Rattle.line_keys.specs.Coming.{answer_map};
@@ -77,8 +77,8 @@ where
     /// history if an entry is new, and returns the devices.
     pub fn finish(self) -> Ended<S, D, L, T>
         ensures { let why = option_map_or (λ e. e) (ending_in self) Eof in
-            Finishes S.feed T.held T.has_failed (desk_of self.session) (text_sink self.session) why
-            result }
+            Finishes S.feed T.held T.has_failed true (desk_of self.session)
+            (text_sink self.session) why result }
     {
         let LineEditor { session, ended } = self;
         session.finish(ended.unwrap_or(ReadlineError::Eof))

@@ -1,6 +1,6 @@
 //! A session with the program's options.
 
-ghost use Rattle.std.specs.Prelude.{◌≡◌, ◌≤◌, IfErr, IfOk, [], false, if◌then◌else◌};
+ghost use Rattle.std.specs.Prelude.{◌≡◌, ◌≤◌, IfErr, IfOk, [], false, if◌then◌else◌, true};
 ghost use Rattle.line_config.specs.Adapters.{reader_of, writer_of};
 ghost use Rattle.keyline.specs.KnownDevices.{devices_by};
 ghost use Rattle.keyline.specs.Program.{EditsBy, PlaysOver, UnopensOver, IsByEnvironment, config_of, had_by, has_text, helper_of, helper_with, invoked_config, profile_of, config_without_colours, word_texts};
@@ -139,7 +139,8 @@ pub fn edit<F: Source + Drop, S: Source + Drop, D: Sink + Drop, L: Sink + Drop, 
     ensures edits { IfOk result (EditsBy F.feed
         (devices_by S.feed D.held D.waits D.has_failed L.held L.waits L.has_failed) T.held
         T.has_failed
-        (config_of options.now) options.now (word_texts words) history source display lines text) }
+        true (config_of options.now) options.now (word_texts words) history source display lines
+        text) }
     ensures refused { IfErr result (Unopens F.feed (config_of options.now) history source display
         lines text) }
 {
@@ -183,7 +184,37 @@ pub fn edit_with<
     ensures edits { IfOk result (EditsBy F.feed
         (devices_by S.feed D.held D.waits D.has_failed L.held L.waits L.has_failed) T.held
         T.has_failed
-        config options.now (word_texts words) history source display lines text) }
+        true config options.now (word_texts words) history source display lines text) }
+    ensures refused { IfErr result (Unopens F.feed config history source display lines text) }
+{
+    edit_to_end(
+        alloc, true, config, options, words, history, source, display, lines, text,
+    )
+}
+
+/// The same, but the history is saved only if that is asked for.
+fn edit_to_end<F: Source + Drop, S: Source + Drop, D: Sink + Drop, L: Sink + Drop, T: Sink + Drop>(
+    alloc: Global,
+    saves: bool,
+    config: Config,
+    options: &Options,
+    words: Option<Vec<String>>,
+    history: F,
+    source: S,
+    display: D,
+    lines: L,
+    text: T,
+) -> Result<Ended<S, D, L, T>, Unopened<F, S, D, L, T>>
+    requires columns { (2 ≤ options.now.columns) × (options.now.columns ≤ 1000) }
+    requires history { (F.feed history).failed ≡ false }
+    requires source { (S.feed source).failed ≡ false }
+    requires display { D.has_failed display ≡ false }
+    requires lines { L.has_failed lines ≡ false }
+    requires text { T.has_failed text ≡ false }
+    ensures edits { IfOk result (EditsBy F.feed
+        (devices_by S.feed D.held D.waits D.has_failed L.held L.waits L.has_failed) T.held
+        T.has_failed
+        saves config options.now (word_texts words) history source display lines text) }
     ensures refused { IfErr result (Unopens F.feed config history source display lines text) }
 {
     let helper = helper_of(&config, options, words);
@@ -203,7 +234,7 @@ pub fn edit_with<
         Ok(session) => session,
         Err(unopened) => return Err(unopened),
     };
-    Ok(session.run())
+    Ok(session.run_to_end(saves))
 }
 
 /// The same over any reader of keys and any writers, which are flushed at the end, and with a
@@ -211,9 +242,9 @@ pub fn edit_with<
 ///
 /// `K` says which bytes the reader, as it is passed in, is assumed to give. If what its reads gave
 /// agrees with them, the session is that of these bytes, and the writers got its display bytes and
-/// its lines. The devices are made in boxes, and return so. An error means that the session was not
-/// opened: the text isn't UTF-8, or memory ran out. Then reader and writers come back, and no call
-/// of them was made.
+/// its lines. The devices are made in boxes, and return so. The history's text is made only if the
+/// options name a file for it. An error means that the session was not opened: the text isn't UTF-8,
+/// or memory ran out. Then reader and writers come back, and no call of them was made.
 pub fn play<'a, K: Foretold<R>, R: Read + Drop, E: Write + Drop, W: Write + Drop>(
     alloc: Global,
     options: &Options,
@@ -291,8 +322,9 @@ pub fn play_with<'a, K: Foretold<R>, R: Read + Drop, E: Write + Drop, W: Write +
             VecSink::new(alloc),
         )),
     };
-    let mut played = match edit_with::<_, Boxed<ReadSource<R, K>>, _, _, _>(
+    let mut played = match edit_to_end::<_, Boxed<ReadSource<R, K>>, _, _, _>(
         alloc,
+        options.history.is_some(),
         config,
         options,
         words,

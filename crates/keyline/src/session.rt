@@ -1,14 +1,14 @@
 //! Sessions: key bytes become accepted lines, a history and display bytes.
 
-ghost use Rattle.std.specs.Prelude.{◌≡◌, ◌≤◌, IfErr, IfOk, IsTrue, OnErr, OnOk, false, string_bytes};
+ghost use Rattle.std.specs.Prelude.{◌≡◌, ◌≤◌, IfErr, IfOk, IsTrue, OnErr, OnOk, false, true, string_bytes};
 ghost use Rattle.line_config.specs.declared.errors.ReadlineError.TheVariants.{Memory};
 ghost use Rattle.line_help.specs.History.{takes};
 ghost use Rattle.line_keys.specs.Coming.{answer_map};
 ghost use Rattle.line_editor.specs.LineRun.{helper_from_hooks};
 ghost use Rattle.keyline.specs.KnownDevices.{devices_by};
-ghost use Rattle.keyline.specs.SessionEffects.{Saves, ending_after};
+ghost use Rattle.keyline.specs.SessionEffects.{Saves, SavesIf, ending_after};
 ghost use Rattle.keyline.specs.Opened.{HasGiven, ReadsNext, SetsColours, SetsColumns, desk_of, given_in, history_of, prompt_of, text_sink, with_entry, with_helper};
-ghost use Rattle.keyline.specs.SessionRuns.{BeginsSession, Finishes, LoadRefused, Loaded, Opens, Remains, RunsSession, Unopens, text_to_save};
+ghost use Rattle.keyline.specs.SessionRuns.{BeginsSession, Finishes, LoadRefused, Loaded, Opens, Remains, Runs, RunsSession, Unopens, text_to_save};
 
 use crate::boxed::Boxed;
 use crate::desk::{Desk, renderer_over};
@@ -193,6 +193,13 @@ fn save<T: Sink>(history: &mut FileHistory, text: &mut T) -> bool
     }
 }
 
+/// The same if asked to. Otherwise nothing is done.
+fn save_if<T: Sink>(asked: bool, history: &mut FileHistory, text: &mut T) -> bool
+    ensures { SavesIf T.held T.has_failed asked history.old history.new text.old text.new result }
+{
+    if asked { save(history, text) } else { true }
+}
+
 /// The ending of a session: the failure of its history counts if no fault came before.
 fn ending_after(why: ReadlineError, saved: bool) -> ReadlineError
     ensures { result ≡ ending_after why saved }
@@ -349,9 +356,18 @@ where
 
     /// Ends the session, for this reason: saves the history if an entry is new, and returns the
     /// devices. If the history can't be saved, that is the ending, unless a fault came before.
-    #[inline(never)]
     pub fn finish(self, why: ReadlineError) -> Ended<S, D, L, T>
-        ensures { Finishes S.feed T.held T.has_failed (desk_of self) (text_sink self) why result }
+        ensures { Finishes S.feed T.held T.has_failed true (desk_of self) (text_sink self) why
+            result }
+    {
+        self.close(why, true)
+    }
+
+    /// The same, but saves the history only if asked to.
+    #[inline(never)]
+    fn close(self, why: ReadlineError, saves: bool) -> Ended<S, D, L, T>
+        ensures { Finishes S.feed T.held T.has_failed saves (desk_of self) (text_sink self) why
+            result }
     {
         let Session { desk, mut text, .. } = self;
         let Desk {
@@ -361,7 +377,7 @@ where
             lines,
             ..
         } = desk;
-        let saved = save(&mut history, &mut text);
+        let saved = save_if(saves, &mut history, &mut text);
         let ending = Ending::from(ending_after(why, saved));
         let (source, ahead) = reader.into_parts();
         Ended {
@@ -377,7 +393,6 @@ where
 
     /// Reads lines, draws and writes them, until the input or a fault ends it. The history is saved
     /// once, whatever the ending.
-    #[inline(never)]
     pub fn run(self) -> Ended<S, D, L, T>
         ensures { let known = devices_by S.feed D.held D.waits D.has_failed L.held L.waits
             L.has_failed in
@@ -386,13 +401,26 @@ where
             RunsSession known T.held T.has_failed (given_in B.decides helps (prompt_of self) self)
             (desk_of self) (text_sink self) result }
     {
+        self.run_to_end(true)
+    }
+
+    /// The same, but saves the history only if asked to.
+    #[inline(never)]
+    pub(crate) fn run_to_end(self, saves: bool) -> Ended<S, D, L, T>
+        ensures { let known = devices_by S.feed D.held D.waits D.has_failed L.held L.waits
+            L.has_failed in
+            let helps = helper_from_hooks H.hint_of H.verdict_of H.completion_of H.update_of
+            H.marks in
+            Runs known T.held T.has_failed saves (given_in B.decides helps (prompt_of self) self)
+            (desk_of self) (text_sink self) result }
+    {
         let mut session = self;
         let empty = String::new(session.alloc);
         let prompt = mem::replace(&mut session.prompt, empty);
         loop {
             match session.read_line(prompt.as_str()) {
                 Ok(_) => {}
-                Err(why) => return session.finish(why),
+                Err(why) => return session.close(why, saves),
             }
         }
     }

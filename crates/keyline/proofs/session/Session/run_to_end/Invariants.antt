@@ -5,7 +5,7 @@ use Rattle.keyline.specs.Desks.{desk_feed}
 use Rattle.keyline.specs.KnownDevices.{devices_by}
 use Rattle.keyline.specs.Opened.{given_in, prompt_of}
 use Rattle.keyline.proofs.LinesLemmas.{Underway}
-use Rattle.keyline.proofs.session.Session.run.Given as goal
+use Rattle.keyline.proofs.session.Session.run_to_end.Given as goal
 
 abbrev pub invariant-loop-why : goal.invariant-loop-why
 invariant-loop-why g l =

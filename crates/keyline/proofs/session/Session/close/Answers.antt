@@ -1,13 +1,13 @@
--- Whether the history was saved is what `save` answered.
+-- Whether the history was saved is what `save_if` answered.
 use Rattle.std.proofs.Common.{ap, ◌∙◌, rules}
 use Rattle.keyline.specs.Endings.{ending_of}
 use Rattle.keyline.proofs.Unread.{unread_at_end}
-use Rattle.keyline.proofs.session.Session.finish.Goals as goal
+use Rattle.keyline.proofs.session.Session.close.Goals as goal
 
 pub returns : goal.returns
 returns g c = record {
-  saved = c.save-saved.result;
-  saves = c.save-saved.ensures;
+  saved = c.save_if-saved.result;
+  saves = c.save_if-saved.ensures;
   ending_is = c.from-ending.ensures ∙ ap ending_of c.ending_after.ensures;
   source_is = search rules;
   ahead_is = search rules;

@@ -8,7 +8,7 @@ use Rattle.keyline.specs.KnownDevices.{devices_by}
 use Rattle.keyline.specs.Opened.{given_in}
 use Rattle.keyline.specs.SessionRuns.{Finishes}
 use Rattle.keyline.proofs.LinesLemmas.{along, underway_nowhere, underway_ok, underway_err}
-use Rattle.keyline.proofs.session.Session.run.Goals as goal
+use Rattle.keyline.proofs.session.Session.run_to_end.Goals as goal
 
 pub loop-why-init : goal.loop-why-init
 loop-why-init g c = (underway_nowhere _ _ _, refl)
@@ -29,7 +29,7 @@ returns-in-Err g c =
       last = next.desk;
       why = c.in-Err.why;
       takes = lines;
-      finishes = subst (λ text. Finishes g.S.Source.feed g.T.Sink.held g.T.Sink.has_failed next.desk text c.in-Err.why c.finish.result) text c.finish.ensures;
+      finishes = subst (λ text. Finishes g.S.Source.feed g.T.Sink.held g.T.Sink.has_failed c.args.saves next.desk text c.in-Err.why c.close.result) text c.close.ensures;
     }
 
 pub loop-why-preserved-in-Ok : goal.loop-why-preserved-in-Ok
