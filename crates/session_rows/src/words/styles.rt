@@ -27,8 +27,8 @@ pub struct Styles<'a> {
 
 /// The span that a text begins with: a keyword with its style, or one plain byte.
 fn first_word(keyword: &[u8], style: Style, text: &[u8]) -> Span
-    requires { 0 < length keyword.now }
-    requires { 0 < length text.now }
+    requires word { 0 < length keyword.now }
+    requires rest { 0 < length text.now }
     ensures value { result ≡ first_word keyword.now style text.now }
     ensures within { (1 ≤ result.len) × (result.len ≤ length text.now) }
 {
