@@ -192,7 +192,7 @@ left_if : (n : ℕ) (s : SgrSpan) (spans : List SgrSpan) → is_style s.style �
 left_if n s spans is h k true = and_from _ _ is h
 left_if n s spans is h k false = k
 
-skip_styles : (n : ℕ) (spans : List SgrSpan) → are_styles spans ≡ true → are_styles (skip n spans) ≡ true
+pub skip_styles : (n : ℕ) (spans : List SgrSpan) → are_styles spans ≡ true → are_styles (skip n spans) ≡ true
 skip_styles n [] h = refl
 skip_styles n (s ∷ spans) h =
     let parts = and_parts (is_style s.style) (are_styles spans) h in
