@@ -36,7 +36,7 @@ use Rattle.line_screen.proofs.Items.{all_plain}
 use Rattle.line_screen.proofs.Leading.{line_cursor, line_end, line_finish, plain_parts, over_again}
 use Rattle.line_screen.proofs.ListLemmas.{filter_none, list_all_true}
 use Rattle.line_screen.proofs.ShortLemmas.{typing_leads, appending_leads, killing_leads, erasing_leads, putting_in_leads, taking_out_leads, drawing_rest_leads, part_above, writing_over_leads}
-use Rattle.std.proofs.lemmas.List.{take_at, take-map, map-append}
+use Rattle.std.proofs.lemmas.List.{take_at, drop_at, take-map, map-append}
 use Rattle.keyline.specs.Shows.{picture, place_in, view_in, DisplayHolds, Low, LowStep, top_by, above_by}
 
 -- the styles of a line's front as a screen has them
