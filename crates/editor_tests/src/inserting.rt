@@ -176,8 +176,8 @@ const FROM_A_PLACE: &str = "
     history: = nothing
     colours: yes = nothing
     marks: 3 = nothing
-    ab|: SelfInsert 1 c = abc| / draw '> abc|' at 0,5 to 0,5 lit marked
-    ab|: SelfInsert 1 c; SelfInsert 1 d = abcd| / draw '> abcd|' at 0,6 to 0,6 lit
+    ab|: SelfInsert 1 c = abc| / move 0,4 to 0,4; rest 'c' at 0,5 to 0,5 lit marked
+    ab|: SelfInsert 1 c; SelfInsert 1 d = abcd| / move 0,5 to 0,5; rest 'd' at 0,6 to 0,6 lit
     ab|: SelfInsert 2 d = abdd| / move 0,4 to 0,4; rest 'dd' at 0,6 to 0,6 lit
 ";
 

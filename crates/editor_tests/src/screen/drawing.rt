@@ -1,5 +1,7 @@
 //! Drawings as they are written to a sink, byte by byte.
 
+ghost use Rattle.std.specs.Prelude.{IsCharBoundary};
+
 use crate::screen::sinks::Gathers;
 use line_buffer::{GraphemeClusterMode, Layout, LineBuffer, Position};
 use line_config::{BellStyle, ReadlineError, Sink, VecSink};
@@ -413,9 +415,10 @@ fn puts_a_letter_before_others(rt: HostRuntime) -> Result<(), Fail> {
     rows_hold(rt.alloc(), &mut Ask::Insertion, INSERTIONS)
 }
 
-// How a rest is drawn: without a highlighter, or with one that draws hints faint and messages red.
-// Then columns, what stands before the rest, from the first cell on, the rest with the cursor, and
-// a hint or message; the bytes. The cursor was in the first cell.
+// How a rest is drawn: without a highlighter, or with one that draws hints faint, messages red, and
+// a bracket's match, whole or from its second byte on. Then columns, what stands before the rest,
+// from the first cell on, the rest with the cursor, and a hint or message; the bytes. The cursor was
+// in the first cell.
 const RESTS: &str = "
     plain 80 ab c|d         = ␛[2C␛[Jcd␛[1D
     plain 80 ab |           = ␛[2C␛[J
@@ -428,7 +431,22 @@ const RESTS: &str = "
     hint 80 h i|            = ␛[1C␛[Ji
     hint 80 h i| there      = ␛[1C␛[Ji␛[m␛[0;2mthere␛[m␛[m␛[5D
     message 80 a | no       = ␛[1C␛[J␛[m␛[0;31mno␛[m␛[m␛[2D
+    match 80 ab (c)|        = ␛[2C␛[J␛[0;1;34m(␛[mc)
+    match 4 ab a(c)|        = ␛[2C␛[Ja␛[0;1;34m(␛[m␍␊␛[0;1;34m␛[mc)
+    behind 80 a x(c)|       = ␛[1C␛[J␛[0;1;34m(␛[mc)
+    behind 80 a (c)| hint   = ␛[1C␛[Jc)␛[m␛[0;2mhint␛[m␛[m␛[4D
 ";
+
+// A place of a text: its start, or behind its first byte.
+fn place_in(text: &str, behind: bool) -> usize
+    ensures { IsCharBoundary text.now result }
+{
+    if behind && text.is_char_boundary(1) {
+        1
+    } else {
+        0
+    }
+}
 
 // Draws a rest behind a text.
 fn draw_rest<Out: Renderer>(
@@ -443,8 +461,10 @@ fn draw_rest<Out: Renderer>(
     let new = screen.compute_layout(at, true, rest, info);
     let styled = StandardHighlighter::new();
     let highlighter = if how == "plain" { None } else { Some(&styled) };
-    let told = how == "message";
-    screen.refresh_rest(rest.as_str(), info, ORIGIN, at, &new, highlighter, told)
+    let (behind, told) = (how == "behind", how == "message");
+    let marked = behind || how == "match";
+    let from = place_in(rest.as_str(), behind);
+    screen.refresh_rest(rest, from, info, ORIGIN, at, &new, highlighter, marked, told)
 }
 
 // The bytes of a rest and what follows it.
