@@ -464,7 +464,17 @@ fn draw_rest<Out: Renderer>(
     let (behind, told) = (how == "behind", how == "message");
     let marked = behind || how == "match";
     let from = place_in(rest.as_str(), behind);
-    screen.refresh_rest(rest, from, info, ORIGIN, at, &new, highlighter, marked, told)
+    screen.refresh_rest(
+        rest,
+        from,
+        info,
+        ORIGIN,
+        at,
+        &new,
+        highlighter,
+        marked,
+        told,
+    )
 }
 
 // The bytes of a rest and what follows it.
