@@ -35,6 +35,7 @@ mod Rows
 pub mod RunLemmas
 pub mod SharedLemmas
 pub mod SimpleLemmas
+pub mod SinceLemmas
 pub mod StopsLemmas
 pub mod ToldLemmas
 pub mod TransposedLemmas

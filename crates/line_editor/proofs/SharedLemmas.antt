@@ -1,13 +1,13 @@
 -- Styles that a line has in two drawings.
-use Rattle.std.proofs.Common.{◌≡◌, ℕ, zero, suc, ◌+◌, ◌-◌, ◌==◌, ◌<◌, ◌≤◌, nat_lt, Bool, true, false, true≢false, cond, ◌&&◌, List, [], ◌∷◌, ◌++◌, take, drop, length, length-append, replicate, Option, Some, None, refl, sym, ap, ◌∙◌, subst, append_assoc, append-nil, arith, if◌then◌else◌, set}
+use Rattle.std.proofs.Common.{◌≡◌, ℕ, zero, suc, ◌+◌, ◌-◌, ◌==◌, ◌<◌, ◌≤◌, nat_lt, Bool, true, false, true≢false, cond, ◌&&◌, List, [], ◌∷◌, ◌++◌, take, drop, length, length-append, replicate, Option, Some, None, refl, sym, ap, ap₂, ◌∙◌, subst, append_assoc, append-nil, arith, if◌then◌else◌, set, not, slice_get}
 use Rattle.std.specs.Cmp.{booleans_Decides}
-use Rattle.std.proofs.lemmas.Bool.Decides.{nat_tests}
 use Rattle.std.specs.List.{common_prefix_len, flat_map}
-use Rattle.std.proofs.lemmas.Bool.{and_parts, eqb-true, ltb-true}
+use Rattle.std.proofs.lemmas.Bool.{and_parts, eqb-true, ltb-true, ltb-false}
 use Rattle.std.proofs.lemmas.List.{length-replicate, length-drop, length-take, drop-replicate, take-replicate, replicate-append-replicate, take-append-drop, take-append-le, drop-append-le}
 use Rattle.std.proofs.Math.Bool.{beq}
 use Rattle.std.proofs.Math.Seq.{take-append-add, set-append_seam}
-use Rattle.std.proofs.lemmas.List.Folds.{flat_map-append}
+use Rattle.std.proofs.lemmas.Grind.{flat_map-append}
+use Rattle.std.proofs.lemmas.Option.{same_Some}
 use Rattle.std.proofs.lemmas.List.Sums.{common_prefix_len-le}
 use Rattle.line_help.specs.Paints.{plain}
 use Rattle.line_help.specs.contracts.helpers.style.HuePartialEq.TheImpl as hue_eq
@@ -74,14 +74,14 @@ same_style-equal a b h =
 -- ---- the front that two lists share
 
 -- what both share is the same
+same_step : (x y : Style) (xs ys : List Style) (k : ℕ) (b : Bool) → same_style x y ≡ b → take k xs ≡ take k ys → take (cond b (1 + k) 0) (x ∷ xs) ≡ take (cond b (1 + k) 0) (y ∷ ys)
+same_step x y xs ys k true is h = ap₂ (λ z zs. z ∷ zs) (same_style-equal x y is) h
+same_step x y xs ys k false is h = refl
+
 shared_same : (old new : List Style) → take (shared_styles old new) old ≡ take (shared_styles old new) new
 shared_same [] new = refl
 shared_same (x ∷ xs) [] = refl
-shared_same (x ∷ xs) (y ∷ ys) = by_test (same_style x y) refl
-  where
-    by_test : (b : Bool) → same_style x y ≡ b → take (cond b (1 + shared_styles xs ys) 0) (x ∷ xs) ≡ take (cond b (1 + shared_styles xs ys) 0) (y ∷ ys)
-    by_test true is = λ i. same_style-equal x y is i ∷ shared_same xs ys i
-    by_test false is = refl
+shared_same (x ∷ xs) (y ∷ ys) = same_step x y xs ys (shared_styles xs ys) (same_style x y) refl (shared_same xs ys)
 
 abbrev shared_in : ℕ → List Style → List Style → ℕ
 shared_in m xs ys = shared_styles (take m xs) (take m ys)
@@ -89,7 +89,10 @@ shared_in m xs ys = shared_styles (take m xs) (take m ys)
 -- a run of equal styles, and what both share behind it
 pub run_shared : (k m : ℕ) (a b : Style) (xs ys : List Style) → (0 < k → same_style a b ≡ true) → k ≤ m
     → shared_in m (replicate k a ++ xs) (replicate k b ++ ys) ≡ k + shared_in (m - k) xs ys
-run_shared zero m a b xs ys h low = ap (λ n. shared_in n xs ys) (omega arith)
+run_shared zero m a b xs ys h low =
+    let all : m - 0 ≡ m = omega arith in
+    let sum : shared_in m xs ys ≡ 0 + shared_in m xs ys = omega arith in
+    sum ∙ ap (λ n. 0 + shared_in n xs ys) (sym all)
 run_shared (suc k) zero a b xs ys h low = absurd (omega (arith, low))
 run_shared (suc k) (suc m) a b xs ys h low =
     let is = h (omega arith) in
@@ -147,7 +150,11 @@ walk_begins upto old new = record {
   low = omega arith;
   old_low = omega arith;
   new_low = omega arith;
-  shared = let none : upto - upto ≡ 0 = omega arith in ap (λ n. n + shared_in upto (span_styles old) (span_styles new)) (sym none);
+  shared =
+      let all = shared_in upto (span_styles old) (span_styles new) in
+      let none : upto - upto ≡ 0 = omega arith in
+      let sum : all ≡ 0 + all = omega arith in
+      sum ∙ ap (λ n. n + all) (sym none);
 }
 
 abbrev spans_behind : ℕ → List Span → List Span
@@ -237,6 +244,65 @@ walk_spent_new upto old new left o i n j h is =
     let none : shared_in left (left_in i o) (left_in j n) ≡ 0 = ap (λ spans. shared_in left (left_in i o) (left_in j spans)) is ∙ spent_new left j (left_in i o) in
     omega (arith, h.shared, none)
 
+-- ---- the same by the spans that are first
+
+head_is : (xs : List Span) (a : Span) → Some a ≡ slice_get xs 0 → (rest : List Span) × (xs ≡ a ∷ rest)
+head_is [] a h = cc
+head_is (x ∷ xs) a h = (xs, ap (λ y. y ∷ xs) (sym (same_Some a x h)))
+
+pub not_false : (b : Bool) → not b ≡ false → b ≡ true
+not_false true h = refl
+not_false false h = cc
+
+pub not_true : (b : Bool) → not b ≡ true → b ≡ false
+not_true true h = cc
+not_true false h = refl
+
+module _ (upto : ℕ) (old new : List Span) (left : ℕ) (o : List Span) (i : ℕ) (n : List Span) (j : ℕ) (h : Walked upto old new left o i n j)
+    (a b : Span) (e : Some a ≡ slice_get o 0) (f : Some b ≡ slice_get n 0) (k : ℕ) (near : k ≤ a.len - i) (close : k ≤ b.len - j) where
+  abbrev old_rest : List Span
+  old_rest = (head_is o a e).0
+
+  abbrev new_rest : List Span
+  new_rest = (head_is n b f).0
+
+  opened_walk : Walked upto old new left (a ∷ old_rest) i (b ∷ new_rest) j
+  opened_walk = subst (λ xs. Walked upto old new left xs i (b ∷ new_rest) j) (head_is o a e).1 (subst (λ xs. Walked upto old new left o i xs j) (head_is n b f).1 h)
+
+  pub stops_by : 0 < k → same_style a.style b.style ≡ false → upto - left ≡ shared_in upto (span_styles old) (span_styles new)
+  stops_by some other = sym (walk_stops upto old new left a old_rest i b new_rest j opened_walk k near close some other)
+
+  pub ends_by : (0 < k → same_style a.style b.style ≡ true) → left ≤ k → upto ≡ shared_in upto (span_styles old) (span_styles new)
+  ends_by same all = sym (walk_ends upto old new left a old_rest i b new_rest j opened_walk k near close same all)
+
+  pub goes_by : (0 < k → same_style a.style b.style ≡ true) → k ≤ left → (o2 : List Span) (i2 : ℕ) (n2 : List Span) (j2 : ℕ)
+      → o2 ≡ spans_behind (a.len - ((a.len - i) - k)) o → i2 ≡ used_behind (a.len - ((a.len - i) - k)) o
+      → n2 ≡ spans_behind (b.len - ((b.len - j) - k)) n → j2 ≡ used_behind (b.len - ((b.len - j) - k)) n → Walked upto old new (left - k) o2 i2 n2 j2
+  goes_by same low o2 i2 n2 j2 os is ns js =
+      let all = walk_goes upto old new left a old_rest i b new_rest j opened_walk k near close same low in
+      let u : a.len - ((a.len - i) - k) ≡ i + k = omega (arith, near, opened_walk.old_low) in
+      let w : b.len - ((b.len - j) - k) ≡ j + k = omega (arith, close, opened_walk.new_low) in
+      let po : o2 ≡ spans_behind (i + k) (a ∷ old_rest) = os ∙ ap (λ m. spans_behind m o) u ∙ ap (spans_behind (i + k)) (head_is o a e).1 in
+      let pi : i2 ≡ used_behind (i + k) (a ∷ old_rest) = is ∙ ap (λ m. used_behind m o) u ∙ ap (used_behind (i + k)) (head_is o a e).1 in
+      let pn : n2 ≡ spans_behind (j + k) (b ∷ new_rest) = ns ∙ ap (λ m. spans_behind m n) w ∙ ap (spans_behind (j + k)) (head_is n b f).1 in
+      let pj : j2 ≡ used_behind (j + k) (b ∷ new_rest) = js ∙ ap (λ m. used_behind m n) w ∙ ap (used_behind (j + k)) (head_is n b f).1 in
+      subst (λ x. Walked upto old new (left - k) x i2 n2 j2) (sym po)
+      (subst (λ x. Walked upto old new (left - k) (spans_behind (i + k) (a ∷ old_rest)) x n2 j2) (sym pi)
+      (subst (λ x. Walked upto old new (left - k) (spans_behind (i + k) (a ∷ old_rest)) (used_behind (i + k) (a ∷ old_rest)) x j2) (sym pn)
+      (subst (λ x. Walked upto old new (left - k) (spans_behind (i + k) (a ∷ old_rest)) (used_behind (i + k) (a ∷ old_rest)) (spans_behind (j + k) (b ∷ new_rest)) x) (sym pj) all)))
+
+no_head : (xs : List Span) → None ≡ slice_get xs 0 → xs ≡ []
+no_head [] h = refl
+no_head (x ∷ xs) h = cc
+
+pub spent_old_by : (upto : ℕ) (old new : List Span) (left : ℕ) (o : List Span) (i : ℕ) (n : List Span) (j : ℕ) → Walked upto old new left o i n j → None ≡ slice_get o 0
+    → upto - left ≡ shared_in upto (span_styles old) (span_styles new)
+spent_old_by upto old new left o i n j h none = sym (walk_spent_old upto old new left o i n j h (no_head o none))
+
+pub spent_new_by : (upto : ℕ) (old new : List Span) (left : ℕ) (o : List Span) (i : ℕ) (n : List Span) (j : ℕ) → Walked upto old new left o i n j → None ≡ slice_get n 0
+    → upto - left ≡ shared_in upto (span_styles old) (span_styles new)
+spent_new_by upto old new left o i n j h none = sym (walk_spent_new upto old new left o i n j h (no_head n none))
+
 -- ---- what the first spans tell
 
 abbrev full : ℕ → List Span → List Style
@@ -315,7 +381,7 @@ padded n spans = by_test (nat_lt (length spans) most_spans) refl
         ∙ ap (take n) (sym (append_assoc (span_styles spans) (replicate n plain) rest))
         ∙ take-append-le n (full n spans) rest (omega (arith, length-append (span_styles spans) (replicate n plain), length-replicate n plain))
     by_test false is =
-        ap (λ xs. take n (span_styles xs)) (take-append-le most_spans spans (replicate most_spans (plain_rest n)) (omega (arith, nat_tests, is)))
+        ap (λ xs. take n (span_styles xs)) (take-append-le most_spans spans (replicate most_spans (plain_rest n)) (ltb-false (length spans) most_spans is))
 
 pub told_by_first : (n : ℕ) (spans : List Span) (first : Option (List Span)) → AreFirst n spans first → styles_in n first ≡ told_styles n spans
 told_by_first n spans None is = ap (take n) (append-nil (replicate n plain)) ∙ ap (told_styles n) (sym is)

@@ -1,5 +1,5 @@
 -- The styles that the front of a line has in two drawings.
-use Rattle.std.specs.Prelude.{◌≡◌, ℕ, ◌==◌, nat_lt, Bool, false, if◌then◌else◌, List, [], ◌∷◌, ◌++◌, length, take, replicate, Option, Some, None}
+use Rattle.std.specs.Prelude.{◌≡◌, ℕ, ◌==◌, nat_lt, Bool, false, if◌then◌else◌, List, [], ◌∷◌, ◌++◌, length, take, replicate, Option, Some, None, unwrap_or}
 use Rattle.std.specs.List.{common_prefix_len, flat_map}
 use Rattle.line_help.specs.Paints.{plain}
 use Rattle.line_help.specs.contracts.helpers.style.StylePartialEq.TheImpl as style_eq
@@ -49,8 +49,7 @@ AreFirst n spans None = spans ≡ []
 AreFirst n spans (Some first) = first ≡ first_spans n spans
 
 abbrev pub spans_told : ℕ → Option (List Span) → List Span
-spans_told n None = plain_rest n ∷ []
-spans_told n (Some first) = first
+spans_told n first = unwrap_or first (plain_rest n ∷ [])
 
 -- whether so many bytes are all of the first span
 abbrev pub is_used : ℕ → List Span → Bool

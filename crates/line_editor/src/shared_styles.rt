@@ -1,5 +1,5 @@
 //! How far two drawings of a line surely have the same styles.
-ghost use Rattle.std.specs.Prelude.{◌≡◌, ◌<◌, None, Some, take, drop, length, if◌then◌else◌};
+ghost use Rattle.std.specs.Prelude.{◌≡◌, ◌<◌, take, drop, length, unwrap_or, if◌then◌else◌};
 ghost use Rattle.line_help.specs.Paints.{first_mark};
 ghost use Rattle.line_editor.specs.SharedStyles.{first_spans, is_used, plain_rest, shared_styles, span_styles};
 
@@ -70,7 +70,7 @@ fn plain_rest(upto: usize) -> Span
 
 /// These spans, or others if there are none.
 fn spans_or<'a>(spans: &'a Option<FirstSpans>, others: &'a [Span]) -> &'a [Span]
-    ensures { result.now ≡ (match spans.now { None → others.now; Some first → first }) }
+    ensures { result.now ≡ unwrap_or spans.now others.now }
 {
     match spans {
         Some(first) => first,
@@ -128,7 +128,9 @@ fn shared_styles(upto: usize, old: &[Span], new: &[Span]) -> usize
     let mut old_used = 0;
     let mut new_used = 0;
     while let (Some(a), Some(b)) = (old.first(), new.first()) {
-        let both = (a.len - old_used).min(b.len - new_used);
+        let old_rest = a.len - old_used;
+        let new_rest = b.len - new_used;
+        let both = old_rest.min(new_rest);
         if both > 0 && a.style != b.style {
             break;
         }
@@ -136,8 +138,8 @@ fn shared_styles(upto: usize, old: &[Span], new: &[Span]) -> usize
             return upto;
         }
         left -= both;
-        (old, old_used) = behind(old, old_used + both);
-        (new, new_used) = behind(new, new_used + both);
+        (old, old_used) = behind(old, a.len - (old_rest - both));
+        (new, new_used) = behind(new, b.len - (new_rest - both));
     }
     upto - left
 }
