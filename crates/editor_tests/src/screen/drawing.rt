@@ -462,7 +462,17 @@ fn draw_rest<Out: Renderer>(
     let styled = StandardHighlighter::new();
     let highlighter = if how == "plain" { None } else { Some(&styled) };
     let (marked, told) = (how == "marked", how == "message");
-    screen.refresh_rest(line, from, info, ORIGIN, at, &new, highlighter, marked, told)
+    screen.refresh_rest(
+        line,
+        from,
+        info,
+        ORIGIN,
+        at,
+        &new,
+        highlighter,
+        marked,
+        told,
+    )
 }
 
 // The bytes of a line's rest and what follows it.
