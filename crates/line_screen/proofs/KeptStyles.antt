@@ -1,5 +1,5 @@
 -- The items of a text with styles: of its two parts, and by spans that agree on its bytes.
-use Rattle.std.proofs.Common.{◌≡◌, ℕ, zero, suc, ◌+◌, ◌<◌, ◌≤◌, ◌==◌, ◌&&◌, Bool, true, false, List, [], ◌∷◌, ◌++◌, map, take, drop, length, replicate, get_or, slice_index, Option, Some, None, refl, sym, ap, ap₂, ◌∙◌, subst, append_assoc, append-nil, arith, if◌then◌else◌}
+use Rattle.std.proofs.Common.{◌≡◌, ℕ, zero, suc, ◌+◌, ◌<◌, ◌≤◌, ◌==◌, ◌&&◌, Bool, true, false, List, [], ◌∷◌, ◌++◌, map, take, drop, length, replicate, get_or, slice_index, Some, refl, sym, ap, ap₂, ◌∙◌, subst, arith, if◌then◌else◌}
 use Rattle.std.specs.Prelude.{chars, encode_utf8, encode_utf8_all, IsUtf8}
 use Rattle.std.specs.Char.{IsScalar}
 use Rattle.std.specs.List.{list_all, flat_map, concat, onto_first}
@@ -14,15 +14,14 @@ use Rattle.line_editor.specs.Characters.{starts_apart, begins_apart}
 use Rattle.line_editor.specs.SharedStyles.{span_styles, styles_to}
 use Rattle.line_help.specs.Paints.{plain}
 use Rattle.line_help.specs.declared.helpers.style.Span.{Span}
-use Rattle.line_help.specs.declared.helpers.style.Style.{Style}
 use Rattle.line_screen.specs.Colours.{SgrSpan, skip, span_of}
 use Rattle.line_screen.specs.Display.{is_printable}
-use Rattle.line_screen.specs.Drawing.{Widths, DrawnItem, is_letter, drawn_item, item_of_cluster, row_items, join_rows, split_rows, text_items}
+use Rattle.line_screen.specs.Drawing.{Widths, DrawnItem, is_letter, drawn_item, row_items, join_rows, split_rows, text_items}
 use Rattle.line_screen.specs.Drawing.DrawnItem.{NewRow, Letter, Cluster, Tab}
 use Rattle.line_screen.specs.Styles.{numbers}
 use Rattle.line_screen.specs.StyledTexts.{byte_styles, first_styles, first_of, StyledItem, row_clusters, styled_clusters, rows_styled_behind, styled_rows, styled_text}
 use Rattle.line_screen.proofs.ItemsApart.{items_parted, split_newline, split_char, rows_are}
-use Rattle.line_screen.proofs.StyledTextLemmas.{with_style, clusters_bare, items_if, skip_is}
+use Rattle.line_screen.proofs.StyledTextLemmas.{with_style, items_if, skip_is}
 
 -- ---- a text's clusters, which the items tell if each of them fits
 

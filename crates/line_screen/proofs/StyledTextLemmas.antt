@@ -329,7 +329,7 @@ module _ (wide : Widths) where
 
   -- ---- items with and without styles
 
-  pub clusters_bare : (styles : List (List ℕ)) (clusters : List (List ℕ)) → bare_items (styled_clusters wide styles clusters) ≡ map (drawn_item wide) clusters
+  clusters_bare : (styles : List (List ℕ)) (clusters : List (List ℕ)) → bare_items (styled_clusters wide styles clusters) ≡ map (drawn_item wide) clusters
   clusters_bare styles [] = refl
   clusters_bare styles (c ∷ cs) = ap (λ ys. drawn_item wide c ∷ ys) (clusters_bare (drop (length c) styles) cs)
 
