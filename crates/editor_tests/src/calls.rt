@@ -302,20 +302,22 @@ impl Renderer for CallList {
 
     fn refresh_rest<H: Highlighter>(
         &mut self,
-        rest: &str,
+        line: &LineBuffer,
+        from: usize,
         hint: Option<&str>,
         old: Position,
         at: Position,
         new_layout: &Layout,
         highlighter: Option<&H>,
+        marked: bool,
         told: bool,
     ) -> Result<(), ReadlineError> {
         self.move_cursor(old, at)?;
         let lit = match highlighter {
-            Some(_) => lit_words(false, told && hint.is_some()),
+            Some(_) => lit_words(marked, told && hint.is_some()),
             None => "",
         };
-        let call = match hinted(self.log.alloc, rest, hint) {
+        let call = match hinted(self.log.alloc, &line.as_str()[from..], hint) {
             Ok(text) => rest_drawing(self.log.alloc, text.as_str(), new_layout, lit),
             Err(refusal) => Err(refusal),
         };

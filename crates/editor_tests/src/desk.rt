@@ -170,6 +170,7 @@ impl Stage {
                 self.helped = true;
             }
             "marks:" => self.helper.marked_at = number,
+            "twins:" => self.helper.styles_twins = rest == "yes",
             "takes:" => self.helper.completes = rest == "yes",
             "hint-fails:" => self.helper.hint_fails_at = number,
             "verdict-fails:" => self.helper.verdict_fails_at = number,

@@ -1,8 +1,10 @@
 //! A helper that answers as a test says.
 
-ghost use Rattle.std.specs.Prelude.{◌≡◌, ◌==◌, [], nat_le, option_map, length, Option, Some, None, false, if◌then◌else◌, refl, string_bytes, IfErr};
+ghost use Rattle.std.specs.Prelude.{◌≡◌, ◌==◌, ◌||◌, [], nat_le, option_map, length, Option, Some, None, false, if◌then◌else◌, refl, string_bytes, IfErr};
 ghost use Rattle.line_help.specs.Completion.{text_offered};
 ghost use Rattle.line_help.specs.Hints.{history_hint};
+ghost use Rattle.line_help.specs.Paints.{IsNextSpan};
+ghost use Rattle.editor_tests.specs.Twins.{twins_from};
 ghost use Rattle.line_keys.specs.Replies.{gives_at_once, gives_unless};
 ghost use Rattle.line_config.specs.declared.errors.HookFault.TheVariants.{Memory};
 
@@ -10,7 +12,7 @@ use line_buffer::{ChangeListener, LineBuffer};
 use line_config::{CompletionType, HookFault};
 use line_help::{
     Completer, Context, Helper, Highlighter, Hint, Hinter, History, HistoryHinter, Mark, Part,
-    Span, ValidationContext, ValidationResult, Validator, update_line,
+    Span, Style, ValidationContext, ValidationResult, Validator, update_line,
 };
 use line_keys::{CmdKind, Text};
 use std::alloc::Global;
@@ -60,12 +62,13 @@ impl Hint for Rest {
 /// Hints from the history, and a verdict and candidates that are the same for every text. A
 /// character is highlighted if the cursor is at `marked_at`. For texts of at least so many bytes
 /// hinter, validator and completer fail, or run out of memory; the completer inserts no text of so
-/// many bytes.
+/// many bytes. If it styles twins, a byte before the same one is bold.
 #[derive(Clone, Copy, Drop)]
 pub struct Adviser {
     pub verdict: Verdict,
     pub message: &'static str,
     pub marked_at: usize,
+    pub styles_twins: bool,
     /// Whether a hint can be accepted into the line.
     pub completes: bool,
     pub hint_fails_at: usize,
@@ -85,6 +88,7 @@ impl Adviser {
             verdict,
             message,
             marked_at: usize::MAX,
+            styles_twins: false,
             completes: true,
             hint_fails_at: usize::MAX,
             verdict_fails_at: usize::MAX,
@@ -103,6 +107,20 @@ impl Adviser {
             HookFault::Failed
         }
     }
+}
+
+/// The span of a byte: bold if the next one is the same.
+fn next_twin(bytes: &[u8], from: Mark) -> Option<(Span, Mark)>
+    ensures { IsNextSpan (twins_from bytes.now) from result }
+{
+    let (byte, rest) = bytes.get(from.at..)?.split_first()?;
+    let mut style = Style::plain();
+    style.bold = rest.first() == Some(byte);
+    let next = Mark {
+        at: from.at + 1,
+        state: 0,
+    };
+    Some((Span { len: 1, style }, next))
 }
 
 impl Completer for Adviser {
@@ -188,8 +206,8 @@ impl Hinter for Adviser {
 
 impl Highlighter for Adviser {
     ghost marks = { λ self. record {
-      marked = λ line pos kind. pos == self.marked_at;
-      paints = λ part text from. [];
+      marked = λ line pos kind. self.styles_twins || pos == self.marked_at;
+      paints = λ part text from. if self.styles_twins then twins_from text from else [];
     } };
 
     ghost kept = { λ before after. after ≡ before };
@@ -230,11 +248,15 @@ impl Highlighter for Adviser {
     }
 
     fn highlight_char(&mut self, _line: &str, pos: usize, _kind: CmdKind) -> bool {
-        pos == self.marked_at
+        self.styles_twins || pos == self.marked_at
     }
 
-    fn next_span(&self, _part: Part, _text: &str, _from: Mark) -> Option<(Span, Mark)> {
-        None
+    fn next_span(&self, _part: Part, text: &str, from: Mark) -> Option<(Span, Mark)> {
+        if self.styles_twins {
+            next_twin(text.as_bytes(), from)
+        } else {
+            None
+        }
     }
 }
 

@@ -176,17 +176,36 @@ const FROM_A_PLACE: &str = "
     history: = nothing
     colours: yes = nothing
     marks: 3 = nothing
-    ab|: SelfInsert 1 c = abc| / draw '> abc|' at 0,5 to 0,5 lit marked
-    ab|: SelfInsert 1 c; SelfInsert 1 d = abcd| / draw '> abcd|' at 0,6 to 0,6 lit
+    ab|: SelfInsert 1 c = abc| / move 0,4 to 0,4; rest 'c' at 0,5 to 0,5 lit marked
+    ab|: SelfInsert 1 c; SelfInsert 1 d = abcd| / move 0,5 to 0,5; rest 'd' at 0,6 to 0,6 lit
     ab|: SelfInsert 2 d = abdd| / move 0,4 to 0,4; rest 'dd' at 0,6 to 0,6 lit
 ";
 
-const TABLES: [&str; 5] = [
+// The same with styles: a byte before the same one is bold.
+const BEHIND_STYLES: &str = "
+    partial: yes = nothing
+    colours: yes = nothing
+    helper: Valid = nothing
+    twins: yes = nothing
+    first: Repaint = nothing
+    aab|: SelfInsert 1 c = aabc| / move 0,5 to 0,5; rest 'c' at 0,6 to 0,6 lit marked
+    aab|c: SelfInsert 1 x = aabx|c / move 0,5 to 0,5; rest 'xc' at 0,6 to 0,7 lit marked
+    ab|: SelfInsert 1 b = abb| / move 0,4 to 0,3; rest 'bb' at 0,5 to 0,5 lit marked
+    a|ac: SelfInsert 1 x = ax|ac / move 0,3 to 0,2; rest 'axac' at 0,4 to 0,6 lit marked
+    aa|b: Insert 1 x = aax|b / move 0,4 to 0,4; rest 'xb' at 0,5 to 0,6 lit marked
+    aé|: SelfInsert 1 \u{301} = aé\u{301}| / draw '> aé\u{301}|' at 0,4 to 0,4 lit marked
+    abcdefghijabcdefghijabcdefghijabcdefghijabcdefghijabcdefghijabc|: SelfInsert 1 x = abcdefghijabcdefghijabcdefghijabcdefghijabcdefghijabcdefghijabcx| / move 0,65 to 0,65; rest 'x' at 0,66 to 0,66 lit marked
+    abcdefghijabcdefghijabcdefghijabcdefghijabcdefghijabcdefghijabcd|: SelfInsert 1 x = abcdefghijabcdefghijabcdefghijabcdefghijabcdefghijabcdefghijabcdx| / move 0,66 to 0,66; rest 'x' at 0,67 to 0,67 lit marked
+    abcdefghijabcdefghijabcdefghijabcdefghijabcdefghijabcdefghijabcdef|: SelfInsert 1 x = abcdefghijabcdefghijabcdefghijabcdefghijabcdefghijabcdefghijabcdefx| / move 0,68 to 0,66; rest 'efx' at 0,69 to 0,69 lit marked
+";
+
+const TABLES: [&str; 6] = [
     INSERTIONS,
     HINTS_AND_HIGHLIGHTS,
     AFTER_TABS,
     INSIDE,
     FROM_A_PLACE,
+    BEHIND_STYLES,
 ];
 
 #[test]

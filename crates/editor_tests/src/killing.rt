@@ -146,6 +146,13 @@ const FROM_A_PLACE: &str = "
     abx|: Repaint; Kill BackwardChar 1 = ab| / move 0,5 to 0,4; rest '{cd}' at 0,4 to 0,6
     ab|: Repaint; Kill BackwardChar 2 = | / move 0,4 to 0,2; rest '' at 0,2 to 0,2
     abx|y: Repaint; Kill BackwardChar 1 = ab|y / move 0,5 to 0,4; take out 1 before 'y' 0,5
+    history: = nothing
+    colours: yes = nothing
+    twins: yes = nothing
+    aabc|d: Repaint; Kill BackwardChar 1 = aab|d / move 0,6 to 0,5; rest 'd' at 0,5 to 0,6 lit marked
+    abb|c: Repaint; Kill BackwardChar 1 = ab|c / move 0,5 to 0,3; rest 'bc' at 0,4 to 0,5 lit marked
+    a|ba: Repaint; Kill ForwardChar 1 = a|a / move 0,3 to 0,2; rest 'aa' at 0,3 to 0,4 lit marked
+    aabb|: Repaint; Kill BackwardChar 1 = aab| / move 0,6 to 0,4; rest 'b' at 0,5 to 0,5 lit marked
 ";
 
 const TABLES: [&str; 5] = [DRAWN, KEPT, WITH_HINTS, INSIDE, FROM_A_PLACE];

@@ -16,7 +16,7 @@ use Rattle.line_keys.specs.declared.command.Cmd.{Cmd}
 use Rattle.line_keys.specs.declared.command.Cmd.TheVariants.{SelfInsert}
 use Rattle.line_editor.specs.RenderCalls.{Marks}
 use Rattle.line_editor.specs.RenderCalls.Call.{Append}
-use Rattle.line_editor.specs.Drawing.{since, ask_anew_effect}
+use Rattle.line_editor.specs.Drawing.{Since, since, ask_anew_effect}
 use Rattle.line_keys.specs.Replies.{Reply, fails}
 use Rattle.line_editor.specs.Asks.{shown_in}
 use Rattle.line_editor.specs.Inserting.{is_bare, may_be_typed, may_be_appended, may_be_put_in, insertion_way, put_redraw, show_inserted_effect, insert_char}
@@ -123,7 +123,7 @@ printed : (tabs : Bool) (v : Value) (c : ℕ) → may_be_typed tabs c 1 v ≡ tr
 printed tabs v c alone = (and_parts (is_printable c) _ (and_parts (is_bare v) (is_typed_at_end tabs c v.line.text v.line.place) alone).1).0
 
 -- its drawing goes this way, behind a step that sends nothing and what the helper is asked
-shown_short : (a : Setting) (u : Value) (step : EditStep) (c : ℕ) (b : Bool) (way : Way) (from : Option ℕ) → b ≡ true
+shown_short : (a : Setting) (u : Value) (step : EditStep) (c : ℕ) (b : Bool) (way : Way) (from : Option Since) → b ≡ true
     → (let shown = show_inserted_effect c way from a u in let e : Effect = if b then record { value = shown.value; steps = step ∷ shown.steps } else no_effect a u in
     is_bare e.value ≡ true → e.steps ≡ step ∷ (help_steps u (hint_reply a u) ++ (Draws e.value a.marks (put_redraw way c from a e.value) ∷ [])))
 shown_short a u step c true way from room after =
@@ -137,7 +137,7 @@ help_bytes : {A : Type 0} (s : Screen) (l : Layout) (u : Value) (step : EditStep
 help_bytes s l u step None steps nothing = ap (λ a. flat_map (bytes_of s) (a.calls ++ (calls_by_screen s a.layout steps).calls)) nothing
 help_bytes s l u step (Some reply) steps nothing = ap (λ a. flat_map (bytes_of s) (a.calls ++ (calls_by_screen s a.layout (Helped u (fails reply) reply.takes ∷ steps)).calls)) nothing
 
-sent_short : (s : Screen) (l : Layout) (a : Setting) (u : Value) (step : EditStep) (c : ℕ) (b : Bool) (way : Way) (from : Option ℕ) → b ≡ true
+sent_short : (s : Screen) (l : Layout) (a : Setting) (u : Value) (step : EditStep) (c : ℕ) (b : Bool) (way : Way) (from : Option Since) → b ≡ true
     → (let shown = show_inserted_effect c way from a u in let e : Effect = if b then record { value = shown.value; steps = step ∷ shown.steps } else no_effect a u in
     is_bare e.value ≡ true → one (ruler_of s) l step ≡ nothing_asked l → bytes_for s l e.steps ≡ bytes_for s l (Draws e.value a.marks (put_redraw way c from a e.value) ∷ []))
 sent_short s l a u step c b way from room after nothing =
@@ -182,7 +182,7 @@ alone_bytes s l v m prompt c text at printable may =
     ap (λ b. flat_map (bytes_of s) ((if b then full (ruler_of s) (shown_marks v m) l prompt true text at None else append_call (ruler_of s) l c).calls ++ [])) (not-true l.has_info parts.0)
     ∙ append-nil (bytes_of s (Append (encode_utf8 c) l.cursor)) ∙ letter_bytes s c l.cursor printable parts.1
 
-either_bytes : (s : Screen) (l : Layout) (a : Setting) (v : Value) (c : ℕ) (b : Bool) (from : Option ℕ) → is_printable c ≡ true → may_type (ruler_of s) l ≡ true
+either_bytes : (s : Screen) (l : Layout) (a : Setting) (v : Value) (c : ℕ) (b : Bool) (from : Option Since) → is_printable c ≡ true → may_type (ruler_of s) l ≡ true
     → bytes_for s l (Draws v a.marks (put_redraw (if b then Alone else AtEnd) c from a v) ∷ []) ≡ c ∷ []
 either_bytes s l a v c true from printable may = alone_bytes s l v a.marks a.prompt c v.line.text v.line.place printable may
 either_bytes s l a v c false from printable may = short_bytes s l v a.marks a.prompt c v.line.text v.line.place printable may

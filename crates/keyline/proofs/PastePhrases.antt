@@ -28,7 +28,7 @@ use Rattle.line_keys.specs.Replies.{gives_at_once, with_memory}
 use Rattle.line_keys.specs.Vi.{with_last, change_part, insert_part, command_table, vi_counted, vi_command, insert_table, vi_insert}
 use Rattle.line_keys.specs.ViTables.{insert_action, action_of}
 use Rattle.line_editor.specs.Asks.{shown_in}
-use Rattle.line_editor.specs.Drawing.{refresh_effect_since}
+use Rattle.line_editor.specs.Drawing.{Since, refresh_effect_since}
 use Rattle.line_editor.specs.LineScripts.{Keys, LineState, LineAsk, turn_start, line_state, script_of_keys, phrase_script, played_from}
 use Rattle.line_editor.specs.NextCommand.{with_group_begun}
 use Rattle.line_editor.specs.Values.{Setting, Value, no_effect, then_do}
@@ -136,7 +136,7 @@ module _ (s : Setting) where
 
 -- ---- a drawing leaves the line
 
-pub drawn_if : (b vi : Bool) (text : List ℕ) (n : ℕ) (from : Option ℕ) (s : Setting) (v : Value)
+pub drawn_if : (b vi : Bool) (text : List ℕ) (n : ℕ) (from : Option Since) (s : Setting) (v : Value)
     → (if b then then_do (yank_effect vi text n) (refresh_effect_since from) s v else no_effect s (value_after_yank vi text n v)).value.line ≡ (value_after_yank vi text n v).line
 drawn_if true vi text n from s v = refl
 drawn_if false vi text n from s v = refl

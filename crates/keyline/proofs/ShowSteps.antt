@@ -1,6 +1,6 @@
 -- A step leads from what is shown before it to what is to be shown after it.
-use Rattle.std.proofs.Common.{◌≡◌, ◌≢◌, ℕ, ◌+◌, ◌-◌, ◌==◌, not, ◌<◌, ◌≤◌, inl, inr, nat_lt, nat_le, Bool, true, false, List, [], ◌∷◌, ◌++◌, take, drop, take_all, ap₂, length, length-append, map, Option, Some, None, is_some, encode_utf8, refl, sym, ap, ◌∙◌, subst, append_assoc, append-nil, arith, if◌then◌else◌}
-use Rattle.std.specs.Prelude.{slice_range}
+use Rattle.std.proofs.Common.{◌≡◌, ◌≢◌, ℕ, zero, suc, ◌+◌, ◌-◌, ◌==◌, not, ◌<◌, ◌≤◌, inl, inr, nat_lt, nat_le, Bool, true, false, List, [], ◌∷◌, ◌++◌, take, drop, take_all, ap₂, length, length-append, map, Option, Some, None, is_some, encode_utf8, refl, sym, ap, ◌∙◌, subst, append_assoc, append-nil, arith, if◌then◌else◌}
+use Rattle.std.specs.Prelude.{slice_range, replicate}
 use Rattle.std.specs.List.{filter, flat_map}
 use Rattle.std.proofs.lemmas.Bool.{and_from, and_parts, not-true, eqb-true, lt-ltb, ltb-true}
 use Rattle.std.proofs.lemmas.Bool.Decides.{nat_tests}
@@ -18,21 +18,41 @@ use Rattle.line_editor.specs.Sights.{Sight, PartSpans, SameStyles, drawn_spans, 
 use Rattle.line_editor.specs.EditSteps.{one}
 use Rattle.line_editor.specs.Values.{shown_marks, EditStep}
 use Rattle.line_editor.specs.Values.EditStep.{Draws, Helped, Edits, TakesBack, Takes}
-use Rattle.line_screen.specs.ScreenCalls.{Screen, bytes_of, ruler_of, styles_of, info_styles}
+use Rattle.line_screen.specs.ScreenCalls.{Screen, bytes_of, ruler_of, styles_of, line_styles}
 use Rattle.line_screen.specs.Colours.{Styles, span_of}
-use Rattle.line_screen.specs.Chain.{View, Good, Inside, LeadsView, empty_view, Types, with_text, with_info_styles, Picture, shown_items, finish_of, cursor_of, above}
+use Rattle.line_screen.specs.Chain.{View, Good, Inside, LeadsView, empty_view, Types, with_text, with_line_styles, Picture, shown_items, finish_of, cursor_of, above}
 use Rattle.line_screen.specs.Display.{Placed}
 use Rattle.line_screen.specs.Drawing.{DrawnItem, row_break, text_items, place_after}
 use Rattle.line_screen.specs.Laws.{widths, TellsView}
 use Rattle.line_screen.specs.Measure.{measure_of, position_within_limit}
+use Rattle.line_screen.specs.StyledTexts.{first_styles, byte_styles}
+use Rattle.line_screen.specs.Styles.{numbers}
+use Rattle.line_editor.specs.SharedStyles.{span_styles, styles_to}
+use Rattle.line_help.specs.Paints.{plain}
+use Rattle.line_help.specs.declared.helpers.style.Span.{Span}
 use Rattle.line_screen.proofs.Fitting.{items_fit, fit_append, after_inside}
 use Rattle.line_screen.proofs.LawLemmas.{calls_lead, place_is_free, measures_go_on}
 use Rattle.line_screen.proofs.Items.{all_plain}
 use Rattle.line_screen.proofs.Leading.{line_cursor, line_end, line_finish, plain_parts, over_again}
 use Rattle.line_screen.proofs.ListLemmas.{filter_none, list_all_true}
 use Rattle.line_screen.proofs.ShortLemmas.{typing_leads, appending_leads, killing_leads, erasing_leads, putting_in_leads, taking_out_leads, drawing_rest_leads, part_above, writing_over_leads}
-use Rattle.std.proofs.lemmas.List.{take_at, drop_at}
+use Rattle.std.proofs.lemmas.List.{take_at, drop_at, take-map, map-append}
 use Rattle.keyline.specs.Shows.{picture, place_in, view_in, DisplayHolds, Low, LowStep, top_by, above_by}
+
+-- the styles of a line's front as a screen has them
+map_replicate : {A B : Type 0} (f : A → B) (n : ℕ) (x : A) → map f (replicate n x) ≡ replicate n (f x)
+map_replicate f zero x = refl
+map_replicate f (suc n) x = ap (λ xs. f x ∷ xs) (map_replicate f n x)
+
+styles_of_bytes : (spans : List Span) → byte_styles (map span_of spans) ≡ map numbers (span_styles spans)
+styles_of_bytes [] = refl
+styles_of_bytes (x ∷ spans) =
+    ap₂ (λ a b. a ++ b) (sym (map_replicate numbers x.len x.style)) (styles_of_bytes spans) ∙ sym (map-append numbers (replicate x.len x.style) (span_styles spans))
+
+first_styles_of : (n : ℕ) (spans : List Span) → first_styles n (map span_of spans) ≡ map numbers (styles_to n spans)
+first_styles_of n spans =
+    ap₂ (λ a b. take n (a ++ b)) (styles_of_bytes spans) (sym (map_replicate numbers n plain))
+    ∙ ap (take n) (sym (map-append numbers (span_styles spans) (replicate n plain))) ∙ take-map numbers n (span_styles spans ++ replicate n plain)
 
 same_if : (a b : Position) → same_cell a b ≡ true → a ≡ b
 same_if a b h =
@@ -474,21 +494,35 @@ module _ (s : Screen) (low : 2 ≤ s.columns) (high : s.columns ≤ 1000) where
 
   -- ---- the rest of a line, and what stands after it
 
-  same_info : (m : Option Marks) (prompt text : List ℕ) (at : ℕ) (info : List ℕ) → (drawn_spans m true [] [] 0 info).info ≡ (drawn_spans m true prompt text at info).info
+  same_line : (m : Option Marks) (prompt text : List ℕ) (at : ℕ) (info : List ℕ) → (drawn_spans m true [] text at info).line ≡ (drawn_spans m true prompt text at info).line
+  same_line None prompt text at info = refl
+  same_line (Some m) prompt text at info = refl
+
+  same_info : (m : Option Marks) (prompt text : List ℕ) (at : ℕ) (info : List ℕ) → (drawn_spans m true [] text at info).info ≡ (drawn_spans m true prompt text at info).info
   same_info None prompt text at info = refl
   same_info (Some m) prompt text at info = refl
 
+  abbrev rest_given : Option Marks → Sight → List ℕ → ℕ → Option (List ℕ) → Styles
+  rest_given m x text at info = with_line_styles (styles_of x.spans) (line_styles m text at (info_text info))
+
   rest_styles : (m : Option Marks) (x : Sight) (prompt : List ℕ) (from : ℕ) (text : List ℕ) (at : ℕ) (info : Option (List ℕ)) → DrawnFromFits x m prompt from text at info
-      → with_info_styles (styles_of x.spans) (info_styles m (info_text info)) ≡ styles_of (drawn_spans m true prompt text at (info_text info))
+      → rest_given m x text at info ≡ styles_of (drawn_spans m true prompt text at (info_text info))
   rest_styles m x prompt from text at info t =
       let spans = drawn_spans m true prompt text at (info_text info) in
-      let alone = (drawn_spans m true [] [] 0 (info_text info)).info in
-      ap (λ p. styles_of (record { prompt = p; line = x.spans.line; info = alone })) (sym t.prompt_styles)
-      ∙ ap (λ p. styles_of (record { prompt = spans.prompt; line = p; info = alone })) (t.unstyled ∙ sym t.still_unstyled)
+      let alone = drawn_spans m true [] text at (info_text info) in
+      ap (λ p. styles_of (record { prompt = p; line = alone.line; info = alone.info })) (sym t.prompt_styles)
+      ∙ ap (λ p. styles_of (record { prompt = spans.prompt; line = p; info = alone.info })) (same_line m prompt text at (info_text info))
       ∙ ap (λ p. styles_of (record { prompt = spans.prompt; line = spans.line; info = p })) (same_info m prompt text at (info_text info))
 
+  rest_same_styles : (m : Option Marks) (x : Sight) (prompt : List ℕ) (from : ℕ) (text : List ℕ) (at : ℕ) (info : Option (List ℕ)) → DrawnFromFits x m prompt from text at info
+      → first_styles from (line_styles m text at (info_text info)).line ≡ first_styles from (styles_of x.spans).line
+  rest_same_styles m x prompt from text at info t =
+      let spans = drawn_spans m true prompt text at (info_text info) in
+      ap (λ p. first_styles from (map span_of p)) (same_line m prompt text at (info_text info))
+      ∙ first_styles_of from spans.line ∙ ap (map numbers) t.same_styles ∙ sym (first_styles_of from x.spans.line)
+
   drawn_from_is : (m : Option Marks) (x : Sight) (prompt : List ℕ) (from : ℕ) (text : List ℕ) (at : ℕ) (info : Option (List ℕ)) → DrawnFromFits x m prompt from text at info
-      → (let v : Picture = record { prompt = x.prompt; line = text; place = at; info = info_text info; styles = with_info_styles (styles_of x.spans) (info_styles m (info_text info)) } in v ≡ picture (sight_as m prompt text at info))
+      → (let v : Picture = record { prompt = x.prompt; line = text; place = at; info = info_text info; styles = rest_given m x text at info } in v ≡ picture (sight_as m prompt text at info))
   drawn_from_is m x prompt from text at info t =
       ap₂ (λ p (styles : Styles). let v : Picture = record { prompt = p; line = text; place = at; info = info_text info; styles = styles } in v) (sym t.prompt_is) (rest_styles m x prompt from text at info t)
 
@@ -499,24 +533,26 @@ module _ (s : Screen) (low : 2 ≤ s.columns) (high : s.columns ≤ 1000) where
       let w = view_in s top x in
       let y = sight_as m prompt text at info in
       let line = t.before ++ t.rest in
-      let v : List ℕ → Picture = λ line. record { prompt = x.prompt; line = line; place = at; info = info_text info; styles = with_info_styles (styles_of x.spans) (info_styles m (info_text info)) } in
+      let v : List ℕ → Picture = λ line. record { prompt = x.prompt; line = line; place = at; info = info_text info; styles = rest_given m x line at info } in
       let new : List ℕ → Layout = λ line. layout_of (ruler_of s) l.prompt_size true line at info in
-      let call : List ℕ → List ℕ → List ℕ → Call = λ before rest line. DrawRest rest info l.cursor (measure_of s.mode s.tab s.columns before l.prompt_size) (new line) m in
+      let call : List ℕ → ℕ → List ℕ → Call = λ before from line. DrawRest line from at info l.cursor (measure_of s.mode s.tab s.columns before l.prompt_size) (new line) m in
       let same : v line ≡ picture y = ap v (sym t.text_is) ∙ drawn_from_is m x prompt from text at info t in
       let cursor_low = subst (λ p. (cursor_of s.columns (widths s) p).row ≤ 65535) (sym same) rows.cursor in
       let finish_low = subst (λ p. (finish_of s.columns (widths s) p).row ≤ 65535) (sym same) rows.finish in
-      let leads = drawing_rest_leads s low high l w t.before t.gone t.rest at info m (tells bytes over top l x h) (no_styles_in x t.unstyled) t.whole t.gone_apart t.rest_apart h.prompt_size cursor_low finish_low in
+      let styled : ℕ → List ℕ → Type 0 = λ n line. first_styles n (line_styles m line at (info_text info)).line ≡ first_styles n (styles_of x.spans).line in
+      let same_styles : styled (length t.before) line = subst (λ n. styled n line) t.from_is (subst (styled from) t.text_is (rest_same_styles m x prompt from text at info t)) in
+      let leads = drawing_rest_leads s low high l w t.before t.gone t.rest at info m (tells bytes over top l x h) t.whole t.gone_apart t.rest_apart h.prompt_size same_styles cursor_low finish_low in
       let there : View = record { shown = v line; top = top; place = (new line).cursor } in
-      let good : Good s.columns (widths s) (bytes ++ flat_map (bytes_of s) (call t.before t.rest line ∷ [])) over there = one_led bytes over w there (call t.before t.rest line) h.good leads.0 refl (λ e. cc) in
+      let first = call t.before (length t.before) line in
+      let good : Good s.columns (widths s) (bytes ++ flat_map (bytes_of s) (first ∷ [])) over there = one_led bytes over w there first h.good leads.0 refl (λ e. cc) in
       let before_is : t.before ≡ take from text = sym (ap₂ take t.from_is t.text_is ∙ take_at t.before t.rest (length t.before) refl) in
-      let rest_is : t.rest ≡ drop from text = sym (ap₂ drop t.from_is t.text_is ∙ drop_at t.before t.rest (length t.before) refl) in
-      let bytes_are : bytes ++ flat_map (bytes_of s) (call t.before t.rest line ∷ []) ≡ bytes ++ flat_map (bytes_of s) (call (take from text) (drop from text) text ∷ []) =
-      ap₂ (λ before rest. bytes ++ flat_map (bytes_of s) (call before rest line ∷ [])) before_is rest_is
-      ∙ ap (λ line. bytes ++ flat_map (bytes_of s) (call (take from text) (drop from text) line ∷ [])) (sym t.text_is) in
+      let bytes_are : bytes ++ flat_map (bytes_of s) (first ∷ []) ≡ bytes ++ flat_map (bytes_of s) (call (take from text) from text ∷ []) =
+      ap₂ (λ before from. bytes ++ flat_map (bytes_of s) (call before from line ∷ [])) before_is (sym t.from_is)
+      ∙ ap (λ line. bytes ++ flat_map (bytes_of s) (call (take from text) from line ∷ [])) (sym t.text_is) in
       let cursor_is : (new line).cursor ≡ cursor_of s.columns (widths s) (picture y) = leads.1 ∙ ap (cursor_of s.columns (widths s)) same in
       let at_place : there ≡ view_in s top y = ap₂ (λ (p : Picture) q. let b : View = record { shown = p; top = top; place = q } in b) same cursor_is in
       record {
-        good = subst (λ z. Good s.columns (widths s) z over (view_in s top y)) bytes_are (subst (Good s.columns (widths s) (bytes ++ flat_map (bytes_of s) (call t.before t.rest line ∷ [])) over) at_place good);
+        good = subst (λ z. Good s.columns (widths s) z over (view_in s top y)) bytes_are (subst (Good s.columns (widths s) (bytes ++ flat_map (bytes_of s) (first ∷ [])) over) at_place good);
         cursor = ap (λ line. (new line).cursor) t.text_is ∙ cursor_is;
         finish = ap (λ line. (new line).end) t.text_is ∙ leads.2 ∙ ap (finish_of s.columns (widths s)) same;
         prompt_size = h.prompt_size ∙ ap (λ p. measure_of s.mode s.tab s.columns p origin) (sym t.prompt_is);

@@ -22,9 +22,9 @@ use Rattle.line_editor.specs.Sights.{Sight, sight_with, sight_as, no_sight, sigh
 use Rattle.line_editor.specs.EditSteps.{one}
 use Rattle.line_editor.specs.Values.{EditStep, Value, shown_marks}
 use Rattle.line_editor.specs.Values.EditStep.{Draws, Helped, Edits, TakesBack, Takes}
-use Rattle.line_screen.specs.ScreenCalls.{Screen, bell_bytes, bytes_of, ruler_of, styles_by, info_styles}
+use Rattle.line_screen.specs.ScreenCalls.{Screen, bell_bytes, bytes_of, ruler_of, styles_by, line_styles}
 use Rattle.line_screen.specs.Chain.{Good, empty_view}
-use Rattle.line_screen.specs.Colours.{AreStyles, PaintedItem, Styles, all_unpainted, is_style, bytes_of_all_painted, painted_drawing, bytes_of_painted, bytes_of_painted_texts, painted_text, shaded_break, style_bytes, items_without_style}
+use Rattle.line_screen.specs.Colours.{AreStyles, PaintedItem, Styles, all_unpainted, skip, is_style, bytes_of_all_painted, painted_drawing, bytes_of_painted, bytes_of_painted_texts, painted_text, shaded_break, style_bytes, items_without_style}
 use Rattle.line_screen.specs.Colours.PaintedItem.{Bare as Plain, Begins, Shaded, Fenced, Padded}
 use Rattle.line_screen.specs.Display.{Placed, is_parameter, is_text, right}
 use Rattle.line_screen.specs.Drawing.{DrawnItem, Widths, blanks, text_items, no_style, break_if, break_unless, cluster_in_fence, fitted_col, bytes_of_item, bytes_of_items, col_after_one, col_after, control_sequence, erase_to_end, erase_to_row_end, in_fence, open_cell, take_cells_out, row_break, row_move, col_move, move_bytes, left_col, pushed_on, insertion_bytes, pulled_back, deletion_bytes, place_after_insertion, place_after_deletion, shown_text, drawing, is_step_back, short_move, writing_bytes, begin_inserting, end_inserting, put_in, put_and_pushed, begins_two_rows}
@@ -35,7 +35,7 @@ use Rattle.line_screen.proofs.Draws.{AllFit, AllPainted, Fits as ItemFits, FitsP
 use Rattle.line_screen.proofs.Fitting.{items_fit}
 use Rattle.line_screen.proofs.LawLemmas.{start_is_empty}
 use Rattle.line_screen.proofs.StyleLemmas.{styles_are}
-use Rattle.line_screen.proofs.StyledTextLemmas.{text_painted}
+use Rattle.line_screen.proofs.StyledTextLemmas.{skip_styles, text_painted}
 use Rattle.keyline.specs.Shows.{DisplayHolds, Low, LowStep, LowAll, bytes_for, calls_by_screen}
 use Rattle.keyline.proofs.ShowCourse.{flat_both}
 use Rattle.keyline.proofs.ShowSteps.{drawn_holds, fresh_holds, rewritten_letters, step}
@@ -479,17 +479,21 @@ module _ (s : Screen) (low : 2 ≤ s.columns) (high : s.columns ≤ 1000) (own :
   calm_rest l m from text at info =
       let rest = drop from text in
       let behind = info_text info in
-      let spans = info_styles m behind in
+      let styles = line_styles m text at behind in
+      let are = styles_are (drawn_spans m true [] text at behind) in
+      let left = skip from styles.line in
       let cell = (ruler_of s).measure (take from text) l.prompt_size in
       let new = layout_of (ruler_of s) l.prompt_size true text at info in
-      let items = text_items wide rest in
+      let items = painted_text wide left rest in
       let col = (in_row s.columns cell).col in
-      let end = col_after s.columns items col in
+      let end = col_after s.columns (all_unpainted items) col in
       let fits = items_fit s.mode s.tab s.columns some in
-      let painted = bytes_of_all_painted s.columns (painted_text wide spans behind) end in
-      let calm_painted_behind = calm_painted s.columns wide.cluster (painted_text wide spans behind) end (text_painted s.columns wide spans behind (styles_are (drawn_spans m true [] [] 0 behind)).info (fits behind)) in
-      let drawn = bytes_of_items s.columns items col ++ in_fence behind painted in
-      let calm_drawn = calm_both (bytes_of_items s.columns items col) (in_fence behind painted) (calm_sent s.columns wide.cluster items col (fits rest)) (calm_in_fence behind painted calm_painted_behind) in
+      let shown = bytes_of_all_painted s.columns items col in
+      let painted = bytes_of_all_painted s.columns (painted_text wide styles.info behind) end in
+      let calm_shown = calm_painted s.columns wide.cluster items col (text_painted s.columns wide left rest (skip_styles from styles.line are.line) (fits rest)) in
+      let calm_behind = calm_painted s.columns wide.cluster (painted_text wide styles.info behind) end (text_painted s.columns wide styles.info behind are.info (fits behind)) in
+      let drawn = shown ++ in_fence behind painted in
+      let calm_drawn = calm_both shown (in_fence behind painted) calm_shown (calm_in_fence behind painted calm_behind) in
       let first = move_bytes l.cursor cell ++ (erase_to_end ++ drawn) in
       let calm_first = calm_both (move_bytes l.cursor cell) (erase_to_end ++ drawn) (calm_move l.cursor cell) (calm_both erase_to_end drawn refl calm_drawn) in
       let back = move_bytes new.end new.cursor in

@@ -28,7 +28,7 @@ pub data Redraw : Type 0 where
   PutIn : (prompt : List ℕ) (c : ℕ) (text : List ℕ) (place : ℕ) → Redraw
   -- `count` printable characters of a plain line deleted, with no information before or after that
   TakenOut : (prompt : List ℕ) (count : ℕ) (text : List ℕ) (place : ℕ) → Redraw
-  -- drawn from a place on, before which the line is as it was drawn, without styles
+  -- drawn from a place on, before which the line is as it was drawn, with its styles
   DrawnFrom : (prompt : List ℕ) (from : ℕ) (text : List ℕ) (place : ℕ) (info : Option (List ℕ))
       → Redraw
   -- the printable characters of a plain line from one place up to another replaced by as many, with
@@ -156,7 +156,7 @@ rest_call r marks l from text place info =
     let at = r.measure (take from text) l.prompt_size in
     let new = layout_of r l.prompt_size true text place info in
     record {
-      calls = DrawRest (drop from text) info l.cursor at new marks ∷ [];
+      calls = DrawRest text from place info l.cursor at new marks ∷ [];
       layout = new;
     }
 

@@ -6,6 +6,7 @@ use Rattle.line_editor.specs.Characters.{stands_apart, begins_apart}
 use Rattle.line_editor.specs.RenderCalls.{Marks}
 use Rattle.line_editor.specs.Redraws.{Redraw, info_text}
 use Rattle.line_editor.specs.Redraws.Redraw.{Drawn, Moved, Typed, Appended, Taken, Erased, PutIn, TakenOut, DrawnFrom, Bared, ToEnd, Beeped, Cleared, Rewritten}
+use Rattle.line_editor.specs.SharedStyles.{styles_to}
 use Rattle.line_editor.specs.Values.{Value, Setting, EditStep, shown_marks}
 use Rattle.line_editor.specs.Values.EditStep.{Draws}
 use Rattle.line_help.specs.Paints.{first_mark}
@@ -157,7 +158,7 @@ pub record TakenOutFits (x : Sight) (prompt : List ℕ) (count : ℕ) (text : Li
   pub printable : list_all is_printable killed ≡ true
   pub prompt_is : prompt ≡ x.prompt
 
--- a line without styles before and after, of which the text before a place stays, with its clusters
+-- the text before a place stays, with its clusters and their styles
 pub record DrawnFromFits (x : Sight) (marks : Option Marks) (prompt : List ℕ) (from : ℕ)
     (text : List ℕ) (place : ℕ) (info : Option (List ℕ)) : Type 0 where
   pub before : List ℕ
@@ -169,8 +170,8 @@ pub record DrawnFromFits (x : Sight) (marks : Option Marks) (prompt : List ℕ) 
   pub gone_apart : begins_apart before gone ≡ true
   pub rest_apart : begins_apart before rest ≡ true
   pub prompt_is : prompt ≡ x.prompt
-  pub unstyled : x.spans.line ≡ []
-  pub still_unstyled : (drawn_spans marks true prompt text place (info_text info)).line ≡ []
+  pub same_styles : styles_to from (drawn_spans marks true prompt text place (info_text info)).line
+      ≡ styles_to from x.spans.line
   pub prompt_styles : (drawn_spans marks true prompt text place (info_text info)).prompt
       ≡ x.spans.prompt
 

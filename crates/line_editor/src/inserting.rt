@@ -6,6 +6,7 @@ ghost use Rattle.line_editor.specs.Characters.{stands_apart};
 use crate::characters::stands_apart;
 use crate::measured::known_within;
 use crate::renderer::Renderer;
+use crate::shared_styles::Since;
 use crate::state::State;
 use crate::way::Way;
 use line_buffer::{RepeatCount, is_printable, is_printable_text, is_simple};
@@ -120,9 +121,9 @@ impl<'p, 'h, Out: Renderer, H: Helper + Drop, Hi: History> State<'p, 'h, Out, H,
         &mut self,
         ch: char,
         way: Way,
-        since: Option<usize>,
+        since: &Option<Since>,
     ) -> Result<(), ReadlineError>
-        ensures does { Does (show_inserted_effect ch way since) self.old self.new result }
+        ensures does { Does (show_inserted_effect ch way since.now) self.old self.new result }
     {
         self.ask_anew()?;
         match self.way_if_bare(way) {
@@ -148,7 +149,7 @@ impl<'p, 'h, Out: Renderer, H: Helper + Drop, Hi: History> State<'p, 'h, Out, H,
         if inserted.is_none() {
             return Ok(());
         }
-        self.show_inserted(ch, way, since)
+        self.show_inserted(ch, way, &since)
     }
 
     /// Inserts a text at the cursor, which stays before it.
@@ -164,7 +165,7 @@ impl<'p, 'h, Out: Renderer, H: Helper + Drop, Hi: History> State<'p, 'h, Out, H,
         self.known = None;
         self.recorded.insert_text(self.alloc, text)?;
         self.known = known;
-        self.refresh_since(since)
+        self.refresh_since(&since)
     }
 
     /// Replaces up to `n` clusters after the cursor by a character each.
@@ -178,7 +179,7 @@ impl<'p, 'h, Out: Renderer, H: Helper + Drop, Hi: History> State<'p, 'h, Out, H,
         let replaced = self.recorded.replace_chars(self.alloc, ch, n)?;
         self.known = known;
         if replaced {
-            self.refresh_since(since)
+            self.refresh_since(&since)
         } else {
             Ok(())
         }
@@ -195,7 +196,7 @@ impl<'p, 'h, Out: Renderer, H: Helper + Drop, Hi: History> State<'p, 'h, Out, H,
         let written = self.recorded.overwrite(self.alloc, ch)?;
         self.known = known;
         if written {
-            self.refresh_since(since)
+            self.refresh_since(&since)
         } else {
             Ok(())
         }

@@ -10,6 +10,7 @@ ghost use Rattle.line_editor.specs.declared.way.Way.TheVariants.{AtEnd, Inside};
 use crate::characters::{last_char, stands_apart};
 use crate::measured::known_within;
 use crate::renderer::Renderer;
+use crate::shared_styles::Since;
 use crate::state::State;
 use crate::way::Way;
 use line_buffer::{Mode, Movement, TextSpan, is_printable_text};
@@ -112,7 +113,7 @@ impl<'p, 'h, Out: Renderer, H: Helper + Drop, Hi: History> State<'p, 'h, Out, H,
 
     /// The place at which a kill of a range leaves the cursor, if the line may be drawn from there
     /// on, and in part.
-    fn since_kill(&self, span: Option<TextSpan>) -> Option<usize>
+    fn since_kill(&self, span: Option<TextSpan>) -> Option<Since>
         ensures { result ≡ since (setting_of self.now)
             (deletion_line span self.now.recorded.line).place (value_of self.now) }
     {
@@ -128,9 +129,9 @@ impl<'p, 'h, Out: Renderer, H: Helper + Drop, Hi: History> State<'p, 'h, Out, H,
         &mut self,
         count: usize,
         way: Way,
-        since: Option<usize>,
+        since: &Option<Since>,
     ) -> Result<(), ReadlineError>
-        ensures does { Does (show_killed_effect count way since) self.old self.new result }
+        ensures does { Does (show_killed_effect count way since.now) self.old self.new result }
     {
         self.ask_anew()?;
         match self.way_if_bare(way) {
@@ -174,7 +175,7 @@ impl<'p, 'h, Out: Renderer, H: Helper + Drop, Hi: History> State<'p, 'h, Out, H,
         }
         let count = before - self.recorded.line.len();
         let way = self.kill_way(alone, inside, last, count);
-        self.show_killed(count, way, since)
+        self.show_killed(count, way, &since)
     }
 
     /// Inserts a text at the cursor, if there is one.

@@ -11,6 +11,16 @@ use line_help::{Helper, History};
 use line_keys::{Decides, InputState};
 use line_record::KillRing;
 
+/// The place after the cluster at the cursor if a text is to go there, else the cursor's.
+fn place_at(line: &LineBuffer, anchor: Anchor) -> usize
+    ensures { result ≡ (line_at_anchor anchor line.now).place }
+{
+    match anchor {
+        Anchor::After => line.next_pos(1).unwrap_or(line.pos()),
+        Anchor::Before => line.pos(),
+    }
+}
+
 /// Steps over the cluster at the cursor if a text is to go after it. Returns whether there is one.
 fn step_on(line: &mut LineBuffer, anchor: Anchor) -> bool
     ensures line { line.new ≡ line_at_anchor anchor line.old }
@@ -52,21 +62,21 @@ impl<'p, 'h, Out: Renderer, H: Helper + Drop, Hi: History> State<'p, 'h, Out, H,
             (yank_text (is_vi_command input_state.now.mode input_state.now.input_mode)
             text.now anchor n) self.old self.new result }
     {
+        let from = place_at(&self.recorded.line, anchor);
+        let since = self.since(from);
         let known = self.known;
         self.known = None;
         let recorded = &mut self.recorded;
         let stepped = step_on(&mut recorded.line, anchor);
-        let pos = self.recorded.line.pos();
-        let since = self.since(pos);
-        let recorded = &mut self.recorded;
+        let pos = recorded.line.pos();
         let put = recorded.yank(self.alloc, text, n)?;
         if put.is_some() {
             step_back(&mut recorded.line, input_state.is_vi_cmd_mode());
             self.known = known_within(pos, known);
-            return self.refresh_since(since);
+            return self.refresh_since(&since);
         }
         if stepped {
-            self.refresh_since(since)
+            self.refresh_since(&since)
         } else {
             Ok(())
         }
@@ -85,7 +95,7 @@ impl<'p, 'h, Out: Renderer, H: Helper + Drop, Hi: History> State<'p, 'h, Out, H,
         self.known = None;
         self.recorded.yank_pop(self.alloc, yank_size, text)?;
         self.known = known;
-        self.refresh_since(since)
+        self.refresh_since(&since)
     }
 
     /// Yanks the ring's text.

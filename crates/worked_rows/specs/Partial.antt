@@ -768,6 +768,211 @@ row_134 = record (row 134 settings_134 (codes "h\r") (codes "h\n")) {
       codes "\u{1b}[J\u{1b}[m> \u{1b}[m\u{1b}[m\u{1b}[m\r\n");
 }
 
+-- partial modal colours helped
+abbrev pub settings_138 : Settings
+settings_138 = record plain {
+  config = partial (colours (modal plain.config));
+  helping = aide true None;
+}
+
+-- (a) Enter = (a) | shows {} ( a ␛[2D␛[J␛[0;1;34m(␛[ma) {(a)} ␍␊ {} ␍␊
+abbrev pub row_138 : Row
+row_138 = record (row 138 settings_138 (codes "(a)\r") (codes "(a)\n")) {
+  shows = Some
+      (codes "\r\u{1b}[J\u{1b}[m> \u{1b}[m\u{1b}[m\u{1b}[m(a\u{1b}[2D\u{1b}[J\u{1b}[0;1;34m(" ++
+      codes "\u{1b}[ma)\r\u{1b}[J\u{1b}[m> \u{1b}[m(a)\u{1b}[m\u{1b}[m\r\n\r\u{1b}[J\u{1b}[" ++
+      codes "m> \u{1b}[m\u{1b}[m\u{1b}[m\r\n");
+}
+
+-- xy(a) Enter = xy(a) | shows {} x y ( a ␛[2D␛[J␛[0;1;34m(␛[ma) {xy(a)} ␍␊ {} ␍␊
+abbrev pub row_139 : Row
+row_139 = record (row 139 settings_138 (codes "xy(a)\r") (codes "xy(a)\n")) {
+  shows = Some
+      (codes "\r\u{1b}[J\u{1b}[m> \u{1b}[m\u{1b}[m\u{1b}[mxy(a\u{1b}[2D\u{1b}[J\u{1b}[0;1;34" ++
+      codes "m(\u{1b}[ma)\r\u{1b}[J\u{1b}[m> \u{1b}[mxy(a)\u{1b}[m\u{1b}[m\r\n\r\u{1b}[J" ++
+      codes "\u{1b}[m> \u{1b}[m\u{1b}[m\u{1b}[m\r\n");
+}
+
+-- (a)bc Enter = (a)bc | shows {} ( a ␛[2D␛[J␛[0;1;34m(␛[ma) ␛[3D␛[J(a)b c ␍␊ {} ␍␊
+abbrev pub row_140 : Row
+row_140 = record (row 140 settings_138 (codes "(a)bc\r") (codes "(a)bc\n")) {
+  shows = Some
+      (codes "\r\u{1b}[J\u{1b}[m> \u{1b}[m\u{1b}[m\u{1b}[m(a\u{1b}[2D\u{1b}[J\u{1b}[0;1;34m(" ++
+      codes "\u{1b}[ma)\u{1b}[3D\u{1b}[J(a)bc\r\n\r\u{1b}[J\u{1b}[m> \u{1b}[m\u{1b}[m\u{1b}" ++
+      codes "[m\r\n");
+}
+
+-- ((a) Backspace x) ) Enter = ((ax)) | shows {} ( ( a ␛[2D␛[J␛[0;1;34m(␛[ma) ␛[3D␛[J(a x ␛[3D␛[J␛[0;1;34m(␛[max) ␛[5D␛[J␛[0;1;34m(␛[m(ax)) {((ax))} ␍␊ {} ␍␊
+abbrev pub row_141 : Row
+row_141 = record (row 141 settings_138 (codes "((a)\u{7f}x))\r") (codes "((ax))\n")) {
+  shows = Some
+      (codes "\r\u{1b}[J\u{1b}[m> \u{1b}[m\u{1b}[m\u{1b}[m((a\u{1b}[2D\u{1b}[J\u{1b}[0;1;34m" ++
+      codes "(\u{1b}[ma)\u{1b}[3D\u{1b}[J(ax\u{1b}[3D\u{1b}[J\u{1b}[0;1;34m(\u{1b}[max)" ++
+      codes "\u{1b}[5D\u{1b}[J\u{1b}[0;1;34m(\u{1b}[m(ax))\r\u{1b}[J\u{1b}[m> \u{1b}[m((ax)" ++
+      codes ")\u{1b}[m\u{1b}[m\r\n\r\u{1b}[J\u{1b}[m> \u{1b}[m\u{1b}[m\u{1b}[m\r\n");
+}
+
+-- (a) Left Left Left x Enter = x(a) | shows {} ( a ␛[2D␛[J␛[0;1;34m(␛[ma) {␛[0;1;34m(␛[ma)}␛[1D {(a␛[0;1;34m)␛[m}␛[2D {(a␛[0;1;34m)␛[m}␛[3D ␛[Jx(a␛[0;1;34m)␛[m␛[3D {x(a)}␛[3D ␛[3C␍␊ {} ␍␊
+abbrev pub row_144 : Row
+row_144 = record (row 144 settings_138 (codes "(a)\u{1b}[D\u{1b}[D\u{1b}[Dx\r") (codes "x(a)\n")) {
+  shows = Some
+      (codes "\r\u{1b}[J\u{1b}[m> \u{1b}[m\u{1b}[m\u{1b}[m(a\u{1b}[2D\u{1b}[J\u{1b}[0;1;34m(" ++
+      codes "\u{1b}[ma)\r\u{1b}[J\u{1b}[m> \u{1b}[m\u{1b}[0;1;34m(\u{1b}[ma)\u{1b}[m\u{1b}[" ++
+      codes "m\u{1b}[1D\r\u{1b}[J\u{1b}[m> \u{1b}[m(a\u{1b}[0;1;34m)\u{1b}[m\u{1b}[m\u{1b}[" ++
+      codes "m\u{1b}[2D\r\u{1b}[J\u{1b}[m> \u{1b}[m(a\u{1b}[0;1;34m)\u{1b}[m\u{1b}[m\u{1b}[" ++
+      codes "m\u{1b}[3D\u{1b}[Jx(a\u{1b}[0;1;34m)\u{1b}[m\u{1b}[3D\r\u{1b}[J\u{1b}[m> " ++
+      codes "\u{1b}[mx(a)\u{1b}[m\u{1b}[m\u{1b}[3D\u{1b}[3C\r\n\r\u{1b}[J\u{1b}[m> \u{1b}[m" ++
+      codes "\u{1b}[m\u{1b}[m\r\n");
+}
+
+-- (a) C-B C-K C-Y Enter = (a) | shows {} ( a ␛[2D␛[J␛[0;1;34m(␛[ma) {␛[0;1;34m(␛[ma)}␛[1D ␛[2D␛[J(a ␛[2D␛[J␛[0;1;34m(␛[ma) {(a)} ␍␊ {} ␍␊
+abbrev pub row_145 : Row
+row_145 = record (row 145 settings_138 (codes "(a)\u{2}\u{b}\u{19}\r") (codes "(a)\n")) {
+  shows = Some
+      (codes "\r\u{1b}[J\u{1b}[m> \u{1b}[m\u{1b}[m\u{1b}[m(a\u{1b}[2D\u{1b}[J\u{1b}[0;1;34m(" ++
+      codes "\u{1b}[ma)\r\u{1b}[J\u{1b}[m> \u{1b}[m\u{1b}[0;1;34m(\u{1b}[ma)\u{1b}[m\u{1b}[" ++
+      codes "m\u{1b}[1D\u{1b}[2D\u{1b}[J(a\u{1b}[2D\u{1b}[J\u{1b}[0;1;34m(\u{1b}[ma)\r" ++
+      codes "\u{1b}[J\u{1b}[m> \u{1b}[m(a)\u{1b}[m\u{1b}[m\r\n\r\u{1b}[J\u{1b}[m> \u{1b}[m" ++
+      codes "\u{1b}[m\u{1b}[m\r\n");
+}
+
+-- ] Enter x C-U ok Enter = ok | shows {} ␛[J] {]} {]␛[m␛[0;31mMismatched␠brackets:␠']'␠is␠unpaired␛[m␛[m␛[36D ␛[Jx ␛[2D␛[K o k ␍␊ {} ␍␊
+abbrev pub row_146 : Row
+row_146 = record (row 146 settings_138 (codes "]\rx\u{15}ok\r") (codes "ok\n")) {
+  shows = Some (codes "\r\u{1b}[J\u{1b}[m> \u{1b}[m\u{1b}[m\u{1b}[m\u{1b}[J]\r\u{1b}[J\u{1b}[m> " ++
+      codes "\u{1b}[m]\u{1b}[m\u{1b}[m\r\u{1b}[J\u{1b}[m> \u{1b}[m]\u{1b}[m\u{1b}[0;31mMism" ++
+      codes "atched brackets: ']' is unpaired\u{1b}[m\u{1b}[m\u{1b}[36D\u{1b}[Jx\u{1b}[2D" ++
+      codes "\u{1b}[Kok\r\n\r\u{1b}[J\u{1b}[m> \u{1b}[m\u{1b}[m\u{1b}[m\r\n");
+}
+
+-- 漢(é) Enter = 漢(é) | shows {} ␛[m漢␛[m ( ␛[mé␛[m ␛[2D␛[J␛[0;1;34m(␛[m␛[mé␛[m) {␛[m漢␛[m(␛[mé␛[m)} ␍␊ {} ␍␊
+abbrev pub row_147 : Row
+row_147 = record (row 147 settings_138 (encode_utf8_all (codes "漢(é)\r")) (encode_utf8_all
+    (codes "漢(é)\n"))) {
+      shows = Some (encode_utf8_all
+          (codes "\r\u{1b}[J\u{1b}[m> \u{1b}[m\u{1b}[m\u{1b}[m\u{1b}[m漢\u{1b}[m(\u{1b}[mé\u{1b}[" ++
+          codes "m\u{1b}[2D\u{1b}[J\u{1b}[0;1;34m(\u{1b}[m\u{1b}[mé\u{1b}[m)\r\u{1b}[J\u{1b}[m>" ++
+          codes " \u{1b}[m\u{1b}[m漢\u{1b}[m(\u{1b}[mé\u{1b}[m)\u{1b}[m\u{1b}[m\r\n\r\u{1b}[J" ++
+          codes "\u{1b}[m> \u{1b}[m\u{1b}[m\u{1b}[m\r\n"));
+    }
+
+-- ] Enter C-C = nothing | ends Interrupted | shows {} ␛[J] {]} {]␛[m␛[0;31mMismatched␠brackets:␠']'␠is␠unpaired␛[m␛[m␛[36D ␛[36C␍␊
+abbrev pub row_148 : Row
+row_148 = record (row 148 settings_138 (codes "]\r\u{3}") []) {
+  ends = Interrupted;
+  shows = Some (codes "\r\u{1b}[J\u{1b}[m> \u{1b}[m\u{1b}[m\u{1b}[m\u{1b}[J]\r\u{1b}[J\u{1b}[m> " ++
+      codes "\u{1b}[m]\u{1b}[m\u{1b}[m\r\u{1b}[J\u{1b}[m> \u{1b}[m]\u{1b}[m\u{1b}[0;31mMism" ++
+      codes "atched brackets: ']' is unpaired\u{1b}[m\u{1b}[m\u{1b}[36D\u{1b}[36C\r\n");
+}
+
+-- [(a) Enter ] Enter = [(a)␊] | shows {} [ ( a ␛[2D␛[J␛[0;1;34m(␛[ma) {[(a)} ␛[J␍␊ ␛[1A␛[2C␛[J␛[0;1;34m[␛[m(a)␍␊] ␛[1A{[(a)␍␊]} ␍␊ {} ␍␊
+abbrev pub row_149 : Row
+row_149 = record (row 149 settings_138 (codes "[(a)\r]\r") (codes "[(a)\n]\n")) {
+  shows = Some
+      (codes "\r\u{1b}[J\u{1b}[m> \u{1b}[m\u{1b}[m\u{1b}[m[(a\u{1b}[2D\u{1b}[J\u{1b}[0;1;34m" ++
+      codes "(\u{1b}[ma)\r\u{1b}[J\u{1b}[m> \u{1b}[m[(a)\u{1b}[m\u{1b}[m\u{1b}[J\r\n\u{1b}[" ++
+      codes "1A\u{1b}[2C\u{1b}[J\u{1b}[0;1;34m[\u{1b}[m(a)\r\n]\u{1b}[1A\r\u{1b}[J\u{1b}[m>" ++
+      codes " \u{1b}[m[(a)\r\n]\u{1b}[m\u{1b}[m\r\n\r\u{1b}[J\u{1b}[m> \u{1b}[m\u{1b}[m" ++
+      codes "\u{1b}[m\r\n");
+}
+
+-- partial modal colours helped columns:40
+abbrev pub settings_152 : Settings
+settings_152 = record plain {
+  config = partial (colours (modal plain.config));
+  columns = 40;
+  helping = aide true None;
+}
+
+-- (] Enter Backspace ) Enter = () | shows {} ( ␛[J] {(]} {(]␛[m␛[0;31mMismatched␠brackets:␠'('␠is␠not␠prop␛[m␍␊␛[0;31merly␠closed␛[m␛[m␛[1A␛[7D ␛[1D␛[J ␛[1D␛[J␛[0;1;34m(␛[m) {()} ␍␊ {} ␍␊
+abbrev pub row_152 : Row
+row_152 = record (row 152 settings_152 (codes "(]\r\u{7f})\r") (codes "()\n")) {
+  shows = Some (codes "\r\u{1b}[J\u{1b}[m> \u{1b}[m\u{1b}[m\u{1b}[m(\u{1b}[J]\r\u{1b}[J\u{1b}[m> "
+      ++ codes "\u{1b}[m(]\u{1b}[m\u{1b}[m\r\u{1b}[J\u{1b}[m> \u{1b}[m(]\u{1b}[m\u{1b}[0;31mMi" ++
+      codes "smatched brackets: '(' is not prop\u{1b}[m\r\n\u{1b}[0;31merly closed\u{1b}[m" ++
+      codes "\u{1b}[m\u{1b}[1A\u{1b}[7D\u{1b}[1D\u{1b}[J\u{1b}[1D\u{1b}[J\u{1b}[0;1;34m(" ++
+      codes "\u{1b}[m)\r\u{1b}[J\u{1b}[m> \u{1b}[m()\u{1b}[m\u{1b}[m\r\n\r\u{1b}[J\u{1b}[m>" ++
+      codes " \u{1b}[m\u{1b}[m\u{1b}[m\r\n");
+}
+
+-- partial modal colours vi helped
+abbrev pub settings_155 : Settings
+settings_155 = record plain {
+  config = partial (colours (modal (vi plain.config)));
+  helping = aide true None;
+}
+
+-- (a) Esc rX Enter = (aX | shows {} ( a ␛[2D␛[J␛[0;1;34m(␛[ma) {␛[0;1;34m(␛[ma)}␛[1D ␛[2D␛[J(aX␛[1D ␛[1C␍␊ {} ␍␊
+abbrev pub row_155 : Row
+row_155 = record (row 155 settings_155 (codes "(a)\u{1b}rX\r") (codes "(aX\n")) {
+  shows = Some
+      (codes "\r\u{1b}[J\u{1b}[m> \u{1b}[m\u{1b}[m\u{1b}[m(a\u{1b}[2D\u{1b}[J\u{1b}[0;1;34m(" ++
+      codes "\u{1b}[ma)\r\u{1b}[J\u{1b}[m> \u{1b}[m\u{1b}[0;1;34m(\u{1b}[ma)\u{1b}[m\u{1b}[" ++
+      codes "m\u{1b}[1D\u{1b}[2D\u{1b}[J(aX\u{1b}[1D\u{1b}[1C\r\n\r\u{1b}[J\u{1b}[m> \u{1b}" ++
+      codes "[m\u{1b}[m\u{1b}[m\r\n");
+}
+
+-- partial modal colours helped columns:8
+abbrev pub settings_159 : Settings
+settings_159 = record plain {
+  config = partial (colours (modal plain.config));
+  columns = 8;
+  helping = aide true None;
+}
+
+-- (abcdef) Enter = (abcdef) | shows {} ( a b c d e␍␊ f ␛[1A␛[1C␛[J␛[0;1;34m(␛[mabcde␍␊f) ␛[1A{(abcde␍␊f)} ␍␊ {} ␍␊
+abbrev pub row_159 : Row
+row_159 = record (row 159 settings_159 (codes "(abcdef)\r") (codes "(abcdef)\n")) {
+  shows = Some (codes "\r\u{1b}[J\u{1b}[m> \u{1b}[m\u{1b}[m\u{1b}[m(abcde\r\nf\u{1b}[1A\u{1b}[1C" ++
+      codes "\u{1b}[J\u{1b}[0;1;34m(\u{1b}[mabcde\r\nf)\u{1b}[1A\r\u{1b}[J\u{1b}[m> \u{1b}[" ++
+      codes "m(abcde\r\nf)\u{1b}[m\u{1b}[m\r\n\r\u{1b}[J\u{1b}[m> \u{1b}[m\u{1b}[m\u{1b}[m" ++
+      codes "\r\n");
+}
+
+-- xyabcdef(g) Enter = xyabcdef(g) | shows {} x y a b c d␍␊ e f ( g ␛[2D␛[J␛[0;1;34m(␛[mg) ␛[1A{xyabcd␍␊ef(g)} ␍␊ {} ␍␊
+abbrev pub row_160 : Row
+row_160 = record (row 160 settings_159 (codes "xyabcdef(g)\r") (codes "xyabcdef(g)\n")) {
+  shows = Some (codes "\r\u{1b}[J\u{1b}[m> \u{1b}[m\u{1b}[m\u{1b}[mxyabcd\r\nef(g\u{1b}[2D\u{1b}[J"
+      ++ codes "\u{1b}[0;1;34m(\u{1b}[mg)\u{1b}[1A\r\u{1b}[J\u{1b}[m> \u{1b}[mxyabcd\r\nef(g)" ++
+      codes "\u{1b}[m\u{1b}[m\r\n\r\u{1b}[J\u{1b}[m> \u{1b}[m\u{1b}[m\u{1b}[m\r\n");
+}
+
+-- xyabcd(e) Enter = xyabcd(e) | shows {} x y a b c d␍␊ ( e ␛[2D␛[J␛[0;1;34m(␛[me) ␛[1A{xyabcd␍␊(e)} ␍␊ {} ␍␊
+abbrev pub row_161 : Row
+row_161 = record (row 161 settings_159 (codes "xyabcd(e)\r") (codes "xyabcd(e)\n")) {
+  shows = Some (codes "\r\u{1b}[J\u{1b}[m> \u{1b}[m\u{1b}[m\u{1b}[mxyabcd\r\n(e\u{1b}[2D\u{1b}[J" ++
+      codes "\u{1b}[0;1;34m(\u{1b}[me)\u{1b}[1A\r\u{1b}[J\u{1b}[m> \u{1b}[mxyabcd\r\n(e)" ++
+      codes "\u{1b}[m\u{1b}[m\r\n\r\u{1b}[J\u{1b}[m> \u{1b}[m\u{1b}[m\u{1b}[m\r\n");
+}
+
+-- abcde(f) Enter = abcde(f) | shows {} a b c d e (␍␊ f ␛[1A␛[6C␛[J␛[0;1;34m(␛[m␍␊␛[0;1;34m␛[mf) ␛[1A{abcde(␍␊f)} ␍␊ {} ␍␊
+abbrev pub row_162 : Row
+row_162 = record (row 162 settings_159 (codes "abcde(f)\r") (codes "abcde(f)\n")) {
+  shows = Some (codes "\r\u{1b}[J\u{1b}[m> \u{1b}[m\u{1b}[m\u{1b}[mabcde(\r\nf\u{1b}[1A\u{1b}[6C" ++
+      codes "\u{1b}[J\u{1b}[0;1;34m(\u{1b}[m\r\n\u{1b}[0;1;34m\u{1b}[mf)\u{1b}[1A\r\u{1b}[J" ++
+      codes "\u{1b}[m> \u{1b}[mabcde(\r\nf)\u{1b}[m\u{1b}[m\r\n\r\u{1b}[J\u{1b}[m> \u{1b}[m" ++
+      codes "\u{1b}[m\u{1b}[m\r\n");
+}
+
+-- partial colours helped loaded:#V2␊f(x)y␊
+abbrev pub settings_166 : Settings
+settings_166 = record plain {
+  config = partial (colours plain.config);
+  helping = aide true None;
+  loaded = codes "#V2\nf(x)y\n";
+}
+
+-- f(x) Enter = f(x) | shows {} ␛[Jf␛[m␛[0;2m(x)y␛[m␛[m␛[4D ␛[J(␛[m␛[0;2mx)y␛[m␛[m␛[3D ␛[Jx␛[m␛[0;2m)y␛[m␛[m␛[2D ␛[2D␛[J␛[0;1;34m(␛[mx)␛[m␛[0;2my␛[m␛[m␛[1D {f(x)} ␍␊ {} ␍␊
+abbrev pub row_166 : Row
+row_166 = record (row 166 settings_166 (codes "f(x)\r") (codes "f(x)\n")) {
+  shows = Some (codes "\r\u{1b}[J\u{1b}[m> \u{1b}[m\u{1b}[m\u{1b}[m\u{1b}[Jf\u{1b}[m\u{1b}[0;2m(x)y"
+      ++ codes "\u{1b}[m\u{1b}[m\u{1b}[4D\u{1b}[J(\u{1b}[m\u{1b}[0;2mx)y\u{1b}[m\u{1b}[m\u{1b}" ++
+      codes "[3D\u{1b}[Jx\u{1b}[m\u{1b}[0;2m)y\u{1b}[m\u{1b}[m\u{1b}[2D\u{1b}[2D\u{1b}[J" ++
+      codes "\u{1b}[0;1;34m(\u{1b}[mx)\u{1b}[m\u{1b}[0;2my\u{1b}[m\u{1b}[m\u{1b}[1D\r\u{1b}" ++
+      codes "[J\u{1b}[m> \u{1b}[mf(x)\u{1b}[m\u{1b}[m\r\n\r\u{1b}[J\u{1b}[m> \u{1b}[m\u{1b}" ++
+      codes "[m\u{1b}[m\r\n");
+}
+
 abbrev pub partial_rows : List Row
 partial_rows = row_8 ∷ row_9 ∷ row_10 ∷ row_11 ∷ row_12 ∷ row_15 ∷ row_16 ∷ row_17 ∷ row_18 ∷ row_21
     ∷ row_22 ∷ row_23 ∷ row_24 ∷ row_27 ∷ row_28 ∷ row_29 ∷ row_32 ∷ row_33 ∷ row_34 ∷ row_35 ∷
@@ -777,4 +982,5 @@ partial_rows = row_8 ∷ row_9 ∷ row_10 ∷ row_11 ∷ row_12 ∷ row_15 ∷ r
     ∷ row_83 ∷ row_84 ∷ row_85 ∷ row_86 ∷ row_87 ∷ row_88 ∷ row_91 ∷ row_92 ∷ row_93 ∷ row_94 ∷
     row_95 ∷ row_96 ∷ row_99 ∷ row_100 ∷ row_104 ∷ row_105 ∷ row_106 ∷ row_107 ∷ row_108 ∷ row_111 ∷
     row_112 ∷ row_116 ∷ row_120 ∷ row_121 ∷ row_122 ∷ row_125 ∷ row_129 ∷ row_130 ∷ row_131 ∷
-    row_134 ∷ []
+    row_134 ∷ row_138 ∷ row_139 ∷ row_140 ∷ row_141 ∷ row_144 ∷ row_145 ∷ row_146 ∷ row_147 ∷
+    row_148 ∷ row_149 ∷ row_152 ∷ row_155 ∷ row_159 ∷ row_160 ∷ row_161 ∷ row_162 ∷ row_166 ∷ []

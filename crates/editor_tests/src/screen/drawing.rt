@@ -346,7 +346,7 @@ fn call_made<Out: Renderer>(
         "write_over" => written_over(screen, text.as_str(), NEAR, HERE),
         "write_far" => written_over(screen, text.as_str(), THERE, NEXT),
         "append_text" => screen.append_text(text.as_str(), HERE).map(|_| ()),
-        "refresh_rest" => draw_rest(screen, "plain", "", text, ""),
+        "refresh_rest" => draw_rest(screen, "plain", text, 0, ""),
         "clear_screen" => screen.clear_screen(),
         "clear_rows" => screen.clear_rows(&layout),
         "leftmost" => screen.move_cursor_at_leftmost(),
@@ -413,9 +413,10 @@ fn puts_a_letter_before_others(rt: HostRuntime) -> Result<(), Fail> {
     rows_hold(rt.alloc(), &mut Ask::Insertion, INSERTIONS)
 }
 
-// How a rest is drawn: without a highlighter, or with one that draws hints faint and messages red.
-// Then columns, what stands before the rest, from the first cell on, the rest with the cursor, and
-// a hint or message; the bytes. The cursor was in the first cell.
+// How a rest is drawn: without a highlighter, or with one that draws hints faint and messages red,
+// and in a marked line the match of the bracket at the cursor bold and blue. Then columns, the line
+// before the rest, from the first cell on, the rest with the cursor, and a hint or message; the
+// bytes. The cursor was in the first cell.
 const RESTS: &str = "
     plain 80 ab c|d         = ␛[2C␛[Jcd␛[1D
     plain 80 ab |           = ␛[2C␛[J
@@ -428,26 +429,53 @@ const RESTS: &str = "
     hint 80 h i|            = ␛[1C␛[Ji
     hint 80 h i| there      = ␛[1C␛[Ji␛[m␛[0;2mthere␛[m␛[m␛[5D
     message 80 a | no       = ␛[1C␛[J␛[m␛[0;31mno␛[m␛[m␛[2D
+    hint 80 a (b)|          = ␛[1C␛[J(b)
+    marked 80 a (b)|        = ␛[1C␛[J␛[0;1;34m(␛[mb)
+    marked 80 a |(b)        = ␛[1C␛[J(b␛[0;1;34m)␛[m␛[3D
+    marked 80 a(b |c)d      = ␛[3C␛[Jc)d␛[3D
+    marked 80 a(b )|        = ␛[3C␛[J)
+    marked 4 ab (c)|        = ␛[2C␛[J␛[0;1;34m(␛[mc␍␊)
+    marked 4 abc ()|        = ␛[3C␛[J␛[0;1;34m(␛[m␍␊␛[0;1;34m␛[m)
+    marked 80 漢 (b)|       = ␛[2C␛[J␛[0;1;34m(␛[mb)
+    marked 80 none (漢)|    = ␛[J␛[0;1;34m(␛[m␛[m漢␛[m)
+    marked 80 none (␉)|     = ␛[J␛[0;1;34m(␛[m␛[m?␛[m)
+    marked 80 a (␊)|        = ␛[1C␛[J␛[0;1;34m(␛[m␍␊)
+    marked 80 a (b)| !      = ␛[1C␛[J␛[0;1;34m(␛[mb)␛[m␛[0;2m!␛[m␛[m␛[1D
+    marked 80 a |(b) !      = ␛[1C␛[J(b␛[0;1;34m)␛[m␛[m␛[0;2m!␛[m␛[m␛[4D
 ";
 
-// Draws a rest behind a text.
+// Draws a line from a place on.
 fn draw_rest<Out: Renderer>(
     screen: &mut Out,
     how: &str,
-    before: &str,
-    rest: &LineBuffer,
+    line: &LineBuffer,
+    from: usize,
     info: &str,
 ) -> Result<(), ReadlineError> {
-    let at = screen.calculate_position(before, ORIGIN);
+    let text = line.as_str();
+    if !text.is_char_boundary(from) {
+        return Ok(());
+    }
+    let at = screen.calculate_position(&text[..from], ORIGIN);
     let info = if info.is_empty() { None } else { Some(info) };
-    let new = screen.compute_layout(at, true, rest, info);
+    let new = screen.compute_layout(ORIGIN, true, line, info);
     let styled = StandardHighlighter::new();
     let highlighter = if how == "plain" { None } else { Some(&styled) };
-    let told = how == "message";
-    screen.refresh_rest(rest.as_str(), info, ORIGIN, at, &new, highlighter, told)
+    let (marked, told) = (how == "marked", how == "message");
+    screen.refresh_rest(
+        line,
+        from,
+        info,
+        ORIGIN,
+        at,
+        &new,
+        highlighter,
+        marked,
+        told,
+    )
 }
 
-// The bytes of a rest and what follows it.
+// The bytes of a line's rest and what follows it.
 fn rest_behind(
     alloc: Global,
     how: &str,
@@ -456,10 +484,11 @@ fn rest_behind(
     shown: &str,
 ) -> Result<String, ReadlineError> {
     let (rest, info) = word_and_rest(shown);
-    let rest = line_of(alloc, rest)?;
+    let line = format!(in alloc; "{before}{rest}")?;
+    let line = line_of(alloc, line.as_str())?;
     let info = meant(alloc, info)?;
     let mut screen = screen(VecSink::new(alloc), columns, BellStyle::Audible);
-    draw_rest(&mut screen, how, before, &rest, info.as_str())?;
+    draw_rest(&mut screen, how, &line, before.len(), info.as_str())?;
     raised(pictured_bytes(alloc, screen.into_sink().bytes()))
 }
 

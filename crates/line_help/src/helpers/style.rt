@@ -3,7 +3,7 @@ ghost use Rattle.std.specs.Prelude.{◌≡◌, [], ◌∷◌};
 ghost use Rattle.line_help.specs.Paints.{plain, first_mark};
 
 /// The eight colours of ECMA-48, in the order of their numbers.
-#[derive(Clone, Copy, Debug)]
+#[derive(Clone, Copy, Debug, PartialEq, Eq)]
 pub enum Hue {
     Black,
     Red,
@@ -16,7 +16,7 @@ pub enum Hue {
 }
 
 /// A colour of a text or of its background.
-#[derive(Clone, Copy, Debug)]
+#[derive(Clone, Copy, Debug, PartialEq, Eq)]
 pub enum Colour {
     /// The terminal's own colour.
     Terminal,
@@ -33,7 +33,7 @@ pub enum Colour {
 
 /// How a text is drawn: colours and flags of the control sequence SGR (ECMA-48, section 8.3.117).
 /// Each value is a style that can be sent.
-#[derive(Clone, Copy, Debug)]
+#[derive(Clone, Copy, Debug, PartialEq, Eq)]
 pub struct Style {
     /// The colour of the text.
     pub text: Colour,

@@ -4,8 +4,8 @@
 //! the line) and `hint-from:`. Those for verdicts are `verdict:`, `later:`,
 //! `later-from:` and `message:`. Those for completion are `offers:` (a candidate, or two with a
 //! comma between them), `start:`, `ends:` (what follows a candidate that is the only one) and
-//! `shown:` (what follows one in a list). Those for styles are `marked:`, `marks-from:` and what
-//! `styles` reads. Those for faults are `hint-fails:`, `verdict-fails:`,
+//! `shown:` (what follows one in a list). Those for styles are `marked:`, `marks-from:`, `keyword:` and
+//! what `styles` reads. Those for faults are `hint-fails:`, `verdict-fails:`,
 //! `completion-fails:`, `update-fails:` and `wants-memory`.
 
 ghost use Rattle.std.specs.Prelude.{◌≡◌, ◌==◌, nat_le, option_copied, option_map, length, None, Some, false, if◌then◌else◌, IfErr};
@@ -85,7 +85,7 @@ pub struct Adviser<'a> {
     update_fails_from: usize,
     marked_at: usize,
     marks_from: usize,
-    styles: Styles,
+    styles: Styles<'a>,
     wants_memory: bool,
 }
 
@@ -335,6 +335,7 @@ pub struct Texts {
     offers: Option<String>,
     ends: String,
     shown: String,
+    keyword: String,
 }
 
 fn text_after(alloc: Global, words: &str, beginning: &str) -> Result<Option<String>, AllocError> {
@@ -353,6 +354,7 @@ pub fn texts_of(alloc: Global, words: &str) -> Result<Texts, AllocError> {
         offers: text_after(alloc, words, "offers:")?,
         ends: text_meant(alloc, after(words, "ends:").unwrap_or(""))?,
         shown: text_meant(alloc, after(words, "shown:").unwrap_or(""))?,
+        keyword: text_meant(alloc, after(words, "keyword:").unwrap_or(""))?,
     })
 }
 
@@ -406,7 +408,7 @@ impl Texts {
             update_fails_from: number_after(words, "update-fails:", usize::MAX),
             marked_at: number_after(words, "marked:", usize::MAX),
             marks_from: number_after(words, "marks-from:", usize::MAX),
-            styles: styles_of(words),
+            styles: styles_of(words, self.keyword.as_str()),
             wants_memory: after(words, "wants-memory").is_some(),
         }
     }

@@ -1,7 +1,9 @@
-use Rattle.std.proofs.Common.{true, false, refl, sym, ◌∙◌}
+use Rattle.std.proofs.Common.{true, false, refl, sym, ap, ◌∙◌}
 use Rattle.line_keys.specs.Modes.{is_vi_command}
+use Rattle.line_editor.specs.Drawing.{since}
+use Rattle.line_editor.specs.States.{value_of, setting_of}
 use Rattle.line_editor.proofs.KnownLemmas.{yanked_known}
-use Rattle.line_editor.proofs.YankLemmas.{at_anchor, since_anchor, yank_shown, yank_unshown, yank_refused}
+use Rattle.line_editor.proofs.YankLemmas.{at_anchor, yank_shown, yank_unshown, yank_refused}
 use Rattle.line_editor.proofs.state.State.edit_yank.Goals as goal
 
 pub invariant_of-self-then-is_some : goal.invariant_of-self-then-is_some
@@ -35,7 +37,7 @@ returns-then-is_some g c =
           c.in_ok-put.ensures.writes (sym c.is_some.ensures ∙ c.if-is_some.true) refl refl
           c.is_vi_cmd_mode.ensures c.step_back.ensures.line c.step_back.ensures.text refl
           (record { ruler = refl; prompt = refl; history_is = refl; hooks_are = refl; marks_are = refl; config_is = refl })
-          (since_anchor c.args.anchor s _ _ _ c.step_on-stepped.ensures.line c.step_on-stepped.ensures.text c.pos-pos.ensures.value c.since-since.ensures)
+          (c.since-since.ensures ∙ ap (λ place. since (setting_of s) place (value_of s)) c.place_at-from.ensures)
           c.refresh_since.ensures.does;
     }
 
@@ -49,7 +51,7 @@ returns-then-stepped g c =
           c.in_ok-put.ensures.writes (sym c.is_some.ensures ∙ c.if-is_some.false)
           (sym c.step_on-stepped.ensures.stepped ∙ c.if-stepped.true) refl refl refl refl refl
           (record { ruler = refl; prompt = refl; history_is = refl; hooks_are = refl; marks_are = refl; config_is = refl })
-          (since_anchor c.args.anchor s _ _ _ c.step_on-stepped.ensures.line c.step_on-stepped.ensures.text c.pos-pos.ensures.value c.since-since.ensures)
+          (c.since-since.ensures ∙ ap (λ place. since (setting_of s) place (value_of s)) c.place_at-from.ensures)
           c.refresh_since-then-stepped.ensures.does;
     }
 
