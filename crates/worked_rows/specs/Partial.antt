@@ -902,14 +902,14 @@ settings_155 = record plain {
   helping = aide true None;
 }
 
--- (a) Esc rX Enter = (aX | shows {} ( a ␛[2D␛[J␛[0;1;34m(␛[ma) {␛[0;1;34m(␛[ma)}␛[1D ␛[2D␛[J(aX␛[1D ␛[1C␍␊ {} ␍␊
+-- (a) Esc rX C-C = nothing | ends Interrupted | shows {} ( a ␛[2D␛[J␛[0;1;34m(␛[ma) {␛[0;1;34m(␛[ma)}␛[1D ␛[2D␛[J(aX␛[1D ␛[1C␍␊
 abbrev pub row_155 : Row
-row_155 = record (row 155 settings_155 (codes "(a)\u{1b}rX\r") (codes "(aX\n")) {
+row_155 = record (row 155 settings_155 (codes "(a)\u{1b}rX\u{3}") []) {
+  ends = Interrupted;
   shows = Some
       (codes "\r\u{1b}[J\u{1b}[m> \u{1b}[m\u{1b}[m\u{1b}[m(a\u{1b}[2D\u{1b}[J\u{1b}[0;1;34m(" ++
       codes "\u{1b}[ma)\r\u{1b}[J\u{1b}[m> \u{1b}[m\u{1b}[0;1;34m(\u{1b}[ma)\u{1b}[m\u{1b}[" ++
-      codes "m\u{1b}[1D\u{1b}[2D\u{1b}[J(aX\u{1b}[1D\u{1b}[1C\r\n\r\u{1b}[J\u{1b}[m> \u{1b}" ++
-      codes "[m\u{1b}[m\u{1b}[m\r\n");
+      codes "m\u{1b}[1D\u{1b}[2D\u{1b}[J(aX\u{1b}[1D\u{1b}[1C\r\n");
 }
 
 -- partial modal colours helped columns:8
