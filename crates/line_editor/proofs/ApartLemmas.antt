@@ -1,12 +1,11 @@
 -- Where no cluster lies over a place, in texts that begin alike.
 use Rattle.std.proofs.Common.{◌≡◌, ℕ, ◌-◌, ◌==◌, ◌<◌, ◌≤◌, nat_le, Bool, true, false, ◌&&◌, List, [], ◌∷◌, ◌++◌, take, drop, length, refl, sym, ap, ◌∙◌, subst, arith}
-use Rattle.std.specs.Prelude.{chars}
+use Rattle.std.specs.Prelude.{chars, encode_utf8_all}
 use Rattle.std.specs.Str.{is_utf8, IsUtf8}
 use Rattle.std.proofs.Math.Seq.{take-append_seam}
-use Rattle.std.proofs.lemmas.Bool.{and_parts, eqb-true, leb-true, le-leb}
-use Rattle.std.proofs.lemmas.Bool.Decides.{nat_tests}
+use Rattle.std.proofs.lemmas.Bool.{and_parts, eqb-true, eqb-false, leb-true, le-leb}
 use Rattle.std.proofs.lemmas.List.{take-append-drop, take-take, drop-append-le, length-drop, length-take-le}
-use Rattle.std.proofs.lemmas.Str.{IsUtf8-from_is_utf8, is_utf8-from_IsUtf8, IsUtf8-take, IsUtf8-append, IsCharBoundary-at_seam, chars-append, encodes-chars, encodes}
+use Rattle.std.proofs.lemmas.Str.{IsUtf8-from_is_utf8, is_utf8-from_IsUtf8, IsUtf8-take, IsUtf8-append, IsCharBoundary-at_seam, chars-append, encodes-chars}
 use Rattle.line_editor.specs.Characters.{starts_apart, begins_apart, begins_apart_at}
 
 both_true : (a b : Bool) → a ≡ true → b ≡ true → (a && b) ≡ true
@@ -20,7 +19,7 @@ starts_as front (c ∷ cs) xs ys some = refl
 some_chars : (bs : List ℕ) → IsUtf8 bs → 0 < length bs → 0 < length (chars bs)
 some_chars bs h some = by_chars (chars bs) (encodes-chars bs h)
   where
-    by_chars : (cs : List ℕ) → encodes cs ≡ bs → 0 < length cs
+    by_chars : (cs : List ℕ) → encode_utf8_all cs ≡ bs → 0 < length cs
     by_chars [] is = absurd (omega (arith, some, ap length is))
     by_chars (c ∷ cs) is = omega arith
 
@@ -84,7 +83,7 @@ module _ (kept from : ℕ) (text other : List ℕ) (low : kept ≤ from) (same :
   by_place : (b : Bool) → (kept == from) ≡ b → begins_apart_at text kept ≡ true
   by_place true is = ap (begins_apart_at text) (eqb-true kept from is) ∙ first
   by_place false is =
-      let less : kept < from = omega (arith, low, nat_tests, is) in
+      let less : kept < from = omega (arith, low, eqb-false kept from is) in
       both_true (nat_le kept (length text)) (begins_apart (take kept text) (drop kept text)) (le-leb kept (length text) (omega (arith, low, inside)))
       (both_true (is_utf8 (drop kept text)) (starts_apart (take kept text) (chars (drop kept text))) utf8 (starts less))
 

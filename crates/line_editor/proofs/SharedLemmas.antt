@@ -75,7 +75,11 @@ same_style-equal a b h =
 
 -- what both share is the same
 same_step : (x y : Style) (xs ys : List Style) (k : ℕ) (b : Bool) → same_style x y ≡ b → take k xs ≡ take k ys → take (cond b (1 + k) 0) (x ∷ xs) ≡ take (cond b (1 + k) 0) (y ∷ ys)
-same_step x y xs ys k true is h = ap₂ (λ z zs. z ∷ zs) (same_style-equal x y is) h
+same_step x y xs ys k true is h =
+    let next : 1 + k ≡ suc k = omega arith in
+    ap (λ m. take m (x ∷ xs)) next
+    ∙ ap₂ (λ z zs. z ∷ zs) (same_style-equal x y is) h
+    ∙ ap (λ m. take m (y ∷ ys)) (sym next)
 same_step x y xs ys k false is h = refl
 
 shared_same : (old new : List Style) → take (shared_styles old new) old ≡ take (shared_styles old new) new

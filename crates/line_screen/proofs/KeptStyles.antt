@@ -1,5 +1,5 @@
 -- The items of a text with styles: of its two parts, and by spans that agree on its bytes.
-use Rattle.std.proofs.Common.{◌≡◌, ℕ, zero, suc, ◌+◌, ◌<◌, ◌≤◌, ◌==◌, ◌&&◌, Bool, true, false, List, [], ◌∷◌, ◌++◌, map, take, drop, length, replicate, get_or, slice_index, Some, refl, sym, ap, ap₂, ◌∙◌, subst, arith, if◌then◌else◌}
+use Rattle.std.proofs.Common.{◌≡◌, ℕ, zero, suc, ◌+◌, ◌<◌, ◌≤◌, ◌==◌, ◌&&◌, Bool, true, false, List, [], ◌∷◌, ◌++◌, map, take, drop, length, replicate, get_or, slice_index, None, Some, refl, sym, ap, ap₂, ◌∙◌, subst, arith, if◌then◌else◌}
 use Rattle.std.specs.Prelude.{chars, encode_utf8, encode_utf8_all, IsUtf8}
 use Rattle.std.specs.Char.{IsScalar}
 use Rattle.std.specs.List.{list_all, flat_map, concat, onto_first}
@@ -39,7 +39,7 @@ size [] = 0
 size (item ∷ items) = bytes_in item + size items
 
 size_append : (xs ys : List DrawnItem) → size (xs ++ ys) ≡ size xs + size ys
-size_append [] ys = refl
+size_append [] ys = omega arith
 size_append (x ∷ xs) ys = let more = size_append xs ys in omega arith
 
 abbrev AllSome : List DrawnItem → Type 0
@@ -291,7 +291,6 @@ text_before text rest h =
 -- ---- the styles of spans, and of these as a control sequence has them
 
 plain_numbers : numbers plain ≡ []
-unfolding plain
 plain_numbers = refl
 
 map_replicate : {A B : Type 0} (f : A → B) (n : ℕ) (x : A) → map f (replicate n x) ≡ replicate n (f x)

@@ -856,73 +856,34 @@ row_147 = record (row 147 settings_138 (encode_utf8_all (codes "漢(é)\r")) (en
           codes "\u{1b}[m> \u{1b}[m\u{1b}[m\u{1b}[m\r\n"));
     }
 
--- ] Enter C-C = nothing | ends Interrupted | shows {} ␛[J] {]} {]␛[m␛[0;31mMismatched␠brackets:␠']'␠is␠unpaired␛[m␛[m␛[36D ␛[36C␍␊
-abbrev pub row_148 : Row
-row_148 = record (row 148 settings_138 (codes "]\r\u{3}") []) {
-  ends = Interrupted;
-  shows = Some (codes "\r\u{1b}[J\u{1b}[m> \u{1b}[m\u{1b}[m\u{1b}[m\u{1b}[J]\r\u{1b}[J\u{1b}[m> " ++
-      codes "\u{1b}[m]\u{1b}[m\u{1b}[m\r\u{1b}[J\u{1b}[m> \u{1b}[m]\u{1b}[m\u{1b}[0;31mMism" ++
-      codes "atched brackets: ']' is unpaired\u{1b}[m\u{1b}[m\u{1b}[36D\u{1b}[36C\r\n");
-}
-
--- [(a) Enter ] Enter = [(a)␊] | shows {} [ ( a ␛[2D␛[J␛[0;1;34m(␛[ma) {[(a)} ␛[J␍␊ ␛[1A␛[2C␛[J␛[0;1;34m[␛[m(a)␍␊] ␛[1A{[(a)␍␊]} ␍␊ {} ␍␊
-abbrev pub row_149 : Row
-row_149 = record (row 149 settings_138 (codes "[(a)\r]\r") (codes "[(a)\n]\n")) {
-  shows = Some
-      (codes "\r\u{1b}[J\u{1b}[m> \u{1b}[m\u{1b}[m\u{1b}[m[(a\u{1b}[2D\u{1b}[J\u{1b}[0;1;34m" ++
-      codes "(\u{1b}[ma)\r\u{1b}[J\u{1b}[m> \u{1b}[m[(a)\u{1b}[m\u{1b}[m\u{1b}[J\r\n\u{1b}[" ++
-      codes "1A\u{1b}[2C\u{1b}[J\u{1b}[0;1;34m[\u{1b}[m(a)\r\n]\u{1b}[1A\r\u{1b}[J\u{1b}[m>" ++
-      codes " \u{1b}[m[(a)\r\n]\u{1b}[m\u{1b}[m\r\n\r\u{1b}[J\u{1b}[m> \u{1b}[m\u{1b}[m" ++
-      codes "\u{1b}[m\r\n");
-}
-
--- partial modal colours helped columns:40
-abbrev pub settings_152 : Settings
-settings_152 = record plain {
-  config = partial (colours (modal plain.config));
-  columns = 40;
-  helping = aide true None;
-}
-
--- (] Enter Backspace ) Enter = () | shows {} ( ␛[J] {(]} {(]␛[m␛[0;31mMismatched␠brackets:␠'('␠is␠not␠prop␛[m␍␊␛[0;31merly␠closed␛[m␛[m␛[1A␛[7D ␛[1D␛[J ␛[1D␛[J␛[0;1;34m(␛[m) {()} ␍␊ {} ␍␊
-abbrev pub row_152 : Row
-row_152 = record (row 152 settings_152 (codes "(]\r\u{7f})\r") (codes "()\n")) {
-  shows = Some (codes "\r\u{1b}[J\u{1b}[m> \u{1b}[m\u{1b}[m\u{1b}[m(\u{1b}[J]\r\u{1b}[J\u{1b}[m> "
-      ++ codes "\u{1b}[m(]\u{1b}[m\u{1b}[m\r\u{1b}[J\u{1b}[m> \u{1b}[m(]\u{1b}[m\u{1b}[0;31mMi" ++
-      codes "smatched brackets: '(' is not prop\u{1b}[m\r\n\u{1b}[0;31merly closed\u{1b}[m" ++
-      codes "\u{1b}[m\u{1b}[1A\u{1b}[7D\u{1b}[1D\u{1b}[J\u{1b}[1D\u{1b}[J\u{1b}[0;1;34m(" ++
-      codes "\u{1b}[m)\r\u{1b}[J\u{1b}[m> \u{1b}[m()\u{1b}[m\u{1b}[m\r\n\r\u{1b}[J\u{1b}[m>" ++
-      codes " \u{1b}[m\u{1b}[m\u{1b}[m\r\n");
-}
-
 -- partial modal colours vi helped
-abbrev pub settings_155 : Settings
-settings_155 = record plain {
+abbrev pub settings_150 : Settings
+settings_150 = record plain {
   config = partial (colours (modal (vi plain.config)));
   helping = aide true None;
 }
 
--- (a) Esc rX Enter = (aX | shows {} ( a ␛[2D␛[J␛[0;1;34m(␛[ma) {␛[0;1;34m(␛[ma)}␛[1D ␛[2D␛[J(aX␛[1D ␛[1C␍␊ {} ␍␊
-abbrev pub row_155 : Row
-row_155 = record (row 155 settings_155 (codes "(a)\u{1b}rX\r") (codes "(aX\n")) {
+-- (a) Esc rX C-C = nothing | ends Interrupted | shows {} ( a ␛[2D␛[J␛[0;1;34m(␛[ma) {␛[0;1;34m(␛[ma)}␛[1D ␛[2D␛[J(aX␛[1D ␛[1C␍␊
+abbrev pub row_150 : Row
+row_150 = record (row 150 settings_150 (codes "(a)\u{1b}rX\u{3}") []) {
+  ends = Interrupted;
   shows = Some
       (codes "\r\u{1b}[J\u{1b}[m> \u{1b}[m\u{1b}[m\u{1b}[m(a\u{1b}[2D\u{1b}[J\u{1b}[0;1;34m(" ++
       codes "\u{1b}[ma)\r\u{1b}[J\u{1b}[m> \u{1b}[m\u{1b}[0;1;34m(\u{1b}[ma)\u{1b}[m\u{1b}[" ++
-      codes "m\u{1b}[1D\u{1b}[2D\u{1b}[J(aX\u{1b}[1D\u{1b}[1C\r\n\r\u{1b}[J\u{1b}[m> \u{1b}" ++
-      codes "[m\u{1b}[m\u{1b}[m\r\n");
+      codes "m\u{1b}[1D\u{1b}[2D\u{1b}[J(aX\u{1b}[1D\u{1b}[1C\r\n");
 }
 
 -- partial modal colours helped columns:8
-abbrev pub settings_159 : Settings
-settings_159 = record plain {
+abbrev pub settings_154 : Settings
+settings_154 = record plain {
   config = partial (colours (modal plain.config));
   columns = 8;
   helping = aide true None;
 }
 
 -- (abcdef) Enter = (abcdef) | shows {} ( a b c d e␍␊ f ␛[1A␛[1C␛[J␛[0;1;34m(␛[mabcde␍␊f) ␛[1A{(abcde␍␊f)} ␍␊ {} ␍␊
-abbrev pub row_159 : Row
-row_159 = record (row 159 settings_159 (codes "(abcdef)\r") (codes "(abcdef)\n")) {
+abbrev pub row_154 : Row
+row_154 = record (row 154 settings_154 (codes "(abcdef)\r") (codes "(abcdef)\n")) {
   shows = Some (codes "\r\u{1b}[J\u{1b}[m> \u{1b}[m\u{1b}[m\u{1b}[m(abcde\r\nf\u{1b}[1A\u{1b}[1C" ++
       codes "\u{1b}[J\u{1b}[0;1;34m(\u{1b}[mabcde\r\nf)\u{1b}[1A\r\u{1b}[J\u{1b}[m> \u{1b}[" ++
       codes "m(abcde\r\nf)\u{1b}[m\u{1b}[m\r\n\r\u{1b}[J\u{1b}[m> \u{1b}[m\u{1b}[m\u{1b}[m" ++
@@ -930,24 +891,24 @@ row_159 = record (row 159 settings_159 (codes "(abcdef)\r") (codes "(abcdef)\n")
 }
 
 -- xyabcdef(g) Enter = xyabcdef(g) | shows {} x y a b c d␍␊ e f ( g ␛[2D␛[J␛[0;1;34m(␛[mg) ␛[1A{xyabcd␍␊ef(g)} ␍␊ {} ␍␊
-abbrev pub row_160 : Row
-row_160 = record (row 160 settings_159 (codes "xyabcdef(g)\r") (codes "xyabcdef(g)\n")) {
+abbrev pub row_155 : Row
+row_155 = record (row 155 settings_154 (codes "xyabcdef(g)\r") (codes "xyabcdef(g)\n")) {
   shows = Some (codes "\r\u{1b}[J\u{1b}[m> \u{1b}[m\u{1b}[m\u{1b}[mxyabcd\r\nef(g\u{1b}[2D\u{1b}[J"
       ++ codes "\u{1b}[0;1;34m(\u{1b}[mg)\u{1b}[1A\r\u{1b}[J\u{1b}[m> \u{1b}[mxyabcd\r\nef(g)" ++
       codes "\u{1b}[m\u{1b}[m\r\n\r\u{1b}[J\u{1b}[m> \u{1b}[m\u{1b}[m\u{1b}[m\r\n");
 }
 
 -- xyabcd(e) Enter = xyabcd(e) | shows {} x y a b c d␍␊ ( e ␛[2D␛[J␛[0;1;34m(␛[me) ␛[1A{xyabcd␍␊(e)} ␍␊ {} ␍␊
-abbrev pub row_161 : Row
-row_161 = record (row 161 settings_159 (codes "xyabcd(e)\r") (codes "xyabcd(e)\n")) {
+abbrev pub row_156 : Row
+row_156 = record (row 156 settings_154 (codes "xyabcd(e)\r") (codes "xyabcd(e)\n")) {
   shows = Some (codes "\r\u{1b}[J\u{1b}[m> \u{1b}[m\u{1b}[m\u{1b}[mxyabcd\r\n(e\u{1b}[2D\u{1b}[J" ++
       codes "\u{1b}[0;1;34m(\u{1b}[me)\u{1b}[1A\r\u{1b}[J\u{1b}[m> \u{1b}[mxyabcd\r\n(e)" ++
       codes "\u{1b}[m\u{1b}[m\r\n\r\u{1b}[J\u{1b}[m> \u{1b}[m\u{1b}[m\u{1b}[m\r\n");
 }
 
 -- abcde(f) Enter = abcde(f) | shows {} a b c d e (␍␊ f ␛[1A␛[6C␛[J␛[0;1;34m(␛[m␍␊␛[0;1;34m␛[mf) ␛[1A{abcde(␍␊f)} ␍␊ {} ␍␊
-abbrev pub row_162 : Row
-row_162 = record (row 162 settings_159 (codes "abcde(f)\r") (codes "abcde(f)\n")) {
+abbrev pub row_157 : Row
+row_157 = record (row 157 settings_154 (codes "abcde(f)\r") (codes "abcde(f)\n")) {
   shows = Some (codes "\r\u{1b}[J\u{1b}[m> \u{1b}[m\u{1b}[m\u{1b}[mabcde(\r\nf\u{1b}[1A\u{1b}[6C" ++
       codes "\u{1b}[J\u{1b}[0;1;34m(\u{1b}[m\r\n\u{1b}[0;1;34m\u{1b}[mf)\u{1b}[1A\r\u{1b}[J" ++
       codes "\u{1b}[m> \u{1b}[mabcde(\r\nf)\u{1b}[m\u{1b}[m\r\n\r\u{1b}[J\u{1b}[m> \u{1b}[m" ++
@@ -955,16 +916,16 @@ row_162 = record (row 162 settings_159 (codes "abcde(f)\r") (codes "abcde(f)\n")
 }
 
 -- partial colours helped loaded:#V2␊f(x)y␊
-abbrev pub settings_166 : Settings
-settings_166 = record plain {
+abbrev pub settings_161 : Settings
+settings_161 = record plain {
   config = partial (colours plain.config);
   helping = aide true None;
   loaded = codes "#V2\nf(x)y\n";
 }
 
 -- f(x) Enter = f(x) | shows {} ␛[Jf␛[m␛[0;2m(x)y␛[m␛[m␛[4D ␛[J(␛[m␛[0;2mx)y␛[m␛[m␛[3D ␛[Jx␛[m␛[0;2m)y␛[m␛[m␛[2D ␛[2D␛[J␛[0;1;34m(␛[mx)␛[m␛[0;2my␛[m␛[m␛[1D {f(x)} ␍␊ {} ␍␊
-abbrev pub row_166 : Row
-row_166 = record (row 166 settings_166 (codes "f(x)\r") (codes "f(x)\n")) {
+abbrev pub row_161 : Row
+row_161 = record (row 161 settings_161 (codes "f(x)\r") (codes "f(x)\n")) {
   shows = Some (codes "\r\u{1b}[J\u{1b}[m> \u{1b}[m\u{1b}[m\u{1b}[m\u{1b}[Jf\u{1b}[m\u{1b}[0;2m(x)y"
       ++ codes "\u{1b}[m\u{1b}[m\u{1b}[4D\u{1b}[J(\u{1b}[m\u{1b}[0;2mx)y\u{1b}[m\u{1b}[m\u{1b}" ++
       codes "[3D\u{1b}[Jx\u{1b}[m\u{1b}[0;2m)y\u{1b}[m\u{1b}[m\u{1b}[2D\u{1b}[2D\u{1b}[J" ++
@@ -983,4 +944,4 @@ partial_rows = row_8 ∷ row_9 ∷ row_10 ∷ row_11 ∷ row_12 ∷ row_15 ∷ r
     row_95 ∷ row_96 ∷ row_99 ∷ row_100 ∷ row_104 ∷ row_105 ∷ row_106 ∷ row_107 ∷ row_108 ∷ row_111 ∷
     row_112 ∷ row_116 ∷ row_120 ∷ row_121 ∷ row_122 ∷ row_125 ∷ row_129 ∷ row_130 ∷ row_131 ∷
     row_134 ∷ row_138 ∷ row_139 ∷ row_140 ∷ row_141 ∷ row_144 ∷ row_145 ∷ row_146 ∷ row_147 ∷
-    row_148 ∷ row_149 ∷ row_152 ∷ row_155 ∷ row_159 ∷ row_160 ∷ row_161 ∷ row_162 ∷ row_166 ∷ []
+    row_150 ∷ row_154 ∷ row_155 ∷ row_156 ∷ row_157 ∷ row_161 ∷ []

@@ -10,11 +10,8 @@ use Rattle.worked_rows.proofs.partial.Goals as goal
 abbrev part : ℕ → List Row
 part n = take 5 (drop n partial_rows)
 
-abbrev from_95 : List Row
-from_95 = drop 95 partial_rows
-
 abbrev from_90 : List Row
-from_90 = part 90 ++ from_95
+from_90 = drop 90 partial_rows
 
 abbrev from_85 : List Row
 from_85 = part 85 ++ from_90
@@ -271,27 +268,16 @@ unshown-85 = refl
 shown-85 : AllShown (short (part 85))
 shown-85 = all_shown (short (part 85)) unshown-85
 
-given-90 : differing (part 90) ≡ []
+given-90 : differing from_90 ≡ []
 unfolding computing
 given-90 = refl
 
-unshown-90 : unshown (short (part 90)) ≡ []
+unshown-90 : unshown (short from_90) ≡ []
 unfolding computing
 unshown-90 = refl
 
-shown-90 : AllShown (short (part 90))
-shown-90 = all_shown (short (part 90)) unshown-90
-
-given-95 : differing from_95 ≡ []
-unfolding computing
-given-95 = refl
-
-unshown-95 : unshown (short from_95) ≡ []
-unfolding computing
-unshown-95 = refl
-
-shown-95 : AllShown (short from_95)
-shown-95 = all_shown (short from_95) unshown-95
+shown-90 : AllShown (short from_90)
+shown-90 = all_shown (short from_90) unshown-90
 
 pub returns-clause-given : goal.returns-clause-given
 returns-clause-given c = subst (λ rows. differing rows ≡ []) all-rows
@@ -312,8 +298,7 @@ returns-clause-given c = subst (λ rows. differing rows ≡ []) all-rows
     (both_given (part 70) from_75 given-70
     (both_given (part 75) from_80 given-75
     (both_given (part 80) from_85 given-80
-    (both_given (part 85) from_90 given-85
-    (both_given (part 90) from_95 given-90 given-95)))))))))))))))))))
+    (both_given (part 85) from_90 given-85 given-90))))))))))))))))))
 
 pub returns-clause-shown : goal.returns-clause-shown
 returns-clause-shown c = subst (λ rows. AllShown (short rows)) all-rows
@@ -334,5 +319,4 @@ returns-clause-shown c = subst (λ rows. AllShown (short rows)) all-rows
     (both_shown (part 70) from_75 shown-70
     (both_shown (part 75) from_80 shown-75
     (both_shown (part 80) from_85 shown-80
-    (both_shown (part 85) from_90 shown-85
-    (both_shown (part 90) from_95 shown-90 shown-95)))))))))))))))))))
+    (both_shown (part 85) from_90 shown-85 shown-90))))))))))))))))))

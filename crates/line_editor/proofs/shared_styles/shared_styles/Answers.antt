@@ -38,6 +38,6 @@ returns c =
       | in-Some-Some+then-both-gt0+then-ne w ↦
           stops_by c.args.upto c.args.old.now c.args.new.now l.left l.old.now l.old_used l.new.now l.new_used l.invariant w.in-Some-Some.a.now w.in-Some-Some.b.now w.in-Some-Some.ensures.value w.in-Some-Some.ensures'.value
           w.min-both.result (omega (arith, w.min-both.ensures)) (omega (arith, w.min-both.ensures)) (omega (arith, w.if-both-gt0.true)) (not_true (same_style w.in-Some-Some.a.now.style w.in-Some-Some.b.now.style) (sym w.ne.ensures ∙ w.if-ne.true))
-      | in_default w ↦ spent_new_by c.args.upto c.args.old.now c.args.new.now l.left l.old.now l.old_used l.new.now l.new_used l.invariant w.in_default.ensures.value
+      | in_default w ↦ spent_new_by c.args.upto c.args.old.now c.args.new.now l.left l.old.now l.old_used l.new.now l.new_used l.invariant w.in_default.ensures'.value
       | in_default-2 w ↦ spent_old_by c.args.upto c.args.old.now c.args.new.now l.left l.old.now l.old_used l.new.now l.new_used l.invariant w.in_default.ensures.value
     ]

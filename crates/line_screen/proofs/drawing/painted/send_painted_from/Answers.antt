@@ -21,7 +21,7 @@ returns-in-None g c =
     let All : List PaintedItem → Type 0 = λ items. SendsPainted items c.args.start columns g.D.Sink.held g.D.Sink.has_failed c.args.sink.now c.send_text.new.sink c.send_text.result in
     let Bare : List ℕ → Type 0 = λ bytes. SendsItems (text_items wide bytes) c.args.start columns g.D.Sink.held g.D.Sink.has_failed c.args.sink.now c.send_text.new.sink c.send_text.result in
     subst All (bare_text wide spans rest none)
-    (sends_items g.D.Sink.held g.D.Sink.has_failed columns (text_items wide rest) c.args.start (subst Bare c.range_from.ensures.value c.send_text.ensures))
+    (sends_items g.D.Sink.held g.D.Sink.has_failed columns (text_items wide rest) c.args.start (subst Bare c.range_from-rest.ensures.value c.send_text.ensures))
 
 pub returns-in-Some : goal.returns-in-Some
 returns-in-Some g c =
@@ -33,4 +33,4 @@ returns-in-Some g c =
     SendsPainted (painted_text wide spans bytes) c.args.start columns g.D.Sink.held g.D.Sink.has_failed c.args.sink.now c.send_painted_rows.new.sink c.send_painted_rows.result in
     let spans_are = c.skip-spans.ensures ∙ ap (skip c.args.from) (all_left paints c.all.result c.all.ensures.first c.all.ensures.mark) in
     subst (λ spans. All spans (drop c.args.from brush.text.now)) spans_are
-    (subst (All (spans_in paints c.skip-spans.result)) c.range_from.ensures.value c.send_painted_rows.ensures)
+    (subst (All (spans_in paints c.skip-spans.result)) c.range_from-rest.ensures.value c.send_painted_rows.ensures)
