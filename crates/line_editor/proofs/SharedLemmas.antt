@@ -1,7 +1,6 @@
 -- Styles that a line has in two drawings.
 use Rattle.std.proofs.Common.{◌≡◌, ℕ, zero, suc, ◌+◌, ◌-◌, ◌==◌, ◌<◌, ◌≤◌, nat_lt, Bool, true, false, true≢false, cond, ◌&&◌, List, [], ◌∷◌, ◌++◌, take, drop, length, length-append, replicate, Option, Some, None, refl, sym, ap, ap₂, ◌∙◌, subst, append_assoc, append-nil, arith, if◌then◌else◌, set, not, slice_get}
 use Rattle.std.specs.Cmp.{booleans_Decides}
-use Rattle.std.specs.List.{common_prefix_len, flat_map}
 use Rattle.std.proofs.lemmas.Bool.{and_parts, eqb-true, ltb-true, ltb-false}
 use Rattle.std.proofs.lemmas.List.{length-replicate, length-drop, length-take, drop-replicate, take-replicate, replicate-append-replicate, take-append-drop, take-append-le, drop-append-le}
 use Rattle.std.proofs.Math.Bool.{beq}
@@ -18,7 +17,7 @@ use Rattle.line_help.specs.declared.helpers.style.Hue.{Hue}
 use Rattle.line_help.specs.declared.helpers.style.Hue.TheVariants.{Black, Red, Green, Yellow, Blue, Magenta, Cyan, White}
 use Rattle.line_help.specs.declared.helpers.style.Span.{Span}
 use Rattle.line_help.specs.declared.helpers.style.Style.{Style}
-use Rattle.line_editor.specs.SharedStyles.{span_styles, styles_to, most_spans, told_styles, same_style, shared_styles, plain_rest, first_spans, AreFirst, spans_told, is_used, styles_in}
+use Rattle.line_editor.specs.SharedStyles.{span_styles, styles_to, most_spans, told_styles, same_style, shared_styles, plain_rest, first_spans, AreFirst, is_used, styles_in}
 
 -- ---- styles that compare as the same are
 
@@ -195,18 +194,18 @@ module _ (upto : ℕ) (old new : List Span) (left : ℕ) (a : Span) (o : List Sp
   pub walk_stops : (k : ℕ) → k ≤ a.len - i → k ≤ b.len - j → 0 < k → same_style a.style b.style ≡ false → shared_in upto (span_styles old) (span_styles new) ≡ upto - left
   walk_stops k near close some other =
       let none : shared_in left (left_in i (a ∷ o)) (left_in j (b ∷ n)) ≡ 0 =
-          ap (λ xs. shared_in left xs (left_in j (b ∷ n))) (opened i a o h.old_low)
-          ∙ ap (λ xs. shared_in left (replicate (a.len - i) a.style ++ span_styles o) xs) (opened j b n h.new_low)
-          ∙ run_stops left (a.len - i) (b.len - j) a.style b.style (span_styles o) (span_styles n) other (omega (arith, some, near)) (omega (arith, some, close)) in
+      ap (λ xs. shared_in left xs (left_in j (b ∷ n))) (opened i a o h.old_low)
+      ∙ ap (λ xs. shared_in left (replicate (a.len - i) a.style ++ span_styles o) xs) (opened j b n h.new_low)
+      ∙ run_stops left (a.len - i) (b.len - j) a.style b.style (span_styles o) (span_styles n) other (omega (arith, some, near)) (omega (arith, some, close)) in
       omega (arith, h.shared, none)
 
   -- all that is asked for is the same
   pub walk_ends : (k : ℕ) → k ≤ a.len - i → k ≤ b.len - j → (0 < k → same_style a.style b.style ≡ true) → left ≤ k → shared_in upto (span_styles old) (span_styles new) ≡ upto
   walk_ends k near close same all =
       let whole : shared_in left (left_in i (a ∷ o)) (left_in j (b ∷ n)) ≡ left =
-          ap (λ xs. shared_in left xs (left_in j (b ∷ n))) (opened i a o h.old_low)
-          ∙ ap (λ xs. shared_in left (replicate (a.len - i) a.style ++ span_styles o) xs) (opened j b n h.new_low)
-          ∙ run_full left (a.len - i) (b.len - j) a.style b.style (span_styles o) (span_styles n) (λ some. same (omega (arith, some, all))) (omega (arith, all, near)) (omega (arith, all, close)) in
+      ap (λ xs. shared_in left xs (left_in j (b ∷ n))) (opened i a o h.old_low)
+      ∙ ap (λ xs. shared_in left (replicate (a.len - i) a.style ++ span_styles o) xs) (opened j b n h.new_low)
+      ∙ run_full left (a.len - i) (b.len - j) a.style b.style (span_styles o) (span_styles n) (λ some. same (omega (arith, some, all))) (omega (arith, all, near)) (omega (arith, all, close)) in
       omega (arith, h.shared, whole, h.low)
 
   -- a step on
@@ -216,9 +215,9 @@ module _ (upto : ℕ) (old new : List Span) (left : ℕ) (a : Span) (o : List Sp
       let old_behind = passed (i + k) a o (omega (arith, near, h.old_low)) in
       let new_behind = passed (j + k) b n (omega (arith, close, h.new_low)) in
       let run : shared_in left (left_in i (a ∷ o)) (left_in j (b ∷ n)) ≡ k + shared_in (left - k) (left_in (i + k) (a ∷ o)) (left_in (j + k) (b ∷ n)) =
-          ap (λ xs. shared_in left xs (left_in j (b ∷ n))) (cut_at k a o i h.old_low near)
-          ∙ ap (λ xs. shared_in left (replicate k a.style ++ left_in (i + k) (a ∷ o)) xs) (cut_at k b n j h.new_low close)
-          ∙ run_shared k left a.style b.style (left_in (i + k) (a ∷ o)) (left_in (j + k) (b ∷ n)) same low in
+      ap (λ xs. shared_in left xs (left_in j (b ∷ n))) (cut_at k a o i h.old_low near)
+      ∙ ap (λ xs. shared_in left (replicate k a.style ++ left_in (i + k) (a ∷ o)) xs) (cut_at k b n j h.new_low close)
+      ∙ run_shared k left a.style b.style (left_in (i + k) (a ∷ o)) (left_in (j + k) (b ∷ n)) same low in
       let sum : shared_in upto (span_styles old) (span_styles new) ≡ (upto - (left - k)) + shared_in (left - k) (left_in (i + k) (a ∷ o)) (left_in (j + k) (b ∷ n)) = omega (arith, h.shared, run, h.low, low) in
       record {
         low = omega (arith, h.low);
@@ -322,8 +321,7 @@ told_front n spans = by_test (nat_lt (length spans) most_spans)
         let some = span_styles (take most_spans spans) in
         let more = span_styles (drop most_spans spans) in
         let none = replicate n plain in
-        let whole : some ++ more ≡ span_styles spans = sym (flat_map-append (λ (s : Span). replicate s.len s.style) (take most_spans spans) (drop most_spans spans)) ∙ ap span_styles (take-append-drop most_spans spans) in
-        (
+        let whole : some ++ more ≡ span_styles spans = sym (flat_map-append (λ (s : Span). replicate s.len s.style) (take most_spans spans) (drop most_spans spans)) ∙ ap span_styles (take-append-drop most_spans spans) in (
           drop n some ++ (more ++ none),
           sym (append_assoc (take n some) (drop n some) (more ++ none))
               ∙ ap (λ xs. xs ++ (more ++ none)) (take-append-drop n some)
@@ -344,9 +342,9 @@ styles_front k n spans low =
     let sum : k + (n - k) ≡ n = omega (arith, low) in
     let parts : replicate k plain ++ replicate (n - k) plain ≡ replicate n plain = replicate-append-replicate k (n - k) plain ∙ ap (λ m. replicate m plain) sum in
     sym (
-      ap (λ xs. take k (all ++ xs)) (sym parts)
-          ∙ ap (take k) (sym (append_assoc all (replicate k plain) (replicate (n - k) plain)))
-          ∙ take-append-le k (all ++ replicate k plain) (replicate (n - k) plain) (omega (arith, length-append all (replicate k plain), length-replicate k plain))
+    ap (λ xs. take k (all ++ xs)) (sym parts)
+    ∙ ap (take k) (sym (append_assoc all (replicate k plain) (replicate (n - k) plain)))
+    ∙ take-append-le k (all ++ replicate k plain) (replicate (n - k) plain) (omega (arith, length-append all (replicate k plain), length-replicate k plain))
     )
 
 told_is : (k n : ℕ) (spans : List Span) → k ≤ length (told_styles n spans) → styles_to k spans ≡ take k (told_styles n spans)
@@ -360,8 +358,7 @@ told_is k n spans low =
 pub kept_styles : (n : ℕ) (old new : List Span) (k : ℕ) → k ≡ shared_styles (told_styles n old) (told_styles n new) → (k ≤ n) × (styles_to k new ≡ styles_to k old)
 kept_styles n old new k is =
     let low = common_prefix_len-le same_style (told_styles n old) (told_styles n new) in
-    let same : take k (told_styles n old) ≡ take k (told_styles n new) = subst (λ m. take m (told_styles n old) ≡ take m (told_styles n new)) (sym is) (shared_same (told_styles n old) (told_styles n new)) in
-    (
+    let same : take k (told_styles n old) ≡ take k (told_styles n new) = subst (λ m. take m (told_styles n old) ≡ take m (told_styles n new)) (sym is) (shared_same (told_styles n old) (told_styles n new)) in (
       omega (arith, is, low.0, told_short n old),
       told_is k n new (omega (arith, is, low.1)) ∙ sym same ∙ sym (told_is k n old (omega (arith, is, low.0))),
     )
@@ -377,9 +374,9 @@ padded n spans = by_test (nat_lt (length spans) most_spans) refl
         let size : length spans + suc more ≡ most_spans = omega (arith, few) in
         let rest = span_styles (replicate more (plain_rest n)) in
         let first : first_spans n spans ≡ spans ++ replicate (suc more) (plain_rest n) =
-            ap (λ m. take m (spans ++ replicate most_spans (plain_rest n))) (sym size)
-            ∙ take-append-add spans (replicate most_spans (plain_rest n)) (suc more)
-            ∙ ap (λ xs. spans ++ xs) (take-replicate (suc more) most_spans (plain_rest n) (omega (arith, size))) in
+        ap (λ m. take m (spans ++ replicate most_spans (plain_rest n))) (sym size)
+        ∙ take-append-add spans (replicate most_spans (plain_rest n)) (suc more)
+        ∙ ap (λ xs. spans ++ xs) (take-replicate (suc more) most_spans (plain_rest n) (omega (arith, size))) in
         ap (λ xs. take n (span_styles xs)) first
         ∙ ap (take n) (flat_map-append (λ (s : Span). replicate s.len s.style) spans (replicate (suc more) (plain_rest n)))
         ∙ ap (take n) (sym (append_assoc (span_styles spans) (replicate n plain) rest))
@@ -425,12 +422,12 @@ collected_is n all first count rest h tail =
     let none = replicate most_spans (plain_rest n) in
     let size : length h.seen + (most_spans - count) ≡ most_spans = omega (arith, h.size, h.low) in
     sym (
-      ap (λ xs. take most_spans (xs ++ none)) (sym h.whole)
-          ∙ ap (take most_spans) (append_assoc h.seen rest none)
-          ∙ ap (λ m. take m (h.seen ++ (rest ++ none))) (sym size)
-          ∙ take-append-add h.seen (rest ++ none) (most_spans - count)
-          ∙ ap (λ xs. h.seen ++ xs) tail
-          ∙ sym h.array
+    ap (λ xs. take most_spans (xs ++ none)) (sym h.whole)
+    ∙ ap (take most_spans) (append_assoc h.seen rest none)
+    ∙ ap (λ m. take m (h.seen ++ (rest ++ none))) (sym size)
+    ∙ take-append-add h.seen (rest ++ none) (most_spans - count)
+    ∙ ap (λ xs. h.seen ++ xs) tail
+    ∙ sym h.array
     )
 
 -- the array is full
