@@ -11,11 +11,12 @@
 //! what a row's result is.
 //!
 //! `helper: InvalidTold no` sets a helper with its verdict and its message, which never fails. For
-//! that helper, `marks: 2` is the place at which it highlights, and `takes: no` says that its hints
-//! are only shown. `hint-fails: 3`, `verdict-fails: 3` and `completion-fails: 3` are the length of
-//! the texts from which on it fails. `update-fails: 3` is the length of the words from which on it
-//! inserts none. `wants-memory: yes` makes it run out of memory there. `offers: 3 alpha alpine`
-//! sets where each word starts and its candidates.
+//! that helper, `marks: 2` is the place at which it highlights, `twins: yes` says that a byte before
+//! the same one is bold, and `takes: no` that its hints are only shown. `hint-fails: 3`,
+//! `verdict-fails: 3` and `completion-fails: 3` are the length of the texts from which on it fails.
+//! `update-fails: 3` is the length of the words from which on it inserts none. `wants-memory: yes`
+//! makes it run out of memory there. `offers: 3 alpha alpine` sets where each word starts and its
+//! candidates.
 
 use crate::calls::CallList;
 use crate::helpers::{Adviser, Offer, Verdict};

@@ -3,7 +3,6 @@ use Rattle.std.proofs.Common.{◌≡◌, ℕ, ◌+◌, ◌-◌, ◌==◌, ◌||�
 use Rattle.std.specs.Prelude.{⊤, chars}
 use Rattle.std.specs.List.{list_all, last_or, insert_slice, replace_range}
 use Rattle.std.proofs.lemmas.Bool.{and_parts, eqb-true, leb-true, ltb-true}
-use Rattle.std.proofs.lemmas.Option.{same_Some}
 use Rattle.std.proofs.lemmas.List.{drop_all, take-append-drop, length-drop, length-take, length-take-le, take-take, drop-drop}
 use Rattle.std.proofs.lemmas.Str.{encode_ascii}
 use Rattle.unicode_segmentation.proofs.TextLemmas.{encode_utf8_nonempty}

@@ -1,7 +1,6 @@
 -- Styles that a line has in two drawings.
 use Rattle.std.proofs.Common.{◌≡◌, ℕ, zero, suc, ◌+◌, ◌-◌, ◌==◌, ◌<◌, ◌≤◌, nat_lt, Bool, true, false, true≢false, cond, ◌&&◌, List, [], ◌∷◌, ◌++◌, take, drop, length, length-append, replicate, Option, Some, None, refl, sym, ap, ap₂, ◌∙◌, subst, append_assoc, append-nil, arith, if◌then◌else◌, set, not, slice_get}
 use Rattle.std.specs.Cmp.{booleans_Decides}
-use Rattle.std.specs.List.{common_prefix_len, flat_map}
 use Rattle.std.proofs.lemmas.Bool.{and_parts, eqb-true, ltb-true, ltb-false}
 use Rattle.std.proofs.lemmas.List.{length-replicate, length-drop, length-take, drop-replicate, take-replicate, replicate-append-replicate, take-append-drop, take-append-le, drop-append-le}
 use Rattle.std.proofs.Math.Bool.{beq}
@@ -18,7 +17,7 @@ use Rattle.line_help.specs.declared.helpers.style.Hue.{Hue}
 use Rattle.line_help.specs.declared.helpers.style.Hue.TheVariants.{Black, Red, Green, Yellow, Blue, Magenta, Cyan, White}
 use Rattle.line_help.specs.declared.helpers.style.Span.{Span}
 use Rattle.line_help.specs.declared.helpers.style.Style.{Style}
-use Rattle.line_editor.specs.SharedStyles.{span_styles, styles_to, most_spans, told_styles, same_style, shared_styles, plain_rest, first_spans, AreFirst, spans_told, is_used, styles_in}
+use Rattle.line_editor.specs.SharedStyles.{span_styles, styles_to, most_spans, told_styles, same_style, shared_styles, plain_rest, first_spans, AreFirst, is_used, styles_in}
 
 -- ---- styles that compare as the same are
 

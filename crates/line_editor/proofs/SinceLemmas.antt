@@ -2,7 +2,7 @@
 use Rattle.std.proofs.Common.{◌≡◌, ℕ, ◌&&◌, Bool, true, false, List, Option, Some, None, refl, sym, ap, ◌∙◌, if◌then◌else◌}
 use Rattle.std.proofs.lemmas.Option.{same_Some}
 use Rattle.line_help.specs.declared.helpers.style.Style.{Style}
-use Rattle.line_editor.specs.Drawing.{Since, redraw_of, kept_upto, may_begin_at, redraw_since, draw_effect_since, draw_effect_behind}
+use Rattle.line_editor.specs.Drawing.{Since, redraw_of, kept_upto, may_begin_at, draw_effect_since, draw_effect_behind}
 use Rattle.line_editor.specs.Redraws.{Redraw}
 use Rattle.line_editor.specs.Redraws.Redraw.{DrawnFrom}
 use Rattle.line_editor.specs.Values.{Value, Setting, draw_effect, shown_hint}

@@ -1,6 +1,6 @@
 -- A text put in, and what is drawn then.
 use Rattle.std.proofs.Common.{◌≡◌, ℕ, ◌||◌, Bool, true, false, List, [], ◌∷◌, refl, sym, ap, ◌∙◌, if◌then◌else◌}
-use Rattle.std.specs.Prelude.{⊤, ◌&&◌, not, Option, Some, None, is_some, Result, Ok, Err, IsErrAnd}
+use Rattle.std.specs.Prelude.{⊤, Option, is_some, Result, Ok, Err, IsErrAnd}
 use Rattle.line_buffer.specs.Insertions.{yank as yanked_in}
 use Rattle.line_buffer.specs.Line.{Line}
 use Rattle.line_buffer.specs.declared.types.Anchor.{Anchor}

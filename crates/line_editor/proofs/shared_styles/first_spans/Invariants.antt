@@ -1,5 +1,5 @@
 use Rattle.std.proofs.Common.{◌-◌}
-use Rattle.line_help.specs.Paints.{Marks, first_mark}
+use Rattle.line_help.specs.Paints.{first_mark}
 use Rattle.line_editor.specs.SharedStyles.{most_spans}
 use Rattle.line_editor.proofs.SharedLemmas.{Collected}
 use Rattle.line_editor.proofs.shared_styles.first_spans.Given as goal

@@ -1,4 +1,4 @@
-use Rattle.std.proofs.Common.{◌≡◌, ◌<◌, ◌≤◌, ◌-◌, true, sym, ◌∙◌, arith}
+use Rattle.std.proofs.Common.{◌≡◌, ◌<◌, ◌-◌, true, sym, ◌∙◌, arith}
 use Rattle.line_editor.specs.SharedStyles.{same_style}
 use Rattle.line_editor.proofs.SharedLemmas.{not_false, not_true, stops_by, ends_by, goes_by, spent_old_by, spent_new_by}
 use Rattle.line_editor.proofs.shared_styles.shared_styles.Goals as goal

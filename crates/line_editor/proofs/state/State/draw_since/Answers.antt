@@ -1,4 +1,4 @@
-use Rattle.std.proofs.Common.{◌≡◌, true, sym, ◌∙◌}
+use Rattle.std.proofs.Common.{true, sym, ◌∙◌}
 use Rattle.line_editor.specs.Drawing.{draw_effect_since, draw_effect_behind}
 use Rattle.line_editor.specs.Redraws.Redraw.{DrawnFrom}
 use Rattle.line_editor.specs.States.{value_of, setting_of}

@@ -1,6 +1,5 @@
 use Rattle.std.proofs.Common.{sym, ap, ◌∙◌}
 use Rattle.line_editor.specs.Characters.{begins_apart_at}
-use Rattle.line_editor.specs.States.{setting_of}
 use Rattle.line_editor.proofs.SharedLemmas.{told_by_first}
 use Rattle.line_editor.proofs.SinceLemmas.{since_noted}
 use Rattle.line_editor.proofs.state.State.since.Goals as goal
