@@ -336,7 +336,8 @@ fn rest_of<'a, H: Highlighter>(
     layout: &Layout,
 ) -> Rest<'a, H>
     ensures styles { styles_after H.marks result
-        ≡ line_styles (marks_seen marked told (option_map H.marks (option_copied highlighter.entry)))
+        ≡ line_styles
+        (marks_seen marked told (option_map H.marks (option_copied highlighter.entry)))
         line.now.text line.now.place info.now }
     ensures line { result.line.text.now ≡ line.now.text }
     ensures from { result.from ≡ from }
@@ -360,8 +361,9 @@ fn brush_of_line<'a, H: Highlighter>(
     line: &'a LineBuffer,
 ) -> Brush<'a, H>
     ensures styles { brush_spans H.marks result
-        ≡ (line_styles (marks_seen marked false
-        (option_map H.marks (option_copied highlighter.entry))) line.now.text line.now.place []).line }
+        ≡ (line_styles
+        (marks_seen marked false (option_map H.marks (option_copied highlighter.entry)))
+        line.now.text line.now.place []).line }
     ensures text { result.text.now ≡ line.now.text }
 {
     Brush {
