@@ -3,9 +3,9 @@ use Rattle.std.proofs.Common.{◌≡◌, ℕ, suc, ◌+◌, ◌≤◌, Bool, tru
 use Rattle.std.specs.Prelude.{codes, ◌&&◌, ◌||◌, ◌==◌, nat_lt, take, slice_index}
 use Rattle.line_config.specs.declared.device.Last.{Last}
 use Rattle.line_config.specs.declared.settings.EditMode.{EditMode}
-use Rattle.line_config.specs.declared.settings.EditMode.TheVariants.{Emacs, Vi}
+use Rattle.line_config.specs.declared.settings.EditMode.TheVariants.{Vi}
 use Rattle.line_keys.specs.Keys.{alt, key_of, none}
-use Rattle.line_screen.specs.Input.{AtBad, AtEnd, AtFailure, Chars, Continuation, Inside, Next, Over, Stop, Torn, after_byte, char_then, chars_of, in_char, lead_in, lead_rows, value_with, is_scalar}
+use Rattle.line_screen.specs.Input.{AtBad, AtFailure, Chars, Continuation, Next, Over, Stop, after_byte, char_then, chars_of, in_char, lead_in, lead_rows, value_with, is_scalar}
 use Rattle.line_screen.specs.KeyGrammar.{Cut, Key, Paste, Readings, Stops, announces, byte_is, coming_of, esc, in_escape, in_paste, in_sequence, keeps_byte, lone_escape, marker, paste_with_char, readings}
 use Rattle.line_screen.specs.Sequences.{awaits_more, sequence_key}
 use Rattle.keyline.specs.Sessions.{coming_from}

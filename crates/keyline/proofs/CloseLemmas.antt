@@ -102,41 +102,37 @@ module _ {D L : Type 0} (shown : D → List ℕ) (show_failed : D → Bool) (wri
   row_done adds d d' l h coming drawn = record { drawn = drawn; wrote = takes_none written_in l l refl; history_is = sym (remembered_none adds h); left_is = refl; answered = tt }
 
   -- the display failed
-  closes_undrawn : (adds : Bool) (outcome : Result (List ℕ) ReadlineError) (d d' : D) (l : L) (h : Filed) (result : Result (List ℕ) ReadlineError) (e : ReadlineError)
-      → Breaks' outcome → result ≡ Err e → e ≡ Display → IsTrue (show_failed d') → TakesSome shown d d' row_break → Ends adds outcome (work d l h) (work d' l h) result
-  closes_undrawn adds outcome d d' l h result e breaks is display failed some =
-      let now : result ≡ Err Display = is ∙ ap (λ e. Err e) display in
-      record {
-        goes = λ coming.
-            let row = row_first outcome breaks in
-            record { done = []; others = Breaks ∷ row.0; split = row.1; at = work d l h coming; are_done = none_done adds (work d l h coming); stands = (Display, (some, refl), now) };
-        stays = stays_not outcome (work d l h) (work d' l h) result breaks;
-        reason = λ coming. let P : Result (List ℕ) ReadlineError → Type 0 = λ r. IfErr r (CloseReason adds h outcome (show_failed d) (show_failed d') (write_failed l)) in
-            subst P (sym now) (inr (inl (refl, failed)));
-        display_is = λ coming. inl now;
-        lines_are = λ coming. inr refl;
-      }
+  closes_undrawn : (adds : Bool) (outcome : Result (List ℕ) ReadlineError) (d d' : D) (l : L) (h : Filed) (result : Result (List ℕ) ReadlineError)
+      → Breaks' outcome → result ≡ Err Display → IsTrue (show_failed d') → TakesSome shown d d' row_break → Ends adds outcome (work d l h) (work d' l h) result
+  closes_undrawn adds outcome d d' l h result breaks is failed some = record {
+    goes = λ coming.
+        let row = row_first outcome breaks in
+        record { done = []; others = Breaks ∷ row.0; split = row.1; at = work d l h coming; are_done = none_done adds (work d l h coming); stands = (Display, (some, refl), is) };
+    stays = stays_not outcome (work d l h) (work d' l h) result breaks;
+    reason = λ coming. let P : Result (List ℕ) ReadlineError → Type 0 = λ r. IfErr r (CloseReason adds h outcome (show_failed d) (show_failed d') (write_failed l)) in
+        subst P (sym is) (inr (inl (refl, failed)));
+    display_is = λ coming. inl is;
+    lines_are = λ coming. inr refl;
+  }
 
   -- the history could take no line
-  closes_unkept : (adds : Bool) (text : List ℕ) (d d' : D) (l : L) (h h' : Filed) (result : Result (List ℕ) ReadlineError) (e : ReadlineError)
-      → Takes shown d d' row_break → show_failed d' ≡ show_failed d → result ≡ Err e → e ≡ Memory → IsTrue (adds && takes h text) → h' ≡ h → Ends adds (Ok text) (work d l h) (work d' l h') result
-  closes_unkept adds text d d' l h h' result e drawn works is memory adding kept =
-      let now : result ≡ Err Memory = is ∙ ap (λ e. Err e) memory in
-      record {
-        goes = λ coming. record {
-          done = Breaks ∷ [];
-          others = Keeps text ∷ (Writes text ∷ []);
-          split = refl;
-          at = work d' l h coming;
-          are_done = row_done adds d d' l h coming drawn;
-          stands = (Memory, (adding, ap (λ h. work d' l h coming) kept), now);
-        };
-        stays = tt;
-        reason = λ coming. let P : Result (List ℕ) ReadlineError → Type 0 = λ r. IfErr r (CloseReason adds h (Ok text) (show_failed d) (show_failed d') (write_failed l)) in
-            subst P (sym now) (inr (inr (inr (refl, adding))));
-        display_is = λ coming. inr works;
-        lines_are = λ coming. inr refl;
-      }
+  closes_unkept : (adds : Bool) (text : List ℕ) (d d' : D) (l : L) (h h' : Filed) (result : Result (List ℕ) ReadlineError)
+      → Takes shown d d' row_break → show_failed d' ≡ show_failed d → result ≡ Err Memory → IsTrue (adds && takes h text) → h' ≡ h → Ends adds (Ok text) (work d l h) (work d' l h') result
+  closes_unkept adds text d d' l h h' result drawn works is adding kept = record {
+    goes = λ coming. record {
+      done = Breaks ∷ [];
+      others = Keeps text ∷ (Writes text ∷ []);
+      split = refl;
+      at = work d' l h coming;
+      are_done = row_done adds d d' l h coming drawn;
+      stands = (Memory, (adding, ap (λ h. work d' l h coming) kept), is);
+    };
+    stays = tt;
+    reason = λ coming. let P : Result (List ℕ) ReadlineError → Type 0 = λ r. IfErr r (CloseReason adds h (Ok text) (show_failed d) (show_failed d') (write_failed l)) in
+        subst P (sym is) (inr (inr (inr (refl, adding))));
+    display_is = λ coming. inr works;
+    lines_are = λ coming. inr refl;
+  }
 
   -- the line's text and newline were written, or torn
   closes_written : {A : Type 0} (adds : Bool) (text : List ℕ) (d d' : D) (l l' : L) (h h' : Filed) (written : Result A ReadlineError)
@@ -229,8 +225,8 @@ module _ {D L : Type 0} (shown : D → List ℕ) (show_failed : D → Bool) (wri
       → result ≡ Err e → EndIsCut shown show_failed adds outcome d d' h h' e → Ends adds outcome (work d l h) (work d' l h') result
   closes_cut adds outcome d d' l h h' result Display is cut =
       let P : Filed → Type 0 = λ h'. Ends adds outcome (work d l h) (work d' l h') result in
-      subst P (sym cut.1) (closes_undrawn adds outcome d d' l h result Display (row_asked outcome cut.0.0) is refl cut.0.2 cut.0.1)
+      subst P (sym cut.1) (closes_undrawn adds outcome d d' l h result (row_asked outcome cut.0.0) is cut.0.2 cut.0.1)
   closes_cut adds (Ok text) d d' l h h' result Memory is cut =
-      closes_unkept adds text d d' l h h' result Memory cut.0.drawn cut.0.works is refl cut.1.1 cut.2
+      closes_unkept adds text d d' l h h' result cut.0.drawn cut.0.works is cut.1.1 cut.2
   closes_cut adds (Err e) d d' l h h' result Memory is cut = absurd (cut.1.1)
   closes_cut adds outcome d d' l h h' result _ is cut = absurd cut

@@ -8,7 +8,7 @@ use Rattle.line_keys.specs.declared.key.KeyCode.TheVariants.{BracketedPasteStart
 use Rattle.line_keys.specs.Coming.{Coming, Pressed, Pasted, CutOff, Ends, End as AtItsEnd, bytes_to_come}
 use Rattle.line_keys.specs.Keys.{key_of, key_with, none, alt}
 use Rattle.line_screen.specs.KeyGrammar.{readings_then, Readings, Key, Paste, Cut, Stops, readings, lone_escape, in_escape, in_sequence, in_paste, are_whole, announces, byte_is, coming_of, esc, inside, keeps_byte, marker, paste_with_char}
-use Rattle.line_screen.specs.Input.{Chars, Next, Over, Stop, AtEnd, AtBad, AtFailure, Torn, Inside, ReadsFirst, chars_of}
+use Rattle.line_screen.specs.Input.{Chars, Next, Over, Stop, AtEnd, AtFailure, ReadsFirst, chars_of}
 use Rattle.line_screen.specs.Sequences.{awaits_more, sequence_key}
 use Rattle.line_screen.proofs.FollowingLemmas.{whole_keys_stay}
 use Rattle.line_screen.proofs.Outcomes.{unread_of}

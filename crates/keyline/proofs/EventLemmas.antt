@@ -15,7 +15,7 @@ use Rattle.line_keys.specs.KeyFeeds.{InputItem, IsReadFault, Paste, behind}
 use Rattle.line_keys.specs.PhraseScripts.{Reads}
 use Rattle.line_editor.specs.RenderCalls.{Call, Canvas, MadeIn, CutCall, CutCalls}
 use Rattle.line_editor.specs.RenderCalls.Call.{Help}
-use Rattle.line_editor.specs.LineScripts.{Begins as TurnBegins, DrawnBy, CutLineAsk, Keys, LineAsk, LineScript, LineStage, LineState, Obeys, Stopped, effect_at, left_at, line_world, line_stage, played_from, steps_along}
+use Rattle.line_editor.specs.LineScripts.{DrawnBy, CutLineAsk, Keys, LineAsk, LineScript, LineStage, LineState, Obeys, Stopped, effect_at, left_at, line_world, line_stage, played_from, steps_along}
 use Rattle.line_editor.specs.Redraws.{RedrawCalls, calls_of_redraw}
 use Rattle.line_editor.specs.States.{reason_of}
 use Rattle.line_editor.specs.EditSteps.{one, Surface, CutStep, CutHelp, CutEditSteps as StepsStop}

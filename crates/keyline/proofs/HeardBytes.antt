@@ -116,20 +116,9 @@ escape_by : (mode : EditMode) (here there : List ℕ) (x y z w x' y' z' w' : Rea
     → ReadingsOpen (if byte_is 0x5B here then x else if byte_is 0x4F here then y else if keeps_byte mode here then z else w)
     (if byte_is 0x5B there then x' else if byte_is 0x4F there then y' else if keeps_byte mode there then z' else w')
 escape_by Emacs here there x y z w x' y' z' w' same p q r s =
-    let R : Readings → Readings → Type 0 = ReadingsOpen in
-    let third : R (if byte_is 0x1B here then z else w) (if byte_is 0x1B there then z' else w')
-    = subst (λ b. R (if byte_is 0x1B here then z else w) (if b then z' else w')) (same 0x1B) (keys_by (byte_is 0x1B here) z w z' w' r s) in
-    let second : R (if byte_is 0x4F here then y else if byte_is 0x1B here then z else w) (if byte_is 0x4F there then y' else if byte_is 0x1B there then z' else w')
-    = subst (λ b. R (if byte_is 0x4F here then y else if byte_is 0x1B here then z else w) (if b then y' else if byte_is 0x1B there then z' else w')) (same 0x4F)
-    (keys_by (byte_is 0x4F here) y (if byte_is 0x1B here then z else w) y' (if byte_is 0x1B there then z' else w') q third) in
-    subst (λ b. R (if byte_is 0x5B here then x else if byte_is 0x4F here then y else if byte_is 0x1B here then z else w) (if b then x' else if byte_is 0x4F there then y' else if byte_is 0x1B there then z' else w')) (same 0x5B)
-    (keys_by (byte_is 0x5B here) x (if byte_is 0x4F here then y else if byte_is 0x1B here then z else w) x' (if byte_is 0x4F there then y' else if byte_is 0x1B there then z' else w') p second)
+    rw (same 0x5B, same 0x4F, same 0x1B) (keys_by (byte_is 0x5B there) x _ x' _ p (keys_by (byte_is 0x4F there) y _ y' _ q (keys_by (byte_is 0x1B there) z w z' w' r s)))
 escape_by Vi here there x y z w x' y' z' w' same p q r s =
-    let R : Readings → Readings → Type 0 = ReadingsOpen in
-    let second : R (if byte_is 0x4F here then y else z) (if byte_is 0x4F there then y' else z')
-    = subst (λ b. R (if byte_is 0x4F here then y else z) (if b then y' else z')) (same 0x4F) (keys_by (byte_is 0x4F here) y z y' z' q r) in
-    subst (λ b. R (if byte_is 0x5B here then x else if byte_is 0x4F here then y else z) (if b then x' else if byte_is 0x4F there then y' else z')) (same 0x5B)
-    (keys_by (byte_is 0x5B here) x (if byte_is 0x4F here then y else z) x' (if byte_is 0x4F there then y' else z') p second)
+    rw (same 0x5B, same 0x4F) (keys_by (byte_is 0x5B there) x _ x' _ p (keys_by (byte_is 0x4F there) y z y' z' q r))
 
 -- Vi's Esc before what is no whole character, which is whole or not there
 high_vi : (here there : List ℕ) (stop : Stop) (left : List ℕ) (chars : Chars) (again again' : Readings) → High here there → ReadingsOpen again again'

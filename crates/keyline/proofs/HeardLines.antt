@@ -23,7 +23,7 @@ use Rattle.line_editor.proofs.ToldLemmas.{left_along, played_each}
 use Rattle.line_screen.specs.ScreenCalls.{Screen, ruler_of}
 use Rattle.keyline.specs.Events.{Begins, Breaks, Course, SessionEvent, Hears, asks_events, end_events, course_after_line, line_course, own_events, line_play_in, session, step_events}
 use Rattle.keyline.specs.SessionLaws.{IsBeginning, LinesBegin, SessionsBegin}
-use Rattle.keyline.specs.Sessions.{Given, SessionState, coming_from, setting_in, state_over, history_after, LineGiven, for_line}
+use Rattle.keyline.specs.Sessions.{Given, SessionState, coming_from, setting_in, state_at, state_over, history_after, LineGiven, for_line}
 use Rattle.keyline.specs.Shows.{calls_by_screen}
 use Rattle.keyline.proofs.EventLemmas.{asks_both}
 use Rattle.keyline.proofs.HeardBytes.{NeverEnds, Opens, bytes_open}
@@ -128,9 +128,6 @@ nothing_after : (why : ReadlineError) → breaks_after why ≡ false → end_eve
 nothing_after why unbroken = ap (λ b. if b then Breaks ∷ [] else []) unbroken
 
 -- ---- a line
-
-abbrev state_at : Ring → List ℕ → Filed → Coming → SessionState
-state_at ring query history coming = record { ring = ring; query = query; history = history; coming = coming }
 
 module _ (n : ℕ) (g : Given) (ring : Ring) (query : List ℕ) (history : Filed) (h c : Coming) (on : Opens h c) where
   abbrev one : Course (Result (List ℕ) ReadlineError × SessionState)

@@ -57,17 +57,11 @@ module _ {A : Type 0} (text : A → Text) where
   pub nowhere : (xs : List A) → position (λ x. decides (text x)) xs ≡ None → place_of_extended (map text xs) ≡ None
   nowhere xs none = nowhere_by xs (is_none_at (nat_lt (position_or_len (λ x. decides (text x)) xs) (length xs)) (position_or_len (λ x. decides (text x)) xs) none)
 
-  pub is_flag : (xs : List A) (i : ℕ) (x : A) (word : Text) → Some i ≡ position (λ x. decides (text x)) xs → get_or xs i x ≡ x → word ≡ text x
-      → true ≡ bytes_eq word (codes "--extended") → Some i ≡ place_of_extended (map text xs)
-  is_flag xs i x word found at same does = sym (at_place xs i x (sym found)
+  pub is_flag : (xs : List A) (i : ℕ) (x : A) (word : Text) (b : Bool) → Some i ≡ position (λ x. decides (text x)) xs → get_or xs i x ≡ x → word ≡ text x
+      → b ≡ bytes_eq word (codes "--extended") → (if b then Some i else None) ≡ place_of_extended (map text xs)
+  is_flag xs i x word b found at same does = sym (at_place xs i x (sym found)
       ∙ (ap (λ (y : A). if bytes_eq (text y) (codes "--extended") then Some i else None) at
       ∙ (ap (λ w. if bytes_eq w (codes "--extended") then Some i else None) (sym same) ∙ ap (λ b. if b then Some i else None) (sym does))))
-
-  pub is_no_flag : (xs : List A) (i : ℕ) (x : A) (word : Text) → Some i ≡ position (λ x. decides (text x)) xs → get_or xs i x ≡ x → word ≡ text x
-      → false ≡ bytes_eq word (codes "--extended") → None ≡ place_of_extended (map text xs)
-  is_no_flag xs i x word found at same doesnt = sym (at_place xs i x (sym found)
-      ∙ (ap (λ (y : A). if bytes_eq (text y) (codes "--extended") then Some i else None) at
-      ∙ (ap (λ w. if bytes_eq w (codes "--extended") then Some i else None) (sym same) ∙ ap (λ b. if b then Some i else None) (sym doesnt))))
 
   -- the words before a place and those after it
   pub removed : (xs : List A) (i : ℕ) (none first all : List Text) → none ≡ [] → first ≡ none ++ map text (take i xs)

@@ -20,7 +20,6 @@ pub mod PasteLemmas
 pub mod PastePhrases
 pub mod PhraseFuel
 pub mod PlayedLemmas
-pub mod PlaysLemmas
 pub mod SessionFuel
 pub mod SessionLawLemmas
 pub mod SessionSteps

@@ -1,36 +1,24 @@
 -- What an open session passes in, and its state before the first line.
-use Rattle.std.proofs.Common.{◌≡◌, ℕ, List, [], Option, ap, ◌∙◌}
-use Rattle.std.specs.Prelude.{string_bytes}
+use Rattle.std.proofs.Common.{◌≡◌, ℕ, List, [], Option, ap, refl, ◌∙◌}
 use Rattle.line_config.specs.Feed.{AlwaysTold, Feed, fresh_feed}
 use Rattle.line_config.specs.declared.config.Config.{Config}
 use Rattle.line_config.specs.declared.device.Last.{Last}
 use Rattle.line_config.specs.declared.device.Last.TheVariants.{End}
-use Rattle.line_help.specs.History.{Filed}
 use Rattle.line_keys.specs.CustomBindings.{Custom}
-use Rattle.line_keys.specs.Coming.{Coming}
-use Rattle.line_record.specs.Ring.{Ring, new_ring}
 use Rattle.line_screen.specs.ScreenCalls.{Screen}
 use Rattle.keyline.specs.Desks.{desk_feed, session_state_of}
 use Rattle.keyline.specs.KnownDevices.{KnownDevices}
 use Rattle.keyline.specs.Program.{EditHelper, edit_helping, start_by}
 use Rattle.keyline.specs.SessionRuns.{Opens, history_loaded_from}
-use Rattle.keyline.specs.Sessions.{SessionState, coming_from, given_of}
+use Rattle.keyline.specs.Sessions.{coming_from, given_of}
 use Rattle.keyline.specs.declared.desk.Desk.{Desk}
-use Rattle.keyline.specs.declared.session.TheConstants.{KILL_RING_SIZE}
 
 -- what is passed in, part by part
 pub given_as : (config config' : Config) (custom custom' : Custom) (prompt prompt' : List ℕ) (screen screen' : Screen) (helper helper' : Option EditHelper)
     → config' ≡ config → custom' ≡ custom → prompt' ≡ prompt → screen' ≡ screen → helper' ≡ helper
     → given_of config' custom' prompt' screen' (edit_helping helper') ≡ given_of config custom prompt screen (edit_helping helper)
 given_as config config' custom custom' prompt prompt' screen screen' helper helper' config_is custom_is prompt_is screen_is helper_is =
-    ap (λ (x : Config). given_of x custom' prompt' screen' (edit_helping helper')) config_is
-    ∙ (ap (λ (x : Custom). given_of config x prompt' screen' (edit_helping helper')) custom_is
-    ∙ (ap (λ (x : List ℕ). given_of config custom x screen' (edit_helping helper')) prompt_is
-    ∙ (ap (λ (x : Screen). given_of config custom prompt x (edit_helping helper')) screen_is
-    ∙ ap (λ (x : Option EditHelper). given_of config custom prompt screen (edit_helping x)) helper_is)))
-
-abbrev state_by : Ring → List ℕ → Filed → Coming → SessionState
-state_by ring query history coming = record { ring = ring; query = query; history = history; coming = coming }
+    rw (config_is, custom_is, prompt_is, screen_is, helper_is) refl
 
 module _ {F S H D L : Type 0} (text_of : F → Feed) (k : KnownDevices S D L) where
   -- over this history's text and these keys
@@ -42,7 +30,4 @@ module _ {F S H D L : Type 0} (text_of : F → Feed) (k : KnownDevices S D L) wh
       let filed : desk.history ≡ loaded = opens.loaded.history_is always ∙ ap (λ (f : Feed). history_loaded_from config f) text_is in
       let coming : (desk_feed k desk).coming ≡ coming_from config.edit_mode bytes last =
       opens.coming ∙ (ap (λ bs. coming_from config.edit_mode bs (k.feed source).last) coming_is ∙ ap (λ l. coming_from config.edit_mode bytes l) last_is) in
-      ap (λ (r : Ring). state_by r (string_bytes desk.last_query) desk.history (desk_feed k desk).coming) opens.ring
-      ∙ (ap (λ query. state_by (new_ring KILL_RING_SIZE) query desk.history (desk_feed k desk).coming) opens.query
-      ∙ (ap (λ (h : Filed). state_by (new_ring KILL_RING_SIZE) [] h (desk_feed k desk).coming) filed
-      ∙ ap (λ (c : Coming). state_by (new_ring KILL_RING_SIZE) [] loaded c) coming))
+      rw (opens.ring, opens.query, filed, coming) refl

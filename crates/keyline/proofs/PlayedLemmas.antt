@@ -1,5 +1,5 @@
 -- A session by options, over all that is said of its keys.
-use Rattle.std.proofs.Common.{◌≡◌, ℕ, ◌+◌, ◌<◌, ◌^◌, Bool, true, false, IsTrue, List, [], ◌∷◌, ◌++◌, Option, refl, sym, ap, subst, ◌∙◌, append-nil, arith}
+use Rattle.std.proofs.Common.{◌≡◌, ℕ, ◌+◌, ◌<◌, ◌^◌, Bool, false, IsTrue, List, [], ◌∷◌, ◌++◌, Option, refl, sym, ap, subst, ◌∙◌, append-nil, arith}
 use Rattle.std.specs.Prelude.{IfErr, IfOk, IsErr, IsOk, None, OnOk, Result, Ok, Err, is_err}
 use Rattle.line_config.specs.Feed.{AlwaysTold, Feed, fresh_feed}
 use Rattle.std.proofs.lemmas.Result.{IfErr-weaker}
@@ -10,11 +10,11 @@ use Rattle.line_config.specs.declared.config.Config.{Config}
 use Rattle.line_config.specs.declared.device.Last.{Last}
 use Rattle.line_config.specs.declared.device.Last.TheVariants.{End}
 use Rattle.line_config.specs.declared.errors.ReadlineError.{ReadlineError}
-use Rattle.line_config.specs.declared.errors.ReadlineError.TheVariants.{Display, Helper, HistoryText, Lines, Memory, Reader}
+use Rattle.line_config.specs.declared.errors.ReadlineError.TheVariants.{Display, Helper, Lines, Memory}
 use Rattle.line_keys.specs.KeyFeeds.{Paste}
 use Rattle.line_screen.specs.Reader.{byte_ahead_of}
 use Rattle.line_screen.specs.Reading.{count_of_kept}
-use Rattle.keyline.specs.Desks.{GoesShown, desk_feed, session_state_of, work_of}
+use Rattle.keyline.specs.Desks.{DeskReason, GoesShown, desk_feed, session_state_of, work_of}
 use Rattle.keyline.specs.Events.{SessionEvent, Takes, Helped, Draws, Hears, Breaks, Keeps, Writes, session}
 use Rattle.keyline.specs.KnownDevices.{KnownDevices}
 use Rattle.keyline.specs.Program.{EditsBy, given_by, given_to, helper_of, PlaysBytes, PlaysOver, UnopensOver, start_by}
@@ -25,7 +25,6 @@ use Rattle.keyline.specs.declared.options.Options.{Options}
 use Rattle.keyline.specs.declared.session.Ended.{Ended}
 use Rattle.keyline.specs.declared.session.Unopened.{Unopened}
 use Rattle.keyline.proofs.OpenedLemmas.{given_as, state_first}
-use Rattle.keyline.proofs.PlaysLemmas.{reason_at_end}
 
 below : (most kept bound n : ℕ) → kept ≡ 0 → bound ≡ most + kept → most < n → bound < n
 below most kept bound n none is low = omega arith
@@ -86,10 +85,8 @@ module _ {D L : Type 0} (shown : D → List ℕ) (written_in : L → List ℕ) w
       → GoesShown shown written_in adds events old new Whole Faulted
       → GoesShown seen seen adds events (work first before old.history old.coming) (work drawn wrote new.history new.coming) Whole Faulted
   as_bytes adds events old new Whole Faulted first before drawn wrote first_is drawn_is before_is wrote_is goes =
-      let R : List ℕ → List ℕ → List ℕ → List ℕ → Type 0 = λ a b c d.
-      GoesShown seen seen adds events (work a b old.history old.coming) (work c d new.history new.coming) Whole Faulted in
       let w = goes.went in
-      let both : R (shown old.display) (written_in old.lines) (shown new.display) (written_in new.lines) = record {
+      rw (sym first_is, sym before_is, drawn_is, wrote_is) (record {
         went = record {
           done = w.done;
           others = w.others;
@@ -99,10 +96,7 @@ module _ {D L : Type 0} (shown : D → List ℕ) (written_in : L → List ℕ) w
           stands = stands_in_bytes adds w.others w.at new Whole Faulted w.stands;
         };
         shows = goes.shows;
-      } in
-      subst (λ a. R a before drawn wrote) first_is (subst (λ b. R (shown old.display) b drawn wrote) before_is
-      (subst (λ c. R (shown old.display) (written_in old.lines) c wrote) (sym drawn_is)
-      (subst (λ d. R (shown old.display) (written_in old.lines) (shown new.display) d) (sym wrote_is) both)))
+      })
 
 module _ {F S D L T : Type 0} (text_of : F → Feed) (k : KnownDevices S D L) (held : T → List ℕ) (failed : T → Bool) where
   pub played : (asked : Bool) (config : Config) (options : Options) (words : Option (List (List ℕ))) (drawn wrote old bytes : List ℕ) (last : Last) (history : F) (source : S) (display : D) (lines : L) (text : T)
@@ -157,8 +151,7 @@ module _ {F S D L T : Type 0} (text_of : F → Feed) (k : KnownDevices S D L) (h
         ending_is = end.ending_is;
         reason = reason_still g (k.feed ended.source).failed (k.show_failed ended.display) (k.show_failed display') (k.write_failed ended.lines) (k.write_failed lines')
             why shows writes
-            (subst (λ (g : Given). SessionReason g (k.feed ended.source).failed (k.show_failed ended.display) (k.write_failed ended.lines) why) given_is
-            (reason_at_end k held failed asked (given_to config options desk) left_desk text why ended end edits.runs.takes.reason));
+            (rw (end.source_is, end.display_is, end.lines_are) (subst (λ (g : Given). DeskReason k g left_desk why) given_is edits.runs.takes.reason));
       }
 
 -- ---- settings that are equal

@@ -5,7 +5,6 @@ use Rattle.script.specs.Scripts.{Ends, Asks}
 use Rattle.line_config.specs.declared.errors.ReadlineError.{ReadlineError}
 use Rattle.line_config.specs.declared.errors.ReadlineError.TheVariants.{Eof}
 use Rattle.line_editor.specs.LineScripts.{Begins, Keys, Makes, LineAnswer, LineAsk, LineScript, LineState, answer_at, turn_start, left_at, line_begun, line_script, played_from, turn_script, turns_script}
-use Rattle.line_editor.specs.Redraws.{fresh}
 use Rattle.line_editor.specs.LineRun.{first_line_state}
 use Rattle.line_editor.specs.Values.{Setting}
 use Rattle.line_keys.specs.CustomBindings.{Custom}
@@ -13,7 +12,7 @@ use Rattle.line_keys.specs.Coming.{Coming, Pressed, Pasted, CutOff, Ends as Ende
 use Rattle.line_keys.specs.KeyFeeds.{InputItem, InputOf, Key, Paste, behind, item_at}
 use Rattle.line_keys.specs.PhraseScripts.{Reads, and_then, with_read}
 use Rattle.line_keys.specs.declared.key.KeyEvent.{KeyEvent}
-use Rattle.keyline.specs.Events.{Begins as LineBegins, Course, asks_events, end_events, events_first, course_after_line, line_course, line_play_in, session}
+use Rattle.keyline.specs.Events.{Begins as LineBegins, Course, end_events, events_first, events_of, course_after_line, line_course, line_play_in, session}
 use Rattle.keyline.specs.Sessions.{Given, LineGiven, SessionState, for_line, setting_in, state_after}
 use Rattle.keyline.specs.Fuel.{keys_and_pastes}
 use Rattle.keyline.proofs.AlikeScripts.{Alike, Next}
@@ -100,12 +99,10 @@ module _ (s : Setting) where
 -- ---- sessions
 
 abbrev course_by : Given → SessionState → Played LineAsk LineState ReadlineError (List ℕ) → Course (Result (List ℕ) ReadlineError × SessionState)
-course_by g x p =
-    let a = setting_in g x.history.kept.entries in
-    record {
-      events = LineBegins g.screen ∷ (asks_events g.screen a (fresh g.screen.mode) (first_line_state a x.ring x.query x.coming) p.asks ++ end_events p.answer);
-      answer = (p.answer, state_after g.config.auto_add_history p.answer p.rest.ring p.rest.modal.query p.rest.coming x);
-    }
+course_by g x p = record {
+  events = LineBegins g.screen ∷ (events_of g x p.asks ++ end_events p.answer);
+  answer = (p.answer, state_after g.config.auto_add_history p.answer p.rest.ring p.rest.modal.query p.rest.coming x);
+}
 
 line_is : (n m : ℕ) (g : Given) (x : SessionState) → keys_and_pastes x.coming < n → keys_and_pastes x.coming < m → line_course n g x ≡ line_course m g x
 line_is n m g x low low' =

@@ -2,6 +2,7 @@
 use Rattle.std.proofs.Common.{◌≡◌, ℕ, zero, suc, ◌≤◌, Bool, true, false, List, [], ◌∷◌, ◌++◌, map, Option, None, Some, Result, Ok, Err, refl, sym, ap, ◌∙◌, subst, append_assoc, append-nil, arith, if◌then◌else◌}
 use Rattle.std.specs.List.{filter, flat_map}
 use Rattle.std.specs.Prelude.{⊤}
+use Rattle.std.proofs.lemmas.Grind.{flat_map-append}
 use Rattle.line_buffer.specs.declared.layout.Layout.{Layout}
 use Rattle.line_config.specs.declared.errors.ReadlineError.{ReadlineError}
 use Rattle.line_editor.specs.RenderCalls.{Marks}
@@ -17,7 +18,7 @@ use Rattle.line_editor.specs.EditSteps.{one}
 use Rattle.line_editor.specs.Values.{EditStep, Setting, Value, shown_marks}
 use Rattle.line_editor.specs.declared.modal_state.Standing.{Standing}
 use Rattle.line_editor.specs.declared.modal_state.Standing.TheVariants.{Searches}
-use Rattle.line_editor.specs.Values.EditStep.{Draws as DrawStep, Helped as HelpStep}
+use Rattle.line_editor.specs.Values.EditStep.{Draws as DrawStep}
 use Rattle.line_editor.proofs.LineLeads.{lines_lead}
 use Rattle.line_keys.specs.InputStates.{new_input}
 use Rattle.line_keys.specs.PhraseScripts.{Reads}
@@ -27,14 +28,10 @@ use Rattle.line_screen.specs.Display.{Display, Placed, at_cursor}
 use Rattle.line_screen.specs.Drawing.{row_break, next_row}
 use Rattle.line_screen.specs.Laws.{widths}
 use Rattle.line_screen.proofs.LawLemmas.{start_is_empty, shown_is_meant, line_ends_anywhere, ended_line_stays}
-use Rattle.keyline.specs.Events.{SessionEvent, Course, Begins, Draws, Rests, Breaks, all_of, asks_events, end_events, course_after_line, line_course, own_events, line_play_in, session, step_events}
+use Rattle.keyline.specs.Events.{SessionEvent, Course, Begins, Draws, Rests, Breaks, all_of, asks_events, end_events, events_of, course_after_line, line_course, own_events, line_play_in, session, step_events}
 use Rattle.keyline.specs.Sessions.{Given, LineGiven, SessionState, for_line, setting_in}
 use Rattle.keyline.specs.Shows.{picture, place_in, view_in, DisplayHolds, LowAll, top_by, top_drawn, top_after, next_top, above_by, above_drawn, above_after, calls_by_screen, bytes_for, Face, face, blank, face_with_drawing, face_on_new_row, below, IsAtRest, BlankIsAtRest, HasMeaning, MomentShown, EachShown, SessionsShow}
 use Rattle.keyline.proofs.ShowSteps.{fresh_holds, step}
-
-pub flat_both : {A B : Type 0} (f : A → List B) (xs ys : List A) → flat_map f (xs ++ ys) ≡ flat_map f xs ++ flat_map f ys
-flat_both f [] ys = refl
-flat_both f (x ∷ xs) ys = ap (λ zs. f x ++ zs) (flat_both f xs ys) ∙ sym (append_assoc (f x) (flat_map f xs) (flat_map f ys))
 
 pub all_of_map : {A : Type 0} (f : A → List ℕ) (xs : List A) → all_of (map f xs) ≡ flat_map f xs
 all_of_map f [] = refl
@@ -54,7 +51,7 @@ module _ (s : Screen) (low : 2 ≤ s.columns) (high : s.columns ≤ 1000) (own :
       let first = step s low high own bytes over top l x r h fits.0 rows.0 in
       let rest = steps (bytes ++ new) (above_by r over) (top_by r top) a.layout (sight x r) rs first fits.1 rows.1 in
       let joined : (bytes ++ new) ++ bytes_for s a.layout rs ≡ bytes ++ bytes_for s l (r ∷ rs) =
-      append_assoc bytes new (bytes_for s a.layout rs) ∙ ap (λ b. bytes ++ b) (sym (flat_both (bytes_of s) a.calls (calls_by_screen s a.layout rs).calls)) in
+      append_assoc bytes new (bytes_for s a.layout rs) ∙ ap (λ b. bytes ++ b) (sym (flat_map-append (bytes_of s) a.calls (calls_by_screen s a.layout rs).calls)) in
       subst (λ b. DisplayHolds s b (above_after (r ∷ rs) over) (top_after (r ∷ rs) top) (calls_by_screen s l (r ∷ rs)).layout (sight_all x (r ∷ rs))) joined rest
 
   place_by : (x : Sight) (b : Bool) → x.ended ≡ b → place_in s x ≡ (if b then finish_of s.columns (widths s) (picture x) else cursor_of s.columns (widths s) (picture x))
@@ -110,7 +107,6 @@ module _ (s : Screen) (low : 2 ≤ s.columns) (high : s.columns ≤ 1000) (own :
       let done : DisplayHolds s new over' top' a.layout y =
       subst (λ sent. DisplayHolds s (bytes ++ sent) over' top' a.layout y) (sym (all_of_map (bytes_of s) a.calls)) (step s low high own bytes over top l x (DrawStep v m redraw) h fits.0 rows) in
       (meant new over' top' y done.good, steps_shown later rs new over' top' a.layout y done fits.1 next)
-  steps_shown later (HelpStep v fails takes ∷ rs) bytes over top l x h fits next = steps_shown later rs bytes over top l x h fits.1 next
   steps_shown later (_ ∷ rs) bytes over top l x h fits next = steps_shown later rs bytes over top l x h fits.1 next
 
 -- with other information, the same is to be seen
@@ -168,10 +164,7 @@ module _ (s : Screen) (low : 2 ≤ s.columns) (high : s.columns ≤ 1000) (a : S
 
 -- what follows on its begin
 abbrev tail_of : ℕ → Given → SessionState → List SessionEvent
-tail_of n g x =
-    let a = setting_in g x.history.kept.entries in
-    let p = line_play_in n g x in
-    asks_events g.screen a (fresh g.screen.mode) (first_line_state a x.ring x.query x.coming) p.asks ++ end_events p.answer
+tail_of n g x = let p = line_play_in n g x in events_of g x p.asks ++ end_events p.answer
 
 line_shown : (n : ℕ) (g : Given) (x : SessionState) (more : List SessionEvent)
     → ((f : Face) → After (line_play_in n g x).answer f → EachShown f more)

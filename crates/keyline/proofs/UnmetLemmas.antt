@@ -1,5 +1,5 @@
 -- Where the setting is off, a script goes as it does without the requests that meet a command.
-use Rattle.std.proofs.Common.{◌≡◌, ℕ, List, ◌∷◌, ◌++◌, Result, Ok, Err, refl, sym, ap, ◌∙◌, subst}
+use Rattle.std.proofs.Common.{◌≡◌, List, ◌∷◌, ◌++◌, Result, Ok, Err, refl, sym, ap, ◌∙◌, subst}
 use Rattle.line_buffer.specs.declared.layout.Layout.{Layout}
 use Rattle.script.specs.Played.{Played, play_after_answer}
 use Rattle.script.specs.Scripts.{Ends, Asks}
@@ -12,12 +12,12 @@ use Rattle.line_editor.specs.EditSteps.{calls_of_steps}
 use Rattle.line_editor.specs.Values.{Setting}
 use Rattle.line_editor.specs.declared.modal_state.Standing.TheVariants.{Off}
 use Rattle.line_editor.proofs.PastLemmas.{off_passes}
-use Rattle.line_keys.specs.PhraseScripts.{Becomes, Reads}
+use Rattle.line_keys.specs.PhraseScripts.{Reads}
 use Rattle.line_keys.specs.declared.command.Cmd.{Cmd}
 use Rattle.line_screen.specs.ScreenCalls.{Screen, ruler_of}
-use Rattle.keyline.specs.Events.{SessionEvent, asks_events, own_events, step_events}
+use Rattle.keyline.specs.Events.{asks_events, first_in, own_events, SessionEvent, step_events}
 use Rattle.keyline.specs.Sessions.{setting_in}
-use Rattle.keyline.specs.Unmet.{OffMeetsNone, first_in, script_without_meeting}
+use Rattle.keyline.specs.Unmet.{OffMeetsNone, script_without_meeting}
 
 abbrev PlayedBy : Type 0 → Type 0
 PlayedBy X = Played LineAsk LineState ReadlineError X

@@ -16,7 +16,7 @@ use Rattle.line_screen.specs.declared.renderer.ScreenRenderer.{ScreenRenderer}
 use Rattle.keyline.specs.KnownDevices.{KnownDevices, HasPassedOn, HasPassedLines}
 use Rattle.keyline.specs.Events.{SessionEvent, line_course, session}
 use Rattle.keyline.specs.SessionEffects.{Closes, Went, Work, SessionReason, work}
-use Rattle.keyline.specs.Sessions.{Given, LineGiven, SessionState, setting_in}
+use Rattle.keyline.specs.Sessions.{Given, LineGiven, SessionState, setting_in, state_at}
 use Rattle.keyline.specs.Shows.{EachShown, Face, IsAtRest}
 use Rattle.keyline.specs.declared.desk.Desk.{Desk}
 
@@ -34,12 +34,8 @@ module _ {S H D L : Type 0} (k : KnownDevices S D L) where
   desk_feed d = items_of k.feed d.reader
 
   abbrev pub session_state_of : Desk S H D L → SessionState
-  session_state_of d = record {
-    ring = d.ring;
-    query = string_bytes d.last_query;
-    history = d.history;
-    coming = (desk_feed d).coming;
-  }
+  session_state_of d =
+      state_at d.ring (string_bytes d.last_query) d.history (desk_feed d).coming
 
   abbrev pub work_of : Desk S H D L → Work D L
   work_of d = work (sink_of d.out) d.lines d.history (desk_feed d).coming

@@ -12,7 +12,6 @@ use Rattle.line_editor.specs.LineScripts.{LineState, LineAsk, Begins as TurnBegi
 use Rattle.line_editor.specs.ModalCommands.{modal_seen}
 use Rattle.line_editor.specs.Redraws.{Redraw, calls_of_redraw, fresh}
 use Rattle.line_editor.specs.LineRun.{first_line_state, line_played}
-use Rattle.line_editor.specs.Sights.{Sight}
 use Rattle.line_editor.specs.EditSteps.{calls_of_steps, one}
 use Rattle.line_editor.specs.Values.{EditStep, Setting, shown_marks}
 use Rattle.line_editor.specs.Values.EditStep.{Draws as DrawStep, Helped as HelpStep}
@@ -66,13 +65,11 @@ step_events s l [] = []
 step_events s l (step ∷ steps) =
     step_event s l step ∷ step_events s (one (ruler_of s) l step).layout steps
 
-abbrev pub moment_of : Option Marks → Sight → SessionEvent
-moment_of marks x = Rests marks x.given x.prompt x.line x.place
-
 -- a read, and the moment at which a turn begins, are events of their own
 abbrev pub own_events : Setting → LineState → LineAsk → List SessionEvent
 own_events a k TurnBegins =
-    moment_of (shown_marks k.value a.marks) (modal_seen k.modal a k.value None) ∷ []
+    let x = modal_seen k.modal a k.value None in
+    Rests (shown_marks k.value a.marks) x.given x.prompt x.line x.place ∷ []
 own_events a k (Keys (Reads item)) = Hears item ∷ []
 own_events a k ask = []
 
@@ -95,15 +92,22 @@ abbrev pub line_play_in : ℕ → Given → SessionState
 line_play_in n g x =
     line_played n (setting_in g x.history.kept.entries) g.custom x.ring x.query x.coming
 
+-- its state before the first request, and the events of its requests
+abbrev pub first_in : Given → SessionState → LineState
+first_in g x =
+    first_line_state (setting_in g x.history.kept.entries) x.ring x.query x.coming
+
+abbrev pub events_of : Given → SessionState → List LineAsk → List SessionEvent
+events_of g x asks = asks_events g.screen (setting_in g x.history.kept.entries)
+    (fresh g.screen.mode) (first_in g x) asks
+
 -- up to its outcome and the state after it
 abbrev pub line_course : ℕ → Given → SessionState
     → Course (Result (List ℕ) ReadlineError × SessionState)
 line_course n g x =
-    let a = setting_in g x.history.kept.entries in
     let p = line_play_in n g x in
     record {
-      events = Begins g.screen ∷ (asks_events g.screen a (fresh g.screen.mode)
-          (first_line_state a x.ring x.query x.coming) p.asks ++ end_events p.answer);
+      events = Begins g.screen ∷ (events_of g x p.asks ++ end_events p.answer);
       answer = (
         p.answer,
         state_after g.config.auto_add_history p.answer p.rest.ring

@@ -153,16 +153,10 @@ given_with config custom options words = given_over config custom (string_bytes 
 abbrev pub given_by : Config → Options → Option (List (List ℕ)) → Given
 given_by config options words = given_with config nothing_bound options words
 
-abbrev pub program_given : Options → Option (List (List ℕ)) → Given
-program_given options words = given_by (config_of options) options words
-
 -- the state before its first line, over this history's text and these keys
 abbrev pub start_by : Config → List ℕ → List ℕ → Last → SessionState
 start_by config old bytes last = state_over (new_ring KILL_RING_SIZE) []
     (history_loaded_from config (fresh_feed old End)) config.edit_mode bytes last
-
-abbrev pub program_start : Options → List ℕ → List ℕ → Last → SessionState
-program_start options old bytes last = start_by (config_of options) old bytes last
 
 -- what a writer has, if it reports its bytes
 abbrev pub had_by : {W : Type 0} → (W → Option (List ℕ)) → W → List ℕ

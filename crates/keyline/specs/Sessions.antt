@@ -59,18 +59,18 @@ pub record SessionState : Type 0 where
   pub history : Filed
   pub coming : Coming
 
+abbrev pub state_at : Ring → List ℕ → Filed → Coming → SessionState
+state_at ring query history coming =
+    record { ring = ring; query = query; history = history; coming = coming }
+
 -- what the bytes of a source mean for the key tables
 abbrev pub coming_from : EditMode → List ℕ → Last → Coming
 coming_from mode bytes last = coming_of bytes (readings mode (chars_of bytes last))
 
 -- the state before a line: the remaining input is that of these bytes, followed by this
 abbrev pub state_over : Ring → List ℕ → Filed → EditMode → List ℕ → Last → SessionState
-state_over ring query history mode bytes last = record {
-  ring = ring;
-  query = query;
-  history = history;
-  coming = coming_from mode bytes last;
-}
+state_over ring query history mode bytes last =
+    state_at ring query history (coming_from mode bytes last)
 
 -- what is passed in for the next line
 abbrev pub setting_in : Given → List (List ℕ) → Setting
@@ -86,12 +86,8 @@ history_after adds (Err e) history = history
 
 abbrev pub state_after : Bool → Result (List ℕ) ReadlineError → Ring → List ℕ → Coming
     → SessionState → SessionState
-state_after adds outcome ring query rest x = record {
-  ring = ring;
-  query = query;
-  history = history_after adds outcome x.history;
-  coming = rest;
-}
+state_after adds outcome ring query rest x =
+    state_at ring query (history_after adds outcome x.history) rest
 
 -- ---- what is written
 

@@ -4,9 +4,7 @@ use Rattle.script.specs.Played.{Played}
 use Rattle.script.specs.Scripts.{Ends, Asks}
 use Rattle.line_config.specs.declared.errors.ReadlineError.{ReadlineError}
 use Rattle.line_editor.specs.LineScripts.{Meets, LineAsk, LineScript, LineState, line_script, played_from}
-use Rattle.line_editor.specs.Redraws.{fresh}
-use Rattle.line_editor.specs.LineRun.{first_line_state}
-use Rattle.keyline.specs.Events.{SessionEvent, asks_events, line_play_in}
+use Rattle.keyline.specs.Events.{events_of, first_in, line_play_in}
 use Rattle.keyline.specs.Sessions.{Given, SessionState, setting_in}
 
 -- the script without the requests that meet a command: each is done as it comes
@@ -14,14 +12,6 @@ abbrev pub script_without_meeting : {X : Type 0} → LineScript X → LineScript
 script_without_meeting (Ends x) = Ends x
 script_without_meeting (Asks (Meets cmd) later) = script_without_meeting (later cmd)
 script_without_meeting (Asks ask later) = Asks ask (λ x. script_without_meeting (later x))
-
-abbrev pub first_in : Given → SessionState → LineState
-first_in g x =
-    first_line_state (setting_in g x.history.kept.entries) x.ring x.query x.coming
-
-abbrev pub events_of : Given → SessionState → List LineAsk → List SessionEvent
-events_of g x asks = asks_events g.screen (setting_in g x.history.kept.entries)
-    (fresh g.screen.mode) (first_in g x) asks
 
 abbrev pub LinePlayed : Type 0
 LinePlayed = Played LineAsk LineState ReadlineError (List ℕ)

@@ -7,6 +7,7 @@ use Rattle.std.specs.Option.{option_or}
 use Rattle.std.proofs.lemmas.Bool.{and_parts, and_from, ltb-true}
 use Rattle.std.proofs.lemmas.Bool.Decides.{nat_tests}
 use Rattle.std.proofs.lemmas.Str.{encode_ascii}
+use Rattle.std.proofs.lemmas.Grind.{flat_map-append}
 use Rattle.line_buffer.specs.Cells.{origin, same_cell}
 use Rattle.line_buffer.specs.Printable.{is_printable, at_simple_end}
 use Rattle.line_buffer.specs.Tabs.{tab_width}
@@ -37,7 +38,6 @@ use Rattle.line_screen.proofs.LawLemmas.{start_is_empty}
 use Rattle.line_screen.proofs.StyleLemmas.{styles_are}
 use Rattle.line_screen.proofs.StyledTextLemmas.{skip_styles, text_painted}
 use Rattle.keyline.specs.Shows.{DisplayHolds, Low, LowStep, LowAll, bytes_for, calls_by_screen}
-use Rattle.keyline.proofs.ShowCourse.{flat_both}
 use Rattle.keyline.proofs.ShowSteps.{drawn_holds, fresh_holds, rewritten_letters, step}
 use Rattle.keyline_c.specs.Laws.{drawing_start, begins_drawing, last_drawing}
 
@@ -679,7 +679,7 @@ module _ (s : Screen) (low : 2 ≤ s.columns) (high : s.columns ≤ 1000) (own :
       → (bytes ++ flat_map (bytes_of s) (one (ruler_of s) l r).calls) ++ bytes_for s (one (ruler_of s) l r).layout rs ≡ bytes ++ bytes_for s l (r ∷ rs)
   joined r rs bytes l =
       let q = one (ruler_of s) l r in
-      append_assoc bytes (flat_map (bytes_of s) q.calls) (bytes_for s q.layout rs) ∙ ap (λ b. bytes ++ b) (sym (flat_both (bytes_of s) q.calls (calls_by_screen s q.layout rs).calls))
+      append_assoc bytes (flat_map (bytes_of s) q.calls) (bytes_for s q.layout rs) ∙ ap (λ b. bytes ++ b) (sym (flat_map-append (bytes_of s) q.calls (calls_by_screen s q.layout rs).calls))
 
   pub all_either : (rs : List EditStep) (bytes : List ℕ) (l : Layout) (x : Sight) → Either bytes l x → FitsAll own x rs → LowAll s x rs
       → Either (bytes ++ bytes_for s l rs) (calls_by_screen s l rs).layout (sight_all x rs)

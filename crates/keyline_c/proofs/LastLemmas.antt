@@ -2,6 +2,7 @@
 use Rattle.std.proofs.Common.{◌≡◌, inr, ℕ, ◌≤◌, true, false, List, [], ◌++◌, Option, Some, Result, Err, refl, sym, ap, ◌∙◌, subst, append-nil, if◌then◌else◌}
 use Rattle.std.specs.Prelude.{string_bytes}
 use Rattle.std.specs.List.{filter, flat_map}
+use Rattle.std.proofs.lemmas.Grind.{flat_map-append}
 use Rattle.line_buffer.specs.Line.{Line}
 use Rattle.line_buffer.specs.declared.layout.Layout.{Layout}
 use Rattle.line_config.specs.declared.errors.ReadlineError.{ReadlineError}
@@ -25,7 +26,6 @@ use Rattle.keyline.specs.Events.{asks_events, bytes_drawn, end_events, line_cour
 use Rattle.keyline.specs.SessionLaws.{steps_in}
 use Rattle.keyline.specs.Sessions.{Given, SessionState, setting_in}
 use Rattle.keyline.specs.Shows.{DisplayHolds, IsAtRest, LowAll, bytes_for, face, picture, place_in, view_in}
-use Rattle.keyline.proofs.ShowCourse.{flat_both}
 use Rattle.keyline_c.specs.Laws.{IsOpenAt, LastDrawingsShow, drawing_start, layout_in, last_drawing, marks_in, sight_in}
 use Rattle.keyline_c.specs.Lines.{line_at_end, value_first}
 use Rattle.keyline_c.specs.Statuses.{status_of_ending, is_open}
@@ -66,7 +66,7 @@ module _ (n : ℕ) (g : Given) (x : SessionState) where
   line_bytes cut =
       let p = line_play_in n g x in
       let asks = asks_events s a (fresh s.mode) first p.asks in
-      flat_both bytes_drawn asks (end_events p.answer)
+      flat_map-append bytes_drawn asks (end_events p.answer)
       ∙ ap (λ q. flat_map bytes_drawn asks ++ flat_map bytes_drawn (end_events q)) cut.is
       ∙ ap (λ events. flat_map bytes_drawn asks ++ flat_map bytes_drawn events) cut.quiet
       ∙ append-nil (flat_map bytes_drawn asks)

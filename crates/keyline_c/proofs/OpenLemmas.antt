@@ -2,6 +2,7 @@
 use Rattle.std.proofs.Common.{◌≡◌, inl, inr, ℕ, zero, suc, ◌≤◌, ◌==◌, Bool, true, false, List, [], ◌∷◌, ◌++◌, length, Option, None, Some, Result, Ok, Err, refl, sym, ap, ◌∙◌, subst, append_assoc, append-nil, true≢false, if◌then◌else◌}
 use Rattle.std.specs.Prelude.{⊤}
 use Rattle.std.specs.List.{flat_map}
+use Rattle.std.proofs.lemmas.Grind.{flat_map-append}
 use Rattle.line_buffer.specs.declared.layout.Layout.{Layout}
 use Rattle.script.specs.Played.{Played, play_with_first_ask, play_after_answer}
 use Rattle.script.specs.Scripts.{Ends, Asks, then}
@@ -42,7 +43,7 @@ use Rattle.line_editor.proofs.ToldLemmas.{PlayedOf, follows, joined_on, played_e
 use Rattle.line_screen.specs.ScreenCalls.{Screen, bytes_of, ruler_of}
 use Rattle.keyline.specs.Events.{asks_events, bytes_drawn, own_events, step_event, step_events}
 use Rattle.keyline.specs.Shows.{LowAll, bytes_for, calls_by_screen}
-use Rattle.keyline.proofs.ShowCourse.{all_of_map, flat_both}
+use Rattle.keyline.proofs.ShowCourse.{all_of_map}
 use Rattle.keyline_c.proofs.AnewLemmas.{Anew, Bare, Either, NoneCleared, all_anew, all_either}
 
 -- ---- within a phrase: behind the begin of a turn come requests for keys alone
@@ -195,7 +196,7 @@ low_later s x (r ∷ xs) ys h = low_later s (sight x r) xs ys h.1
 bytes_both : (s : Screen) (l : Layout) (xs ys : List EditStep) → bytes_for s l (xs ++ ys) ≡ bytes_for s l xs ++ bytes_for s (calls_by_screen s l xs).layout ys
 bytes_both s l xs ys =
     ap (λ (q : _). flat_map (bytes_of s) q.calls) (asked_both (ruler_of s) l xs ys)
-    ∙ flat_both (bytes_of s) (calls_by_screen s l xs).calls (calls_by_screen s (calls_by_screen s l xs).layout ys).calls
+    ∙ flat_map-append (bytes_of s) (calls_by_screen s l xs).calls (calls_by_screen s (calls_by_screen s l xs).layout ys).calls
 
 module _ (s : Screen) (low : 2 ≤ s.columns) (high : s.columns ≤ 1000) (a : Setting) where
   -- within a phrase they show the value by themselves
@@ -282,7 +283,7 @@ steps_bytes s l (Draws v m redraw ∷ rs) =
     let q = one (ruler_of s) l (Draws v m redraw) in
     ap (λ z. bytes_drawn (step_event s l (Draws v m redraw)) ++ z) (steps_bytes s q.layout rs)
     ∙ ap (λ z. z ++ bytes_for s q.layout rs) (all_of_map (bytes_of s) q.calls)
-    ∙ sym (flat_both (bytes_of s) q.calls (calls_by_screen s q.layout rs).calls)
+    ∙ sym (flat_map-append (bytes_of s) q.calls (calls_by_screen s q.layout rs).calls)
 steps_bytes s l (Helped v fails takes ∷ rs) = steps_bytes s l rs
 steps_bytes s l (Edits v edit ∷ rs) = steps_bytes s l rs
 steps_bytes s l (TakesBack v count ∷ rs) = steps_bytes s l rs
@@ -299,7 +300,7 @@ asks_bytes s a l k (ask ∷ asks) =
     let first = (effect_at a k ask).steps in
     let left = left_at a k ask in
     let m = (calls_by_screen s l first).layout in
-    flat_both bytes_drawn (step_events s l first) (own_events a k ask ++ asks_events s a m left asks)
+    flat_map-append bytes_drawn (step_events s l first) (own_events a k ask ++ asks_events s a m left asks)
     ∙ ap (λ z. z ++ flat_map bytes_drawn (own_events a k ask ++ asks_events s a m left asks)) (steps_bytes s l first)
-    ∙ ap (λ z. bytes_for s l first ++ z) (flat_both bytes_drawn (own_events a k ask) (asks_events s a m left asks) ∙ ap (λ z. z ++ flat_map bytes_drawn (asks_events s a m left asks)) (own_bytes a k ask) ∙ asks_bytes s a m left asks)
+    ∙ ap (λ z. bytes_for s l first ++ z) (flat_map-append bytes_drawn (own_events a k ask) (asks_events s a m left asks) ∙ ap (λ z. z ++ flat_map bytes_drawn (asks_events s a m left asks)) (own_bytes a k ask) ∙ asks_bytes s a m left asks)
     ∙ sym (bytes_both s l first (steps_along a left asks))

@@ -12,7 +12,7 @@ use Rattle.keyline.specs.Endings.{ending_of}
 use Rattle.keyline.specs.Events.{SessionEvent, Begins, Takes, Helped, Draws, Hears, Rests, Breaks, Keeps, Writes, lines_written, session}
 use Rattle.keyline.specs.KnownDevices.{KnownDevices}
 use Rattle.keyline.specs.SessionEffects.{AreDone, CutSessionEvent, Stands, Went, Work, ending_after, work}
-use Rattle.keyline.specs.Program.{PlaysBytes, config_of, program_given, program_start}
+use Rattle.keyline.specs.Program.{PlaysBytes, config_of, given_by, start_by}
 use Rattle.keyline.specs.Sessions.{each, lines_text}
 use Rattle.keyline.specs.declared.ending.Ending.{Ending}
 use Rattle.keyline.specs.declared.ending.Ending.TheVariants as how
@@ -73,10 +73,11 @@ module _ {D L : Type 0} (shown : D → List ℕ) (written_in : L → List ℕ) (
 
 pub lines_by : {S D L T : Type 0} (known : KnownDevices S D L) (held : T → List ℕ) (failed : T → Bool) (options : Options) (words : Option (List (List ℕ))) (old bytes : List ℕ) (last : Last)
     (ended : Ended S D L T) → PlaysBytes known held failed true (config_of options) options words [] [] old bytes last ended → ended.ending ≡ how.Eof → (n : ℕ) → 2 ^ 63 < n
-    → known.written_in ended.lines ≡ lines_text (flat_map lines_written (session n (program_given options words) (each (program_given options words)) (program_start options old bytes last)).events)
+    → (let g = given_by (config_of options) options words in
+    known.written_in ended.lines ≡ lines_text (flat_map lines_written (session n g (each g) (start_by (config_of options) old bytes last)).events))
 lines_by known held failed options words old bytes last ended p is n low =
-    let g = program_given options words in
-    let start = program_start options old bytes last in
+    let g = given_by (config_of options) options words in
+    let start = start_by (config_of options) old bytes last in
     let lines = session n g (each g) start in
     let then_left = work (known.shown ended.display) (known.written_in ended.lines) p.kept (coming_in known.feed p.reader) in
     all_written (λ (d : List ℕ). d) (λ (l : List ℕ). l) g.config.auto_add_history lines.events (work [] [] start.history start.coming) then_left p.why

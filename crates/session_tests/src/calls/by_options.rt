@@ -2,7 +2,7 @@
 
 ghost use Rattle.std.specs.Prelude.{◌≤◌};
 
-use crate::calls::told::lines_by_bytes;
+use crate::calls::told::{lines_by_bytes, text_of_play};
 use keyline::{Ending, Options, Parsed, ReadlineError, SliceSource, VecSink, edit, parse};
 use stand_ins::rows::{Player, raised, rows_hold};
 use stand_ins::tables::{meant_bytes, pictured_bytes};
@@ -150,4 +150,38 @@ fn lines_by_one_byte_reads(rt: HostRuntime) -> Result<(), Fail> {
         keyline : #V2␊ : a␃ = Interrupted
         keyline : ‹ff› : ab␍ = HistoryText";
     rows_hold(rt.alloc(), &mut ByBytes, rows)
+}
+
+/// Plays the program's session, and says which text of the history it made.
+#[derive(Drop)]
+struct Making;
+
+impl Player for Making {
+    fn play(&mut self, alloc: Global, call: &str) -> Result<String, Fail> {
+        let (line, keys) = call.split_once(" : ").unwrap_or((call, ""));
+        let words: Vec<&str> = line.split_whitespace().collect(alloc)?;
+        raised(text_told(alloc, words.as_slice(), keys))
+    }
+}
+
+fn text_told(alloc: Global, words: &[&str], keys: &str) -> Result<String, AllocError> {
+    let keys = meant_bytes(alloc, keys)?;
+    match parse(alloc, words) {
+        Parsed::Run(options) => match text_of_play(alloc, &options, &keys) {
+            Ok(text) => {
+                let text = pictured_bytes(alloc, &text)?;
+                format!(in alloc; "<{text}>")
+            }
+            Err(ending) => format!(in alloc; "{ending:?}"),
+        },
+        _ => String::from_str(alloc, "no options"),
+    }
+}
+
+#[test]
+fn texts_made_for_a_history_file(rt: HostRuntime) -> Result<(), Fail> {
+    let rows = "keyline : ab␍c␍ = <>
+        keyline --history notes : ab␍c␍ = <#V2␊ab␊c␊>
+        keyline --history notes : ␍ = <>";
+    rows_hold(rt.alloc(), &mut Making, rows)
 }

@@ -6,7 +6,7 @@ ghost use Rattle.std.specs.Io.KnownBytes.{ReadConsumes};
 ghost use Rattle.session_tests.specs.Told.{AreLines};
 
 use keyline::{
-    Ending, Options, OwnBytes, ReadSource, ReportsBytes, SliceSource, Source, VecSink, edit,
+    Ending, Options, OwnBytes, ReadSource, ReportsBytes, SliceSource, Source, VecSink, edit, play,
 };
 use std::alloc::Global;
 use std::io::{self, Read};
@@ -88,4 +88,23 @@ pub fn lines_by_bytes(
     ensures { IfOk result (λ lines. AreLines options.now old.now keys.now lines.items) }
 {
     lines_of(alloc, options, old, OneByOne { bytes: keys })
+}
+
+/// The history's text that the program's session of these keys leaves in memory.
+pub fn text_of_play(alloc: Global, options: &Options, keys: &[u8]) -> Result<Vec<u8>, Ending>
+    requires { (2 ≤ options.now.columns) × (options.now.columns ≤ 1000) }
+{
+    let reader = OneByOne { bytes: keys };
+    match play::<OwnBytes, _, _, _>(
+        alloc,
+        options,
+        None,
+        b"#V2\n",
+        reader,
+        io::sink(),
+        io::sink(),
+    ) {
+        Ok(played) => Ok(played.text.into_bytes()),
+        Err(unopened) => Err(Ending::from(unopened.why)),
+    }
 }
