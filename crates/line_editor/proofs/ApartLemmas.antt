@@ -66,6 +66,12 @@ module _ (kept from : ℕ) (text other : List ℕ) (low : kept ≤ from) (same :
   front_same : take kept other ≡ take kept text
   front_same = sym (take-take kept from other low) ∙ ap (take kept) same ∙ take-take kept from text low
 
+  utf8_parts : (is_utf8 (take kept other) ≡ true) × (starts_apart (take kept other) (chars (drop kept other)) ≡ true)
+  utf8_parts = and_parts (is_utf8 (take kept other)) _ (and_parts (is_utf8 (drop kept other)) _ (and_parts (nat_le kept (length other)) _ at).1).1
+
+  front_utf8 : is_utf8 (take kept text) ≡ true
+  front_utf8 = ap is_utf8 (sym front_same) ∙ utf8_parts.0
+
   starts : kept < from → starts_apart (take kept text) (chars (drop kept text)) ≡ true
   starts less =
       let some : 0 < length between = omega (arith, less, length-drop kept (take from text), length-take-le from text inside) in
@@ -75,7 +81,7 @@ module _ (kept from : ℕ) (text other : List ℕ) (low : kept ≤ from) (same :
       ∙ ap (starts_apart (take kept text)) (sym (chars-append between other_rest between_utf8))
       ∙ ap (λ xs. starts_apart (take kept text) (chars xs)) (sym other_parts)
       ∙ ap (λ front. starts_apart front (chars (drop kept other))) (sym front_same)
-      ∙ (and_parts (is_utf8 (drop kept other)) _ (and_parts (nat_le kept (length other)) _ at).1).1
+      ∙ utf8_parts.1
 
   utf8 : is_utf8 (drop kept text) ≡ true
   utf8 = is_utf8-from_IsUtf8 (drop kept text) (subst IsUtf8 (sym (parted kept from text low inside)) (IsUtf8-append between rest between_utf8 rest_utf8))
@@ -85,7 +91,8 @@ module _ (kept from : ℕ) (text other : List ℕ) (low : kept ≤ from) (same :
   by_place false is =
       let less : kept < from = omega (arith, low, eqb-false kept from is) in
       both_true (nat_le kept (length text)) (begins_apart (take kept text) (drop kept text)) (le-leb kept (length text) (omega (arith, low, inside)))
-      (both_true (is_utf8 (drop kept text)) (starts_apart (take kept text) (chars (drop kept text))) utf8 (starts less))
+      (both_true (is_utf8 (drop kept text)) (is_utf8 (take kept text) && starts_apart (take kept text) (chars (drop kept text))) utf8
+      (both_true (is_utf8 (take kept text)) (starts_apart (take kept text) (chars (drop kept text))) front_utf8 (starts less)))
 
   -- no cluster lies over an earlier place of this text either
   pub apart_before : begins_apart_at text kept ≡ true
