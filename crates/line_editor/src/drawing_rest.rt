@@ -19,7 +19,8 @@ impl<'p, 'h, Out: Renderer, H: Helper + Drop, Hi: History> State<'p, 'h, Out, H,
 
     /// The first spans of the line, for the styles of so many of its bytes, if it is drawn with
     /// styles.
-    fn line_spans(&self, upto: usize) -> Option<FirstSpans>
+    #[inline(never)]
+    pub(crate) fn line_spans(&self, upto: usize) -> Option<FirstSpans>
         ensures { AreFirst upto (line_spans (setting_of self.now) (value_of self.now)) result }
     {
         if !self.highlight_char {
@@ -39,25 +40,38 @@ impl<'p, 'h, Out: Renderer, H: Helper + Drop, Hi: History> State<'p, 'h, Out, H,
 
     /// The place up to which a change is to leave the line, with the line's styles up to there, if
     /// the line may be drawn from there on, and in part.
-    pub(crate) fn since(&self, from: usize) -> Option<Since>
+    pub(crate) fn since<'s>(&self, from: usize, noted: Option<&'s FirstSpans>) -> Option<Since<'s>>
         ensures { result ≡ since (setting_of self.now) from (value_of self.now) }
     {
         if self.config.partial_redraw() && begins_apart_at(self.recorded.line.as_str(), from) {
-            Some(Since::new(from, self.line_spans(from)))
+            Some(Since::new(from, noted))
         } else {
             None
         }
     }
 
     /// The place up to which the line surely keeps its text and its styles.
-    fn kept_upto(&self, since: &Since) -> usize
+    fn kept_upto(&self, since: &Since<'_>) -> usize
         ensures { result ≡ kept_upto since.now (setting_of self.now) (value_of self.now) }
     {
-        since.kept_upto(&self.line_spans(since.from()))
+        if since.is_plain() && !self.highlight_char {
+            return since.from();
+        }
+        self.kept_in_styles(since)
+    }
+
+    /// The same, if the line has or had styles. Not inlined, so that other lines need no frame for
+    /// the spans.
+    #[inline(never)]
+    fn kept_in_styles(&self, since: &Since<'_>) -> usize
+        ensures { result ≡ kept_upto since.now (setting_of self.now) (value_of self.now) }
+    {
+        let spans = self.line_spans(since.from());
+        since.kept_upto(spans.as_ref())
     }
 
     /// The same place, if the line may be drawn from there on.
-    fn place_since(&self, since: &Since) -> Option<usize>
+    fn place_since(&self, since: &Since<'_>) -> Option<usize>
         ensures place { let kept = kept_upto since.now (setting_of self.now) (value_of self.now) in
             result ≡ (if may_begin_at kept since.now (value_of self.now) then Some kept else None) }
         ensures boundary { IfSome result (IsCharBoundary self.now.recorded.line.text) }
@@ -110,7 +124,7 @@ impl<'p, 'h, Out: Renderer, H: Helper + Drop, Hi: History> State<'p, 'h, Out, H,
 
     /// Draws the line with the current hint: from a place on if a change left the line and its styles
     /// up to there and it may be drawn so, else in full.
-    pub(crate) fn draw_since(&mut self, since: &Option<Since>) -> Result<(), ReadlineError>
+    pub(crate) fn draw_since(&mut self, since: &Option<Since<'_>>) -> Result<(), ReadlineError>
         ensures { Renders (draw_effect_since since.now) self.old self.new result }
     {
         if let Some(since) = since {
@@ -123,7 +137,7 @@ impl<'p, 'h, Out: Renderer, H: Helper + Drop, Hi: History> State<'p, 'h, Out, H,
     }
 
     /// The same with a new hint.
-    pub(crate) fn refresh_since(&mut self, since: &Option<Since>) -> Result<(), ReadlineError>
+    pub(crate) fn refresh_since(&mut self, since: &Option<Since<'_>>) -> Result<(), ReadlineError>
         ensures does { Does (refresh_effect_since since.now) self.old self.new result }
     {
         self.ask_anew()?;

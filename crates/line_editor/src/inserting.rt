@@ -6,7 +6,7 @@ ghost use Rattle.line_editor.specs.Characters.{stands_apart};
 use crate::characters::stands_apart;
 use crate::measured::known_within;
 use crate::renderer::Renderer;
-use crate::shared_styles::Since;
+use crate::shared_styles::{FirstSpans, Since};
 use crate::state::State;
 use crate::way::Way;
 use line_buffer::{RepeatCount, is_printable, is_printable_text, is_simple};
@@ -121,7 +121,7 @@ impl<'p, 'h, Out: Renderer, H: Helper + Drop, Hi: History> State<'p, 'h, Out, H,
         &mut self,
         ch: char,
         way: Way,
-        since: &Option<Since>,
+        since: &Option<Since<'_>>,
     ) -> Result<(), ReadlineError>
         ensures does { Does (show_inserted_effect ch way since.now) self.old self.new result }
     {
@@ -139,9 +139,35 @@ impl<'p, 'h, Out: Renderer, H: Helper + Drop, Hi: History> State<'p, 'h, Out, H,
     pub fn edit_insert(&mut self, ch: char, n: RepeatCount) -> Result<(), ReadlineError>
         ensures does { Does (insert_char ch n) self.old self.new result }
     {
+        if self.highlight_char {
+            return self.insert_in_styles(ch, n);
+        }
+        self.insert_noted(ch, n, None)
+    }
+
+    /// The same in a line with styles, whose first spans are noted. Not inlined, so that other
+    /// lines need no frame for them.
+    #[inline(never)]
+    fn insert_in_styles(&mut self, ch: char, n: RepeatCount) -> Result<(), ReadlineError>
+        ensures does { Does (insert_char ch n) self.old self.new result }
+    {
+        let noted = self.line_spans(self.recorded.line.len());
+        self.insert_noted(ch, n, noted.as_ref())
+    }
+
+    /// The same by the first spans of the line, if it has styles.
+    fn insert_noted(
+        &mut self,
+        ch: char,
+        n: RepeatCount,
+        noted: Option<&FirstSpans>,
+    ) -> Result<(), ReadlineError>
+        requires noted { AreFirst (length self.old.recorded.line.text) (line_spans (setting_of self.old) (value_of self.old)) (option_copied noted) }
+        ensures does { Does (insert_char ch n) self.old self.new result }
+    {
         let way = self.insertion_way(ch, n);
         let pos = self.recorded.line.pos();
-        let since = self.since(pos);
+        let since = self.since(pos, noted);
         let known = known_within(pos, self.known);
         self.known = None;
         let inserted = self.recorded.insert_char(self.alloc, ch, n)?;
@@ -156,11 +182,36 @@ impl<'p, 'h, Out: Renderer, H: Helper + Drop, Hi: History> State<'p, 'h, Out, H,
     pub fn edit_insert_text(&mut self, text: &str) -> Result<(), ReadlineError>
         ensures does { Does (insert_text text.now) self.old self.new result }
     {
+        if self.highlight_char {
+            return self.insert_text_in_styles(text);
+        }
+        self.insert_text_noted(text, None)
+    }
+
+    /// The same in a line with styles, whose first spans are noted. Not inlined, so that other
+    /// lines need no frame for them.
+    #[inline(never)]
+    fn insert_text_in_styles(&mut self, text: &str) -> Result<(), ReadlineError>
+        ensures does { Does (insert_text text.now) self.old self.new result }
+    {
+        let noted = self.line_spans(self.recorded.line.len());
+        self.insert_text_noted(text, noted.as_ref())
+    }
+
+    /// The same by the first spans of the line, if it has styles.
+    fn insert_text_noted(
+        &mut self,
+        text: &str,
+        noted: Option<&FirstSpans>,
+    ) -> Result<(), ReadlineError>
+        requires noted { AreFirst (length self.old.recorded.line.text) (line_spans (setting_of self.old) (value_of self.old)) (option_copied noted) }
+        ensures does { Does (insert_text text.now) self.old self.new result }
+    {
         if text.is_empty() {
             return Ok(());
         }
         let pos = self.recorded.line.pos();
-        let since = self.since(pos);
+        let since = self.since(pos, noted);
         let known = known_within(pos, self.known);
         self.known = None;
         self.recorded.insert_text(self.alloc, text)?;
@@ -172,8 +223,34 @@ impl<'p, 'h, Out: Renderer, H: Helper + Drop, Hi: History> State<'p, 'h, Out, H,
     pub fn edit_replace_char(&mut self, ch: char, n: RepeatCount) -> Result<(), ReadlineError>
         ensures does { Does (replace_char ch n) self.old self.new result }
     {
+        if self.highlight_char {
+            return self.replace_char_in_styles(ch, n);
+        }
+        self.replace_char_noted(ch, n, None)
+    }
+
+    /// The same in a line with styles, whose first spans are noted. Not inlined, so that other
+    /// lines need no frame for them.
+    #[inline(never)]
+    fn replace_char_in_styles(&mut self, ch: char, n: RepeatCount) -> Result<(), ReadlineError>
+        ensures does { Does (replace_char ch n) self.old self.new result }
+    {
+        let noted = self.line_spans(self.recorded.line.len());
+        self.replace_char_noted(ch, n, noted.as_ref())
+    }
+
+    /// The same by the first spans of the line, if it has styles.
+    fn replace_char_noted(
+        &mut self,
+        ch: char,
+        n: RepeatCount,
+        noted: Option<&FirstSpans>,
+    ) -> Result<(), ReadlineError>
+        requires noted { AreFirst (length self.old.recorded.line.text) (line_spans (setting_of self.old) (value_of self.old)) (option_copied noted) }
+        ensures does { Does (replace_char ch n) self.old self.new result }
+    {
         let pos = self.recorded.line.pos();
-        let since = self.since(pos);
+        let since = self.since(pos, noted);
         let known = known_within(pos, self.known);
         self.known = None;
         let replaced = self.recorded.replace_chars(self.alloc, ch, n)?;
@@ -189,8 +266,33 @@ impl<'p, 'h, Out: Renderer, H: Helper + Drop, Hi: History> State<'p, 'h, Out, H,
     pub fn edit_overwrite_char(&mut self, ch: char) -> Result<(), ReadlineError>
         ensures does { Does (overwrite_char ch) self.old self.new result }
     {
+        if self.highlight_char {
+            return self.overwrite_char_in_styles(ch);
+        }
+        self.overwrite_char_noted(ch, None)
+    }
+
+    /// The same in a line with styles, whose first spans are noted. Not inlined, so that other
+    /// lines need no frame for them.
+    #[inline(never)]
+    fn overwrite_char_in_styles(&mut self, ch: char) -> Result<(), ReadlineError>
+        ensures does { Does (overwrite_char ch) self.old self.new result }
+    {
+        let noted = self.line_spans(self.recorded.line.len());
+        self.overwrite_char_noted(ch, noted.as_ref())
+    }
+
+    /// The same by the first spans of the line, if it has styles.
+    fn overwrite_char_noted(
+        &mut self,
+        ch: char,
+        noted: Option<&FirstSpans>,
+    ) -> Result<(), ReadlineError>
+        requires noted { AreFirst (length self.old.recorded.line.text) (line_spans (setting_of self.old) (value_of self.old)) (option_copied noted) }
+        ensures does { Does (overwrite_char ch) self.old self.new result }
+    {
         let pos = self.recorded.line.pos();
-        let since = self.since(pos);
+        let since = self.since(pos, noted);
         let known = known_within(pos, self.known);
         self.known = None;
         let written = self.recorded.overwrite(self.alloc, ch)?;

@@ -10,7 +10,7 @@ ghost use Rattle.line_editor.specs.declared.way.Way.TheVariants.{AtEnd, Inside};
 use crate::characters::{last_char, stands_apart};
 use crate::measured::known_within;
 use crate::renderer::Renderer;
-use crate::shared_styles::Since;
+use crate::shared_styles::{FirstSpans, Since};
 use crate::state::State;
 use crate::way::Way;
 use line_buffer::{Mode, Movement, TextSpan, is_printable_text};
@@ -113,13 +113,17 @@ impl<'p, 'h, Out: Renderer, H: Helper + Drop, Hi: History> State<'p, 'h, Out, H,
 
     /// The place at which a kill of a range leaves the cursor, if the line may be drawn from there
     /// on, and in part.
-    fn since_kill(&self, span: Option<TextSpan>) -> Option<Since>
+    fn since_kill<'s>(
+        &self,
+        span: Option<TextSpan>,
+        noted: Option<&'s FirstSpans>,
+    ) -> Option<Since<'s>>
         ensures { result ≡ since (setting_of self.now)
             (deletion_line span self.now.recorded.line).place (value_of self.now) }
     {
         match span {
-            Some(span) => self.since(span.from),
-            None => self.since(self.recorded.line.pos()),
+            Some(span) => self.since(span.from, noted),
+            None => self.since(self.recorded.line.pos(), noted),
         }
     }
 
@@ -129,7 +133,7 @@ impl<'p, 'h, Out: Renderer, H: Helper + Drop, Hi: History> State<'p, 'h, Out, H,
         &mut self,
         count: usize,
         way: Way,
-        since: &Option<Since>,
+        since: &Option<Since<'_>>,
     ) -> Result<(), ReadlineError>
         ensures does { Does (show_killed_effect count way since.now) self.old self.new result }
     {
@@ -160,11 +164,51 @@ impl<'p, 'h, Out: Renderer, H: Helper + Drop, Hi: History> State<'p, 'h, Out, H,
             (λ e. (ring.new ≡ ring_with_kill_of movement.now (value_of self.old) ring.old)
             ⊎ ((e ≡ ReadlineError.Memory) × (ring.new ≡ ring_without_kill movement.now ring.old))) }
     {
+        if self.highlight_char {
+            return self.kill_in_styles(movement, ring);
+        }
+        self.kill_noted(movement, ring, None)
+    }
+
+    /// The same in a line with styles, whose first spans are noted. Not inlined, so that other
+    /// lines need no frame for them.
+    #[inline(never)]
+    fn kill_in_styles(
+        &mut self,
+        movement: &Movement,
+        ring: &mut KillRing,
+    ) -> Result<(), ReadlineError>
+        ensures does { Does (kill_effect movement.now) self.old self.new result }
+        ensures ring { OnOk result
+            (ring.new ≡ ring_with_kill_of movement.now (value_of self.old) ring.old) }
+        ensures refused_ring { IfErr result
+            (λ e. (ring.new ≡ ring_with_kill_of movement.now (value_of self.old) ring.old)
+            ⊎ ((e ≡ ReadlineError.Memory) × (ring.new ≡ ring_without_kill movement.now ring.old))) }
+    {
+        let noted = self.line_spans(self.recorded.line.len());
+        self.kill_noted(movement, ring, noted.as_ref())
+    }
+
+    /// The same by the first spans of the line, if it has styles.
+    fn kill_noted(
+        &mut self,
+        movement: &Movement,
+        ring: &mut KillRing,
+        noted: Option<&FirstSpans>,
+    ) -> Result<(), ReadlineError>
+        requires noted { AreFirst (length self.old.recorded.line.text) (line_spans (setting_of self.old) (value_of self.old)) (option_copied noted) }
+        ensures does { Does (kill_effect movement.now) self.old self.new result }
+        ensures ring { OnOk result
+            (ring.new ≡ ring_with_kill_of movement.now (value_of self.old) ring.old) }
+        ensures refused_ring { IfErr result
+            (λ e. (ring.new ≡ ring_with_kill_of movement.now (value_of self.old) ring.old)
+            ⊎ ((e ≡ ReadlineError.Memory) × (ring.new ≡ ring_without_kill movement.now ring.old))) }
+    {
         let span = self.recorded.line.range_of(movement);
         let alone = self.may_be_taken(span);
         let inside = self.may_be_taken_out(span);
         let last = self.last_of_bare();
-        let since = self.since_kill(span);
+        let since = self.since_kill(span, noted);
         let before = self.recorded.line.len();
         let known = self.known_before(movement);
         self.known = None;

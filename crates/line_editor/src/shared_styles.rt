@@ -15,25 +15,29 @@ pub(crate) type FirstSpans = [Span; MOST_SPANS];
 /// The place up to which a change leaves a line, and the first spans of the line before it, if it is
 /// drawn with styles.
 #[derive(Drop)]
-pub(crate) struct Since {
+pub(crate) struct Since<'a> {
     from: usize,
-    spans: Option<FirstSpans>,
+    spans: Option<&'a FirstSpans>,
 }
 
-impl Model for Since {
+impl<'a> Model for Since<'a> {
     ghost use Rattle.line_editor.specs.Drawing.{Since};
+    ghost use Rattle.std.specs.Prelude.{option_copied};
     ghost use Rattle.line_editor.specs.SharedStyles.{styles_in};
 
     ghost Value = { Since };
 
-    ghost view = { λ s. record { from = s.from; styles = styles_in s.from s.spans } };
+    ghost view = { λ s. record {
+      from = s.from;
+      styles = styles_in s.from (option_copied s.spans);
+    } };
 }
 
-impl Since {
+impl<'a> Since<'a> {
     ghost use Rattle.line_editor.specs.SharedStyles.{styles_in};
 
-    pub(crate) fn new(from: usize, spans: Option<FirstSpans>) -> Self
-        ensures { result ≡ record { from = from; styles = styles_in from spans } }
+    pub(crate) fn new(from: usize, spans: Option<&'a FirstSpans>) -> Self
+        ensures { result ≡ record { from = from; styles = styles_in from (option_copied spans) } }
     {
         Since { from, spans }
     }
@@ -45,14 +49,20 @@ impl Since {
         self.from
     }
 
+    /// Whether the line had no styles.
+    pub(crate) fn is_plain(&self) -> bool {
+        self.spans.is_none()
+    }
+
     /// How many bytes before the place have the same styles in a line that has these first spans.
-    pub(crate) fn kept_upto(&self, spans: &Option<FirstSpans>) -> usize
-        ensures { result ≡ shared_styles self.now.styles (styles_in self.now.from spans.now) }
+    pub(crate) fn kept_upto(&self, spans: Option<&FirstSpans>) -> usize
+        ensures { result ≡ shared_styles self.now.styles
+            (styles_in self.now.from (option_copied spans)) }
     {
         let rest = [plain_rest(self.from)];
         shared_styles(
             self.from,
-            spans_or(&self.spans, &rest),
+            spans_or(self.spans, &rest),
             spans_or(spans, &rest),
         )
     }
@@ -69,7 +79,7 @@ fn plain_rest(upto: usize) -> Span
 }
 
 /// These spans, or others if there are none.
-fn spans_or<'a>(spans: &'a Option<FirstSpans>, others: &'a [Span]) -> &'a [Span]
+fn spans_or<'a>(spans: Option<&'a FirstSpans>, others: &'a [Span]) -> &'a [Span]
     ensures { result.now ≡ unwrap_or spans.now others.now }
 {
     match spans {

@@ -4,6 +4,7 @@ ghost use Rattle.line_editor.specs.Yanking.{line_at_anchor, steps_over, behind_y
 
 use crate::measured::known_within;
 use crate::renderer::Renderer;
+use crate::shared_styles::FirstSpans;
 use crate::state::State;
 use line_buffer::{Anchor, LineBuffer, RepeatCount};
 use line_config::ReadlineError;
@@ -62,8 +63,46 @@ impl<'p, 'h, Out: Renderer, H: Helper + Drop, Hi: History> State<'p, 'h, Out, H,
             (yank_text (is_vi_command input_state.now.mode input_state.now.input_mode)
             text.now anchor n) self.old self.new result }
     {
+        if self.highlight_char {
+            return self.yank_in_styles(input_state, text, anchor, n);
+        }
+        self.yank_noted(input_state, text, anchor, n, None)
+    }
+
+    /// The same in a line with styles, whose first spans are noted. Not inlined, so that other
+    /// lines need no frame for them.
+    #[inline(never)]
+    fn yank_in_styles<D: Decides>(
+        &mut self,
+        input_state: &InputState<'_, D>,
+        text: &str,
+        anchor: Anchor,
+        n: RepeatCount,
+    ) -> Result<(), ReadlineError>
+        ensures does { Does
+            (yank_text (is_vi_command input_state.now.mode input_state.now.input_mode)
+            text.now anchor n) self.old self.new result }
+    {
+        let noted = self.line_spans(self.recorded.line.len());
+        self.yank_noted(input_state, text, anchor, n, noted.as_ref())
+    }
+
+    /// The same by the first spans of the line, if it has styles.
+    fn yank_noted<D: Decides>(
+        &mut self,
+        input_state: &InputState<'_, D>,
+        text: &str,
+        anchor: Anchor,
+        n: RepeatCount,
+        noted: Option<&FirstSpans>,
+    ) -> Result<(), ReadlineError>
+        requires noted { AreFirst (length self.old.recorded.line.text) (line_spans (setting_of self.old) (value_of self.old)) (option_copied noted) }
+        ensures does { Does
+            (yank_text (is_vi_command input_state.now.mode input_state.now.input_mode)
+            text.now anchor n) self.old self.new result }
+    {
         let from = place_at(&self.recorded.line, anchor);
-        let since = self.since(from);
+        let since = self.since(from, noted);
         let known = self.known;
         self.known = None;
         let recorded = &mut self.recorded;
@@ -86,11 +125,37 @@ impl<'p, 'h, Out: Renderer, H: Helper + Drop, Hi: History> State<'p, 'h, Out, H,
     pub fn edit_yank_pop(&mut self, yank_size: usize, text: &str) -> Result<(), ReadlineError>
         ensures does { Does (pop_text yank_size text.now) self.old self.new result }
     {
+        if self.highlight_char {
+            return self.yank_pop_in_styles(yank_size, text);
+        }
+        self.yank_pop_noted(yank_size, text, None)
+    }
+
+    /// The same in a line with styles, whose first spans are noted. Not inlined, so that other
+    /// lines need no frame for them.
+    #[inline(never)]
+    fn yank_pop_in_styles(&mut self, yank_size: usize, text: &str) -> Result<(), ReadlineError>
+        ensures does { Does (pop_text yank_size text.now) self.old self.new result }
+    {
+        let noted = self.line_spans(self.recorded.line.len());
+        self.yank_pop_noted(yank_size, text, noted.as_ref())
+    }
+
+    /// The same by the first spans of the line, if it has styles.
+    fn yank_pop_noted(
+        &mut self,
+        yank_size: usize,
+        text: &str,
+        noted: Option<&FirstSpans>,
+    ) -> Result<(), ReadlineError>
+        requires noted { AreFirst (length self.old.recorded.line.text) (line_spans (setting_of self.old) (value_of self.old)) (option_copied noted) }
+        ensures does { Does (pop_text yank_size text.now) self.old self.new result }
+    {
         if !self.recorded.line.can_take_before(yank_size) {
             return Ok(());
         }
         let from = self.recorded.line.pos() - yank_size;
-        let since = self.since(from);
+        let since = self.since(from, noted);
         let known = known_within(from, self.known);
         self.known = None;
         self.recorded.yank_pop(self.alloc, yank_size, text)?;
