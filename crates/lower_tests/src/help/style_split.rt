@@ -1,7 +1,7 @@
 //! Texts with control sequences: each split into a text and its spans, and a prompt that is split
 //! once, whose spans a highlighter returns.
-use crate::asks::Ask;
-use crate::styles::paints;
+use crate::help::asks::Ask;
+use crate::help::styles::paints;
 use line_help::{Colour, PromptHighlighter, Span, StandardHighlighter, Style, split_styles};
 use stand_ins::rows::{rows_hold, same};
 use stand_ins::tables::{meant, pictured};

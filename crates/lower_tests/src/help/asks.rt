@@ -1,13 +1,13 @@
 //! Tables whose rows need nothing but their own text: two players for all of them.
 
-use crate::brackets::{Judge, bracket_at_the_cursor, match_told, validated};
-use crate::completion::{common_prefix, completed_by, made_of_row};
-use crate::failing::{Way, cut_text_told, room_told};
-use crate::helpers::prompt_told;
-use crate::history::{loaded_anew, loaded_under};
-use crate::resuming::ends_told;
-use crate::style_split::split_told;
-use crate::words::words_of_text;
+use crate::help::brackets::{Judge, bracket_at_the_cursor, match_told, validated};
+use crate::help::completion::{common_prefix, completed_by, made_of_row};
+use crate::help::failing::{Way, cut_text_told, room_told};
+use crate::help::helpers::prompt_told;
+use crate::help::history::{loaded_anew, loaded_under};
+use crate::help::resuming::ends_told;
+use crate::help::style_split::split_told;
+use crate::help::words::words_of_text;
 use stand_ins::rows::{Player, raised, trimmed};
 use std::alloc::{AllocError, Global};
 use std::test::Fail;

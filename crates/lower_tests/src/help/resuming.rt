@@ -3,8 +3,8 @@
 ghost use Rattle.std.specs.Prelude.{◌+◌, [], false, length};
 ghost use Rattle.line_config.specs.declared.device.Last.TheVariants.{End};
 
-use crate::asks::Ask;
-use crate::history::load_told;
+use crate::help::asks::Ask;
+use crate::help::history::load_told;
 use line_config::{DeviceFailed, Source};
 use line_help::{FileHistory, load_words};
 use stand_ins::rows::rows_hold;

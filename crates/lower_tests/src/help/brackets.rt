@@ -1,8 +1,8 @@
 //! Brackets: their matches, the line with a match shown, and the verdicts of validation. A bar
 //! marks a place in a line.
 
-use crate::asks::Ask;
-use crate::helpers::shown_told;
+use crate::help::asks::Ask;
+use crate::help::helpers::shown_told;
 use line_config::{CompletionType, HookFault};
 use line_help::{
     Highlighter, MatchingBracketHighlighter, MatchingBracketValidator, ValidationContext,

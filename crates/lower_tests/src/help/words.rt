@@ -1,8 +1,8 @@
 //! Words: completion with them, and how they are read from a text.
 
-use crate::asks::Ask;
-use crate::completion::completed;
-use crate::history::write_entry;
+use crate::help::asks::Ask;
+use crate::help::completion::completed;
+use crate::help::history::write_entry;
 use line_config::{ReadlineError, SliceSource};
 use line_help::{Completer, WholeWordCompleter, WordCompleter, load_words};
 use stand_ins::rows::{Player, raised, rows_hold};

@@ -1,6 +1,6 @@
 //! Histories, call by call. An entry has a bar after it.
 
-use crate::asks::{Ask, Try};
+use crate::help::asks::{Ask, Try};
 use line_config::{Config, Configurer, HookFault, ReadlineError, SliceSource, Source, VecSink};
 use line_help::{
     Context, FileHistory, Hint, Hinter, History, HistoryHinter, MemHistory, SearchDirection,

@@ -6,10 +6,10 @@ ghost use Rattle.line_keys.specs.Replies.{Replies, gives, gives_at_once, gives_u
 ghost use Rattle.line_config.specs.declared.errors.HookFault.{HookFault};
 ghost use Rattle.line_help.specs.declared.helpers.validate.ValidationResult.TheVariants.{Valid};
 
-use crate::asks::Ask;
-use crate::brackets::shown;
-use crate::history::hint_told;
-use crate::words::completer_of;
+use crate::help::asks::Ask;
+use crate::help::brackets::shown;
+use crate::help::history::hint_told;
+use crate::help::words::completer_of;
 use line_buffer::{ChangeListener, LineBuffer};
 use line_config::{CompletionType, HookFault};
 use line_help::{

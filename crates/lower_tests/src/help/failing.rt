@@ -1,7 +1,7 @@
 //! Devices that fail at each byte in turn, and the history after that.
 
-use crate::asks::Try;
-use crate::history::{add_lines, load_told, told_with_entries, with_lines};
+use crate::help::asks::Try;
+use crate::help::history::{add_lines, load_told, told_with_entries, with_lines};
 use line_config::{Config, ReadlineError, Sink, SliceSource, Source, VecSink};
 use line_help::{FileHistory, History};
 use stand_ins::rows::{Player, raised, rows_hold, same};

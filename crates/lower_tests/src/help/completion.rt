@@ -4,8 +4,8 @@ ghost use Rattle.line_config.specs.declared.errors.HookFault.TheVariants.{Memory
 ghost use Rattle.line_help.specs.FileNames.{Named};
 ghost use Rattle.line_keys.specs.Replies.{gives, gives_unless};
 
-use crate::asks::{Ask, Try};
-use crate::words::completer_of;
+use crate::help::asks::{Ask, Try};
+use crate::help::words::completer_of;
 use line_buffer::{LineBuffer, NoListener};
 use line_config::HookFault;
 use line_help::{
