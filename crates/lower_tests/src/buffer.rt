@@ -8,3 +8,13 @@ mod kills;
 mod log;
 mod motions;
 mod table;
+
+use std::test::Fail;
+use table::plays;
+
+#[test]
+fn motions_and_edits(rt: HostRuntime) -> Result<(), Fail> {
+    plays(rt.alloc(), &motions::TABLES)?;
+    plays(rt.alloc(), &columns::TABLES)?;
+    plays(rt.alloc(), &edits::TABLES)
+}

@@ -12,3 +12,39 @@ mod typing;
 mod vi_command;
 mod vi_insert;
 mod vi_operators;
+
+use line_config::EditMode;
+use std::test::Fail;
+use tables::{each_count, plays};
+
+#[test]
+fn each_key_with_each_count(rt: HostRuntime) -> Result<(), Fail> {
+    each_count(rt.alloc(), EditMode::Emacs, emacs::COUNTS, emacs::EMACS)?;
+    each_count(rt.alloc(), EditMode::Emacs, emacs::COUNTS, emacs::COMMON)?;
+    each_count(
+        rt.alloc(),
+        EditMode::Vi,
+        vi_insert::NO_COUNT,
+        vi_insert::INSERT,
+    )?;
+    each_count(
+        rt.alloc(),
+        EditMode::Vi,
+        vi_command::COUNTS,
+        vi_command::COMMANDS,
+    )
+}
+
+#[test]
+fn tables_of_keys(rt: HostRuntime) -> Result<(), Fail> {
+    plays(rt.alloc(), EditMode::Emacs, &emacs::TABLES)?;
+    plays(rt.alloc(), EditMode::Emacs, &bound::TABLES)?;
+    plays(
+        rt.alloc(),
+        EditMode::Emacs,
+        &modal::KEYS_QUOTED_IN_EMACS_MODE,
+    )?;
+    plays(rt.alloc(), EditMode::Vi, &vi_insert::TABLES)?;
+    plays(rt.alloc(), EditMode::Vi, &vi_command::TABLES)?;
+    plays(rt.alloc(), EditMode::Vi, &modal::MODAL_KEYS_OF_VI)
+}

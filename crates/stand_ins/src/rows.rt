@@ -37,11 +37,24 @@ pub fn same(found: &str, wanted: &str) -> Result<(), Fail> {
     }
 }
 
+/// Fails with these words if a fact doesn't hold. As a test's `assert!` it costs half of that.
+pub fn stands(holds: bool, wrong: &'static str) -> Result<(), Fail> {
+    if holds { Ok(()) } else { Err(Fail::new(wrong)) }
+}
+
 /// An answer, its error converted to the caller's like `?` does. As a last call this costs the
 /// prover half of `Ok(call()?)`.
 pub fn raised<T, E, F: From<E>>(answer: Result<T, E>) -> Result<T, F> {
     match answer {
         Ok(value) => Ok(value),
+        Err(why) => Err(F::from(why)),
+    }
+}
+
+/// The same without the answer's value.
+pub fn done<T: Drop, E, F: From<E>>(answer: Result<T, E>) -> Result<(), F> {
+    match answer {
+        Ok(_) => Ok(()),
         Err(why) => Err(F::from(why)),
     }
 }

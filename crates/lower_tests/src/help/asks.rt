@@ -13,7 +13,7 @@ use std::alloc::{AllocError, Global};
 use std::test::Fail;
 
 /// The calls of a table's rows that fail only if memory runs out.
-#[derive(Drop)]
+#[derive(Clone, Copy, Drop)]
 pub(crate) enum Ask {
     Match,
     AtTheCursor,
@@ -52,7 +52,7 @@ impl Player for Ask {
 }
 
 /// The calls of a table's rows that may fail for other reasons too.
-#[derive(Drop)]
+#[derive(Clone, Copy, Drop)]
 pub(crate) enum Try {
     Words,
     Loaded,

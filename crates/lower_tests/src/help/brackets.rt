@@ -81,16 +81,6 @@ pub(crate) fn bracket_at_the_cursor(alloc: Global, line: &str) -> Result<String,
     place_told(alloc, line.as_str(), check_bracket(line.as_str(), place))
 }
 
-#[test]
-fn matches_of_brackets(rt: HostRuntime) -> Result<(), Fail> {
-    rows_hold(rt.alloc(), &mut Ask::Match, MATCHES)
-}
-
-#[test]
-fn brackets_at_the_cursor(rt: HostRuntime) -> Result<(), Fail> {
-    rows_hold(rt.alloc(), &mut Ask::AtTheCursor, AT_THE_CURSOR)
-}
-
 // The calls of a highlighter for a line, whether it marks something in it, and the line as it is
 // drawn. First come brackets that were found in one line while other lines are drawn, then texts
 // that stay as they are.
@@ -249,7 +239,7 @@ fn verdict_told(
 }
 
 /// Judges the brackets of a text: a validator, none, or only the function.
-#[derive(Drop)]
+#[derive(Clone, Copy, Drop)]
 pub(crate) enum Judge {
     Function,
     Validator,
@@ -273,18 +263,17 @@ pub(crate) fn validated(alloc: Global, judge: &Judge, text: &str) -> Result<Stri
 }
 
 #[test]
-fn texts_validated(rt: HostRuntime) -> Result<(), Fail> {
+fn brackets_matched_and_texts_validated(rt: HostRuntime) -> Result<(), Fail> {
+    rows_hold(rt.alloc(), &mut Ask::Match, MATCHES)?;
+    rows_hold(rt.alloc(), &mut Ask::AtTheCursor, AT_THE_CURSOR)?;
     rows_hold(rt.alloc(), &mut Ask::Verdict(Judge::Function), VERDICTS)?;
     rows_hold(rt.alloc(), &mut Ask::Verdict(Judge::Validator), VERDICTS)?;
     let mut none = Ask::Verdict(Judge::NoValidator);
     rows_hold(rt.alloc(), &mut none, "    ( = valid")
 }
 
-#[test]
-fn validators_asked_for_the_line_alone(rt: HostRuntime) {
-    assert!(rt;
-        !().validate_while_typing()
-            && !MatchingBracketValidator::new().validate_while_typing()
-            && ValidationContext::new("a b").input() == "a b"
-    );
+pub(crate) fn validators_ask_for_the_line_alone() -> bool {
+    !().validate_while_typing()
+        && !MatchingBracketValidator::new().validate_while_typing()
+        && ValidationContext::new("a b").input() == "a b"
 }

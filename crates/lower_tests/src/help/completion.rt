@@ -351,11 +351,6 @@ fn boxed_completed(alloc: Global, line: &str) -> Result<String, AllocError> {
     completed(alloc, &completer, line)
 }
 
-#[test]
-fn completers(rt: HostRuntime) -> Result<(), Fail> {
-    rows_hold(rt.alloc(), &mut Ask::CompletedBy, COMPLETERS)
-}
-
 fn copied(alloc: Global, pairs: &[Pair]) -> Result<Vec<Pair>, HookFault> {
     let mut copies = Vec::new(alloc);
     for pair in pairs {
@@ -530,11 +525,6 @@ pub(crate) fn made_of_row(alloc: Global, call: &str) -> Result<String, HookFault
     made(alloc, call, escape_named(esc), text.as_str())
 }
 
-#[test]
-fn words_and_escapes(rt: HostRuntime) -> Result<(), Fail> {
-    rows_hold(rt.alloc(), &mut Try::Words, WORDS)
-}
-
 // Candidates, with a semicolon after each, and their common prefix.
 const COMMON_PREFIXES: &str = "
                             = none
@@ -555,7 +545,9 @@ pub(crate) fn common_prefix(alloc: Global, texts: &str) -> Result<String, AllocE
 }
 
 #[test]
-fn common_prefixes(rt: HostRuntime) -> Result<(), Fail> {
-    same("text".display(), "text")?;
-    rows_hold(rt.alloc(), &mut Ask::CommonPrefixes, COMMON_PREFIXES)
+fn completers(rt: HostRuntime) -> Result<(), Fail> {
+    rows_hold(rt.alloc(), &mut Ask::CompletedBy, COMPLETERS)?;
+    rows_hold(rt.alloc(), &mut Ask::CommonPrefixes, COMMON_PREFIXES)?;
+    rows_hold(rt.alloc(), &mut Try::Words, WORDS)?;
+    same("text".display(), "text")
 }

@@ -96,11 +96,6 @@ fn saved_with(alloc: Global, lines: &str) -> Result<FileHistory, ReadlineError> 
     Ok(history)
 }
 
-#[test]
-fn sources_that_fail_at_each_byte(rt: HostRuntime) -> Result<(), Fail> {
-    rows_hold(rt.alloc(), &mut Try::CutTexts, CUT_TEXTS)
-}
-
 // The answer of a new history to a row that isn't UTF-8 before a failure.
 fn bad_row_told(alloc: Global) -> Result<String, AllocError> {
     let mut source = SliceSource::failing_after(b"a\n\xff\nb");
@@ -146,7 +141,7 @@ const ADDITIONS: &str = r"
 ";
 
 /// How the text of a history is written.
-#[derive(Drop)]
+#[derive(Clone, Copy, Drop)]
 pub(crate) enum Way {
     Save,
     Append,
@@ -213,7 +208,8 @@ pub(crate) fn room_told(alloc: Global, way: &Way, room: &str) -> Result<String, 
 }
 
 #[test]
-fn sinks_that_fail_at_each_byte(rt: HostRuntime) -> Result<(), Fail> {
+fn sources_and_sinks_that_fail_at_each_byte(rt: HostRuntime) -> Result<(), Fail> {
+    rows_hold(rt.alloc(), &mut Try::CutTexts, CUT_TEXTS)?;
     rows_hold(rt.alloc(), &mut Try::Room(Way::Save), SAVES)?;
     rows_hold(rt.alloc(), &mut Try::Room(Way::Append), ADDITIONS)
 }
@@ -225,10 +221,9 @@ fn writes_nothing(alloc: Global, sink: &mut FailingSink) -> bool {
 }
 
 /// A failed sink isn't called if nothing is new.
-#[test]
-fn nothing_new_for_a_failed_sink(rt: HostRuntime) {
+pub(crate) fn writes_nothing_to_a_failed_sink(alloc: Global) -> bool {
     let mut sink = marking(0);
-    assert!(rt; sink.flush().is_err() && writes_nothing(rt.alloc(), &mut sink));
+    sink.flush().is_err() && writes_nothing(alloc, &mut sink)
 }
 
 // Calls of one history, and what they write to one sink.

@@ -143,11 +143,6 @@ pub(crate) fn loaded_anew(alloc: Global, text: &str) -> Result<String, ReadlineE
     loaded(alloc, &mut FileHistory::new(alloc), &text)
 }
 
-#[test]
-fn texts_that_are_loaded(rt: HostRuntime) -> Result<(), Fail> {
-    rows_hold(rt.alloc(), &mut Try::Loaded, LOADED)
-}
-
 // A text that is loaded by histories with these settings: the most entries, and what is ignored.
 const SETTINGS_TEXT: &str = "#V2\na\na\n b\n\u{3000}c\nd\n";
 
@@ -173,9 +168,9 @@ pub(crate) fn loaded_under(alloc: Global, settings: &str) -> Result<String, Allo
     load_told(alloc, &mut history, &mut source)
 }
 
-/// Loading follows the history's own settings, like adding.
 #[test]
-fn texts_under_other_settings(rt: HostRuntime) -> Result<(), Fail> {
+fn texts_that_are_loaded(rt: HostRuntime) -> Result<(), Fail> {
+    rows_hold(rt.alloc(), &mut Try::Loaded, LOADED)?;
     rows_hold(rt.alloc(), &mut Ask::Settings, SETTINGS)
 }
 

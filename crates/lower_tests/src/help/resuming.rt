@@ -3,14 +3,11 @@
 ghost use Rattle.std.specs.Prelude.{◌+◌, [], false, length};
 ghost use Rattle.line_config.specs.declared.device.Last.TheVariants.{End};
 
-use crate::help::asks::Ask;
 use crate::help::history::load_told;
 use line_config::{DeviceFailed, Source};
 use line_help::{FileHistory, load_words};
-use stand_ins::rows::rows_hold;
 use stand_ins::tables::meant_bytes;
 use std::alloc::{AllocError, Global};
-use std::test::Fail;
 
 /// Some bytes, an end, more bytes, and an end again.
 #[derive(Drop)]
@@ -53,7 +50,7 @@ impl Source for Resuming<'_> {
 
 // A text before which nothing was loaded, and `c` after its end: the answer of a new history, its
 // entries then, and those after it loads again.
-const ENDS: &str = r"
+pub(crate) const ENDS: &str = r"
     a␊b     = part a|b|, then part a|b|c|
     a␊b␊    = part a|b|, then part a|b|c|
     #V2     = whole , then part c|
@@ -81,14 +78,8 @@ fn loaded_twice(
     format!(in alloc; "{first}, then {second}")
 }
 
-/// Nothing is read past a text's end: what comes there is another text.
-#[test]
-fn nothing_read_behind_the_end(rt: HostRuntime) -> Result<(), Fail> {
-    rows_hold(rt.alloc(), &mut Ask::Ends, ENDS)
-}
-
 // The number of words read from a source, and the number after its end.
-fn words_counted(alloc: Global) -> (usize, usize) {
+pub(crate) fn words_counted(alloc: Global) -> (usize, usize) {
     let mut source = Resuming {
         bytes: b"a\nb",
         more: b"c",
@@ -104,9 +95,4 @@ fn count_read(alloc: Global, source: &mut Resuming<'_>) -> usize {
         Ok(words) => words.len(),
         Err(_) => 0,
     }
-}
-
-#[test]
-fn no_word_read_behind_the_end(rt: HostRuntime) {
-    assert!(rt; words_counted(rt.alloc()) == (2, 1));
 }

@@ -109,16 +109,8 @@ pub(crate) fn split_told(alloc: Global, call: &str) -> Result<String, AllocError
 
 #[test]
 fn texts_are_split(rt: HostRuntime) -> Result<(), Fail> {
-    rows_hold(rt.alloc(), &mut Ask::Split, SPLIT)
-}
-
-#[test]
-fn unknown_numbers_are_dropped(rt: HostRuntime) -> Result<(), Fail> {
-    rows_hold(rt.alloc(), &mut Ask::Split, DROPPED)
-}
-
-#[test]
-fn other_sequences(rt: HostRuntime) -> Result<(), Fail> {
+    rows_hold(rt.alloc(), &mut Ask::Split, SPLIT)?;
+    rows_hold(rt.alloc(), &mut Ask::Split, DROPPED)?;
     rows_hold(rt.alloc(), &mut Ask::Split, OTHERS)
 }
 

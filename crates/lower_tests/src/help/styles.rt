@@ -149,13 +149,12 @@ fn spans_of_highlighters(rt: HostRuntime) -> Result<(), Fail> {
     paints(rt.alloc(), brackets, &[MATCHES, NO_OTHER_PART])?;
     let standard = StandardHighlighter::default();
     paints(rt.alloc(), standard, &[MATCHES, HINTS_AND_MESSAGES])?;
-    paints(rt.alloc(), (), &[NOTHING])
-}
-
-#[test]
-fn spans_of_the_highlighter_inside(rt: HostRuntime) -> Result<(), Fail> {
+    paints(rt.alloc(), (), &[NOTHING])?;
     let parts = parts_of(StandardHighlighter::new());
-    let boxed = Box::new(rt.alloc(), parts)?;
-    paints(rt.alloc(), boxed, &[MATCHES, HINTS_AND_MESSAGES])?;
+    paints(
+        rt.alloc(),
+        Box::new(rt.alloc(), parts)?,
+        &[MATCHES, HINTS_AND_MESSAGES],
+    )?;
     paints(rt.alloc(), parts_of(()), &[NOTHING])
 }

@@ -3,9 +3,10 @@
 use crate::help::asks::Ask;
 use crate::help::completion::completed;
 use crate::help::history::write_entry;
+use crate::help::resuming::{ENDS, words_counted};
 use line_config::{ReadlineError, SliceSource};
 use line_help::{Completer, WholeWordCompleter, WordCompleter, load_words};
-use stand_ins::rows::{Player, raised, rows_hold};
+use stand_ins::rows::{Player, raised, rows_hold, stands};
 use stand_ins::tables::{meant_bytes, word_and_rest};
 use std::alloc::{AllocError, Global};
 use std::test::Fail;
@@ -57,12 +58,6 @@ impl<C: Completer> Player for Asked<C> {
     }
 }
 
-#[test]
-fn words_complete(rt: HostRuntime) -> Result<(), Fail> {
-    let completer = completer_of(rt.alloc(), LISTED)?;
-    rows_hold(rt.alloc(), &mut Asked { completer }, BY_WORDS)
-}
-
 // The same by whole words, which a space ends.
 const BY_WHOLE_WORDS: &str = "
     alp|            = |alp; alpha→alpha; alpine→alpine, all with alp
@@ -74,13 +69,6 @@ const BY_WHOLE_WORDS: &str = "
     alphas|         = |alphas
     x |             = x |; alpha→alpha; alpine→alpine; twin→twin; twin→twin; été→été; étoile→étoile; e\u{301}a→e\u{301}a; eb→eb; 漢字→漢字; al→al
 ";
-
-#[test]
-fn whole_words_complete(rt: HostRuntime) -> Result<(), Fail> {
-    let words = words_in(rt.alloc(), LISTED)?;
-    let completer = WholeWordCompleter::new(words, " ");
-    rows_hold(rt.alloc(), &mut Asked { completer }, BY_WHOLE_WORDS)
-}
 
 // By 100,000 words.
 const AMONG_MANY: &str = "
@@ -96,12 +84,6 @@ fn numbered(alloc: Global, count: u32) -> Result<WordCompleter, AllocError> {
         words.push(format!(in alloc; "word{number}")?)?;
     }
     Ok(WordCompleter::new(words))
-}
-
-#[test]
-fn many_words(rt: HostRuntime) -> Result<(), Fail> {
-    let completer = numbered(rt.alloc(), 100_000)?;
-    rows_hold(rt.alloc(), &mut Asked { completer }, AMONG_MANY)
 }
 
 // The words of a text, with a bar after each; for the second text the source fails at the end.
@@ -152,7 +134,25 @@ pub(crate) fn words_of_text(alloc: Global, call: &str) -> Result<String, AllocEr
     words_told(alloc, answer)
 }
 
+fn completes<C: Completer + Drop>(alloc: Global, completer: C, rows: &str) -> Result<(), Fail> {
+    rows_hold(alloc, &mut Asked { completer }, rows)
+}
+
+#[test]
+fn words_complete(rt: HostRuntime) -> Result<(), Fail> {
+    let alloc = rt.alloc();
+    completes(alloc, completer_of(alloc, LISTED)?, BY_WORDS)?;
+    let whole = WholeWordCompleter::new(words_in(alloc, LISTED)?, " ");
+    completes(alloc, whole, BY_WHOLE_WORDS)?;
+    completes(alloc, numbered(alloc, 100_000)?, AMONG_MANY)
+}
+
 #[test]
 fn words_of_texts(rt: HostRuntime) -> Result<(), Fail> {
-    rows_hold(rt.alloc(), &mut Ask::WordsOfTexts, TEXTS)
+    rows_hold(rt.alloc(), &mut Ask::WordsOfTexts, TEXTS)?;
+    rows_hold(rt.alloc(), &mut Ask::Ends, ENDS)?;
+    stands(
+        words_counted(rt.alloc()) == (2, 1),
+        "a word read behind the end",
+    )
 }

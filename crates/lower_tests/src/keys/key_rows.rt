@@ -134,11 +134,22 @@ fn bindings_call_by_call(rt: HostRuntime) -> Result<(), Fail> {
     binds(rt.alloc(), SIX_KEYS)
 }
 
+#[test]
+fn keys_commands_and_readers(rt: HostRuntime) -> Result<(), Fail> {
+    rows_hold(rt.alloc(), &mut Ask::Form, KEYS_HAVE_ONE_FORM)?;
+    rows_hold(rt.alloc(), &mut Ask::Printed, KEYS_PRINT_THEIR_NAMES)?;
+    rows_hold(rt.alloc(), &mut Ask::Named, NAMES_ARE_KEYS)?;
+    rows_hold(rt.alloc(), &mut Ask::MadeAnew, COMMANDS_ARE_MADE_ANEW)?;
+    rows_hold(rt.alloc(), &mut Ask::Reader, READERS_CALL_BY_CALL)?;
+    rows_hold(rt.alloc(), &mut Ask::Signal, A_READER_KNOWS_SIGNALS)
+}
+
 /// The calls of a table's rows.
 #[derive(Clone, Copy, Drop)]
 enum Ask {
     Form,
     MadeAnew,
+    Named,
     Printed,
     Reader,
     Signal,
@@ -149,6 +160,7 @@ impl Player for Ask {
         match self {
             Ask::Form => form_told(alloc, call),
             Ask::MadeAnew => raised(made_anew(alloc, call)),
+            Ask::Named => raised(shown(alloc, &key_named(call))),
             Ask::Printed => raised(printed(alloc, call)),
             Ask::Reader => read(alloc, call),
             Ask::Signal => raised(signal_told(alloc, call)),
@@ -156,8 +168,18 @@ impl Player for Ask {
     }
 }
 
+// The key of a name.
+const NAMES_ARE_KEYS: &str = "
+    x       = Some(KeyEvent(Char('x'), Modifiers(0x0)))
+    C-A     = Some(KeyEvent(Char('A'), Modifiers(CTRL)))
+    A--     = Some(KeyEvent(Char('-'), Modifiers(ALT)))
+    -       = Some(KeyEvent(Char('-'), Modifiers(0x0)))
+    S-Tab   = Some(KeyEvent(Tab, Modifiers(SHIFT)))
+    Enterr  = None
+";
+
 // A character and its key; a key and its normal form.
-const KEYS: &str = "
+const KEYS_HAVE_ONE_FORM: &str = "
     new ␛                   = Esc
     from ␉                  = Tab
     alt ␡                   = A-Backspace
@@ -194,11 +216,6 @@ fn key_told(alloc: Global, key: KeyEvent) -> Result<String, AllocError> {
     let mut said = String::new(alloc);
     write_key(&mut said, key)?;
     Ok(said)
-}
-
-#[test]
-fn keys_have_one_form(rt: HostRuntime) -> Result<(), Fail> {
-    rows_hold(rt.alloc(), &mut Ask::Form, KEYS)
 }
 
 // A count, a line with its cursor and a hint after it, if there is one; the answer of the handler
@@ -282,7 +299,7 @@ fn a_boxed_handler_is_asked(rt: HostRuntime) -> Result<(), Fail> {
 }
 
 // A count, a text that was inserted before, and a command; the repeated command.
-const MADE_ANEW: &str = "
+const COMMANDS_ARE_MADE_ANEW: &str = "
     3 none SelfInsert 1 x                  = SelfInsert(3, 'x')
     none abc SelfInsert 1 x                = Insert(1, \"abc\")
     9 abc Replace ForwardChar 0            = Replace(ForwardChar(3), Some(\"abc\"))
@@ -316,11 +333,6 @@ fn redone(
 ) -> Result<String, ReadlineError> {
     let again = cmd.redo(alloc, count, line)?;
     raised(shown(alloc, &again))
-}
-
-#[test]
-fn commands_are_made_anew(rt: HostRuntime) -> Result<(), Fail> {
-    rows_hold(rt.alloc(), &mut Ask::MadeAnew, MADE_ANEW)
 }
 
 // A line with a long text inserted before.
@@ -361,7 +373,7 @@ fn a_text_of_any_length_is_typed_over(rt: HostRuntime) -> Result<(), Fail> {
 
 // What is typed, and calls of the reader, one after the other. An error is final, except for the
 // end of the input.
-const READERS: &str = "
+const READERS_CALL_BY_CALL: &str = "
     PasteStart text:a␊b Enter : wait paste key+ key+ key+ = PasteStart a␊b Enter Eof Eof
     PasteStart text:a␊b Enter : key key paste = PasteStart PasteOutOfPlace PasteOutOfPlace
     !cut !failed : paste key char = Reader Reader Reader
@@ -397,13 +409,8 @@ fn tell_calls(
     Ok(())
 }
 
-#[test]
-fn readers_call_by_call(rt: HostRuntime) -> Result<(), Fail> {
-    rows_hold(rt.alloc(), &mut Ask::Reader, READERS)
-}
-
 // The keys for which a reader has a command, and what it returns.
-const SIGNALS: &str = "
+const A_READER_KNOWS_SIGNALS: &str = "
     C-c                     = None
     C-C                     = Some(Interrupt)
     unbuffer                = None
@@ -418,11 +425,6 @@ fn signal_told(alloc: Global, call: &str) -> Result<String, AllocError> {
         Some(key) => shown(alloc, &reader.find_binding(&key)),
         None => String::from_str(alloc, "no key"),
     }
-}
-
-#[test]
-fn a_reader_knows_signals(rt: HostRuntime) -> Result<(), Fail> {
-    rows_hold(rt.alloc(), &mut Ask::Signal, SIGNALS)
 }
 
 // Calls of a line with the hint `c`; the request that it records, and the hint then.
@@ -474,16 +476,11 @@ fn requests_are_kept(rt: HostRuntime) -> Result<(), Fail> {
     rows_hold(rt.alloc(), &mut Asked { line }, REQUESTS)
 }
 
-const PRINTED: &str = "
+const KEYS_PRINT_THEIR_NAMES: &str = "
     C-S-F1 Esc = KeySeq([KeyEvent(F(1), Modifiers(CTRL | SHIFT)), KeyEvent(Esc, Modifiers(0x0))])
 ";
 
 fn printed(alloc: Global, keys: &str) -> Result<String, ReadlineError> {
     let event = event(alloc, keys)?;
     raised(shown(alloc, &event))
-}
-
-#[test]
-fn keys_print_their_names(rt: HostRuntime) -> Result<(), Fail> {
-    rows_hold(rt.alloc(), &mut Ask::Printed, PRINTED)
 }

@@ -4,10 +4,8 @@ use line_config::ReadlineError;
 use line_keys::{Event, KeyEvent, Keys, Text};
 use stand_ins::key_names::key_named;
 use stand_ins::readers::{After, Typed};
-use stand_ins::rows::{Player, rows_hold};
 use stand_ins::tables::meant;
 use std::alloc::{AllocError, Global};
-use std::test::Fail;
 
 /// The event of keys with these names; any event without names.
 pub(crate) fn event(alloc: Global, words: &str) -> Result<Event, ReadlineError> {
@@ -79,33 +77,4 @@ fn item(alloc: Global, word: &str) -> Result<Typed, ReadlineError> {
 /// More characters than a count can name.
 pub(crate) fn long_text(alloc: Global) -> Result<String, AllocError> {
     "x".repeat(alloc, 70_000)
-}
-
-const NAMES: &str = "
-    x       = KeyEvent(Char('x'), Modifiers(0x0))
-    C-A     = KeyEvent(Char('A'), Modifiers(CTRL))
-    A--     = KeyEvent(Char('-'), Modifiers(ALT))
-    -       = KeyEvent(Char('-'), Modifiers(0x0))
-    C-A-]   = KeyEvent(Char(']'), Modifiers(CTRL | ALT))
-    S-Tab   = KeyEvent(Tab, Modifiers(SHIFT))
-    Enterr  = none
-";
-
-/// The key of a name.
-#[derive(Clone, Copy, Drop)]
-struct Name;
-
-impl Player for Name {
-    fn play(&mut self, alloc: Global, name: &str) -> Result<String, Fail> {
-        let said = match key_named(name) {
-            Some(key) => format!(in alloc; "{key:?}")?,
-            None => String::from_str(alloc, "none")?,
-        };
-        Ok(said)
-    }
-}
-
-#[test]
-fn names_are_keys(rt: HostRuntime) -> Result<(), Fail> {
-    rows_hold(rt.alloc(), &mut Name, NAMES)
 }

@@ -6,7 +6,7 @@ ghost use Rattle.line_record.specs.Items.{ItemsStand, ItemsStand-prop};
 use line_buffer::{DeleteListener, LineBuffer, Movement, OutOfMemory, Word, WordAction};
 use line_record::{Changeset, Joined, KillRing};
 use stand_ins::lines::{line_of, shown_of};
-use stand_ins::rows::{Player, raised, rows_hold};
+use stand_ins::rows::{Player, raised, rows_hold, stands};
 use stand_ins::tables::word_and_rest;
 use std::alloc::Global;
 use std::fmt::Display;
@@ -116,13 +116,13 @@ impl Desk {
     fn ask(&mut self, call: &str, text: &str) -> Result<String, Fail> {
         let n: Option<u16> = text.parse().ok();
         let answer = match (call, n) {
-            ("begin", _) => return raised(told(self.alloc, self.begin())),
+            ("begin", _) => return raised(answered(self.alloc, self.begin())),
             ("end", _) => self.end(),
             ("undo", Some(n)) => self.undo(n),
             ("redo", _) => self.redo(),
             _ => return edited(self.alloc, call, self.edit(call, text, n)),
         };
-        raised(told(self.alloc, answer))
+        raised(answered(self.alloc, answer))
     }
 
     /// Makes a call, and returns its answer and the line then.
@@ -134,7 +134,7 @@ impl Desk {
 }
 
 /// An answer, followed by a blank.
-fn told<D: Display + Drop>(
+pub(crate) fn answered<D: Display + Drop>(
     alloc: Global,
     answer: Result<D, OutOfMemory>,
 ) -> Result<String, OutOfMemory> {
@@ -346,13 +346,6 @@ fn hears_one_kill(alloc: Global, heard: &mut Heard) -> Result<bool, OutOfMemory>
     Ok(killed && heard.line.as_str().is_empty() && heard.ring.yank() == Some("one two"))
 }
 
-#[test]
-fn ring_and_record_told_together(rt: HostRuntime) -> Result<(), Fail> {
-    let mut heard = Heard::new(rt.alloc(), "one two|")?;
-    assert!(rt; hears_one_kill(rt.alloc(), &mut heard)?);
-    Ok(())
-}
-
 /// Makes a change of each kind, one of them a kill.
 fn changed_in_turn(
     alloc: Global,
@@ -385,9 +378,10 @@ fn each_hears_its_own(alloc: Global, heard: &mut Heard) -> Result<bool, OutOfMem
 /// texts.
 #[test]
 fn ring_beside_the_record(rt: HostRuntime) -> Result<(), Fail> {
-    let mut heard = Heard::new(rt.alloc(), "")?;
-    assert!(rt; each_hears_its_own(rt.alloc(), &mut heard)?);
-    Ok(())
+    let alloc = rt.alloc();
+    let one = hears_one_kill(alloc, &mut Heard::new(alloc, "one two|")?)?;
+    let each = each_hears_its_own(alloc, &mut Heard::new(alloc, "")?)?;
+    stands(one && each, "a ring or a record that hears other changes")
 }
 
 const TABLES: [&str; 8] = [
