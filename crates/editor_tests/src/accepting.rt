@@ -1,8 +1,5 @@
 //! Accepted lines, accepted hints, and commands that draw or do nothing.
 
-use crate::desk::holds;
-use std::test::Fail;
-
 const ENDS: &str = "
     |: AcceptLine = Submit | /
     ab|: AcceptLine = Submit ab| /
@@ -124,9 +121,4 @@ const HIGHLIGHTS: &str = "
     ab|: AcceptOrInsertLine = ab| / draw '> ab|' at 0,4 to 0,4 lit marked; draw '> ab|{no}' at 0,4 to 0,6 lit marked told
 ";
 
-const TABLES: [&str; 4] = [ENDS, VERDICTS, HINTS, HIGHLIGHTS];
-
-#[test]
-fn ends_of_lines(rt: HostRuntime) -> Result<(), Fail> {
-    holds(&rt, &TABLES)
-}
+pub(crate) const TABLES: [&str; 4] = [ENDS, VERDICTS, HINTS, HIGHLIGHTS];

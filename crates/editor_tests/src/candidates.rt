@@ -1,9 +1,6 @@
 //! Lines in which Tab lists candidates or puts them in turn, by `run` alone. Rows are those of
 //! [`crate::searching`].
 
-use crate::searching::plays_lines;
-use std::test::Fail;
-
 const LISTED: &str = "
     helper: Valid = nothing
     offers: 0 alpha alpine = nothing
@@ -100,12 +97,4 @@ const CUT: &str = "
     a l Tab Enter = Helper / draw '> |' at 0,2 to 0,2; write 'a'; write 'l' / - /
 ";
 
-const TABLES: [&str; 3] = [LISTED, IN_TURN, CUT];
-
-#[test]
-fn lines_of_candidates(rt: HostRuntime) -> Result<(), Fail> {
-    for table in &TABLES {
-        plays_lines(rt.alloc(), table)?;
-    }
-    Ok(())
-}
+pub(crate) const TABLES: [&str; 3] = [LISTED, IN_TURN, CUT];

@@ -1,8 +1,5 @@
 //! Completion of the word before the cursor, with a helper's candidates.
 
-use crate::desk::holds;
-use std::test::Fail;
-
 const COMPLETIONS: &str = "
     al|: Complete = al| /
     helper: Valid = nothing
@@ -84,9 +81,4 @@ const FAILING_COMPLETERS: &str = "
     alp|: Complete = Display alp| /
 ";
 
-const TABLES: [&str; 3] = [COMPLETIONS, TAKEN_BACK, FAILING_COMPLETERS];
-
-#[test]
-fn completions(rt: HostRuntime) -> Result<(), Fail> {
-    holds(&rt, &TABLES)
-}
+pub(crate) const TABLES: [&str; 3] = [COMPLETIONS, TAKEN_BACK, FAILING_COMPLETERS];

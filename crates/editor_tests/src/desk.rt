@@ -19,6 +19,9 @@
 
 use crate::calls::CallList;
 use crate::helpers::{Adviser, Offer, Verdict};
+use crate::{
+    accepting, completing, faults, inserting, killing, moving, remembering, rewording, yanking,
+};
 use line_buffer::{LineBuffer, Unit};
 use line_config::{CompletionType, Config, EditMode, ReadlineError};
 use line_editor::commands::{Status, execute};
@@ -28,7 +31,7 @@ use line_keys::{Bindings, Cmd, CmdKind, Decides, Event, EventHandler, InputState
 use line_record::{Changeset, KillRing};
 use stand_ins::commands::command_named;
 use stand_ins::key_names::key_named;
-use stand_ins::rows::{Player, raised, rows_hold, trimmed};
+use stand_ins::rows::{Player, Starts, raised, tables_hold, trimmed};
 use stand_ins::tables::{marked, meant, pictured, word_and_rest};
 use std::alloc::{AllocError, Global};
 use std::test::Fail;
@@ -565,14 +568,21 @@ impl Player for Stage {
 /// Each row has, after ` = `, how the last command ends unless the line continues, the line then,
 /// and after ` / ` the calls of that command. If results are the ring, it has the line then, the
 /// text that a yank would return, in quotes or `-`, and the line after one undo.
-pub(crate) fn holds(rt: &impl AllocGlobal, tables: &[&str]) -> Result<(), Fail> {
-    for table in tables {
-        stage_holds(rt.alloc(), table)?;
+impl Starts for Stage {
+    fn start(alloc: Global) -> Result<Self, Fail> {
+        raised(Stage::new(alloc))
     }
-    Ok(())
 }
 
-fn stage_holds(alloc: Global, table: &str) -> Result<(), Fail> {
-    let mut stage = Stage::new(alloc)?;
-    rows_hold(alloc, &mut stage, table)
+#[test]
+fn commands(rt: HostRuntime) -> Result<(), Fail> {
+    tables_hold::<Stage>(rt.alloc(), &accepting::TABLES)?;
+    tables_hold::<Stage>(rt.alloc(), &completing::TABLES)?;
+    tables_hold::<Stage>(rt.alloc(), &faults::TABLES)?;
+    tables_hold::<Stage>(rt.alloc(), &inserting::TABLES)?;
+    tables_hold::<Stage>(rt.alloc(), &killing::TABLES)?;
+    tables_hold::<Stage>(rt.alloc(), &moving::TABLES)?;
+    tables_hold::<Stage>(rt.alloc(), &remembering::TABLES)?;
+    tables_hold::<Stage>(rt.alloc(), &rewording::TABLES)?;
+    tables_hold::<Stage>(rt.alloc(), &yanking::TABLES)
 }

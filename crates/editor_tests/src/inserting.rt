@@ -1,8 +1,5 @@
 //! Insertions of characters and texts.
 
-use crate::desk::holds;
-use std::test::Fail;
-
 const INSERTIONS: &str = "
     |: SelfInsert 1 a = a| / write 'a'
     ab|: SelfInsert 1 c = abc| / write 'c'
@@ -181,15 +178,10 @@ const FROM_A_PLACE: &str = "
     ab|: SelfInsert 2 d = abdd| / move 0,4 to 0,4; rest 'dd' at 0,6 to 0,6 lit
 ";
 
-const TABLES: [&str; 5] = [
+pub(crate) const TABLES: [&str; 5] = [
     INSERTIONS,
     HINTS_AND_HIGHLIGHTS,
     AFTER_TABS,
     INSIDE,
     FROM_A_PLACE,
 ];
-
-#[test]
-fn insertions(rt: HostRuntime) -> Result<(), Fail> {
-    holds(&rt, &TABLES)
-}

@@ -1,8 +1,5 @@
 //! Kills, and copies into the ring.
 
-use crate::desk::holds;
-use std::test::Fail;
-
 const DRAWN: &str = "
     |: Kill BackwardChar 1 = | /
     |: Kill ForwardChar 1 = | /
@@ -148,9 +145,4 @@ const FROM_A_PLACE: &str = "
     abx|y: Repaint; Kill BackwardChar 1 = ab|y / move 0,5 to 0,4; take out 1 before 'y' 0,5
 ";
 
-const TABLES: [&str; 5] = [DRAWN, KEPT, WITH_HINTS, INSIDE, FROM_A_PLACE];
-
-#[test]
-fn kills(rt: HostRuntime) -> Result<(), Fail> {
-    holds(&rt, &TABLES)
-}
+pub(crate) const TABLES: [&str; 5] = [DRAWN, KEPT, WITH_HINTS, INSIDE, FROM_A_PLACE];

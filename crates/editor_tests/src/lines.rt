@@ -13,7 +13,7 @@ use line_help::Helper;
 use line_keys::{Cmd, CmdKind, Decides, EventMap, InputState, Text};
 use line_record::KillRing;
 use stand_ins::readers::{After, KeyList, Typed};
-use stand_ins::rows::{Player, raised, rows_hold, trimmed};
+use stand_ins::rows::{Player, Starts, raised, tables_hold, trimmed};
 use stand_ins::tables::{meant, pictured};
 use std::alloc::{AllocError, Global};
 use std::test::Fail;
@@ -328,9 +328,11 @@ impl Player for Typist {
 
 /// Each row has, after ` / `, all calls from the first drawing on; if results are the ring, the
 /// text that a yank would return, in quotes or `-`.
-fn types(alloc: Global, table: &str) -> Result<(), Fail> {
-    let stage = Stage::new(alloc)?;
-    rows_hold(alloc, &mut Typist { stage }, table)
+impl Starts for Typist {
+    fn start(alloc: Global) -> Result<Self, Fail> {
+        let stage = Stage::new(alloc)?;
+        Ok(Typist { stage })
+    }
 }
 
 const TYPED: &str = "
@@ -464,8 +466,5 @@ const TABLES: [&str; 6] = [
 
 #[test]
 fn lines_as_they_are_typed(rt: HostRuntime) -> Result<(), Fail> {
-    for table in &TABLES {
-        types(rt.alloc(), table)?;
-    }
-    Ok(())
+    tables_hold::<Typist>(rt.alloc(), &TABLES)
 }

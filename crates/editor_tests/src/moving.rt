@@ -1,8 +1,5 @@
 //! Motions.
 
-use crate::desk::holds;
-use std::test::Fail;
-
 const MOTIONS: &str = "
     |: Move BackwardChar 1 = | /
     |: Move ForwardChar 1 = | /
@@ -133,9 +130,4 @@ const OVER_TABS: &str = "
     abcdefg␉x␊abcdefghi|: Move LineUp 1 = abcdefg|␉x␊abcdefghi / move 2,9 to 0,9
 ";
 
-const TABLES: [&str; 5] = [MOTIONS, IN_TEN_COLUMNS, HIGHLIGHTS, WITH_A_HINT, OVER_TABS];
-
-#[test]
-fn moves(rt: HostRuntime) -> Result<(), Fail> {
-    holds(&rt, &TABLES)
-}
+pub(crate) const TABLES: [&str; 5] = [MOTIONS, IN_TEN_COLUMNS, HIGHLIGHTS, WITH_A_HINT, OVER_TABS];

@@ -1,8 +1,5 @@
 //! Transpositions, changes of case, indentation, and undo.
 
-use crate::desk::holds;
-use std::test::Fail;
-
 const CHANGES: &str = "
     a|ßc: TransposeChars = ßa|c / draw '> ßa|c' at 0,4 to 0,5
     abc|: TransposeChars = acb| / draw '> acb|' at 0,5 to 0,5
@@ -73,7 +70,4 @@ const WRITTEN_OVER: &str = "
     abc|d: TransposeChars = abdc| / draw '> abdc|' at 1,0 to 1,0
 ";
 
-#[test]
-fn words_and_rows_changed(rt: HostRuntime) -> Result<(), Fail> {
-    holds(&rt, &[CHANGES, WRITTEN_OVER])
-}
+pub(crate) const TABLES: [&str; 2] = [CHANGES, WRITTEN_OVER];

@@ -3,9 +3,10 @@
 //! and after ` = ` the line or why there is none, all calls, the text that a yank would return, and
 //! the last query, with which the next row begins. `query: ab` sets it.
 
+use crate::candidates;
 use crate::desk::Stage;
 use crate::lines::{run_after, typed};
-use stand_ins::rows::{Player, raised, rows_hold, trimmed};
+use stand_ins::rows::{Player, Starts, raised, tables_hold, trimmed};
 use stand_ins::tables::word_and_rest;
 use std::alloc::Global;
 use std::test::Fail;
@@ -46,11 +47,12 @@ impl Player for Searcher {
     }
 }
 
-/// Whether a table's lines are as its rows say.
-pub(crate) fn plays_lines(alloc: Global, table: &str) -> Result<(), Fail> {
-    let stage = Stage::new(alloc)?;
-    let query = String::new(alloc);
-    rows_hold(alloc, &mut Searcher { stage, query }, table)
+impl Starts for Searcher {
+    fn start(alloc: Global) -> Result<Self, Fail> {
+        let stage = Stage::new(alloc)?;
+        let query = String::new(alloc);
+        Ok(Searcher { stage, query })
+    }
 }
 
 const FOUND: &str = "
@@ -108,9 +110,7 @@ const CUT: &str = "
 const TABLES: [&str; 2] = [FOUND, CUT];
 
 #[test]
-fn lines_of_searches(rt: HostRuntime) -> Result<(), Fail> {
-    for table in &TABLES {
-        plays_lines(rt.alloc(), table)?;
-    }
-    Ok(())
+fn lines_of_searches_and_of_candidates(rt: HostRuntime) -> Result<(), Fail> {
+    tables_hold::<Searcher>(rt.alloc(), &TABLES)?;
+    tables_hold::<Searcher>(rt.alloc(), &candidates::TABLES)
 }

@@ -9,12 +9,13 @@ mod log;
 mod motions;
 mod table;
 
+use stand_ins::rows::tables_hold;
 use std::test::Fail;
-use table::plays;
+use table::Desk;
 
 #[test]
 fn motions_and_edits(rt: HostRuntime) -> Result<(), Fail> {
-    plays(rt.alloc(), &motions::TABLES)?;
-    plays(rt.alloc(), &columns::TABLES)?;
-    plays(rt.alloc(), &edits::TABLES)
+    tables_hold::<Desk>(rt.alloc(), &motions::TABLES)?;
+    tables_hold::<Desk>(rt.alloc(), &columns::TABLES)?;
+    tables_hold::<Desk>(rt.alloc(), &edits::TABLES)
 }

@@ -23,6 +23,24 @@ pub fn rows_hold<P: Player>(alloc: Global, player: &mut P, table: &str) -> Resul
     Ok(())
 }
 
+/// A player that starts anew for each table.
+pub trait Starts: Player {
+    fn start(alloc: Global) -> Result<Self, Fail>;
+}
+
+fn table_holds<P: Starts + Drop>(alloc: Global, table: &str) -> Result<(), Fail> {
+    let mut player = P::start(alloc)?;
+    rows_hold(alloc, &mut player, table)
+}
+
+/// Makes the calls of each table, from a start of its own.
+pub fn tables_hold<P: Starts + Drop>(alloc: Global, tables: &[&str]) -> Result<(), Fail> {
+    for table in tables {
+        table_holds::<P>(alloc, table)?;
+    }
+    Ok(())
+}
+
 /// A text without the blanks at its ends.
 pub fn trimmed(alloc: Global, text: &str) -> Result<String, Fail> {
     raised(String::from_str(alloc, text.trim()))

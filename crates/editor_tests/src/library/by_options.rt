@@ -2,7 +2,7 @@
 
 ghost use Rattle.std.specs.Prelude.{◌≤◌};
 
-use crate::calls::told::lines_by_bytes;
+use crate::library::told::lines_by_bytes;
 use keyline::{Ending, Options, Parsed, ReadlineError, SliceSource, VecSink, edit, parse};
 use stand_ins::rows::{Player, raised, rows_hold};
 use stand_ins::tables::{meant_bytes, pictured_bytes};

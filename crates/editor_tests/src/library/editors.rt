@@ -5,7 +5,7 @@ use keyline::{
     VecSink, session_builder,
 };
 use session_rows::words::notation::display_meant;
-use stand_ins::rows::{Player, raised, rows_hold, trimmed};
+use stand_ins::rows::{Player, raised, rows_hold, stands, trimmed};
 use std::alloc::{AllocError, Global};
 use std::test::Fail;
 
@@ -73,7 +73,7 @@ impl Player for Asking {
         match call {
             "read" => raised(self.line(alloc, prompt_of(word))),
             "add" => raised(self.add(alloc, word)),
-            "columns" => Ok(String::from_str(alloc, self.set_columns(word))?),
+            "columns" => raised(String::from_str(alloc, self.set_columns(word))),
             _ => self.entries_told(alloc),
         }
     }
@@ -105,9 +105,8 @@ fn lines_one_by_one(rt: HostRuntime) -> Result<(), Fail> {
     let mut asking = Asking {
         editor: editor_of(alloc, b"ab\rx\x03\x10\r\x04c\r")?,
     };
-    let held = rows_hold(alloc, &mut asking, rows);
-    assert!(&rt; leaves_one_key(asking.editor));
-    held
+    rows_hold(alloc, &mut asking, rows)?;
+    stands(leaves_one_key(asking.editor), "another end of the editor")
 }
 
 fn leaves_one_key(editor: Editor) -> bool {
@@ -130,14 +129,16 @@ fn columns_between_two_lines(rt: HostRuntime) -> Result<(), Fail> {
         read = abc
         ";
     let shown = "{} a b c ␍␊ {} a {ab␍␊} c ␍␊ {} a b c ␍␊";
-    let wanted = display_meant(alloc, shown)?;
     let mut asking = Asking {
         editor: editor_of(alloc, b"abc\rabc\rabc\r")?,
     };
-    let held = rows_hold(alloc, &mut asking, rows);
-    let ended = asking.editor.finish();
-    assert!(&rt; ended.display.bytes() == wanted.as_slice());
-    held
+    rows_hold(alloc, &mut asking, rows)?;
+    stands(has_shown(alloc, asking.editor, shown)?, "another display")
+}
+
+fn has_shown(alloc: Global, editor: Editor, shown: &str) -> Result<bool, AllocError> {
+    let wanted = display_meant(alloc, shown)?;
+    Ok(editor.finish().display.bytes() == wanted.as_slice())
 }
 
 fn styled_editor_of(alloc: Global, keys: &'static [u8]) -> Result<StyledEditor, Fail> {
@@ -179,15 +180,20 @@ fn read_brackets(editor: &mut StyledEditor) -> Result<bool, ReadlineError> {
 #[test]
 fn colours_between_two_lines(rt: HostRuntime) -> Result<(), Fail> {
     let mut editor = styled_editor_of(rt.alloc(), b"()\r()\r()\r")?;
-    let read = read_brackets(&mut editor);
-    let ended = editor.finish();
-    assert!(rt; read == Ok(true) && styles_begun(ended.display.bytes()) == 1);
-    Ok(())
+    let read = read_brackets(&mut editor)?;
+    stands(read && shows_one_style(editor), "other lines or styles")
+}
+
+fn shows_one_style(editor: StyledEditor) -> bool {
+    styles_begun(editor.finish().display.bytes()) == 1
 }
 
 #[test]
 fn nothing_new_to_save(rt: HostRuntime) -> Result<(), Fail> {
-    let ended = editor_of(rt.alloc(), b"\r\x04")?.finish();
-    assert!(rt; ended.text_to_save().is_empty());
-    Ok(())
+    let editor = editor_of(rt.alloc(), b"\r\x04")?;
+    stands(has_nothing_to_save(editor), "a text to save")
+}
+
+fn has_nothing_to_save(editor: Editor) -> bool {
+    editor.finish().text_to_save().is_empty()
 }

@@ -1,7 +1,7 @@
 //! The status and the message of each ending.
 
 use keyline::Ending;
-use stand_ins::rows::{Player, rows_hold};
+use stand_ins::rows::{Player, rows_hold, stands};
 use std::alloc::Global;
 use std::test::Fail;
 
@@ -55,6 +55,5 @@ fn statuses_and_words(rt: HostRuntime) -> Result<(), Fail> {
         Memory = 1 out of memory";
     let mut endings = Endings { left: &ENDINGS };
     rows_hold(rt.alloc(), &mut endings, rows)?;
-    assert!(rt; endings.left.is_empty());
-    Ok(())
+    stands(endings.left.is_empty(), "an ending without a row")
 }

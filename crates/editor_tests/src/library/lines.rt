@@ -4,7 +4,7 @@
 use keyline::prompter::Prompter;
 use keyline::{Bindings, Config, History, ReadlineError, Session, SliceSource, VecSink, laws};
 use session_rows::words::notation::{display_meant, typed};
-use stand_ins::rows::{Player, raised, rows_hold, trimmed};
+use stand_ins::rows::{Player, raised, rows_hold, stands, trimmed};
 use stand_ins::tables::{meant_bytes, pictured_bytes};
 use std::alloc::{AllocError, Global};
 use std::test::Fail;
@@ -169,9 +169,10 @@ fn is_line(line: &Result<String, ReadlineError>, wanted: &str) -> bool {
 fn entries_given_by_hand(rt: HostRuntime) -> Result<(), Fail> {
     let config = Config::builder().build();
     let mut session = opened(rt.alloc(), config, b"a\n", b"\x10\x10\r")?;
-    assert!(rt; adds_once(&mut session));
-    assert!(rt; reads(&mut session, "a"));
-    Ok(())
+    stands(
+        adds_once(&mut session) && reads(&mut session, "a"),
+        "other entries",
+    )
 }
 
 /// The same for each line.
@@ -204,6 +205,5 @@ fn reads_two_lines(session: InMemory<'_>) -> bool {
 #[test]
 fn lines_until_one_is_refused(rt: HostRuntime) -> Result<(), Fail> {
     let session = opened(rt.alloc(), Config::builder().build(), b"", b"abc\rd\r")?;
-    assert!(rt; reads_two_lines(session));
-    Ok(())
+    stands(reads_two_lines(session), "other lines")
 }

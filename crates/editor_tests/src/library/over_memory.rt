@@ -2,7 +2,7 @@
 
 use keyline::over_memory::{Transcript, transcribe};
 use keyline::{Bindings, Config, ReadlineError};
-use stand_ins::rows::{Player, raised, rows_hold};
+use stand_ins::rows::{Player, raised, rows_hold, stands};
 use stand_ins::tables::{meant_bytes, pictured_bytes};
 use std::alloc::{AllocError, Global};
 use std::test::Fail;
@@ -98,9 +98,6 @@ fn left_of_paste(alloc: Global, count: usize) -> Result<(usize, usize, usize), R
 
 #[test]
 fn a_large_paste(rt: HostRuntime) -> Result<(), Fail> {
-    let (lines, history, unread) = left_of_paste(rt.alloc(), 100_000).unwrap_or((0, 0, 1));
-    assert_eq!(rt; lines, 100_001);
-    assert_eq!(rt; history, 100_005);
-    assert_eq!(rt; unread, 0);
-    Ok(())
+    let left = left_of_paste(rt.alloc(), 100_000)?;
+    stands(left == (100_001, 100_005, 0), "a paste that is cut")
 }

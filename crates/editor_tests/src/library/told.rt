@@ -3,7 +3,7 @@
 ghost use Rattle.std.specs.Prelude.{◌≡◌, ◌≤◌, IfOk, Some, refl};
 ghost use Rattle.std.specs.Io.{ReadsAtMost};
 ghost use Rattle.std.specs.Io.KnownBytes.{ReadConsumes};
-ghost use Rattle.session_tests.specs.Told.{AreLines};
+ghost use Rattle.editor_tests.specs.Told.{AreLines};
 
 use keyline::{
     Ending, Options, OwnBytes, ReadSource, ReportsBytes, SliceSource, Source, VecSink, edit,

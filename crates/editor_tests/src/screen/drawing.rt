@@ -7,7 +7,7 @@ use line_editor::Renderer;
 use line_help::StandardHighlighter;
 use line_screen::{ScreenRenderer, laws};
 use stand_ins::lines::line_of;
-use stand_ins::rows::{Player, raised, rows_hold, same};
+use stand_ins::rows::{Player, raised, rows_hold, same, stands};
 use stand_ins::sinks::FailingSink;
 use stand_ins::tables::{meant, pictured_bytes, word_and_rest};
 use std::alloc::{AllocError, Global};
@@ -196,13 +196,6 @@ fn drawn_with_stops(alloc: Global, call: &str) -> Result<String, ReadlineError> 
     drawn(alloc, stop.parse().ok(), call)
 }
 
-#[test]
-fn draws_lines(rt: HostRuntime) -> Result<(), Fail> {
-    rows_hold(rt.alloc(), &mut Ask::Drawing, LINES)?;
-    rows_hold(rt.alloc(), &mut Ask::Drawing, MARGINS)?;
-    rows_hold(rt.alloc(), &mut Ask::Tabs, TABS)
-}
-
 // Draws the longer line over the other one, which has no older drawing, and clears its rows; the
 // bytes.
 fn drawn_over(alloc: Global, shown: Shown, longer: Shown) -> Result<String, ReadlineError> {
@@ -375,11 +368,16 @@ fn sent(alloc: Global, call: &str) -> Result<String, ReadlineError> {
 }
 
 #[test]
-fn makes_the_other_calls(rt: HostRuntime) -> Result<(), Fail> {
+fn draws_lines_and_makes_the_other_calls(rt: HostRuntime) -> Result<(), Fail> {
+    rows_hold(rt.alloc(), &mut Ask::Drawing, LINES)?;
+    rows_hold(rt.alloc(), &mut Ask::Drawing, MARGINS)?;
+    rows_hold(rt.alloc(), &mut Ask::Tabs, TABS)?;
     rows_hold(rt.alloc(), &mut Ask::Call, CALLS)?;
-    let mut screen = screen(VecSink::new(rt.alloc()), 80, BellStyle::Audible);
-    assert!(rt; keeps_its_size(&mut screen));
-    Ok(())
+    rows_hold(rt.alloc(), &mut Ask::Insertion, INSERTIONS)?;
+    rows_hold(rt.alloc(), &mut Ask::Rest, RESTS)?;
+    rows_hold(rt.alloc(), &mut Ask::FailedWrite, FAILED_WRITES)?;
+    rows_hold(rt.alloc(), &mut Ask::PassedOn, PASSED_ON)?;
+    stands(a_size_is_kept(rt.alloc()), "a renderer of another size")
 }
 
 // Columns, and letters before which `x` is put in column 1; the bytes.
@@ -406,11 +404,6 @@ fn inserted(alloc: Global, call: &str) -> Result<String, ReadlineError> {
         screen.insert_char('x', rest, old, new, end)?;
     }
     raised(pictured_bytes(alloc, screen.into_sink().bytes()))
-}
-
-#[test]
-fn puts_a_letter_before_others(rt: HostRuntime) -> Result<(), Fail> {
-    rows_hold(rt.alloc(), &mut Ask::Insertion, INSERTIONS)
 }
 
 // How a rest is drawn: without a highlighter, or with one that draws hints faint and messages red.
@@ -473,9 +466,8 @@ fn rest_sent(alloc: Global, call: &str) -> Result<String, ReadlineError> {
     rest_behind(alloc, how, columns, before.as_str(), shown)
 }
 
-#[test]
-fn draws_rests(rt: HostRuntime) -> Result<(), Fail> {
-    rows_hold(rt.alloc(), &mut Ask::Rest, RESTS)
+fn a_size_is_kept(alloc: Global) -> bool {
+    keeps_its_size(&mut screen(VecSink::new(alloc), 80, BellStyle::Audible))
 }
 
 fn keeps_its_size(screen: &mut ScreenRenderer<VecSink>) -> bool {
@@ -529,12 +521,6 @@ const FAILED_WRITES: &str = "
     11  = refused
 ";
 
-/// The whole drawing takes more than twelve writes.
-#[test]
-fn answers_each_failed_write(rt: HostRuntime) -> Result<(), Fail> {
-    rows_hold(rt.alloc(), &mut Ask::FailedWrite, FAILED_WRITES)
-}
-
 // Calls, and whether they write anything; nothing is buffered after them.
 const PASSED_ON: &str = "
     refresh_line ab     = written
@@ -563,11 +549,6 @@ fn passed_on(alloc: Global, call: &str) -> Result<String, ReadlineError> {
     let mut screen = screen(Gathers::new(), 80, BellStyle::Audible);
     call_made(&mut screen, call, &line)?;
     raised(String::from_str(alloc, screen.into_sink().told()))
-}
-
-#[test]
-fn passes_on_what_it_wrote(rt: HostRuntime) -> Result<(), Fail> {
-    rows_hold(rt.alloc(), &mut Ask::PassedOn, PASSED_ON)
 }
 
 #[test]

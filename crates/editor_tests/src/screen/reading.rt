@@ -15,8 +15,7 @@ use std::test::Fail;
 fn tell_key<R: RawReader>(reader: &mut R, said: &mut String) -> Result<(), ReadlineError> {
     let key = reader.next_key(false)?;
     write_key(said, key)?;
-    said.push(' ')?;
-    Ok(())
+    raised(said.push(' '))
 }
 
 // Requests a pasted text, and writes it.
@@ -27,8 +26,7 @@ fn tell_text<R: RawReader>(
 ) -> Result<(), ReadlineError> {
     let text = reader.read_pasted_text(alloc)?;
     let shown = pictured(alloc, text.as_str())?;
-    write!(said, "text:{shown} ")?;
-    Ok(())
+    raised(write!(said, "text:{shown} "))
 }
 
 // Requests a text after a PasteStart, if texts are read, and otherwise a key.
@@ -248,7 +246,10 @@ const TEXTS: &str = "
 fn bytes_read_as_keys_and_texts(rt: HostRuntime) -> Result<(), Fail> {
     rows_hold(rt.alloc(), &mut Ask::Keys, KEYS)?;
     rows_hold(rt.alloc(), &mut Ask::Keys, NO_CHARACTERS)?;
-    rows_hold(rt.alloc(), &mut Ask::Texts, TEXTS)
+    rows_hold(rt.alloc(), &mut Ask::Texts, TEXTS)?;
+    rows_hold(rt.alloc(), &mut Ask::CutText, CUT_TEXTS)?;
+    rows_hold(rt.alloc(), &mut Ask::Character, CHARACTERS)?;
+    rows_hold(rt.alloc(), &mut Ask::Calls, CALLS)
 }
 
 // How many bytes of a text there are, and what they are read as if they end and if the source
@@ -291,11 +292,6 @@ fn cut_text_told(alloc: Global, count: &str) -> Result<String, AllocError> {
 
 // Reading a cut-off text fails as the bytes end: at their end, inside a character, or with a
 // failure.
-#[test]
-fn texts_are_cut_off_anywhere(rt: HostRuntime) -> Result<(), Fail> {
-    rows_hold(rt.alloc(), &mut Ask::CutText, CUT_TEXTS)
-}
-
 // The first and the last characters of each length, and those around the surrogates, by their numbers.
 const CHARACTERS: &str = "
     ‹00›            = 0
@@ -355,11 +351,6 @@ fn character_told(alloc: Global, bytes: &str) -> Result<String, AllocError> {
         return String::from_str(alloc, "fewer bytes aren't cut off");
     }
     number_told(alloc, &bytes)
-}
-
-#[test]
-fn characters_are_read(rt: HostRuntime) -> Result<(), Fail> {
-    rows_hold(rt.alloc(), &mut Ask::Character, CHARACTERS)
 }
 
 // Calls of a reader of bytes, one after the other; their answers, what the reader has read ahead
@@ -462,11 +453,6 @@ fn calls_told(alloc: Global, call: &str) -> Result<String, AllocError> {
     };
     let said = called(alloc, &bytes, mode, calls)?;
     String::from_str(alloc, said.as_str().trim())
-}
-
-#[test]
-fn calls_one_after_the_other(rt: HostRuntime) -> Result<(), Fail> {
-    rows_hold(rt.alloc(), &mut Ask::Calls, CALLS)
 }
 
 // A key and its command.

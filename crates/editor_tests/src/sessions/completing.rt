@@ -9,7 +9,7 @@ use keyline::{
     Session, SliceSource, VecSink,
 };
 use session_rows::rows::play::Left;
-use stand_ins::rows::{Player, rows_hold};
+use stand_ins::rows::{Player, raised, rows_hold};
 use stand_ins::tables::meant_bytes;
 use std::alloc::Global;
 use std::test::Fail;
@@ -82,14 +82,16 @@ impl Player for Typed {
         let (keys, shown) = call.split_once(" | ").unwrap_or((call, ""));
         let left = left_of(alloc, &meant_bytes(alloc, keys)?)?;
         if shown.is_empty() {
-            return Ok(ending_and_lines(alloc, left.ending, &left.lines)?);
+            return raised(ending_and_lines(alloc, left.ending, &left.lines));
         }
-        Ok(told(alloc, &left, shown)?)
+        raised(told(alloc, &left, shown))
     }
 }
 
+/// Paths with a space, and folders that can't be listed: the lines before stay, and nothing more of
+/// the current one is drawn.
 #[test]
-fn paths_with_a_space(rt: HostRuntime) -> Result<(), Fail> {
+fn paths_with_a_space_and_folders_that_cannot_be_listed(rt: HostRuntime) -> Result<(), Fail> {
     let rows = r#"
         ls "/usr/m␉" x␍     = Eof ls "/usr/my file" x␊
         ls "/usr/my f␉␍     = Eof ls "/usr/my file␊
@@ -98,17 +100,10 @@ fn paths_with_a_space(rt: HostRuntime) -> Result<(), Fail> {
         ls /usr/m␉␍         = Eof ls /usr/my\ file␊
         ls "/usr/my f␉␟␍    = Eof ls "/usr/my f␊
         ls "/etc/m␉␍        = Eof ls "/etc/m␊
-    "#;
-    rows_hold(rt.alloc(), &mut Typed, rows)
-}
 
-/// The lines before stay, and nothing more of the current one is drawn.
-#[test]
-fn folders_that_cannot_be_listed(rt: HostRuntime) -> Result<(), Fail> {
-    let rows = "
         ab␍/locked/m␉x␍ | {} a b ␍␊ {} /locked/m = Helper ab␊
         /huge/m␉x␍ | {} /huge/m = Memory nothing
         '/locked/m␉x␍ | {}'/locked/m = Helper nothing
-        ";
+    "#;
     rows_hold(rt.alloc(), &mut Typed, rows)
 }

@@ -4,9 +4,8 @@ use crate::sessions::fixtures::plain;
 use keyline::{Ended, ReadlineError, Sink, SliceSource, Source, VecSink};
 use session_rows::rows::play::ended;
 use session_rows::words::notation::display_meant;
-use stand_ins::rows::raised;
+use stand_ins::rows::{raised, stands};
 use std::alloc::{AllocError, Global};
-use std::process::Abort;
 use std::test::Fail;
 
 /// The result of a session over memory.
@@ -42,14 +41,12 @@ fn is_of_both(alloc: Global, left: &mut Left) -> Result<bool, AllocError> {
     )
 }
 
-fn sees_both(rt: &(impl AllocGlobal + Abort), left: &mut Left) -> Result<(), Fail> {
-    assert!(rt; is_of_both(rt.alloc(), left)?);
-    Ok(())
-}
-
 #[test]
 fn next_session_over_the_same_devices(rt: HostRuntime) -> Result<(), Fail> {
     let first = first(rt.alloc())?;
     let mut second = next(rt.alloc(), first)?;
-    sees_both(&rt, &mut second)
+    stands(
+        is_of_both(rt.alloc(), &mut second)?,
+        "another second session",
+    )
 }

@@ -8,12 +8,11 @@ use keyline::{
 };
 use session_rows::rows::play::{Left, copied, ended, left_of};
 use session_rows::words::notation::{display_meant, field, setting_of};
-use stand_ins::rows::{Player, raised, rows_hold};
+use stand_ins::rows::{Player, raised, rows_hold, stands};
 use stand_ins::sinks::FailingSink;
 use stand_ins::sources::Faltering;
 use stand_ins::tables::{meant, word_and_rest};
 use std::alloc::{AllocError, Global};
-use std::process::Abort;
 use std::test::Fail;
 
 /// Sessions over sources that fail later and later: the keys until then, and their drawings.
@@ -36,7 +35,7 @@ impl Cut {
     fn steady(&self, alloc: Global) -> Result<String, Fail> {
         let source = SliceSource::failing_after(self.keys.as_bytes());
         let left = left_of(alloc, &plain(), source)?;
-        Ok(told(alloc, &left, self.shown.as_str())?)
+        raised(told(alloc, &left, self.shown.as_str()))
     }
 
     /// The result of a session over a source of more bytes that fails at some call.
@@ -44,7 +43,7 @@ impl Cut {
         let further = format!(in alloc; "{}\rab\r", self.keys)?;
         let source = Faltering::failing_at(further.as_bytes(), self.keys.len());
         let left = left_of(alloc, &plain(), source)?;
-        Ok(told(alloc, &left, self.shown.as_str())?)
+        raised(told(alloc, &left, self.shown.as_str()))
     }
 }
 
@@ -152,14 +151,12 @@ fn is_cut(alloc: Global, left: &Left, in_flush: bool) -> Result<bool, AllocError
     )
 }
 
-fn cut_display(
-    rt: &(impl AllocGlobal + Abort),
-    left: &Left,
-    in_flush: bool,
-    at: usize,
-) -> Result<(), Fail> {
-    assert!(rt; is_cut(rt.alloc(), left, in_flush)?, "at {at}");
-    Ok(())
+fn cut_display(alloc: Global, left: &Left, in_flush: bool, at: usize) -> Result<(), Fail> {
+    if is_cut(alloc, left, in_flush)? {
+        Ok(())
+    } else {
+        Err(Fail::new(format_args!("another display or other lines at {at}")))
+    }
 }
 
 fn is_whole(alloc: Global, left: &Left) -> Result<bool, AllocError> {
@@ -170,53 +167,54 @@ fn is_whole(alloc: Global, left: &Left) -> Result<bool, AllocError> {
 /// Checks that a session has drawn and written everything, or what it may have if its display
 /// failed at a call.
 fn whole_or_cut(
-    rt: &(impl AllocGlobal + Abort),
+    alloc: Global,
     left: &Left,
     in_flush: bool,
     call: usize,
 ) -> Result<Option<bool>, Fail> {
     if left.ending == Ending::Eof {
-        assert!(rt; is_whole(rt.alloc(), left)?);
+        stands(is_whole(alloc, left)?, "another whole session")?;
         return Ok(None);
     }
-    cut_display(rt, left, in_flush, call)?;
+    cut_display(alloc, left, in_flush, call)?;
     Ok(Some(in_flush))
 }
 
 /// A session whose display fails at a call. Returns whether that was a flush, or `None` if the
 /// session ends before it.
-fn display_failing_at(rt: &(impl AllocGlobal + Abort), call: usize) -> Result<Option<bool>, Fail> {
-    let (left, in_flush) = two_lines_into(rt.alloc(), FailingSink::failing_at(call), roomy())?;
-    whole_or_cut(rt, &left, in_flush, call)
+fn display_failing_at(alloc: Global, call: usize) -> Result<Option<bool>, Fail> {
+    let (left, in_flush) = two_lines_into(alloc, FailingSink::failing_at(call), roomy())?;
+    whole_or_cut(alloc, &left, in_flush, call)
 }
 
 #[test]
 fn display_that_fails_at_each_call(rt: HostRuntime) -> Result<(), Fail> {
     let mut failed_flushes = 0usize;
     for call in 0..500 {
-        match display_failing_at(&rt, call)? {
+        match display_failing_at(rt.alloc(), call)? {
             Some(in_flush) => failed_flushes = failed_flushes.saturating_add(usize::from(in_flush)),
-            None => {
-                // Seven drawings, two lines that are left, and the end.
-                assert_eq!(rt; failed_flushes, 10);
-                return Ok(());
-            }
+            // Seven drawings, two lines that are left, and the end.
+            None => return stands(failed_flushes == 10, "another number of flushes"),
         }
     }
-    panic!(rt; "a session over so few keys has ended by now")
+    Err(Fail::new("a session over so few keys has ended by now"))
 }
 
 /// A session whose display has space for so many bytes.
-fn display_with_room(rt: &(impl AllocGlobal + Abort), room: usize) -> Result<(), Fail> {
-    let (left, _) = two_lines_into(rt.alloc(), FailingSink::with_room(room), roomy())?;
-    assert_eq!(rt; left.shown.len(), room);
-    cut_display(rt, &left, false, room)
+fn display_with_room(alloc: Global, room: usize) -> Result<(), Fail> {
+    let (left, _) = two_lines_into(alloc, FailingSink::with_room(room), roomy())?;
+    full_display(alloc, &left, room)
+}
+
+fn full_display(alloc: Global, left: &Left, room: usize) -> Result<(), Fail> {
+    stands(left.shown.len() == room, "a display that isn't full")?;
+    cut_display(alloc, left, false, room)
 }
 
 #[test]
 fn display_that_is_full(rt: HostRuntime) -> Result<(), Fail> {
     for room in 0..first_pieces(rt.alloc(), 10)?.len() {
-        display_with_room(&rt, room)?;
+        display_with_room(rt.alloc(), room)?;
     }
     Ok(())
 }
@@ -235,13 +233,13 @@ impl Player for Lines {
             _ => FailingSink::with_room(number),
         };
         let (left, _) = two_lines_into(alloc, roomy(), sink)?;
-        Ok(told(alloc, &left, shown)?)
+        raised(told(alloc, &left, shown))
     }
 }
 
 /// For each line its text, its newline and a flush.
 #[test]
-fn lines_that_fail_at_each_call(rt: HostRuntime) -> Result<(), Fail> {
+fn lines_that_fail_at_each_call_or_are_full(rt: HostRuntime) -> Result<(), Fail> {
     let rows = "
         call 0 {} a b ␍␊ = Lines a
         call 1 {} a b ␍␊ = Lines ab
@@ -250,13 +248,7 @@ fn lines_that_fail_at_each_call(rt: HostRuntime) -> Result<(), Fail> {
         call 4 {} a b ␍␊ {} c d ␍␊ = Lines ab␊cd
         call 5 {} a b ␍␊ {} c d ␍␊ = Lines ab␊cd␊
         call 6 {} a b ␍␊ {} c d ␍␊ {} ␍␊ = Eof ab␊cd␊
-        ";
-    rows_hold(rt.alloc(), &mut Lines, rows)
-}
 
-#[test]
-fn lines_that_are_full(rt: HostRuntime) -> Result<(), Fail> {
-    let rows = "
         room 0 {} a b ␍␊ = Lines nothing
         room 1 {} a b ␍␊ = Lines a
         room 2 {} a b ␍␊ = Lines ab
@@ -273,8 +265,10 @@ fn lines_that_are_full(rt: HostRuntime) -> Result<(), Fail> {
 fn history_that_is_no_text(rt: HostRuntime) -> Result<(), Fail> {
     let source = SliceSource::new(b"a");
     let left = left_of(rt.alloc(), &setting_of("loaded:‹ff›"), source);
-    assert_eq!(&rt; left.err(), Some(ReadlineError::HistoryText));
-    Ok(())
+    stands(
+        left.err() == Some(ReadlineError::HistoryText),
+        "a history that is loaded",
+    )
 }
 
 /// The devices of a session that is not opened.
@@ -309,6 +303,5 @@ fn goes_on_unread(back: &mut Back) -> bool {
 #[test]
 fn devices_of_a_session_that_is_not_opened(rt: HostRuntime) -> Result<(), Fail> {
     let mut back = not_opened(rt.alloc())?;
-    assert!(rt; goes_on_unread(&mut back));
-    Ok(())
+    stands(goes_on_unread(&mut back), "other devices")
 }

@@ -8,7 +8,7 @@ use keyline::{
 use session_rows::rows::play::{ended, left_of};
 use session_rows::words::notation::display_meant;
 use stand_ins::devices::{Log, LoggedReader, LoggedWriter, Pieces, Turns};
-use stand_ins::rows::{Player, raised, rows_hold};
+use stand_ins::rows::{Player, raised, rows_hold, stands};
 use std::alloc::{AllocError, Global};
 use std::cell::{Cell, RefCell};
 use std::test::Fail;
@@ -56,8 +56,7 @@ fn source_keeps_what_was_read(rt: HostRuntime) -> Result<(), Fail> {
     });
     let (display, lines) = (VecSink::new(alloc), VecSink::new(alloc));
     let end = ended(alloc, &plain(), source, display, lines, VecSink::new(alloc))?;
-    assert!(rt; leaves_what_was_read(end));
-    Ok(())
+    stands(leaves_what_was_read(end), "other bytes are left")
 }
 
 fn leaves_what_was_read(end: Ended<ReadSource<Pieces<'_>>, VecSink, VecSink, VecSink>) -> bool {
@@ -103,8 +102,7 @@ fn ends_at_esc(alloc: Global, bindings: Bindings) -> Result<bool, ReadlineError>
 #[test]
 fn byte_after_the_last_esc_is_handed_back(rt: HostRuntime) -> Result<(), Fail> {
     let bindings = esc_bound(rt.alloc())?;
-    assert!(rt; ends_at_esc(rt.alloc(), bindings)?);
-    Ok(())
+    stands(ends_at_esc(rt.alloc(), bindings)?, "another end at Esc")
 }
 
 /// A session over devices that write to one log.
@@ -125,7 +123,7 @@ fn logged(alloc: Global, log: &Log) -> Result<Ending, ReadlineError> {
 #[test]
 fn each_drawing_is_sent_before_the_next_key_is_read(rt: HostRuntime) -> Result<(), Fail> {
     let log = RefCell::new(Vec::new(rt.alloc()));
-    assert_eq!(rt; logged(rt.alloc(), &log)?, Ending::Eof);
+    stands(logged(rt.alloc(), &log)? == Ending::Eof, "another ending")?;
     let wanted = "
         display:{}; display:flush;
         read:a; display:a; display:flush;
@@ -133,8 +131,7 @@ fn each_drawing_is_sent_before_the_next_key_is_read(rt: HostRuntime) -> Result<(
         read:␍; display:␍␊; display:flush; lines:ab␊; lines:flush; display:{}; display:flush;
         read:; display:␍␊; display:flush;
         ";
-    assert!(rt; has_noted(rt.alloc(), &log, wanted)?);
-    Ok(())
+    stands(has_noted(rt.alloc(), &log, wanted)?, "another order")
 }
 
 fn has_noted(alloc: Global, log: &Log, wanted: &str) -> Result<bool, AllocError> {

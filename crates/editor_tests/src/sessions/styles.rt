@@ -6,6 +6,7 @@ use keyline::{
     SliceSource, Source, StandardHighlighter, VecSink,
 };
 use session_rows::words::notation::display_meant;
+use stand_ins::rows::stands;
 use std::alloc::Global;
 use std::test::Fail;
 
@@ -55,19 +56,26 @@ fn shown_by_turns(alloc: Global, colours: bool) -> Result<Vec<u8>, ReadlineError
     Ok(by_turns(session).display.into_bytes())
 }
 
+const SHOWN_BY_TURNS: &str = "{} ( a {␛[0;1;34m(␛[ma)} {(a)} ␍␊ \
+     {} ( b ) ␍␊ \
+     {} ( c {␛[0;1;34m(␛[mc)} {␛[0;1;34m(␛[mc)}␛[1D {(c)}␛[1D ␛[1C␍␊ \
+     {} ( ␛[1D ␛[1C␍␊ \
+     {} ␍␊";
+
+fn shows_styles(alloc: Global, colours: bool) -> Result<bool, ReadlineError> {
+    let wanted = display_meant(alloc, SHOWN_BY_TURNS)?;
+    Ok(shown_by_turns(alloc, colours)? == wanted)
+}
+
 /// In whichever way the session was opened, a line has styles if they were turned on before it.
 #[test]
 fn styles_by_turns(rt: HostRuntime) -> Result<(), Fail> {
-    let wanted = display_meant(
-        rt.alloc(),
-        "{} ( a {␛[0;1;34m(␛[ma)} {(a)} ␍␊ \
-         {} ( b ) ␍␊ \
-         {} ( c {␛[0;1;34m(␛[mc)} {␛[0;1;34m(␛[mc)}␛[1D {(c)}␛[1D ␛[1C␍␊ \
-         {} ( ␛[1D ␛[1C␍␊ \
-         {} ␍␊",
+    stands(
+        shows_styles(rt.alloc(), false)?,
+        "other styles, opened without",
     )?;
-    for colours in [false, true] {
-        assert_eq!(rt; shown_by_turns(rt.alloc(), colours)?, wanted);
-    }
-    Ok(())
+    stands(
+        shows_styles(rt.alloc(), true)?,
+        "other styles, opened with them",
+    )
 }

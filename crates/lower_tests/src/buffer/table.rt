@@ -8,14 +8,14 @@ use line_buffer::{
     GraphemeClusterMode, Layout, LineBuffer, OutOfMemory, Position, RepeatCount, TabStops,
 };
 use stand_ins::lines::{line_of, shown_of};
-use stand_ins::rows::{Player, raised, rows_hold};
+use stand_ins::rows::{Player, Starts, raised, rows_hold};
 use stand_ins::tables::pictured;
 use std::alloc::{AllocError, Global};
 use std::test::Fail;
 
 /// A line on which each row's call is made.
 #[derive(Drop)]
-struct Desk {
+pub(crate) struct Desk {
     line: LineBuffer,
 }
 
@@ -26,17 +26,12 @@ impl Player for Desk {
     }
 }
 
-/// Plays the rows of each table, the first one on the empty line.
-pub(crate) fn plays(alloc: Global, tables: &[&str]) -> Result<(), Fail> {
-    for table in tables {
-        plays_anew(alloc, table)?;
+/// The first row is on the empty line.
+impl Starts for Desk {
+    fn start(alloc: Global) -> Result<Self, Fail> {
+        let line = line_of(alloc, "")?;
+        Ok(Desk { line })
     }
-    Ok(())
-}
-
-fn plays_anew(alloc: Global, rows: &str) -> Result<(), Fail> {
-    let line = line_of(alloc, "")?;
-    rows_hold(alloc, &mut Desk { line }, rows)
 }
 
 /// Plays rows, the first one on this line; the line then.

@@ -6,7 +6,7 @@ ghost use Rattle.line_record.specs.Items.{ItemsStand, ItemsStand-prop};
 use line_buffer::{DeleteListener, LineBuffer, Movement, OutOfMemory, Word, WordAction};
 use line_record::{Changeset, Joined, KillRing};
 use stand_ins::lines::{line_of, shown_of};
-use stand_ins::rows::{Player, raised, rows_hold, stands};
+use stand_ins::rows::{Player, Starts, raised, stands, tables_hold};
 use stand_ins::tables::word_and_rest;
 use std::alloc::Global;
 use std::fmt::Display;
@@ -165,17 +165,11 @@ impl Player for Desk {
     }
 }
 
-/// Makes the call of each row; each table starts with the empty line.
-fn plays(alloc: Global, tables: &[&str]) -> Result<(), Fail> {
-    for table in tables {
-        plays_anew(alloc, table)?;
+/// Each table starts with the empty line.
+impl Starts for Desk {
+    fn start(alloc: Global) -> Result<Self, Fail> {
+        raised(Desk::new(alloc, ""))
     }
-    Ok(())
-}
-
-fn plays_anew(alloc: Global, rows: &str) -> Result<(), Fail> {
-    let mut desk = Desk::new(alloc, "")?;
-    rows_hold(alloc, &mut desk, rows)
 }
 
 const TYPED_WORDS_UNDONE: &str = "
@@ -397,5 +391,5 @@ const TABLES: [&str; 8] = [
 
 #[test]
 fn changes_undone_and_made_anew(rt: HostRuntime) -> Result<(), Fail> {
-    plays(rt.alloc(), &TABLES)
+    tables_hold::<Desk>(rt.alloc(), &TABLES)
 }

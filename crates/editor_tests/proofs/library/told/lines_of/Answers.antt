@@ -4,8 +4,8 @@ use Rattle.line_config.specs.Foretold.{own_left}
 use Rattle.line_config.specs.declared.device.Last.TheVariants.{End}
 use Rattle.keyline.proofs.PlayedLemmas.{fresh_coming, played}
 use Rattle.keyline.specs.Program.{config_of}
-use Rattle.session_tests.proofs.ToldLines.{lines_by, works_where}
-use Rattle.session_tests.proofs.calls.told.lines_of.Goals as goal
+use Rattle.editor_tests.proofs.ToldLines.{lines_by, works_where}
+use Rattle.editor_tests.proofs.library.told.lines_of.Goals as goal
 
 pub returns-in-Eof : goal.returns-in-Eof
 returns-in-Eof g c = λ n low.

@@ -1,6 +1,6 @@
 -- The first byte of the buffer is the one given, and the others are left.
 use Rattle.std.proofs.Common.{◌≡◌, ℕ, ◌<◌, List, [], ◌∷◌, ◌++◌, length, take, slice_set, refl, sym, ap, ◌∙◌, arith}
-use Rattle.session_tests.proofs.calls.told.OneByOneRead.read.Goals as goal
+use Rattle.editor_tests.proofs.library.told.OneByOneRead.read.Goals as goal
 
 first_set : (buf : List ℕ) (x : ℕ) → 0 < length buf → take 1 (slice_set buf 0 x) ≡ x ∷ []
 first_set [] x some = absurd (search arith)
