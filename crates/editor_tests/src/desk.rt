@@ -32,7 +32,7 @@ use line_record::{Changeset, KillRing};
 use stand_ins::commands::command_named;
 use stand_ins::key_names::key_named;
 use stand_ins::rows::{Player, Starts, raised, tables_hold, trimmed};
-use stand_ins::tables::{marked, meant, pictured, word_and_rest};
+use stand_ins::tables::{marked, meant, named, pictured, word_and_rest};
 use std::alloc::{AllocError, Global};
 use std::test::Fail;
 
@@ -66,36 +66,29 @@ pub(crate) struct Stage {
     pub tells_ring: bool,
 }
 
-fn verdict_named(name: &str) -> Verdict {
-    match name {
-        "Incomplete" => Verdict::Incomplete,
-        "Invalid" => Verdict::Invalid,
-        "InvalidTold" => Verdict::InvalidTold,
-        "ValidTold" => Verdict::ValidTold,
-        _ => Verdict::Valid,
-    }
-}
+const VERDICTS: [(&str, Verdict); 5] = [
+    ("Incomplete", Verdict::Incomplete),
+    ("Invalid", Verdict::Invalid),
+    ("InvalidTold", Verdict::InvalidTold),
+    ("Valid", Verdict::Valid),
+    ("ValidTold", Verdict::ValidTold),
+];
 
-fn message_named(name: &str) -> &'static str {
-    match name {
-        "ok" => "ok",
-        "no" => "no",
-        _ => "",
-    }
-}
+const MESSAGES: [(&str, &str); 2] = [("ok", "ok"), ("no", "no")];
 
 // The offered words, by their names.
+const OFFERED: [(&str, &str); 7] = [
+    ("alpha", "alpha"),
+    ("alpine", "alpine"),
+    ("grün", "grün"),
+    ("größe", "größe"),
+    ("acute", "e\u{301}a"),
+    ("grave", "e\u{300}a"),
+    ("long", "alphabetagammadelta"),
+];
+
 fn word_named(name: &str) -> &'static str {
-    match name {
-        "alpha" => "alpha",
-        "alpine" => "alpine",
-        "grün" => "grün",
-        "größe" => "größe",
-        "acute" => "e\u{301}a",
-        "grave" => "e\u{300}a",
-        "long" => "alphabetagammadelta",
-        _ => "",
-    }
+    named(&OFFERED, name).unwrap_or("")
 }
 
 // Two words, or one, or none.
@@ -169,7 +162,8 @@ impl Stage {
         match word {
             "helper:" => {
                 let (verdict, message) = word_and_rest(rest);
-                self.helper = Adviser::new(verdict_named(verdict), message_named(message));
+                let verdict = named(&VERDICTS, verdict).unwrap_or(Verdict::Valid);
+                self.helper = Adviser::new(verdict, named(&MESSAGES, message).unwrap_or(""));
                 self.helped = true;
             }
             "marks:" => self.helper.marked_at = number,
@@ -319,7 +313,7 @@ pub(crate) fn status_of(
     match answer {
         Ok(Status::Proceed) => Ok(String::new(alloc)),
         Ok(Status::Submit) => raised(String::from_str(alloc, "Submit ")),
-        Err(refusal) => Ok(format!(in alloc; "{refusal:?} ")?),
+        Err(refusal) => raised(format!(in alloc; "{refusal:?} ")),
     }
 }
 

@@ -4,6 +4,7 @@
 //! ESC, `␍` is CR, `␊` is LF; `␠` is a blank that would be lost at an end.
 
 use std::alloc::{AllocError, Global};
+use std::fmt::Debug;
 
 /// The call of a row, and its answer; `None` for a row without ` = `. A blank line is no row.
 pub fn call_and_answer(row: &str) -> Option<(&str, &str)> {
@@ -46,6 +47,11 @@ pub(crate) fn picture_of(c: char) -> char {
         '\x7f' => '␡',
         _ => c,
     }
+}
+
+/// A value as `{:?}` writes it.
+pub fn shown<D: Debug + Drop>(alloc: Global, value: D) -> Result<String, AllocError> {
+    format!(in alloc; "{value:?}")
 }
 
 /// The text with its pictures replaced by their characters.

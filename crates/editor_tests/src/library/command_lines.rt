@@ -1,7 +1,7 @@
 //! The meaning of command lines.
 
 use keyline::{Options, Parsed, parse};
-use stand_ins::rows::{Player, rows_hold};
+use stand_ins::rows::{Player, raised, rows_hold};
 use std::alloc::{AllocError, Global};
 use std::test::Fail;
 
@@ -12,7 +12,7 @@ struct CommandLine;
 impl Player for CommandLine {
     fn play(&mut self, alloc: Global, line: &str) -> Result<String, Fail> {
         let words: Vec<&str> = line.split_whitespace().collect(alloc)?;
-        Ok(shown(alloc, parse(alloc, words.as_slice()))?)
+        raised(shown(alloc, parse(alloc, words.as_slice())))
     }
 }
 

@@ -1,7 +1,7 @@
 //! The status and the message of each ending.
 
 use keyline::Ending;
-use stand_ins::rows::{Player, rows_hold, stands};
+use stand_ins::rows::{Player, raised, rows_hold, stands};
 use std::alloc::Global;
 use std::test::Fail;
 
@@ -22,7 +22,7 @@ impl Player for Endings {
         if shown.as_str() != name {
             return Ok(shown);
         }
-        Ok(format!(in alloc; "{status} {text}")?)
+        raised(format!(in alloc; "{status} {text}"))
     }
 }
 

@@ -1,19 +1,14 @@
 //! Kills and copies by each movement, with their events. A row is a movement; after `=` come the
 //! copied text, whether it killed, the line then, and the events.
 
-use crate::buffer::arguments::Arguments;
 use crate::buffer::log::Log;
 use crate::buffer::table::{begun, quoted, written};
 use line_buffer::{LineBuffer, Movement, OutOfMemory};
+use stand_ins::commands::movement_named;
 use stand_ins::lines::line_of;
 use stand_ins::rows::{Player, raised, rows_hold};
 use std::alloc::{AllocError, Global};
 use std::test::Fail;
-
-fn movement_of(call: &str) -> Result<Movement, Fail> {
-    let arguments = Arguments::of(call);
-    arguments.movement(arguments.name)
-}
 
 /// The text that a movement copies.
 fn copied(alloc: Global, line: &LineBuffer, movement: &Movement) -> Result<String, OutOfMemory> {
@@ -57,7 +52,7 @@ impl Player for Killing {
     fn play(&mut self, alloc: Global, call: &str) -> Result<String, Fail> {
         let mut line = line_of(alloc, self.shown)?;
         let call = begun(alloc, &mut line, call)?;
-        let movement = movement_of(call)?;
+        let movement = movement_named(alloc, call).ok_or("no movement")?;
         let log = if self.refused {
             Log::refusing(alloc)
         } else {
@@ -79,12 +74,12 @@ const MOVEMENTS_KILLED_AND_COPIED: &str = "
     ForwardWord 1 AfterEnd Emacs = 'e' true 'ab ce\u{301}d␊漢字 |_f␊🇷🇺x␊y' start; delete 16 'e' Forward; stop
     ForwardWord 1 Start Vi = 'e_f␊' true 'ab ce\u{301}d␊漢字 |🇷🇺x␊y' start; delete 16 'e_f␊' Forward; stop
     ForwardWord 1 BeforeEnd Big = 'e_' true 'ab ce\u{301}d␊漢字 |f␊🇷🇺x␊y' start; delete 16 'e_' Forward; stop
-    ViCharSearch 1 ff = 'e_f' true 'ab ce\u{301}d␊漢字 |␊🇷🇺x␊y' start; delete 16 'e_f' Forward; stop
-    ViCharSearch 1 tf = 'e_' true 'ab ce\u{301}d␊漢字 |f␊🇷🇺x␊y' start; delete 16 'e_' Forward; stop
-    ViCharSearch 1 fe = none false 'ab ce\u{301}d␊漢字 |e_f␊🇷🇺x␊y' start; stop
-    ViCharSearch 2 F字 = '字 ' true 'ab ce\u{301}d␊漢|e_f␊🇷🇺x␊y' start; delete 12 '字 ' Backward; stop
-    ViCharSearch 1 T字 = ' ' true 'ab ce\u{301}d␊漢字|e_f␊🇷🇺x␊y' start; delete 15 ' ' Backward; stop
-    ViCharSearch 1 T␠ = '' true 'ab ce\u{301}d␊漢字 |e_f␊🇷🇺x␊y' start; delete 16 '' Backward; stop
+    ViCharSearch 1 Forward f = 'e_f' true 'ab ce\u{301}d␊漢字 |␊🇷🇺x␊y' start; delete 16 'e_f' Forward; stop
+    ViCharSearch 1 ForwardBefore f = 'e_' true 'ab ce\u{301}d␊漢字 |f␊🇷🇺x␊y' start; delete 16 'e_' Forward; stop
+    ViCharSearch 1 Forward e = none false 'ab ce\u{301}d␊漢字 |e_f␊🇷🇺x␊y' start; stop
+    ViCharSearch 2 Backward 字 = '字 ' true 'ab ce\u{301}d␊漢|e_f␊🇷🇺x␊y' start; delete 12 '字 ' Backward; stop
+    ViCharSearch 1 BackwardAfter 字 = ' ' true 'ab ce\u{301}d␊漢字|e_f␊🇷🇺x␊y' start; delete 15 ' ' Backward; stop
+    ViCharSearch 1 BackwardAfter ␠ = '' true 'ab ce\u{301}d␊漢字 |e_f␊🇷🇺x␊y' start; delete 16 '' Backward; stop
     ViFirstPrint = none false 'ab ce\u{301}d␊漢字 |e_f␊🇷🇺x␊y' start; stop
     BackwardChar 2 = '字 ' true 'ab ce\u{301}d␊漢|e_f␊🇷🇺x␊y' delete 12 '字 ' Backward
     ForwardChar 2 = 'e_' true 'ab ce\u{301}d␊漢字 |f␊🇷🇺x␊y' delete 16 'e_' Forward
@@ -120,7 +115,7 @@ const KILLS_AT_THE_ENDS_OF_ROWS: &str = "
     'a|␊b'  LineDown 0 = none false 'a|␊b' start; stop
     'a b|'  BackwardWord 0 Emacs = none false 'a b|' start; stop
     '|a b'  ForwardWord 0 Start Vi = none false '|a b' start; stop
-    '|a b'  ViCharSearch 0 fb = none false '|a b' start; stop
+    '|a b'  ViCharSearch 0 Forward b = none false '|a b' start; stop
     'a b|'  BackwardChar 0 = none false 'a b|'
     '|a b'  ForwardChar 0 = none false '|a b'
     'a b|'  BackwardChar 65535 = 'a b' true '|' delete 0 'a b' Backward

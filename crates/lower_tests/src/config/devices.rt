@@ -1,13 +1,12 @@
 //! The devices over memory, and over readers and writers that transfer pieces, are interrupted, or
 //! fail. The rows begin with the turns of the reader or the writer, a word for each call.
 
-use crate::config::settings::shown;
 use line_config::{
     DeviceFailed, ReadSource, Recorded, Sink, SliceSource, Source, VecSink, WriteSink,
 };
 use stand_ins::devices::{Pieces, Taker, Turns};
 use stand_ins::rows::{Player, raised, rows_hold, trimmed};
-use stand_ins::tables::{or_nothing, pictured_bytes};
+use stand_ins::tables::{or_nothing, pictured_bytes, shown};
 use std::alloc::{AllocError, Global};
 use std::cell::Cell;
 use std::io::Write;

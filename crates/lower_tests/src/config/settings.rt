@@ -6,13 +6,9 @@ use line_config::{
     EditMode, HookFault, ReadlineError,
 };
 use stand_ins::rows::{Player, raised, rows_hold, same, stands};
+use stand_ins::tables::shown;
 use std::alloc::{AllocError, Global};
-use std::fmt::Debug;
 use std::test::Fail;
-
-pub(crate) fn shown<D: Debug + Drop>(alloc: Global, value: D) -> Result<String, AllocError> {
-    format!(in alloc; "{value:?}")
-}
 
 /// The answer of the getter with this name.
 fn answer(alloc: Global, config: &Config, name: &str) -> Result<String, AllocError> {

@@ -14,14 +14,9 @@ use stand_ins::reader_calls::tell_call;
 use stand_ins::readers::{After, KeyList};
 use stand_ins::refreshers::PlainLine;
 use stand_ins::rows::{Player, raised, rows_hold, same};
-use stand_ins::tables::{meant, word_and_rest};
+use stand_ins::tables::{meant, shown, word_and_rest};
 use std::alloc::{AllocError, Global};
-use std::fmt::Debug;
 use std::test::Fail;
-
-fn shown<D: Debug>(alloc: Global, value: &D) -> Result<String, AllocError> {
-    format!(in alloc; "{value:?}")
-}
 
 // The old or current binding: a command.
 fn handler_told(alloc: Global, handler: Option<&EventHandler>) -> Result<String, AllocError> {

@@ -18,14 +18,7 @@ pub(crate) fn line_marked(alloc: Global, marked: &str) -> Result<PlainLine, Read
     Ok(line)
 }
 
-// The line at which keys are typed.
-fn line_at(desk: &Desk<'_>) -> Result<PlainLine, ReadlineError> {
-    let mut line = line_marked(desk.alloc, desk.line)?;
-    line.answered = desk.answered;
-    put_texts(&mut line, desk)?;
-    Ok(line)
-}
-
+// Puts the texts of a desk at a line.
 fn put_texts(line: &mut PlainLine, desk: &Desk<'_>) -> Result<(), ReadlineError> {
     line.hint = copied(desk.alloc, desk.hint)?;
     line.inserted = copied(desk.alloc, desk.inserted)?;
@@ -156,7 +149,7 @@ fn tell_input(
     input: &Input,
     said: &mut String,
 ) -> Result<(), ReadlineError> {
-    let mut line = line_at(desk)?;
+    let mut line = line_marked(desk.alloc, desk.line)?;
     tell_typed(desk, first_by_key, input, &mut line, said)
 }
 
@@ -167,6 +160,8 @@ fn tell_typed(
     line: &mut PlainLine,
     said: &mut String,
 ) -> Result<(), ReadlineError> {
+    line.answered = desk.answered;
+    put_texts(line, desk)?;
     let mut typing = Typing::new(desk, first_by_key, input)?;
     typing.tell(line, said)
 }

@@ -44,12 +44,11 @@ fn tell_last(alloc: Global, changes: &Changeset, shown: &mut String) -> Result<(
     let last = changes.last_insert(alloc)?;
     let copied = last.as_ref().map(|text| text.as_str());
     let lent = changes.last_insert_text();
-    shown.push_str(if copied == lent {
+    raised(shown.push_str(if copied == lent {
         lent.unwrap_or("none")
     } else {
         "two answers"
-    })?;
-    Ok(())
+    }))
 }
 
 /// A record that gets each row's change.

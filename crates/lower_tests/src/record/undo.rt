@@ -6,7 +6,7 @@ ghost use Rattle.line_record.specs.Items.{ItemsStand, ItemsStand-prop};
 use line_buffer::{DeleteListener, LineBuffer, Movement, OutOfMemory, Word, WordAction};
 use line_record::{Changeset, Joined, KillRing};
 use stand_ins::lines::{line_of, shown_of};
-use stand_ins::rows::{Player, Starts, raised, stands, tables_hold};
+use stand_ins::rows::{Player, Starts, done, raised, stands, tables_hold};
 use stand_ins::tables::word_and_rest;
 use std::alloc::Global;
 use std::fmt::Display;
@@ -43,33 +43,30 @@ impl Desk {
 
     fn type_char(&mut self, c: char) -> Result<(), OutOfMemory> {
         let _text = self.line.as_str();
-        self.line.insert(self.alloc, c, 1, &mut self.changes)?;
-        Ok(())
+        done(self.line.insert(self.alloc, c, 1, &mut self.changes))
     }
 
     fn paste(&mut self, text: &str) -> Result<(), OutOfMemory> {
         let _text = self.line.as_str();
-        self.line.yank(self.alloc, text, 1, &mut self.changes)?;
-        Ok(())
+        done(self.line.yank(self.alloc, text, 1, &mut self.changes))
     }
 
     fn backspace(&mut self, n: u16) -> Result<(), OutOfMemory> {
         let _text = self.line.as_str();
-        self.line.backspace(self.alloc, n, &mut self.changes)?;
-        Ok(())
+        done(self.line.backspace(self.alloc, n, &mut self.changes))
     }
 
     fn delete(&mut self, n: u16) -> Result<(), OutOfMemory> {
         let _text = self.line.as_str();
-        self.line.delete(self.alloc, n, &mut self.changes)?;
-        Ok(())
+        done(self.line.delete(self.alloc, n, &mut self.changes))
     }
 
     fn upcase(&mut self) -> Result<(), OutOfMemory> {
         let _text = self.line.as_str();
-        self.line
-            .edit_word(self.alloc, WordAction::Uppercase, &mut self.changes)?;
-        Ok(())
+        done(
+            self.line
+                .edit_word(self.alloc, WordAction::Uppercase, &mut self.changes),
+        )
     }
 
     fn begin(&mut self) -> Result<usize, OutOfMemory> {
