@@ -1,23 +1,16 @@
 //! How the keys of a line are requested.
 
 use crate::calls::CallList;
-use crate::desk::{Stage, key_of};
+use crate::desk::Stage;
 use line_config::{Config, EditMode};
 use line_editor::run;
 use line_keys::KeyEvent;
 use line_record::KillRing;
 use stand_ins::asked_keys::{AskedKeys, requests_in_words};
 use stand_ins::rows::{Player, raised, rows_hold};
+use stand_ins::typing::keys_named;
 use std::alloc::Global;
 use std::test::Fail;
-
-fn keys_named(alloc: Global, words: &str) -> Result<Vec<KeyEvent>, Fail> {
-    let mut keys = Vec::new(alloc);
-    for word in words.split_whitespace() {
-        keys.push(key_of(word)?)?;
-    }
-    Ok(keys)
-}
 
 // How the keys of a line were requested, in words.
 fn asked(alloc: Global, mode: EditMode, keys: &[KeyEvent]) -> Result<String, Fail> {

@@ -8,7 +8,7 @@ ghost use Rattle.line_help.specs.Completion.{nothing_offered};
 ghost use Rattle.line_keys.specs.Replies.{gives, gives_at_once};
 
 use crate::desk::{Stage, key_of, led_over};
-use crate::lines::{run_bound, run_over, typed};
+use crate::lines::{run_bound, run_over};
 use line_buffer::{ChangeListener, LineBuffer, RepeatCount};
 use line_config::{CompletionType, HookFault, ReadlineError};
 use line_help::{
@@ -17,6 +17,7 @@ use line_help::{
 };
 use line_keys::{Cmd, CmdKind, Decides, Event, EventContext, EventMap, Keys};
 use stand_ins::rows::{Player, raised, rows_hold};
+use stand_ins::typing::typed;
 use std::alloc::Global;
 use std::borrow::CowStr;
 use std::cell::Cell;

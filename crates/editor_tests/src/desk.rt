@@ -27,12 +27,12 @@ use line_config::{CompletionType, Config, EditMode, ReadlineError};
 use line_editor::commands::{Status, execute};
 use line_editor::{RefreshKind, State};
 use line_help::{Context, Helper, History, MemHistory};
-use line_keys::{Bindings, Cmd, CmdKind, Decides, Event, EventHandler, InputState, KeyEvent};
+use line_keys::{Bindings, Cmd, CmdKind, Decides, InputState, KeyEvent};
 use line_record::{Changeset, KillRing};
-use stand_ins::commands::command_named;
 use stand_ins::key_names::key_named;
 use stand_ins::rows::{Player, Starts, raised, tables_hold, trimmed};
 use stand_ins::tables::{marked, meant, named, pictured, word_and_rest};
+use stand_ins::typing::{bind_command, command_of};
 use std::alloc::{AllocError, Global};
 use std::test::Fail;
 
@@ -226,19 +226,11 @@ pub(crate) fn key_of(name: &str) -> Result<KeyEvent, Fail> {
     }
 }
 
-// Binds a key to a command.
-fn bind(alloc: Global, bindings: &mut Bindings, name: &str, words: &str) -> Result<(), Fail> {
-    let event = Event::from_key(alloc, key_of(name)?)?;
-    let cmd = command_of(alloc, words)?;
-    let _ = bindings.bind_sequence(event, EventHandler::Simple(cmd))?;
-    Ok(())
-}
-
 // The bindings of a row `C-O: HistorySearchBackward`.
-fn bound(alloc: Global, row: &str) -> Result<Bindings, Fail> {
+fn bound(alloc: Global, row: &str) -> Result<Bindings, ReadlineError> {
     let (name, words) = row.split_once(": ").unwrap_or((row, ""));
     let mut bindings = Bindings::new(alloc)?;
-    bind(alloc, &mut bindings, name, words)?;
+    bind_command(alloc, &mut bindings, name, words)?;
     Ok(bindings)
 }
 
@@ -331,14 +323,6 @@ pub(crate) fn lent_by(alloc: Global, ring: &mut KillRing) -> Result<String, Allo
     match ring.yank() {
         Some(text) => format!(in alloc; "'{}'", pictured(alloc, text)?),
         None => String::from_str(alloc, "-"),
-    }
-}
-
-/// The command with this name.
-pub(crate) fn command_of(alloc: Global, words: &str) -> Result<Cmd, Fail> {
-    match command_named(alloc, words) {
-        Some(cmd) => Ok(cmd),
-        None => Err(Fail::new(format_args!("no command: {words}"))),
     }
 }
 

@@ -4,49 +4,20 @@
 //! C-O: Noop` binds this key only to a command.
 
 use crate::calls::CallList;
-use crate::desk::{Desk, Stage, Work, done_over, key_of, lent_by, line_shown, make, status_of};
+use crate::desk::{Desk, Stage, Work, done_over, lent_by, line_shown, make, status_of};
 use line_buffer::LineBuffer;
 use line_config::{Config, ReadlineError};
 use line_editor::commands::Status;
 use line_editor::run;
 use line_help::Helper;
-use line_keys::{Cmd, CmdKind, Decides, EventMap, InputState, Text};
+use line_keys::{Cmd, CmdKind, Decides, EventMap, InputState};
 use line_record::KillRing;
-use stand_ins::readers::{After, KeyList, Typed};
+use stand_ins::readers::KeyList;
 use stand_ins::rows::{Player, Starts, raised, tables_hold, trimmed};
-use stand_ins::tables::{meant, pictured};
+use stand_ins::tables::pictured;
+use stand_ins::typing::{Input, typed};
 use std::alloc::{AllocError, Global};
 use std::test::Fail;
-
-/// The input of a row.
-#[derive(Drop)]
-pub(crate) struct Input {
-    typed: Vec<Typed>,
-    after: After,
-}
-
-fn item(alloc: Global, word: &str) -> Result<Typed, Fail> {
-    if let Some(text) = word.strip_prefix("text:") {
-        return Ok(Typed::Paste(Text::from(meant(alloc, text)?)));
-    }
-    Ok(Typed::Key(key_of(word)?))
-}
-
-/// Keys and pasted texts by a row's words.
-pub(crate) fn typed(alloc: Global, words: &str) -> Result<Input, Fail> {
-    let mut input = Input {
-        typed: Vec::new(alloc),
-        after: After::End,
-    };
-    for word in words.split_whitespace() {
-        if word == "!failed" {
-            input.after = After::Failed;
-        } else {
-            input.typed.push(item(alloc, word)?)?;
-        }
-    }
-    Ok(input)
-}
 
 // One turn: the next command, and its effect.
 fn turn<H: Helper + Drop, D: Decides>(

@@ -5,9 +5,10 @@
 
 use crate::candidates;
 use crate::desk::Stage;
-use crate::lines::{run_after, typed};
+use crate::lines::run_after;
 use stand_ins::rows::{Player, Starts, raised, tables_hold, trimmed};
 use stand_ins::tables::word_and_rest;
+use stand_ins::typing::typed;
 use std::alloc::Global;
 use std::test::Fail;
 

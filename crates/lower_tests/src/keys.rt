@@ -8,7 +8,6 @@ mod key_rows;
 mod modal;
 mod tables;
 mod telling;
-mod typing;
 mod vi_command;
 mod vi_insert;
 mod vi_operators;

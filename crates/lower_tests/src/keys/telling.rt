@@ -1,13 +1,13 @@
 //! The commands of typed keys, in words.
 
 use crate::keys::tables::Desk;
-use crate::keys::typing::{Input, typed};
 use line_config::{Config, ReadlineError};
 use line_keys::{Cmd, InputState, Text};
 use stand_ins::readers::KeyList;
 use stand_ins::refreshers::{PlainLine, Request};
 use stand_ins::rows::raised;
 use stand_ins::tables::line_and_place;
+use stand_ins::typing::{Input, typed};
 use std::alloc::{AllocError, Global};
 
 /// A line with its cursor, marked by a bar.
@@ -195,4 +195,9 @@ fn tell_prompt(said: &mut String, prompt: &str) -> Result<(), AllocError> {
 
 fn count_in(prompt: &str) -> Option<&str> {
     prompt.strip_prefix("(arg: ")?.strip_suffix(") ")
+}
+
+/// More characters than a count can name.
+pub(crate) fn long_text(alloc: Global) -> Result<String, AllocError> {
+    "x".repeat(alloc, 70_000)
 }

@@ -1,8 +1,7 @@
 //! Vi: command mode.
 
 use crate::keys::tables::Desk;
-use crate::keys::telling::told;
-use crate::keys::typing::long_text;
+use crate::keys::telling::{long_text, told};
 use line_config::{EditMode, ReadlineError};
 use stand_ins::rows::{raised, same};
 use std::alloc::Global;

@@ -1,14 +1,15 @@
-//! Input, by names.
+//! Typed input and bindings, by names.
 
+use crate::commands::command_named;
+use crate::key_names::key_named;
+use crate::readers::{After, Typed};
+use crate::tables::meant;
 use line_config::ReadlineError;
-use line_keys::{Event, KeyEvent, Keys, Text};
-use stand_ins::key_names::key_named;
-use stand_ins::readers::{After, Typed};
-use stand_ins::tables::meant;
-use std::alloc::{AllocError, Global};
+use line_keys::{Bindings, Cmd, Event, EventHandler, KeyEvent, Keys, Text};
+use std::alloc::Global;
 
 /// The event of keys with these names; any event without names.
-pub(crate) fn event(alloc: Global, words: &str) -> Result<Event, ReadlineError> {
+pub fn event(alloc: Global, words: &str) -> Result<Event, ReadlineError> {
     let keys = keys_named(alloc, words)?;
     if keys.is_empty() {
         return Ok(Event::Any);
@@ -17,7 +18,7 @@ pub(crate) fn event(alloc: Global, words: &str) -> Result<Event, ReadlineError> 
 }
 
 /// The keys with these names.
-pub(crate) fn keys_named(alloc: Global, words: &str) -> Result<Vec<KeyEvent>, ReadlineError> {
+pub fn keys_named(alloc: Global, words: &str) -> Result<Vec<KeyEvent>, ReadlineError> {
     let mut keys = Vec::new(alloc);
     for word in words.split_whitespace() {
         match key_named(word) {
@@ -41,7 +42,7 @@ pub struct Input {
 /// comes the end of the input, or bytes that are no character after `!bad`, or a failing source
 /// after `!failed`. Before these, `!cut` is a pasted text without its end. An unknown word is an
 /// error.
-pub(crate) fn typed(alloc: Global, words: &str) -> Result<Input, ReadlineError> {
+pub fn typed(alloc: Global, words: &str) -> Result<Input, ReadlineError> {
     let mut input = Input {
         typed: Vec::new(alloc),
         cut: false,
@@ -74,7 +75,32 @@ fn item(alloc: Global, word: &str) -> Result<Typed, ReadlineError> {
     }
 }
 
-/// More characters than a count can name.
-pub(crate) fn long_text(alloc: Global) -> Result<String, AllocError> {
-    "x".repeat(alloc, 70_000)
+/// Binds keys to a handler, or any key without keys. Returns the old binding.
+pub fn bind(
+    alloc: Global,
+    bindings: &mut Bindings,
+    keys: &str,
+    handler: EventHandler,
+) -> Result<Option<EventHandler>, ReadlineError> {
+    let event = event(alloc, keys)?;
+    bindings.bind_sequence(event, handler)
+}
+
+/// The command with this name, which must exist.
+pub fn command_of(alloc: Global, words: &str) -> Result<Cmd, ReadlineError> {
+    match command_named(alloc, words) {
+        Some(cmd) => Ok(cmd),
+        None => Err(ReadlineError::Helper),
+    }
+}
+
+/// Binds keys to the command with this name, or any key without keys.
+pub fn bind_command(
+    alloc: Global,
+    bindings: &mut Bindings,
+    keys: &str,
+    words: &str,
+) -> Result<Option<EventHandler>, ReadlineError> {
+    let handler = EventHandler::from(command_of(alloc, words)?);
+    bind(alloc, bindings, keys, handler)
 }
