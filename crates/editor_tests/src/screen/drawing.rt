@@ -114,7 +114,7 @@ const TABS: &str = "
 ";
 
 /// The calls of a table's rows.
-#[derive(Drop)]
+#[derive(Clone, Copy, Drop)]
 enum Ask {
     Drawing,
     Tabs,

@@ -63,11 +63,9 @@ fn tell_refusal<R: RawReader>(
     said: &mut String,
     why: ReadlineError,
 ) -> Result<(), AllocError> {
-    write!(said, "{why:?}")?;
-    if reader.next_key(true) != Err(why) {
-        said.push_str(", but not for good")?;
-    }
-    Ok(())
+    let lasts = reader.next_key(true) == Err(why);
+    let end = if lasts { "" } else { ", but not for good" };
+    write!(said, "{why:?}{end}")
 }
 
 /// What a reader gives until it fails, which it then does again: keys by their names, and, if texts
@@ -138,7 +136,7 @@ pub(crate) fn read_until_a_failure(
 }
 
 /// The calls of a table's rows.
-#[derive(Drop)]
+#[derive(Clone, Copy, Drop)]
 enum Ask {
     Keys,
     Texts,
@@ -395,10 +393,10 @@ fn tell_answer<R: RawReader>(
     call: &str,
     said: &mut String,
 ) -> Result<(), AllocError> {
-    if let Err(why) = tell_call(alloc, reader, call, said) {
-        write!(said, "{why:?}")?;
+    match tell_call(alloc, reader, call, said) {
+        Ok(()) => said.push(' '),
+        Err(why) => write!(said, "{why:?} "),
     }
-    said.push(' ')
 }
 
 fn tell_answers<R: RawReader>(
@@ -428,18 +426,21 @@ fn tell_parts<S: Source>(
 }
 
 // Makes the calls, and writes the result.
-fn called(alloc: Global, bytes: &[u8], mode: EditMode, calls: &str) -> Result<String, AllocError> {
+fn tell_called(
+    alloc: Global,
+    bytes: &[u8],
+    mode: EditMode,
+    calls: &str,
+    said: &mut String,
+) -> Result<(), AllocError> {
     let mut reader = KeyReader::new(SliceSource::new(bytes), mode);
-    let mut said = String::new(alloc);
-    if let Some(calls) = calls.strip_suffix("unbuffer") {
-        tell_answers(alloc, &mut reader, calls, &mut said)?;
-        tell_kept(&mut said, reader.unbuffer())?;
-    } else {
-        tell_answers(alloc, &mut reader, calls, &mut said)?;
-        let (mut source, kept) = reader.into_parts();
-        tell_parts(alloc, &mut said, &mut source, kept)?;
+    let answered = calls.strip_suffix("unbuffer").unwrap_or(calls);
+    tell_answers(alloc, &mut reader, answered, said)?;
+    if calls.ends_with("unbuffer") {
+        return tell_kept(said, reader.unbuffer());
     }
-    Ok(said)
+    let (mut source, kept) = reader.into_parts();
+    tell_parts(alloc, said, &mut source, kept)
 }
 
 // The answers of a row's calls.
@@ -451,7 +452,8 @@ fn calls_told(alloc: Global, call: &str) -> Result<String, AllocError> {
         "vi" => EditMode::Vi,
         _ => EditMode::Emacs,
     };
-    let said = called(alloc, &bytes, mode, calls)?;
+    let mut said = String::new(alloc);
+    tell_called(alloc, &bytes, mode, calls, &mut said)?;
     String::from_str(alloc, said.as_str().trim())
 }
 

@@ -12,7 +12,7 @@ use stand_ins::key_names::{key_named, write_key};
 use stand_ins::reader_calls::tell_call;
 use stand_ins::readers::{After, KeyList};
 use stand_ins::refreshers::PlainLine;
-use stand_ins::rows::{Player, raised, rows_hold, same};
+use stand_ins::rows::{Player, raised, rows_hold, same, trimmed};
 use stand_ins::tables::{meant, shown, word_and_rest};
 use stand_ins::typing::{bind_command, command_of, event, typed};
 use std::alloc::{AllocError, Global};
@@ -384,7 +384,19 @@ fn read(alloc: Global, row: &str) -> Result<String, Fail> {
     let mut reader = KeyList::new(&input.typed, input.cut, input.after);
     let mut said = String::new(alloc);
     tell_calls(alloc, &mut reader, calls, &mut said)?;
-    Ok(said)
+    trimmed(alloc, said.as_str())
+}
+
+fn tell_answer(
+    alloc: Global,
+    reader: &mut KeyList<'_>,
+    call: &str,
+    said: &mut String,
+) -> Result<(), AllocError> {
+    match tell_call(alloc, reader, call, said) {
+        Ok(()) => said.push(' '),
+        Err(why) => write!(said, "{why:?} "),
+    }
 }
 
 fn tell_calls(
@@ -394,12 +406,7 @@ fn tell_calls(
     said: &mut String,
 ) -> Result<(), AllocError> {
     for call in calls.split_whitespace() {
-        if !said.is_empty() {
-            said.push(' ')?;
-        }
-        if let Err(why) = tell_call(alloc, reader, call, said) {
-            write!(said, "{why:?}")?;
-        }
+        tell_answer(alloc, reader, call, said)?;
     }
     Ok(())
 }
