@@ -332,7 +332,7 @@ fn texts_of_faults(rt: HostRuntime) -> Result<(), Fail> {
 #[test]
 fn timeouts_of_the_modes_and_want_of_memory(_: HostRuntime) -> Result<(), Fail> {
     stands(timeouts() == (Some(500), None), "other timeouts")?;
-    stands(is_told_as_memory(), "want of memory by another name")
+    stands(is_told_as_memory(), "out of memory by another name")
 }
 
 fn is_told_as_memory() -> bool {
