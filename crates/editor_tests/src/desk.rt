@@ -474,8 +474,10 @@ fn done_with<H: Helper + Drop, W: Work>(
     work: &W,
 ) -> Result<String, Fail> {
     let config = Config::builder().edit_mode(stage.mode).build();
-    let mut input = InputState::new(alloc, &config, &stage.bindings)?;
-    work.done(alloc, stage, desk, &mut input, ring)
+    match &mut InputState::new(alloc, &config, &stage.bindings) {
+        Ok(input) => work.done(alloc, stage, desk, input, ring),
+        Err(why) => Err(Fail::from(*why)),
+    }
 }
 
 fn done_on<H: Helper + Drop, W: Work>(
@@ -484,8 +486,10 @@ fn done_on<H: Helper + Drop, W: Work>(
     desk: &mut Desk<'_, H>,
     work: &W,
 ) -> Result<String, Fail> {
-    let mut ring = KillRing::new(alloc, 60)?;
-    done_with(alloc, stage, desk, &mut ring, work)
+    match &mut KillRing::new(alloc, 60) {
+        Ok(ring) => done_with(alloc, stage, desk, ring, work),
+        Err(why) => Err(Fail::from(*why)),
+    }
 }
 
 fn done_from<H: Helper + Drop, W: Work>(
@@ -507,8 +511,10 @@ pub(crate) fn done_over<H: Helper + Drop, W: Work>(
     helper: Option<H>,
     work: &W,
 ) -> Result<String, Fail> {
-    let mut desk = empty_desk(alloc, stage)?;
-    done_from(alloc, stage, &mut desk, helper, work)
+    match &mut empty_desk(alloc, stage) {
+        Ok(desk) => done_from(alloc, stage, desk, helper, work),
+        Err(why) => Err(Fail::from(*why)),
+    }
 }
 
 /// Runs the commands of a row, over a helper.

@@ -173,16 +173,10 @@ pub(crate) fn run_after<H: Helper + Drop>(
     keys: &Input,
     query: &mut String,
 ) -> Result<String, Fail> {
-    let mut ring = KillRing::new(alloc, 60)?;
-    run_with(
-        alloc,
-        stage,
-        helper,
-        &stage.bindings,
-        &mut ring,
-        query,
-        keys,
-    )
+    match &mut KillRing::new(alloc, 60) {
+        Ok(ring) => run_with(alloc, stage, helper, &stage.bindings, ring, query, keys),
+        Err(why) => Err(Fail::from(*why)),
+    }
 }
 
 /// The same without a helper, and with these bindings.
