@@ -559,7 +559,7 @@ impl Starts for Stage {
 }
 
 #[test]
-fn commands(rt: HostRuntime) -> Result<(), Fail> {
+fn tables_of_commands(rt: HostRuntime) -> Result<(), Fail> {
     tables_hold::<Stage>(rt.alloc(), &accepting::TABLES)?;
     tables_hold::<Stage>(rt.alloc(), &completing::TABLES)?;
     tables_hold::<Stage>(rt.alloc(), &faults::TABLES)?;
