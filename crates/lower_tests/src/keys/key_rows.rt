@@ -169,6 +169,7 @@ const NAMES_ARE_KEYS: &str = "
     C-A     = Some(KeyEvent(Char('A'), Modifiers(CTRL)))
     A--     = Some(KeyEvent(Char('-'), Modifiers(ALT)))
     -       = Some(KeyEvent(Char('-'), Modifiers(0x0)))
+    C-A-]   = Some(KeyEvent(Char(']'), Modifiers(CTRL | ALT)))
     S-Tab   = Some(KeyEvent(Tab, Modifiers(SHIFT)))
     Enterr  = None
 ";
