@@ -6,4 +6,4 @@ mod editors;
 mod endings;
 mod lines;
 mod over_memory;
-mod told;
+pub(crate) mod told;

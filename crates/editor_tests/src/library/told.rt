@@ -47,8 +47,8 @@ pub fn lines_of<R: ReportsBytes + Drop>(
 
 /// A reader that gives one byte per call.
 #[derive(Drop)]
-struct OneByOne<'k> {
-    bytes: &'k [u8],
+pub(crate) struct OneByOne<'k> {
+    pub(crate) bytes: &'k [u8],
 }
 
 impl Read for OneByOne<'_> {

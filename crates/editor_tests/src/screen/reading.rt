@@ -1,6 +1,6 @@
 //! Bytes read as keys, characters and pasted texts.
 
-use crate::screen::sources::OneByOne;
+use crate::library::told::OneByOne;
 use line_config::{EditMode, ReadSource, ReadlineError, SliceSource, Source};
 use line_keys::{Cmd, KeyCode, KeyEvent, Modifiers, RawReader};
 use line_screen::KeyReader;
