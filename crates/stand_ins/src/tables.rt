@@ -49,6 +49,15 @@ pub(crate) fn picture_of(c: char) -> char {
     }
 }
 
+/// The words of a text with this mark between two.
+pub fn words_in(alloc: Global, text: &str, mark: char) -> Result<Vec<String>, AllocError> {
+    let mut words = Vec::new(alloc);
+    for word in text.split(mark) {
+        words.push(String::from_str(alloc, word)?)?;
+    }
+    Ok(words)
+}
+
 /// A value as `{:?}` writes it.
 pub fn shown<D: Debug + Drop>(alloc: Global, value: D) -> Result<String, AllocError> {
     format!(in alloc; "{value:?}")

@@ -2,31 +2,50 @@
 
 ghost use Rattle.std.specs.Prelude.{◌≤◌};
 
+use crate::library::over_memory::tell_bytes;
 use crate::library::told::lines_by_bytes;
 use keyline::{Ending, Options, Parsed, ReadlineError, SliceSource, VecSink, edit, parse};
 use stand_ins::rows::{Player, raised, rows_hold};
-use stand_ins::tables::{meant_bytes, pictured_bytes};
+use stand_ins::tables::{meant_bytes, pictured_bytes, shown, words_in};
 use std::alloc::{AllocError, Global};
 use std::test::Fail;
 
 /// Plays a session with a row's command line, history and keys. `--words` is followed by the words
-/// themselves, separated by commas.
-#[derive(Drop)]
-struct Optioned;
+/// themselves, separated by commas. `ByBytes` tells the lines of one whose reads give one byte each.
+#[derive(Clone, Copy, Drop)]
+enum Ask {
+    Whole,
+    ByBytes,
+}
 
-impl Player for Optioned {
+impl Player for Ask {
     fn play(&mut self, alloc: Global, call: &str) -> Result<String, Fail> {
         let (line, devices) = call.split_once(" : ").unwrap_or((call, ""));
-        let (history, keys) = devices.split_once(" : ").unwrap_or((devices, ""));
         let words: Vec<&str> = line.split_whitespace().collect(alloc)?;
-        raised(answer(alloc, words.as_slice(), history, keys))
+        raised(answer(alloc, *self, words.as_slice(), devices))
     }
 }
 
-fn answer(alloc: Global, words: &[&str], history: &str, keys: &str) -> Result<String, AllocError> {
+fn answer(alloc: Global, ask: Ask, words: &[&str], devices: &str) -> Result<String, AllocError> {
+    let (history, keys) = devices.split_once(" : ").unwrap_or((devices, ""));
     match parse(alloc, words) {
-        Parsed::Run(options) => told(alloc, played(alloc, &options, history, keys)),
+        Parsed::Run(options) => answer_to(alloc, ask, &options, history, keys),
         _ => String::from_str(alloc, "no options"),
+    }
+}
+
+fn answer_to(
+    alloc: Global,
+    ask: Ask,
+    options: &Options,
+    history: &str,
+    keys: &str,
+) -> Result<String, AllocError>
+    requires { (2 ≤ options.now.columns) × (options.now.columns ≤ 1000) }
+{
+    match ask {
+        Ask::Whole => told(alloc, &played(alloc, options, history, keys)),
+        Ask::ByBytes => lines_told(alloc, options, history, keys),
     }
 }
 
@@ -76,31 +95,47 @@ fn kept_of(
 }
 
 fn words_of(alloc: Global, listed: &Option<String>) -> Result<Option<Vec<String>>, AllocError> {
-    let Some(listed) = listed else {
-        return Ok(None);
-    };
-    let mut words = Vec::new(alloc);
-    for word in listed.as_str().split(',') {
-        words.push(String::from_str(alloc, word)?)?;
+    match listed {
+        Some(listed) => Ok(Some(words_in(alloc, listed.as_str(), ',')?)),
+        None => Ok(None),
     }
-    Ok(Some(words))
 }
 
 /// How a session ended, with its lines and the history's text; or why none was opened.
-fn told(alloc: Global, kept: Result<Kept, ReadlineError>) -> Result<String, AllocError> {
+fn told(alloc: Global, kept: &Result<Kept, ReadlineError>) -> Result<String, AllocError> {
     match kept {
         Ok(kept) => {
-            let lines = pictured_bytes(alloc, &kept.lines)?;
-            let saved = pictured_bytes(alloc, &kept.saved)?;
-            format!(in alloc; "{:?} <{lines}> <{saved}>", kept.ending)
+            let mut said = String::new(alloc);
+            tell(alloc, kept, &mut said)?;
+            Ok(said)
         }
-        Err(refusal) => format!(in alloc; "{refusal:?}"),
+        Err(refusal) => shown(alloc, *refusal),
     }
 }
 
-#[test]
-fn sessions_by_options(rt: HostRuntime) -> Result<(), Fail> {
-    let rows = "keyline : #V2␊ : ab␍ = Eof <ab␊> <#V2␊ab␊>
+fn tell(alloc: Global, kept: &Kept, said: &mut String) -> Result<(), AllocError> {
+    write!(said, "{:?}", kept.ending)?;
+    tell_bytes(alloc, &kept.lines, said)?;
+    tell_bytes(alloc, &kept.saved, said)
+}
+
+/// The lines of a session with these options, or how it ended.
+fn lines_told(
+    alloc: Global,
+    options: &Options,
+    history: &str,
+    keys: &str,
+) -> Result<String, AllocError>
+    requires { (2 ≤ options.now.columns) × (options.now.columns ≤ 1000) }
+{
+    let (history, keys) = (meant_bytes(alloc, history)?, meant_bytes(alloc, keys)?);
+    match &lines_by_bytes(alloc, options, &history, &keys) {
+        Ok(lines) => pictured_bytes(alloc, lines),
+        Err(ending) => shown(alloc, *ending),
+    }
+}
+
+const SESSIONS: &str = "keyline : #V2␊ : ab␍ = Eof <ab␊> <#V2␊ab␊>
         keyline : #V2␊ab␊ : ␐␍ = Eof <ab␊> <>
         keyline : ‹ff› : ab␍ = HistoryText
         keyline --mode vi : #V2␊ : ab␛x␍ = Eof <a␊> <#V2␊a␊>
@@ -110,44 +145,15 @@ fn sessions_by_options(rt: HostRuntime) -> Result<(), Fail> {
         keyline --brackets : #V2␊ : al␉␍ = Eof <al␊> <#V2␊al␊>
         keyline --words alpha,alpine : #V2␊ : (␍)␍ = Eof <(␊)␊> <#V2␊(␊)␊>
         keyline --brackets --words alpha,alpine : #V2␊ : (␍)␍ = Eof <(␊)␊> <#V2␊(\\n)␊>";
-    rows_hold(rt.alloc(), &mut Optioned, rows)
-}
 
-/// Writes the lines of a session whose reads give one byte each.
-#[derive(Drop)]
-struct ByBytes;
-
-impl Player for ByBytes {
-    fn play(&mut self, alloc: Global, call: &str) -> Result<String, Fail> {
-        let (line, devices) = call.split_once(" : ").unwrap_or((call, ""));
-        let (history, keys) = devices.split_once(" : ").unwrap_or((devices, ""));
-        let words: Vec<&str> = line.split_whitespace().collect(alloc)?;
-        raised(lines_told(alloc, words.as_slice(), history, keys))
-    }
-}
-
-fn lines_told(
-    alloc: Global,
-    words: &[&str],
-    history: &str,
-    keys: &str,
-) -> Result<String, AllocError> {
-    let (history, keys) = (meant_bytes(alloc, history)?, meant_bytes(alloc, keys)?);
-    match parse(alloc, words) {
-        Parsed::Run(options) => match lines_by_bytes(alloc, &options, &history, &keys) {
-            Ok(lines) => pictured_bytes(alloc, &lines),
-            Err(ending) => format!(in alloc; "{ending:?}"),
-        },
-        _ => String::from_str(alloc, "no options"),
-    }
-}
-
-#[test]
-fn lines_by_one_byte_reads(rt: HostRuntime) -> Result<(), Fail> {
-    let rows = "keyline : #V2␊ : ab␍c␍ = ab␊c␊
+const LINES_BY_ONE_BYTE_READS: &str = "keyline : #V2␊ : ab␍c␍ = ab␊c␊
         keyline : #V2␊old␊ : ␐␍ = old␊
         keyline --mode vi : #V2␊ : ab␛x␍ = a␊
         keyline : #V2␊ : a␃ = Interrupted
         keyline : ‹ff› : ab␍ = HistoryText";
-    rows_hold(rt.alloc(), &mut ByBytes, rows)
+
+#[test]
+fn sessions_by_options(rt: HostRuntime) -> Result<(), Fail> {
+    rows_hold(rt.alloc(), &mut Ask::Whole, SESSIONS)?;
+    rows_hold(rt.alloc(), &mut Ask::ByBytes, LINES_BY_ONE_BYTE_READS)
 }

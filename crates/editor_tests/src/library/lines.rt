@@ -65,6 +65,18 @@ fn ask(
     tell(said, session.read_line(prompt.as_str()))
 }
 
+fn ask_each(
+    alloc: Global,
+    session: &mut InMemory<'_>,
+    words: &str,
+    said: &mut String,
+) -> Result<(), AllocError> {
+    for word in words.split_whitespace() {
+        ask(alloc, session, word, said)?;
+    }
+    Ok(())
+}
+
 /// Requests a line for each of these words, writes the answers, and then ends the session; the
 /// display's bytes.
 fn ask_for(
@@ -75,9 +87,7 @@ fn ask_for(
 ) -> Result<Vec<u8>, ReadlineError> {
     let config = Config::builder().auto_add_history(true).build();
     let mut session = opened(alloc, config, b"", keys)?;
-    for word in words.split_whitespace() {
-        ask(alloc, &mut session, word, said)?;
-    }
+    ask_each(alloc, &mut session, words, said)?;
     let end = session.finish(ReadlineError::Eof);
     Ok(end.display.into_bytes())
 }

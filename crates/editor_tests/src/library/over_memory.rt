@@ -3,7 +3,7 @@
 use keyline::over_memory::{Transcript, transcribe};
 use keyline::{Bindings, Config, ReadlineError};
 use stand_ins::rows::{Player, raised, rows_hold, stands};
-use stand_ins::tables::{meant_bytes, pictured_bytes};
+use stand_ins::tables::{meant_bytes, pictured_bytes, shown, words_in};
 use std::alloc::{AllocError, Global};
 use std::test::Fail;
 
@@ -17,19 +17,15 @@ impl Player for Transcribed {
         let (history, keys) = devices.split_once(" : ").unwrap_or((devices, ""));
         let history = meant_bytes(alloc, history)?;
         let keys = meant_bytes(alloc, keys)?;
-        raised(told(alloc, session_of(alloc, words, &history, &keys)))
+        raised(told(alloc, &session_of(alloc, words, &history, &keys)))
     }
 }
 
 fn words_of(alloc: Global, listed: &str) -> Result<Option<Vec<String>>, AllocError> {
-    if listed == "none" {
-        return Ok(None);
+    match listed {
+        "none" => Ok(None),
+        _ => Ok(Some(words_in(alloc, listed, ',')?)),
     }
-    let mut words = Vec::new(alloc);
-    for word in listed.split(',') {
-        words.push(String::from_str(alloc, word)?)?;
-    }
-    Ok(Some(words))
 }
 
 fn session_of(
@@ -48,21 +44,30 @@ fn session_of(
 /// is none.
 fn told(
     alloc: Global,
-    transcript: Result<Transcript, ReadlineError>,
+    transcript: &Result<Transcript, ReadlineError>,
 ) -> Result<String, AllocError> {
     match transcript {
         Ok(it) => {
-            let lines = pictured_bytes(alloc, &it.lines)?;
-            let saved = pictured_bytes(alloc, &it.history)?;
-            let display = pictured_bytes(alloc, &it.display)?;
-            let unread = pictured_bytes(alloc, &it.unread)?;
-            format!(in alloc;
-                "{:?} <{lines}> <{saved}> <{display}> <{unread}>",
-                it.ending
-            )
+            let mut said = String::new(alloc);
+            tell(alloc, it, &mut said)?;
+            Ok(said)
         }
-        Err(why) => format!(in alloc; "{why:?}"),
+        Err(why) => shown(alloc, *why),
     }
+}
+
+fn tell(alloc: Global, it: &Transcript, said: &mut String) -> Result<(), AllocError> {
+    write!(said, "{:?}", it.ending)?;
+    tell_bytes(alloc, &it.lines, said)?;
+    tell_bytes(alloc, &it.history, said)?;
+    tell_bytes(alloc, &it.display, said)?;
+    tell_bytes(alloc, &it.unread, said)
+}
+
+/// Writes bytes with pictures, in angle brackets.
+pub(crate) fn tell_bytes(alloc: Global, bytes: &[u8], said: &mut String) -> Result<(), AllocError> {
+    let pictured = pictured_bytes(alloc, bytes)?;
+    write!(said, " <{pictured}>")
 }
 
 #[test]

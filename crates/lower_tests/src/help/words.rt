@@ -7,22 +7,13 @@ use crate::help::resuming::{ENDS, words_counted};
 use line_config::{ReadlineError, SliceSource};
 use line_help::{Completer, WholeWordCompleter, WordCompleter, load_words};
 use stand_ins::rows::{Player, raised, rows_hold, stands};
-use stand_ins::tables::{meant_bytes, word_and_rest};
+use stand_ins::tables::{meant_bytes, word_and_rest, words_in};
 use std::alloc::{AllocError, Global};
 use std::test::Fail;
 
-// The words of a text, separated by spaces.
-fn words_in(alloc: Global, text: &str) -> Result<Vec<String>, AllocError> {
-    let mut words = Vec::new(alloc);
-    for word in text.split(' ') {
-        words.push(String::from_str(alloc, word)?)?;
-    }
-    Ok(words)
-}
-
 /// A completer with the words of a text, separated by spaces.
 pub(crate) fn completer_of(alloc: Global, text: &str) -> Result<WordCompleter, AllocError> {
-    Ok(WordCompleter::new(words_in(alloc, text)?))
+    Ok(WordCompleter::new(words_in(alloc, text, ' ')?))
 }
 
 const LISTED: &str = "alpha alpine twin twin été étoile e\u{301}a eb 漢字 al";
@@ -142,7 +133,7 @@ fn completes<C: Completer + Drop>(alloc: Global, completer: C, rows: &str) -> Re
 fn words_complete(rt: HostRuntime) -> Result<(), Fail> {
     let alloc = rt.alloc();
     completes(alloc, completer_of(alloc, LISTED)?, BY_WORDS)?;
-    let whole = WholeWordCompleter::new(words_in(alloc, LISTED)?, " ");
+    let whole = WholeWordCompleter::new(words_in(alloc, LISTED, ' ')?, " ");
     completes(alloc, whole, BY_WHOLE_WORDS)?;
     completes(alloc, numbered(alloc, 100_000)?, AMONG_MANY)
 }
