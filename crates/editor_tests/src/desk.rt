@@ -27,12 +27,12 @@ use line_config::{CompletionType, Config, EditMode, ReadlineError};
 use line_editor::commands::{Status, execute};
 use line_editor::{RefreshKind, State};
 use line_help::{Context, Helper, History, MemHistory};
-use line_keys::{Bindings, Cmd, CmdKind, Decides, InputState, KeyEvent};
+use line_keys::{Bindings, Cmd, CmdKind, Decides, EventHandler, InputState, KeyEvent};
 use line_record::{Changeset, KillRing};
 use stand_ins::key_names::key_named;
-use stand_ins::rows::{Player, Starts, raised, tables_hold, trimmed};
+use stand_ins::rows::{Player, Starts, done, raised, tables_hold, trimmed};
 use stand_ins::tables::{marked, meant, named, pictured, word_and_rest};
-use stand_ins::typing::{bind_command, command_of};
+use stand_ins::typing::{bind, command_of};
 use std::alloc::{AllocError, Global};
 use std::test::Fail;
 
@@ -226,11 +226,22 @@ pub(crate) fn key_of(name: &str) -> Result<KeyEvent, Fail> {
     }
 }
 
+// Binds a key to a command.
+fn bind_named(
+    alloc: Global,
+    bindings: &mut Bindings,
+    name: &str,
+    words: &str,
+) -> Result<(), ReadlineError> {
+    let handler = EventHandler::Simple(command_of(alloc, words)?);
+    done(bind(alloc, bindings, name, handler))
+}
+
 // The bindings of a row `C-O: HistorySearchBackward`.
 fn bound(alloc: Global, row: &str) -> Result<Bindings, ReadlineError> {
     let (name, words) = row.split_once(": ").unwrap_or((row, ""));
     let mut bindings = Bindings::new(alloc)?;
-    bind_command(alloc, &mut bindings, name, words)?;
+    bind_named(alloc, &mut bindings, name, words)?;
     Ok(bindings)
 }
 

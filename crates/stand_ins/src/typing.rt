@@ -93,14 +93,3 @@ pub fn command_of(alloc: Global, words: &str) -> Result<Cmd, ReadlineError> {
         None => Err(ReadlineError::Helper),
     }
 }
-
-/// Binds keys to the command with this name, or any key without keys.
-pub fn bind_command(
-    alloc: Global,
-    bindings: &mut Bindings,
-    keys: &str,
-    words: &str,
-) -> Result<Option<EventHandler>, ReadlineError> {
-    let handler = EventHandler::from(command_of(alloc, words)?);
-    bind(alloc, bindings, keys, handler)
-}

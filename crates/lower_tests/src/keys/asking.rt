@@ -1,5 +1,6 @@
 //! How the keys of commands are requested.
 
+use crate::keys::commands::bind_command;
 use crate::keys::tables::Desk;
 use crate::keys::telling::line_marked;
 use line_config::{Config, EditMode, ReadlineError};
@@ -7,7 +8,7 @@ use line_keys::{InputState, KeyEvent};
 use stand_ins::asked_keys::{AskedKeys, requests_in_words};
 use stand_ins::refreshers::PlainLine;
 use stand_ins::rows::{Player, raised, rows_hold};
-use stand_ins::typing::{bind_command, keys_named};
+use stand_ins::typing::keys_named;
 use std::alloc::Global;
 use std::test::Fail;
 

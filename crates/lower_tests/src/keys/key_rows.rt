@@ -1,6 +1,6 @@
 //! Keys, bindings and commands at work.
 
-use crate::keys::commands::bind_handler;
+use crate::keys::commands::{bind_command, bind_handler};
 use crate::keys::telling::{line_marked, long_text};
 use line_buffer::{Movement, RepeatCount};
 use line_config::{EditMode, ReadlineError};
@@ -14,7 +14,7 @@ use stand_ins::readers::{After, KeyList};
 use stand_ins::refreshers::PlainLine;
 use stand_ins::rows::{Player, raised, rows_hold, same, trimmed};
 use stand_ins::tables::{meant, shown, word_and_rest};
-use stand_ins::typing::{bind_command, command_of, event, typed};
+use stand_ins::typing::{command_of, event, typed};
 use std::alloc::{AllocError, Global};
 use std::test::Fail;
 

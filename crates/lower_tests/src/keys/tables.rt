@@ -8,13 +8,12 @@
 //! `unbind:` removes all bindings. From `modes:` on, the mode that a command leaves is written
 //! after it; from `modal:` on, the commands act that go on over several keys. `then: Noop` is the command of the key `q` with which a row with a count ends.
 
-use crate::keys::commands::bind_handler;
+use crate::keys::commands::{bind_command, bind_handler};
 use crate::keys::telling::told;
 use line_config::{EditMode, ReadlineError};
 use line_keys::Bindings;
 use stand_ins::rows::done;
 use stand_ins::tables::word_and_rest;
-use stand_ins::typing::bind_command;
 use std::alloc::{AllocError, Global};
 use std::test::Fail;
 
