@@ -11,7 +11,7 @@ use std::alloc::{AllocError, Global};
 use std::test::Fail;
 
 /// Plays a session with a row's command line, history and keys. `--words` is followed by the words
-/// themselves, separated by commas. `ByBytes` tells the lines of one whose reads give one byte each.
+/// themselves, separated by commas. `ByBytes` tells the lines of one whose reads give a byte each.
 #[derive(Clone, Copy, Drop)]
 enum Ask {
     Whole,

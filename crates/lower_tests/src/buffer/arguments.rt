@@ -125,8 +125,8 @@ fn search_of(word: &str) -> Option<CharSearch> {
     }
 }
 
-/// Whether rows are to be dedented, and by how much: `>2` indents by two columns, and `<2` takes two
-/// away.
+/// Whether rows are to be dedented, and by how much: `>2` indents by two columns, and `<2` takes
+/// two away.
 pub(crate) fn indentation_of(word: &str) -> Option<(bool, u8)> {
     let (dedent, amount) = match word.strip_prefix('<') {
         Some(amount) => (true, amount),
