@@ -19,18 +19,18 @@ use tables::{each_count, plays};
 #[test]
 fn each_key_with_each_count(rt: HostRuntime) -> Result<(), Fail> {
     each_count(rt.alloc(), EditMode::Emacs, emacs::COUNTS, emacs::EMACS)?;
-    each_count(rt.alloc(), EditMode::Emacs, emacs::COUNTS, emacs::COMMON)?;
+    each_count(rt.alloc(), EditMode::Emacs, emacs::COUNTS, emacs::COMMON)
+}
+
+#[test]
+fn each_key_of_vi(rt: HostRuntime) -> Result<(), Fail> {
+    let (counts, commands) = (vi_command::COUNTS, vi_command::COMMANDS);
+    each_count(rt.alloc(), EditMode::Vi, counts, commands)?;
     each_count(
         rt.alloc(),
         EditMode::Vi,
         vi_insert::NO_COUNT,
         vi_insert::INSERT,
-    )?;
-    each_count(
-        rt.alloc(),
-        EditMode::Vi,
-        vi_command::COUNTS,
-        vi_command::COMMANDS,
     )
 }
 

@@ -134,8 +134,12 @@ fn words_complete(rt: HostRuntime) -> Result<(), Fail> {
     let alloc = rt.alloc();
     completes(alloc, completer_of(alloc, LISTED)?, BY_WORDS)?;
     let whole = WholeWordCompleter::new(words_in(alloc, LISTED, ' ')?, " ");
-    completes(alloc, whole, BY_WHOLE_WORDS)?;
-    completes(alloc, numbered(alloc, 100_000)?, AMONG_MANY)
+    completes(alloc, whole, BY_WHOLE_WORDS)
+}
+
+#[test]
+fn many_words(rt: HostRuntime) -> Result<(), Fail> {
+    completes(rt.alloc(), numbered(rt.alloc(), 100_000)?, AMONG_MANY)
 }
 
 #[test]
