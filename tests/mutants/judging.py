@@ -21,6 +21,7 @@ class Said:
     )
     WAITS = re.compile(r"(?m)^note: `search` has not tried the goals of `([^`]+)`, which wait for a callee's proof")
     ANTT = re.compile(r"(?m)^(?:\./)?((?:specs|proofs)/[^\s:]+):\d+:\d+: (?:error|`\S+` is not admitted: (?!has-h))")
+    GOALS = re.compile(r"(?m)^goals of (\S+): (.*)$")
     FRONT = re.compile(r"(?m)^(?:\./)?(src/[^\s:]+):(\d+):\d+: error\S* (.*)$")
 
     def __init__(self, crate, group, said, brief=()):
@@ -28,6 +29,7 @@ class Said:
         self.unasked = {path: it.unasked for it in group for path in it.paths()}
         self.lines = {it[1]: (it[2], it[3].strip(": ")) for it in self.FUNCTION.finditer(said)}
         self.waiting = {*self.WAITS.findall(said)}
+        self.named = {path: goals.split() for path, goals in self.GOALS.findall(said)}
         self.places = {file: spans(crate.sources, file, text) for file, text in crate.texts(group).items()}
         self.open = {}
         for file, line, goal, more in self.OPEN.findall(said):
@@ -84,12 +86,14 @@ class Said:
         return any(self.goals(path).values())
 
     def to_spare(self, edit):
-        """The open goals of a mutant's function that need not be asked, since one that is enough is asked."""
+        """The goals of a mutant's function that need not be asked: all but one that kills it, as far as they cost something. If
+        none is open, the stored answers kill it, and stay."""
         [path, *more] = edit.paths()
-        goals = {} if more or path not in self.lines else self.goals(path)
-        asked = min(goals, key=lambda it: not goals[it], default=None)
-        stored = self.crate.answered(path) or set()
-        return [it for it in self.open.get(path, {}) if it not in stored and it != asked] if goals else []
+        if more or path not in self.lines or not self.refusals(path):
+            return []
+        open_goals = self.goals(path)
+        kept = {min(open_goals, key=lambda it: not open_goals[it])} if open_goals else self.crate.answered(path) or set()
+        return [it for it in self.named.get(path, self.open.get(path, ())) if it not in kept]
 
 
 def spans(sources, file, text):

@@ -12,13 +12,22 @@ ATTRIBUTES = re.compile(r"(?:#\[(?:[^][]|\[[^][]*\])*\]\s*)*(?:pub(?:\([^)]*\))?
 # A function's clauses, each with its name if it has one; and the answers of a stored proof for one.
 ENSURES = re.compile(r"\bensures\b\*?\s*(\w*)\s*(?=\{)")
 ANSWER = re.compile(r"(?ms)^pub (returns\S*?(?:-clause-(\w+))?) : goal\.\1\n.*?(?=^pub |\Z)")
-# The files of a function's proof, and the proof that is assumed.
+# The files of a function's proof, and the proof that is assumed: of a file's one hole, since rattle writes out the goal of each.
 PROOF_FILES = ("Proof.antt", "Answers.antt", "Invariants.antt")
-HOLE = """use {module}.Statement.{{statement}}
+ASSUMED = """
+assumed {ℓ} : {A : Type ℓ} → A
+assumed = ?
 
-pub {name}_spec : {{M : Type 1}} → statement M
-{name}_spec = ?
 """
+HOLE = """use {module}.Statement.{{statement}}
+{assumed}pub {name}_spec : {{M : Type 1}} → statement M
+{name}_spec = assumed
+"""
+# A definition or a lemma without a mark, which nothing unfolds unless it names it; and such names.
+SIGNATURE = re.compile(r"(?:pub )?([^\s:]+) :\s")
+BLOCK = re.compile(r"(?s)(?:module _\s.*?\bwhere|mutual)\n+(?=  \S)")
+USES = re.compile(r"(?:(?:use|open|mod|pub mod|pub use)\b.*\n(?:[ \t].*\n)*|[})].*\n|--.*\n|\n)*")
+UNFOLDED = re.compile(r"\bunfold(?:ing)?\b[ (]([^\n]*)")
 # Rattle writes out what is to be proved of a function that it rejects, at the cost of half the check again, unless one of the
 # function's answers can't be read. It takes the other answers as ever, so such a one ends their file.
 UNREAD = "no_lines_wanted"
@@ -268,12 +277,22 @@ class Crate:
                 shutil.copytree(os.path.join(self.folder, part), os.path.join(room, part))
         for file, text in self.texts(group).items():
             write(os.path.join(room, file), text)
+        self.assume_lemmas(room)
         paths = {path: edit.clause for edit in group for path in edit.paths()}
         for it in (it for found in self.sources.found.values() for it in found):
             if self.sources.path(it) not in paths:
                 self.take_at_its_word(room, self.sources.path(it))
         for path, clause in paths.items():
             self.prove_as_the_right_one(room, path, clause)
+
+    def assume_lemmas(self, room):
+        """Leaves holes for the proofs of the crate's lemmas, in a folder with it."""
+        texts = [*texts_under(room, "proofs"), *texts_under(room, "specs"), *self.sources.texts.items()]
+        unfolded = {word for _, text in texts for found in UNFOLDED.findall(text) for word in re.findall(r"[^\s,():]+", found)}
+        for file, text in lemmas(room):
+            uses = USES.match(text)[0]
+            rest = with_lemmas_assumed(text[len(uses) :], unfolded)
+            write(os.path.join(room, file), uses + ASSUMED * (" = assumed\n" in rest) + rest)
 
     def prove_as_the_right_one(self, room, path, clause):
         """Gives a body beside the original that one's proof, under its own name, as far as it belongs to a clause."""
@@ -291,15 +310,15 @@ class Crate:
         return f"Rattle.{self.name}.proofs.{'.'.join(path.split('::')[1:])}"
 
     def shorten(self, room, group, brief):
-        """Makes rattle say little about some functions of a group, and ask no goal that need not be, in a folder with it."""
+        """Makes rattle say little about some functions of a group, and assume each goal that need not be asked, in a folder
+        with it."""
         for edit in group:
             for path in brief.intersection(edit.paths()):
                 file = os.path.join(room, self.answers(path), "Answers.antt")
                 text = read(file) if os.path.exists(file) else ""
-                goals = [it for it in edit.unasked if it not in (self.answered(path) or ())]
-                if goals:
-                    name, text = self.named_goals(path, text)
-                    text += "".join(f"\npub {it} : {name}.{it}\n{it} = ?\n" for it in goals)
+                if edit.unasked:
+                    name, text = self.named_goals(path, unanswered(text, edit.unasked))
+                    text += ASSUMED + "".join(f"pub {it} : {name}.{it}\n{it} = assumed\n\n" for it in edit.unasked)
                 write(file, text + UNREAD_ANSWER)
 
     def named_goals(self, path, text):
@@ -314,7 +333,7 @@ class Crate:
         for name in PROOF_FILES:
             if os.path.exists(os.path.join(folder, name)):
                 os.remove(os.path.join(folder, name))
-        hole = HOLE.format(module=self.module(path), name=path.rpartition("::")[2])
+        hole = HOLE.format(module=self.module(path), assumed=ASSUMED, name=path.rpartition("::")[2])
         write(os.path.join(folder, PROOF_FILES[0]), hole)
 
 
@@ -324,6 +343,48 @@ def outline(text, found, keeps):
         if not keeps(it):
             text = f"{text[: it.body[0]]}{{}}{text[it.body[1] :]}"
     return text
+
+
+def parts_of(text):
+    """The parts of a file of lemmas: each begins with a line at the left, and goes on to the next one."""
+    return re.split(r"(?m)^(?=[^\s})\]])", text)
+
+
+def with_lemmas_assumed(text, unfolded):
+    """A file of lemmas with a hole for the proof of each lemma, except for what something unfolds."""
+    made, parts = [], parts_of(re.sub(r"(?m)^ *--.*\n", "", text))
+    while parts:
+        part = parts.pop(0)
+        inner = BLOCK.match(part)
+        if inner:
+            lines = with_lemmas_assumed(re.sub(r"(?m)^  ", "", part[inner.end() :]), unfolded)
+            part = part[: inner.end()] + re.sub(r"(?m)^(?=.)", "  ", lines)
+        made += [part, *proof_of(part, parts, unfolded)]
+    return "".join(made)
+
+
+def proof_of(part, parts, unfolded):
+    """Takes the proof of a lemma from the parts behind it: a hole in its place, or what stands there if something unfolds it."""
+    named, proof = SIGNATURE.match(part), []
+    clause = re.compile(rf"unfolding\s|{re.escape(named[1])}\s") if named and named[1] not in unfolded else None
+    while clause and parts and clause.match(parts[0]):
+        proof.append(parts.pop(0))
+    if any(not it.startswith("unfolding") for it in proof):
+        return [f"{named[1]} = assumed\n\n"]
+    return proof
+
+
+def unanswered(text, goals):
+    """The text of a function's answers without those to some goals."""
+    kept, parts = [], parts_of(text)
+    while parts:
+        part = parts.pop(0)
+        named = SIGNATURE.match(part)
+        if named and named[1] in goals:
+            proof_of(part, parts, ())
+        else:
+            kept.append(part)
+    return "".join(kept)
 
 
 def texts_under(folder, part):

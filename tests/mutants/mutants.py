@@ -4,8 +4,8 @@
 Such a file is written like those of must-fail/: a line `file: src/lib.rt` and pairs of lines `old: TEXT` and `new: TEXT`.
 Each old text must be in the file once. Many mutants share a check of their crate, over the libraries that `rt ci` left in
 crates/*/out. Each is a function beside the original, with another name. It ensures only the clause with which its case in
-tests/mutants/mutants-by-hand.txt begins. The originals are assumed to meet their contracts: a check proves none of them, since
-`rt ci` has, and needs nothing that an earlier check kept.
+tests/mutants/mutants-by-hand.txt begins. The originals are assumed to meet their contracts, and the crate's lemmas to hold: a
+check proves none of them, since `rt ci` has.
 
 A mutant is killed if each function that it changes is rejected for its own sake, and rattle knows values for which an
 open goal of it is false, or tests/mutants/mutants-by-hand.txt has a case for which a clause is. An open goal alone isn't enough,
@@ -23,11 +23,14 @@ check read. A later run, in any clone, tries only the mutants for which somethin
                                         libraries below it, one check at a time until `rt ci` has ended; tries no more
                                         if that was broken off, so that its last line doesn't count
 
-If a mutant leaves several goals open, one is enough to kill it, and each takes seconds. So the goals in
-tests/mutants/mutants-unasked.txt are left as holes; if no other one is open, the mutant is tried again with them.
+One open goal is enough to kill a mutant, and each goal costs: the search for the proof of one that is open, and the proof of
+one that isn't. So the goals in tests/mutants/mutants-unasked.txt are assumed; if no other one is open, the mutant is tried
+again with all of them.
 
 The output of a check is in build/mutants/ afterwards.
 """
+import glob
+import json
 import os
 import re
 import shutil
@@ -48,14 +51,17 @@ TOP = os.path.dirname(os.path.dirname(os.path.dirname(os.path.realpath(__file__)
 NEED = 2_500_000_000
 BY_HAND = os.path.join(TOP, "tests", "mutants", "mutants-by-hand.txt")
 UNASKED = os.path.join(TOP, "tests", "mutants", "mutants-unasked.txt")
+# What a kept file says of a module, and the names of goals that may be dear.
+INTERFACE = re.compile(rb"(?m)^--@ interface (.*)$")
+DEAR = re.compile(r"(?!lives-|drop-|branch-|from_residual-)(?:returns|invariant_of|.*-requires)")
 OPTIONS = ("--anew", "--fit", "--all-goals", "--beside")
 
 
 class Checker:
     """Checks crates of a repository with the libraries that were built in their out/."""
 
-    def __init__(self, top, uses):
-        self.top, self.uses = top, uses
+    def __init__(self, top, uses, names_goals=False):
+        self.top, self.uses, self.names_goals = top, uses, names_goals
         self.kit = os.path.dirname(os.path.dirname(os.path.realpath(shutil.which("rt"))))
 
     def rlib(self, name):
@@ -67,7 +73,8 @@ class Checker:
         return [it for it in below(self.uses, crate.name) if not (proofs.has(it) and os.path.isdir(self.rlib(it)))]
 
     def words(self, crate, kept, paths):
-        """The command that checks these functions of a crate; other functions are taken by their contracts."""
+        """The command that checks these functions of a crate, over what is kept in a folder, if there is one; other functions
+        are taken by their contracts."""
         root = "src/main.rt" if "src/main.rt" in crate.sources.texts else "src/lib.rt"
         words = [os.path.join(self.kit, "bin", "rattle"), "check", "--crate-name", crate.name, root]
         for dep in ["std", *self.uses[crate.name]]:
@@ -77,24 +84,26 @@ class Checker:
             words += ["-L", f"dependency={folder}"]
         words += ["--antt-project", os.path.join(self.kit, "rattle", "logic", "antt-project.json")]
         words += ["--logic-built", os.path.join(self.kit, "logic_built"), "--links", f"{crate.name}="]
-        words += ["--jobs", "1", "--incremental", kept, "--allow-holes"]
+        words += ["--jobs", "1", "--allow-holes", *(["--incremental", kept] if kept else [])]
         return words + [word for path in sorted(paths) for word in ("--only", path.partition("::")[2])]
 
-    def check(self, crate, group, brief, kept):
+    def check(self, crate, group, brief, shared):
         """What a check of the functions that a group changes costs, what rattle says about them (about some in brief), and how
         it ends.
 
-        Each later check has a copy of what the crate's first one keeps, since rattle can't share such a folder.
+        If a folder is shared by the crate's checks, the first one keeps there what serves the others. Each of these has a copy,
+        since rattle can't share such a folder.
         """
         with tempfile.TemporaryDirectory(prefix="mutants-") as top:
             room, own = os.path.join(top, "crate"), os.path.join(top, "kept")
-            os.mkdir(room)
-            if crate.checks:
-                shutil.copytree(kept, own)
+            if shared and crate.checks:
+                shutil.copytree(shared, own)
+            kept = shared if shared and not crate.checks else own
             crate.furnish(room, group)
             crate.shorten(room, group, brief)
             paths = {path for edit in group for path in edit.paths()}
-            return self.ran(self.words(crate, own if crate.checks else kept, paths), room)
+            cost, said, status = self.ran(self.words(crate, kept if shared or self.names_goals else None, paths), room)
+            return cost, said + "".join(goals_in(kept, crate, it) for it in paths if self.names_goals), status
 
     def ran(self, words, room):
         """The processor time of a command, its output, and its status."""
@@ -105,6 +114,18 @@ class Checker:
                 it.returncode = os.waitstatus_to_exitcode(status)
             said.seek(0)
             return used.ru_utime + used.ru_stime, said.read(), it.returncode
+
+
+def goals_in(kept, crate, path):
+    """A line with the goals of a function that may be dear, by what a check kept; nothing, if it kept nothing."""
+    module = crate.module(path).replace(".", "-", 2)
+    [file, *_] = glob.glob(os.path.join(kept, "*", f"{module}.Proof.oantt")) or [None]
+    if file is None:
+        return ""
+    with open(file, "rb") as it:
+        names = [it["name"] for it in json.loads(INTERFACE.search(it.read())[1])["globals"]]
+    dear = [it for it in names if DEAR.match(it) and not any(other.startswith(f"{it}-clause-") for other in names)]
+    return f"goals of {path}: {' '.join(dear)}\n"
 
 
 class Proofs:
@@ -141,18 +162,18 @@ class Proofs:
 class Trial:
     """A crate's mutants as they are tried: what was found about them, and the groups that are still to be tried.
 
-    The first check keeps what serves the others, of which each has a copy; so these begin when the first one has ended.
+    Of several checks the first one keeps what serves the others, of which each has a copy; so these begin when it has ended.
     """
 
     def __init__(self, crate, checker, by_hand, kept):
         self.crate, self.checker, self.by_hand, self.kept = crate, checker, by_hand, kept
-        self.folder = tempfile.TemporaryDirectory(prefix="mutants-kept-")
         self.found = [(False, f"{crate.name}/{name}", f"it no longer fits: {why}") for name, why in crate.unfit.items()]
         self.sums = {it: kept.name(crate, it) for it in crate.edits}
         known = {it: found for it in crate.edits for found in [kept.found(self.sums[it])] if found}
         self.found += [self.settled(kind, f"{crate.name}/{it.name}", why) for it, (kind, why) in known.items()]
         self.known, self.full, self.killed, self.running, self.spared = len(known), set(), set(), 0, {}
         self.left = crate.groups([it for it in crate.edits if it not in known])
+        self.folder = tempfile.TemporaryDirectory(prefix="mutants-kept-") if len(self.left) > 1 else None
 
     def settled(self, kind, name, why):
         """Whether a mutant with this finding passes, with its name and what to print."""
@@ -167,9 +188,10 @@ class Trial:
             self.left = []
             why = f"no library of {', '.join(lacking)} is built: run rt ci first"
             self.found.append((False, self.crate.name, why))
-        if lacking or self.running and not self.crate.checks:
+        is_first = self.folder and not self.crate.checks
+        if lacking or is_first and self.running:
             return []
-        groups = self.left if self.crate.checks else self.left[:1]
+        groups = self.left[:1] if is_first else self.left
         self.left = self.left[len(groups) :]
         self.running += len(groups)
         return groups
@@ -177,7 +199,7 @@ class Trial:
     def check(self, group):
         """Tries a group: the cost of its check, its output, and how the check ended."""
         brief = self.crate.brief([it for it in group if it not in self.full])
-        cost, said, status = self.checker.check(self.crate, group, brief, self.folder.name)
+        cost, said, status = self.checker.check(self.crate, group, brief, self.folder and self.folder.name)
         return cost, Said(self.crate, group, said, brief), status
 
     def take(self, group, cost, said, status):
@@ -335,7 +357,7 @@ def main(words):
         for name, why in unfit:
             print(f"FAILED {name}: it no longer fits: {why}")
         return finished(len(known) - len(unfit), failed + len(unfit))
-    checker = Checker(TOP, uses)
+    checker = Checker(TOP, uses, "--all-goals" in words)
     anew = not {"--anew", "--all-goals"}.isdisjoint(words)
     kept = Kept(TOP, uses, checker.kit, folder_beside(checker.kit), anew)
     trials = [Trial(it, checker, by_hand, kept) for it in sorted(crates, key=Crate.weight, reverse=True)]

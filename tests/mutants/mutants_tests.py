@@ -180,7 +180,8 @@ def goals_that_go_unasked():
 def answers_of_a_body_beside_the_right_one():
     small = Small("neither")
     use = "use Rattle.small.proofs.{}.Goals as "
-    for stored, name in (("", "unasked"), (f"{use.format('twice')}goal\n", "goal")):
+    answer = "\npub returns-clause-one : goal.returns-clause-one\nreturns-clause-one g c = it_is g\n"
+    for stored, name in (("", "unasked"), (f"{use.format('twice')}goal\n{answer}", "goal")):
         small.write("crates/small/proofs/twice/Answers.antt", stored)
         crate, room = small.crate({"small/neither": ["returns-clause-one"]}), os.path.join(small.folder.name, name)
         crate.furnish(room, crate.edits)
@@ -188,8 +189,9 @@ def answers_of_a_body_beside_the_right_one():
         text = mutant_checks.read(os.path.join(room, "proofs/twice_neither/Answers.antt"))
         same("whether its answers name its goals so", text.startswith(f"{use.format('twice_neither')}{name}\n"), True)
         same("how often the goals are brought in", text.count("Goals as "), 1)
-        same("whether the goal is left as a hole",
-             f"\npub returns-clause-one : {name}.returns-clause-one\nreturns-clause-one = ?\n" in text, True)
+        same("whether the goal is assumed",
+             f"\npub returns-clause-one : {name}.returns-clause-one\nreturns-clause-one = assumed\n" in text, True)
+        same("whether its stored answer goes", "it_is" in text, False)
 
 
 def goals_that_need_not_be_asked():
@@ -201,6 +203,9 @@ def goals_that_need_not_be_asked():
     group = trial.crate.edits
     trial.take(group, 1, judging.Said(trial.crate, group, said, {"small::twice_neither"}), 0)
     same("what need not be asked", trial.spared, {group[0]: ["returns-clause-one"]})
+    said += "goals of small::twice_neither: id-requires returns-clause-one returns-clause-other\n"
+    told = judging.Said(trial.crate, group, said, {"small::twice_neither"})
+    same("what need not be asked where goals are proved", told.to_spare(group[0]), ["id-requires", "returns-clause-one"])
     file = os.path.join(trial.checker.top, "unasked.txt")
     mutant_checks.write(file, "# Told.\n\nother/one: a, b\nsmall/gone: c\n")
     mutants.note_unasked(file, [trial])
@@ -216,7 +221,7 @@ class Told:
     def lacking(self, _crate, proofs):
         return [] if proofs.has("low") else ["low"]
 
-    def check(self, _crate, group, _brief, _kept):
+    def check(self, _crate, group, _brief, _shared):
         return 1, self.said[" ".join(it.name for it in group)], 1
 
 
@@ -385,8 +390,72 @@ def what_is_not_changed_is_taken_at_its_word():
         "proofs/twice/Proof.antt", "proofs/U16FromRefPair/from/Proof.antt", "proofs/doubled_added_once/Answers.antt",
     })
     with open(os.path.join(room, "proofs/Pair/first/Proof.antt"), encoding="utf-8") as it:
-        same("a hole", it.read(), "use Rattle.small.proofs.Pair.first.Statement.{statement}\n\n"
-             "pub first_spec : {M : Type 1} \u2192 statement M\nfirst_spec = ?\n")
+        same("a hole", it.read(), "use Rattle.small.proofs.Pair.first.Statement.{statement}\n"
+             f"{mutant_checks.ASSUMED}pub first_spec : {{M : Type 1}} \u2192 statement M\nfirst_spec = assumed\n")
+
+
+LEMMAS = """use Words.{N}
+
+-- what it says
+lemma : (n : N) \u2192
+    n \u2261 n
+unfolding opened
+lemma zero = refl
+lemma (suc n) = by n
+  where
+    by : N
+    by = n
+
+opened : N \u2192 N
+opened n = n
+
+abbrev pub open : N
+open = zero
+
+module _ (n : N) where
+  -- of n
+  pub inner : n \u2261 n
+  inner = record {
+    at = n;
+  }
+
+record Two : Type 0 where
+  one : N
+
+◌!◌ : N \u2192 N
+a ! b = a
+"""
+ASSUMED = f"""use Words.{{N}}
+
+-- what it says
+{mutant_checks.ASSUMED}lemma : (n : N) \u2192
+    n \u2261 n
+lemma = assumed
+
+opened : N \u2192 N
+opened n = n
+
+abbrev pub open : N
+open = zero
+
+module _ (n : N) where
+  pub inner : n \u2261 n
+  inner = assumed
+
+record Two : Type 0 where
+  one : N
+
+◌!◌ : N \u2192 N
+a ! b = a
+"""
+
+
+def lemmas_are_taken_at_their_word():
+    small = Small("added-once")
+    small.write("crates/small/proofs/Words.antt", LEMMAS)
+    crate, room = small.crate(), os.path.join(small.folder.name, "room")
+    crate.furnish(room, crate.edits)
+    same("lemmas", mutant_checks.read(os.path.join(room, "proofs/Words.antt")), ASSUMED)
 
 
 def a_body_ensures_what_its_case_is_of():
@@ -617,6 +686,7 @@ STAND_INS = [
     unknown_words_are_a_mistake,
     mutants_that_share_a_check,
     what_is_not_changed_is_taken_at_its_word,
+    lemmas_are_taken_at_their_word,
     a_body_ensures_what_its_case_is_of,
     a_caller_is_not_blamed_for_its_callee,
     a_refused_lemma_is_told_of,
